@@ -1,0 +1,222 @@
+-- A round whose calls are answered at once is legal; and how such a round goes on by one call.
+use Rattle.std.proofs.Common.{◌≡◌, ℕ, zero, suc, eq-eqb, zero-add, ◌+◌, ◌<◌, ◌≤◌, List, [], ◌∷◌, ◌++◌, length, get_or, take, map, refl, sym, ap, subst, ◌∙◌, arith, append_assoc, length-append, add-zero}
+use Rattle.std.proofs.lemmas.List.{map-append, get_or-map, length-map}
+use Rattle.std.proofs.lemmas.List.Sums.{fold-append, sum_by-cons}
+use Rattle.std.proofs.lemmas.List.Elements.{filter_map-append, All-from_recursion, recursion_from_All}
+use Rattle.std.proofs.lemmas.List.Sorted.{IsPermutation-refl}
+use Rattle.std.proofs.Math.Seq.{take-append_seam}
+use Rattle.std.specs.Prelude.{Option, Some, None, IfSome, All, count_by, ◌==◌, cond}
+use Rattle.std.specs.List.{enumerate_from, AllByRecursion, cons_option}
+use Rattle.std.specs.Option.{option_to_list}
+use Rattle.std.specs.List.Sorted.{IsPermutation}
+use Rattle.cat_history.specs.Maps.{Map, at}
+use Rattle.cat_history.specs.Writes.{after, after_all, changed}
+use Rattle.cat_history.specs.Records.{Call, call_of, numbered, numbered_after, placed_write, placed_writes, Interval, interval}
+use Rattle.cat_history.specs.Rounds.{IsAnswer, KeepsCallersOrder}
+use Rattle.cat_history.specs.LoneRounds.{write_of, writes_of, HoldsAlong, IsAnswerNow, IsLoneRound, LoneRoundsAreLegal}
+use Rattle.cat_history.specs.declared.op.CallerOp.{CallerOp}
+use Rattle.cat_history.specs.declared.op.Op.{Op}
+use Rattle.cat_history.specs.declared.op.Op.TheVariants.{Put, Get, Del}
+use Rattle.cat_history.specs.declared.op.Change.TheVariants as change
+use Rattle.cat_history.specs.declared.op.Write.{Write}
+use Rattle.cat_history.specs.declared.record.Record.{Record}
+use Rattle.cat_history.specs.declared.record.Reply.{Reply}
+use Rattle.cat_history.specs.declared.record.Reply.TheVariants.{Old, Full}
+
+abbrev Now : Map → ℕ → Record → Type 0
+Now m place r = IsAnswerNow m place r.op r.reply
+
+-- the writes of records in two parts
+pub writes_of-append : (rs ss : List Record) → writes_of (rs ++ ss) ≡ writes_of rs ++ writes_of ss
+writes_of-append rs ss = ap (map (λ (w : ℕ × Write). w.1)) (filter_map-append placed_write rs ss) ∙ map-append (λ (w : ℕ × Write). w.1) (placed_writes rs) (placed_writes ss)
+
+writes_of-one : (r : Record) → writes_of (r ∷ []) ≡ write_of r
+writes_of-one r = by_write (placed_write r) where
+  by_write : (w : Option (ℕ × Write)) → map (λ (w : ℕ × Write). w.1) (cons_option w []) ≡ map (λ (w : ℕ × Write). w.1) (option_to_list w)
+  by_write None = refl
+  by_write (Some w) = refl
+
+-- the writes of a record, and of those behind it
+pub writes_of-cons : (r : Record) (rs : List Record) → writes_of (r ∷ rs) ≡ write_of r ++ writes_of rs
+writes_of-cons r rs = writes_of-append (r ∷ []) rs ∙ ap (λ ws. ws ++ writes_of rs) (writes_of-one r)
+
+-- what holds along records holds along one more of which it holds at their end
+pub HoldsAlong-push : (P : Map → ℕ → Record → Type 0) (m : Map) (place : ℕ) (rs : List Record) (r : Record) → HoldsAlong P m place rs →
+    P (after_all m (writes_of rs)) (place + length (writes_of rs)) r → HoldsAlong P m place (rs ++ r ∷ [])
+HoldsAlong-push P m place [] r along here = (subst (λ n. P m n r) (add-zero place) here, tt)
+HoldsAlong-push P m place (q ∷ rs) r along here =
+    let split : writes_of (q ∷ rs) ≡ write_of q ++ writes_of rs = writes_of-cons q rs in
+    let map_is : after_all m (writes_of (q ∷ rs)) ≡ after_all (after_all m (write_of q)) (writes_of rs) =
+    ap (after_all m) split ∙ fold-append (λ n (w : Write). changed n w.change) m (write_of q) (writes_of rs) in
+    let place_is : place + length (writes_of (q ∷ rs)) ≡ (place + length (write_of q)) + length (writes_of rs) =
+    ap (λ ws. place + length ws) split ∙ omega (arith, length-append (write_of q) (writes_of rs)) in
+    let moved : P (after_all (after_all m (write_of q)) (writes_of rs)) ((place + length (write_of q)) + length (writes_of rs)) r =
+    subst (λ n. P (after_all (after_all m (write_of q)) (writes_of rs)) n r) place_is (subst (λ n. P n (place + length (writes_of (q ∷ rs))) r) map_is here) in
+    (along.0, HoldsAlong-push P (after_all m (write_of q)) (place + length (write_of q)) rs r along.1 moved)
+
+-- a record of these parts
+abbrev made : ℕ → ℕ → Op → Reply → Record
+made caller index op reply = record { caller = caller; index = index; op = op; reply = reply }
+
+-- one record more in front, by what it is
+placed-made : (caller index : ℕ) (op : Op) (reply : Reply) (m : Map) (place : ℕ) (rs : List Record) → IsAnswerNow m place op reply →
+    placed_writes rs ≡ enumerate_from (place + length (write_of (made caller index op reply))) (writes_of rs) →
+    placed_writes (made caller index op reply ∷ rs) ≡ enumerate_from place (writes_of (made caller index op reply ∷ rs))
+placed-made caller index (Put name value) (Old old at_place) m place rs now more = λ i. (now.1 i, record { caller = caller; index = index; change = change.Put name value }) ∷ more i
+placed-made caller index (Del name) (Old old at_place) m place rs now more = λ i. (now.1 i, record { caller = caller; index = index; change = change.Del name }) ∷ more i
+placed-made caller index (Get name) (Old old at_place) m place rs now more = more ∙ ap (λ n. enumerate_from n (writes_of rs)) (add-zero place)
+placed-made caller index (Put name value) Full m place rs now more = more ∙ ap (λ n. enumerate_from n (writes_of rs)) (add-zero place)
+placed-made caller index (Get name) Full m place rs now more = absurd now
+placed-made caller index (Del name) Full m place rs now more = absurd now
+
+-- the places that records answered at once tell are those of their writes
+placed-along : (m : Map) (place : ℕ) (rs : List Record) → HoldsAlong Now m place rs → placed_writes rs ≡ enumerate_from place (writes_of rs)
+placed-along m place [] along = refl
+placed-along m place (r ∷ rs) along =
+    placed-made r.caller r.index r.op r.reply m place rs along.0 (placed-along (after_all m (write_of r)) (place + length (write_of r)) rs along.1)
+
+-- a reply given at once is the answer of the map at that place, whatever is written later
+answer-now : (base : Map) (before later : List Write) (op : Op) (reply : Reply) → IsAnswerNow (after_all base before) (length before) op reply →
+    IsAnswer base (before ++ later) op reply
+answer-now base before later op reply now = by_parts op reply now where
+  then : (p : ℕ) → p ≡ length before → after_all base before ≡ after base (before ++ later) p
+  then p is = ap (after_all base) (sym (ap (λ n. take n (before ++ later)) is ∙ take-append_seam before later))
+
+  by_parts : (o : Op) (r : Reply) → IsAnswerNow (after_all base before) (length before) o r → IsAnswer base (before ++ later) o r
+  by_parts (Put name value) (Old old at_place) now = now.0 ∙ ap (λ m. at m name) (then at_place now.1)
+  by_parts (Get name) (Old old at_place) now = now.0 ∙ ap (λ m. at m name) (then at_place now.1)
+  by_parts (Del name) (Old old at_place) now = now.0 ∙ ap (λ m. at m name) (then at_place now.1)
+  by_parts (Put name value) Full now = tt
+  by_parts (Get name) Full now = now
+  by_parts (Del name) Full now = now
+
+answers-along : (base : Map) (before : List Write) (rs : List Record) → HoldsAlong Now (after_all base before) (length before) rs →
+    AllByRecursion (λ r. IsAnswer base (before ++ writes_of rs) r.op r.reply) rs
+answers-along base before [] along = tt
+answers-along base before (r ∷ rs) along =
+    let split : before ++ writes_of (r ∷ rs) ≡ (before ++ write_of r) ++ writes_of rs = ap (λ ws. before ++ ws) (writes_of-cons r rs) ∙ sym (append_assoc before (write_of r) (writes_of rs)) in
+    let map_is : after_all (after_all base before) (write_of r) ≡ after_all base (before ++ write_of r) = sym (fold-append (λ n (w : Write). changed n w.change) base before (write_of r)) in
+    let place_is : length before + length (write_of r) ≡ length (before ++ write_of r) = sym (length-append before (write_of r)) in
+    let on : HoldsAlong Now (after_all base (before ++ write_of r)) (length (before ++ write_of r)) rs =
+    subst (λ n. HoldsAlong Now (after_all base (before ++ write_of r)) n rs) place_is (subst (λ n. HoldsAlong Now n (length before + length (write_of r)) rs) map_is along.1) in (
+      answer-now base before (writes_of (r ∷ rs)) r.op r.reply along.0,
+      subst (λ ws. AllByRecursion (λ (q : Record). IsAnswer base ws q.op q.reply) rs) (sym split) (answers-along base (before ++ write_of r) rs on),
+    )
+
+-- a call that is answered at once takes effect between the writes before it and those that it leaves
+spans-now : (caller index : ℕ) (op : Op) (reply : Reply) (m : Map) (place : ℕ) → IsAnswerNow m place op reply →
+    IfSome (interval (made caller index op reply)) (λ i. (place ≤ i.start) × (i.end ≤ place + length (write_of (made caller index op reply))))
+spans-now caller index (Put name value) (Old old at_place) m place now = (omega (arith, now.1), omega (arith, now.1))
+spans-now caller index (Get name) (Old old at_place) m place now = (omega (arith, now.1), omega (arith, now.1))
+spans-now caller index (Del name) (Old old at_place) m place now = (omega (arith, now.1), omega (arith, now.1))
+spans-now caller index (Put name value) Full m place now = tt
+spans-now caller index (Get name) Full m place now = absurd now
+spans-now caller index (Del name) Full m place now = absurd now
+
+weaker : (o : Option Interval) (P Q : Interval → Type 0) → ((i : Interval) → P i → Q i) → IfSome o P → IfSome o Q
+weaker None P Q to h = tt
+weaker (Some i) P Q to h = to i h
+
+each-weaker : (P Q : Record → Type 0) → ((r : Record) → P r → Q r) → (rs : List Record) → AllByRecursion P rs → AllByRecursion Q rs
+each-weaker P Q to [] all = tt
+each-weaker P Q to (r ∷ rs) all = (to r all.0, each-weaker P Q to rs all.1)
+
+-- the call takes effect between these places
+abbrev Spans : ℕ → ℕ → Record → Type 0
+Spans low high r = IfSome (interval r) (λ i. (low ≤ i.start) × (i.end ≤ high))
+
+spans-wider : (low high low' high' : ℕ) → low' ≤ low → high ≤ high' → (r : Record) → Spans low high r → Spans low' high' r
+spans-wider low high low' high' below above r =
+    weaker (interval r) (λ i. (low ≤ i.start) × (i.end ≤ high)) (λ i. (low' ≤ i.start) × (i.end ≤ high')) (λ i h. (omega (arith, h.0), omega (arith, h.1)))
+
+-- records answered at once take effect between the writes before them and those after them
+spans-along : (m : Map) (place : ℕ) (rs : List Record) → HoldsAlong Now m place rs → AllByRecursion (Spans place (place + length (writes_of rs))) rs
+spans-along m place [] along = tt
+spans-along m place (r ∷ rs) along =
+    let here : ℕ = place + length (write_of r) in
+    let total : place + length (writes_of (r ∷ rs)) ≡ here + length (writes_of rs) = ap (λ ws. place + length ws) (writes_of-cons r rs) ∙ omega (arith, length-append (write_of r) (writes_of rs)) in (
+      spans-wider place here place (place + length (writes_of (r ∷ rs))) (omega arith) (omega (arith, total)) r (spans-now r.caller r.index r.op r.reply m place along.0),
+      each-weaker (Spans here (here + length (writes_of rs))) (Spans place (place + length (writes_of (r ∷ rs))))
+          (spans-wider here (here + length (writes_of rs)) place (place + length (writes_of (r ∷ rs))) (omega arith) (omega (arith, total))) rs
+          (spans-along (after_all m (write_of r)) here rs along.1),
+    )
+
+-- the first call ends before the second starts
+abbrev Precedes : Record → Record → Type 0
+Precedes r s = IfSome (interval r) (λ first. IfSome (interval s) (λ second. first.end ≤ second.start))
+
+precedes-spans : (low place high : ℕ) (r s : Record) → Spans low place r → Spans place high s → Precedes r s
+precedes-spans low place high r s before behind = by_intervals (interval r) (interval s) before behind where
+  by_intervals : (o q : Option Interval) → IfSome o (λ i. (low ≤ i.start) × (i.end ≤ place)) → IfSome q (λ i. (place ≤ i.start) × (i.end ≤ high)) →
+      IfSome o (λ first. IfSome q (λ second. first.end ≤ second.start))
+  by_intervals None q h k = tt
+  by_intervals (Some i) None h k = tt
+  by_intervals (Some i) (Some j) h k = omega (arith, h.1, k.0)
+
+-- of two records answered at once, the one that stands first ends before the other starts
+precedes-along : (m : Map) (place : ℕ) (rs : List Record) → HoldsAlong Now m place rs → (j k : ℕ) → j < k → k < length rs → (d e : Record) →
+    Precedes (get_or rs j d) (get_or rs k e)
+precedes-along m place [] along j k less within d e = absurd (omega (arith, within))
+precedes-along m place (r ∷ rs) along zero zero less within d e = absurd (omega (arith, less))
+precedes-along m place (r ∷ rs) along zero (suc k) less within d e =
+    let here : ℕ = place + length (write_of r) in
+    let fits : k < length rs = omega (arith, within) in
+    precedes-spans place here (here + length (writes_of rs)) r (get_or rs k e) (spans-now r.caller r.index r.op r.reply m place along.0)
+    (All-from_recursion (Spans here (here + length (writes_of rs))) rs (spans-along (after_all m (write_of r)) here rs along.1) k e fits)
+precedes-along m place (r ∷ rs) along (suc j) zero less within d e = absurd (omega (arith, less))
+precedes-along m place (r ∷ rs) along (suc j) (suc k) less within d e =
+    precedes-along (after_all m (write_of r)) (place + length (write_of r)) rs along.1 j k (omega (arith, less)) (omega (arith, within)) d e
+
+counts-all : (caller : ℕ) (before : List ℕ) → AllByRecursion (λ b. b ≡ caller) before → count_by (λ b. b == caller) before ≡ length before
+counts-all caller [] all = refl
+counts-all caller (b ∷ before) all =
+    sum_by-cons (λ c. cond (c == caller) 1 0) b before ∙ ap (λ t. cond t 1 0 + count_by (λ c. c == caller) before) (eq-eqb b caller all.0)
+    ∙ omega (arith, counts-all caller before all.1)
+
+each-push : (P : ℕ → Type 0) (xs : List ℕ) (x : ℕ) → AllByRecursion P xs → P x → AllByRecursion P (xs ++ x ∷ [])
+each-push P [] x all here = (here, tt)
+each-push P (y ∷ xs) x all here = (all.0, each-push P xs x all.1 here)
+
+-- where one caller has all calls, a call's index is its place among them
+numbered-index : (caller : ℕ) (before : List ℕ) (asked : List CallerOp) → AllByRecursion (λ b. b ≡ caller) before → AllByRecursion (λ (a : CallerOp). a.caller ≡ caller) asked →
+    (k : ℕ) → k < length asked → (d : Call) → (get_or (numbered_after before asked) k d).index ≡ length before + k
+numbered-index caller before [] earlier one k within d = absurd (omega (arith, within))
+numbered-index caller before (a ∷ asked) earlier one zero within d =
+    subst (λ (c : ℕ). count_by (λ b. b == c) before ≡ length before + 0) (sym one.0) (counts-all caller before earlier ∙ sym (add-zero (length before)))
+numbered-index caller before (a ∷ asked) earlier one (suc k) within d =
+    numbered-index caller (before ++ a.caller ∷ []) asked (each-push (λ b. b ≡ caller) before a.caller earlier one.0) one.1 k (omega (arith, within)) d
+    ∙ omega (arith, length-append before (a.caller ∷ []))
+
+length-numbered : (before : List ℕ) (asked : List CallerOp) → length (numbered_after before asked) ≡ length asked
+length-numbered before [] = refl
+length-numbered before (a ∷ asked) = ap suc (length-numbered (before ++ a.caller ∷ []) asked)
+
+-- where one caller has all calls, a record's index is its place among the records
+index-along : (caller : ℕ) (asked : List CallerOp) (records : List Record) → All (λ (a : CallerOp). a.caller ≡ caller) asked → map call_of records ≡ numbered asked →
+    (k : ℕ) → k < length records → (d : Record) → (get_or records k d).index ≡ k
+index-along caller asked records one is k within d =
+    let sizes : length records ≡ length asked = sym (length-map records call_of) ∙ ap length is ∙ length-numbered [] asked in
+    let at_k : call_of (get_or records k d) ≡ get_or (numbered asked) k (call_of d) = sym (get_or-map call_of records k d (call_of d) within) ∙ ap (λ cs. get_or cs k (call_of d)) is in
+    ap (λ (c : Call). c.index) at_k
+    ∙ numbered-index caller [] asked tt (recursion_from_All (λ (a : CallerOp). a.caller ≡ caller) asked one) k (omega (arith, within, sizes)) (call_of d) ∙ zero-add k
+
+in-order : (caller : ℕ) (asked : List CallerOp) (base : Map) (records : List Record) → All (λ (a : CallerOp). a.caller ≡ caller) asked → map call_of records ≡ numbered asked →
+    IsLoneRound base records → KeepsCallersOrder records
+in-order caller asked base records one is along r s has_r has_s same less =
+    let first : r.index ≡ has_r.0 = ap (λ (q : Record). q.index) (sym has_r.2) ∙ index-along caller asked records one is has_r.0 has_r.1 r in
+    let second : s.index ≡ has_s.0 = ap (λ (q : Record). q.index) (sym has_s.2) ∙ index-along caller asked records one is has_s.0 has_s.1 s in
+    subst (λ (q : Record). Precedes r q) has_s.2
+    (subst (λ (q : Record). Precedes q (get_or records has_s.0 s)) has_r.2
+    (precedes-along base 0 records along has_r.0 has_s.0 (omega (arith, first, second, less)) has_s.1 r s))
+
+pub lone_rounds_are_legal : LoneRoundsAreLegal
+lone_rounds_are_legal base caller asked records one is along = record {
+  each_call = subst (λ (calls : List Call). IsPermutation (numbered asked) calls) (sym is) (IsPermutation-refl (numbered asked));
+  by_place = subst (λ (ws : List (ℕ × Write)). IsPermutation (placed_writes records) ws) (placed-along base 0 records along) (IsPermutation-refl (placed_writes records));
+  answers = All-from_recursion (λ r. IsAnswer base (writes_of records) r.op r.reply) records (answers-along base [] records along);
+  within = All-from_recursion (λ r. IfSome (interval r) (λ i. i.end ≤ length (writes_of records))) records
+      (each-weaker (Spans 0 (0 + length (writes_of records))) (λ r. IfSome (interval r) (λ i. i.end ≤ length (writes_of records)))
+      (λ r. weaker (interval r) (λ i. (0 ≤ i.start) × (i.end ≤ 0 + length (writes_of records))) (λ i. i.end ≤ length (writes_of records)) (λ i h. omega (arith, h.1)))
+      records (spans-along base 0 records along));
+  in_order = in-order caller asked base records one is along;
+}

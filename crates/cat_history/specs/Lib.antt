@@ -1,0 +1,5 @@
+pub mod Maps
+pub mod Writes
+pub mod Records
+pub mod Rounds
+pub mod LoneRounds

@@ -1,0 +1,40 @@
+//! A map from names to numbers with room for so many names, however it is kept.
+
+ghost use Rattle.std.specs.Prelude.{◌≡◌, ◌↔◌, IfOk, OnOk, OnErr, IsErr};
+ghost use Rattle.std.specs.FinMap.{insert, len};
+ghost use Rattle.cat_history.specs.Maps.{at, LacksRoom};
+
+use cat_key::Name;
+
+/// A put of a new name found no room.
+#[derive(Clone, Copy, Debug, PartialEq, Eq)]
+pub struct Full;
+
+/// A map from names to numbers that has room for a fixed number of names.
+pub trait NameMap {
+    ghost use Rattle.std.specs.Prelude.{ℕ};
+    ghost use Rattle.cat_history.specs.Maps.{Map};
+
+    /// The map, however it is kept.
+    ghost contents: { Self → Map };
+
+    /// How many names it can have.
+    ghost room: { Self → ℕ };
+
+    /// The number of a name; None where the map lacks it.
+    fn get(&self, name: &Name) -> Option<u64>
+        ensures { result ≡ at (contents self.now) name.now };
+
+    /// Gives a name this number, and answers the one before. `Full` comes exactly where the map lacks the name and
+    /// has no room for one more, and then it stays as it was.
+    fn put(&mut self, name: &Name, value: u64) -> Result<Option<u64>, Full>
+        ensures old { IfOk result (λ old. old ≡ at (contents self.old) name.now) }
+        ensures ok { OnOk result (contents self.new ≡ insert (contents self.old) name.now value) }
+        ensures full { IsErr result ↔ LacksRoom (room self.old) (contents self.old) name.now }
+        ensures err { OnErr result (contents self.new ≡ contents self.old) }
+        ensures room { room self.new ≡ room self.old };
+
+    /// How many names the map has.
+    fn len(&self) -> u64
+        ensures { result ≡ len (contents self.now) };
+}
