@@ -1,0 +1,39 @@
+-- The grammar of scripts.
+use Rattle.std.specs.Prelude.{◌≡◌, ℕ, ◌<◌, ◌≤◌, ◌^◌, ◌==◌, if◌then◌else◌, List, [], ◌∷◌, ◌++◌, length, codes}
+use Rattle.std.specs.List.{AllZip}
+use Rattle.std.specs.Str.Parse.{IsNumeral, digits_value}
+use Rattle.cat_key.specs.Names.{IsName}
+use Rattle.cat_history.specs.declared.op.CallerOp.{CallerOp}
+use Rattle.cat_history.specs.declared.op.Op.{Op}
+use Rattle.cat_history.specs.declared.op.Op.TheVariants.{Put, Get, Del}
+use Rattle.cat_text.specs.declared.script.RoundPlan.{RoundPlan}
+
+-- The lines of a text, of whose first line these bytes came before: it is cut at each line feed, and what follows the
+-- last one counts where it isn't empty.
+abbrev pub lines_after : List ℕ → List ℕ → List (List ℕ)
+lines_after line [] = if length line == 0 then [] else line ∷ []
+lines_after line (byte ∷ bytes) = if byte == 10 then line ∷ lines_after [] bytes else lines_after (line ++ byte ∷ []) bytes
+
+abbrev pub lines_of : List ℕ → List (List ℕ)
+lines_of bytes = lines_after [] bytes
+
+-- One to twenty decimal digits that stand for a number below 2 ^ 64; leading zeros are accepted.
+pub record IsNumber (text : List ℕ) (n : ℕ) : Type 0 where
+  pub numeral : IsNumeral 10 text
+  pub short : length text ≤ 20
+  pub value : digits_value 10 text ≡ n
+  pub fits : n < 2 ^ 64
+
+-- A line that asks this: its words with one space between them.
+abbrev pub AsksFor : List ℕ → Op → Type 0
+AsksFor line (Put name value) = IsName name × ((number : List ℕ) × IsNumber number value × (line ≡ codes "0 put " ++ name ++ codes " " ++ number))
+AsksFor line (Get name) = IsName name × (line ≡ codes "0 get " ++ name)
+AsksFor line (Del name) = ⊥
+
+-- A call line of caller 0.
+abbrev pub IsCallLine : List ℕ → CallerOp → Type 0
+IsCallLine line asked = (asked.caller ≡ 0) × AsksFor line asked.op
+
+-- The bytes are a script of these rounds: one, with a call for each line.
+abbrev pub IsScript : List ℕ → List RoundPlan → Type 0
+IsScript bytes rounds = (asked : List CallerOp) × (rounds ≡ record { ops = asked } ∷ []) × AllZip IsCallLine (lines_of bytes) asked

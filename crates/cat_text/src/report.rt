@@ -1,0 +1,19 @@
+//! Reports: what each call of each round was answered.
+
+use cat_history::{Listed, Record};
+
+/// What a round came to.
+#[derive(Drop)]
+pub struct RoundReport {
+    /// The records by caller, each caller's in the order of its calls.
+    pub records: Listed<Record>,
+    /// Whether a crash ended the round.
+    pub crashed: bool,
+    /// How many writes of the round have a place.
+    pub writes: u64,
+    /// How many names the map has at the end of the round.
+    pub names: u64,
+}
+
+/// The rounds of a report, in order.
+pub type Report = Listed<RoundReport>;
