@@ -125,3 +125,10 @@ fn packed(text: &[u8]) -> [u64; WORDS]
     }
     words
 }
+
+/// A name with its number.
+#[derive(Clone, Copy)]
+pub struct Pair {
+    pub name: Name,
+    pub value: u64,
+}
