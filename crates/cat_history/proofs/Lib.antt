@@ -1,1 +1,2 @@
 pub mod LoneRoundLemmas
+pub mod PlainMapLemmas

@@ -3,3 +3,4 @@ pub mod Writes
 pub mod Records
 pub mod Rounds
 pub mod LoneRounds
+pub mod PlainMaps

@@ -1,7 +1,7 @@
 -- Maps from names to numbers.
 use Rattle.std.specs.Prelude.{◌≡◌, ℕ, Option, None, List, map}
 use Rattle.std.specs.FinMap.{FinMap, get, len, from_entries}
-use Rattle.cat_key.specs.Order.{name_cmp}
+use Rattle.cat_key.specs.Names.{name_cmp}
 use Rattle.cat_key.specs.declared.Pair.{Pair}
 
 -- Names with their numbers, each name at most once, in rising order of names.

@@ -8,10 +8,13 @@ mod laws;
 mod listed;
 mod map;
 mod op;
+mod plain;
 mod record;
 
 pub use laws::lone_round_law;
 pub use listed::Listed;
 pub use map::{Full, NameMap};
 pub use op::{CallerOp, Change, Op, Write};
+pub use plain::PlainMap;
 pub use record::{Record, Reply};
+pub use std::alloc::AllocError as NoMemory;

@@ -1,7 +1,7 @@
 //! A map from names to numbers with room for so many names, however it is kept.
 
 ghost use Rattle.std.specs.Prelude.{◌≡◌, ◌↔◌, IfOk, OnOk, OnErr, IsErr};
-ghost use Rattle.std.specs.FinMap.{insert, len};
+ghost use Rattle.std.specs.FinMap.{insert, remove, len};
 ghost use Rattle.cat_history.specs.Maps.{at, LacksRoom};
 
 use cat_key::Name;
@@ -32,6 +32,12 @@ pub trait NameMap {
         ensures ok { OnOk result (contents self.new ≡ insert (contents self.old) name.now value) }
         ensures full { IsErr result ↔ LacksRoom (room self.old) (contents self.old) name.now }
         ensures err { OnErr result (contents self.new ≡ contents self.old) }
+        ensures room { room self.new ≡ room self.old };
+
+    /// Removes a name, and answers the number that it had; None where the map lacks it.
+    fn del(&mut self, name: &Name) -> Option<u64>
+        ensures old { result ≡ at (contents self.old) name.now }
+        ensures after { contents self.new ≡ remove (contents self.old) name.now }
         ensures room { room self.new ≡ room self.old };
 
     /// How many names the map has.

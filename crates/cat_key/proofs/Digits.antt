@@ -1,9 +1,9 @@
 -- The word of eight bytes as a number in base 256: the one place with arithmetic on digits.
-use Rattle.std.proofs.Common.{◌≡◌, ℕ, zero, suc, ◌+◌, ◌-◌, ◌*◌, ◌^◌, ◌<◌, ◌≤◌, List, [], ◌∷◌, ◌++◌, length, get_or, take, drop, All, Ordering, Less, Equal, Greater, nat_cmp, refl, sym, ap, ◌∙◌, inl, inr, arith, lit<, pow-suc, mul-le-mul_right}
+use Rattle.std.proofs.Common.{◌≡◌, ℕ, zero, suc, ◌+◌, ◌-◌, ◌*◌, ◌^◌, ◌<◌, ◌≤◌, List, [], ◌∷◌, ◌++◌, length, get_or, All, Less, Equal, Greater, nat_cmp, refl, sym, ap, ◌∙◌, inl, inr, arith, lit<, pow-suc, mul-le-mul_right}
 use Rattle.std.specs.Ordering.{ordering_then}
 use Rattle.std.proofs.lemmas.Bool.{cases_order}
 use Rattle.std.proofs.lemmas.Bool.Decides.{nat_tests}
-use Rattle.std.specs.Int.{w64, from_be_bytes, to_be_bytes}
+use Rattle.std.specs.Int.{w64, to_be_bytes}
 use Rattle.std.specs.Cmp.Lexicographic.{slice_cmp}
 use Rattle.std.proofs.lemmas.List.Elements.{All-head, All-tail}
 use Rattle.std.proofs.lemmas.Nat.{be_bytes_8}
@@ -82,19 +82,21 @@ nat_cmp-more x y h = grind (arith, nat_tests)
 same-add_cmp : (base x y : ℕ) → nat_cmp (base + x) (base + y) ≡ nat_cmp x y
 same-add_cmp base x y =
     elim (cases_order x y) [
-      inl same ↦ nat_cmp-same (base + x) (base + y) (omega arith) ∙ sym (nat_cmp-same x y same)
-    | inr (inl less) ↦ nat_cmp-less (base + x) (base + y) (omega arith) ∙ sym (nat_cmp-less x y less)
-    | inr (inr more) ↦ nat_cmp-more (base + x) (base + y) (omega arith) ∙ sym (nat_cmp-more x y more) ]
+      | inl same ↦ nat_cmp-same (base + x) (base + y) (omega arith) ∙ sym (nat_cmp-same x y same)
+      | inr (inl less) ↦ nat_cmp-less (base + x) (base + y) (omega arith) ∙ sym (nat_cmp-less x y less)
+      | inr (inr more) ↦ nat_cmp-more (base + x) (base + y) (omega arith) ∙ sym (nat_cmp-more x y more)
+    ]
 
 -- numbers of a high and a low digit compare by the high digits first
 mixed_cmp : (base x y low low' : ℕ) → low < base → low' < base → nat_cmp (x * base + low) (y * base + low') ≡ ordering_then (nat_cmp x y) (nat_cmp low low')
 mixed_cmp base x y low low' h h' =
     elim (cases_order x y) [
-      inl same ↦ rw (nat_cmp-same x y same, same) (same-add_cmp (y * base) low low')
-    | inr (inl less) ↦
-        rw (nat_cmp-less x y less) (nat_cmp-less (x * base + low) (y * base + low') (omega (arith, mul-le-mul_right base less)))
-    | inr (inr more) ↦
-        rw (nat_cmp-more x y more) (nat_cmp-more (x * base + low) (y * base + low') (omega (arith, mul-le-mul_right base more))) ]
+      | inl same ↦ rw (nat_cmp-same x y same, same) (same-add_cmp (y * base) low low')
+      | inr (inl less) ↦
+          rw (nat_cmp-less x y less) (nat_cmp-less (x * base + low) (y * base + low') (omega (arith, mul-le-mul_right base less)))
+      | inr (inr more) ↦
+          rw (nat_cmp-more x y more) (nat_cmp-more (x * base + low) (y * base + low') (omega (arith, mul-le-mul_right base more)))
+    ]
 
 -- two texts of bytes compare as their numbers do
 pub number_cmp : (count : ℕ) (a b : List ℕ) → All IsByte a → All IsByte b → nat_cmp (number count a) (number count b) ≡ slice_cmp nat_cmp (padded count a) (padded count b)

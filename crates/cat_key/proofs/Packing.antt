@@ -1,15 +1,13 @@
 -- Texts and their words: how a byte goes in, and how the bytes come out again.
-use Rattle.std.proofs.Common.{◌≡◌, ℕ, zero, suc, ◌+◌, ◌-◌, ◌*◌, ◌/◌, ◌%◌, ◌^◌, ◌<◌, ◌≤◌, ◌==◌, ◌⊎◌, not, Bool, true, false, cond, List, [], ◌∷◌, ◌++◌, length, get_or, set, take, drop, All, take_while, refl, sym, ap, ◌∙◌, inl, inr, subst, arith, length-append, length-drop, zero-add, suc-add, drop_of_length-le, length-take-le, get_or-set_same, pow-add, pow-suc, ne_eqb, lit<}
-use Rattle.std.specs.Int.{w64, to_be_bytes}
-use Rattle.std.specs.List.{flat_map}
+use Rattle.std.proofs.Common.{◌≡◌, ℕ, zero, suc, ◌+◌, ◌-◌, ◌*◌, ◌/◌, ◌%◌, ◌^◌, ◌<◌, ◌≤◌, ◌==◌, not, false, cond, List, [], ◌∷◌, ◌++◌, length, get_or, set, take, drop, All, refl, sym, ap, ◌∙◌, inl, inr, subst, arith, length-append, length-drop, zero-add, suc-add, drop_of_length-le, length-take-le, get_or-set_same, pow-add, pow-suc, ne_eqb, lit<}
 use Rattle.std.proofs.lemmas.Bool.{cases_lt}
 use Rattle.std.proofs.lemmas.List.{drop-append-le, take_more}
 use Rattle.std.proofs.lemmas.Nat.{shl_whole}
 use Rattle.std.proofs.lemmas.List.Elements.{All-head, All-tail, All-take, All-drop, All-get_or, All-weaker}
 use Rattle.std.proofs.lemmas.List.Sums.{take_while-cons}
-use Rattle.cat_key.specs.Names.{IsName, IsNameByte, IsPacked, AreNameWords, padded, word_of, first_words, words_of, bytes_of}
+use Rattle.cat_key.specs.Names.{IsName, IsNameByte, IsPacked, AreNameWords, padded, word_of, first_words, words_of, all_bytes, before_zero, bytes_of}
 use Rattle.cat_key.specs.declared.TheConstants.{WORDS}
-use Rattle.cat_key.proofs.Digits.{IsByte, number, number-push, number-full, number_below, word_is_number, to_be_bytes-word_of}
+use Rattle.cat_key.proofs.Digits.{IsByte, number-push, number-full, number_below, word_is_number, to_be_bytes-word_of}
 
 -- one more byte of a word that is not full
 word_of-push : (text : List ℕ) (byte : ℕ) → length text < 8 → word_of (text ++ byte ∷ []) ≡ word_of text + byte * 256 ^ (7 - length text)
@@ -48,17 +46,18 @@ first_words-push : (count : ℕ) (text : List ℕ) (byte : ℕ) → length text 
 first_words-push zero text byte h = absurd (omega arith)
 first_words-push (suc count) text byte h =
     elim (cases_lt (length text) 8) [
-      inl short ↦
-        let past : drop 8 (text ++ byte ∷ []) ≡ [] =
-            drop_of_length-le (text ++ byte ∷ []) {i = 8} (omega (arith, length-append text (byte ∷ []))) in
-        let past' : drop 8 text ≡ [] = drop_of_length-le text {i = 8} (omega arith) in
-        rw (past, past', word_of-push text byte short)
-            (sym (with_byte-first (word_of text) (first_words count []) (length text) byte short))
-    | inr long ↦
-        let size : length text ≡ length (drop 8 text) + 8 = omega (arith, length-drop 8 text) in
-        rw (word_of-full text (byte ∷ []) long, drop-append-le 8 text (byte ∷ []) long, size)
-            (ap (λ words. word_of text ∷ words) (first_words-push count (drop 8 text) byte (omega arith))
-            ∙ sym (with_byte-later (word_of text) (first_words count (drop 8 text)) (length (drop 8 text)) byte)) ]
+      | inl short ↦
+          let past : drop 8 (text ++ byte ∷ []) ≡ [] =
+          drop_of_length-le (text ++ byte ∷ []) {i = 8} (omega (arith, length-append text (byte ∷ []))) in
+          let past' : drop 8 text ≡ [] = drop_of_length-le text {i = 8} (omega arith) in
+          rw (past, past', word_of-push text byte short)
+          (sym (with_byte-first (word_of text) (first_words count []) (length text) byte short))
+      | inr long ↦
+          let size : length text ≡ length (drop 8 text) + 8 = omega (arith, length-drop 8 text) in
+          rw (word_of-full text (byte ∷ []) long, drop-append-le 8 text (byte ∷ []) long, size)
+          (ap (λ words. word_of text ∷ words) (first_words-push count (drop 8 text) byte (omega arith))
+          ∙ sym (with_byte-later (word_of text) (first_words count (drop 8 text)) (length (drop 8 text)) byte))
+    ]
 
 pub words_of-push : (text : List ℕ) (byte : ℕ) → length text < 8 * WORDS → words_of (text ++ byte ∷ []) ≡ set (words_of text) (length text / 8) (get_or (words_of text) (length text / 8) 0 + byte * 256 ^ (7 - length text % 8))
 unfolding words_of with_byte
@@ -75,16 +74,17 @@ padded-add (suc first) more (byte ∷ text) =
     ap (λ count. padded count (byte ∷ text)) (suc-add first more)
     ∙ ap (λ bytes. byte ∷ bytes) (padded-add first more text)
 
-flat_map-first_words : (count : ℕ) (text : List ℕ) → All IsByte text → flat_map (to_be_bytes w64) (first_words count text) ≡ padded (8 * count) text
-flat_map-first_words zero text h = refl
-flat_map-first_words (suc count) text h =
-    ap (λ bytes. bytes ++ flat_map (to_be_bytes w64) (first_words count (drop 8 text))) (to_be_bytes-word_of text h)
-    ∙ ap (λ bytes. padded 8 text ++ bytes) (flat_map-first_words count (drop 8 text) (All-drop IsByte 8 text h))
+all_bytes-first_words : (count : ℕ) (text : List ℕ) → All IsByte text → all_bytes (first_words count text) ≡ padded (8 * count) text
+unfolding all_bytes
+all_bytes-first_words zero text h = refl
+all_bytes-first_words (suc count) text h =
+    ap (λ bytes. bytes ++ all_bytes (first_words count (drop 8 text))) (to_be_bytes-word_of text h)
+    ∙ ap (λ bytes. padded 8 text ++ bytes) (all_bytes-first_words count (drop 8 text) (All-drop IsByte 8 text h))
     ∙ sym (padded-add 8 (8 * count) text)
     ∙ ap (λ n. padded n text) (omega arith)
 
 -- the bytes up to the first zero of a padded name are the name
-front-padded : (count : ℕ) (text : List ℕ) → length text ≤ count → All IsNameByte text → take_while (λ byte. not (byte == 0)) (padded count text) ≡ text
+front-padded : (count : ℕ) (text : List ℕ) → length text ≤ count → All IsNameByte text → before_zero (padded count text) ≡ text
 front-padded zero [] h named = refl
 front-padded zero (byte ∷ text) h named = absurd (omega arith)
 front-padded (suc count) [] h named = refl
@@ -92,7 +92,7 @@ front-padded (suc count) (byte ∷ text) h named =
     let here : IsNameByte byte = All-head IsNameByte byte text named in
     let full : (byte == 0) ≡ false = ne_eqb byte 0 (λ e. omega arith) in
     take_while-cons (λ byte'. not (byte' == 0)) byte (padded count text)
-    ∙ ap (λ b. cond (not b) (byte ∷ take_while (λ byte'. not (byte' == 0)) (padded count text)) []) full
+    ∙ ap (λ b. cond (not b) (byte ∷ before_zero (padded count text)) []) full
     ∙ ap (λ rest. byte ∷ rest) (front-padded count text (omega arith) (All-tail IsNameByte byte text named))
 
 byte_of_name : (byte : ℕ) → IsNameByte byte → IsByte byte
@@ -101,12 +101,15 @@ byte_of_name byte h = omega arith
 pub name_bytes : (text : List ℕ) → IsName text → All IsByte text
 name_bytes text h = All-weaker IsNameByte IsByte byte_of_name text h.bytes
 
+pub all_bytes-words_of : (text : List ℕ) → IsName text → all_bytes (words_of text) ≡ padded (8 * WORDS) text
+unfolding words_of
+all_bytes-words_of text h = all_bytes-first_words WORDS text (name_bytes text h)
+
 -- the words of a name give its bytes back
 pub bytes_of-words_of : (text : List ℕ) → IsName text → bytes_of (words_of text) ≡ text
-unfolding bytes_of words_of
+unfolding bytes_of
 bytes_of-words_of text h =
-    ap (λ bytes. take_while (λ byte. not (byte == 0)) bytes) (flat_map-first_words WORDS text (name_bytes text h))
-    ∙ front-padded (8 * WORDS) text h.fits h.bytes
+    ap before_zero (all_bytes-words_of text h) ∙ front-padded (8 * WORDS) text h.fits h.bytes
 
 -- the words of a name stand for it
 pub packed_from_name : (text : List ℕ) → IsName text → IsPacked (words_of text)
@@ -168,7 +171,7 @@ packs_within text words at byte so_far within fits here bytes =
     let size : length words ≡ WORDS = ap length so_far ∙ length-words_of (take at text) in
     let inside : at / 8 < length words = omega arith in
     let read : get_or (words_of (take (at + 1) text)) (at / 8) 0 ≡ sum =
-        ap (λ row. get_or row (at / 8) 0) (sym (packs_byte text words at byte so_far within fits here small))
-        ∙ get_or-set_same words (at / 8) sum 0 inside in
+    ap (λ row. get_or row (at / 8) 0) (sym (packs_byte text words at byte so_far within fits here small))
+    ∙ get_or-set_same words (at / 8) sum 0 inside in
     let below = get_or-words_of_below (take (at + 1) text) (All-take IsByte (at + 1) text bytes) (at / 8) in
     rw read at below

@@ -1,13 +1,13 @@
 -- The order of words is the order of names.
-use Rattle.std.proofs.Common.{◌≡◌, ℕ, zero, suc, ◌+◌, ◌*◌, ◌<◌, ◌≤◌, List, [], ◌∷◌, ◌++◌, length, drop, All, Ordering, Less, Equal, Greater, nat_cmp, refl, sym, ap, ◌∙◌, arith}
+use Rattle.std.proofs.Common.{◌≡◌, ℕ, zero, suc, ◌+◌, ◌*◌, ◌≤◌, List, [], ◌∷◌, ◌++◌, length, drop, All, Ordering, Less, Equal, Greater, nat_cmp, is_eq, bytes_eq, refl, sym, ap, ap₂, ◌∙◌, arith}
 use Rattle.std.specs.Ordering.{ordering_then}
-use Rattle.std.specs.Cmp.Lexicographic.{slice_cmp}
+use Rattle.std.specs.Cmp.Lexicographic.{slice_cmp, texts_ties}
 use Rattle.std.proofs.lemmas.Cmp.{nat_list_cmp_total, tied_itself}
 use Rattle.std.proofs.lemmas.List.Elements.{All-head, All-tail, All-drop}
-use Rattle.cat_key.specs.Names.{IsName, IsNameByte, padded, word_of, first_words, words_of}
-use Rattle.cat_key.specs.Order.{name_cmp}
+use Rattle.cat_key.specs.Names.{IsName, IsNameByte, IsPacked, padded, word_of, first_words, words_of, bytes_of}
+use Rattle.cat_key.specs.Names.{name_cmp}
 use Rattle.cat_key.specs.declared.TheConstants.{WORDS}
-use Rattle.cat_key.proofs.Digits.{IsByte, number, number_cmp, nat_cmp-less, nat_cmp-more, length-padded, word_is_number}
+use Rattle.cat_key.proofs.Digits.{IsByte, number_cmp, nat_cmp-less, nat_cmp-more, length-padded, word_is_number}
 use Rattle.cat_key.proofs.Packing.{padded-add, name_bytes}
 
 -- two words compare as their bytes do
@@ -60,3 +60,14 @@ unfolding words_of
 words_keep_order a b ha hb =
     first_words_cmp WORDS a b (name_bytes a ha) (name_bytes b hb)
     ∙ padded_cmp (8 * WORDS) a b ha.fits hb.fits ha.bytes hb.bytes
+
+-- words that stand for names compare as those names do
+pub packed_cmp : (words words' : List ℕ) → IsPacked words → IsPacked words' → slice_cmp nat_cmp words words' ≡ name_cmp (bytes_of words) (bytes_of words')
+packed_cmp words words' h h' =
+    ap₂ (slice_cmp nat_cmp) (sym h.whole) (sym h'.whole) ∙ words_keep_order (bytes_of words) (bytes_of words') h.named h'.named
+
+pub packed_eq : (words words' : List ℕ) → IsPacked words → IsPacked words' → bytes_eq words words' ≡ bytes_eq (bytes_of words) (bytes_of words')
+packed_eq words words' h h' =
+    texts_ties words words'
+    ∙ ap is_eq (packed_cmp words words' h h')
+    ∙ sym (texts_ties (bytes_of words) (bytes_of words'))

@@ -1,7 +1,10 @@
--- What a name is, the words in which it is kept, and its fingerprint.
-use Rattle.std.specs.Prelude.{◌≡◌, ℕ, zero, suc, ◌+◌, ◌*◌, ◌%◌, ◌<◌, ◌≤◌, ◌==◌, not, List, [], ◌∷◌, length, take, drop, All, Option, Some, slice_get, take_while}
+-- What a name is, the order of names, the words in which a name is kept, and its fingerprint.
+use Rattle.std.specs.Prelude.{◌≡◌, ℕ, zero, suc, ◌+◌, ◌*◌, ◌%◌, ◌≤◌, ◌==◌, not, List, [], ◌∷◌, length, take, drop, All, Some, slice_get, take_while}
 use Rattle.std.specs.Int.{w64, from_be_bytes, to_be_bytes}
 use Rattle.std.specs.List.{flat_map}
+use Rattle.std.specs.Ordering.{nat_cmp}
+use Rattle.std.specs.Cmp.Lexicographic.{slice_cmp}
+use Rattle.std.specs.declared.cmp.Ordering.{Ordering}
 use Rattle.cat_key.specs.declared.TheConstants.{WORDS}
 
 -- a byte of a name: printable, and no space
@@ -19,6 +22,10 @@ pub record IsFirstBad (text : List ℕ) (at byte : ℕ) : Type 0 where
   pub before : All IsNameByte (take at text)
   pub here : slice_get text at ≡ Some byte
   pub bad : ¬ (IsNameByte byte)
+
+-- the order of names: byte by byte, and a proper prefix is smaller
+abbrev pub name_cmp : List ℕ → List ℕ → Ordering
+name_cmp = slice_cmp nat_cmp
 
 -- the first bytes of a text, this many, with zeros past its end
 abbrev pub padded : ℕ → List ℕ → List ℕ
@@ -43,9 +50,26 @@ words_of text = first_words WORDS text
 abbrev pub AreNameWords : List ℕ → Type 0
 AreNameWords words = (text : List ℕ) × IsName text × (words_of text ≡ words)
 
+-- two names compare as their words do, the first word first
+abbrev pub WordsKeepOrder : Type 0
+WordsKeepOrder =
+    (a b : List ℕ) → IsName a → IsName b → slice_cmp nat_cmp (words_of a) (words_of b) ≡ name_cmp a b
+
+-- two names with the same words are one name
+abbrev pub WordsTellNames : Type 0
+WordsTellNames = (a b : List ℕ) → IsName a → IsName b → words_of a ≡ words_of b → a ≡ b
+
+-- the bytes of words, big-endian, zeros included
+unfoldable pub all_bytes : List ℕ → List ℕ
+all_bytes words = flat_map (to_be_bytes w64) words
+
+-- a text up to its first zero
+abbrev pub before_zero : List ℕ → List ℕ
+before_zero text = take_while (λ byte. not (byte == 0)) text
+
 -- the bytes of words, big-endian, up to the first zero
 unfoldable pub bytes_of : List ℕ → List ℕ
-bytes_of words = take_while (λ byte. not (byte == 0)) (flat_map (to_be_bytes w64) words)
+bytes_of words = before_zero (all_bytes words)
 
 -- words that are those of their own bytes, which are a name
 pub record IsPacked (words : List ℕ) : Type 0 where

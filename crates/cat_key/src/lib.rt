@@ -5,10 +5,18 @@
 #![tactic(auto)]
 
 ghost use Rattle.std.specs.Prelude.{◌≡◌, ℕ, ◌*◌, ◌<◌, ◌≤◌, ◌↔◌, List, [], length, IsOk, IfOk, IsErrOf, IsSome, IsNone, IfSome, All, slice_index};
-ghost use Rattle.cat_key.specs.Names.{IsName, IsNameByte, IsFirstBad, AreNameWords, padded, words_of, fingerprint_of};
-ghost use Rattle.cat_key.specs.Order.{WordsKeepOrder, WordsTellNames};
+ghost use Rattle.cat_key.specs.Names.{IsName, IsNameByte, IsFirstBad, AreNameWords, name_cmp, words_of, all_bytes, before_zero, fingerprint_of, WordsKeepOrder, WordsTellNames};
+ghost use Rattle.std.proofs.Common.{ap, refl, sym};
+ghost use Rattle.std.proofs.lemmas.Cmp.{nat_list_eq_equiv, nat_list_cmp_total};
+ghost use Rattle.std.specs.Cmp.{partial_equiv_from_equiv};
+ghost use Rattle.std.specs.Cmp.Lexicographic.{same_text, texts_po, texts_ties};
+ghost use Rattle.std.specs.Ordering.{as_partial_cmp};
+ghost use Rattle.std.specs.Str.{bytes_eq};
 
+use std::cmp::Ordering;
+use std::error::Error;
 use std::fmt;
+use std::hash::{Hash, Hasher};
 use std::marker::Model;
 
 /// How many words a name takes.
@@ -27,6 +35,8 @@ pub enum NameFault {
     /// The first byte that no name may have, and its place from 0.
     Byte { at: usize, byte: u8 },
 }
+
+impl Error for NameFault {}
 
 impl fmt::Display for NameFault {
     fn fmt<W: fmt::Write>(&self, f: &mut fmt::Formatter<W>) -> fmt::Result {
@@ -86,14 +96,51 @@ impl Name {
             return Err(NameFault::Long { len: text.len() });
         }
         if let Some(at) = first_bad(text) {
-            return Err(NameFault::Byte {
-                at,
-                byte: text[at],
-            });
+            return Err(NameFault::Byte { at, byte: text[at] });
         }
         Ok(Name {
             words: packed(text),
         })
+    }
+
+    /// The name that these words are, if they are a name's.
+    pub fn of_words(words: [u64; WORDS]) -> Option<Name>
+        ensures some { IsSome result ↔ AreNameWords words }
+        ensures name { IfSome result IsName }
+        ensures words { IfSome result (λ name. words_of name ≡ words) }
+    {
+        let bytes = unpacked(&words);
+        let name = Name::read(&bytes[..text_len(&bytes)]).ok()?;
+        (name.words == words).then_some(name)
+    }
+
+    /// How many bytes the name has: at least 1.
+    pub fn len(&self) -> usize
+        ensures len { result ≡ length self.now }
+        ensures name { IsName self.now }
+    {
+        text_len(&unpacked(&self.words))
+    }
+
+    /// The byte at a place, counted from 0.
+    pub fn byte(&self, at: usize) -> u8
+        requires { at < length self.now }
+        ensures { result ≡ slice_index self.now at }
+    {
+        byte_in(&self.words, at)
+    }
+
+    /// A hint of one byte by which most other names can be told apart from this one.
+    pub fn fingerprint(&self) -> u8
+        ensures { result ≡ fingerprint_of self.now }
+    {
+        // The zeros past the name's end add nothing.
+        let bytes = unpacked(&self.words);
+        let mut sum = 0;
+        for (at, byte) in bytes.iter().enumerate() {
+            sum += (2 * at + 1) * usize::from(*byte);
+        }
+        (sum % 256) as u8
     }
 
     /// The words of the name.
@@ -104,6 +151,83 @@ impl Name {
         self.words
     }
 }
+
+impl fmt::Display for Name {
+    fn fmt<W: fmt::Write>(&self, f: &mut fmt::Formatter<W>) -> fmt::Result {
+        for at in 0..self.len() {
+            write!(f, "{}", char::from(self.byte(at)))?;
+        }
+        Ok(())
+    }
+}
+
+impl fmt::Debug for Name {
+    fn fmt<W: fmt::Write>(&self, f: &mut fmt::Formatter<W>) -> fmt::Result {
+        write!(f, "Name({self})")
+    }
+}
+
+impl PartialEq for Name {
+    ghost eq = { bytes_eq };
+
+    ghost laws = { partial_equiv_from_equiv nat_list_eq_equiv };
+
+    fn eq(&self, other: &Name) -> bool {
+        self.words == other.words
+    }
+}
+
+impl Eq for Name {
+    ghost laws = { nat_list_eq_equiv };
+}
+
+impl PartialOrd for Name {
+    ghost partial_cmp = { as_partial_cmp name_cmp };
+
+    ghost laws = { texts_po };
+
+    fn partial_cmp(&self, other: &Name) -> Option<Ordering> {
+        Some(self.cmp(other))
+    }
+}
+
+impl Ord for Name {
+    ghost cmp = { name_cmp };
+
+    ghost total = { nat_list_cmp_total };
+
+    ghost matches_partial_cmp = { λ x y. refl };
+
+    ghost matches_eq = { texts_ties };
+
+    // Comparing the words compares the bytes, eight at a time.
+    fn cmp(&self, other: &Name) -> Ordering {
+        self.words.cmp(&other.words)
+    }
+}
+
+impl Hash for Name {
+    ghost hash_input = { λ name. ⟦<[u64; WORDS] as Hash>⟧.hash_input (words_of name) };
+
+    ghost respects_eq = { λ x y same. ap (λ (name : List ℕ). ⟦<[u64; WORDS] as Hash>⟧.hash_input (words_of name)) (same_text x y (sym same)) };
+
+    fn hash<H: Hasher>(&self, state: &mut H) {
+        self.words.hash(state);
+    }
+}
+
+/// A name with its number: what maps and scans are lists of.
+#[derive(Clone, Copy, Debug, PartialEq, Eq)]
+pub struct Pair {
+    pub name: Name,
+    pub value: u64,
+}
+
+/// Names compare as their words do, and no two names have the same words.
+pub fn law_of_words()
+    ensures order { WordsKeepOrder }
+    ensures distinct { WordsTellNames }
+{}
 
 /// The place of the first byte that no name may have.
 fn first_bad(text: &[u8]) -> Option<usize>
@@ -126,9 +250,31 @@ fn packed(text: &[u8]) -> [u64; WORDS]
     words
 }
 
-/// A name with its number.
-#[derive(Clone, Copy)]
-pub struct Pair {
-    pub name: Name,
-    pub value: u64,
+/// The byte of a row of words at a place, big-endian.
+fn byte_in(words: &[u64; WORDS], at: usize) -> u8
+    requires { at < 8 * WORDS }
+    ensures { result ≡ slice_index (all_bytes words.now) at }
+{
+    words[at / 8].to_be_bytes()[at % 8]
 }
+
+/// The bytes of a row of words, big-endian.
+fn unpacked(words: &[u64; WORDS]) -> [u8; MAX_LEN]
+    ensures { result ≡ all_bytes words.now }
+{
+    let mut bytes = [0; MAX_LEN];
+    for (at, byte) in bytes.iter_mut().enumerate() {
+        *byte = byte_in(words, at);
+    }
+    bytes
+}
+
+/// How many bytes stand before the first zero.
+fn text_len(bytes: &[u8]) -> usize
+    ensures { result ≡ length (before_zero bytes.now) }
+{
+    bytes.iter().take_while(|byte| **byte != 0).count()
+}
+
+#[cfg(test)]
+mod tests;

@@ -1,7 +1,7 @@
-use Rattle.std.proofs.Common.{◌≡◌, ℕ, List, All, ap, ◌∙◌, subst, arith, rules}
+use Rattle.std.proofs.Common.{ℕ, List, All, ap, ◌∙◌, subst, arith, rules}
 use Rattle.std.proofs.lemmas.Option.{slice_get_within, get_or_from_slice_get}
 use Rattle.std.proofs.lemmas.List.Elements.{All-get_or}
-use Rattle.cat_key.specs.Names.{IsName, IsNameByte, IsFirstBad, IsPacked, bytes_of}
+use Rattle.cat_key.specs.Names.{IsName, IsNameByte, IsFirstBad, bytes_of}
 use Rattle.cat_key.proofs.Packing.{packed_from_name, bytes_of-words_of}
 use Rattle.cat_key.proofs.Name.read.Goals as goal
 
@@ -12,7 +12,7 @@ named c = record { some = search rules; fits = omega arith; bytes = search rules
 no_first_bad : (text : List ℕ) (at byte : ℕ) → All IsNameByte text → IsFirstBad text at byte → ⊥
 no_first_bad text at byte all fault =
     let here : IsNameByte byte =
-        subst IsNameByte (get_or_from_slice_get text at byte 0 fault.here) (All-get_or IsNameByte text at 0 (slice_get_within text at byte fault.here) all) in
+    subst IsNameByte (get_or_from_slice_get text at byte 0 fault.here) (All-get_or IsNameByte text at 0 (slice_get_within text at byte fault.here) all) in
     fault.bad here
 
 pub invariant_of-result : goal.invariant_of-result

@@ -1,0 +1,18 @@
+use Rattle.std.proofs.Common.{Some, sym, ap, ◌∙◌}
+use Rattle.cat_history.specs.Maps.{at}
+use Rattle.cat_history.proofs.PlainMapLemmas.{at-lacking, at-place}
+use Rattle.cat_history.proofs.plain.PlainMapNameMap.get.Goals as goal
+
+pub returns-in_err-place : goal.returns-in_err-place
+returns-in_err-place c =
+    let lacks = rw c.deref.ensures.value at c.in_err-place.ensures.none in
+    c.from_residual.ensures ∙ sym (at-lacking c.self.inside.pairs.items c.args.name.now lacks) ∙ ap (λ m. at m.contents c.args.name.now) c.self.view_is
+
+pub returns : goal.returns
+returns c =
+    let within = rw c.deref.ensures.value at c.in_ok-place.ensures.within in
+    let named = rw c.deref.ensures.value at c.in_ok-place.ensures.named in
+    let pairs = c.self.inside.pairs.items in
+    ap (λ p. Some p.value) c.index.ensures
+    ∙ sym (at-place pairs c.in_ok-place.place c.args.name.now c.index.result.now c.self.invariant.differ within named)
+    ∙ ap (λ m. at m.contents c.args.name.now) c.self.view_is
