@@ -1,5 +1,5 @@
 -- A round whose calls are answered at once is legal; and how such a round goes on by one call.
-use Rattle.std.proofs.Common.{◌≡◌, ℕ, zero, suc, eq-eqb, zero-add, ◌+◌, ◌<◌, ◌≤◌, List, [], ◌∷◌, ◌++◌, length, get_or, take, map, refl, sym, ap, subst, ◌∙◌, arith, append_assoc, length-append, add-zero}
+use Rattle.std.proofs.Common.{◌≡◌, ℕ, zero, suc, eq-eqb, zero-add, ◌+◌, ◌<◌, ◌≤◌, List, [], ◌∷◌, ◌++◌, length, get_or, take, map, refl, sym, ap, subst, ◌∙◌, arith, append_assoc, append-nil, length-append, add-zero}
 use Rattle.std.proofs.lemmas.List.{map-append, get_or-map, length-map}
 use Rattle.std.proofs.lemmas.List.Sums.{fold-append, sum_by-cons}
 use Rattle.std.proofs.lemmas.List.Elements.{filter_map-append, All-from_recursion, recursion_from_All}
@@ -220,3 +220,29 @@ lone_rounds_are_legal base caller asked records one is along = record {
       records (spans-along base 0 records along));
   in_order = in-order caller asked base records one is along;
 }
+
+-- one call more has as its index how often its caller called before
+numbered_after-push : (before : List ℕ) (asked : List CallerOp) (more : CallerOp) →
+    numbered_after before (asked ++ more ∷ [])
+    ≡ numbered_after before asked ++ record { caller = more.caller; index = count_by (λ caller. caller == more.caller) (before ++ map (λ (a : CallerOp). a.caller) asked); op = more.op } ∷ []
+numbered_after-push before [] more =
+    ap (λ (callers : List ℕ). record { caller = more.caller; index = count_by (λ caller. caller == more.caller) callers; op = more.op } ∷ []) (sym (append-nil before))
+numbered_after-push before (a ∷ asked) more =
+    let first : Call = record { caller = a.caller; index = count_by (λ caller. caller == a.caller) before; op = a.op } in
+    let later : List Call = numbered_after (before ++ a.caller ∷ []) asked in
+    ap (λ (calls : List Call). first ∷ calls) (numbered_after-push (before ++ a.caller ∷ []) asked more
+    ∙ ap (λ (callers : List ℕ). later ++ record { caller = more.caller; index = count_by (λ caller. caller == more.caller) callers; op = more.op } ∷ []) (append_assoc before (a.caller ∷ []) (map (λ (b : CallerOp). b.caller) asked)))
+
+callers-along : (caller : ℕ) (asked : List CallerOp) → AllByRecursion (λ (a : CallerOp). a.caller ≡ caller) asked → AllByRecursion (λ c. c ≡ caller) (map (λ (a : CallerOp). a.caller) asked)
+callers-along caller [] one = tt
+callers-along caller (a ∷ asked) one = (one.0, callers-along caller asked one.1)
+
+-- where one caller has all calls, one call more has as its index how many there are
+pub numbered-push : (caller : ℕ) (asked : List CallerOp) (more : CallerOp) → All (λ (a : CallerOp). a.caller ≡ caller) asked → more.caller ≡ caller →
+    numbered (asked ++ more ∷ []) ≡ numbered asked ++ record { caller = more.caller; index = length asked; op = more.op } ∷ []
+numbered-push caller asked more one same =
+    let callers : List ℕ = map (λ (a : CallerOp). a.caller) asked in
+    let counted : count_by (λ c. c == more.caller) callers ≡ length asked =
+    subst (λ (k : ℕ). count_by (λ c. c == k) callers ≡ length asked) (sym same)
+    (counts-all caller callers (callers-along caller asked (recursion_from_All (λ (a : CallerOp). a.caller ≡ caller) asked one)) ∙ length-map asked (λ (a : CallerOp). a.caller)) in
+    numbered_after-push [] asked more ∙ ap (λ (k : ℕ). numbered asked ++ record { caller = more.caller; index = k; op = more.op } ∷ []) counted

@@ -39,6 +39,11 @@ pub take-before_zero : (text : List ℕ) (len : ℕ) → len ≡ length (before_
 take-before_zero text len h =
     ap (λ n. take n text) (h ∙ length-prefix_len (λ byte. not (byte == 0)) text)
 
+-- the text in the bytes of words
+pub bytes_of-text : (words bytes text : List ℕ) → bytes ≡ all_bytes words → text ≡ before_zero bytes → text ≡ bytes_of words
+unfolding bytes_of
+bytes_of-text words bytes text unpacked front = front ∙ ap before_zero unpacked
+
 -- the byte of a name at a place is that of its words
 pub bytes_of_at : (words : List ℕ) (at : ℕ) → at < length (bytes_of words) → get_or (bytes_of words) at 0 ≡ get_or (all_bytes words) at 0
 unfolding bytes_of

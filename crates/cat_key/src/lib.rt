@@ -4,22 +4,22 @@
 //! as three words, the bytes big-endian and padded with zeros, so that comparing words compares names.
 #![tactic(auto)]
 
-ghost use Rattle.std.specs.Prelude.{◌≡◌, ℕ, ◌*◌, ◌<◌, ◌≤◌, ◌↔◌, List, [], length, IsOk, IfOk, IsErrOf, IsSome, IsNone, IfSome, All, slice_index};
+ghost use Rattle.std.specs.Prelude.{◌≡◌, ℕ, ◌*◌, ◌<◌, ◌≤◌, ◌↔◌, List, [], length, IsOk, IfOk, IsErrOf, IsSome, IsNone, IfSome, Some, All, slice_index};
 ghost use Rattle.cat_key.specs.Names.{IsName, IsNameByte, IsFirstBad, AreNameWords, name_cmp, words_of, all_bytes, before_zero, fingerprint_of, WordsKeepOrder, WordsTellNames};
 ghost use Rattle.std.proofs.Common.{ap, refl, sym};
 ghost use Rattle.std.proofs.lemmas.Cmp.{nat_list_eq_equiv, nat_list_cmp_total};
 ghost use Rattle.std.specs.Cmp.{partial_equiv_from_equiv};
 ghost use Rattle.std.specs.Cmp.Lexicographic.{same_text, texts_po, texts_ties};
+ghost use Rattle.std.specs.Fmt.{styled_text};
 ghost use Rattle.std.specs.Ordering.{as_partial_cmp};
-ghost use Rattle.std.specs.Str.{bytes_eq};
+ghost use Rattle.std.specs.Str.{bytes_eq, IsUtf8};
 
 use std::cmp::Ordering;
 use std::error::Error;
 use std::fmt;
-use std::hash::{Hash, Hasher};
 use std::marker::Model;
 
-/// How many words a name takes.
+/// How many words a name takes: its bytes, eight to a word.
 pub const WORDS: usize = 3;
 
 /// The longest name, in bytes.
@@ -103,14 +103,21 @@ impl Name {
         })
     }
 
-    /// The name that these words are, if they are a name's.
+    /// The words in which the name is kept.
+    pub fn words(&self) -> [u64; WORDS]
+        ensures words { result ≡ words_of self.now }
+        ensures name { IsName self.now }
+    {
+        self.words
+    }
+
+    /// The name that is kept in these words, or `None` where none is.
     pub fn of_words(words: [u64; WORDS]) -> Option<Name>
         ensures some { IsSome result ↔ AreNameWords words }
         ensures name { IfSome result IsName }
         ensures words { IfSome result (λ name. words_of name ≡ words) }
     {
-        let bytes = unpacked(&words);
-        let name = Name::read(&bytes[..text_len(&bytes)]).ok()?;
+        let name = Name::read(text_in(&unpacked(&words))).ok()?;
         (name.words == words).then_some(name)
     }
 
@@ -119,7 +126,7 @@ impl Name {
         ensures len { result ≡ length self.now }
         ensures name { IsName self.now }
     {
-        text_len(&unpacked(&self.words))
+        text_in(&unpacked(&self.words)).len()
     }
 
     /// The byte at a place, counted from 0.
@@ -142,22 +149,15 @@ impl Name {
         }
         (sum % 256) as u8
     }
-
-    /// The words of the name.
-    pub fn words(&self) -> [u64; WORDS]
-        ensures words { result ≡ words_of self.now }
-        ensures name { IsName self.now }
-    {
-        self.words
-    }
 }
 
 impl fmt::Display for Name {
+    ghost output = { λ name. Some name };
+
+    ghost styled_output = { λ name spec. Some (styled_text spec name) };
+
     fn fmt<W: fmt::Write>(&self, f: &mut fmt::Formatter<W>) -> fmt::Result {
-        for at in 0..self.len() {
-            write!(f, "{}", char::from(self.byte(at)))?;
-        }
-        Ok(())
+        f.pad(as_str(text_in(&unpacked(&self.words))))
     }
 }
 
@@ -203,16 +203,6 @@ impl Ord for Name {
     // Comparing the words compares the bytes, eight at a time.
     fn cmp(&self, other: &Name) -> Ordering {
         self.words.cmp(&other.words)
-    }
-}
-
-impl Hash for Name {
-    ghost hash_input = { λ name. ⟦<[u64; WORDS] as Hash>⟧.hash_input (words_of name) };
-
-    ghost respects_eq = { λ x y same. ap (λ (name : List ℕ). ⟦<[u64; WORDS] as Hash>⟧.hash_input (words_of name)) (same_text x y (sym same)) };
-
-    fn hash<H: Hasher>(&self, state: &mut H) {
-        self.words.hash(state);
     }
 }
 
@@ -269,11 +259,26 @@ fn unpacked(words: &[u64; WORDS]) -> [u8; MAX_LEN]
     bytes
 }
 
+/// The bytes before the first zero.
+fn text_in(bytes: &[u8]) -> &[u8]
+    ensures { result.now ≡ before_zero bytes.now }
+{
+    &bytes[..text_len(bytes)]
+}
+
 /// How many bytes stand before the first zero.
 fn text_len(bytes: &[u8]) -> usize
     ensures { result ≡ length (before_zero bytes.now) }
 {
     bytes.iter().take_while(|byte| **byte != 0).count()
+}
+
+/// The same bytes as a `str`.
+fn as_str(text: &[u8]) -> &str
+    requires { IsUtf8 text.now }
+    ensures { result.now ≡ text.now }
+{
+    str::from_utf8(text).unwrap()
 }
 
 #[cfg(test)]

@@ -1,6 +1,5 @@
 use super::{Name, NameFault, Pair, WORDS};
 use std::cmp::Ordering;
-use std::hash::{DefaultHasher, Hash, Hasher};
 use std::test::Fail;
 
 const LONGEST: &[u8] = b"abcdefghijklmnopqrstuvwx";
@@ -143,19 +142,5 @@ fn names_and_faults_are_printed(rt: HostRuntime) -> Result<(), Fail> {
     for (text, want) in &texts {
         assert_eq!(rt; text.as_str(), *want);
     }
-    Ok(())
-}
-
-fn hash_of<T: Hash>(value: &T) -> u64 {
-    let mut state = DefaultHasher::new();
-    value.hash(&mut state);
-    state.finish()
-}
-
-#[test]
-fn one_name_has_one_hash(rt: HostRuntime) -> Result<(), Fail> {
-    let name = Name::read(b"aa")?;
-    assert_eq!(rt; hash_of(&name), hash_of(&Name::read(b"aa")?));
-    assert_ne!(rt; hash_of(&name), hash_of(&Name::read(b"ab")?));
     Ok(())
 }

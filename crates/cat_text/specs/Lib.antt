@@ -1,2 +1,4 @@
 pub mod Scripts
 pub mod Reports
+pub mod Outside
+pub mod OutsideMemory

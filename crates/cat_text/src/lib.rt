@@ -1,8 +1,26 @@
 //! The texts of the program: scripts, reports, and the traits of the outside from which they come and to which they go.
 #![tactic(auto)]
 
+mod laws;
+mod line;
+mod number;
+mod outside;
+mod print;
+mod read;
 mod report;
 mod script;
+#[cfg(test)]
+mod tests;
 
+pub use laws::script_law;
+pub use outside::memory::{MemorySink, MemorySource};
+pub use outside::plan::FaultPlan;
+pub use outside::sink::{Sink, WriteFault, write_whole};
+pub use outside::source::{Failed, ReadFault, Source, read_whole};
+pub use outside::standard::{StandardInput, StandardOutput};
+pub use print::print_report;
+pub use read::read_script;
 pub use report::{Report, RoundReport};
-pub use script::{Ops, RoundPlan, Script};
+pub use script::{MOST_BYTES, Ops, RoundPlan, Script, ScriptFault};
+/// There was no memory.
+pub use std::alloc::AllocError as NoMemory;

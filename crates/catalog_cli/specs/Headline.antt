@@ -1,5 +1,5 @@
 -- What the program owes: what a script plays, what is reported of it, and what each status says of source and sink.
-use Rattle.std.specs.Prelude.{◌≡◌, ℕ, ◌<◌, ◌≤◌, ◌⊎◌, List, [], ◌∷◌, Option, IfSome, codes, map, length, take}
+use Rattle.std.specs.Prelude.{◌≡◌, ℕ, ◌<◌, ◌≤◌, ◌⊎◌, List, [], ◌∷◌, Option, IfSome, codes, length, take}
 use Rattle.std.specs.FinMap.{empty}
 use Rattle.std.specs.Io.KnownBytes.{Appends, Keeps}
 use Rattle.cat_history.specs.Maps.{Map}

@@ -1,3 +1,4 @@
 pub mod Statuses
 pub mod Rounds
 pub mod Headline
+pub mod LoneCalls

@@ -1,5 +1,5 @@
 -- What a round of one caller comes to.
-use Rattle.std.specs.Prelude.{◌≡◌, ℕ, Bool, false, List, length, map}
+use Rattle.std.specs.Prelude.{◌≡◌, ℕ, false, List, length, map}
 use Rattle.std.specs.FinMap.{len}
 use Rattle.cat_history.specs.Maps.{Map}
 use Rattle.cat_history.specs.Writes.{after_all}

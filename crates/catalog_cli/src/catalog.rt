@@ -5,7 +5,6 @@ ghost use Rattle.std.specs.FinMap.{empty};
 ghost use Rattle.std.specs.Io.KnownBytes.{Keeps};
 ghost use Rattle.std.specs.String.{string_bytes};
 ghost use Rattle.cat_text.specs.Scripts.{IsScript};
-ghost use Rattle.cat_text.declared.TheConstants.{MOST_BYTES};
 ghost use Rattle.catalog_cli.specs.Headline.{IsPlayCommand, AreBytesLeft, ArePlayedRounds, IsReportOf, LeavesSink, HasForeignLine, IsRefusal};
 
 use crate::round::run_lone_round;
@@ -62,10 +61,17 @@ fn is_play_command(words: &[String]) -> bool
 {
     match words {
         [command, nodes, slots, callers] => {
-            command.as_str() == "play" && nodes.as_str() == "1" && slots.as_str() == "64" && callers.as_str() == "1"
+            is_word(command, "play") && is_word(nodes, "1") && is_word(slots, "64") && is_word(callers, "1")
         }
         _ => false,
     }
+}
+
+/// Whether a word of the command line is this text.
+fn is_word(word: &String, text: &str) -> bool
+    ensures { IsTrue result ↔ (string_bytes word.now ≡ text.now) }
+{
+    word.as_str() == text
 }
 
 /// Reads the script, plays it, and makes its report.

@@ -3,7 +3,7 @@
 ghost use Rattle.std.specs.Prelude.{◌≡◌};
 ghost use Rattle.catalog_cli.specs.Statuses.{code_of};
 
-use cat_text::ScriptFault;
+use cat_text::{NoMemory, ReadFault, ScriptFault};
 use std::fmt;
 
 /// What the program doesn't do yet.
@@ -54,6 +54,47 @@ impl Status {
             Status::NoMemory => 7,
             Status::NotBuilt(_) => 9,
         }
+    }
+}
+
+impl From<ReadFault> for Status {
+    ghost use Rattle.std.specs.Prelude.{◌≡◌};
+    ghost use Rattle.catalog_cli.specs.Statuses.{status_of_read};
+
+    ghost from_gives = { λ fault status. status ≡ status_of_read fault };
+
+    fn from(fault: ReadFault) -> Status {
+        match fault {
+            ReadFault::Failed => Status::Read,
+            ReadFault::TooLong => Status::Script(ScriptFault::Bytes),
+            ReadFault::NoMemory => Status::NoMemory,
+        }
+    }
+}
+
+impl From<ScriptFault> for Status {
+    ghost use Rattle.std.specs.Prelude.{◌≡◌};
+    ghost use Rattle.catalog_cli.specs.Statuses.{status_of_script};
+
+    ghost from_gives = { λ fault status. status ≡ status_of_script fault };
+
+    fn from(fault: ScriptFault) -> Status {
+        match fault {
+            ScriptFault::Bytes => Status::Script(ScriptFault::Bytes),
+            ScriptFault::Line { .. } => Status::NotBuilt(Verb::Line),
+            ScriptFault::NoMemory => Status::NoMemory,
+        }
+    }
+}
+
+impl From<NoMemory> for Status {
+    ghost use Rattle.std.specs.Prelude.{◌≡◌};
+    ghost use Rattle.catalog_cli.specs.declared.status.Status.TheVariants.{NoMemory as OutOfMemory};
+
+    ghost from_gives = { λ _ status. status ≡ OutOfMemory };
+
+    fn from(_error: NoMemory) -> Status {
+        Status::NoMemory
     }
 }
 

@@ -1,18 +1,12 @@
-use Rattle.std.proofs.Common.{◌≡◌, ℕ, Bool, true, false, Option, Result, Some, None, Ok, Err, IfOk, IsOk, IsSome, is_some, is_ok, List, length, take, sym, ap, ◌∙◌, subst, refl}
+use Rattle.std.proofs.Common.{◌≡◌, Bool, true, false, Option, Result, Some, None, Ok, Err, IfOk, IsOk, IsSome, is_some, is_ok, sym, ap, ◌∙◌, subst, refl}
 use Rattle.std.specs.Bool.{then_some}
 use Rattle.std.specs.Result.{result_ok}
 use Rattle.std.specs.Cmp.Lexicographic.{same_text}
 use Rattle.std.proofs.lemmas.Slice.Eq.{bytes_eq-Decides}
-use Rattle.cat_key.specs.Names.{IsName, AreNameWords, words_of, all_bytes, before_zero, bytes_of}
-use Rattle.cat_key.proofs.Bytes.{take-before_zero}
+use Rattle.cat_key.specs.Names.{IsName, AreNameWords, words_of, bytes_of}
+use Rattle.cat_key.proofs.Bytes.{bytes_of-text}
 use Rattle.cat_key.proofs.Packing.{packed_from_words}
 use Rattle.cat_key.proofs.Name.of_words.Goals as goal
-
--- the text that was read is that of the words
-text_of_words : (words bytes : List ℕ) (len : ℕ) → bytes ≡ all_bytes words → len ≡ length (before_zero bytes) → take len bytes ≡ bytes_of words
-unfolding bytes_of
-text_of_words words bytes len unpacked counted =
-    take-before_zero bytes len counted ∙ ap before_zero unpacked
 
 IfOk-at_some : {T E : Type 0} (P : T → Type 0) (r : Result T E) (x : T) → IfOk r P → Some x ≡ result_ok r → P x
 IfOk-at_some P (Ok y) x h e = let same : y ≡ x = cc in subst P same h
@@ -36,7 +30,7 @@ some-from_true false x o e h = absurd cc
 
 pub returns-in_err-name-clause-some : goal.returns-in_err-name-clause-some
 returns-in_err-name-clause-some c =
-    let text = text_of_words c.args.words c.unpacked-bytes.result c.text_len.result c.unpacked-bytes.ensures c.text_len.ensures in (
+    let text = bytes_of-text c.args.words c.unpacked.result c.text_in.result.now c.unpacked.ensures c.text_in.ensures in (
       λ some. absurd (none-some c.from_residual.result c.from_residual.ensures some),
       λ words.
           let named = subst IsName (sym text) (packed_from_words c.args.words words).named in
@@ -45,7 +39,7 @@ returns-in_err-name-clause-some c =
 
 pub returns-clause-some : goal.returns-clause-some
 returns-clause-some c =
-    let text = text_of_words c.args.words c.unpacked-bytes.result c.text_len.result c.unpacked-bytes.ensures c.text_len.ensures in
+    let text = bytes_of-text c.args.words c.unpacked.result c.text_in.result.now c.unpacked.ensures c.text_in.ensures in
     let name = c.in_ok-name.name in
     let inside = c.name.inside.words in (
       λ some.
@@ -53,8 +47,8 @@ returns-clause-some c =
           let same : inside ≡ c.args.words = same_text inside c.args.words (sym equal ∙ c.eq.ensures) in
           subst AreNameWords same (bytes_of inside, c.name.invariant.named, c.name.invariant.whole),
       λ words.
-          let read : name ≡ take c.text_len.result c.unpacked-bytes.result =
-          IfOk-at_some (λ x. x ≡ take c.text_len.result c.unpacked-bytes.result) c.read.result name c.read.ensures.same c.in_ok-name.ensures.value in
+          let read : name ≡ c.text_in.result.now =
+          IfOk-at_some (λ x. x ≡ c.text_in.result.now) c.read.result name c.read.ensures.same c.in_ok-name.ensures.value in
           let same : inside ≡ c.args.words =
           sym c.name.invariant.whole ∙ ap words_of (c.name.view_is ∙ read ∙ text) ∙ (packed_from_words c.args.words words).whole in
           some-from_true c.eq.result name c.then_some.result c.then_some.ensures (c.eq.ensures ∙ (bytes_eq-Decides inside c.args.words).1 same),

@@ -1,0 +1,5 @@
+mod LineLemmas
+mod NumberLemmas
+mod CallLemmas
+pub mod ScriptLaws
+pub mod OutsideLemmas

@@ -1,0 +1,33 @@
+//! Numbers as scripts write them.
+
+ghost use Rattle.std.specs.Prelude.{ℕ, ◌+◌, ◌*◌, ◌^◌, ◌<◌, IfSome, IsNone};
+ghost use Rattle.std.specs.Option.{SomeIff};
+ghost use Rattle.cat_text.specs.Scripts.{IsNumber};
+
+/// The most digits that a number may be written with, leading zeros among them.
+const MOST_DIGITS: usize = 20;
+
+/// Reads a text as a number; None where it is none.
+pub(crate) fn read_number(text: &[u8]) -> Option<u64>
+    ensures some { IfSome result (λ n. IsNumber text.now n) }
+    ensures none { IsNone result → (n : ℕ) → ¬ IsNumber text.now n }
+{
+    if text.is_empty() || text.len() > MOST_DIGITS {
+        return None;
+    }
+    let mut number: u64 = 0;
+    for byte in text {
+        if !byte.is_ascii_digit() {
+            return None;
+        }
+        number = with_digit(number, u64::from(*byte - b'0'))?;
+    }
+    Some(number)
+}
+
+/// The number that these digits and one more write.
+fn with_digit(number: u64, digit: u64) -> Option<u64>
+    ensures { SomeIff result (number * 10 + digit < 2 ^ 64) (number * 10 + digit) }
+{
+    number.checked_mul(10)?.checked_add(digit)
+}

@@ -1,0 +1,10 @@
+//! Where bytes come from and where they go, as traits, so that a contract can name the bytes and a
+//! test can let any call fail.
+
+pub mod memory;
+pub mod plan;
+pub mod sink;
+pub mod source;
+pub mod standard;
+#[cfg(test)]
+mod tests;

@@ -1,0 +1,3 @@
+pub mod LoneRoundSteps
+pub mod Played
+pub mod Refusals

@@ -1,0 +1,57 @@
+use Rattle.std.proofs.Common.{◌≡◌, ℕ, ◌+◌, ◌↔◌, cond, List, [], ◌∷◌, ◌++◌, length, vec_len, All, refl, ap, subst, ◌∙◌, sym, arith, length-append}
+use Rattle.std.proofs.lemmas.List.{take_all}
+use Rattle.std.specs.FinMap.{len}
+use Rattle.std.specs.Result.{is_ok}
+use Rattle.cat_history.specs.Records.{numbered}
+use Rattle.cat_history.specs.LoneRounds.{write_of, writes_of, IsAnswerNow, PutsWithoutRoom}
+use Rattle.cat_history.specs.declared.op.CallerOp.{CallerOp}
+use Rattle.cat_history.specs.declared.record.Record.{Record}
+use Rattle.cat_history.specs.declared.record.Reply.TheVariants.{Full}
+use Rattle.cat_history.proofs.LoneRoundLemmas.{lone_rounds_are_legal}
+use Rattle.catalog_cli.proofs.LoneRoundSteps.{one_at_most, recorded, writes_of-push, calls-push, along-push, ends-push}
+use Rattle.catalog_cli.proofs.round.run_lone_round.Goals.{then-is_placed_write, else-is_placed_write}
+use Rattle.catalog_cli.proofs.round.run_lone_round.Goals as goal
+
+pub loop-index-preserved : goal.loop-index-preserved
+loop-index-preserved g c =
+    let was = c.loop-index.invariant in
+    let asked = c.as_slice-asked.result.now in
+    let index = c.loop-index.index in
+    let call = c.index-asked-index.result in
+    let records = c.loop-index.records.items in
+    let base = g.M.NameMap.contents c.args.map.now in
+    let now = g.M.NameMap.contents c.loop-index.map in
+    let room = g.M.NameMap.room c.args.map.now in
+    let r : Record = recorded index call c.answer.result in
+    let grown : c.push.new.self.items ≡ records ++ r ∷ [] = c.push.ensures.items ∙ ap (λ o. cond (is_ok o) (records ++ r ∷ []) records) c.unwrap.ensures in
+    let one = subst (λ (ops : List CallerOp). All (λ a. a.caller ≡ c.requires.0) ops) (sym c.as_slice-asked.ensures) c.requires.1 in
+    let full = subst (λ (k : ℕ). (c.answer.result ≡ Full) ↔ PutsWithoutRoom k now call.op) was.room_stays c.answer.ensures.full in
+    let counted : c.if-is_placed_write.writes ≡ c.loop-index.writes + length (write_of r) =
+    elim c.if-is_placed_write.branch [
+      | then-is_placed_write w ↦ omega (arith, w.writes-is, c.is_placed_write.ensures, ap {B = ℕ} (λ b. cond b 1 0) w.if-is_placed_write.true)
+      | else-is_placed_write w ↦ omega (arith, w.writes-is, c.is_placed_write.ensures, ap {B = ℕ} (λ b. cond b 1 0) w.if-is_placed_write.false)
+    ] in
+    record {
+      calls = rw grown (calls-push c.requires.0 asked index call c.answer.result records one c.loop-index-test.true c.index-asked-index.is was.calls);
+      answers = rw grown (along-push (λ m place q. IsAnswerNow m place q.op q.reply) base now c.loop-index.writes records r was.answers was.ends was.writes c.answer.ensures.answer);
+      full = rw grown (along-push (λ m place q. (q.reply ≡ Full) ↔ PutsWithoutRoom room m q.op) base now c.loop-index.writes records r was.full was.ends was.writes full);
+      ends = rw grown (ends-push base now (g.M.NameMap.contents c.answer.new.map) records r was.ends (c.answer.ensures.left call.caller index));
+      writes = rw (grown, writes_of-push) (omega (arith, counted, was.writes, length-append (writes_of records) (write_of r)));
+      few = omega (arith, counted, was.few, one_at_most c.is_placed_write.result (length (write_of r)) c.is_placed_write.ensures);
+      room_stays = c.answer.ensures.room ∙ was.room_stays;
+      made = c.push.ensures.len ∙ ap (λ o. cond (is_ok o) (vec_len c.loop-index.records + 1) (vec_len c.loop-index.records)) c.unwrap.ensures ∙ omega (arith, was.made);
+      reserved = omega (arith, was.reserved, c.push.ensures.capacity);
+    }
+
+pub returns-clause-played : goal.returns-clause-played
+returns-clause-played g c =
+    let was = c.loop-index.invariant in
+    let calls = was.calls ∙ ap numbered (take_all c.loop-index.index c.as_slice-asked.result.now (omega (arith, c.loop-index-test.false)) ∙ c.as_slice-asked.ensures) in
+    record {
+      legal = rw c.of.ensures (lone_rounds_are_legal (g.M.NameMap.contents c.args.map.now) c.requires.0 c.args.plan.now.ops c.loop-index.records.items c.requires.1 calls was.answers);
+      in_script_order = rw c.of.ensures calls;
+      full = rw c.of.ensures was.full;
+      joined = refl;
+      placed = rw c.of.ensures was.writes;
+      names = rw c.of.ensures (c.len.ensures ∙ ap len was.ends);
+    }

@@ -1,0 +1,17 @@
+-- The calls of a round that one caller makes.
+use Rattle.std.specs.Prelude.{◌≡◌, ℕ, List, All}
+use Rattle.cat_history.specs.Maps.{Map}
+use Rattle.cat_history.specs.Writes.{after_all}
+use Rattle.cat_history.specs.LoneRounds.{write_of}
+use Rattle.cat_history.specs.declared.op.CallerOp.{CallerOp}
+use Rattle.cat_history.specs.declared.op.Op.{Op}
+use Rattle.cat_history.specs.declared.record.Reply.{Reply}
+
+-- Some caller makes all the calls.
+abbrev pub AreOfOneCaller : List CallerOp → Type 0
+AreOfOneCaller asked = (caller : ℕ) × All (λ a. a.caller ≡ caller) asked
+
+-- The map is what a call left that was answered so, whoever made it.
+abbrev pub IsLeftBy : Map → Op → Reply → Map → Type 0
+IsLeftBy base op reply end =
+    (caller index : ℕ) → end ≡ after_all base (write_of (record { caller = caller; index = index; op = op; reply = reply }))
