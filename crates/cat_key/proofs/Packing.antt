@@ -95,7 +95,7 @@ front-padded (suc count) (byte ∷ text) h named =
     ∙ ap (λ b. cond (not b) (byte ∷ before_zero (padded count text)) []) full
     ∙ ap (λ rest. byte ∷ rest) (front-padded count text (omega arith) (All-tail IsNameByte byte text named))
 
-byte_of_name : (byte : ℕ) → IsNameByte byte → IsByte byte
+pub byte_of_name : (byte : ℕ) → IsNameByte byte → IsByte byte
 byte_of_name byte h = omega arith
 
 pub name_bytes : (text : List ℕ) → IsName text → All IsByte text

@@ -3,12 +3,12 @@ use Rattle.std.proofs.Common.{◌≡◌, ℕ, zero, suc, ◌+◌, ◌*◌, ◌�
 use Rattle.std.specs.Ordering.{ordering_then}
 use Rattle.std.specs.Cmp.Lexicographic.{slice_cmp, texts_ties}
 use Rattle.std.proofs.lemmas.Cmp.{nat_list_cmp_total, tied_itself}
-use Rattle.std.proofs.lemmas.List.Elements.{All-head, All-tail, All-drop}
+use Rattle.std.proofs.lemmas.List.Elements.{All-head, All-tail, All-drop, All-weaker}
 use Rattle.cat_key.specs.Names.{IsName, IsNameByte, IsPacked, padded, word_of, first_words, words_of, bytes_of}
 use Rattle.cat_key.specs.Names.{name_cmp}
 use Rattle.cat_key.specs.declared.TheConstants.{WORDS}
 use Rattle.cat_key.proofs.Digits.{IsByte, number_cmp, nat_cmp-less, nat_cmp-more, length-padded, word_is_number}
-use Rattle.cat_key.proofs.Packing.{padded-add, name_bytes}
+use Rattle.cat_key.proofs.Packing.{padded-add, byte_of_name}
 
 -- two words compare as their bytes do
 word_cmp : (a b : List ℕ) → All IsByte a → All IsByte b → nat_cmp (word_of a) (word_of b) ≡ slice_cmp nat_cmp (padded 8 a) (padded 8 b)
@@ -54,12 +54,16 @@ padded_cmp (suc count) (x ∷ a) [] ha hb na nb =
 padded_cmp (suc count) (x ∷ a) (y ∷ b) ha hb na nb =
     ap (λ o. ordering_then (nat_cmp x y) o) (padded_cmp count a b (omega arith) (omega arith) (All-tail IsNameByte x a na) (All-tail IsNameByte y b nb))
 
+-- texts of bytes of names compare as their words do; that of no byte, whose words are zero, is below every name
+pub words_keep_text_order : (a b : List ℕ) → length a ≤ 8 * WORDS → length b ≤ 8 * WORDS → All IsNameByte a → All IsNameByte b → slice_cmp nat_cmp (words_of a) (words_of b) ≡ name_cmp a b
+unfolding words_of
+words_keep_text_order a b fits fits' bytes bytes' =
+    first_words_cmp WORDS a b (All-weaker IsNameByte IsByte byte_of_name a bytes) (All-weaker IsNameByte IsByte byte_of_name b bytes')
+    ∙ padded_cmp (8 * WORDS) a b fits fits' bytes bytes'
+
 -- two names compare as their words do
 pub words_keep_order : (a b : List ℕ) → IsName a → IsName b → slice_cmp nat_cmp (words_of a) (words_of b) ≡ name_cmp a b
-unfolding words_of
-words_keep_order a b ha hb =
-    first_words_cmp WORDS a b (name_bytes a ha) (name_bytes b hb)
-    ∙ padded_cmp (8 * WORDS) a b ha.fits hb.fits ha.bytes hb.bytes
+words_keep_order a b ha hb = words_keep_text_order a b ha.fits hb.fits ha.bytes hb.bytes
 
 -- words that stand for names compare as those names do
 pub packed_cmp : (words words' : List ℕ) → IsPacked words → IsPacked words' → slice_cmp nat_cmp words words' ≡ name_cmp (bytes_of words) (bytes_of words')

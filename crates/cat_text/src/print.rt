@@ -60,14 +60,14 @@ fn add_end(text: &mut Vec<u8>, crashed: bool) -> Result<(), NoMemory>
     }
 }
 
-fn add_record(text: &mut Vec<u8>, record: &Record) -> Result<(), NoMemory>
-    ensures { OnOk result (text.new.items ≡ text.old.items ++ record_line record.now) }
+fn add_record(text: &mut Vec<u8>, call: &Record) -> Result<(), NoMemory>
+    ensures { OnOk result (text.new.items ≡ text.old.items ++ record_line call.now) }
 {
-    add_number(text, record.caller)?;
+    add_number(text, call.caller)?;
     text.extend_from_slice(b" ")?;
-    add_op(text, &record.op)?;
+    add_op(text, &call.op)?;
     text.extend_from_slice(b" -> ")?;
-    add_reply(text, &record.reply)?;
+    add_reply(text, &call.reply)?;
     text.extend_from_slice(b"\n")
 }
 

@@ -9,14 +9,14 @@ ghost use Rattle.catalog_cli.specs.Headline.{IsPlayCommand, AreBytesLeft, ArePla
 
 use crate::round::run_lone_round;
 use crate::status::{Status, Verb};
-use cat_history::PlainMap;
 use cat_text::{
     MOST_BYTES, NoMemory, Report, RoundReport, Script, ScriptFault, Sink, Source, WriteFault, print_report, read_script,
     read_whole, write_whole,
 };
+use data_node::Node;
 use std::alloc::Global;
 
-/// How many names a catalogue of one node has room for.
+/// How many names a catalogue has room for: the slots of its one node.
 pub const ROOM: u64 = 64;
 
 /// Runs the command that the words name: plays the script that the source gives, and writes its report to the sink.
@@ -92,10 +92,10 @@ fn play(alloc: Global, plans: &Script) -> Result<Report, NoMemory>
     requires { (bytes : List ℕ) × IsScript bytes plans.now }
     ensures { IfOk result (ArePlayedRounds ROOM empty plans.now) }
 {
-    let mut map = PlainMap::new(alloc, ROOM)?;
+    let mut node = Node::new(ROOM);
     let mut rounds = Vec::with_capacity(alloc, plans.as_slice().len())?;
     for plan in plans.as_slice() {
-        rounds.push(run_lone_round(alloc, &mut map, plan)?)?;
+        rounds.push(run_lone_round(alloc, &mut node, plan)?)?;
     }
     Ok(Report::of(rounds))
 }

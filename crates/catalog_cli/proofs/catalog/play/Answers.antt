@@ -4,8 +4,8 @@ use Rattle.catalog_cli.proofs.catalog.play.Goals as goal
 
 pub loop-plan-init : goal.loop-plan-init
 loop-plan-init c = record {
-    room = c.in_ok-map.ensures.room;
-    played = none-played-at _ _ _ _ c.in_ok-rounds.ensures.items c.in_ok-map.ensures.empty;
+    room = c.new-node.ensures.room;
+    played = none-played-at _ _ _ _ c.in_ok-rounds.ensures.items c.new-node.ensures.empty;
   }
 
 pub run_lone_round-requires : goal.run_lone_round-requires

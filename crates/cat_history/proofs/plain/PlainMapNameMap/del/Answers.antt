@@ -1,4 +1,4 @@
-use Rattle.std.proofs.Common.{Some, sym, ap, ◌∙◌, arith, rules}
+use Rattle.std.proofs.Common.{Some, sym, ap, ◌∙◌, arith}
 use Rattle.std.specs.FinMap.{remove}
 use Rattle.cat_history.specs.Maps.{at, map_of}
 use Rattle.cat_history.proofs.PlainMapLemmas.{at-lacking, at-place, removed-lacking, map_of-removed, differ-removed}

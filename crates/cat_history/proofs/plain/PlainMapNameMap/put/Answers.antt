@@ -4,7 +4,7 @@ use Rattle.std.proofs.Math.ListN.{length-set}
 use Rattle.std.specs.FinMap.{insert, len}
 use Rattle.std.specs.Result.{is_ok}
 use Rattle.cat_key.specs.declared.Pair.{Pair}
-use Rattle.cat_history.specs.Maps.{at, map_of}
+use Rattle.cat_history.specs.Maps.{at}
 use Rattle.cat_history.proofs.PlainMapLemmas.{pushed, some≢none, at-lacking, at-place, len-map_of, map_of-written, differ-written, map_of-pushed, differ-pushed}
 use Rattle.cat_history.proofs.plain.PlainMapNameMap.put.Goals as goal
 

@@ -1,9 +1,13 @@
-use Rattle.std.proofs.Common.{◌≡◌, refl}
-use Rattle.std.proofs.lemmas.List.Elements.{All-cons, All-nil}
+use Rattle.std.proofs.Common.{◌≡◌, List, All, refl, sym, subst}
+use Rattle.std.proofs.lemmas.List.Elements.{All-from_recursion}
+use Rattle.std.specs.List.{AllByRecursion}
 use Rattle.cat_history.specs.declared.op.CallerOp.{CallerOp}
 use Rattle.catalog_cli.proofs.round.tests.answers_in_order.Goals as goal
 
+-- a list that is a written one, each of whose calls is of caller 0
+written : (asked calls : List CallerOp) → asked ≡ calls → AllByRecursion (λ a. a.caller ≡ 0) calls → All (λ a. a.caller ≡ 0) asked
+written asked calls is each = subst (λ (xs : List CallerOp). All (λ a. a.caller ≡ 0) xs) (sym is) (All-from_recursion (λ (a : CallerOp). a.caller ≡ 0) calls each)
+
 pub run_lone_round-requires : goal.run_lone_round-requires
 run_lone_round-requires g c =
-    let P = λ (a : CallerOp). a.caller ≡ 0 in
-    (0, rw (c.of.ensures, c.in_ok-from_array.ensures.items) (All-cons P _ _ refl (All-cons P _ _ refl (All-cons P _ _ refl (All-cons P _ _ refl (All-cons P _ _ refl (All-nil P)))))))
+    (0, rw c.of.ensures (written c.in_ok-from_array.field-0.items _ c.in_ok-from_array.ensures.items (refl, (refl, (refl, (refl, (refl, tt)))))))

@@ -1,0 +1,4 @@
+pub mod Bitmaps
+pub mod Changes
+pub mod Counts
+pub mod Lookups

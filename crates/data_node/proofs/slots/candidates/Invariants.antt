@@ -1,0 +1,6 @@
+use Rattle.data_node.proofs.Bitmaps.{Marks}
+use Rattle.data_node.proofs.slots.candidates.Given as goal
+
+-- the bits set so far are the candidates among the slots that the loop has passed
+abbrev pub invariant-loop-slot : goal.invariant-loop-slot
+invariant-loop-slot l = Marks l.bitmap l.prints l.print l.slot l.found

@@ -1,0 +1,11 @@
+//! A node: up to 64 slots, each of which holds a name with its number.
+//!
+//! A bitmap tells which slots are live. Beside it stands a fingerprint of each slot's name, one byte,
+//! so that a look-up compares names only where the fingerprints agree.
+#![tactic(auto)]
+
+mod node;
+mod slots;
+
+pub use node::Node;
+pub use slots::{MAX_SLOTS, PRINT_WORDS, candidates, clear_slot, print_in, with_print};

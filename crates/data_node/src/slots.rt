@@ -1,0 +1,184 @@
+//! Bitmaps of live slots, and the words with the slots' fingerprints.
+
+ghost use Rattle.std.specs.Prelude.{◌≡◌, ◌≢◌, ◌⊎◌, ℕ, ◌%◌, ◌<◌, ◌≤◌, ◌↔◌, IsTrue, IsNone, Some, IfSome, slice_set};
+ghost use Rattle.std.specs.Int.{bit_at};
+ghost use Rattle.data_node.specs.Slots.{AreAllLive, IsLive, IsLowestClear, IsCandidate, prints_of, print_of};
+
+/// A node has at most so many slots, as many as a bitmap has bits.
+pub const MAX_SLOTS: u64 = 64;
+
+/// How many slots have their fingerprints in one word, a byte each.
+pub(crate) const PRINTS_PER_WORD: u64 = 8;
+
+/// How many words hold the fingerprints of all slots.
+pub const PRINT_WORDS: usize = 8;
+
+/// Whether the slot is live.
+pub(crate) fn is_live(bitmap: u64, slot: u64) -> bool
+    requires { slot < MAX_SLOTS }
+    ensures { IsTrue result ↔ IsLive bitmap slot }
+{
+    (bitmap >> slot) & 1 == 1
+}
+
+/// The bitmap in which this slot is live too.
+fn with_live(bitmap: u64, slot: u64) -> u64
+    requires { slot < MAX_SLOTS }
+    ensures { (other : ℕ) → IsLive result other ↔ ((other ≡ slot) ⊎ IsLive bitmap other) }
+{
+    bitmap | 1 << slot
+}
+
+/// The bitmap in which this slot is clear.
+pub(crate) fn without_live(bitmap: u64, slot: u64) -> u64
+    requires { slot < MAX_SLOTS }
+    ensures { (other : ℕ) → IsLive result other ↔ (IsLive bitmap other × (other ≢ slot)) }
+{
+    bitmap & !(1 << slot)
+}
+
+/// The bitmap in which `to` is live, and `from`, if any, no longer is.
+pub(crate) fn moved(bitmap: u64, from: Option<u64>, to: u64) -> u64
+    requires within { to < MAX_SLOTS }
+    requires from_within { IfSome from (λ slot. (slot < MAX_SLOTS) × (slot ≢ to)) }
+    ensures { (slot : ℕ) → IsLive result slot ↔ ((slot ≡ to) ⊎ (IsLive bitmap slot × (from ≢ Some slot))) }
+{
+    let with_to = with_live(bitmap, to);
+    match from {
+        Some(slot) => without_live(with_to, slot),
+        None => with_to,
+    }
+}
+
+/// The lowest clear slot of the first `slots`, or None where they are all live.
+pub fn clear_slot(bitmap: u64, slots: u64) -> Option<u64>
+    requires { slots ≤ MAX_SLOTS }
+    ensures full { IsNone result ↔ AreAllLive bitmap slots }
+    ensures lowest { IfSome result (IsLowestClear bitmap slots) }
+{
+    let slot = u64::from(bitmap.trailing_ones());
+    if slot < slots { Some(slot) } else { None }
+}
+
+/// The fingerprint of a slot.
+pub fn print_in(prints: &[u64; PRINT_WORDS], slot: u64) -> u8
+    requires { slot < MAX_SLOTS }
+    ensures { result ≡ print_of prints.now slot }
+{
+    let word = prints[(slot / PRINTS_PER_WORD) as usize];
+    word.to_le_bytes()[(slot % PRINTS_PER_WORD) as usize]
+}
+
+/// The word in which the slot's fingerprint stands, with that fingerprint changed and no other.
+pub fn with_print(word: u64, slot: u64, print: u8) -> u64
+    ensures { prints_of result ≡ slice_set (prints_of word) (slot % 8) print }
+{
+    let mut bytes = word.to_le_bytes();
+    bytes[(slot % PRINTS_PER_WORD) as usize] = print;
+    u64::from_le_bytes(bytes)
+}
+
+/// Whether the slot is live and has this fingerprint.
+fn has_print(bitmap: u64, prints: &[u64; PRINT_WORDS], print: u8, slot: u64) -> bool
+    requires { slot < MAX_SLOTS }
+    ensures { IsTrue result ↔ IsLive bitmap slot × (print_of prints.now slot ≡ print) }
+{
+    is_live(bitmap, slot) && print_in(prints, slot) == print
+}
+
+/// The live slots, of the first `slots`, whose fingerprint is `print`, as bits. Only these can have
+/// a name with that fingerprint.
+pub fn candidates(bitmap: u64, prints: &[u64; PRINT_WORDS], print: u8, slots: u64) -> u64
+    requires { slots ≤ MAX_SLOTS }
+    ensures { (slot : ℕ) → (bit_at result slot ≡ 1) ↔ IsCandidate bitmap prints.now print slots slot }
+{
+    let mut found = 0;
+    for slot in 0..slots {
+        if has_print(bitmap, prints, print, slot) {
+            found |= 1 << slot;
+        }
+    }
+    found
+}
+
+#[cfg(test)]
+mod tests {
+    use super::*;
+
+    #[test]
+    fn finds_clear_slots(rt: HostRuntime) {
+        for (bitmap, slots, want) in [
+            (0, 4, Some(0)),
+            (0b1011, 4, Some(2)),
+            (0b10_0111, 4, Some(3)),
+            (0b1111, 4, None),
+            (0b1111, 6, Some(4)),
+            (u64::MAX >> 1, 64, Some(63)),
+            (u64::MAX, 64, None),
+        ] {
+            assert!(rt; slots <= MAX_SLOTS, "{slots}");
+            assert_eq!(rt; clear_slot(bitmap, slots), want, "{bitmap} of {slots}");
+        }
+    }
+
+    #[test]
+    fn reads_fingerprints(rt: HostRuntime) {
+        let prints = [
+            0x0807_0605_0403_0201,
+            0,
+            0,
+            0,
+            0,
+            0,
+            0,
+            0xFF00_0000_0000_00AB,
+        ];
+        for (slot, want) in [
+            (0, 1),
+            (1, 2),
+            (7, 8),
+            (8, 0),
+            (55, 0),
+            (56, 0xAB),
+            (63, 0xFF),
+        ] {
+            assert!(rt; slot < MAX_SLOTS, "{slot}");
+            assert_eq!(rt; print_in(&prints, slot), want, "{slot}");
+        }
+    }
+
+    #[test]
+    fn changes_one_fingerprint(rt: HostRuntime) {
+        for (word, slot, print, want) in [
+            (0, 0, 0xAB, 0xAB),
+            (0, 9, 0xAB, 0xAB00),
+            (0x1122_3344_5566_7788, 10, 0x99, 0x1122_3344_5599_7788),
+            (u64::MAX, 63, 0, 0x00FF_FFFF_FFFF_FFFF),
+        ] {
+            assert_eq!(rt; with_print(word, slot, print), want, "{word} at {slot}");
+        }
+    }
+
+    #[test]
+    fn finds_candidates(rt: HostRuntime) {
+        let alternating = 0x0907_0907_0907_0907;
+        let prints = [alternating, 0, 0, 0, 0, 0, 0, 0x0500_0000_0000_0000];
+        for (bitmap, print, slots, want) in [
+            (0, 7, 64, 0),
+            (0b1111_1111, 7, 8, 0b0101_0101),
+            (0b1111_1111, 9, 8, 0b1010_1010),
+            (0b0000_0111, 7, 8, 0b0000_0101),
+            (0b1111_1111, 7, 4, 0b0000_0101),
+            (0b1111_1111, 8, 8, 0),
+            (1 << 63, 5, 64, 1 << 63),
+            (u64::MAX, 0, 10, 0b11_0000_0000),
+        ] {
+            assert!(rt; slots <= MAX_SLOTS, "{slots}");
+            assert_eq!(rt;
+                candidates(bitmap, &prints, print, slots),
+                want,
+                "{bitmap} for {print}"
+            );
+        }
+    }
+}

@@ -1,0 +1,4 @@
+pub mod Apart
+pub mod Kept
+pub mod Made
+pub mod Parts

@@ -1,0 +1,5 @@
+use Rattle.pm_words.proofs.Kept as kept
+use Rattle.pm_words.proofs.laws.drains_twin.Goals as goal
+
+pub returns : goal.returns
+returns c = record { twin = kept.place_of-drain; cached = kept.names_cached }

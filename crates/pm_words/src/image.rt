@@ -1,0 +1,81 @@
+ghost use Rattle.std.specs.Prelude.{◌≡◌, ◌<◌, IfOk, slice_index};
+ghost use Rattle.pm_words.specs.Layouts.{IsLayout};
+ghost use Rattle.pm_words.specs.Places.{image_words};
+ghost use Rattle.pm_words.specs.Images.{IsImage, fresh_words};
+
+use crate::NoMemory;
+use crate::layout::Layout;
+use crate::offsets::{header, leaf};
+use std::alloc::Global;
+use std::marker::Model;
+
+/// The format of the images that are made and read.
+const FORMAT: u64 = 1;
+
+/// The generation of a fresh image.
+const FIRST_GENERATION: u64 = 1;
+
+/// The persistent words of a catalogue, as a file holds them. The words 0 to 4 are the header of its layout.
+#[derive(Drop)]
+pub struct Image {
+    layout: Layout,
+    words: Vec<u64>,
+}
+
+impl Model for Image {
+    ghost use Rattle.pm_words.specs.Images.{Row, IsImage};
+
+    ghost Value = { Row };
+
+    ghost view = { λ i. record { layout = i.layout; words = i.words.items } };
+
+    ghost invariant = { λ i. IsImage i.layout i.words.items };
+}
+
+impl Image {
+    /// The image of a catalogue without names. Its one leaf leads to node 0, and the root word is 0.
+    pub fn fresh(alloc: Global, layout: Layout) -> Result<Image, NoMemory>
+        requires { IsLayout layout }
+        ensures { IfOk result (λ i. i ≡ record { layout = layout; words = fresh_words layout }) }
+    {
+        let mut words = vec![in alloc; 0u64; layout.image_words() as usize]?;
+        words[header::MAGIC as usize] = u64::from_le_bytes(*b"PACCAT01");
+        words[header::FORMAT as usize] = FORMAT;
+        words[header::NODES as usize] = layout.nodes();
+        words[header::SLOTS as usize] = layout.slots();
+        words[header::CALLERS as usize] = layout.callers();
+        words[header::GENERATION as usize] = FIRST_GENERATION;
+        words[layout.leaf_word(0, leaf::NODE) as usize] = 1;
+        Ok(Image { layout, words })
+    }
+
+    /// The layout that its header tells.
+    pub fn layout(&self) -> Layout
+        ensures layout { result ≡ self.now.layout }
+        ensures image { IsImage self.now.layout self.now.words }
+    {
+        self.layout
+    }
+
+    /// One word, by its number.
+    pub fn word(&self, at: u64) -> u64
+        requires { at < image_words self.now.layout }
+        ensures { result ≡ slice_index self.now.words at }
+    {
+        self.words[at as usize]
+    }
+
+    pub(crate) fn of_words(layout: Layout, words: Vec<u64>) -> Image
+        requires { IsImage layout words.items }
+        ensures { result ≡ record { layout = layout; words = words.items } }
+    {
+        Image { layout, words }
+    }
+
+    pub(crate) fn words(&self) -> &[u64]
+        ensures words { result.now ≡ self.now.words }
+        ensures image { IsImage self.now.layout self.now.words }
+    {
+        &self.words
+    }
+}

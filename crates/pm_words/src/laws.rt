@@ -1,0 +1,60 @@
+//! Laws of the places, the rows and the images, for the proofs of crates above. The functions do nothing: each names what
+//! is proved, so that it can't go unproved.
+ghost use Rattle.pm_words.specs.Laws.{WordsWithin, WordsApart, PlacesWithin, PlacesApart, SlotsWithin, SlotsApart, StoreStands, StoreLeaves, DrainsTwin, NamesCached, OutsideHeader, DrainsFreely, ActKeepsRow, EvictionKeepsRow, CrashLeavesImage, CrashLeavesDurable, ImageMakesRow, TwinsAreImage, VolatileIsZero, FreshIsImage, FreshByName};
+
+/// Named words are within an image, and no two have one number.
+pub fn words_apart()
+    ensures within { WordsWithin }
+    ensures apart { WordsApart }
+{}
+
+/// Named places are within a row, and no two have one number.
+pub fn places_apart()
+    ensures within { PlacesWithin }
+    ensures apart { PlacesApart }
+{}
+
+/// The words of slots are within a node, and no two have one offset.
+pub fn slots_apart()
+    ensures within { SlotsWithin }
+    ensures apart { SlotsApart }
+{}
+
+/// A store changes the word at its own place alone.
+pub fn stores_apart()
+    ensures stands { StoreStands }
+    ensures leaves { StoreLeaves }
+{}
+
+/// A drain of a word's cached twin stores into its durable one.
+pub fn drains_twin()
+    ensures twin { DrainsTwin }
+    ensures cached { NamesCached }
+{}
+
+/// Which places may be stored into and drained whatever the header is.
+pub fn outside_header()
+    ensures stores { OutsideHeader }
+    ensures drains { DrainsFreely }
+{}
+
+/// A row stays one of its layout, and a crash leaves an image of the durable twins.
+pub fn rows_kept()
+    ensures acts { ActKeepsRow }
+    ensures evictions { EvictionKeepsRow }
+    ensures crashes { CrashLeavesImage }
+    ensures durable { CrashLeavesDurable }
+{}
+
+/// A row that is made of an image has it in both twins, and zeros in front.
+pub fn rows_made()
+    ensures row { ImageMakesRow }
+    ensures twins { TwinsAreImage }
+    ensures volatile { VolatileIsZero }
+{}
+
+/// What the words of a fresh image are.
+pub fn fresh_image()
+    ensures image { FreshIsImage }
+    ensures words { FreshByName }
+{}

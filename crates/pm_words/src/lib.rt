@@ -1,0 +1,36 @@
+//! The words of a catalogue in simulated persistent memory: which word stands at which place, what one action does to
+//! the rows of words, and what a crash leaves of them.
+#![tactic(auto)]
+
+mod action;
+mod again;
+mod image;
+pub mod laws;
+mod layout;
+mod machine;
+mod memory;
+pub mod offsets;
+mod steps;
+
+pub use action::Action;
+pub use again::Again;
+pub use image::Image;
+pub use layout::{Field, Layout, LayoutFault};
+pub use machine::{Machine, Turn};
+pub use memory::Memory;
+pub use steps::Steps;
+
+/// There was no memory. It is the one error of a call that can fail by nothing else.
+pub use std::alloc::AllocError as NoMemory;
+
+/// The words of a name or a key.
+pub const KEY: usize = 3;
+
+/// The words of a line, which is flushed as one.
+pub const LINE: u64 = 8;
+
+/// The log lines of one caller.
+pub const LINES: u64 = 8;
+
+#[cfg(test)]
+mod tests;

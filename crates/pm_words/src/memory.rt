@@ -1,0 +1,102 @@
+ghost use Rattle.std.specs.Prelude.{◌≡◌, ◌+◌, ◌<◌, IfOk};
+ghost use Rattle.pm_words.specs.Layouts.{IsLayout};
+ghost use Rattle.pm_words.specs.Places.{image_words, row_words};
+ghost use Rattle.pm_words.specs.Rows.{IsRow, MayName, CanAct, place_of, acted, got, evicted, durable_row, row_of};
+
+use crate::NoMemory;
+use crate::action::Action;
+use crate::image::Image;
+use crate::layout::Layout;
+use crate::steps::Steps;
+use std::alloc::Global;
+use std::marker::Model;
+use std::sync::ledger::Ledger;
+
+/// The rows of words in simulated persistent memory: the volatile words, then the cached twins of the image words, then
+/// their durable twins. A place is a number in this order.
+#[derive(Drop)]
+pub struct Memory {
+    layout: Layout,
+    words: Vec<u64>,
+}
+
+impl Model for Memory {
+    ghost use Rattle.pm_words.specs.Images.{Row};
+    ghost use Rattle.pm_words.specs.Rows.{IsRow};
+
+    ghost Value = { Row };
+
+    ghost view = { λ m. record { layout = m.layout; words = m.words.items } };
+
+    ghost invariant = { λ m. IsRow m.layout m.words.items };
+}
+
+impl Memory {
+    /// Both twins are the image, and every volatile word is 0.
+    pub fn of(alloc: Global, image: Image) -> Result<Memory, NoMemory>
+        ensures { IfOk result (λ m. m ≡ record { layout = image.layout; words = row_of image.layout image.words }) }
+    {
+        let layout = image.layout();
+        let mut words = vec![in alloc; 0u64; layout.volatile_words() as usize]?;
+        words.extend_from_slice(image.words())?;
+        words.extend_from_slice(image.words())?;
+        Ok(Memory { layout, words })
+    }
+
+    /// The layout of its image.
+    pub fn layout(&self) -> Layout
+        ensures layout { result ≡ self.now.layout }
+        ensures row { IsRow self.now.layout self.now.words }
+    {
+        self.layout
+    }
+
+    /// Does one action, and gives its number: the word loaded, the word found by an exchange, the word before an add, and
+    /// 0 for a store or a drain.
+    pub fn act<L: Ledger>(&mut self, action: Action, steps: &mut Steps<L>) -> u64
+        requires { CanAct self.old.layout self.old.words action }
+        ensures row { self.new ≡ record self.old { words = acted self.old.layout self.old.words action } }
+        ensures got { result ≡ got self.old.layout self.old.words action }
+        ensures tick { steps.new ≡ steps.old + 1 }
+    {
+        steps.tick();
+        let place = place_of(&self.layout, action) as usize;
+        let found = self.words[place];
+        self.words[place] = action.word_after(found);
+        action.given(found)
+    }
+
+    /// Copies the cached twin of an image word to its durable twin.
+    pub fn evict(&mut self, word: u64)
+        requires { word < image_words self.old.layout }
+        ensures { self.new ≡ record self.old { words = evicted self.old.layout self.old.words word } }
+    {
+        let durable = self.layout.durable(word) as usize;
+        self.words[durable] = self.words[self.layout.cached(word) as usize];
+    }
+
+    /// What a crash leaves: the durable twins.
+    pub fn crash(self) -> Image
+        ensures { result ≡ record { layout = self.layout; words = durable_row self.layout self.words } }
+    {
+        let Memory { layout, mut words } = self;
+        words.drain(..layout.durable(0) as usize);
+        Image::of_words(layout, words)
+    }
+}
+
+/// The place of the word that an action reads or writes: of a drain the durable twin.
+fn place_of(layout: &Layout, action: Action) -> u64
+    requires layout { IsLayout layout.now }
+    requires names { MayName layout.now action }
+    ensures place { result ≡ place_of layout.now action }
+    ensures within { result < row_words layout.now }
+{
+    match action {
+        Action::Load(place)
+        | Action::Store(place, _)
+        | Action::Exchange(place, _, _)
+        | Action::Add(place) => place,
+        Action::Drain(place, _) => place + layout.image_words(),
+    }
+}

@@ -1,0 +1,2 @@
+pub mod VersionFacts
+pub mod HistoryFacts

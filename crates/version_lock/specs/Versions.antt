@@ -1,0 +1,40 @@
+-- What a node's version word says: bit 0 is its lock, bits 1 to 39 count the times that it was freed,
+-- and bits 40 to 63 are the generation, the run of the index that wrote it.
+use Rattle.std.specs.Prelude.{◌≡◌, ℕ, ◌+◌, ◌*◌, ◌/◌, ◌%◌, ◌<◌, ◌⊎◌, if◌then◌else◌, nat_lt}
+use Rattle.version_lock.specs.declared.TheConstants.{GENERATION_UNIT, LAST_COUNT}
+
+-- the generation in bits 40 to 63
+abbrev pub generation_of : ℕ → ℕ
+generation_of word = word / GENERATION_UNIT
+
+-- the count in bits 1 to 39
+abbrev pub count_of : ℕ → ℕ
+count_of word = word % GENERATION_UNIT / 2
+
+-- bit 0 is set
+abbrev pub IsLocked : ℕ → Type 0
+IsLocked word = word % 2 ≡ 1
+
+-- bit 0 is clear
+abbrev pub IsUnlocked : ℕ → Type 0
+IsUnlocked word = word % 2 ≡ 0
+
+-- the word of a generation and a count whose lock is not taken
+abbrev pub version_word : ℕ → ℕ → ℕ
+version_word generation count = generation * GENERATION_UNIT + count * 2
+
+-- the same word with its lock taken
+abbrev pub locked_word : ℕ → ℕ → ℕ
+locked_word generation count = version_word generation count + 1
+
+-- in this generation no party has the lock: one that an earlier run left taken counts for nothing
+abbrev pub IsFree : ℕ → ℕ → Type 0
+IsFree word generation = (generation_of word < generation) ⊎ IsUnlocked word
+
+-- the count that a lock in this generation begins with: each generation counts from 0
+abbrev pub kept_count : ℕ → ℕ → ℕ
+kept_count word generation = if nat_lt (generation_of word) generation then 0 else count_of word
+
+-- the count of this generation has come to its end, so no lock can be taken any more
+abbrev pub IsWorn : ℕ → ℕ → Type 0
+IsWorn word generation = (generation_of word ≡ generation) × (count_of word ≡ LAST_COUNT)
