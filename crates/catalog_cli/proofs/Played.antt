@@ -25,11 +25,11 @@ none-played room base = record { goes = λ rest more played. played }
 pub one-more : (room : ℕ) (base end : Map) (plans : List RoundPlan) (reports : List RoundReport) (plan : RoundPlan) (report : RoundReport) (writes : List Write) →
     GoOn room base plans reports end → IsPlayedRound room end plan report writes → GoOn room base (plans ++ plan ∷ []) (reports ++ report ∷ []) (after_all end writes)
 one-more room base end plans reports plan report writes on round = record {
-    goes = λ rest more played.
+  goes = λ rest more played.
       subst (λ (ps : List RoundPlan). ArePlayedRounds room base ps ((reports ++ report ∷ []) ++ more)) (sym (append_assoc plans (plan ∷ []) rest))
-        (subst (λ (rs : List RoundReport). ArePlayedRounds room base (plans ++ plan ∷ rest) rs) (sym (append_assoc reports (report ∷ []) more))
-          (on.goes (plan ∷ rest) (report ∷ more) (writes, round, played)))
-  }
+      (subst (λ (rs : List RoundReport). ArePlayedRounds room base (plans ++ plan ∷ rest) rs) (sym (append_assoc reports (report ∷ []) more))
+      (on.goes (plan ∷ rest) (report ∷ more) (writes, round, played)));
+}
 
 -- The calls of call lines are all of caller 0.
 pub call-lines-of-caller-0 : (lines : List (List ℕ)) (asked : List CallerOp) → AllZip IsCallLine lines asked → All (λ (a : CallerOp). a.caller ≡ 0) asked
@@ -42,8 +42,8 @@ call-lines-of-caller-0 (line ∷ lines) (a ∷ asked) zip = All-cons (λ (b : Ca
 pub script-of-one-caller : (bytes : List ℕ) (plans : List RoundPlan) → IsScript bytes plans → All (λ (plan : RoundPlan). AreOfOneCaller plan.ops) plans
 script-of-one-caller bytes plans script =
     subst (λ (ps : List RoundPlan). All (λ (plan : RoundPlan). AreOfOneCaller plan.ops) ps) (sym script.1)
-      (All-cons (λ (plan : RoundPlan). AreOfOneCaller plan.ops) (record { ops = script.0 }) [] (0, call-lines-of-caller-0 (lines_of bytes) script.0 script.2)
-        (All-nil (λ (plan : RoundPlan). AreOfOneCaller plan.ops)))
+    (All-cons (λ (plan : RoundPlan). AreOfOneCaller plan.ops) (record { ops = script.0 }) [] (0, call-lines-of-caller-0 (lines_of bytes) script.0 script.2)
+    (All-nil (λ (plan : RoundPlan). AreOfOneCaller plan.ops)))
 
 pub none-played-at : (room : ℕ) (base end : Map) (reports : List RoundReport) → reports ≡ [] → end ≡ base → GoOn room base [] reports end
 none-played-at room base end reports none same =
@@ -57,9 +57,9 @@ one-more-at room room' base end end' all i plan reports reports' report writes o
     let longer : take (i + 1) all ≡ take i all ++ plan ∷ [] = take_more all i plan less ∙ ap (λ p. take i all ++ p ∷ []) (sym is) in
     let here : IsPlayedRound room end plan report writes = subst (λ r. IsPlayedRound r end plan report writes) same round in
     subst (λ (ps : List RoundPlan). GoOn room base ps reports' end') (sym longer)
-      (subst (λ (rs : List RoundReport). GoOn room base (take i all ++ plan ∷ []) rs end') (sym told)
-        (subst (λ (m : Map). GoOn room base (take i all ++ plan ∷ []) (reports ++ report ∷ []) m) (sym left)
-          (one-more room base end (take i all) reports plan report writes on here)))
+    (subst (λ (rs : List RoundReport). GoOn room base (take i all ++ plan ∷ []) rs end') (sym told)
+    (subst (λ (m : Map). GoOn room base (take i all ++ plan ∷ []) (reports ++ report ∷ []) m) (sym left)
+    (one-more room base end (take i all) reports plan report writes on here)))
 
 -- all of a list of plans
 pub all-played : (room : ℕ) (base end : Map) (all plans : List RoundPlan) (i : ℕ) (reports told : List RoundReport) →
@@ -68,7 +68,7 @@ all-played room base end all plans i reports told on done same is =
     let whole : take i all ++ [] ≡ plans = append-nil (take i all) ∙ take_all i all done ∙ same in
     let each : reports ++ [] ≡ told = append-nil reports ∙ sym is in
     subst (λ (ps : List RoundPlan). ArePlayedRounds room base ps told) whole
-      (subst (λ (rs : List RoundReport). ArePlayedRounds room base (take i all ++ []) rs) each (on.goes [] [] tt))
+    (subst (λ (rs : List RoundReport). ArePlayedRounds room base (take i all ++ []) rs) each (on.goes [] [] tt))
 
 -- each plan of a script's plans has calls of one caller
 pub caller-of-plan : (bytes : List ℕ) (plans all : List RoundPlan) (i : ℕ) (plan : RoundPlan) → IsScript bytes plans → all ≡ plans → i < length all →

@@ -14,11 +14,11 @@ pub refusal-of-script : (most : ℕ) (left : Option (List ℕ)) (bytes : List �
     IsRefusal most (status_of_script fault) left faults faults'
 refusal-of-script most left bytes faults faults' script.Bytes source fits long line = absurd (omega (arith, fits, long refl))
 refusal-of-script most left bytes faults faults' (script.Line number) source fits long line = record {
-    bytes = bytes;
-    source = source;
-    fits = fits;
-    refused = λ plans is. fault_is_no_script bytes number plans (line number refl) is;
-  }
+  bytes = bytes;
+  source = source;
+  fits = fits;
+  refused = λ plans is. fault_is_no_script bytes number plans (line number refl) is;
+}
 refusal-of-script most left bytes faults faults' script.NoMemory source fits long line = tt
 
 -- the bytes that were read are those that were left

@@ -10,8 +10,8 @@ ghost use Rattle.catalog_cli.specs.Headline.{IsPlayCommand, AreBytesLeft, ArePla
 use crate::round::run_lone_round;
 use crate::status::{Status, Verb};
 use cat_text::{
-    MOST_BYTES, NoMemory, Report, RoundReport, Script, ScriptFault, Sink, Source, WriteFault, print_report, read_script,
-    read_whole, write_whole,
+    MOST_BYTES, NoMemory, Report, RoundReport, Script, ScriptFault, Sink, Source, WriteFault,
+    print_report, read_script, read_whole, write_whole,
 };
 use data_node::Node;
 use std::alloc::Global;
@@ -61,7 +61,10 @@ fn is_play_command(words: &[String]) -> bool
 {
     match words {
         [command, nodes, slots, callers] => {
-            is_word(command, "play") && is_word(nodes, "1") && is_word(slots, "64") && is_word(callers, "1")
+            is_word(command, "play")
+                && is_word(nodes, "1")
+                && is_word(slots, "64")
+                && is_word(callers, "1")
         }
         _ => false,
     }

@@ -4,19 +4,20 @@
 mod catalog;
 mod round;
 mod status;
-
-pub use catalog::catalog;
-pub use status::{Status, Verb};
+#[cfg(test)]
+mod tests;
 
 use cat_text::{StandardInput, StandardOutput};
+pub use catalog::{ROOM, catalog};
+pub use status::{Status, Verb};
 use std::alloc::AllocError;
-use std::env;
-use std::io;
 use std::process::ExitCode;
 use std::rt::Env;
+use std::{env, io};
 
 /// The forms of the command line.
-const USAGE: &str = "usage: catalog format FILE NODES SLOTS CALLERS, run FILE, play NODES SLOTS CALLERS, gen SEED COUNT CALLERS, words FILE FROM COUNT";
+const USAGE: &str =
+    "usage: catalog format FILE NODES SLOTS CALLERS, run FILE, play NODES SLOTS CALLERS, gen SEED COUNT CALLERS, words FILE FROM COUNT";
 
 /// What of them is built.
 const BUILT: &str = "built so far: catalog play 1 64 1, which reads a script on standard input";

@@ -1,0 +1,6 @@
+use Rattle.std.proofs.Common.{◌≡◌, All}
+use Rattle.cat_history.specs.declared.op.CallerOp.{CallerOp}
+use Rattle.catalog_cli.proofs.tests.drawn_plan.Given as goal
+
+abbrev pub invariant-loop-value : goal.invariant-loop-value
+invariant-loop-value l = All (λ (a : CallerOp). a.caller ≡ 0) l.ops.items
