@@ -1,3 +1,5 @@
 pub mod Contents
 pub mod Nodes
 pub mod Slots
+pub mod Bits
+pub mod Spots

@@ -4,8 +4,10 @@
 //! so that a look-up compares names only where the fingerprints agree.
 #![tactic(auto)]
 
+mod bits;
 mod node;
 mod slots;
 
+pub use bits::{lowest_live, with_live, without_live};
 pub use node::Node;
 pub use slots::{MAX_SLOTS, PRINT_WORDS, candidates, clear_slot, print_in, with_print};

@@ -6,9 +6,9 @@ ghost use Rattle.cat_history.specs.Maps.{at};
 ghost use Rattle.data_node.specs.Slots.{IsClear};
 ghost use Rattle.data_node.specs.Contents.{Holds, LacksName, IsTidy};
 
+use crate::bits::without_live;
 use crate::slots::{
     MAX_SLOTS, PRINT_WORDS, PRINTS_PER_WORD, candidates, clear_slot, is_live, moved, with_print,
-    without_live,
 };
 use cat_history::{Full, NameMap};
 use cat_key::{Name, WORDS};

@@ -2,7 +2,10 @@
 
 ghost use Rattle.std.specs.Prelude.{◌≡◌, ◌≢◌, ◌⊎◌, ℕ, ◌%◌, ◌<◌, ◌≤◌, ◌↔◌, IsTrue, IsNone, Some, IfSome, slice_set};
 ghost use Rattle.std.specs.Int.{bit_at};
+ghost use Rattle.data_node.specs.Bits.{lowest_clear, printed, candidate_bits};
 ghost use Rattle.data_node.specs.Slots.{AreAllLive, IsLive, IsLowestClear, IsCandidate, prints_of, print_of};
+
+use crate::bits::{with_live, without_live};
 
 /// A node has at most so many slots, as many as a bitmap has bits.
 pub const MAX_SLOTS: u64 = 64;
@@ -21,22 +24,6 @@ pub(crate) fn is_live(bitmap: u64, slot: u64) -> bool
     (bitmap >> slot) & 1 == 1
 }
 
-/// The bitmap in which this slot is live too.
-fn with_live(bitmap: u64, slot: u64) -> u64
-    requires { slot < MAX_SLOTS }
-    ensures { (other : ℕ) → IsLive result other ↔ ((other ≡ slot) ⊎ IsLive bitmap other) }
-{
-    bitmap | 1 << slot
-}
-
-/// The bitmap in which this slot is clear.
-pub(crate) fn without_live(bitmap: u64, slot: u64) -> u64
-    requires { slot < MAX_SLOTS }
-    ensures { (other : ℕ) → IsLive result other ↔ (IsLive bitmap other × (other ≢ slot)) }
-{
-    bitmap & !(1 << slot)
-}
-
 /// The bitmap in which `to` is live, and `from`, if any, no longer is.
 pub(crate) fn moved(bitmap: u64, from: Option<u64>, to: u64) -> u64
     requires within { to < MAX_SLOTS }
@@ -51,10 +38,12 @@ pub(crate) fn moved(bitmap: u64, from: Option<u64>, to: u64) -> u64
 }
 
 /// The lowest clear slot of the first `slots`, or None where they are all live.
+#[tactic(auto, unfolding(crate::specs::Bits::lowest_clear))]
 pub fn clear_slot(bitmap: u64, slots: u64) -> Option<u64>
     requires { slots ≤ MAX_SLOTS }
     ensures full { IsNone result ↔ AreAllLive bitmap slots }
     ensures lowest { IfSome result (IsLowestClear bitmap slots) }
+    ensures value { result ≡ lowest_clear bitmap slots }
 {
     let slot = u64::from(bitmap.trailing_ones());
     if slot < slots { Some(slot) } else { None }
@@ -70,8 +59,10 @@ pub fn print_in(prints: &[u64; PRINT_WORDS], slot: u64) -> u8
 }
 
 /// The word in which the slot's fingerprint stands, with that fingerprint changed and no other.
+#[tactic(auto, unfolding(crate::specs::Bits::printed))]
 pub fn with_print(word: u64, slot: u64, print: u8) -> u64
-    ensures { prints_of result ≡ slice_set (prints_of word) (slot % 8) print }
+    ensures prints { prints_of result ≡ slice_set (prints_of word) (slot % 8) print }
+    ensures value { result ≡ printed word slot print }
 {
     let mut bytes = word.to_le_bytes();
     bytes[(slot % PRINTS_PER_WORD) as usize] = print;
@@ -90,7 +81,8 @@ fn has_print(bitmap: u64, prints: &[u64; PRINT_WORDS], print: u8, slot: u64) -> 
 /// a name with that fingerprint.
 pub fn candidates(bitmap: u64, prints: &[u64; PRINT_WORDS], print: u8, slots: u64) -> u64
     requires { slots ≤ MAX_SLOTS }
-    ensures { (slot : ℕ) → (bit_at result slot ≡ 1) ↔ IsCandidate bitmap prints.now print slots slot }
+    ensures bits { (slot : ℕ) → (bit_at result slot ≡ 1) ↔ IsCandidate bitmap prints.now print slots slot }
+    ensures value { result ≡ candidate_bits bitmap prints.now print slots }
 {
     let mut found = 0;
     for slot in 0..slots {

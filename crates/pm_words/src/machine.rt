@@ -21,6 +21,9 @@ pub trait Machine: Sized {
     /// What it is done with.
     type Answer;
 
+    /// What its fields keep, as that the places which it names are in range.
+    ghost fits: { Self → Type 0 };
+
     /// The action that it asks for.
     ghost asks: { Self → Action };
 
@@ -35,6 +38,7 @@ pub trait Machine: Sized {
 
     /// The action that it asks for next.
     fn action(&self) -> Action
+        requires { fits self.now }
         ensures { result ≡ asks self.now };
 
     /// Tells it the number that its action gave.

@@ -1,5 +1,7 @@
-use Rattle.std.proofs.Common.{◌<◌, ◌+◌, sym, subst, arith}
+use Rattle.std.proofs.Common.{◌≡◌, ◌<◌, ◌+◌, sym, subst, arith}
+use Rattle.data_node.specs.Bits.{candidate_bits}
 use Rattle.data_node.proofs.Bitmaps.{Marks, marks_next, marks_past}
+use Rattle.data_node.proofs.BitLemmas.{marks_same, candidate_bits-marks}
 use Rattle.data_node.proofs.slots.candidates.Goals as goal
 use Rattle.data_node.proofs.slots.candidates.Goals.{then-has_print, else-has_print}
 
@@ -15,3 +17,9 @@ loop-slot-preserved c =
           subst (Marks c.args.bitmap c.args.prints.now c.args.print (c.loop-slot.slot + 1)) (sym w.found-is)
           (marks_past c.args.bitmap c.args.prints.now c.args.print c.loop-slot.found c.loop-slot.slot c.loop-slot.invariant (λ live same. let yes = c.has_print.ensures.1 (live, same) in cc))
     ]
+
+pub returns-clause-value : goal.returns-clause-value
+returns-clause-value c =
+    marks_same c.args.bitmap c.args.prints.now c.args.print c.args.slots c.loop-slot.found (candidate_bits c.args.bitmap c.args.prints.now c.args.print c.args.slots)
+    (let all : c.loop-slot.slot ≡ c.args.slots = omega arith in subst (λ n. Marks c.args.bitmap c.args.prints.now c.args.print n c.loop-slot.found) all c.loop-slot.invariant)
+    (candidate_bits-marks c.args.bitmap c.args.prints.now c.args.print c.args.slots c.requires)

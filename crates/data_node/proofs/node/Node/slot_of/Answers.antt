@@ -9,7 +9,7 @@ use Rattle.data_node.proofs.node.Node.slot_of.Goals.{else-is_live-via-then-is_li
 pub returns-then-has_words-clause-found : goal.returns-then-has_words-clause-found
 returns-then-has_words-clause-found c =
     found_holds c.args.self.now.bitmap c.args.self.now.prints c.fingerprint.result c.args.self.now.slots c.args.self.now.entries c.args.name.now c.words-words.result c.loop-slot.slot
-    ((c.candidates-alike.ensures c.loop-slot.slot).0 (c.is_live.ensures.0 c.if-is_live.true)) c.words-words.ensures.words c.words-words.ensures.name (c.has_words.ensures.0 c.if-has_words.true)
+    ((c.candidates-alike.ensures.bits c.loop-slot.slot).0 (c.is_live.ensures.0 c.if-is_live.true)) c.words-words.ensures.words c.words-words.ensures.name (c.has_words.ensures.0 c.if-has_words.true)
 
 pub loop-slot-preserved : goal.loop-slot-preserved
 loop-slot-preserved c slot within live same =

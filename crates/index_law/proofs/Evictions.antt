@@ -1,0 +1,36 @@
+-- A word that becomes durable is none that a party relies on.
+use Rattle.std.proofs.Common.{◌≡◌, ◌≢◌, ℕ, slice_index, sym, ◌∙◌, subst, arith}
+use Rattle.std.proofs.lemmas.List.{get_or-set_other}
+use Rattle.pm_words.specs.declared.layout.Layout.{Layout}
+use Rattle.pm_words.specs.Places.{Node, cached_place, durable_place}
+use Rattle.pm_words.proofs.Apart.{words_within}
+use Rattle.pm_words.proofs.Kept.{evicted_row}
+use Rattle.call_stages.specs.Kinds.{HasWordAt, clock_place, word_place}
+use Rattle.index_law.specs.Facts.{Facts}
+use Rattle.index_law.specs.Worlds.{facts, evicted}
+use Rattle.index_law.specs.Lawful.{AreKnown, AreSure, AreSettled, AreFreeOrHeld}
+use Rattle.index_law.specs.Laws.{EvictKeeps}
+use Rattle.index_law.proofs.Rows.{facts-apart}
+
+-- the words of the nodes stand in front of the durable twins
+before_durable : (l : Layout) (word n offset : ℕ) → HasWordAt l n offset → word_place l n offset ≢ durable_place l word
+before_durable l word n offset has same = let within = words_within l (Node n offset) has in absurd (omega arith)
+
+pub evict_law : EvictKeeps
+evict_law w word lawful within =
+    let l = w.layout in
+    let g = w.generation in
+    let x : ℕ = slice_index w.words (cached_place l word) in
+    let same : facts (evicted w word) ≡ facts w = facts-apart l w.words w.base w.history (durable_place l word) x (before_durable l word) in
+    record {
+      one_node = lawful.one_node;
+      run = lawful.run;
+      row = evicted_row l w.words word lawful.row within;
+      clock = get_or-set_other w.words (durable_place l word) (clock_place l) x 0 (λ e. absurd (omega (arith, e))) ∙ lawful.clock;
+      versions = subst (AreKnown l g) (sym same) lawful.versions;
+      sure = subst (λ (f : Facts). AreSure l g f w.parties) (sym same) lawful.sure;
+      begun = lawful.begun;
+      alone = lawful.alone;
+      settled = subst (AreSettled l g) (sym same) lawful.settled;
+      held = subst (λ (f : Facts). AreFreeOrHeld l g f w.parties) (sym same) lawful.held;
+    }

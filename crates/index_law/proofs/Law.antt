@@ -1,0 +1,146 @@
+-- One step of a party keeps the index lawful.
+use Rattle.std.proofs.Common.{◌≡◌, ◌≢◌, ℕ, ◌≤◌, ◌⊎◌, inl, inr, ⊎_elim, true, false, List, ◌++◌, length, set, refl, sym, ap, ◌∙◌, subst, arith}
+use Rattle.std.specs.Prelude.{Option, None}
+use Rattle.std.proofs.lemmas.List.{length-append}
+use mathlib.Core.Option.{some, some-injective}
+use lib.ListN.{get_elem?}
+use Rattle.pm_words.specs.declared.layout.Layout.{Layout}
+use Rattle.pm_words.specs.declared.action.Action.{Action}
+use Rattle.pm_words.specs.declared.action.Action.TheVariants.{Add}
+use Rattle.pm_words.proofs.Kept.{acted_row}
+use Rattle.version_lock.specs.Versions.{IsFree}
+use Rattle.call_stages.specs.declared.once.Once.{Once}
+use Rattle.call_stages.specs.declared.once.Placed.{Placed}
+use Rattle.call_stages.specs.Stages.{Held, Stage, Holds, counted}
+use Rattle.call_stages.specs.Kinds.{clock_place, Look, turns_back, is_worn, sees, misses, times, learns, decides, glances, Step, looks, locks, stores, commits, drains, counts, unlocks}
+use Rattle.index_law.specs.Facts.{Facts}
+use Rattle.index_law.specs.Worlds.{Party, World, facts, counted_write, moved_on}
+use Rattle.index_law.specs.Lawful.{HoldsNode, Sure, Each, AreAlone, IsHeld, AreKnown, AreSettled, AreFreeOrHeld, Lawful}
+use Rattle.index_law.specs.Laws.{Counts, IsLegal, StepKeeps}
+use Rattle.index_law.proofs.Actions.{action_law}
+use Rattle.index_law.proofs.Locks.{own_of, others, stays_known, settles, lock_after, lock_before}
+use Rattle.index_law.proofs.Moves.{fact_after, Gives, gives, facts_step, clock_step}
+use Rattle.index_law.proofs.Own.{allow_law, sure_within, mine, legal}
+use Rattle.index_law.proofs.Parties.{at_set, set_here, set_else, each_set}
+use Rattle.index_law.proofs.Versions.{unfree}
+
+-- a step that is not ready adds nothing to the clock
+unready_counts : (l : Layout) (n w x count : ℕ) (h : Held) (a : Action) → h.ready ≡ false → a ≢ Add (clock_place l) → Counts l count a x (counted (Holds n w h))
+unready_counts l n w x count h a unready other = subst (λ b. Counts l count a x (elim b [ true ↦ h.pending | false ↦ None ])) (sym unready) other
+
+module _ {l : Layout} {g : ℕ} where
+  look_counts : {s : Stage} {a : Action} {x : ℕ} {t : Stage} {r : Option (Once Placed)} → Look l g s a x t r → (count : ℕ) → Counts l count a x (counted s)
+  look_counts (turns_back here busy) count = λ e. cc
+  look_counts (is_worn here free worn) count = λ e. cc
+  look_counts (sees here free unworn lock) count = λ e. cc
+  look_counts (misses other) count = λ e. cc
+  look_counts (times {n = n} {w = w} {x = x} {h = h} clean below) count = unready_counts l n w x count h _ clean.ready (λ e. cc)
+  look_counts (learns {n = n} {w = w} {x = x} {h = h} has positive unready learnt) count = unready_counts l n w x count h _ unready (λ e. cc)
+  look_counts (decides {n = n} {w = w} {x = x} {h = h} has positive clean about learnt decided) count = unready_counts l n w x count h _ clean.ready (λ e. cc)
+  look_counts (glances {n = n} {w = w} {x = x} {h = h} has unready) count = unready_counts l n w x count h _ unready (λ e. cc)
+
+  -- what is counted is counted at the length of the history
+  step_counts : {s : Stage} {a : Action} {x : ℕ} {t : Stage} {r : Option (Once Placed)} → (k : Step l g s a x t r) → (f : Facts) → Gives k f → Counts l (length f.history) a x (counted s)
+  step_counts (looks look) f e = look_counts look (length f.history)
+  step_counts (locks same named) f e = λ e. cc
+  step_counts (stores {n = n} {w = w} {x = x} {h = h} has positive small clean learnt means) f e = unready_counts l n w x (length f.history) h _ clean.ready (λ e. cc)
+  step_counts (commits {n = n} {w = w} {x = x} {h = h} has positive small clean old about learnt means) f e = unready_counts l n w x (length f.history) h _ clean.ready (λ e. cc)
+  step_counts (drains {n = n} {w = w} {x = x} {h = h} has small unready) f e = unready_counts l n w x (length f.history) h _ unready (λ e. cc)
+  step_counts (counts {x = x} {h = h} {c = c} ready pending unplaced) f e =
+      subst (λ b. Counts l (length f.history) (Add (clock_place l)) x (elim b [ true ↦ h.pending | false ↦ None ])) (sym ready)
+      (subst (Counts l (length f.history) (Add (clock_place l)) x) (sym pending) (refl, e))
+  step_counts (unlocks {n = n} {w = w} {x = x} {h = h} next pending unready answers) f e = unready_counts l n w x (length f.history) h _ unready (λ e. cc)
+
+module _ (w : World) (i : ℕ) (p : Party) (lawful : Lawful w) (there : get_elem? w.parties i ≡ some p) where
+  -- no other party holds a node that this one holds
+  apart : (j : ℕ) (d : Party) → j ≢ i → get_elem? w.parties j ≡ some d → (n : ℕ) → HoldsNode p.stage n → HoldsNode d.stage n → ⊥
+  apart j d other at n mine theirs = other (lawful.alone j i n d p at there theirs mine)
+
+  module _ {a : Action} {x : ℕ} {t : Stage} {r : Option (Once Placed)} (k : Step w.layout w.generation p.stage a x t r) (given : Gives k (facts w)) where
+    knows : Sure w.layout w.generation (facts w) p.caller p.index p.since p.stage
+    knows = lawful.sure i p there
+
+    after : List Party
+    after = set w.parties i (moved_on p t)
+
+    one_lock : (j : ℕ) (d : Party) (n : ℕ) → j ≢ i → get_elem? w.parties j ≡ some d → HoldsNode d.stage n → HoldsNode t n → ⊥
+    one_lock j d n other at theirs mine =
+        ⊎_elim
+        (λ (was : HoldsNode p.stage n). apart j d other at n was theirs)
+        (λ (free : IsFree ((facts w).version n) w.generation).
+        unfree ((facts w).version n) w.generation (own_of w.layout w.generation (facts w) d.caller d.index d.since d.stage n theirs (lawful.sure j d at)) free)
+        (lock_before (facts w) p.caller p.index p.since k given knows n mine)
+
+    alone_after : AreAlone (set w.parties i (moved_on p t))
+    alone_after u v n b d at_u at_v holds_u holds_v =
+        ⊎_elim
+        (λ (first : (u ≡ i) × (moved_on p t ≡ b)). ⊎_elim
+        (λ (second : (v ≡ i) × (moved_on p t ≡ d)). first.0 ∙ sym second.0)
+        (λ (second : (v ≢ i) × (get_elem? w.parties v ≡ some d)).
+        absurd (one_lock v d n second.0 second.1 holds_v (subst (λ (q : Party). HoldsNode q.stage n) (sym first.1) holds_u)))
+        (at_set w.parties i v (moved_on p t) d at_v))
+        (λ (first : (u ≢ i) × (get_elem? w.parties u ≡ some b)). ⊎_elim
+        (λ (second : (v ≡ i) × (moved_on p t ≡ d)).
+        absurd (one_lock u b n first.0 first.1 holds_u (subst (λ (q : Party). HoldsNode q.stage n) (sym second.1) holds_v)))
+        (λ (second : (v ≢ i) × (get_elem? w.parties v ≡ some d)). lawful.alone u v n b d first.1 second.1 holds_u holds_v)
+        (at_set w.parties i v (moved_on p t) d at_v))
+        (at_set w.parties i u (moved_on p t) b at_u)
+
+    still_held : (n : ℕ) → (HoldsNode p.stage n → ⊥) → IsHeld w.parties n → IsHeld (set w.parties i (moved_on p t)) n
+    still_held n free_of held =
+        let other : held.place ≢ i =
+        (λ same. free_of (subst (λ (q : Party). HoldsNode q.stage n) (some-injective _ _ (sym held.there ∙ ap (get_elem? w.parties) same ∙ there)) held.holds)) in
+        record { place = held.place; party = held.party; there = set_else w.parties i held.place (moved_on p t) other ∙ held.there; holds = held.holds }
+
+    held_after : AreFreeOrHeld w.layout w.generation (fact_after k (facts w) p.caller p.index) (set w.parties i (moved_on p t))
+    held_after n here =
+        let new = fact_after k (facts w) p.caller p.index in
+        ⊎_elim
+        (λ (free : IsFree (new.version n) w.generation). inl free)
+        (λ (or : HoldsNode t n ⊎ ((HoldsNode p.stage n → ⊥) × (new.version n ≡ (facts w).version n))). ⊎_elim
+        (λ (lock : HoldsNode t n). inr (record { place = i; party = moved_on p t; there = set_here w.parties i (moved_on p t) p there; holds = lock }))
+        (λ (stays : (HoldsNode p.stage n → ⊥) × (new.version n ≡ (facts w).version n)). ⊎_elim
+        (λ (free : IsFree ((facts w).version n) w.generation). inl (subst (λ (v : ℕ). IsFree v w.generation) (sym stays.1) free))
+        (λ (held : IsHeld w.parties n). inr (still_held n stays.0 held))
+        (lawful.held n here))
+        or)
+        (lock_after (facts w) p.caller p.index p.since k knows n)
+
+    sure_after : Each (λ d. Sure w.layout w.generation (fact_after k (facts w) p.caller p.index) d.caller d.index d.since d.stage) (set w.parties i (moved_on p t))
+    sure_after = each_set (λ (d : Party). Sure w.layout w.generation (fact_after k (facts w) p.caller p.index) d.caller d.index d.since d.stage) w.parties i (moved_on p t)
+        (λ j d other at. others (facts w) p.caller p.index p.since k given knows d.caller d.index d.since d.stage (apart j d other at) (lawful.sure j d at))
+        (mine (facts w) p.caller p.index p.since (lawful.begun i p there) lawful.versions lawful.one_node lawful.settled k given knows)
+
+    begun_after : Each (λ d. d.since ≤ length (w.history ++ counted_write p)) (set w.parties i (moved_on p t))
+    begun_after =
+        let longer = length-append w.history (counted_write p) in
+        each_set (λ (d : Party). d.since ≤ length (w.history ++ counted_write p)) w.parties i (moved_on p t)
+        (λ j d other at. let was = lawful.begun j d at in omega arith)
+        (let was = lawful.begun i p there in omega arith)
+
+pub step_law : StepKeeps
+step_law w i p a x t r lawful there k told room =
+    let l = w.layout in
+    let g = w.generation in
+    let f = facts w in
+    let known = lawful.sure i p there in
+    let given = gives w.words w.base w.history p.caller p.index p.since k lawful.clock told known in
+    let same = facts_step w.words w.base w.history p.caller p.index p.since k lawful.row told known in
+    let can = (action_law w i p a lawful there (allow_law l g p.stage a x t r (sure_within l g f p.caller p.index p.since p.stage known) k) room).can in
+    record {
+      can = can;
+      kept = record {
+        one_node = lawful.one_node;
+        run = lawful.run;
+        row = acted_row l w.words a lawful.row can;
+        clock = clock_step w.words w.base w.history p.caller p.index p.since k lawful.row lawful.clock told known;
+        versions = subst (AreKnown l g) (sym same) (stays_known f p.caller p.index p.since k known lawful.versions);
+        sure = subst (λ (φ : Facts). Each (λ d. Sure l g φ d.caller d.index d.since d.stage) (set w.parties i (moved_on p t))) (sym same) (sure_after w i p lawful there k given);
+        begun = begun_after w i p lawful there k given;
+        alone = alone_after w i p lawful there k given;
+        settled = subst (AreSettled l g) (sym same) (settles f p.caller p.index p.since k known lawful.settled);
+        held = subst (λ (φ : Facts). AreFreeOrHeld l g φ (set w.parties i (moved_on p t))) (sym same) (held_after w i p lawful there k given);
+      };
+      counts = step_counts k f given;
+      legal = subst (λ (φ : Facts). IsLegal l g φ p.caller p.index p.since p.stage r) (sym same) (legal f p.caller p.index p.since k given known);
+    }

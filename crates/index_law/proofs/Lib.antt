@@ -1,0 +1,14 @@
+pub mod Parties
+pub mod Maps
+pub mod Rows
+pub mod Moves
+pub mod Versions
+pub mod Bystanders
+pub mod Actions
+pub mod Own
+pub mod Locks
+pub mod Law
+pub mod Starts
+pub mod Fresh
+pub mod Rounds
+pub mod Evictions

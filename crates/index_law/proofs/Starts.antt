@@ -1,0 +1,107 @@
+-- A start of a call, and an index in which nothing is in flight.
+use Rattle.std.proofs.Common.{◌≡◌, ◌≢◌, ℕ, ◌<◌, ◌≤◌, inl, inr, ⊎_elim, length, set, refl, sym, ap, ◌∙◌, subst, arith, [], ◌∷◌}
+use mathlib.Core.Option.{some, some-injective}
+use lib.ListN.{get_elem?}
+use Rattle.version_lock.specs.Versions.{IsFree}
+use Rattle.call_stages.specs.Stages.{Stage, Idle}
+use Rattle.index_law.specs.Worlds.{Party, World, facts}
+use Rattle.index_law.specs.Lawful.{HoldsNode, Sure, IsHeld, Lawful}
+use Rattle.index_law.specs.Laws.{StartKeeps, JoinKeeps, RestIsLawful, IdleIsAtRest}
+use Rattle.index_law.proofs.Parties.{at_set, at_snoc, at_longer, each_snoc, set_else, each_set}
+
+-- the world with another party in the place of one
+abbrev replaced : World → ℕ → Party → World
+replaced w i q = record { layout = w.layout; generation = w.generation; words = w.words; parties = set w.parties i q; base = w.base; history = w.history }
+
+idle_holds : (p : Party) (n : ℕ) → p.stage ≡ Idle → HoldsNode p.stage n → ⊥
+idle_holds p n idle holds = subst (λ (s : Stage). HoldsNode s n) idle holds
+
+-- a party that relies on nothing may be replaced by another one that relies on nothing
+pub swap_law : (w : World) (i : ℕ) (p q : Party) → Lawful w → get_elem? w.parties i ≡ some p → p.stage ≡ Idle → q.stage ≡ Idle → q.since ≤ length w.history → Lawful (replaced w i q)
+swap_law w i p q lawful there idle idle' since = record {
+  one_node = lawful.one_node;
+  run = lawful.run;
+  row = lawful.row;
+  clock = lawful.clock;
+  versions = lawful.versions;
+  sure = each_set (λ (d : Party). Sure w.layout w.generation (facts w) d.caller d.index d.since d.stage) w.parties i q (λ j d other at. lawful.sure j d at)
+      (subst (λ (s : Stage). Sure w.layout w.generation (facts w) q.caller q.index q.since s) (sym idle') tt);
+  begun = each_set (λ (d : Party). d.since ≤ length w.history) w.parties i q (λ j d other at. lawful.begun j d at) since;
+  alone = λ u v n b d at_u at_v holds_u holds_v. ⊎_elim
+      (λ (first : (u ≡ i) × (q ≡ b)). absurd (idle_holds q n idle' (subst (λ (e : Party). HoldsNode e.stage n) (sym first.1) holds_u)))
+      (λ (first : (u ≢ i) × (get_elem? w.parties u ≡ some b)). ⊎_elim
+      (λ (second : (v ≡ i) × (q ≡ d)). absurd (idle_holds q n idle' (subst (λ (e : Party). HoldsNode e.stage n) (sym second.1) holds_v)))
+      (λ (second : (v ≢ i) × (get_elem? w.parties v ≡ some d)). lawful.alone u v n b d first.1 second.1 holds_u holds_v)
+      (at_set w.parties i v q d at_v))
+      (at_set w.parties i u q b at_u);
+  settled = lawful.settled;
+  held = λ n here. ⊎_elim
+      (λ (free : IsFree ((facts w).version n) w.generation). inl free)
+      (λ (held : IsHeld w.parties n).
+      let other : held.place ≢ i =
+      (λ same. idle_holds p n idle (subst (λ (e : Party). HoldsNode e.stage n) (some-injective _ _ (sym held.there ∙ ap (get_elem? w.parties) same ∙ there)) held.holds)) in
+      inr (record { place = held.place; party = held.party; there = set_else w.parties i held.place q other ∙ held.there; holds = held.holds }))
+      (lawful.held n here);
+}
+
+pub start_law : StartKeeps
+start_law w i p index lawful there idle =
+    swap_law w i p (record { caller = p.caller; index = index; since = length w.history; stage = Idle }) lawful there idle refl (omega arith)
+
+pub join_law : JoinKeeps
+join_law w q lawful idle since = record {
+  one_node = lawful.one_node;
+  run = lawful.run;
+  row = lawful.row;
+  clock = lawful.clock;
+  versions = lawful.versions;
+  sure = each_snoc (λ (d : Party). Sure w.layout w.generation (facts w) d.caller d.index d.since d.stage) w.parties q lawful.sure
+      (subst (λ (s : Stage). Sure w.layout w.generation (facts w) q.caller q.index q.since s) (sym idle) tt);
+  begun = each_snoc (λ (d : Party). d.since ≤ length w.history) w.parties q lawful.begun since;
+  alone = λ u v n b d at_u at_v holds_u holds_v. ⊎_elim
+      (λ (first : get_elem? w.parties u ≡ some b). ⊎_elim
+      (λ (second : get_elem? w.parties v ≡ some d). lawful.alone u v n b d first second holds_u holds_v)
+      (λ (second : q ≡ d). absurd (idle_holds q n idle (subst (λ (e : Party). HoldsNode e.stage n) (sym second) holds_v)))
+      (at_snoc w.parties q d v at_v))
+      (λ (first : q ≡ b). absurd (idle_holds q n idle (subst (λ (e : Party). HoldsNode e.stage n) (sym first) holds_u)))
+      (at_snoc w.parties q b u at_u);
+  settled = lawful.settled;
+  held = λ n here. ⊎_elim
+      (λ (free : IsFree ((facts w).version n) w.generation). inl free)
+      (λ (held : IsHeld w.parties n).
+      inr (record { place = held.place; party = held.party; there = at_longer w.parties (q ∷ []) held.place held.party held.there; holds = held.holds }))
+      (lawful.held n here);
+}
+
+pub rest_law : RestIsLawful
+rest_law w rest = record {
+  one_node = rest.one_node;
+  run = rest.run;
+  row = rest.row;
+  clock = rest.clock;
+  versions = rest.versions;
+  sure = λ j d at. subst (λ (s : Stage). Sure w.layout w.generation (facts w) d.caller d.index d.since s) (sym (rest.idle j d at)) tt;
+  begun = rest.begun;
+  alone = λ u v n b d at_u at_v holds_u holds_v. absurd (idle_holds b n (rest.idle u b at_u) holds_u);
+  settled = λ n here free. rest.means n here;
+  held = λ n here. inl (rest.free n here);
+}
+
+pub idle_law : IdleIsAtRest
+idle_law w lawful idle =
+    let free : (n : ℕ) → n < w.layout.nodes → IsFree ((facts w).version n) w.generation =
+    λ n here. ⊎_elim
+    (λ (free : IsFree ((facts w).version n) w.generation). free)
+    (λ (held : IsHeld w.parties n). absurd (idle_holds held.party n (idle held.place held.party held.there) held.holds))
+    (lawful.held n here) in
+    record {
+      one_node = lawful.one_node;
+      run = lawful.run;
+      row = lawful.row;
+      clock = lawful.clock;
+      versions = lawful.versions;
+      free = free;
+      means = λ n here. lawful.settled n here (free n here);
+      idle = idle;
+      begun = lawful.begun;
+    }

@@ -1,0 +1,4 @@
+pub mod Facts
+pub mod Worlds
+pub mod Lawful
+pub mod Laws

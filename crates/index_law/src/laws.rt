@@ -1,0 +1,58 @@
+//! The laws of a lawful index, each named by the contract of a function.
+
+ghost use Rattle.index_law.specs.Laws.{StepIsAllowed, AllowedMayName, AllowedCanAct, StepKeeps, StartKeeps, JoinKeeps, EvictKeeps, RestIsLawful, IdleIsAtRest, NextRoundIsAtRest, FreshIsAtRest};
+
+/// A step, whatever number it is told, is by an action that its party may do.
+pub fn allow_law()
+    ensures { StepIsAllowed }
+{}
+
+/// What a party may do at its stage names a place that an action may name, whatever the words are.
+pub fn names_law()
+    ensures { AllowedMayName }
+{}
+
+/// What a party may do can be done, and the number that it gives may be told.
+pub fn action_law()
+    ensures { AllowedCanAct }
+{}
+
+/// A step of a party keeps the index lawful, and an answer is legal.
+pub fn step_law()
+    ensures { StepKeeps }
+{}
+
+/// The start of a call keeps the index lawful.
+pub fn start_law()
+    ensures { StartKeeps }
+{}
+
+/// A party that comes to the others keeps the index lawful.
+pub fn join_law()
+    ensures { JoinKeeps }
+{}
+
+/// A word that becomes durable keeps the index lawful.
+pub fn evict_law()
+    ensures { EvictKeeps }
+{}
+
+/// An index in which nothing is in flight is lawful.
+pub fn rest_law()
+    ensures { RestIsLawful }
+{}
+
+/// In a lawful index whose parties are all idle nothing is in flight: each node is free, and each means the map.
+pub fn idle_law()
+    ensures { IdleIsAtRest }
+{}
+
+/// Nothing is in flight as another round begins where nothing was.
+pub fn round_law()
+    ensures { NextRoundIsAtRest }
+{}
+
+/// Nothing is in flight in the row of a fresh image.
+pub fn fresh_law()
+    ensures { FreshIsAtRest }
+{}

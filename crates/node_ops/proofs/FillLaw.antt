@@ -1,0 +1,271 @@
+-- Each turn of the writing of a pair into a clear slot is a step of a kind.
+use Rattle.std.proofs.Common.{◌≡◌, ℕ, zero, suc, ◌+◌, ◌*◌, ◌/◌, ◌%◌, ◌<◌, ◌≤◌, ◌^◌, Bool, true, false, cond, ltb, List, [], ◌∷◌, ◌++◌, Option, Some, None, IfSome, length, take, get_or, set, inl, inr, refl, sym, subst, ap, ◌∙◌, arith, length-append}
+use Rattle.std.specs.Int.{bit_at}
+use Rattle.std.specs.FinMap.{insert}
+use Rattle.std.proofs.lemmas.Bool.{cases_eq, cases_lt, ltb-true, ltb-false, lt-ltb}
+use Rattle.std.proofs.lemmas.List.{get_or-set_same}
+use Rattle.cat_key.specs.Names.{IsName, words_of, fingerprint_of}
+use Rattle.cat_key.proofs.Packing.{length-words_of, get_or-words_of_below, name_bytes}
+use Rattle.cat_history.specs.Maps.{Map, at as map_at}
+use Rattle.cat_history.specs.declared.op.Change.TheVariants as change
+use Rattle.pm_words.specs.declared.action.Action.{Action}
+use Rattle.pm_words.specs.declared.machine.Turn.{Turn}
+use Rattle.pm_words.specs.declared.machine.Turn.TheVariants.{Go, Done}
+use Rattle.pm_words.specs.Places.{node_words}
+use Rattle.data_node.specs.Slots.{IsLive, IsClear, prints_of}
+use Rattle.data_node.specs.Bits.{with_live, without_live, printed}
+use Rattle.data_node.specs.Spots.{Spot, updated, bitmap_offset, print_offset, slot_offset, IsLiveIn, name_words, value_in, print_in_spot, Means}
+use Rattle.data_node.proofs.BitLemmas.{with_live_below, without_live_below, printed_below, prints_of-printed}
+use Rattle.data_node.proofs.SpotLemmas.{updated-same, updated-other, lacks}
+use Rattle.data_node.proofs.StoreLemmas.{HasPair, means_slot_store, means_print_store, means_added, means_moved_from}
+use Rattle.call_stages.specs.declared.once.Once.{Once}
+use Rattle.call_stages.specs.Stages.{Known, Knows, Stage, Idle, Holds}
+use Rattle.call_stages.specs.Kinds.{Step, stores, commits}
+use Rattle.node_ops.specs.declared.call.Call.{Call}
+use Rattle.node_ops.specs.declared.lookup.Hit.{Hit}
+use Rattle.node_ops.specs.declared.fence.Fence.{Fence}
+use Rattle.node_ops.specs.declared.fill.Fill.{Fill}
+use Rattle.node_ops.specs.declared.fill.FillAt.{FillAt}
+use Rattle.node_ops.specs.declared.fill.FillAt.TheVariants as fill_at
+use Rattle.node_ops.specs.declared.finish.Finish.{Finish}
+use Rattle.node_ops.specs.Calls.{IsCall, name_in}
+use Rattle.node_ops.specs.LookupSteps.{value_of, IsHit}
+use Rattle.node_ops.specs.FenceSteps.{fence_asks, fence_next}
+use Rattle.node_ops.specs.FillSteps.{IsFill, IsFillAt, fill_word, bitmap_without, bitmap_after, fill_asks, fill_at_asks, fill_turned, fill_at_turned, slot_fenced, print_fenced, filled}
+use Rattle.node_ops.specs.CallStages.{words_from, nothing, knows, decided, seen_hit, seen_fill, pair_words, fill_stage, fill_at_known, finish_stage}
+use Rattle.node_ops.proofs.SeenLemmas.{Seen, Stand, seen_append, seen_front, seen_back, stand_taken, taken_stand, stand_whole, whole_stand, stand_updated, name_stands}
+use Rattle.node_ops.proofs.FinishLaw.{Fences, fence_leads}
+
+-- the kind of step of a turn
+abbrev pub Fills : Call → Stage → Action → ℕ → Turn Fill Finish → Type 0
+Fills call stage action x (Go fill) = Step call.view.layout call.view.generation stage action x (fill_stage fill) None
+Fills call stage action x (Done finish) = Step call.view.layout call.view.generation stage action x (finish_stage finish) None
+
+-- a fingerprint is a byte
+pub fingerprint_below : (name : List ℕ) → fingerprint_of name < 256
+unfolding fingerprint_of
+fingerprint_below name = omega arith
+
+-- the words of a pair: the name's, then the value
+pair_word : (name : List ℕ) (value k : ℕ) → length name ≡ 3 → k < 4 → get_or (name ++ value ∷ []) k 0 ≡ cond (ltb k 3) (get_or name k 0) value
+pair_word (a ∷ (b ∷ (c ∷ []))) value zero three small = refl
+pair_word (a ∷ (b ∷ (c ∷ []))) value (suc zero) three small = refl
+pair_word (a ∷ (b ∷ (c ∷ []))) value (suc (suc zero)) three small = refl
+pair_word (a ∷ (b ∷ (c ∷ []))) value (suc (suc (suc zero))) three small = refl
+pair_word (a ∷ (b ∷ (c ∷ []))) value (suc (suc (suc (suc k)))) three small = absurd (omega arith)
+pair_word _ value k three small = absurd (omega arith)
+
+-- where the name was, by a node's words
+abbrev pub Hit_stands : Spot → Call → Option Hit → Type 0
+Hit_stands s call hit = IfSome hit (λ h. Stand s (slot_offset h.slot 0) call.name (length call.name))
+
+pub hit_seen : (s : Spot) (call : Call) (bitmap : ℕ) (hit : Option Hit) → Seen s (seen_hit call bitmap hit) → (s bitmap_offset ≡ bitmap) × Hit_stands s call hit
+hit_seen s call bitmap None seen = (seen.0, tt)
+hit_seen s call bitmap (Some hit) seen = (seen.0, stand_whole s (slot_offset hit.slot 0) call.name seen.1)
+
+pub seen_hit_from : (s : Spot) (call : Call) (bitmap : ℕ) (hit : Option Hit) → s bitmap_offset ≡ bitmap → Hit_stands s call hit → Seen s (seen_hit call bitmap hit)
+seen_hit_from s call bitmap None is stands = (is, tt)
+seen_hit_from s call bitmap (Some hit) is stands = (is, whole_stand s (slot_offset hit.slot 0) call.name stands)
+
+module _ (fill : Fill) (sound : IsFill fill) where
+  abbrev slots : ℕ
+  slots = fill.call.view.layout.slots
+
+  abbrev name : List ℕ
+  name = name_in fill.call
+
+  limit : slots ≤ 64
+  limit = sound.call.view.layout.slots.1
+
+  in_node : fill.slot < 64
+  in_node = let within : fill.slot < slots = sound.within in let few : slots ≤ 64 = limit in omega arith
+
+  three : length fill.call.name ≡ 3
+  three = sym (ap length sound.call.packed.whole) ∙ length-words_of name
+
+  four : length (pair_words fill) ≡ 4
+  four = let count : length fill.call.name ≡ 3 = three in simp length-append (omega arith)
+
+  -- what the writing relies on
+  record Relies (s : Spot) (prints count : ℕ) : Type 0 where
+    print_is : s (print_offset fill.slot) ≡ prints
+    bitmap_is : s bitmap_offset ≡ fill.bitmap
+    hit_is : Hit_stands s fill.call fill.hit
+    stored : Stand s (slot_offset fill.slot 0) (pair_words fill) count
+
+  relies : (s : Spot) (prints count : ℕ) → count ≤ 4 → Knows name (knows (seen_fill fill prints count)) s → Relies s prints count
+  relies s prints count few known =
+      let front = seen_front s (seen_hit fill.call fill.bitmap fill.hit) (words_from (slot_offset fill.slot 0) (take count (pair_words fill))) known.seen.1 in
+      let back = seen_back s (seen_hit fill.call fill.bitmap fill.hit) (words_from (slot_offset fill.slot 0) (take count (pair_words fill))) known.seen.1 in
+      let hit = hit_seen s fill.call fill.bitmap fill.hit front in
+      let whole : length (pair_words fill) ≡ 4 = four in
+      record { print_is = known.seen.0; bitmap_is = hit.0; hit_is = hit.1; stored = stand_taken s (slot_offset fill.slot 0) (pair_words fill) count (omega arith) back }
+
+  known : (s : Spot) (prints count : ℕ) → count ≤ 4 → Relies s prints count → Knows name (knows (seen_fill fill prints count)) s
+  known s prints count few facts =
+      let whole : length (pair_words fill) ≡ 4 = four in
+      record {
+        seen = (
+          facts.print_is,
+          seen_append s (seen_hit fill.call fill.bitmap fill.hit) (words_from (slot_offset fill.slot 0) (take count (pair_words fill)))
+              (seen_hit_from s fill.call fill.bitmap fill.hit facts.bitmap_is facts.hit_is)
+              (taken_stand s (slot_offset fill.slot 0) (pair_words fill) count (omega arith) facts.stored),
+        );
+        left = tt;
+      }
+
+  -- the slot is not the one that has the name
+  other_slot : (hit : Hit) → IsHit slots fill.bitmap hit → hit.slot ≡ fill.slot → ⊥
+  other_slot hit is same =
+      let one : bit_at fill.bitmap hit.slot ≡ 1 = is.live in
+      let zero_bit : bit_at fill.bitmap hit.slot ≡ 0 = subst (IsClear fill.bitmap) (sym same) sound.clear in
+      omega arith
+
+  -- a store outside of where the name was
+  hit_kept : (s : Spot) (at word : ℕ) (hit : Option Hit) → IfSome hit (IsHit slots fill.bitmap)
+      → ((h : Hit) → IsHit slots fill.bitmap h → (k : ℕ) → k < 3 → slot_offset h.slot 0 + k ≡ at → ⊥) → Hit_stands s fill.call hit → Hit_stands (updated s at word) fill.call hit
+  hit_kept s at word None is apart stands = tt
+  hit_kept s at word (Some hit) is apart stands =
+      let count : length fill.call.name ≡ 3 = three in
+      stand_updated s (slot_offset hit.slot 0) fill.call.name (length fill.call.name) at word (λ k below e. apart hit is k (omega arith) e) stands
+
+  -- one more word of the slot is stored
+  word_stored : (s : Spot) (k : ℕ) → k < 4 → Relies s fill.prints k → Relies (updated s (slot_offset fill.slot k) (fill_word fill k)) fill.prints (k + 1)
+  word_stored s k small facts =
+      let at = slot_offset fill.slot k in
+      let small_slot : fill.slot < 64 = in_node in
+      record {
+        print_is = updated-other s at (fill_word fill k) (print_offset fill.slot) (λ e. omega arith) ∙ facts.print_is;
+        bitmap_is = updated-other s at (fill_word fill k) bitmap_offset (λ e. omega arith) ∙ facts.bitmap_is;
+        hit_is = hit_kept s at (fill_word fill k) fill.hit sound.hit (λ h is j below e. other_slot h is (omega arith)) facts.hit_is;
+        stored = λ j below. elim (cases_eq j k) [
+          | inl same ↦
+              let here : slot_offset fill.slot 0 + j ≡ at = omega arith in
+              subst (λ o. updated s at (fill_word fill k) o ≡ get_or (pair_words fill) j 0) (sym here)
+              (updated-same s at (fill_word fill k) ∙ sym (pair_word fill.call.name fill.value k three small) ∙ ap (λ i. get_or (pair_words fill) i 0) (sym same))
+          | inr other ↦ updated-other s at (fill_word fill k) (slot_offset fill.slot 0 + j) (λ e. other (omega arith)) ∙ facts.stored j (omega arith)
+        ];
+      }
+
+  -- and its fingerprint
+  print_stored : (s : Spot) (word : ℕ) → Relies s fill.prints 4 → Relies (updated s (print_offset fill.slot) word) word 4
+  print_stored s word facts =
+      let at = print_offset fill.slot in
+      let small_slot : fill.slot < 64 = in_node in
+      record {
+        print_is = updated-same s at word;
+        bitmap_is = updated-other s at word bitmap_offset (λ e. omega arith) ∙ facts.bitmap_is;
+        hit_is = hit_kept s at word fill.hit sound.hit (λ h is j below e. omega arith) facts.hit_is;
+        stored = stand_updated s (slot_offset fill.slot 0) (pair_words fill) 4 at word (λ j below e. omega arith) facts.stored;
+      }
+
+  word_below : (k : ℕ) → fill_word fill k < 2 ^ 64
+  word_below k =
+      elim (ltb k 3) as (λ b. cond b (get_or fill.call.name k 0) fill.value < 2 ^ 64) [
+        | true ↦ subst (λ (w : List ℕ). get_or w k 0 < 2 ^ 64) sound.call.packed.whole (get_or-words_of_below name (name_bytes name sound.call.packed.named) k)
+        | false ↦ sound.value
+      ]
+
+  print_below : fill.call.print < 256
+  print_below = subst (λ p. p < 256) (sym sound.call.print) (fingerprint_below name)
+
+  has_pair : (s : Spot) → Relies s (printed fill.prints fill.slot fill.call.print) 4 → HasPair name fill.value s fill.slot
+  has_pair s facts =
+      let words = fill.call.name in
+      record {
+        name_is = name_stands s fill.slot words three (λ k below.
+            let first : ltb k 3 ≡ true = lt-ltb k 3 below in
+            facts.stored k (omega arith) ∙ pair_word words fill.value k three (omega arith) ∙ ap (λ b. cond b (get_or words k 0) fill.value) first) ∙ sym sound.call.packed.whole;
+        value_is =
+            let here : slot_offset fill.slot 0 + 3 ≡ slot_offset fill.slot 3 = omega arith in
+            ap s (sym here) ∙ facts.stored 3 (omega arith) ∙ pair_word words fill.value 3 three (omega arith);
+        print_is = ap (λ w. get_or (prints_of w) (fill.slot % 8) 0) facts.print_is
+            ∙ ap (λ bytes. get_or bytes (fill.slot % 8) 0) (prints_of-printed fill.prints fill.slot fill.call.print print_below)
+            ∙ get_or-set_same (prints_of fill.prints) (fill.slot % 8) fill.call.print 0 (omega arith) ∙ sound.call.print;
+      }
+
+  -- the one store of the bitmap
+  means_filled : (range : List ℕ → Bool) (s : Spot) (m : Map) → range name ≡ true → Relies s (printed fill.prints fill.slot fill.call.print) 4 → map_at m name ≡ value_of fill.hit
+      → Means slots range s m → Means slots range (updated s bitmap_offset (bitmap_after fill)) (insert m name fill.value)
+  means_filled range s m in_range facts old means =
+      let pair = has_pair s facts in
+      let clear : IsClear (s bitmap_offset) fill.slot = subst (λ b. IsClear b fill.slot) (sym facts.bitmap_is) sound.clear in
+      elim fill.hit as (λ hit. IfSome hit (IsHit slots fill.bitmap) → Hit_stands s fill.call hit → map_at m name ≡ value_of hit
+      → Means slots range (updated s bitmap_offset (with_live (bitmap_without fill.bitmap hit) fill.slot)) (insert m name fill.value)) [
+        | None ↦ λ is stands absent.
+            subst (λ b. Means slots range (updated s bitmap_offset (with_live b fill.slot)) (insert m name fill.value)) facts.bitmap_is
+            (means_added slots range s m name fill.value fill.slot limit sound.call.packed.named sound.within pair (lacks slots range s m name sound.call.packed.named in_range means absent) means)
+        | Some hit ↦ λ is stands was.
+            let live : IsLiveIn s hit.slot = subst (λ b. IsLive b hit.slot) (sym facts.bitmap_is) is.live in
+            let same : name_words s hit.slot ≡ words_of name = name_stands s hit.slot fill.call.name three (subst (Stand s (slot_offset hit.slot 0) fill.call.name) three stands) ∙ sym sound.call.packed.whole in
+            subst (λ b. Means slots range (updated s bitmap_offset (with_live (without_live b hit.slot) fill.slot)) (insert m name fill.value)) facts.bitmap_is
+            (means_moved_from slots range s m name fill.value fill.slot hit.slot limit sound.call.packed.named sound.within pair clear live same means)
+      ] sound.hit facts.hit_is old
+
+  bitmap_below : bitmap_after fill < 2 ^ 64
+  bitmap_below =
+      let small_slot : fill.slot < 64 = in_node in
+      elim fill.hit as (λ hit. with_live (bitmap_without fill.bitmap hit) fill.slot < 2 ^ 64) [
+        | None ↦ with_live_below 64 fill.bitmap fill.slot (omega arith) (omega arith) sound.bitmap
+        | Some hit ↦ with_live_below 64 (without_live fill.bitmap hit.slot) fill.slot (omega arith) (omega arith) (without_live_below 64 fill.bitmap hit.slot sound.bitmap)
+      ]
+
+  -- a fence leaves all as it is
+  slot_fence : (x : ℕ) (action : Action) (o : Option Fence)
+      → Fences fill.call fill.hold.locked (decided fill.call fill.hold (value_of fill.hit) (knows (seen_fill fill (printed fill.prints fill.slot fill.call.print) 4))) action x o
+      → Fills fill.call (Holds fill.call.node fill.hold.locked (decided fill.call fill.hold (value_of fill.hit) (knows (seen_fill fill (printed fill.prints fill.slot fill.call.print) 4)))) action x (slot_fenced fill o)
+  slot_fence x action (Some fence) step = step
+  slot_fence x action None step = step false
+
+  print_fence : (x : ℕ) (action : Action) (o : Option Fence)
+      → Fences fill.call fill.hold.locked (decided fill.call fill.hold (value_of fill.hit) (knows (seen_fill fill (printed fill.prints fill.slot fill.call.print) 4))) action x o
+      → Fills fill.call (Holds fill.call.node fill.hold.locked (decided fill.call fill.hold (value_of fill.hit) (knows (seen_fill fill (printed fill.prints fill.slot fill.call.print) 4)))) action x (print_fenced fill o)
+  print_fence x action (Some fence) step = step
+  print_fence x action None step = step false
+
+  -- a store of one more word of the slot
+  word_step : (k x : ℕ) → k < 4 → Step fill.call.view.layout fill.call.view.generation
+      (Holds fill.call.node fill.hold.locked (decided fill.call fill.hold (value_of fill.hit) (knows (seen_fill fill fill.prints k)))) (fill_at_asks fill (fill_at.Word k)) x
+      (Holds fill.call.node fill.hold.locked (decided fill.call fill.hold (value_of fill.hit) (knows (seen_fill fill fill.prints (k + 1))))) None
+  word_step k x small =
+      let within : fill.slot < slots = sound.within in
+      stores (sound.call.node, (omega arith)) (omega arith) (word_below k) (record { pending = refl; ready = refl; placed = refl })
+      (λ s tidy before. known (updated s (slot_offset fill.slot k) (fill_word fill k)) fill.prints (k + 1) (omega arith) (word_stored s k small (relies s fill.prints k (omega arith) before)))
+      (λ range s m before means.
+      let facts = relies s fill.prints k (omega arith) before in
+      means_slot_store slots range s m fill.slot k (fill_word fill k) limit small (subst (λ b. IsClear b fill.slot) (sym facts.bitmap_is) sound.clear) means)
+
+  pub fill_at_leads : (at : FillAt) (x : ℕ) → IsFillAt fill.call at
+      → Fills fill.call (Holds fill.call.node fill.hold.locked (decided fill.call fill.hold (value_of fill.hit) (fill_at_known fill at))) (fill_at_asks fill at) x (fill_at_turned fill at x)
+  fill_at_leads (fill_at.Word k) x small =
+      elim (ltb (k + 1) 4) as (λ b. ltb (k + 1) 4 ≡ b → Fills fill.call (Holds fill.call.node fill.hold.locked (decided fill.call fill.hold (value_of fill.hit) (fill_at_known fill (fill_at.Word k))))
+      (fill_at_asks fill (fill_at.Word k)) x (cond b (Go (record fill { at = fill_at.Word (k + 1) })) (Go (record fill { at = fill_at.Print })))) [
+        | true ↦ λ is. word_step k x small
+        | false ↦ λ is.
+            let last : k + 1 ≡ 4 = let past : 4 ≤ k + 1 = ltb-false _ _ is in omega arith in
+            subst (λ (count : ℕ). Step fill.call.view.layout fill.call.view.generation
+            (Holds fill.call.node fill.hold.locked (decided fill.call fill.hold (value_of fill.hit) (knows (seen_fill fill fill.prints k)))) (fill_at_asks fill (fill_at.Word k)) x
+            (Holds fill.call.node fill.hold.locked (decided fill.call fill.hold (value_of fill.hit) (knows (seen_fill fill fill.prints count)))) None) last (word_step k x small)
+      ] refl
+  fill_at_leads fill_at.Print x here =
+      let small_slot : fill.slot < 64 = in_node in
+      let word = printed fill.prints fill.slot fill.call.print in
+      stores (sound.call.node, (omega arith)) (omega arith) (printed_below fill.prints fill.slot fill.call.print print_below) (record { pending = refl; ready = refl; placed = refl })
+      (λ s tidy before. known (updated s (print_offset fill.slot) word) word 4 (omega arith) (print_stored s word (relies s fill.prints 4 (omega arith) before)))
+      (λ range s m before means.
+      let facts = relies s fill.prints 4 (omega arith) before in
+      subst (λ w. Means slots range (updated s (print_offset fill.slot) (printed w fill.slot fill.call.print)) m) facts.print_is
+      (means_print_store s fill.slot fill.call.print in_node print_below slots range m (subst (λ b. IsClear b fill.slot) (sym facts.bitmap_is) sound.clear) means))
+  fill_at_leads (fill_at.FenceSlot fence) x here = slot_fence x (fence_asks fill.call fence) (fence_next fence x)
+      (fence_leads fill.call fence fill.hold.locked (decided fill.call fill.hold (value_of fill.hit) (knows (seen_fill fill (printed fill.prints fill.slot fill.call.print) 4))) x sound.call here refl)
+  fill_at_leads (fill_at.FencePrint fence) x here = print_fence x (fence_asks fill.call fence) (fence_next fence x)
+      (fence_leads fill.call fence fill.hold.locked (decided fill.call fill.hold (value_of fill.hit) (knows (seen_fill fill (printed fill.prints fill.slot fill.call.print) 4))) x sound.call here refl)
+  fill_at_leads fill_at.Bitmap x here =
+      let word = printed fill.prints fill.slot fill.call.print in
+      commits {h = decided fill.call fill.hold (value_of fill.hit) (knows (seen_fill fill word 4))} {k = nothing} {old = value_of fill.hit} {c = change.Put name fill.value}
+      (sound.call.node, (omega arith)) (omega arith) bitmap_below (record { pending = refl; ready = refl; placed = refl }) refl refl
+      (λ s tidy before. record { seen = tt; left = tt })
+      (λ range s m in_range before old means. means_filled range s m in_range (relies s word 4 (omega arith) before) old means)
+
+pub fill_leads : (fill : Fill) (x : ℕ) → IsFill fill → Fills fill.call (fill_stage fill) (fill_asks fill) x (fill_turned fill x)
+fill_leads fill x sound = fill_at_leads fill sound fill.at x sound.here

@@ -1,0 +1,9 @@
+pub mod SeenLemmas
+pub mod Measures
+pub mod LookupLaw
+pub mod LookupSound
+pub mod FinishLaw
+pub mod FillLaw
+pub mod CallLaw
+pub mod CallSound
+pub mod OpLaw

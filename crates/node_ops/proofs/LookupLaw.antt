@@ -1,0 +1,289 @@
+-- Each turn of a look-up is a step of a kind. At its end the next step of the call may rely on what the name has.
+use Rattle.std.proofs.Common.{◌≡◌, ℕ, zero, suc, ◌+◌, ◌-◌, ◌*◌, ◌%◌, ◌<◌, ◌≤◌, ◌^◌, ◌==◌, ◌||◌, ◌&&◌, Bool, true, false, cond, ltb, leb, List, [], ◌∷◌, ◌++◌, Option, Some, None, IfSome, length, take, get_or, set, inl, inr, ⊎_elim, refl, sym, subst, ap, ◌∙◌, arith}
+use Rattle.std.specs.Int.{bit_at}
+use Rattle.std.proofs.Math.ListN.{length-set}
+use Rattle.std.proofs.lemmas.Bool.{eqb-true, eqb-false, ltb-true, ltb-false, leb-false, lt-ltb, eq-eqb, or_cases, and_parts, and_from, both_ways}
+use Rattle.std.proofs.lemmas.Nat.Bits.{bit_at-zero}
+use Rattle.cat_key.specs.Names.{words_of, bytes_of, fingerprint_of}
+use Rattle.cat_key.proofs.Packing.{length-words_of}
+use Rattle.cat_history.specs.Maps.{Map, at}
+use Rattle.cat_history.specs.Writes.{name_of}
+use Rattle.cat_history.specs.declared.op.Change.{Change}
+use Rattle.pm_words.specs.declared.action.Action.{Action}
+use Rattle.pm_words.specs.declared.action.Action.TheVariants.{Load, Store, Exchange}
+use Rattle.pm_words.specs.declared.again.Again.TheVariants.{Locked, Moved}
+use Rattle.pm_words.specs.declared.machine.Turn.{Turn}
+use Rattle.pm_words.specs.declared.machine.Turn.TheVariants.{Go, Done}
+use Rattle.pm_words.specs.Places.{node_words}
+use Rattle.version_lock.specs.declared.TheConstants.{LAST_COUNT}
+use Rattle.version_lock.specs.Versions.{generation_of, count_of, kept_count, locked_word, IsFree, IsWorn}
+use Rattle.data_node.specs.Slots.{IsLive}
+use Rattle.data_node.specs.Bits.{without_live, lowest_live, candidate_bits}
+use Rattle.data_node.specs.Spots.{Spot, bitmap_offset, slot_offset, IsLiveIn, name_words, value_in, IsTidy, Means}
+use Rattle.data_node.proofs.BitLemmas.{IsLowestLive, lowest_live-some, lowest_live-none, without_live-other}
+use Rattle.data_node.proofs.SpotLemmas.{at_found, at_missing}
+use Rattle.data_node.proofs.StoreLemmas.{candidates_cover}
+use Rattle.call_stages.specs.declared.once.Once.{Once}
+use Rattle.call_stages.specs.declared.once.Once.TheVariants as once
+use Rattle.call_stages.specs.declared.once.Placed.{Placed}
+use Rattle.call_stages.specs.Stages.{Known, Knows, Stage, Idle, Saw, Holds, just_held, pended}
+use Rattle.call_stages.specs.Kinds.{Told, HasWordAt, word_place, version_place, clock_place, Look, Step, looks, locks, unlocks, turns_back, is_worn, sees, misses, times, learns, decides, is_spent}
+use Rattle.node_ops.specs.declared.call.Call.{Call}
+use Rattle.node_ops.specs.declared.lookup.Hold.{Hold}
+use Rattle.node_ops.specs.declared.lookup.Directory.{Directory}
+use Rattle.node_ops.specs.declared.lookup.Hit.{Hit}
+use Rattle.node_ops.specs.declared.lookup.Found.{Found}
+use Rattle.node_ops.specs.declared.lookup.Looked.{Looked}
+use Rattle.node_ops.specs.declared.lookup.Looked.TheVariants as looked
+use Rattle.node_ops.specs.declared.lookup.LookupAt.{LookupAt}
+use Rattle.node_ops.specs.declared.lookup.LookupAt.TheVariants as look
+use Rattle.node_ops.specs.declared.lookup.Lookup.{Lookup}
+use Rattle.node_ops.specs.Calls.{IsCall, name_in, call_place}
+use Rattle.node_ops.specs.LookupSteps.{is_free_word, is_worn_word, is_spent as has_reached, value_of, goes_to, ends, finds, saw_version, tried_lock, saw_clock, saw_prints, saw_name, saw_directory, next_candidate, candidate_turned, lookup_at_asks, lookup_at_turned, IsComparing, IsLookupAt}
+use Rattle.node_ops.specs.CallStages.{words_from, nothing, knows, timed, lookup_at_stage, lookup_stage}
+use Rattle.node_ops.proofs.SeenLemmas.{Seen, Stand, seen_append, seen_front, seen_back, stand_taken, taken_stand, stand_whole, whole_stand, stand_more, stand_set, name_stands}
+
+-- what is known of the node once the name is looked up: the directory, and the name's words in the slot that has it
+abbrev pub hit_words : Call → Option Hit → List (ℕ × ℕ)
+hit_words call None = []
+hit_words call (Some hit) = words_from (slot_offset hit.slot 0) call.name
+
+abbrev pub found_known : Call → Found → Known
+found_known call found = knows ((bitmap_offset, found.directory.bitmap) ∷ (words_from 8 found.directory.prints ++ hit_words call found.hit))
+
+-- The step that ends the look-up leads to each stage that relies on what was found: with the name's old number, with a
+-- part of what is known, and with a change that the node shows already.
+abbrev pub Leads_found : Call → Stage → Action → ℕ → Found → Type 0
+Leads_found call stage action x found =
+    (k : Known) (pending : Option Change) (ready : Bool) → IfSome pending (λ c. name_of c ≡ name_in call) →
+    ((s : Spot) → Knows (name_in call) (found_known call found) s → Knows (name_in call) k s) →
+    ((range : List ℕ → Bool) (s : Spot) (m : Map) → range (name_in call) ≡ true → at m (name_in call) ≡ value_of found.hit → Means call.view.layout.slots range s m
+    → Means call.view.layout.slots range s (pended pending m)) →
+    Step call.view.layout call.view.generation stage action x
+    (Holds call.node found.hold.locked (record {
+      name = name_in call;
+      limit = call.limit;
+      known = k;
+      time = Some found.hold.clock;
+      old = Some (value_of found.hit);
+      pending = pending;
+      ready = ready;
+      placed = None;
+    }))
+    None
+
+-- the kind of step of a turn
+abbrev pub Leads : Call → Stage → Action → ℕ → Turn Lookup Looked → Type 0
+Leads call stage action x (Go lookup) = Step call.view.layout call.view.generation stage action x (lookup_stage lookup) None
+Leads call stage action x (Done (looked.Early answer)) = Step call.view.layout call.view.generation stage action x Idle (Some answer)
+Leads call stage action x (Done (looked.Found found)) = Leads_found call stage action x found
+
+pub free_word : (word generation : ℕ) → is_free_word word generation ≡ true → IsFree word generation
+free_word word generation is = ⊎_elim (λ earlier. inl (ltb-true _ _ earlier)) (λ unlocked. inr (eqb-true _ _ unlocked)) (or_cases _ _ is)
+
+or_left : (x y : Bool) → x ≡ true → (x || y) ≡ true
+or_left true y is = refl
+or_left false y is = absurd (cc)
+
+or_right : (x y : Bool) → y ≡ true → (x || y) ≡ true
+or_right true y is = refl
+or_right false y is = is
+
+taken_word : (word generation : ℕ) → is_free_word word generation ≡ false → IsFree word generation → ⊥
+taken_word word generation is (inl earlier) = both_ways _ is (or_left _ _ (lt-ltb (generation_of word) generation earlier))
+taken_word word generation is (inr unlocked) = both_ways _ is (or_right _ _ (eq-eqb (word % 2) 0 unlocked))
+
+worn_word : (word generation : ℕ) → is_worn_word word generation ≡ true → IsWorn word generation
+worn_word word generation is = let parts = and_parts _ _ is in (eqb-true _ _ parts.0, eqb-true _ _ parts.1)
+
+pub fresh_word : (word generation : ℕ) → is_worn_word word generation ≡ false → IsWorn word generation → ⊥
+fresh_word word generation is worn = both_ways _ is (and_from _ _ (eq-eqb _ _ worn.0) (eq-eqb _ _ worn.1))
+
+below_limit : (limit : Option ℕ) (clock : ℕ) → has_reached limit clock ≡ false → IfSome limit (λ most. clock < most)
+below_limit None clock is = tt
+below_limit (Some limit) clock is = leb-false limit clock is
+
+-- word k of a name
+name_word : (s : Spot) (slot k : ℕ) → k < 3 → get_or (name_words s slot) k 0 ≡ s (slot_offset slot k)
+name_word s slot zero small = refl
+name_word s slot (suc zero) small = refl
+name_word s slot (suc (suc zero)) small = refl
+name_word s slot (suc (suc (suc k))) small = absurd (omega arith)
+
+module _ (call : Call) (sound : IsCall call) where
+  abbrev slots : ℕ
+  slots = call.view.layout.slots
+
+  abbrev name : List ℕ
+  name = name_in call
+
+  limit : slots ≤ 64
+  limit = sound.view.layout.slots.1
+
+  three : length call.name ≡ 3
+  three = sym (ap length sound.packed.whole) ∙ length-words_of name
+
+  has_word : (offset : ℕ) → offset < node_words call.view.layout → HasWordAt call.view.layout call.node offset
+  has_word offset within = (sound.node, within)
+
+  -- with the word that it loads it knows what the name has
+  decide : (found : Found) (k : Known) (offset x : ℕ) → offset < node_words call.view.layout → 0 < offset
+      → ((s : Spot) → IsTidy slots s → Knows name k s → s offset ≡ x → Knows name (found_known call found) s)
+      → ((range : List ℕ → Bool) (s : Spot) (m : Map) → range name ≡ true → Knows name k s → s offset ≡ x → Means slots range s m → at m name ≡ value_of found.hit)
+      → Leads_found call (Holds call.node found.hold.locked (timed call found.hold k)) (Load (call_place call offset)) x found
+  decide found k offset x within behind learnt old = λ next pending ready named less means.
+      looks (decides (has_word offset within) behind (record { pending = refl; ready = refl; placed = refl }) named
+      (λ s tidy known e. less s (learnt s tidy known e))
+      (λ range s m in_range known e is. let was = old range s m in_range known e is in (was, means range s m in_range was is)))
+
+  -- on to the lowest candidate that is left, if these slots cover the name
+  next_leads : (hold : Hold) (directory : Directory) (left : ℕ) (k : Known) (offset x : ℕ) → offset < node_words call.view.layout → 0 < offset
+      → ((s : Spot) → Knows name k s → s offset ≡ x → Seen s ((bitmap_offset, directory.bitmap) ∷ words_from 8 directory.prints))
+      → ((s : Spot) → IsTidy slots s → Knows name k s → s offset ≡ x → (slot : ℕ) → slot < 64 → IsLiveIn s slot → name_words s slot ≡ words_of name → IsLive left slot)
+      → Leads call (Holds call.node hold.locked (timed call hold k)) (Load (call_place call offset)) x (next_candidate call hold directory left)
+  next_leads hold directory left k offset x within behind seen covers =
+      elim (lowest_live left) as (λ o. lowest_live left ≡ o → Leads call (Holds call.node hold.locked (timed call hold k)) (Load (call_place call offset)) x (candidate_turned call hold directory left o)) [
+        | Some slot ↦ λ is. looks (learns (has_word offset within) behind refl (λ s tidy known e.
+            let both = seen s known e in
+            record { seen = (both.0, seen_append s (words_from 8 directory.prints) [] both.1 tt); left = covers s tidy known e }))
+        | None ↦ λ is. decide (record { hold = hold; directory = directory; hit = None }) k offset x within behind
+            (λ s tidy known e. let both = seen s known e in record { seen = (both.0, seen_append s (words_from 8 directory.prints) [] both.1 tt); left = tt })
+            (λ range s m in_range known e means. at_missing slots range s m name sound.packed.named in_range means (λ slot slot_within live same.
+            let none : left ≡ 0 = lowest_live-none left is in
+            let small : slot < 64 = let few : slots ≤ 64 = limit in omega arith in
+            let one : bit_at left slot ≡ 1 = covers s means.tidy known e slot small live same in
+            let zero_bit : bit_at left slot ≡ 0 = subst (λ n. bit_at n slot ≡ 0) (sym none) (bit_at-zero slot) in
+            omega arith))
+      ] refl
+
+  version_leads : (x : ℕ) → Leads call Idle (Load (call_place call 0)) x (saw_version call x)
+  version_leads x =
+      let g = call.view.generation in
+      let locked = look.Lock x (locked_word g (kept_count x g)) in
+      elim (is_free_word x g) as (λ b. is_free_word x g ≡ b → Leads call Idle (Load (call_place call 0)) x
+      (cond b (cond (is_worn_word x g) (ends (once.Worn call.node x)) (goes_to call locked)) (ends (once.Again (Locked call.node x))))) [
+        | true ↦ λ free. elim (is_worn_word x g) as (λ b. is_worn_word x g ≡ b → Leads call Idle (Load (call_place call 0)) x (cond b (ends (once.Worn call.node x)) (goes_to call locked))) [
+          | true ↦ λ worn. looks (is_worn sound.node (free_word x g free) (worn_word x g worn))
+          | false ↦ λ fresh. looks (sees sound.node (free_word x g free) (fresh_word x g fresh) refl)
+        ] refl
+        | false ↦ λ taken. looks (turns_back sound.node (taken_word x g taken))
+      ] refl
+
+  lock_leads : (version word x : ℕ) → Leads call (Saw call.node version word) (Exchange (call_place call 0) version word) x (tried_lock call version word x)
+  lock_leads version word x =
+      elim (x == version) as (λ b. (x == version) ≡ b → Leads call (Saw call.node version word) (Exchange (call_place call 0) version word) x
+      (cond b (goes_to call (look.Clock word)) (ends (once.Again (Moved call.node version x))))) [
+        | true ↦ λ same. locks (eqb-true _ _ same) sound.packed.named
+        | false ↦ λ other. looks (misses (eqb-false _ _ other))
+      ] refl
+
+  clock_leads : (word x : ℕ) → Leads call (Holds call.node word (just_held name)) (Load (clock_place call.view.layout)) x (saw_clock call (record { locked = word; clock = x }))
+  clock_leads word x =
+      let hold : Hold = record { locked = word; clock = x } in
+      elim (has_reached call.limit x) as (λ b. has_reached call.limit x ≡ b → Leads call (Holds call.node word (just_held name)) (Load (clock_place call.view.layout)) x
+      (cond b (goes_to call (look.Spent hold)) (goes_to call (look.Bitmap hold)))) [
+        | true ↦ λ spent. looks (times {limit = None} (record { pending = refl; ready = refl; placed = refl }) tt)
+        | false ↦ λ below. looks (times {limit = call.limit} (record { pending = refl; ready = refl; placed = refl }) (below_limit call.limit x below))
+      ] refl
+
+  prints_leads : (hold : Hold) (bitmap : ℕ) (prints : List ℕ) (k x : ℕ) → length prints ≡ 8 → k < 8
+      → Leads call (lookup_at_stage call (look.Prints hold bitmap prints k)) (Load (call_place call (8 + k))) x (saw_prints call hold bitmap prints k x)
+  prints_leads hold bitmap prints k x eight small =
+      let directory : Directory = record { bitmap = bitmap; prints = set prints k x } in
+      let seen_so_far = knows ((bitmap_offset, bitmap) ∷ words_from 8 (take k prints)) in
+      let whole : length (set prints k x) ≡ 8 = length-set prints k x ∙ eight in
+      let more : (s : Spot) → Knows name seen_so_far s → s (8 + k) ≡ x → Stand s 8 (set prints k x) (k + 1) =
+      λ s known e. stand_set s 8 prints k x (omega arith) (stand_taken s 8 prints k (omega arith) known.seen.1) e in
+      elim (ltb (k + 1) 8) as (λ b. ltb (k + 1) 8 ≡ b → Leads call (lookup_at_stage call (look.Prints hold bitmap prints k)) (Load (call_place call (8 + k))) x
+      (cond b (goes_to call (look.Prints hold bitmap (set prints k x) (k + 1))) (saw_directory call hold directory))) [
+        | true ↦ λ is. looks (learns (has_word (8 + k) (omega arith)) (omega arith) refl (λ s tidy known e.
+            record { seen = (known.seen.0, taken_stand s 8 (set prints k x) (k + 1) (omega arith) (more s known e)); left = tt }))
+        | false ↦ λ is.
+            let last : k + 1 ≡ 8 = let past : 8 ≤ k + 1 = ltb-false _ _ is in omega arith in
+            let stands : (s : Spot) → Knows name seen_so_far s → s (8 + k) ≡ x → Stand s 8 (set prints k x) 8 = λ s known e. subst (Stand s 8 (set prints k x)) last (more s known e) in
+            next_leads hold directory (candidate_bits bitmap (set prints k x) call.print slots) seen_so_far (8 + k) x (omega arith) (omega arith)
+            (λ s known e. (known.seen.0, whole_stand s 8 (set prints k x) (subst (Stand s 8 (set prints k x)) (sym whole) (stands s known e))))
+            (λ s tidy known e slot slot_small live same.
+            subst (λ b. IsLive (candidate_bits b (set prints k x) call.print slots) slot) known.seen.0
+            (subst (λ p. IsLive (candidate_bits (s bitmap_offset) (set prints k x) p slots) slot) (sym sound.print)
+            (candidates_cover slots s (set prints k x) name slot limit sound.packed.named tidy (stands s known e) live same)))
+      ] refl
+
+  -- what is known while a candidate's name is compared
+  abbrev comparing_known : Directory → ℕ → ℕ → ℕ → Known
+  comparing_known directory left slot k =
+      record { seen = (bitmap_offset, directory.bitmap) ∷ (words_from 8 directory.prints ++ words_from (slot_offset slot 0) (take k call.name)); left = Some left }
+
+  name_leads : (hold : Hold) (directory : Directory) (left slot k x : ℕ) → IsComparing slots directory.bitmap left slot → k < 3
+      → Leads call (Holds call.node hold.locked (timed call hold (comparing_known directory left slot k))) (Load (call_place call (slot_offset slot k))) x
+      (saw_name call hold directory left slot k x)
+  name_leads hold directory left slot k x comparing small =
+      let words = call.name in
+      let count : length words ≡ 3 = three in
+      let few : slots ≤ 64 = limit in
+      let lowest = lowest_live-some left slot comparing.fits comparing.lowest in
+      let slot_within : slot < slots = (comparing.live slot lowest.live).0 in
+      let stage = Holds call.node hold.locked (timed call hold (comparing_known directory left slot k)) in
+      let action = Load (call_place call (slot_offset slot k)) in
+      let within : slot_offset slot k < node_words call.view.layout = omega arith in
+      let more : (s : Spot) → Knows name (comparing_known directory left slot k) s → s (slot_offset slot k) ≡ get_or words k 0 → Stand s (slot_offset slot 0) words (k + 1) =
+      λ s known e. stand_more s (slot_offset slot 0) words k
+      (stand_taken s (slot_offset slot 0) words k (omega arith) (seen_back s (words_from 8 directory.prints) (words_from (slot_offset slot 0) (take k words)) known.seen.1))
+      (subst (λ o. s o ≡ get_or words k 0) (let e : slot_offset slot k ≡ slot_offset slot 0 + k = omega arith in e) e) in
+      let front : (s : Spot) → Knows name (comparing_known directory left slot k) s → Seen s (words_from 8 directory.prints) =
+      λ s known. seen_front s (words_from 8 directory.prints) (words_from (slot_offset slot 0) (take k words)) known.seen.1 in
+      elim (x == get_or words k 0) as (λ b. (x == get_or words k 0) ≡ b → Leads call stage action x
+      (cond b (cond (ltb (k + 1) 3) (goes_to call (look.Name hold directory left slot (k + 1))) (goes_to call (look.Value hold directory slot)))
+      (next_candidate call hold directory (without_live left slot)))) [
+        | true ↦ λ same. let is_word : x ≡ get_or words k 0 = eqb-true _ _ same in
+            elim (ltb (k + 1) 3) as (λ b. ltb (k + 1) 3 ≡ b → Leads call stage action x (cond b (goes_to call (look.Name hold directory left slot (k + 1))) (goes_to call (look.Value hold directory slot)))) [
+              | true ↦ λ is. looks (learns (has_word (slot_offset slot k) within) (omega arith) refl (λ s tidy known e. record {
+                seen = (
+                  known.seen.0,
+                  seen_append s (words_from 8 directory.prints) (words_from (slot_offset slot 0) (take (k + 1) words)) (front s known)
+                      (taken_stand s (slot_offset slot 0) words (k + 1) (omega arith) (more s known (e ∙ is_word))),
+                );
+                left = known.left;
+              }))
+              | false ↦ λ is.
+                  let last : k + 1 ≡ length words = let past : 3 ≤ k + 1 = ltb-false _ _ is in omega arith in
+                  looks (learns (has_word (slot_offset slot k) within) (omega arith) refl (λ s tidy known e. record {
+                    seen = (
+                      known.seen.0,
+                      seen_append s (words_from 8 directory.prints) (words_from (slot_offset slot 0) words) (front s known)
+                          (whole_stand s (slot_offset slot 0) words (subst (Stand s (slot_offset slot 0) words) last (more s known (e ∙ is_word)))),
+                    );
+                    left = tt;
+                  }))
+            ] refl
+        | false ↦ λ other. next_leads hold directory (without_live left slot) (comparing_known directory left slot k) (slot_offset slot k) x within (omega arith)
+            (λ s known e. (known.seen.0, front s known))
+            (λ s tidy known e held held_small live same.
+            let apart : held ≡ slot → ⊥ = λ here.
+            let this : name_words s slot ≡ words = subst (λ n. name_words s n ≡ words_of name) here same ∙ sound.packed.whole in
+            eqb-false _ _ other (sym e ∙ sym (name_word s slot k small) ∙ ap (λ w. get_or w k 0) this) in
+            without_live-other left slot held lowest.within held_small apart ∙ known.left held held_small live same)
+      ] refl
+
+  value_leads : (hold : Hold) (directory : Directory) (slot x : ℕ) → slot < slots → IsLive directory.bitmap slot
+      → Leads call (lookup_at_stage call (look.Value hold directory slot)) (Load (call_place call (slot_offset slot 3))) x (finds hold directory (Some (record { slot = slot; value = x })))
+  value_leads hold directory slot x slot_within live =
+      let known_now = knows ((bitmap_offset, directory.bitmap) ∷ (words_from 8 directory.prints ++ words_from (slot_offset slot 0) call.name)) in
+      decide (record { hold = hold; directory = directory; hit = Some (record { slot = slot; value = x }) }) known_now (slot_offset slot 3) x (omega arith) (omega arith)
+      (λ s tidy known e. known)
+      (λ range s m in_range known e means.
+      let stands : Stand s (slot_offset slot 0) call.name (length call.name) =
+      stand_whole s (slot_offset slot 0) call.name (seen_back s (words_from 8 directory.prints) (words_from (slot_offset slot 0) call.name) known.seen.1) in
+      let same : name_words s slot ≡ words_of name = name_stands s slot call.name three (subst (Stand s (slot_offset slot 0) call.name) three stands) ∙ sym sound.packed.whole in
+      let live_here : IsLiveIn s slot = subst (λ b. IsLive b slot) (sym known.seen.0) live in
+      at_found slots range s m name slot sound.packed.named in_range means live_here same ∙ ap Some e)
+
+  pub lookup_leads : (at : LookupAt) (x : ℕ) → IsLookupAt call at → Leads call (lookup_at_stage call at) (lookup_at_asks call at) x (lookup_at_turned call at x)
+  lookup_leads look.Version x here = version_leads x
+  lookup_leads (look.Lock version word) x here = lock_leads version word x
+  lookup_leads (look.Clock word) x here = clock_leads word x
+  lookup_leads (look.Spent hold) x here = unlocks refl refl refl (is_spent refl)
+  lookup_leads (look.Bitmap hold) x here = looks (learns (has_word bitmap_offset (omega arith)) (omega arith) refl (λ s tidy known e. record { seen = (e, tt); left = tt }))
+  lookup_leads (look.Prints hold bitmap prints k) x here = prints_leads hold bitmap prints k x here.1.prints here.2
+  lookup_leads (look.Name hold directory left slot k) x here = name_leads hold directory left slot k x here.2 here.3
+  lookup_leads (look.Value hold directory slot) x here = value_leads hold directory slot x here.2 here.3

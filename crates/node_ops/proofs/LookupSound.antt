@@ -1,0 +1,151 @@
+-- A look-up's fields keep what they keep, and what it found is in order.
+use Rattle.std.proofs.Common.{◌≡◌, ℕ, ◌+◌, ◌-◌, ◌*◌, ◌%◌, ◌/◌, ◌<◌, ◌≤◌, ◌^◌, ◌==◌, ◌||◌, Bool, true, false, cond, ltb, List, Option, Some, None, IfSome, length, get_or, set, replicate, inl, inr, refl, sym, subst, ap, ◌∙◌, arith}
+use Rattle.std.specs.Int.{bit_at}
+use Rattle.std.proofs.Math.ListN.{length-set}
+use Rattle.std.proofs.lemmas.Bool.{cases_eq, cases_lt, ltb-true, ltb-false}
+use Rattle.std.proofs.lemmas.Nat.Bits.{bit_at_above}
+use Rattle.pm_words.specs.declared.action.Action.{Action}
+use Rattle.pm_words.specs.declared.again.Again.TheVariants.{Locked, Moved}
+use Rattle.pm_words.specs.declared.machine.Turn.{Turn}
+use Rattle.pm_words.specs.declared.machine.Turn.TheVariants.{Go, Done}
+use Rattle.version_lock.specs.declared.TheConstants.{LAST_COUNT, GENERATION_LIMIT}
+use Rattle.version_lock.specs.Versions.{generation_of, count_of, kept_count, locked_word, IsFree, IsWorn, IsLocked}
+use Rattle.version_lock.proofs.VersionFacts.{kept_count-earlier, kept_count-same, count_of-locked_word, count_of-le, IsLocked-locked_word}
+use Rattle.data_node.specs.Slots.{IsLive}
+use Rattle.data_node.specs.Bits.{without_live, lowest_live, candidate_bits}
+use Rattle.data_node.proofs.BitLemmas.{lowest_live-some, without_live-same, without_live-other, without_live_below, candidate_bits-marks, candidate_bits_below}
+use Rattle.call_stages.specs.declared.once.Once.TheVariants as once
+use Rattle.call_stages.specs.Kinds.{Told}
+use Rattle.node_ops.specs.declared.call.Call.{Call}
+use Rattle.node_ops.specs.declared.lookup.Hold.{Hold}
+use Rattle.node_ops.specs.declared.lookup.Directory.{Directory}
+use Rattle.node_ops.specs.declared.lookup.Hit.{Hit}
+use Rattle.node_ops.specs.declared.lookup.Found.{Found}
+use Rattle.node_ops.specs.declared.lookup.Looked.{Looked}
+use Rattle.node_ops.specs.declared.lookup.Looked.TheVariants as looked
+use Rattle.node_ops.specs.declared.lookup.LookupAt.{LookupAt}
+use Rattle.node_ops.specs.declared.lookup.LookupAt.TheVariants as look
+use Rattle.node_ops.specs.declared.lookup.Lookup.{Lookup}
+use Rattle.node_ops.specs.Calls.{IsCall, IsLockWord}
+use Rattle.node_ops.specs.LookupSteps.{is_free_word, is_worn_word, is_spent, goes_to, ends, saw_version, tried_lock, saw_clock, saw_prints, saw_name, saw_directory, next_candidate, candidate_turned, lookup_asks, lookup_at_asks, lookup_turned, lookup_at_turned, IsLocking, IsDirectory, IsComparing, IsHit, IsFound, IsLookupAt, IsLookup}
+use Rattle.node_ops.proofs.LookupLaw.{free_word, fresh_word}
+
+-- the fields after a turn, and that the call is the same
+abbrev pub SoundLooked : Call → Turn Lookup Looked → Type 0
+SoundLooked call (Go lookup) = IsLookup lookup × (lookup.call ≡ call)
+SoundLooked call (Done (looked.Early answer)) = Unit {0}
+SoundLooked call (Done (looked.Found found)) = IsFound call.view.layout.slots found
+
+-- a locked word that was made of a free one can be given back
+pub lock_word : (generation version word : ℕ) → generation < GENERATION_LIMIT → IsLocking generation version word → IsLockWord word
+lock_word generation version word small locking =
+    let kept = kept_count version generation in
+    let unworn : kept < LAST_COUNT =
+    elim (cases_lt (generation_of version) generation) [
+      | inl earlier ↦ let none : kept ≡ 0 = kept_count-earlier version generation earlier in omega arith
+      | inr later ↦
+          let known : generation_of version ≤ generation = locking.known in
+          let same : generation_of version ≡ generation = omega arith in
+          let counted : kept ≡ count_of version = kept_count-same version generation same in
+          elim (cases_eq (count_of version) LAST_COUNT) [
+            | inl worn ↦ absurd (locking.unworn (same, worn))
+            | inr other ↦ let most = count_of-le version in omega arith
+          ]
+    ] in
+    let made : word ≡ locked_word generation kept = locking.locked in
+    let counts : count_of (locked_word generation kept) ≡ kept = count_of-locked_word generation kept (omega arith) in
+    record {
+      locked = subst IsLocked (sym made) (IsLocked-locked_word generation kept);
+      unworn = subst (λ w. count_of w < LAST_COUNT) (sym made) (omega arith);
+      fits = omega arith;
+    }
+
+module _ (call : Call) (sound : IsCall call) where
+  abbrev slots : ℕ
+  slots = call.view.layout.slots
+
+  limit : slots ≤ 64
+  limit = sound.view.layout.slots.1
+
+  next_sound : (hold : Hold) (directory : Directory) (left : ℕ) → IsLockWord hold.locked → IsDirectory directory → left < 2 ^ 64
+      → ((slot : ℕ) → IsLive left slot → (slot < slots) × IsLive directory.bitmap slot) → SoundLooked call (next_candidate call hold directory left)
+  next_sound hold directory left locked loaded fits live =
+      elim (lowest_live left) as (λ o. lowest_live left ≡ o → SoundLooked call (candidate_turned call hold directory left o)) [
+        | Some slot ↦ λ is. (record { call = sound; here = (locked, loaded, record { fits = fits; live = live; lowest = is }, omega arith) }, refl)
+        | None ↦ λ is. record { locked = locked; directory = loaded; hit = tt }
+      ] refl
+
+  version_sound : (x : ℕ) → generation_of x ≤ call.view.generation → SoundLooked call (saw_version call x)
+  version_sound x known =
+      let g = call.view.generation in
+      let locked = look.Lock x (locked_word g (kept_count x g)) in
+      elim (is_free_word x g) as (λ b. is_free_word x g ≡ b → SoundLooked call (cond b (cond (is_worn_word x g) (ends (once.Worn call.node x)) (goes_to call locked)) (ends (once.Again (Locked call.node x))))) [
+        | true ↦ λ free. elim (is_worn_word x g) as (λ b. is_worn_word x g ≡ b → SoundLooked call (cond b (ends (once.Worn call.node x)) (goes_to call locked))) [
+          | true ↦ λ worn. tt
+          | false ↦ λ fresh. (record { call = sound; here = record { known = known; free = free_word x g free; unworn = fresh_word x g fresh; locked = refl } }, refl)
+        ] refl
+        | false ↦ λ taken. tt
+      ] refl
+
+  prints_sound : (hold : Hold) (bitmap : ℕ) (prints : List ℕ) (k x : ℕ) → IsLockWord hold.locked → IsDirectory (record { bitmap = bitmap; prints = prints })
+      → SoundLooked call (saw_prints call hold bitmap prints k x)
+  prints_sound hold bitmap prints k x locked loaded =
+      let directory : Directory = record { bitmap = bitmap; prints = set prints k x } in
+      let also : IsDirectory directory = record { bitmap = loaded.bitmap; prints = length-set prints k x ∙ loaded.prints } in
+      let left = candidate_bits bitmap (set prints k x) call.print slots in
+      elim (ltb (k + 1) 8) as (λ b. ltb (k + 1) 8 ≡ b → SoundLooked call (cond b (goes_to call (look.Prints hold bitmap (set prints k x) (k + 1))) (saw_directory call hold directory))) [
+        | true ↦ λ is. (record { call = sound; here = (locked, also, ltb-true _ _ is) }, refl)
+        | false ↦ λ is. next_sound hold directory left locked also (candidate_bits_below bitmap (set prints k x) call.print slots limit)
+            (λ slot live. let candidate = (candidate_bits-marks bitmap (set prints k x) call.print slots limit slot).0 live in (candidate.within, candidate.live))
+      ] refl
+
+  -- a slot that is left once one is taken out
+  left_live : (left slot other : ℕ) → left < 2 ^ 64 → slot < 64 → IsLive (without_live left slot) other → IsLive left other
+  left_live left slot other fits small live =
+      let one : bit_at (without_live left slot) other ≡ 1 = live in
+      elim (cases_lt other 64) [
+        | inl below ↦ elim (cases_eq other slot) [
+          | inl same ↦ absurd (let zero_bit : bit_at (without_live left slot) other ≡ 0 = subst (λ n. bit_at (without_live left slot) n ≡ 0) (sym same) (without_live-same left slot small) in omega arith)
+          | inr apart ↦ sym (without_live-other left slot other small below apart) ∙ live
+        ]
+        | inr above ↦ absurd (let zero_bit : bit_at (without_live left slot) other ≡ 0 = bit_at_above (without_live left slot) 64 other (without_live_below 64 left slot fits) above in omega arith)
+      ]
+
+  name_sound : (hold : Hold) (directory : Directory) (left slot k x : ℕ) → IsLockWord hold.locked → IsDirectory directory → IsComparing slots directory.bitmap left slot
+      → SoundLooked call (saw_name call hold directory left slot k x)
+  name_sound hold directory left slot k x locked loaded comparing =
+      let lowest = lowest_live-some left slot comparing.fits comparing.lowest in
+      let here = comparing.live slot lowest.live in
+      elim (x == get_or call.name k 0) as (λ b. SoundLooked call (cond b
+      (cond (ltb (k + 1) 3) (goes_to call (look.Name hold directory left slot (k + 1))) (goes_to call (look.Value hold directory slot)))
+      (next_candidate call hold directory (without_live left slot)))) [
+        | true ↦ elim (ltb (k + 1) 3) as (λ b. ltb (k + 1) 3 ≡ b → SoundLooked call (cond b (goes_to call (look.Name hold directory left slot (k + 1))) (goes_to call (look.Value hold directory slot)))) [
+          | true ↦ λ is. (record { call = sound; here = (locked, loaded, comparing, ltb-true _ _ is) }, refl)
+          | false ↦ λ is. (record { call = sound; here = (locked, loaded, here.0, here.1) }, refl)
+        ] refl
+        | false ↦ next_sound hold directory (without_live left slot) locked loaded (without_live_below 64 left slot comparing.fits)
+            (λ other live. comparing.live other (left_live left slot other comparing.fits lowest.within live))
+      ]
+
+  lookup_at_stays : (at : LookupAt) (x : ℕ) → IsLookupAt call at → Told call.view.layout call.view.generation (lookup_at_asks call at) x → SoundLooked call (lookup_at_turned call at x)
+  lookup_at_stays look.Version x here told = version_sound x (told.known call.node refl)
+  lookup_at_stays (look.Lock version word) x here told =
+      elim (x == version) as (λ b. SoundLooked call (cond b (goes_to call (look.Clock word)) (ends (once.Again (Moved call.node version x))))) [
+        | true ↦ (record { call = sound; here = lock_word call.view.generation version word sound.view.generation here }, refl)
+        | false ↦ tt
+      ]
+  lookup_at_stays (look.Clock word) x here told =
+      let hold : Hold = record { locked = word; clock = x } in
+      elim (is_spent call.limit x) as (λ b. SoundLooked call (cond b (goes_to call (look.Spent hold)) (goes_to call (look.Bitmap hold)))) [
+        | true ↦ (record { call = sound; here = here }, refl)
+        | false ↦ (record { call = sound; here = here }, refl)
+      ]
+  lookup_at_stays (look.Spent hold) x here told = tt
+  lookup_at_stays (look.Bitmap hold) x here told = (record { call = sound; here = (here, record { bitmap = told.fits; prints = refl }, omega arith) }, refl)
+  lookup_at_stays (look.Prints hold bitmap prints k) x here told = prints_sound hold bitmap prints k x here.0 here.1
+  lookup_at_stays (look.Name hold directory left slot k) x here told = name_sound hold directory left slot k x here.0 here.1 here.2
+  lookup_at_stays (look.Value hold directory slot) x here told = record { locked = here.0; directory = here.1; hit = record { within = here.2; live = here.3; fits = told.fits } }
+
+pub lookup_stays : (lookup : Lookup) (x : ℕ) → IsLookup lookup → Told lookup.call.view.layout lookup.call.view.generation (lookup_asks lookup) x
+    → SoundLooked lookup.call (lookup_turned lookup x)
+lookup_stays lookup x sound told = lookup_at_stays lookup.call sound.call lookup.at x sound.here told

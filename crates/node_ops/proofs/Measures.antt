@@ -1,0 +1,115 @@
+-- What a turn leaves to be done.
+use Rattle.std.proofs.Common.{◌≡◌, ℕ, ◌+◌, ◌-◌, ◌*◌, ◌<◌, ◌≤◌, ◌^◌, ◌==◌, Bool, true, false, cond, ltb, List, Option, Some, None, get_or, inl, inr, refl, sym, subst, ap, ◌∙◌, arith}
+use Rattle.std.specs.Int.{bit_at}
+use Rattle.std.proofs.lemmas.Bool.{cases_eq, cases_lt, ltb-true, ltb-false}
+use Rattle.pm_words.specs.declared.machine.Turn.{Turn}
+use Rattle.pm_words.specs.declared.machine.Turn.TheVariants.{Go, Done}
+use Rattle.pm_words.specs.Turns.{GoesBelow}
+use Rattle.data_node.specs.Slots.{IsLive}
+use Rattle.data_node.specs.Bits.{without_live, lowest_live}
+use Rattle.data_node.proofs.BitLemmas.{IsLowestLive, lowest_live-some, without_live-same, without_live-other, without_live_below}
+use Rattle.node_ops.specs.declared.call.Call.{Call}
+use Rattle.node_ops.specs.declared.lookup.Hold.{Hold}
+use Rattle.node_ops.specs.declared.lookup.Directory.{Directory}
+use Rattle.node_ops.specs.declared.lookup.LookupAt.{LookupAt}
+use Rattle.node_ops.specs.declared.lookup.LookupAt.TheVariants as look
+use Rattle.node_ops.specs.declared.lookup.Lookup.{Lookup}
+use Rattle.node_ops.specs.declared.lookup.Looked.{Looked}
+use Rattle.node_ops.specs.declared.fence.FenceAt.{FenceAt}
+use Rattle.node_ops.specs.declared.fence.FenceAt.TheVariants as fence_at
+use Rattle.node_ops.specs.declared.fence.Fence.{Fence}
+use Rattle.node_ops.specs.declared.fill.Fill.{Fill}
+use Rattle.node_ops.specs.declared.fill.FillAt.{FillAt}
+use Rattle.node_ops.specs.declared.fill.FillAt.TheVariants as fill_at
+use Rattle.node_ops.specs.declared.finish.Finish.{Finish}
+use Rattle.node_ops.specs.FenceSteps.{fence_next}
+use Rattle.node_ops.specs.LookupSteps.{IsLookup, IsLookupAt, IsComparing, lookup_left, lookup_at_left, saw_name, next_candidate, candidate_turned}
+use Rattle.node_ops.specs.FinishSteps.{finish_left}
+use Rattle.node_ops.specs.FillSteps.{fill_turned, fill_at_turned, fill_left, fill_at_left, filled, slot_fenced, print_fenced}
+
+-- the slot that is compared is one of the slots
+pub comparing_within : (slots bitmap left slot : ℕ) → IsComparing slots bitmap left slot → slot < slots
+comparing_within slots bitmap left slot comparing = (comparing.live slot (lowest_live-some left slot comparing.fits comparing.lowest).live).0
+
+-- the next candidate is a higher slot
+pub next_higher : (slots bitmap left slot next : ℕ) → slots ≤ 64 → IsComparing slots bitmap left slot → lowest_live (without_live left slot) ≡ Some next
+    → IsLive left next × (slot < next)
+next_higher slots bitmap left slot next limit comparing is =
+    let lowest = lowest_live-some left slot comparing.fits comparing.lowest in
+    let slot_small : slot < 64 = lowest.within in
+    let then_lowest = lowest_live-some (without_live left slot) next (without_live_below 64 left slot comparing.fits) is in
+    let next_small : next < 64 = then_lowest.within in
+    let set : bit_at (without_live left slot) next ≡ 1 = then_lowest.live in
+    let apart : next ≡ slot → ⊥ = λ e.
+    let clear : bit_at (without_live left slot) next ≡ 0 = subst (λ n. bit_at (without_live left slot) n ≡ 0) (sym e) (without_live-same left slot slot_small) in
+    omega arith in
+    let live : bit_at left next ≡ 1 = sym (without_live-other left slot next slot_small next_small apart) ∙ set in (
+      live,
+      elim (cases_lt next slot) [
+        | inl lower ↦ absurd (let clear : bit_at left next ≡ 0 = lowest.lowest next lower in omega arith)
+        | inr higher ↦ omega arith
+      ],
+    )
+
+-- the name's next word, or the next candidate
+pub name_fewer : (call : Call) (hold : Hold) (directory : Directory) (left slot k word : ℕ) → call.view.layout.slots ≤ 64
+    → IsComparing call.view.layout.slots directory.bitmap left slot → k < 3
+    → GoesBelow {A = Looked} lookup_left (3 * (call.view.layout.slots - slot) + 1 - k) (saw_name call hold directory left slot k word)
+name_fewer call hold directory left slot k word limit comparing small =
+    let slots = call.view.layout.slots in
+    let bound = 3 * (slots - slot) + 1 - k in
+    let within : slot < slots = comparing_within slots directory.bitmap left slot comparing in
+    elim (word == get_or call.name k 0) as (λ b. GoesBelow {A = Looked} lookup_left bound (cond b
+    (cond (ltb (k + 1) 3) (Go (record { call = call; at = look.Name hold directory left slot (k + 1) })) (Go (record { call = call; at = look.Value hold directory slot })))
+    (next_candidate call hold directory (without_live left slot)))) [
+      | true ↦ elim (ltb (k + 1) 3) as (λ b. ltb (k + 1) 3 ≡ b → GoesBelow {A = Looked} lookup_left bound (cond b
+          (Go (record { call = call; at = look.Name hold directory left slot (k + 1) })) (Go (record { call = call; at = look.Value hold directory slot })))) [
+            | true ↦ λ is. let more : k + 1 < 3 = ltb-true _ _ is in omega arith
+            | false ↦ λ is. omega arith
+          ] refl
+      | false ↦ elim (lowest_live (without_live left slot)) as (λ o. lowest_live (without_live left slot) ≡ o → GoesBelow {A = Looked} lookup_left bound (candidate_turned call hold directory (without_live left slot) o)) [
+        | None ↦ λ is. tt
+        | Some next ↦ λ is. let higher : slot < next = (next_higher slots directory.bitmap left slot next limit comparing is).1 in omega arith
+      ] refl
+    ]
+
+pub name_goes_below : (call : Call) (at : LookupAt) (hold : Hold) (directory : Directory) (left slot k word : ℕ) (turn : Turn Lookup Looked) → at ≡ look.Name hold directory left slot k
+    → turn ≡ saw_name call hold directory left slot k word → call.view.layout.slots ≤ 64 → IsComparing call.view.layout.slots directory.bitmap left slot → k < 3
+    → GoesBelow {A = Looked} lookup_left (lookup_at_left call.view.layout.slots at) turn
+name_goes_below call at hold directory left slot k word turn is turned limit comparing small =
+    subst (λ (a : LookupAt). GoesBelow {A = Looked} lookup_left (lookup_at_left call.view.layout.slots a) turn) (sym is)
+    (subst (GoesBelow {A = Looked} lookup_left (3 * (call.view.layout.slots - slot) + 1 - k)) (sym turned) (name_fewer call hold directory left slot k word limit comparing small))
+
+-- a look-up has an action left
+pub lookup_left_some : (lookup : Lookup) → IsLookup lookup → 0 < lookup_left lookup
+lookup_left_some lookup sound = at lookup.call lookup.at sound.here
+  where
+    at : (call : Call) (at : LookupAt) → IsLookupAt call at → 0 < lookup_at_left call.view.layout.slots at
+    at call look.Version sound = omega arith
+    at call (look.Lock version locked) sound = omega arith
+    at call (look.Clock locked) sound = omega arith
+    at call (look.Spent hold) sound = omega arith
+    at call (look.Bitmap hold) sound = omega arith
+    at call (look.Prints hold bitmap prints k) sound = let small : k < 8 = sound.2 in omega arith
+    at call (look.Name hold directory left slot k) sound =
+        let within : slot < call.view.layout.slots = comparing_within call.view.layout.slots directory.bitmap left slot sound.2 in let small : k < 3 = sound.3 in omega arith
+    at call (look.Value hold directory slot) sound = omega arith
+
+-- what is left once the bitmap is stored
+pub filled_fewer : (fill : Fill) (got : ℕ) (finish : Finish) → Done finish ≡ fill_turned fill got → finish_left finish < fill_left fill + 18
+filled_fewer fill got finish is = at fill.at is
+  where
+    slot_goes_on : (o : Option Fence) → Done finish ≡ slot_fenced fill o → ⊥
+    slot_goes_on (Some fence) is = cc
+    slot_goes_on None is = cc
+
+    print_goes_on : (o : Option Fence) → Done finish ≡ print_fenced fill o → ⊥
+    print_goes_on (Some fence) is = cc
+    print_goes_on None is = cc
+
+    at : (at : FillAt) → Done finish ≡ fill_at_turned fill at got → finish_left finish < fill_at_left at + 18
+    at (fill_at.Word k) is = absurd (elim (ltb (k + 1) 4) as (λ b. Done finish ≡ cond b (Go (record fill { at = fill_at.Word (k + 1) })) (Go (record fill { at = fill_at.Print })) → ⊥) [ true ↦ λ e. cc | false ↦ λ e. cc ] is)
+    at fill_at.Print is = absurd (cc)
+    at (fill_at.FenceSlot fence) is = absurd (slot_goes_on (fence_next fence got) is)
+    at (fill_at.FencePrint fence) is = absurd (print_goes_on (fence_next fence got) is)
+    at fill_at.Bitmap is = let same : finish ≡ filled fill = cc in subst (λ (f : Finish). finish_left f < 19) (sym same) (omega arith)

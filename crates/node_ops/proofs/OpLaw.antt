@@ -1,0 +1,249 @@
+-- A call stays one of its op, and makes no other change than the op's.
+use Rattle.std.proofs.Common.{◌≡◌, ℕ, ◌+◌, Bool, true, false, cond, ltb, List, Option, Some, None, IfSome, refl, sym, subst, ap, ◌∙◌}
+use Rattle.pm_words.specs.declared.layout.Layout.{Layout}
+use Rattle.pm_words.specs.declared.machine.Turn.{Turn}
+use Rattle.pm_words.specs.declared.machine.Turn.TheVariants.{Go, Done}
+use Rattle.cat_history.specs.declared.op.Op.{Op}
+use Rattle.cat_history.specs.declared.op.Op.TheVariants as op
+use Rattle.cat_history.specs.declared.op.Change.{Change}
+use Rattle.cat_history.specs.declared.op.Change.TheVariants as change
+use Rattle.data_node.specs.Bits.{lowest_clear}
+use Rattle.call_stages.specs.declared.once.Once.{Once}
+use Rattle.call_stages.specs.declared.once.Placed.{Placed}
+use Rattle.call_stages.specs.Stages.{Holds, counted}
+use Rattle.call_stages.specs.Kinds.{Told}
+use Rattle.node_ops.specs.declared.call.Call.{Call}
+use Rattle.node_ops.specs.declared.lookup.Found.{Found}
+use Rattle.node_ops.specs.declared.lookup.Hit.{Hit}
+use Rattle.node_ops.specs.declared.lookup.Looked.{Looked}
+use Rattle.node_ops.specs.declared.lookup.Looked.TheVariants as looked
+use Rattle.node_ops.specs.declared.lookup.Lookup.{Lookup}
+use Rattle.node_ops.specs.declared.lookup.LookupAt.{LookupAt}
+use Rattle.node_ops.specs.declared.lookup.LookupAt.TheVariants as look
+use Rattle.node_ops.specs.declared.fence.Fence.{Fence}
+use Rattle.node_ops.specs.declared.fill.Fill.{Fill}
+use Rattle.node_ops.specs.declared.fill.FillAt.{FillAt}
+use Rattle.node_ops.specs.declared.fill.FillAt.TheVariants as fill_at
+use Rattle.node_ops.specs.declared.finish.Finish.{Finish}
+use Rattle.node_ops.specs.declared.finish.FinishAt.{FinishAt}
+use Rattle.node_ops.specs.declared.finish.FinishAt.TheVariants as finish_at
+use Rattle.node_ops.specs.declared.get.Get.{Get}
+use Rattle.node_ops.specs.declared.get.Get.TheVariants as get
+use Rattle.node_ops.specs.declared.put.Put.{Put}
+use Rattle.node_ops.specs.declared.put.Put.TheVariants as put
+use Rattle.node_ops.specs.declared.del.Del.{Del}
+use Rattle.node_ops.specs.declared.del.Del.TheVariants as del
+use Rattle.node_ops.specs.declared.running.Running.{Running}
+use Rattle.node_ops.specs.declared.running.Running.TheVariants.{Getting, Putting, Deleting}
+use Rattle.node_ops.specs.Calls.{name_in}
+use Rattle.node_ops.specs.FenceSteps.{fence_next}
+use Rattle.node_ops.specs.LookupSteps.{lookup_turned}
+use Rattle.node_ops.specs.FinishSteps.{finish_turned, finish_at_turned, finish_fenced}
+use Rattle.node_ops.specs.FillSteps.{fill_turned, fill_at_turned, slot_fenced, print_fenced}
+use Rattle.node_ops.specs.GetSteps.{IsGet, get_call, get_turned}
+use Rattle.node_ops.specs.PutSteps.{IsPut, put_call, put_turned, put_looked, put_into, put_full, put_filled, put_finished}
+use Rattle.node_ops.specs.DelSteps.{IsDel, del_call, del_turned, del_looked, del_hit, del_finished}
+use Rattle.node_ops.specs.RunningSteps.{running_call, running_asks, running_turned, wrapped, Sound, IsRunning}
+use Rattle.node_ops.specs.CallStages.{stage_of, lookup_at_stage, finish_at_held, change_of}
+use Rattle.node_ops.specs.Asked.{Gives, TakesOut, IsOf, IsOfAfter, IsAbout, name_asked, change_asked}
+use Rattle.node_ops.specs.Laws.{TurnsKeepOp, CountsOwnChange, HoldsOwnName}
+use Rattle.node_ops.proofs.CallSound.{Stays, get_stays, put_stays, del_stays}
+
+-- what a finish leaves under the name is the same after a turn
+abbrev NewAfter : Option ℕ → Turn Finish (Once Placed) → Type 0
+NewAfter new (Go finish) = finish.new ≡ new
+NewAfter new (Done answer) = Unit {0}
+
+finish_keeps : (finish : Finish) (x : ℕ) → NewAfter finish.new (finish_turned finish x)
+finish_keeps finish x = at finish.at
+  where
+    fenced : (o : Option Fence) → NewAfter finish.new (finish_fenced finish o)
+    fenced (Some fence) = refl
+    fenced None = refl
+
+    at : (at : FinishAt) → NewAfter finish.new (finish_at_turned finish at x)
+    at (finish_at.Fence fence) = fenced (fence_next fence x)
+    at finish_at.Add = refl
+    at (finish_at.Unlock place) = tt
+
+abbrev ValueAfter : ℕ → Turn Fill Finish → Type 0
+ValueAfter value (Go fill) = fill.value ≡ value
+ValueAfter value (Done finish) = finish.new ≡ Some value
+
+fill_keeps : (fill : Fill) (x : ℕ) → ValueAfter fill.value (fill_turned fill x)
+fill_keeps fill x = at fill.at
+  where
+    slot_fence : (o : Option Fence) → ValueAfter fill.value (slot_fenced fill o)
+    slot_fence (Some fence) = refl
+    slot_fence None = refl
+
+    print_fence : (o : Option Fence) → ValueAfter fill.value (print_fenced fill o)
+    print_fence (Some fence) = refl
+    print_fence None = refl
+
+    at : (at : FillAt) → ValueAfter fill.value (fill_at_turned fill at x)
+    at (fill_at.Word k) = elim (ltb (k + 1) 4) as (λ b. ValueAfter fill.value (cond b (Go (record fill { at = fill_at.Word (k + 1) })) (Go (record fill { at = fill_at.Print })))) [ true ↦ refl | false ↦ refl ]
+    at fill_at.Print = refl
+    at (fill_at.FenceSlot fence) = slot_fence (fence_next fence x)
+    at (fill_at.FencePrint fence) = print_fence (fence_next fence x)
+    at fill_at.Bitmap = refl
+
+abbrev GivesAfter : ℕ → Turn Put (Once Placed) → Type 0
+GivesAfter value (Go put) = Gives value put
+GivesAfter value (Done answer) = Unit {0}
+
+put_keeps : (value : ℕ) (put : Put) (x : ℕ) → Gives value put → GivesAfter value (put_turned put x)
+put_keeps value (put.Looking lookup number) x is = at (lookup_turned lookup x)
+  where
+    full : (found : Found) (hit : Option Hit) → Gives value (put_full lookup.call found.hold found.directory.bitmap hit number)
+    full found (Some hit) = is
+    full found None = tt
+
+    into : (found : Found) (clear : Option ℕ) → Gives value (put_into lookup.call found number clear)
+    into found (Some slot) = is
+    into found None = full found found.hit
+
+    at : (turn : Turn Lookup Looked) → GivesAfter value (put_looked lookup.call number turn)
+    at (Go next) = is
+    at (Done (looked.Early answer)) = tt
+    at (Done (looked.Found found)) = into found (lowest_clear found.directory.bitmap lookup.call.view.layout.slots)
+put_keeps value (put.Filling fill) x is = at (fill_turned fill x) (fill_keeps fill x)
+  where
+    at : (turn : Turn Fill Finish) → ValueAfter fill.value turn → GivesAfter value (put_filled turn)
+    at (Go next) same = same ∙ is
+    at (Done finish) same = same ∙ ap Some is
+put_keeps value (put.Replacing call hold bitmap hit number) x is = ap Some is
+put_keeps value (put.Finishing finish) x is = at (finish_turned finish x) (finish_keeps finish x)
+  where
+    at : (turn : Turn Finish (Once Placed)) → NewAfter finish.new turn → GivesAfter value (put_finished turn)
+    at (Go next) same = same ∙ is
+    at (Done answer) same = tt
+put_keeps value (put.Refusing call hold bitmap) x is = tt
+
+abbrev TakesOutAfter : Turn Del (Once Placed) → Type 0
+TakesOutAfter (Go del) = TakesOut del
+TakesOutAfter (Done answer) = Unit {0}
+
+del_keeps : (del : Del) (x : ℕ) → TakesOut del → TakesOutAfter (del_turned del x)
+del_keeps (del.Looking lookup) x is = at (lookup_turned lookup x)
+  where
+    hit : (found : Found) (hit : Option Hit) → TakesOut (del_hit lookup.call found.hold found.directory.bitmap hit)
+    hit found (Some h) = tt
+    hit found None = refl
+
+    at : (turn : Turn Lookup Looked) → TakesOutAfter (del_looked lookup.call turn)
+    at (Go next) = tt
+    at (Done (looked.Early answer)) = tt
+    at (Done (looked.Found found)) = hit found found.hit
+del_keeps (del.Clearing call hold bitmap hit) x is = refl
+del_keeps (del.Finishing finish) x is = at (finish_turned finish x) (finish_keeps finish x)
+  where
+    at : (turn : Turn Finish (Once Placed)) → NewAfter finish.new turn → TakesOutAfter (del_finished turn)
+    at (Go next) same = same ∙ is
+    at (Done answer) same = tt
+
+get_of : (name : List ℕ) (call : Call) (turn : Turn Get (Once Placed)) → name_in call ≡ name → Stays IsGet get_call call turn → IsOfAfter (op.Get name) (wrapped Getting turn)
+get_of name call (Go get) is stays = ap name_in stays.1 ∙ is
+get_of name call (Done answer) is stays = tt
+
+put_of : (name : List ℕ) (value : ℕ) (call : Call) (turn : Turn Put (Once Placed)) → name_in call ≡ name → Stays IsPut put_call call turn → GivesAfter value turn
+    → IsOfAfter (op.Put name value) (wrapped Putting turn)
+put_of name value call (Go put) is stays gives = (ap name_in stays.1 ∙ is, gives)
+put_of name value call (Done answer) is stays gives = tt
+
+del_of : (name : List ℕ) (call : Call) (turn : Turn Del (Once Placed)) → name_in call ≡ name → Stays IsDel del_call call turn → TakesOutAfter turn → IsOfAfter (op.Del name) (wrapped Deleting turn)
+del_of name call (Go del) is stays out = (ap name_in stays.1 ∙ is, out)
+del_of name call (Done answer) is stays out = tt
+
+own_keep : (op : Op) (running : Running) (x : ℕ) → IsRunning running → Told (running_call running).view.layout (running_call running).view.generation (running_asks running) x → IsOf op running
+    → IsOfAfter op (running_turned running x)
+own_keep (op.Get name) (Getting get) x sound told is = get_of name (get_call get) (get_turned get x) is (get_stays get x sound told)
+own_keep (op.Get name) (Putting put) x sound told is = absurd is
+own_keep (op.Get name) (Deleting del) x sound told is = absurd is
+own_keep (op.Put name value) (Getting get) x sound told is = absurd is
+own_keep (op.Put name value) (Putting put) x sound told is = put_of name value (put_call put) (put_turned put x) is.0 (put_stays put x sound told) (put_keeps value put x is.1)
+own_keep (op.Put name value) (Deleting del) x sound told is = absurd is
+own_keep (op.Del name) (Getting get) x sound told is = absurd is
+own_keep (op.Del name) (Putting put) x sound told is = absurd is
+own_keep (op.Del name) (Deleting del) x sound told is = del_of name (del_call del) (del_turned del x) is.0 (del_stays del x sound told) (del_keeps del x is.1)
+
+pub turns_keep_op : TurnsKeepOp
+turns_keep_op l g op running x sound told is =
+    let at_generation = subst (λ (n : ℕ). Told l n (running_asks running) x) (sym sound.generation) told in
+    own_keep op running x sound.here (subst (λ (k : Layout). Told k (running_call running).view.generation (running_asks running) x) (sym sound.layout) at_generation) is
+
+-- a look-up counts nothing, and holds its node for its call's name
+lookup_counts : (call : Call) (at : LookupAt) → counted (lookup_at_stage call at) ≡ None
+lookup_counts call look.Version = refl
+lookup_counts call (look.Lock version locked) = refl
+lookup_counts call (look.Clock locked) = refl
+lookup_counts call (look.Spent hold) = refl
+lookup_counts call (look.Bitmap hold) = refl
+lookup_counts call (look.Prints hold bitmap prints k) = refl
+lookup_counts call (look.Name hold directory left slot k) = refl
+lookup_counts call (look.Value hold directory slot) = refl
+
+lookup_about : (call : Call) (at : LookupAt) → IsAbout (name_in call) (lookup_at_stage call at)
+lookup_about call look.Version = tt
+lookup_about call (look.Lock version locked) = tt
+lookup_about call (look.Clock locked) = refl
+lookup_about call (look.Spent hold) = refl
+lookup_about call (look.Bitmap hold) = refl
+lookup_about call (look.Prints hold bitmap prints k) = refl
+lookup_about call (look.Name hold directory left slot k) = refl
+lookup_about call (look.Value hold directory slot) = refl
+
+counts_nothing : (P : Change → Type 0) (o : Option Change) → o ≡ None → IfSome o P
+counts_nothing P o is = subst (λ (c : Option Change). IfSome c P) (sym is) tt
+
+finish_counts : (P : Change → Type 0) (finish : Finish) (at : FinishAt) → P (change_of (name_in finish.call) finish.new) → IfSome (counted (Holds finish.call.node finish.hold.locked (finish_at_held finish at))) P
+finish_counts P finish (finish_at.Fence fence) holds = tt
+finish_counts P finish finish_at.Add holds = holds
+finish_counts P finish (finish_at.Unlock place) holds = tt
+
+finish_about : (finish : Finish) (at : FinishAt) → IsAbout (name_in finish.call) (Holds finish.call.node finish.hold.locked (finish_at_held finish at))
+finish_about finish (finish_at.Fence fence) = refl
+finish_about finish finish_at.Add = refl
+finish_about finish (finish_at.Unlock place) = refl
+
+pub counts_own_change : CountsOwnChange
+counts_own_change (op.Get name) (Getting (get.Looking lookup)) is = counts_nothing _ _ (lookup_counts lookup.call lookup.at)
+counts_own_change (op.Get name) (Getting (get.Unlocking call hold old)) is = tt
+counts_own_change (op.Get name) (Putting put) is = absurd is
+counts_own_change (op.Get name) (Deleting del) is = absurd is
+counts_own_change (op.Put name value) (Getting get) is = absurd is
+counts_own_change (op.Put name value) (Putting (put.Looking lookup number)) is = counts_nothing _ _ (lookup_counts lookup.call lookup.at)
+counts_own_change (op.Put name value) (Putting (put.Filling fill)) is = tt
+counts_own_change (op.Put name value) (Putting (put.Replacing call hold bitmap hit number)) is = tt
+counts_own_change (op.Put name value) (Putting (put.Finishing finish)) is =
+    finish_counts (λ c. Some (change.Put name value) ≡ Some c) finish finish.at
+    (ap Some (sym (ap (λ (n : Option ℕ). change_of (name_in finish.call) n) is.1 ∙ ap (λ (n : List ℕ). change.Put n value) is.0)))
+counts_own_change (op.Put name value) (Putting (put.Refusing call hold bitmap)) is = tt
+counts_own_change (op.Put name value) (Deleting del) is = absurd is
+counts_own_change (op.Del name) (Getting get) is = absurd is
+counts_own_change (op.Del name) (Putting put) is = absurd is
+counts_own_change (op.Del name) (Deleting (del.Looking lookup)) is = counts_nothing _ _ (lookup_counts lookup.call lookup.at)
+counts_own_change (op.Del name) (Deleting (del.Clearing call hold bitmap hit)) is = tt
+counts_own_change (op.Del name) (Deleting (del.Finishing finish)) is =
+    finish_counts (λ c. Some (change.Del name) ≡ Some c) finish finish.at
+    (ap Some (sym (ap (λ (n : Option ℕ). change_of (name_in finish.call) n) is.1 ∙ ap (λ (n : List ℕ). change.Del n) is.0)))
+
+pub holds_own_name : HoldsOwnName
+holds_own_name (op.Get name) (Getting (get.Looking lookup)) is = subst (λ n. IsAbout n (lookup_at_stage lookup.call lookup.at)) is (lookup_about lookup.call lookup.at)
+holds_own_name (op.Get name) (Getting (get.Unlocking call hold old)) is = is
+holds_own_name (op.Get name) (Putting put) is = absurd is
+holds_own_name (op.Get name) (Deleting del) is = absurd is
+holds_own_name (op.Put name value) (Getting get) is = absurd is
+holds_own_name (op.Put name value) (Putting (put.Looking lookup number)) is = subst (λ n. IsAbout n (lookup_at_stage lookup.call lookup.at)) is.0 (lookup_about lookup.call lookup.at)
+holds_own_name (op.Put name value) (Putting (put.Filling fill)) is = is.0
+holds_own_name (op.Put name value) (Putting (put.Replacing call hold bitmap hit number)) is = is.0
+holds_own_name (op.Put name value) (Putting (put.Finishing finish)) is =
+    subst (λ n. IsAbout n (Holds finish.call.node finish.hold.locked (finish_at_held finish finish.at))) is.0 (finish_about finish finish.at)
+holds_own_name (op.Put name value) (Putting (put.Refusing call hold bitmap)) is = is.0
+holds_own_name (op.Put name value) (Deleting del) is = absurd is
+holds_own_name (op.Del name) (Getting get) is = absurd is
+holds_own_name (op.Del name) (Putting put) is = absurd is
+holds_own_name (op.Del name) (Deleting (del.Looking lookup)) is = subst (λ n. IsAbout n (lookup_at_stage lookup.call lookup.at)) is.0 (lookup_about lookup.call lookup.at)
+holds_own_name (op.Del name) (Deleting (del.Clearing call hold bitmap hit)) is = is.0
+holds_own_name (op.Del name) (Deleting (del.Finishing finish)) is =
+    subst (λ n. IsAbout n (Holds finish.call.node finish.hold.locked (finish_at_held finish finish.at))) is.0 (finish_about finish finish.at)

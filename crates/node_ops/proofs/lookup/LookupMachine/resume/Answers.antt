@@ -1,0 +1,17 @@
+use Rattle.std.proofs.Common.{◌<◌, ◌≤◌, subst, arith}
+use Rattle.node_ops.specs.LookupSteps.{IsLookupAt}
+use Rattle.node_ops.proofs.Measures.{comparing_within, name_goes_below}
+use Rattle.node_ops.proofs.lookup.LookupMachine.resume.Goals as goal
+
+pub saw_name-requires-clause-slot : goal.saw_name-requires-clause-slot
+saw_name-requires-clause-slot c =
+    let here = subst (IsLookupAt c.args.self.call) c.in-Name.is c.requires.0.here in
+    let within : c.in-Name.slot < c.args.self.call.view.layout.slots = comparing_within _ _ _ _ here.2 in
+    let limit : c.args.self.call.view.layout.slots ≤ 64 = c.requires.0.call.view.layout.slots.1 in
+    omega arith
+
+pub returns-in-Name-clause-fewer : goal.returns-in-Name-clause-fewer
+returns-in-Name-clause-fewer c =
+    let here = subst (IsLookupAt c.args.self.call) c.in-Name.is c.requires.0.here in
+    name_goes_below c.args.self.call c.args.self.at c.in-Name.hold c.in-Name.directory c.in-Name.left c.in-Name.slot c.in-Name.at c.args.got c.saw_name.result c.in-Name.is
+    c.saw_name.ensures c.requires.0.call.view.layout.slots.1 here.2 here.3

@@ -1,0 +1,63 @@
+-- Which op a call in flight is of.
+use Rattle.std.specs.Prelude.{◌≡◌, ℕ, List, Option, Some, None}
+use Rattle.pm_words.specs.declared.machine.Turn.{Turn}
+use Rattle.pm_words.specs.declared.machine.Turn.TheVariants.{Go, Done}
+use Rattle.cat_history.specs.declared.op.Op.{Op}
+use Rattle.cat_history.specs.declared.op.Op.TheVariants as op
+use Rattle.cat_history.specs.declared.op.Change.{Change}
+use Rattle.cat_history.specs.declared.op.Change.TheVariants as change
+use Rattle.call_stages.specs.declared.once.Once.{Once}
+use Rattle.call_stages.specs.declared.once.Placed.{Placed}
+use Rattle.call_stages.specs.Stages.{Stage, Idle, Saw, Holds}
+use Rattle.node_ops.specs.declared.put.Put.{Put}
+use Rattle.node_ops.specs.declared.put.Put.TheVariants as put
+use Rattle.node_ops.specs.declared.del.Del.{Del}
+use Rattle.node_ops.specs.declared.del.Del.TheVariants as del
+use Rattle.node_ops.specs.declared.running.Running.{Running}
+use Rattle.node_ops.specs.declared.running.Running.TheVariants.{Getting, Putting, Deleting}
+use Rattle.node_ops.specs.Calls.{name_in}
+use Rattle.node_ops.specs.GetSteps.{get_call}
+use Rattle.node_ops.specs.PutSteps.{put_call}
+use Rattle.node_ops.specs.DelSteps.{del_call}
+
+-- the name that an op is about
+abbrev pub name_asked : Op → List ℕ
+name_asked (op.Put name value) = name
+name_asked (op.Get name) = name
+name_asked (op.Del name) = name
+
+-- the change that an op makes, if it makes one
+abbrev pub change_asked : Op → Option Change
+change_asked (op.Put name value) = Some (change.Put name value)
+change_asked (op.Get name) = None
+change_asked (op.Del name) = Some (change.Del name)
+
+-- the put gives this value; one that gives its node back unchanged may have been of any
+abbrev pub Gives : ℕ → Put → Type 0
+Gives value (put.Looking lookup number) = number ≡ value
+Gives value (put.Filling fill) = fill.value ≡ value
+Gives value (put.Replacing call hold bitmap hit number) = number ≡ value
+Gives value (put.Finishing finish) = finish.new ≡ Some value
+Gives value (put.Refusing call hold bitmap) = Unit {0}
+
+-- the delete leaves no value
+abbrev pub TakesOut : Del → Type 0
+TakesOut (del.Looking lookup) = Unit {0}
+TakesOut (del.Clearing call hold bitmap hit) = Unit {0}
+TakesOut (del.Finishing finish) = finish.new ≡ None
+
+abbrev pub IsOf : Op → Running → Type 0
+IsOf (op.Get name) (Getting get) = name_in (get_call get) ≡ name
+IsOf (op.Put name value) (Putting put) = (name_in (put_call put) ≡ name) × Gives value put
+IsOf (op.Del name) (Deleting del) = (name_in (del_call del) ≡ name) × TakesOut del
+IsOf _ _ = ⊥
+
+abbrev pub IsOfAfter : Op → Turn Running (Once Placed) → Type 0
+IsOfAfter op (Go running) = IsOf op running
+IsOfAfter op (Done answer) = Unit {0}
+
+-- what is held is held for this name
+abbrev pub IsAbout : List ℕ → Stage → Type 0
+IsAbout name Idle = Unit {0}
+IsAbout name (Saw n v w) = Unit {0}
+IsAbout name (Holds n w h) = h.name ≡ name

@@ -1,0 +1,155 @@
+-- What a call in flight has and knows of its node.
+use Rattle.std.specs.Prelude.{ℕ, ◌+◌, List, [], ◌∷◌, ◌++◌, take, Bool, true, false, Option, Some, None}
+use Rattle.pm_words.specs.declared.machine.Turn.{Turn}
+use Rattle.pm_words.specs.declared.machine.Turn.TheVariants.{Go, Done}
+use Rattle.pm_words.specs.declared.layout.Layout.{Layout}
+use Rattle.cat_history.specs.declared.op.Change.{Change}
+use Rattle.cat_history.specs.declared.op.Change.TheVariants as change
+use Rattle.data_node.specs.Bits.{printed}
+use Rattle.data_node.specs.Spots.{bitmap_offset, print_offset, slot_offset}
+use Rattle.call_stages.specs.declared.once.Once.{Once}
+use Rattle.call_stages.specs.declared.once.Placed.{Placed}
+use Rattle.call_stages.specs.Stages.{Known, Held, Stage, Idle, Saw, Holds, just_held}
+use Rattle.node_ops.specs.declared.call.Call.{Call}
+use Rattle.node_ops.specs.declared.lookup.Hold.{Hold}
+use Rattle.node_ops.specs.declared.lookup.Hit.{Hit}
+use Rattle.node_ops.specs.declared.lookup.LookupAt.{LookupAt}
+use Rattle.node_ops.specs.declared.lookup.LookupAt.TheVariants as look
+use Rattle.node_ops.specs.declared.lookup.Lookup.{Lookup}
+use Rattle.node_ops.specs.declared.fill.Fill.{Fill}
+use Rattle.node_ops.specs.declared.fill.FillAt.{FillAt}
+use Rattle.node_ops.specs.declared.fill.FillAt.TheVariants as fill_at
+use Rattle.node_ops.specs.declared.finish.Finish.{Finish}
+use Rattle.node_ops.specs.declared.finish.FinishAt.{FinishAt}
+use Rattle.node_ops.specs.declared.finish.FinishAt.TheVariants as finish_at
+use Rattle.node_ops.specs.declared.get.Get.{Get}
+use Rattle.node_ops.specs.declared.get.Get.TheVariants as get
+use Rattle.node_ops.specs.declared.put.Put.{Put}
+use Rattle.node_ops.specs.declared.put.Put.TheVariants as put
+use Rattle.node_ops.specs.declared.del.Del.{Del}
+use Rattle.node_ops.specs.declared.del.Del.TheVariants as del
+use Rattle.node_ops.specs.declared.running.Running.{Running}
+use Rattle.node_ops.specs.declared.running.Running.TheVariants.{Getting, Putting, Deleting}
+use Rattle.node_ops.specs.Calls.{name_in}
+use Rattle.node_ops.specs.LookupSteps.{value_of}
+use Rattle.node_ops.specs.RunningSteps.{Sound}
+
+-- words that stand one behind another, the first at this offset
+abbrev pub words_from : ℕ → List ℕ → List (ℕ × ℕ)
+words_from offset [] = []
+words_from offset (word ∷ words) = (offset, word) ∷ words_from (offset + 1) words
+
+-- nothing of the node's words is relied on
+abbrev pub nothing : Known
+nothing = record { seen = []; left = None }
+
+-- these words are relied on
+abbrev pub knows : List (ℕ × ℕ) → Known
+knows seen = record { seen = seen; left = None }
+
+-- the bitmap, and the name's words in the slot that has it
+abbrev pub seen_hit : Call → ℕ → Option Hit → List (ℕ × ℕ)
+seen_hit call bitmap None = (bitmap_offset, bitmap) ∷ []
+seen_hit call bitmap (Some hit) = (bitmap_offset, bitmap) ∷ words_from (slot_offset hit.slot 0) call.name
+
+-- the node is held, with the clock loaded and below the limit
+abbrev pub timed : Call → Hold → Known → Held
+timed call hold known = record { name = name_in call; limit = call.limit; known = known; time = Some hold.clock; old = None; pending = None; ready = false; placed = None }
+
+-- and it is known what the name has
+abbrev pub decided : Call → Hold → Option ℕ → Known → Held
+decided call hold old known = record { name = name_in call; limit = call.limit; known = known; time = Some hold.clock; old = Some old; pending = None; ready = false; placed = None }
+
+-- and the node's words show this change
+abbrev pub changes : Call → Hold → Option ℕ → Change → Bool → Held
+changes call hold old change ready =
+    record { name = name_in call; limit = call.limit; known = nothing; time = Some hold.clock; old = Some old; pending = Some change; ready = ready; placed = None }
+
+-- and the change has its place
+abbrev pub has_place : Call → Option ℕ → ℕ → Held
+has_place call old place = record { name = name_in call; limit = call.limit; known = nothing; time = None; old = Some old; pending = None; ready = false; placed = Some place }
+
+abbrev pub lookup_at_stage : Call → LookupAt → Stage
+lookup_at_stage call look.Version = Idle
+lookup_at_stage call (look.Lock version locked) = Saw call.node version locked
+lookup_at_stage call (look.Clock locked) = Holds call.node locked (just_held (name_in call))
+lookup_at_stage call (look.Spent hold) = Holds call.node hold.locked (record (just_held (name_in call)) { time = Some hold.clock })
+lookup_at_stage call (look.Bitmap hold) = Holds call.node hold.locked (timed call hold nothing)
+lookup_at_stage call (look.Prints hold bitmap prints k) =
+    Holds call.node hold.locked (timed call hold (knows ((bitmap_offset, bitmap) ∷ words_from 8 (take k prints))))
+lookup_at_stage call (look.Name hold directory left slot k) =
+    Holds call.node hold.locked (timed call hold (record {
+      seen = (bitmap_offset, directory.bitmap) ∷ (words_from 8 directory.prints ++ words_from (slot_offset slot 0) (take k call.name));
+      left = Some left;
+    }))
+lookup_at_stage call (look.Value hold directory slot) =
+    Holds call.node hold.locked (timed call hold (knows ((bitmap_offset, directory.bitmap) ∷ (words_from 8 directory.prints ++ words_from (slot_offset slot 0) call.name))))
+
+abbrev pub lookup_stage : Lookup → Stage
+lookup_stage lookup = lookup_at_stage lookup.call lookup.at
+
+-- the words that a put has stored in its slot
+abbrev pub pair_words : Fill → List ℕ
+pair_words fill = fill.call.name ++ fill.value ∷ []
+
+-- the bitmap, the word with the slot's fingerprint, where the name was, and the words stored in the slot
+abbrev pub seen_fill : Fill → ℕ → ℕ → List (ℕ × ℕ)
+seen_fill fill prints count =
+    (print_offset fill.slot, prints) ∷ (seen_hit fill.call fill.bitmap fill.hit ++ words_from (slot_offset fill.slot 0) (take count (pair_words fill)))
+
+abbrev pub fill_at_known : Fill → FillAt → Known
+fill_at_known fill (fill_at.Word k) = knows (seen_fill fill fill.prints k)
+fill_at_known fill fill_at.Print = knows (seen_fill fill fill.prints 4)
+fill_at_known fill (fill_at.FenceSlot fence) = knows (seen_fill fill (printed fill.prints fill.slot fill.call.print) 4)
+fill_at_known fill (fill_at.FencePrint fence) = knows (seen_fill fill (printed fill.prints fill.slot fill.call.print) 4)
+fill_at_known fill fill_at.Bitmap = knows (seen_fill fill (printed fill.prints fill.slot fill.call.print) 4)
+
+abbrev pub fill_stage : Fill → Stage
+fill_stage fill = Holds fill.call.node fill.hold.locked (decided fill.call fill.hold (value_of fill.hit) (fill_at_known fill fill.at))
+
+-- the change that a write makes: a put of this number, or a delete
+abbrev pub change_of : List ℕ → Option ℕ → Change
+change_of name (Some value) = change.Put name value
+change_of name None = change.Del name
+
+abbrev pub finish_at_held : Finish → FinishAt → Held
+finish_at_held finish (finish_at.Fence fence) = changes finish.call finish.hold finish.old (change_of (name_in finish.call) finish.new) false
+finish_at_held finish finish_at.Add = changes finish.call finish.hold finish.old (change_of (name_in finish.call) finish.new) true
+finish_at_held finish (finish_at.Unlock place) = has_place finish.call finish.old place
+
+abbrev pub finish_stage : Finish → Stage
+finish_stage finish = Holds finish.call.node finish.hold.locked (finish_at_held finish finish.at)
+
+abbrev pub get_stage : Get → Stage
+get_stage (get.Looking lookup) = lookup_stage lookup
+get_stage (get.Unlocking call hold old) = Holds call.node hold.locked (decided call hold old nothing)
+
+abbrev pub put_stage : Put → Stage
+put_stage (put.Looking lookup value) = lookup_stage lookup
+put_stage (put.Filling fill) = fill_stage fill
+put_stage (put.Replacing call hold bitmap hit value) = Holds call.node hold.locked (decided call hold (Some hit.value) (knows (seen_hit call bitmap (Some hit))))
+put_stage (put.Finishing finish) = finish_stage finish
+put_stage (put.Refusing call hold bitmap) = Holds call.node hold.locked (decided call hold None (knows ((bitmap_offset, bitmap) ∷ [])))
+
+abbrev pub del_stage : Del → Stage
+del_stage (del.Looking lookup) = lookup_stage lookup
+del_stage (del.Clearing call hold bitmap hit) = Holds call.node hold.locked (decided call hold (Some hit.value) (knows (seen_hit call bitmap (Some hit))))
+del_stage (del.Finishing finish) = finish_stage finish
+
+abbrev pub stage_of : Running → Stage
+stage_of (Getting get) = get_stage get
+stage_of (Putting put) = put_stage put
+stage_of (Deleting del) = del_stage del
+
+-- after a turn
+abbrev pub stage_after : Turn Running (Once Placed) → Stage
+stage_after (Go running) = stage_of running
+stage_after (Done answer) = Idle
+
+abbrev pub reply_of : Turn Running (Once Placed) → Option (Once Placed)
+reply_of (Go running) = None
+reply_of (Done answer) = Some answer
+
+abbrev pub SoundAfter : Layout → ℕ → Turn Running (Once Placed) → Type 0
+SoundAfter l g (Go running) = Sound l g running
+SoundAfter l g (Done answer) = Unit {0}

@@ -1,0 +1,48 @@
+-- Making a line of a node durable, word by word.
+use Rattle.std.specs.Prelude.{ℕ, ◌+◌, ◌-◌, ◌*◌, ◌/◌, ◌^◌, ◌<◌, ◌≤◌, nat_lt, if◌then◌else◌, Option, Some, None}
+use Rattle.pm_words.specs.declared.TheConstants.{LINE}
+use Rattle.pm_words.specs.declared.layout.Layout.{Layout}
+use Rattle.pm_words.specs.declared.action.Action.{Action}
+use Rattle.pm_words.specs.declared.action.Action.TheVariants.{Load, Drain}
+use Rattle.pm_words.specs.Places.{node_words}
+use Rattle.node_ops.specs.declared.call.Call.{Call}
+use Rattle.node_ops.specs.declared.fence.Fence.{Fence}
+use Rattle.node_ops.specs.declared.fence.FenceAt.{FenceAt}
+use Rattle.node_ops.specs.declared.fence.FenceAt.TheVariants as at
+use Rattle.node_ops.specs.Calls.{call_place}
+
+-- the line in which the word with this offset stands
+abbrev pub fence_of : ℕ → Fence
+fence_of offset = record { line = offset / LINE * LINE; word = 0; at = at.Load }
+
+abbrev pub IsFenceAt : FenceAt → Type 0
+IsFenceAt at.Load = Unit {0}
+IsFenceAt (at.Drain value) = value < 2 ^ 64
+
+-- the line is one of the node's
+pub record IsFence (l : Layout) (fence : Fence) : Type 0 where
+  pub within : fence.line + LINE ≤ node_words l
+  pub word : fence.word < LINE
+  pub value : IsFenceAt fence.at
+
+abbrev pub fence_at_asks : ℕ → FenceAt → Action
+fence_at_asks place at.Load = Load place
+fence_at_asks place (at.Drain value) = Drain place value
+
+abbrev pub fence_asks : Call → Fence → Action
+fence_asks call fence = fence_at_asks (call_place call (fence.line + fence.word)) fence.at
+
+abbrev pub fence_at_next : Fence → FenceAt → ℕ → Option Fence
+fence_at_next fence at.Load got = Some (record fence { at = at.Drain got })
+fence_at_next fence (at.Drain value) got = if nat_lt (fence.word + 1) LINE then Some (record fence { word = fence.word + 1; at = at.Load }) else None
+
+-- what it is once it is told a number; None where the whole line is durable
+abbrev pub fence_next : Fence → ℕ → Option Fence
+fence_next fence got = fence_at_next fence fence.at got
+
+abbrev pub fence_at_left : ℕ → FenceAt → ℕ
+fence_at_left word at.Load = 16 - 2 * word
+fence_at_left word (at.Drain value) = 15 - 2 * word
+
+abbrev pub fence_left : Fence → ℕ
+fence_left fence = fence_at_left fence.word fence.at

@@ -1,0 +1,32 @@
+-- What every turn of a sound call is and leaves. The index rests on these laws, and on nothing else of the machines.
+use Rattle.std.specs.Prelude.{◌≡◌, ℕ, Some, IfSome}
+use Rattle.pm_words.specs.declared.layout.Layout.{Layout}
+use Rattle.cat_history.specs.declared.op.Op.{Op}
+use Rattle.call_stages.specs.Stages.{counted}
+use Rattle.call_stages.specs.Kinds.{Told, Step}
+use Rattle.node_ops.specs.declared.running.Running.{Running}
+use Rattle.node_ops.specs.RunningSteps.{running_asks, running_turned, Sound}
+use Rattle.node_ops.specs.Asked.{IsOf, IsOfAfter, IsAbout, name_asked, change_asked}
+use Rattle.node_ops.specs.CallStages.{stage_of, stage_after, reply_of, SoundAfter}
+
+-- a turn is a step of a kind, with the answer of the turn
+abbrev pub TurnsAreSteps : Type 0
+TurnsAreSteps = (l : Layout) (g : ℕ) (running : Running) (x : ℕ) → Sound l g running → Told l g (running_asks running) x →
+    Step l g (stage_of running) (running_asks running) x (stage_after (running_turned running x)) (reply_of (running_turned running x))
+
+-- and leaves the call sound
+abbrev pub TurnsStaySound : Type 0
+TurnsStaySound = (l : Layout) (g : ℕ) (running : Running) (x : ℕ) → Sound l g running → Told l g (running_asks running) x → SoundAfter l g (running_turned running x)
+
+-- and a call of the same op
+abbrev pub TurnsKeepOp : Type 0
+TurnsKeepOp = (l : Layout) (g : ℕ) (op : Op) (running : Running) (x : ℕ) → Sound l g running → Told l g (running_asks running) x → IsOf op running →
+    IsOfAfter op (running_turned running x)
+
+-- what a call of an op counts is the change of that op
+abbrev pub CountsOwnChange : Type 0
+CountsOwnChange = (op : Op) (running : Running) → IsOf op running → IfSome (counted (stage_of running)) (λ change. change_asked op ≡ Some change)
+
+-- and what it holds is held for the op's name
+abbrev pub HoldsOwnName : Type 0
+HoldsOwnName = (op : Op) (running : Running) → IsOf op running → IsAbout (name_asked op) (stage_of running)

@@ -1,0 +1,12 @@
+pub mod Calls
+pub mod FenceSteps
+pub mod LookupSteps
+pub mod FinishSteps
+pub mod FillSteps
+pub mod GetSteps
+pub mod PutSteps
+pub mod DelSteps
+pub mod RunningSteps
+pub mod CallStages
+pub mod Asked
+pub mod Laws

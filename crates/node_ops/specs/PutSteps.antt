@@ -1,0 +1,126 @@
+-- A put, step by step.
+use Rattle.std.specs.Prelude.{ℕ, ◌+◌, ◌/◌, ◌^◌, ◌<◌, Option, Some, None, slice_index}
+use Rattle.pm_words.specs.declared.action.Action.{Action}
+use Rattle.pm_words.specs.declared.action.Action.TheVariants.{Store}
+use Rattle.pm_words.specs.declared.again.Again.TheVariants.{NoFree}
+use Rattle.pm_words.specs.declared.machine.Turn.{Turn}
+use Rattle.pm_words.specs.declared.machine.Turn.TheVariants.{Go, Done}
+use Rattle.data_node.specs.Slots.{AreAllLive}
+use Rattle.data_node.specs.Bits.{lowest_clear}
+use Rattle.data_node.specs.Spots.{slot_offset}
+use Rattle.call_stages.specs.declared.once.Once.{Once}
+use Rattle.call_stages.specs.declared.once.Once.TheVariants as once
+use Rattle.call_stages.specs.declared.once.Placed.{Placed}
+use Rattle.call_stages.specs.Kinds.{Told}
+use Rattle.node_ops.specs.declared.call.Call.{Call}
+use Rattle.node_ops.specs.declared.lookup.Hit.{Hit}
+use Rattle.node_ops.specs.declared.lookup.Hold.{Hold}
+use Rattle.node_ops.specs.declared.lookup.Found.{Found}
+use Rattle.node_ops.specs.declared.lookup.Looked.{Looked}
+use Rattle.node_ops.specs.declared.lookup.Looked.TheVariants as looked
+use Rattle.node_ops.specs.declared.lookup.Lookup.{Lookup}
+use Rattle.node_ops.specs.declared.finish.Finish.{Finish}
+use Rattle.node_ops.specs.declared.finish.FinishAt.TheVariants as finish_at
+use Rattle.node_ops.specs.declared.fill.Fill.{Fill}
+use Rattle.node_ops.specs.declared.fill.FillAt.TheVariants as fill_at
+use Rattle.node_ops.specs.declared.put.Put.{Put}
+use Rattle.node_ops.specs.declared.put.Put.TheVariants.{Looking, Filling, Replacing, Finishing, Refusing}
+use Rattle.node_ops.specs.Calls.{IsCall, IsLockWord, call_place}
+use Rattle.node_ops.specs.FenceSteps.{fence_of}
+use Rattle.node_ops.specs.LookupSteps.{IsHit, IsLookup, lookup_asks, lookup_turned, lookup_left}
+use Rattle.node_ops.specs.FillSteps.{IsFill, fill_asks, fill_turned, fill_left}
+use Rattle.node_ops.specs.FinishSteps.{IsFinish, finish_asks, finish_turned, finish_left}
+
+-- what stays the same while it is made
+abbrev pub put_call : Put → Call
+put_call (Looking lookup value) = lookup.call
+put_call (Filling fill) = fill.call
+put_call (Replacing call hold bitmap hit value) = call
+put_call (Finishing finish) = finish.call
+put_call (Refusing call hold bitmap) = call
+
+abbrev pub put_asks : Put → Action
+put_asks (Looking lookup value) = lookup_asks lookup
+put_asks (Filling fill) = fill_asks fill
+put_asks (Replacing call hold bitmap hit value) = Store (call_place call (slot_offset hit.slot 3)) value
+put_asks (Finishing finish) = finish_asks finish
+put_asks (Refusing call hold bitmap) = Store (call_place call 0) (hold.locked + 1)
+
+-- no slot is clear
+abbrev pub put_full : Call → Hold → ℕ → Option Hit → ℕ → Put
+put_full call hold bitmap (Some hit) value = Replacing call hold bitmap hit value
+put_full call hold bitmap None value = Refusing call hold bitmap
+
+-- the lowest clear slot takes the name, if there is one
+abbrev pub put_into : Call → Found → ℕ → Option ℕ → Put
+put_into call found value (Some slot) = Filling (record {
+  call = call;
+  hold = found.hold;
+  bitmap = found.directory.bitmap;
+  prints = slice_index found.directory.prints (slot / 8);
+  slot = slot;
+  hit = found.hit;
+  value = value;
+  at = fill_at.Word 0;
+})
+put_into call found value None = put_full call found.hold found.directory.bitmap found.hit value
+
+abbrev pub put_found : Call → Found → ℕ → Put
+put_found call found value = put_into call found value (lowest_clear found.directory.bitmap call.view.layout.slots)
+
+-- after a turn of the look-up
+abbrev pub put_looked : Call → ℕ → Turn Lookup Looked → Turn Put (Once Placed)
+put_looked call value (Go lookup) = Go (Looking lookup value)
+put_looked call value (Done (looked.Early answer)) = Done answer
+put_looked call value (Done (looked.Found found)) = Go (put_found call found value)
+
+-- after a step of the writing
+abbrev pub put_filled : Turn Fill Finish → Turn Put (Once Placed)
+put_filled (Go fill) = Go (Filling fill)
+put_filled (Done finish) = Go (Finishing finish)
+
+abbrev pub put_finished : Turn Finish (Once Placed) → Turn Put (Once Placed)
+put_finished (Go finish) = Go (Finishing finish)
+put_finished (Done answer) = Done answer
+
+-- what is left to do once the value is stored in place
+abbrev pub replaced : Call → Hold → Hit → ℕ → Finish
+replaced call hold hit value = record { call = call; hold = hold; old = Some hit.value; new = Some value; at = finish_at.Fence (fence_of (slot_offset hit.slot 3)) }
+
+abbrev pub put_turned : Put → ℕ → Turn Put (Once Placed)
+put_turned (Looking lookup value) got = put_looked lookup.call value (lookup_turned lookup got)
+put_turned (Filling fill) got = put_filled (fill_turned fill got)
+put_turned (Replacing call hold bitmap hit value) got = Go (Finishing (replaced call hold hit value))
+put_turned (Finishing finish) got = put_finished (finish_turned finish got)
+put_turned (Refusing call hold bitmap) got = Done (once.Again NoFree)
+
+-- no slot is clear, and the name is in this one
+pub record IsReplacing (of : Call) (hold : Hold) (bitmap : ℕ) (found : Hit) (number : ℕ) : Type 0 where
+  pub call : IsCall of
+  pub locked : IsLockWord hold.locked
+  pub hit : IsHit of.view.layout.slots bitmap found
+  pub value : number < 2 ^ 64
+
+-- no slot is clear, and none has the name
+pub record IsRefusing (of : Call) (hold : Hold) (bitmap : ℕ) : Type 0 where
+  pub call : IsCall of
+  pub locked : IsLockWord hold.locked
+  pub full : AreAllLive bitmap of.view.layout.slots
+
+-- what its fields keep
+abbrev pub IsPut : Put → Type 0
+IsPut (Looking lookup value) = IsLookup lookup × (value < 2 ^ 64)
+IsPut (Filling fill) = IsFill fill
+IsPut (Replacing call hold bitmap hit value) = IsReplacing call hold bitmap hit value
+IsPut (Finishing finish) = IsFinish finish
+IsPut (Refusing call hold bitmap) = IsRefusing call hold bitmap
+
+abbrev pub put_takes : Put → ℕ → Type 0
+put_takes put got = IsPut put × Told (put_call put).view.layout (put_call put).view.generation (put_asks put) got
+
+abbrev pub put_left : Put → ℕ
+put_left (Looking lookup value) = lookup_left lookup + 57
+put_left (Filling fill) = fill_left fill + 18
+put_left (Replacing call hold bitmap hit value) = 19
+put_left (Finishing finish) = finish_left finish
+put_left (Refusing call hold bitmap) = 1

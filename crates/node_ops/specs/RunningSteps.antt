@@ -1,0 +1,56 @@
+-- Any call in flight, step by step.
+use Rattle.std.specs.Prelude.{◌≡◌, ℕ}
+use Rattle.pm_words.specs.declared.action.Action.{Action}
+use Rattle.pm_words.specs.declared.machine.Turn.{Turn}
+use Rattle.pm_words.specs.declared.machine.Turn.TheVariants.{Go, Done}
+use Rattle.pm_words.specs.declared.layout.Layout.{Layout}
+use Rattle.call_stages.specs.declared.once.Once.{Once}
+use Rattle.call_stages.specs.declared.once.Placed.{Placed}
+use Rattle.call_stages.specs.Kinds.{Told}
+use Rattle.node_ops.specs.declared.call.Call.{Call}
+use Rattle.node_ops.specs.declared.running.Running.{Running}
+use Rattle.node_ops.specs.declared.running.Running.TheVariants.{Getting, Putting, Deleting}
+use Rattle.node_ops.specs.GetSteps.{IsGet, get_call, get_asks, get_turned, get_left}
+use Rattle.node_ops.specs.PutSteps.{IsPut, put_call, put_asks, put_turned, put_left}
+use Rattle.node_ops.specs.DelSteps.{IsDel, del_call, del_asks, del_turned, del_left}
+
+-- what stays the same while it is made
+abbrev pub running_call : Running → Call
+running_call (Getting get) = get_call get
+running_call (Putting put) = put_call put
+running_call (Deleting del) = del_call del
+
+abbrev pub running_asks : Running → Action
+running_asks (Getting get) = get_asks get
+running_asks (Putting put) = put_asks put
+running_asks (Deleting del) = del_asks del
+
+-- a part's turn, as the whole's
+abbrev pub wrapped : {M : Type 0} → (M → Running) → Turn M (Once Placed) → Turn Running (Once Placed)
+wrapped f (Go machine) = Go (f machine)
+wrapped f (Done answer) = Done answer
+
+abbrev pub running_turned : Running → ℕ → Turn Running (Once Placed)
+running_turned (Getting get) got = wrapped Getting (get_turned get got)
+running_turned (Putting put) got = wrapped Putting (put_turned put got)
+running_turned (Deleting del) got = wrapped Deleting (del_turned del got)
+
+-- what its fields keep
+abbrev pub IsRunning : Running → Type 0
+IsRunning (Getting get) = IsGet get
+IsRunning (Putting put) = IsPut put
+IsRunning (Deleting del) = IsDel del
+
+abbrev pub running_takes : Running → ℕ → Type 0
+running_takes running got = IsRunning running × Told (running_call running).view.layout (running_call running).view.generation (running_asks running) got
+
+abbrev pub running_left : Running → ℕ
+running_left (Getting get) = get_left get
+running_left (Putting put) = put_left put
+running_left (Deleting del) = del_left del
+
+-- a call in flight on the index of this layout, in this generation
+pub record Sound (l : Layout) (g : ℕ) (running : Running) : Type 0 where
+  pub layout : (running_call running).view.layout ≡ l
+  pub generation : (running_call running).view.generation ≡ g
+  pub here : IsRunning running

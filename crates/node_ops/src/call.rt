@@ -1,0 +1,86 @@
+ghost use Rattle.std.specs.Prelude.{◌≡◌, ◌^◌, ◌<◌, ◌≤◌, IfSome};
+ghost use Rattle.pm_words.specs.Places.{node_words};
+ghost use Rattle.data_node.specs.Spots.{slot_offset, print_offset};
+
+use cat_key::{Name, WORDS};
+use pm_words::Layout;
+use pm_words::offsets::node;
+
+/// The place of the clock, the first word of a row.
+pub(crate) const CLOCK: u64 = 0;
+
+/// What a call has of the index: its layout, the generation of this run, and the number of the caller.
+#[derive(Clone, Copy, PartialEq, Eq, Debug)]
+pub struct View {
+    pub layout: Layout,
+    pub generation: u64,
+    pub caller: u64,
+}
+
+/// What stays the same while a call is made: the node that it works on, the words and the fingerprint of its name, and
+/// the limit that the clock has to be below, if there is one.
+#[derive(Clone, Copy)]
+pub struct Call {
+    pub view: View,
+    pub node: u64,
+    pub name: [u64; WORDS],
+    pub print: u8,
+    pub limit: Option<u64>,
+}
+
+impl Call {
+    ghost use Rattle.node_ops.specs.Calls.{IsView, IsCall, call_of, call_place, name_in};
+
+    /// A call on node 0.
+    pub(crate) fn new(view: View, name: &Name, limit: Option<u64>) -> Call
+        requires view { IsView view }
+        requires limit { IfSome limit (λ most. most ≤ 2 ^ 62) }
+        ensures call { result ≡ call_of view name.now limit }
+        ensures sound { IsCall result }
+    {
+        Call {
+            view,
+            node: 0,
+            name: name.words(),
+            print: name.fingerprint(),
+            limit,
+        }
+    }
+
+    /// The name that the call is about.
+    pub(crate) fn name(&self) -> Name
+        requires { IsCall self.now }
+        ensures { result ≡ name_in self.now }
+    {
+        match Name::of_words(self.name) {
+            Some(name) => name,
+            None => unreachable!(),
+        }
+    }
+
+    /// The place of a word of its node.
+    pub(crate) fn place(&self, offset: u64) -> u64
+        requires sound { IsCall self.now }
+        requires within { offset < node_words self.now.view.layout }
+        ensures { result ≡ call_place self.now offset }
+    {
+        let layout = self.view.layout;
+        layout.cached(layout.node_word(self.node, offset))
+    }
+}
+
+/// The offset of word `k` of a slot: the words of its name are 0, 1 and 2, and its value is 3.
+pub(crate) fn slot_word(slot: u64, k: u64) -> u64
+    requires slot { slot < 64 }
+    requires word { k < 4 }
+    ensures { result ≡ slot_offset slot k }
+{
+    node::SLOTS + (WORDS as u64 + 1) * slot + k
+}
+
+/// The offset of the word with a slot's fingerprint.
+pub(crate) fn print_word(slot: u64) -> u64
+    ensures { result ≡ print_offset slot }
+{
+    node::PRINTS + slot / 8
+}

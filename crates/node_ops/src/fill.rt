@@ -1,0 +1,142 @@
+ghost use Rattle.std.specs.Prelude.{◌≡◌, ℕ};
+
+use crate::call::{Call, print_word, slot_word};
+use crate::fence::Fence;
+use crate::finish::{Finish, FinishAt};
+use crate::lookup::{Hit, Hold};
+use cat_key::WORDS;
+use data_node::{with_live, with_print, without_live};
+use pm_words::offsets::node;
+use pm_words::{Action, Machine, Turn};
+
+/// It writes the call's name with a value into a clear slot, makes it durable, and stores the one bitmap in which that
+/// slot is live and the slot that had the name before is clear.
+#[derive(Clone, Copy)]
+pub struct Fill {
+    pub call: Call,
+    pub hold: Hold,
+    pub bitmap: u64,
+    /// The word in which the slot's fingerprint stands, as it was loaded.
+    pub prints: u64,
+    pub slot: u64,
+    /// The slot that has the name so far.
+    pub hit: Option<Hit>,
+    pub value: u64,
+    pub at: FillAt,
+}
+
+#[derive(Clone, Copy)]
+pub enum FillAt {
+    /// The slot's words: the name's, then the value.
+    Word { k: u64 },
+    Print,
+    FenceSlot { fence: Fence },
+    FencePrint { fence: Fence },
+    Bitmap,
+}
+
+impl Machine for Fill {
+    ghost use Rattle.node_ops.specs.FillSteps.{IsFill, fill_asks, fill_turned, fill_takes, fill_left};
+
+    type Answer = Finish;
+
+    ghost fits = { IsFill };
+
+    ghost asks = { fill_asks };
+
+    ghost turned = { fill_turned };
+
+    ghost takes = { fill_takes };
+
+    ghost left = { fill_left };
+
+    fn action(&self) -> Action {
+        let call = &self.call;
+        match self.at {
+            FillAt::Word { k } => Action::Store(call.place(slot_word(self.slot, k)), self.word(k)),
+            FillAt::Print => Action::Store(call.place(print_word(self.slot)), self.print()),
+            FillAt::FenceSlot { fence } => fence.action(call),
+            FillAt::FencePrint { fence } => fence.action(call),
+            FillAt::Bitmap => Action::Store(call.place(node::BITMAP), self.bitmap_after()),
+        }
+    }
+
+    fn resume(self, got: u64) -> Turn<Fill, Finish> {
+        match self.at {
+            FillAt::Word { k } => {
+                if k + 1 < WORDS as u64 + 1 {
+                    self.goes_to(FillAt::Word { k: k + 1 })
+                } else {
+                    self.goes_to(FillAt::Print)
+                }
+            }
+            FillAt::Print => self.goes_to(FillAt::FenceSlot {
+                fence: Fence::of(slot_word(self.slot, 0)),
+            }),
+            FillAt::FenceSlot { fence } => match fence.next(got) {
+                Some(fence) => self.goes_to(FillAt::FenceSlot { fence }),
+                None => self.goes_to(FillAt::FencePrint {
+                    fence: Fence::of(print_word(self.slot)),
+                }),
+            },
+            FillAt::FencePrint { fence } => match fence.next(got) {
+                Some(fence) => self.goes_to(FillAt::FencePrint { fence }),
+                None => self.goes_to(FillAt::Bitmap),
+            },
+            FillAt::Bitmap => Turn::Done(Finish {
+                call: self.call,
+                hold: self.hold,
+                old: Hit::value_of(self.hit),
+                new: Some(self.value),
+                at: FinishAt::Fence {
+                    fence: Fence::of(node::BITMAP),
+                },
+            }),
+        }
+    }
+}
+
+impl Fill {
+    ghost use Rattle.std.specs.Prelude.{◌≡◌, ◌<◌, IfSome};
+    ghost use Rattle.data_node.specs.Bits.{printed};
+    ghost use Rattle.node_ops.specs.FillSteps.{fills_on, fill_word, bitmap_after};
+
+    /// It goes on there.
+    fn goes_to(self, at: FillAt) -> Turn<Fill, Finish>
+        ensures { result ≡ fills_on self at }
+    {
+        Turn::Go(Fill { at, ..self })
+    }
+
+    /// Word `k` of the slot.
+    fn word(&self, k: u64) -> u64
+        requires { k < 4 }
+        ensures { result ≡ fill_word self.now k }
+    {
+        if k < WORDS as u64 {
+            self.call.name[k as usize]
+        } else {
+            self.value
+        }
+    }
+
+    /// The word of fingerprints with that of the name in the slot's place.
+    fn print(&self) -> u64
+        ensures { result ≡ printed self.now.prints self.now.slot self.now.call.print }
+    {
+        with_print(self.prints, self.slot, self.call.print)
+    }
+
+    /// The bitmap in which the slot is live, and the one that had the name no longer is.
+    fn bitmap_after(&self) -> u64
+        requires slot { self.now.slot < 64 }
+        requires hit { IfSome self.now.hit (λ hit. hit.slot < 64) }
+        ensures { result ≡ bitmap_after self.now }
+    {
+        let kept = match self.hit {
+            Some(hit) => without_live(self.bitmap, hit.slot),
+            None => self.bitmap,
+        };
+        with_live(kept, self.slot)
+    }
+}

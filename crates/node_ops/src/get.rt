@@ -1,0 +1,85 @@
+ghost use Rattle.std.specs.Prelude.{◌≡◌, ℕ};
+
+use crate::call::{Call, View};
+use crate::lookup::{Hit, Hold, Looked, Lookup};
+use call_stages::{Once, Placed};
+use cat_key::Name;
+use pm_words::offsets::node;
+use pm_words::{Action, Machine, Turn};
+use version_lock::freed_of;
+
+/// A get: what a name has, at the clock that was loaded under the lock of its node.
+#[derive(Clone, Copy)]
+pub enum Get {
+    Looking {
+        lookup: Lookup,
+    },
+    /// It gives the node back.
+    Unlocking {
+        call: Call,
+        hold: Hold,
+        old: Option<u64>,
+    },
+}
+
+impl Get {
+    ghost use Rattle.std.specs.Prelude.{◌≡◌, None};
+    ghost use Rattle.node_ops.specs.Calls.{IsView, call_of};
+    ghost use Rattle.node_ops.specs.GetSteps.{IsGet};
+    ghost use Rattle.node_ops.specs.LookupSteps.{starts};
+
+    /// A get of this name.
+    pub fn new(view: View, name: &Name) -> Get
+        requires { IsView view }
+        ensures new { result ≡ Get.Looking (starts (call_of view name.now None)) }
+        ensures sound { IsGet result }
+    {
+        Get::Looking {
+            lookup: Lookup::new(Call::new(view, name, None)),
+        }
+    }
+}
+
+impl Machine for Get {
+    ghost use Rattle.node_ops.specs.GetSteps.{IsGet, get_asks, get_turned, get_takes, get_left};
+
+    type Answer = Once<Placed>;
+
+    ghost fits = { IsGet };
+
+    ghost asks = { get_asks };
+
+    ghost turned = { get_turned };
+
+    ghost takes = { get_takes };
+
+    ghost left = { get_left };
+
+    fn action(&self) -> Action {
+        match *self {
+            Get::Looking { lookup } => lookup.action(),
+            Get::Unlocking { call, hold, old: _ } => {
+                Action::Store(call.place(node::VERSION), freed_of(hold.locked))
+            }
+        }
+    }
+
+    fn resume(self, got: u64) -> Turn<Get, Once<Placed>> {
+        match self {
+            Get::Looking { lookup } => match lookup.resume(got) {
+                Turn::Go(lookup) => Turn::Go(Get::Looking { lookup }),
+                Turn::Done(Looked::Early(answer)) => Turn::Done(answer),
+                Turn::Done(Looked::Found(found)) => Turn::Go(Get::Unlocking {
+                    call: lookup.call,
+                    hold: found.hold,
+                    old: Hit::value_of(found.hit),
+                }),
+            },
+            Get::Unlocking { call: _, hold, old } => Turn::Done(Once::Done(Placed {
+                old,
+                place: hold.clock,
+                hops: 0,
+            })),
+        }
+    }
+}

@@ -1,0 +1,30 @@
+//! The calls on a node as machines: a get, a put and a delete that ask for one action on one word at a time.
+//!
+//! Each locks its node, loads the clock, and looks its name up. A write then stores in such an order that a crash at any
+//! moment leaves the node as it was before the call or as it is after it: what a bitmap makes live is durable before the
+//! bitmap is stored, and the bitmap before the clock counts the write.
+#![tactic(auto)]
+
+mod call;
+mod del;
+mod fence;
+mod fill;
+mod finish;
+mod get;
+pub mod laws;
+mod lookup;
+mod put;
+mod running;
+
+pub use call::{Call, View};
+pub use del::Del;
+pub use fence::{Fence, FenceAt};
+pub use fill::{Fill, FillAt};
+pub use finish::{Finish, FinishAt};
+pub use get::Get;
+pub use lookup::{Directory, Found, Hit, Hold, Looked, Lookup, LookupAt};
+pub use put::Put;
+pub use running::Running;
+
+#[cfg(test)]
+mod tests;

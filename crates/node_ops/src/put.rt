@@ -1,0 +1,175 @@
+ghost use Rattle.std.specs.Prelude.{◌≡◌, ℕ};
+
+use crate::call::{Call, View, slot_word};
+use crate::fence::Fence;
+use crate::fill::{Fill, FillAt};
+use crate::finish::{Finish, FinishAt};
+use crate::lookup::{Found, Hit, Hold, Looked, Lookup};
+use call_stages::{Once, Placed};
+use cat_key::{Name, WORDS};
+use data_node::clear_slot;
+use pm_words::offsets::node;
+use pm_words::{Action, Again, Machine, Turn};
+use version_lock::freed_of;
+
+/// A put: it gives a name a value, and answers what the name had.
+#[derive(Clone, Copy)]
+pub enum Put {
+    Looking {
+        lookup: Lookup,
+        value: u64,
+    },
+    /// It writes the name into a clear slot.
+    Filling {
+        fill: Fill,
+    },
+    /// No slot is clear: it stores the value in the slot that has the name.
+    Replacing {
+        call: Call,
+        hold: Hold,
+        bitmap: u64,
+        hit: Hit,
+        value: u64,
+    },
+    Finishing {
+        finish: Finish,
+    },
+    /// No slot is clear and none has the name: it gives the node back.
+    Refusing {
+        call: Call,
+        hold: Hold,
+        bitmap: u64,
+    },
+}
+
+impl Put {
+    ghost use Rattle.std.specs.Prelude.{◌≡◌, ◌^◌, ◌≤◌, Some};
+    ghost use Rattle.node_ops.specs.Calls.{IsView, IsCall, call_of};
+    ghost use Rattle.node_ops.specs.LookupSteps.{IsFound, starts};
+    ghost use Rattle.node_ops.specs.PutSteps.{IsPut, put_found};
+
+    /// A put of this value under this name, which is refused where the clock has reached the limit.
+    pub fn new(view: View, name: &Name, value: u64, limit: u64) -> Put
+        requires view { IsView view }
+        requires limit { limit ≤ 2 ^ 62 }
+        ensures new { result ≡ Put.Looking (starts (call_of view name.now (Some limit))) value }
+        ensures sound { IsPut result }
+    {
+        Put::Looking {
+            lookup: Lookup::new(Call::new(view, name, Some(limit))),
+            value,
+        }
+    }
+
+    /// What a put does once it has looked its name up.
+    fn found(call: Call, found: Found, value: u64) -> Put
+        requires call { IsCall call }
+        requires found { IsFound call.view.layout.slots found }
+        ensures { result ≡ put_found call found value }
+    {
+        let Found {
+            hold,
+            directory,
+            hit,
+        } = found;
+        let bitmap = directory.bitmap;
+        match (clear_slot(bitmap, call.view.layout.slots()), hit) {
+            (Some(slot), _) => Put::Filling {
+                fill: Fill {
+                    call,
+                    hold,
+                    bitmap,
+                    prints: directory.prints[(slot / 8) as usize],
+                    slot,
+                    hit,
+                    value,
+                    at: FillAt::Word { k: 0 },
+                },
+            },
+            (None, Some(hit)) => Put::Replacing {
+                call,
+                hold,
+                bitmap,
+                hit,
+                value,
+            },
+            (None, None) => Put::Refusing { call, hold, bitmap },
+        }
+    }
+}
+
+impl Machine for Put {
+    ghost use Rattle.node_ops.specs.PutSteps.{IsPut, put_asks, put_turned, put_takes, put_left};
+
+    type Answer = Once<Placed>;
+
+    ghost fits = { IsPut };
+
+    ghost asks = { put_asks };
+
+    ghost turned = { put_turned };
+
+    ghost takes = { put_takes };
+
+    ghost left = { put_left };
+
+    fn action(&self) -> Action {
+        match *self {
+            Put::Looking { lookup, value: _ } => lookup.action(),
+            Put::Filling { fill } => fill.action(),
+            Put::Replacing {
+                call,
+                hold: _,
+                bitmap: _,
+                hit,
+                value,
+            } => Action::Store(call.place(slot_word(hit.slot, WORDS as u64)), value),
+            Put::Finishing { finish } => finish.action(),
+            Put::Refusing {
+                call,
+                hold,
+                bitmap: _,
+            } => Action::Store(call.place(node::VERSION), freed_of(hold.locked)),
+        }
+    }
+
+    fn resume(self, got: u64) -> Turn<Put, Once<Placed>> {
+        match self {
+            Put::Looking { lookup, value } => match lookup.resume(got) {
+                Turn::Go(lookup) => Turn::Go(Put::Looking { lookup, value }),
+                Turn::Done(Looked::Early(answer)) => Turn::Done(answer),
+                Turn::Done(Looked::Found(found)) => Turn::Go(Put::found(lookup.call, found, value)),
+            },
+            Put::Filling { fill } => match fill.resume(got) {
+                Turn::Go(fill) => Turn::Go(Put::Filling { fill }),
+                Turn::Done(finish) => Turn::Go(Put::Finishing { finish }),
+            },
+            Put::Replacing {
+                call,
+                hold,
+                bitmap: _,
+                hit,
+                value,
+            } => Turn::Go(Put::Finishing {
+                finish: Finish {
+                    call,
+                    hold,
+                    old: Some(hit.value),
+                    new: Some(value),
+                    at: FinishAt::Fence {
+                        fence: Fence::of(slot_word(hit.slot, WORDS as u64)),
+                    },
+                },
+            }),
+            Put::Finishing { finish } => match finish.resume(got) {
+                Turn::Go(finish) => Turn::Go(Put::Finishing { finish }),
+                Turn::Done(answer) => Turn::Done(answer),
+            },
+            Put::Refusing {
+                call: _,
+                hold: _,
+                bitmap: _,
+            } => Turn::Done(Once::Again(Again::NoFree)),
+        }
+    }
+}

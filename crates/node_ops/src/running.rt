@@ -1,0 +1,76 @@
+ghost use Rattle.std.specs.Prelude.{◌≡◌, ℕ};
+
+use crate::del::Del;
+use crate::get::Get;
+use crate::put::Put;
+use call_stages::{Once, Placed};
+use cat_history::Change;
+use pm_words::{Action, Machine, Turn};
+
+/// Any call in flight.
+#[derive(Clone, Copy)]
+pub enum Running {
+    Getting(Get),
+    Putting(Put),
+    Deleting(Del),
+}
+
+impl Machine for Running {
+    ghost use Rattle.node_ops.specs.RunningSteps.{IsRunning, running_asks, running_turned, running_takes, running_left};
+
+    type Answer = Once<Placed>;
+
+    ghost fits = { IsRunning };
+
+    ghost asks = { running_asks };
+
+    ghost turned = { running_turned };
+
+    ghost takes = { running_takes };
+
+    ghost left = { running_left };
+
+    fn action(&self) -> Action {
+        match *self {
+            Running::Getting(get) => get.action(),
+            Running::Putting(put) => put.action(),
+            Running::Deleting(del) => del.action(),
+        }
+    }
+
+    fn resume(self, got: u64) -> Turn<Running, Once<Placed>> {
+        match self {
+            Running::Getting(get) => match get.resume(got) {
+                Turn::Go(get) => Turn::Go(Running::Getting(get)),
+                Turn::Done(answer) => Turn::Done(answer),
+            },
+            Running::Putting(put) => match put.resume(got) {
+                Turn::Go(put) => Turn::Go(Running::Putting(put)),
+                Turn::Done(answer) => Turn::Done(answer),
+            },
+            Running::Deleting(del) => match del.resume(got) {
+                Turn::Go(del) => Turn::Go(Running::Deleting(del)),
+                Turn::Done(answer) => Turn::Done(answer),
+            },
+        }
+    }
+}
+
+impl Running {
+    ghost use Rattle.std.specs.Prelude.{◌≡◌};
+    ghost use Rattle.call_stages.specs.Stages.{counted};
+    ghost use Rattle.node_ops.specs.RunningSteps.{IsRunning};
+    ghost use Rattle.node_ops.specs.CallStages.{stage_of};
+
+    /// The change that its next action counts in the clock, if it counts one.
+    pub fn counts(&self) -> Option<Change>
+        requires { IsRunning self.now }
+        ensures { result ≡ counted (stage_of self.now) }
+    {
+        match *self {
+            Running::Putting(Put::Finishing { finish }) => finish.counts(),
+            Running::Deleting(Del::Finishing { finish }) => finish.counts(),
+            _ => None,
+        }
+    }
+}
