@@ -1,6 +1,6 @@
 //! Running a round in which one caller alone has calls.
 
-ghost use Rattle.std.specs.Prelude.{◌≡◌, ℕ, ◌↔◌, if◌then◌else◌, length, IfOk, OnErr};
+ghost use Rattle.std.specs.Prelude.{◌≡◌, ℕ, ◌+◌, ◌<◌, ◌≤◌, ◌↔◌, if◌then◌else◌, length, IfOk, OnErr};
 ghost use Rattle.cat_history.specs.Writes.{after_all};
 ghost use Rattle.cat_history.specs.LoneRounds.{write_of, writes_of, IsAnswerNow, IsLoneRound, PutsWithoutRoom};
 ghost use Rattle.catalog_cli.specs.LoneCalls.{AreOfOneCaller, IsLeftBy};
@@ -19,7 +19,8 @@ pub fn run_lone_round<M: NameMap>(
     map: &mut M,
     plan: &RoundPlan,
 ) -> Result<RoundReport, NoMemory>
-    requires { AreOfOneCaller plan.now.ops }
+    requires caller { AreOfOneCaller plan.now.ops }
+    requires calls { length plan.now.ops ≤ M.calls_left map.old }
     // The round is legal and reported, by the writes that its records tell.
     ensures played { IfOk result
         (λ report. IsPlayedRound (M.room map.old) (M.contents map.old) plan.now report (writes_of report.records)) }
@@ -29,6 +30,7 @@ pub fn run_lone_round<M: NameMap>(
     ensures after { IfOk result
         (λ report. M.contents map.new ≡ after_all (M.contents map.old) (writes_of report.records)) }
     ensures room { M.room map.new ≡ M.room map.old }
+    ensures calls_left { M.calls_left map.old ≤ M.calls_left map.new + length plan.now.ops }
     ensures err { OnErr result (M.contents map.new ≡ M.contents map.old) }
 {
     let asked = plan.ops.as_slice();
@@ -57,10 +59,12 @@ pub fn run_lone_round<M: NameMap>(
 
 /// Answers one call at once, on the map as it is. So many writes have a place by now.
 fn answer<M: NameMap>(map: &mut M, op: &Op, place: u64) -> Reply
+    requires { 0 < M.calls_left map.old }
     ensures answer { IsAnswerNow (M.contents map.old) place op.now result }
     ensures full { (result ≡ Reply.Full) ↔ PutsWithoutRoom (M.room map.old) (M.contents map.old) op.now }
     ensures left { IsLeftBy (M.contents map.old) op.now result (M.contents map.new) }
     ensures room { M.room map.new ≡ M.room map.old }
+    ensures calls_left { M.calls_left map.old ≤ M.calls_left map.new + 1 }
 {
     match op {
         Op::Put { name, value } => match map.put(name, *value) {

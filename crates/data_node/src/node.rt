@@ -126,13 +126,17 @@ impl Node {
 }
 
 impl NameMap for Node {
+    ghost use Rattle.std.specs.Prelude.{◌^◌};
     ghost use Rattle.data_node.specs.Nodes.{map_in, room_of};
 
     ghost contents = { map_in };
 
     ghost room = { room_of };
 
-    fn get(&self, name: &Name) -> Option<u64> {
+    // No call uses anything up.
+    ghost calls_left = { λ _. 2 ^ 64 };
+
+    fn get(&mut self, name: &Name) -> Option<u64> {
         self.value_in(self.slot_of(name), name)
     }
 

@@ -3,13 +3,13 @@ use Rattle.cat_history.specs.Maps.{at}
 use Rattle.cat_history.proofs.PlainMapLemmas.{at-lacking, at-place}
 use Rattle.cat_history.proofs.plain.PlainMapNameMap.get.Goals as goal
 
-pub returns-in_err-place : goal.returns-in_err-place
-returns-in_err-place c =
+pub returns-in_err-place-clause-number : goal.returns-in_err-place-clause-number
+returns-in_err-place-clause-number c =
     let lacks = rw c.deref.ensures.value at c.in_err-place.ensures.none in
     c.from_residual.ensures ∙ sym (at-lacking c.self.inside.pairs.items c.args.name.now lacks) ∙ ap (λ m. at m.contents c.args.name.now) c.self.view_is
 
-pub returns : goal.returns
-returns c =
+pub returns-clause-number : goal.returns-clause-number
+returns-clause-number c =
     let within = rw c.deref.ensures.value at c.in_ok-place.ensures.within in
     let named = rw c.deref.ensures.value at c.in_ok-place.ensures.named in
     let pairs = c.self.inside.pairs.items in
