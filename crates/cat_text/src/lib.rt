@@ -13,6 +13,7 @@ mod script;
 mod tests;
 
 pub use laws::script_law;
+pub use number::read_number;
 pub use outside::memory::{MemorySink, MemorySource};
 pub use outside::plan::FaultPlan;
 pub use outside::sink::{Sink, WriteFault, write_whole};

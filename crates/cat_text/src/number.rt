@@ -7,8 +7,9 @@ ghost use Rattle.cat_text.specs.Scripts.{IsNumber};
 /// The most digits that a number may be written with, leading zeros among them.
 const MOST_DIGITS: usize = 20;
 
-/// Reads a text as a number; None where it is none.
-pub(crate) fn read_number(text: &[u8]) -> Option<u64>
+/// Reads a text as a number: 1 to 20 decimal digits of a value below 2^64. Leading zeros are accepted. None where it is
+/// none.
+pub fn read_number(text: &[u8]) -> Option<u64>
     ensures some { IfSome result (λ n. IsNumber text.now n) }
     ensures none { IsNone result → (n : ℕ) → ¬ IsNumber text.now n }
 {

@@ -1,3 +1,5 @@
+pub mod Commands
 pub mod LoneRoundSteps
 pub mod Played
 pub mod Refusals
+pub mod ScriptCalls

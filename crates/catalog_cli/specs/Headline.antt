@@ -5,19 +5,29 @@ use Rattle.std.specs.Io.KnownBytes.{Appends, Keeps}
 use Rattle.cat_history.specs.Maps.{Map}
 use Rattle.cat_history.specs.Writes.{after_all}
 use Rattle.cat_history.specs.declared.op.Write.{Write}
-use Rattle.cat_text.specs.Scripts.{IsScript}
+use Rattle.cat_text.specs.Scripts.{IsNumber, IsScript}
 use Rattle.cat_text.specs.Reports.{report_text}
 use Rattle.cat_text.specs.declared.report.RoundReport.{RoundReport}
 use Rattle.cat_text.specs.declared.script.RoundPlan.{RoundPlan}
+use Rattle.pm_words.specs.Layouts.{IsLayout}
+use Rattle.pm_words.specs.declared.layout.Layout.{Layout}
 use Rattle.catalog_cli.specs.Rounds.{IsPlayedRound}
 use Rattle.cat_text.specs.declared.script.ScriptFault.TheVariants.{Bytes}
 use Rattle.catalog_cli.specs.declared.status.Verb.TheVariants.{Play, Line}
 use Rattle.catalog_cli.specs.declared.status.Status.{Status}
 use Rattle.catalog_cli.specs.declared.status.Status.TheVariants.{Done, Script, Read, Write as WriteFailed, NoMemory, NotBuilt}
 
--- The words of the one command that is built: one node of 64 slots, and one caller.
-abbrev pub IsPlayCommand : List (List ℕ) → Type 0
-IsPlayCommand words = words ≡ codes "play" ∷ codes "1" ∷ codes "64" ∷ codes "1" ∷ []
+-- The words of a command that is built: `play`, and then the numbers of a layout with one node, written as in scripts.
+pub record IsPlayCommand (words : List (List ℕ)) (layout : Layout) : Type 0 where
+  pub nodes : List ℕ
+  pub slots : List ℕ
+  pub callers : List ℕ
+  pub in_order : words ≡ codes "play" ∷ nodes ∷ slots ∷ callers ∷ []
+  pub node_count : IsNumber nodes layout.nodes
+  pub slot_count : IsNumber slots layout.slots
+  pub caller_count : IsNumber callers layout.callers
+  pub one_node : layout.nodes ≡ 1
+  pub in_range : IsLayout layout
 
 -- These are the bytes that the source has left, where it tells them.
 abbrev pub AreBytesLeft : Option (List ℕ) → List ℕ → Type 0

@@ -1,28 +1,29 @@
 //! The top call: from the words of a command and the bytes of a script to the bytes of a report.
 
-ghost use Rattle.std.specs.Prelude.{◌≡◌, ◌≢◌, ◌<◌, ◌≤◌, ◌↔◌, ℕ, List, [], Some, IsTrue, IfOk, IfErr, OnOk, IfSome, length, map};
+ghost use Rattle.std.specs.Prelude.{◌≡◌, ◌<◌, ◌≤◌, ◌↔◌, ℕ, List, [], Some, IfOk, IfErr, OnOk, IfSome, IsNone, length, map};
 ghost use Rattle.std.specs.FinMap.{empty};
 ghost use Rattle.std.specs.Io.KnownBytes.{Keeps};
 ghost use Rattle.std.specs.String.{string_bytes};
 ghost use Rattle.cat_text.specs.Scripts.{IsScript};
+ghost use Rattle.pm_words.specs.Layouts.{IsLayout};
+ghost use Rattle.pm_words.specs.declared.layout.Layout.{Layout};
 ghost use Rattle.catalog_cli.specs.Headline.{IsPlayCommand, AreBytesLeft, ArePlayedRounds, IsReportOf, LeavesSink, HasForeignLine, IsRefusal};
 
 use crate::round::run_lone_round;
 use crate::status::{Status, Verb};
 use cat_text::{
     MOST_BYTES, NoMemory, Report, RoundReport, Script, ScriptFault, Sink, Source, WriteFault,
-    print_report, read_script, read_whole, write_whole,
+    print_report, read_number, read_script, read_whole, write_whole,
 };
 use data_node::Node;
+use pm_words::Layout;
 use std::alloc::Global;
-
-/// How many names a catalogue has room for: the slots of its one node.
-pub const ROOM: u64 = 64;
 
 /// Runs the command that the words name: plays the script that the source gives, and writes its report to the sink.
 ///
-/// The one command that is built is `play 1 64 1`, from an empty catalogue. The script is read to its end before
-/// anything is played, and the report is made whole before its first byte is written.
+/// The one command that is built is `play 1 SLOTS CALLERS`, from an empty catalogue of one node, whose slots are its
+/// room for names. The script is read to its end before anything is played, and the report is made whole before its
+/// first byte is written.
 pub fn catalog<S: Source, K: Sink>(
     alloc: Global,
     words: &[String],
@@ -30,22 +31,25 @@ pub fn catalog<S: Source, K: Sink>(
     out: &mut K,
 ) -> Status
     // What was written: the report of the script, each of whose rounds is legal; or a beginning of it; or nothing.
-    ensures sink { LeavesSink result ROOM (S.left script.old) (K.written out.old) (K.written out.new) }
+    ensures sink { (layout : Layout) → IsPlayCommand (map string_bytes words.now) layout →
+        LeavesSink result layout.slots (S.left script.old) (K.written out.old) (K.written out.new) }
     ensures read_to_end { result ≡ Status.Done → IfSome (S.left script.old) (λ _. S.left script.new ≡ Some []) }
 
     // Each other status has its cause.
-    ensures no_command { result ≡ Status.NotBuilt Verb.Play ↔ ¬ IsPlayCommand (map string_bytes words.now) }
+    ensures no_command { result ≡ Status.NotBuilt Verb.Play ↔
+        ((layout : Layout) → ¬ IsPlayCommand (map string_bytes words.now) layout) }
     ensures nothing_read { result ≡ Status.NotBuilt Verb.Play → Keeps (S.left script.old) (S.left script.new) }
+    ensures nothing_written { result ≡ Status.NotBuilt Verb.Play → Keeps (K.written out.old) (K.written out.new) }
     ensures foreign_line { result ≡ Status.NotBuilt Verb.Line → HasForeignLine MOST_BYTES (S.left script.old) }
     ensures too_long { (fault : _) → result ≡ Status.Script fault →
         (fault ≡ ScriptFault.Bytes) × IfSome (S.left script.old) (λ bytes. MOST_BYTES < length bytes) }
     ensures cannot_read { result ≡ Status.Read → S.faults script.old < S.faults script.new }
     ensures cannot_write { result ≡ Status.Write → K.faults out.old < K.faults out.new }
 {
-    if !is_play_command(words) {
+    let Some(layout) = asked_layout(words) else {
         return Status::NotBuilt(Verb::Play);
-    }
-    match report_of(alloc, script) {
+    };
+    match report_of(alloc, &layout, script) {
         Err(status) => status,
         Ok(text) => match write_whole(out, &text) {
             Ok(()) => Status::Done,
@@ -55,47 +59,48 @@ pub fn catalog<S: Source, K: Sink>(
     }
 }
 
-/// Whether the words are those of the one command that is built.
-fn is_play_command(words: &[String]) -> bool
-    ensures { IsTrue result ↔ IsPlayCommand (map string_bytes words.now) }
+/// The layout that the words of a command ask for; None where they are not those of a command that is built.
+fn asked_layout(words: &[String]) -> Option<Layout>
+    ensures some { IfSome result (IsPlayCommand (map string_bytes words.now)) }
+    ensures none { IsNone result → (layout : Layout) → ¬ IsPlayCommand (map string_bytes words.now) layout }
 {
-    match words {
-        [command, nodes, slots, callers] => {
-            is_word(command, "play")
-                && is_word(nodes, "1")
-                && is_word(slots, "64")
-                && is_word(callers, "1")
-        }
-        _ => false,
+    let [command, nodes, slots, callers] = words else {
+        return None;
+    };
+    if command.as_str() != "play" {
+        return None;
     }
+    let nodes = read_number(nodes.as_bytes())?;
+    let slots = read_number(slots.as_bytes())?;
+    let callers = read_number(callers.as_bytes())?;
+    let layout = Layout::new(nodes, slots, callers).ok()?;
+    if layout.nodes() != 1 {
+        return None;
+    }
+    Some(layout)
 }
 
-/// Whether a word of the command line is this text.
-fn is_word(word: &String, text: &str) -> bool
-    ensures { IsTrue result ↔ (string_bytes word.now ≡ text.now) }
-{
-    word.as_str() == text
-}
-
-/// Reads the script, plays it, and makes its report.
-fn report_of<S: Source>(alloc: Global, script: &mut S) -> Result<Vec<u8>, Status>
-    ensures report { IfOk result (λ text. (bytes : List ℕ) × AreBytesLeft (S.left script.old) bytes × IsReportOf ROOM bytes text.items) }
+/// Reads the script, plays it on a catalogue of this layout, and makes its report.
+fn report_of<S: Source>(alloc: Global, layout: &Layout, script: &mut S) -> Result<Vec<u8>, Status>
+    requires { IsLayout layout.now }
+    ensures report { IfOk result (λ text. (bytes : List ℕ) × AreBytesLeft (S.left script.old) bytes × IsReportOf layout.now.slots bytes text.items) }
     ensures read_to_end { OnOk result (IfSome (S.left script.old) (λ _. S.left script.new ≡ Some [])) }
     ensures refusal { IfErr result (λ status. IsRefusal MOST_BYTES status (S.left script.old) (S.faults script.old) (S.faults script.new)) }
 {
     let bytes = read_whole(alloc, script, MOST_BYTES)?;
     let plans = read_script(alloc, &bytes)?;
-    let report = play(alloc, &plans)?;
+    let report = play(alloc, layout, &plans)?;
     let text = print_report(alloc, &report)?;
     Ok(text)
 }
 
-/// Plays the rounds of a script, one after another, from an empty catalogue.
-fn play(alloc: Global, plans: &Script) -> Result<Report, NoMemory>
-    requires { (bytes : List ℕ) × IsScript bytes plans.now }
-    ensures { IfOk result (ArePlayedRounds ROOM empty plans.now) }
+/// Plays the rounds of a script, one after another, from an empty catalogue of this layout.
+fn play(alloc: Global, layout: &Layout, plans: &Script) -> Result<Report, NoMemory>
+    requires layout { IsLayout layout.now }
+    requires script { (bytes : List ℕ) × IsScript bytes plans.now × (length bytes ≤ MOST_BYTES) }
+    ensures { IfOk result (ArePlayedRounds layout.now.slots empty plans.now) }
 {
-    let mut node = Node::new(ROOM);
+    let mut node = Node::new(layout.slots());
     let mut rounds = Vec::with_capacity(alloc, plans.as_slice().len())?;
     for plan in plans.as_slice() {
         rounds.push(run_lone_round(alloc, &mut node, plan)?)?;

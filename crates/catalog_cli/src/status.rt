@@ -9,7 +9,7 @@ use std::fmt;
 /// What the program doesn't do yet.
 #[derive(Clone, Copy, Debug, PartialEq, Eq)]
 pub enum Verb {
-    /// Every command but `play 1 64 1`.
+    /// Every command but `play` on a layout of one node.
     Play,
     /// Every line but a put and a get of caller 0.
     Line,

@@ -1,7 +1,6 @@
 use Rattle.std.proofs.Common.{◌≡◌, take}
 use Rattle.std.specs.FinMap.{empty}
 use Rattle.data_node.specs.Nodes.{map_in, room_of}
-use Rattle.catalog_cli.specs.declared.catalog.TheConstants.{ROOM}
 use Rattle.catalog_cli.proofs.Played.{GoOn}
 use Rattle.catalog_cli.proofs.catalog.play.Given as goal
 
@@ -9,6 +8,6 @@ use Rattle.catalog_cli.proofs.catalog.play.Given as goal
 abbrev pub invariant-loop-plan : goal.invariant-loop-plan
 invariant-loop-plan l =
     record {
-      room : room_of l.node ≡ ROOM;
-      played : GoOn ROOM empty (take l.plan-index l.plan-items) l.rounds.items (map_in l.node);
+      room : room_of l.node ≡ l.fn.layout.slots;
+      played : GoOn l.fn.layout.slots empty (take l.plan-index l.plan-items) l.rounds.items (map_in l.node);
     }

@@ -12,6 +12,11 @@ use Rattle.catalog_cli.proofs.LoneRoundSteps.{one_at_most, recorded, writes_of-p
 use Rattle.catalog_cli.proofs.round.run_lone_round.Goals.{then-is_placed_write, else-is_placed_write}
 use Rattle.catalog_cli.proofs.round.run_lone_round.Goals as goal
 
+pub answer-requires : goal.answer-requires
+answer-requires g c =
+    let asked = ap length c.as_slice-asked.ensures in
+    omega (arith, asked, c.requires.calls, c.loop-index-test.true, c.loop-index.invariant.calls)
+
 pub loop-index-preserved : goal.loop-index-preserved
 loop-index-preserved g c =
     let was = c.loop-index.invariant in
@@ -24,7 +29,7 @@ loop-index-preserved g c =
     let room = g.M.NameMap.room c.args.map.now in
     let r : Record = recorded index call c.answer.result in
     let grown : c.push.new.self.items ≡ records ++ r ∷ [] = c.push.ensures.items ∙ ap (λ o. cond (is_ok o) (records ++ r ∷ []) records) c.unwrap.ensures in
-    let one = subst (λ (ops : List CallerOp). All (λ a. a.caller ≡ c.requires.0) ops) (sym c.as_slice-asked.ensures) c.requires.1 in
+    let one = subst (λ (ops : List CallerOp). All (λ a. a.caller ≡ c.requires.caller.0) ops) (sym c.as_slice-asked.ensures) c.requires.caller.1 in
     let full = subst (λ (k : ℕ). (c.answer.result ≡ Full) ↔ PutsWithoutRoom k now call.op) was.room_stays c.answer.ensures.full in
     let counted : c.if-is_placed_write.writes ≡ c.loop-index.writes + length (write_of r) =
     elim c.if-is_placed_write.branch [
@@ -32,13 +37,14 @@ loop-index-preserved g c =
       | else-is_placed_write w ↦ omega (arith, w.writes-is, c.is_placed_write.ensures, ap {B = ℕ} (λ b. cond b 1 0) w.if-is_placed_write.false)
     ] in
     record {
-      calls = rw grown (calls-push c.requires.0 asked index call c.answer.result records one c.loop-index-test.true c.index-asked-index.is was.calls);
+      asked = rw grown (calls-push c.requires.caller.0 asked index call c.answer.result records one c.loop-index-test.true c.index-asked-index.is was.asked);
       answers = rw grown (along-push (λ m place q. IsAnswerNow m place q.op q.reply) base now c.loop-index.writes records r was.answers was.ends was.writes c.answer.ensures.answer);
       full = rw grown (along-push (λ m place q. (q.reply ≡ Full) ↔ PutsWithoutRoom room m q.op) base now c.loop-index.writes records r was.full was.ends was.writes full);
       ends = rw grown (ends-push base now (g.M.NameMap.contents c.answer.new.map) records r was.ends (c.answer.ensures.left call.caller index));
       writes = rw (grown, writes_of-push) (omega (arith, counted, was.writes, length-append (writes_of records) (write_of r)));
       few = omega (arith, counted, was.few, one_at_most c.is_placed_write.result (length (write_of r)) c.is_placed_write.ensures);
       room_stays = c.answer.ensures.room ∙ was.room_stays;
+      calls = omega (arith, was.calls, c.answer.ensures.calls_left);
       made = c.push.ensures.len ∙ ap (λ o. cond (is_ok o) (vec_len c.loop-index.records + 1) (vec_len c.loop-index.records)) c.unwrap.ensures ∙ omega (arith, was.made);
       reserved = omega (arith, was.reserved, c.push.ensures.capacity);
     }
@@ -46,12 +52,17 @@ loop-index-preserved g c =
 pub returns-clause-played : goal.returns-clause-played
 returns-clause-played g c =
     let was = c.loop-index.invariant in
-    let calls = was.calls ∙ ap numbered (take_all c.loop-index.index c.as_slice-asked.result.now (omega (arith, c.loop-index-test.false)) ∙ c.as_slice-asked.ensures) in
+    let calls = was.asked ∙ ap numbered (take_all c.loop-index.index c.as_slice-asked.result.now (omega (arith, c.loop-index-test.false)) ∙ c.as_slice-asked.ensures) in
     record {
-      legal = rw c.of.ensures (lone_rounds_are_legal (g.M.NameMap.contents c.args.map.now) c.requires.0 c.args.plan.now.ops c.loop-index.records.items c.requires.1 calls was.answers);
+      legal = rw c.of.ensures (lone_rounds_are_legal (g.M.NameMap.contents c.args.map.now) c.requires.caller.0 c.args.plan.now.ops c.loop-index.records.items c.requires.caller.1 calls was.answers);
       in_script_order = rw c.of.ensures calls;
       full = rw c.of.ensures was.full;
       joined = refl;
       placed = rw c.of.ensures was.writes;
       names = rw c.of.ensures (c.len.ensures ∙ ap len was.ends);
     }
+
+pub returns-clause-calls_left : goal.returns-clause-calls_left
+returns-clause-calls_left g c =
+    let asked = ap length c.as_slice-asked.ensures in
+    omega (arith, asked, c.loop-index.invariant.calls, c.loop-index-test.false)

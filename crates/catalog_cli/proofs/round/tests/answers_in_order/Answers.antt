@@ -8,6 +8,6 @@ use Rattle.catalog_cli.proofs.round.tests.answers_in_order.Goals as goal
 written : (asked calls : List CallerOp) → asked ≡ calls → AllByRecursion (λ a. a.caller ≡ 0) calls → All (λ a. a.caller ≡ 0) asked
 written asked calls is each = subst (λ (xs : List CallerOp). All (λ a. a.caller ≡ 0) xs) (sym is) (All-from_recursion (λ (a : CallerOp). a.caller ≡ 0) calls each)
 
-pub run_lone_round-requires : goal.run_lone_round-requires
-run_lone_round-requires g c =
+pub run_lone_round-requires-clause-caller : goal.run_lone_round-requires-clause-caller
+run_lone_round-requires-clause-caller g c =
     (0, rw c.of.ensures (written c.in_ok-from_array.field-0.items _ c.in_ok-from_array.ensures.items (refl, (refl, (refl, (refl, (refl, tt)))))))
