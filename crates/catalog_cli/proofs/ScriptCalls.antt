@@ -16,7 +16,7 @@ one-line-at-most (byte ∷ line) false is = omega arith
 lines-fit : (line bytes : List ℕ) → length (lines_after line bytes) ≤ length line + length bytes
 lines-fit line [] = omega (arith, one-line-at-most line (eqb (length line) 0) refl)
 lines-fit line (byte ∷ bytes) = by_cases (eqb byte 10) (lines-fit [] bytes) (lines-fit (line ++ byte ∷ []) bytes) where
-  by_cases : (b : Bool) → length (lines_after [] bytes) ≤ length bytes → length (lines_after (line ++ byte ∷ []) bytes) ≤ length (line ++ byte ∷ []) + length bytes →
+  by_cases : (b : Bool) → length (lines_after [] bytes) ≤ 0 + length bytes → length (lines_after (line ++ byte ∷ []) bytes) ≤ length (line ++ byte ∷ []) + length bytes →
       length (cond b (line ∷ lines_after [] bytes) (lines_after (line ++ byte ∷ []) bytes)) ≤ length line + length (byte ∷ bytes)
   by_cases true cut whole = omega (arith, cut)
   by_cases false cut whole = omega (arith, whole, length-append line (byte ∷ []))
@@ -34,5 +34,5 @@ calls-of-plan bytes plans all i plan script same less is =
     let one : length script.0 ≤ length bytes = omega (arith, lines-fit [] bytes, call-for-each-line (lines_of bytes) script.0 script.2) in
     let fits : List RoundPlan → Type 0 = All (λ (p : RoundPlan). length p.ops ≤ length bytes) in
     let each : fits all = subst fits (sym same) (subst fits (sym script.1)
-        (All-cons (λ (p : RoundPlan). length p.ops ≤ length bytes) (record { ops = script.0 }) [] one (All-nil (λ (p : RoundPlan). length p.ops ≤ length bytes)))) in
+    (All-cons (λ (p : RoundPlan). length p.ops ≤ length bytes) (record { ops = script.0 }) [] one (All-nil (λ (p : RoundPlan). length p.ops ≤ length bytes)))) in
     subst (λ (p : RoundPlan). length p.ops ≤ length bytes) (sym is) (each i plan less)

@@ -20,7 +20,8 @@ const USAGE: &str =
     "usage: catalog format FILE NODES SLOTS CALLERS, run FILE, play NODES SLOTS CALLERS, gen SEED COUNT CALLERS, words FILE FROM COUNT";
 
 /// What of them is built.
-const BUILT: &str = "built so far: catalog play 1 SLOTS CALLERS, which reads a script on standard input";
+const BUILT: &str =
+    "built so far: catalog play 1 SLOTS CALLERS, which reads a script on standard input";
 
 const VERSION: &str = "catalog 0.1.0";
 

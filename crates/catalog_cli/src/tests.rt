@@ -1,5 +1,5 @@
 //! The top call on whole scripts, over a source and a sink in memory.
-ghost use Rattle.std.specs.Prelude.{IfOk};
+ghost use Rattle.std.specs.Prelude.{◌≤◌, IfOk, length};
 ghost use Rattle.catalog_cli.specs.LoneCalls.{AreOfOneCaller};
 
 use super::*;
@@ -117,6 +117,18 @@ fn plays_scripts(rt: HostRuntime) -> Result<(), Fail> {
 }
 
 #[test]
+fn a_node_of_4_slots_has_room_for_4_names(rt: HostRuntime) -> Result<(), Fail> {
+    let script = b"0 put a 1\n0 put b 2\n0 put c 3\n0 put d 4\n0 put a 9\n0 put e 5\n";
+    let report =
+        b"0 put a 1 -> none @0\n0 put b 2 -> none @1\n0 put c 3 -> none @2\n0 put d 4 -> none @3\n\
+                   0 put a 9 -> 1 @4\n0 put e 5 -> full\njoin 5 names 4\n";
+    let ran = run(&rt, &["play", "1", "4", "1"], script, &SOUND)?;
+    assert_eq!(rt; ran.status, Status::Done);
+    assert_eq!(rt; ran.written.as_slice(), report.as_slice());
+    Ok(())
+}
+
+#[test]
 fn a_node_has_room_for_64_names(rt: HostRuntime) -> Result<(), Fail> {
     let mut script = String::new(rt.alloc());
     let mut report = String::new(rt.alloc());
@@ -136,14 +148,43 @@ fn a_node_has_room_for_64_names(rt: HostRuntime) -> Result<(), Fail> {
 }
 
 #[test]
+fn plays_on_one_node_of_any_layout(rt: HostRuntime) -> Result<(), Fail> {
+    let commands: [&[&str]; 5] = [
+        &["play", "1", "4", "1"],
+        &["play", "1", "64", "16"],
+        &["play", "1", "6", "2"],
+        // A number may have leading zeros, 20 digits in all.
+        &["play", "01", "064", "1"],
+        &["play", "00000000000000000001", "64", "1"],
+    ];
+    for words in commands {
+        let ran = run(&rt, words, b"0 get a\n", &SOUND)?;
+        assert_eq!(rt; ran.status, Status::Done);
+        assert_eq!(rt;
+            ran.written.as_slice(),
+            b"0 get a -> none @0\njoin 0 names 0\n".as_slice()
+        );
+    }
+    Ok(())
+}
+
+#[test]
 fn refuses_other_commands_unread(rt: HostRuntime) -> Result<(), Fail> {
-    let commands: [&[&str]; 6] = [
+    let commands: [&[&str]; 14] = [
         &[],
-        &["play", "1", "64"],
-        &["play", "1", "64", "1", "1"],
-        &["play", "3", "5", "1"],
-        &["play", "1", "064", "1"],
         &["run", "c"],
+        &["Play", "1", "64", "1"],
+        &["play", "1", "4"],
+        &["play", "1", "64", "1", "1"],
+        &["play", "2", "4", "1"],
+        &["play", "1", "2", "1"],
+        &["play", "1", "5", "1"],
+        &["play", "1", "66", "1"],
+        &["play", "1", "4", "0"],
+        &["play", "1", "4", "17"],
+        &["play", "1", "+4", "1"],
+        &["play", "1", "", "1"],
+        &["play", "000000000000000000001", "64", "1"],
     ];
     for words in commands {
         let ran = run(&rt, words, b"0 get a\n", &SOUND)?;
@@ -213,7 +254,8 @@ fn each_status_has_its_code_and_text(rt: HostRuntime) -> Result<(), Fail> {
 
 /// Calls of one caller, drawn from a number: puts, gets and deletes of 80 names, more than there is room for.
 fn drawn_plan(alloc: Global, seed: u32) -> Result<RoundPlan, Fail>
-    ensures { IfOk result (λ plan. AreOfOneCaller plan.ops) }
+    ensures caller { IfOk result (λ plan. AreOfOneCaller plan.ops) }
+    ensures few { IfOk result (λ plan. length plan.ops ≤ 300) }
 {
     let mut state = seed;
     let mut ops = Vec::new(alloc);
@@ -240,7 +282,8 @@ fn report_on<M: NameMap>(
     map: &mut M,
     plan: &RoundPlan,
 ) -> Result<Vec<u8>, AllocError>
-    requires { AreOfOneCaller plan.now.ops }
+    requires caller { AreOfOneCaller plan.now.ops }
+    requires calls { length plan.now.ops ≤ M.calls_left map.old }
 {
     let mut rounds = Vec::new(alloc);
     rounds.push(run_lone_round(alloc, map, plan)?)?;
@@ -251,8 +294,8 @@ fn report_on<M: NameMap>(
 fn a_node_answers_as_the_plain_map(rt: HostRuntime) -> Result<(), Fail> {
     for seed in 1u32..=20 {
         let plan = drawn_plan(rt.alloc(), seed)?;
-        let mut plain = PlainMap::new(rt.alloc(), ROOM)?;
-        let mut node = Node::new(ROOM);
+        let mut plain = PlainMap::new(rt.alloc(), 64)?;
+        let mut node = Node::new(64);
         let wanted = report_on(rt.alloc(), &mut plain, &plan)?;
         let told = report_on(rt.alloc(), &mut node, &plan)?;
         assert_eq!(rt; told.as_slice(), wanted.as_slice(), "seed {seed}");

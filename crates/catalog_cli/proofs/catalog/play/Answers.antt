@@ -19,8 +19,12 @@ run_lone_round-requires c =
     record {
       caller = caller-of-plan script.0 c.args.plans.now plans c.loop-plan.plan-index c.plan-item.result script.1 c.as_slice-plan-items.ensures c.loop-plan-test.true
           c.plan-item.is;
-      calls = omega (arith, script.2, calls-of-plan script.0 c.args.plans.now plans c.loop-plan.plan-index c.plan-item.result script.1 c.as_slice-plan-items.ensures
-          c.loop-plan-test.true c.plan-item.is);
+      calls = omega (
+        arith,
+        script.2,
+        calls-of-plan script.0 c.args.plans.now plans c.loop-plan.plan-index c.plan-item.result script.1 c.as_slice-plan-items.ensures
+            c.loop-plan-test.true c.plan-item.is,
+      );
     }
 
 pub loop-plan-preserved : goal.loop-plan-preserved
