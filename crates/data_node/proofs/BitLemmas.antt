@@ -1,13 +1,13 @@
 -- What the words that the calls on bitmaps and fingerprints give say of the slots.
-use Rattle.std.proofs.Common.{◌≡◌, ℕ, zero, suc, ◌+◌, ◌-◌, ◌*◌, ◌/◌, ◌%◌, ◌<◌, ◌≤◌, ◌^◌, ◌↔◌, ◌==◌, ◌&&◌, ltb, Bool, true, false, cond, List, [], ◌∷◌, Option, Some, None, length, get_or, set, slice_index, slice_set, bit_or, bit_and, inl, inr, refl, sym, subst, ap, ◌∙◌, arith}
-use Rattle.std.specs.Int.{w64, bit_at, trailing_ones, trailing_zeros, to_le_bytes, from_le_bytes}
+use Rattle.std.proofs.Common.{◌≡◌, ℕ, zero, suc, ◌+◌, ◌-◌, ◌*◌, ◌%◌, ◌<◌, ◌≤◌, ◌^◌, ◌==◌, ◌&&◌, ltb, true, false, cond, List, [], ◌∷◌, Some, None, get_or, set, bit_and, inl, inr, refl, sym, subst, ◌∙◌, arith}
+use Rattle.std.specs.Int.{w64, bit_at, trailing_ones, trailing_zeros, from_le_bytes}
 use Rattle.std.specs.List.{AllByRecursion}
 use Rattle.std.proofs.Math.ListN.{length-set}
 use Rattle.std.proofs.lemmas.Bool.{cases_eq, eqb-true, eqb-false, ltb-true, ltb-false}
 use Rattle.std.proofs.lemmas.Nat.{and_le_l, or_lt, le_bytes_8}
 use Rattle.std.proofs.lemmas.Nat.Bits.{bit_at-lt, bit_at_set_same, bit_at_set_other, bit_at_clear_same, bit_at_clear_other, bit_at-trailing_zeros, same_from_bits}
 use Rattle.std.proofs.Math.Pow.{pow-lt}
-use Rattle.data_node.specs.Slots.{IsLive, IsClear, AreAllLive, IsLowestClear, IsCandidate, prints_of, print_of}
+use Rattle.data_node.specs.Slots.{IsLive, IsClear, AreAllLive, IsLowestClear, prints_of, print_of}
 use Rattle.data_node.specs.Bits.{with_live, without_live, lowest_live, lowest_clear, printed, candidate_bits}
 use Rattle.data_node.proofs.Bitmaps.{Marks, marks_none, marks_next, marks_past, lowest_clear as clear_from_ones, all_live}
 

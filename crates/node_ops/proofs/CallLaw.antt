@@ -1,26 +1,22 @@
 -- Each turn of a call is a step of a kind.
-use Rattle.std.proofs.Common.{◌≡◌, ℕ, ◌+◌, ◌*◌, ◌/◌, ◌<◌, ◌≤◌, ◌^◌, Bool, true, false, List, [], ◌∷◌, ◌++◌, Option, Some, None, IfSome, length, get_or, refl, sym, subst, ap, ◌∙◌, arith}
-use Rattle.std.specs.FinMap.{insert, remove}
+use Rattle.std.proofs.Common.{◌≡◌, ℕ, ◌/◌, ◌<◌, ◌≤◌, ◌^◌, true, false, [], ◌∷◌, ◌++◌, Option, Some, None, length, get_or, refl, sym, subst, ap, ◌∙◌, arith}
+use Rattle.std.specs.FinMap.{remove}
 use Rattle.cat_key.specs.Names.{words_of}
 use Rattle.cat_key.proofs.Packing.{length-words_of}
-use Rattle.cat_history.specs.Maps.{Map, at as map_at}
 use Rattle.cat_history.specs.declared.op.Change.TheVariants as change
 use Rattle.pm_words.specs.declared.layout.Layout.{Layout}
 use Rattle.pm_words.specs.declared.action.Action.{Action}
-use Rattle.pm_words.specs.declared.again.Again.TheVariants.{NoFree}
 use Rattle.pm_words.specs.declared.machine.Turn.{Turn}
 use Rattle.pm_words.specs.declared.machine.Turn.TheVariants.{Go, Done}
-use Rattle.pm_words.specs.Places.{node_words}
-use Rattle.data_node.specs.Slots.{IsLive, AreAllLive, IsLowestClear}
+use Rattle.data_node.specs.Slots.{IsLive, AreAllLive}
 use Rattle.data_node.specs.Bits.{without_live, lowest_clear}
-use Rattle.data_node.specs.Spots.{Spot, updated, bitmap_offset, print_offset, slot_offset, IsLiveIn, name_words, Means}
+use Rattle.data_node.specs.Spots.{Spot, updated, bitmap_offset, slot_offset, IsLiveIn, name_words, Means}
 use Rattle.data_node.proofs.BitLemmas.{lowest_clear-some, without_live_below}
 use Rattle.data_node.proofs.SpotLemmas.{remove_absent}
 use Rattle.data_node.proofs.StoreLemmas.{means_valued, means_cleared}
 use Rattle.call_stages.specs.declared.once.Once.{Once}
-use Rattle.call_stages.specs.declared.once.Once.TheVariants as once
 use Rattle.call_stages.specs.declared.once.Placed.{Placed}
-use Rattle.call_stages.specs.Stages.{Known, Knows, Stage, Idle, Holds}
+use Rattle.call_stages.specs.Stages.{Knows, Stage, Idle}
 use Rattle.call_stages.specs.Kinds.{Told, Step, commits, unlocks, reads, has_no_room}
 use Rattle.node_ops.specs.declared.call.Call.{Call}
 use Rattle.node_ops.specs.declared.lookup.Hold.{Hold}
@@ -40,14 +36,14 @@ use Rattle.node_ops.specs.declared.del.Del.{Del}
 use Rattle.node_ops.specs.declared.del.Del.TheVariants as del
 use Rattle.node_ops.specs.declared.running.Running.{Running}
 use Rattle.node_ops.specs.declared.running.Running.TheVariants.{Getting, Putting, Deleting}
-use Rattle.node_ops.specs.Calls.{IsCall, name_in, call_place}
-use Rattle.node_ops.specs.LookupSteps.{value_of, IsHit, IsFound, lookup_turned}
+use Rattle.node_ops.specs.Calls.{IsCall, name_in}
+use Rattle.node_ops.specs.LookupSteps.{IsHit, IsFound, lookup_turned}
 use Rattle.node_ops.specs.FinishSteps.{finish_turned}
 use Rattle.node_ops.specs.FillSteps.{fill_turned}
 use Rattle.node_ops.specs.GetSteps.{IsGet, get_call, get_asks, get_turned, get_looked}
-use Rattle.node_ops.specs.PutSteps.{IsPut, IsReplacing, IsRefusing, put_call, put_asks, put_turned, put_looked, put_found, put_into, put_full, put_filled, put_finished, replaced}
-use Rattle.node_ops.specs.DelSteps.{IsDel, IsClearing, del_call, del_asks, del_turned, del_looked, del_found, del_hit, del_finished, cleared}
-use Rattle.node_ops.specs.RunningSteps.{running_call, running_asks, running_turned, wrapped, Sound, IsRunning}
+use Rattle.node_ops.specs.PutSteps.{IsPut, put_call, put_asks, put_turned, put_looked, put_into, put_full, put_filled, put_finished, replaced}
+use Rattle.node_ops.specs.DelSteps.{IsDel, del_call, del_asks, del_turned, del_looked, del_hit, del_finished, cleared}
+use Rattle.node_ops.specs.RunningSteps.{running_call, running_asks, running_turned, wrapped, IsRunning}
 use Rattle.node_ops.specs.Laws.{TurnsAreSteps}
 use Rattle.node_ops.specs.CallStages.{words_from, nothing, knows, decided, seen_hit, seen_fill, get_stage, put_stage, del_stage, stage_of, stage_after, reply_of}
 use Rattle.node_ops.proofs.SeenLemmas.{Seen, Stand, seen_append, seen_front, seen_back, stand_whole, name_stands}

@@ -1,11 +1,9 @@
 -- The fields of a call keep what they keep, whatever its actions give.
-use Rattle.std.proofs.Common.{◌≡◌, ℕ, ◌+◌, ◌*◌, ◌/◌, ◌%◌, ◌<◌, ◌≤◌, ◌^◌, Bool, true, false, cond, ltb, List, Option, Some, None, IfSome, get_or, refl, sym, subst, ap, ◌∙◌, arith}
+use Rattle.std.proofs.Common.{◌≡◌, ℕ, ◌+◌, ◌%◌, ◌<◌, ◌≤◌, ◌^◌, true, false, cond, ltb, Option, Some, None, IfSome, refl, sym, subst, ap, ◌∙◌, arith}
 use Rattle.std.proofs.lemmas.Bool.{ltb-true}
 use Rattle.pm_words.specs.declared.layout.Layout.{Layout}
-use Rattle.pm_words.specs.declared.action.Action.{Action}
 use Rattle.pm_words.specs.declared.machine.Turn.{Turn}
 use Rattle.pm_words.specs.declared.machine.Turn.TheVariants.{Go, Done}
-use Rattle.pm_words.specs.Places.{node_words}
 use Rattle.data_node.specs.Slots.{AreAllLive}
 use Rattle.data_node.specs.Bits.{lowest_clear}
 use Rattle.data_node.specs.Spots.{bitmap_offset, print_offset, slot_offset}
@@ -14,7 +12,6 @@ use Rattle.call_stages.specs.declared.once.Once.{Once}
 use Rattle.call_stages.specs.declared.once.Placed.{Placed}
 use Rattle.call_stages.specs.Kinds.{Told}
 use Rattle.node_ops.specs.declared.call.Call.{Call}
-use Rattle.node_ops.specs.declared.lookup.Hold.{Hold}
 use Rattle.node_ops.specs.declared.lookup.Hit.{Hit}
 use Rattle.node_ops.specs.declared.lookup.Found.{Found}
 use Rattle.node_ops.specs.declared.lookup.Looked.{Looked}
@@ -38,14 +35,14 @@ use Rattle.node_ops.specs.declared.del.Del.TheVariants as del
 use Rattle.node_ops.specs.declared.running.Running.{Running}
 use Rattle.node_ops.specs.declared.running.Running.TheVariants.{Getting, Putting, Deleting}
 use Rattle.node_ops.specs.Calls.{IsCall}
-use Rattle.node_ops.specs.FenceSteps.{IsFence, IsFenceAt, fence_of, fence_next, fence_at_next}
+use Rattle.node_ops.specs.FenceSteps.{IsFence, fence_of, fence_next, fence_at_next}
 use Rattle.node_ops.specs.LookupSteps.{IsHit, IsFound, lookup_turned}
 use Rattle.node_ops.specs.FinishSteps.{IsFinish, IsFinishAt, finish_turned, finish_at_turned, finish_fenced}
-use Rattle.node_ops.specs.FillSteps.{IsFill, IsFillAt, fill_turned, fill_at_turned, slot_fenced, print_fenced, filled}
+use Rattle.node_ops.specs.FillSteps.{IsFill, IsFillAt, fill_turned, fill_at_turned, slot_fenced, print_fenced}
 use Rattle.node_ops.specs.GetSteps.{IsGet, get_call, get_asks, get_turned, get_looked}
 use Rattle.node_ops.specs.PutSteps.{IsPut, put_call, put_asks, put_turned, put_looked, put_into, put_full, put_filled, put_finished}
 use Rattle.node_ops.specs.DelSteps.{IsDel, del_call, del_asks, del_turned, del_looked, del_hit, del_finished}
-use Rattle.node_ops.specs.RunningSteps.{running_call, running_asks, running_turned, wrapped, Sound, IsRunning}
+use Rattle.node_ops.specs.RunningSteps.{running_call, running_asks, running_turned, wrapped, IsRunning}
 use Rattle.node_ops.specs.CallStages.{SoundAfter}
 use Rattle.node_ops.specs.Laws.{TurnsStaySound}
 use Rattle.node_ops.proofs.LookupSound.{SoundLooked, lookup_stays}

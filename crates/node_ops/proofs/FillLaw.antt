@@ -1,25 +1,23 @@
 -- Each turn of the writing of a pair into a clear slot is a step of a kind.
-use Rattle.std.proofs.Common.{◌≡◌, ℕ, zero, suc, ◌+◌, ◌*◌, ◌/◌, ◌%◌, ◌<◌, ◌≤◌, ◌^◌, Bool, true, false, cond, ltb, List, [], ◌∷◌, ◌++◌, Option, Some, None, IfSome, length, take, get_or, set, inl, inr, refl, sym, subst, ap, ◌∙◌, arith, length-append}
+use Rattle.std.proofs.Common.{◌≡◌, ℕ, zero, suc, ◌+◌, ◌%◌, ◌<◌, ◌≤◌, ◌^◌, Bool, true, false, cond, ltb, List, [], ◌∷◌, ◌++◌, Option, Some, None, IfSome, length, take, get_or, inl, inr, refl, sym, subst, ap, ◌∙◌, arith, length-append}
 use Rattle.std.specs.Int.{bit_at}
 use Rattle.std.specs.FinMap.{insert}
-use Rattle.std.proofs.lemmas.Bool.{cases_eq, cases_lt, ltb-true, ltb-false, lt-ltb}
+use Rattle.std.proofs.lemmas.Bool.{cases_eq, ltb-false, lt-ltb}
 use Rattle.std.proofs.lemmas.List.{get_or-set_same}
-use Rattle.cat_key.specs.Names.{IsName, words_of, fingerprint_of}
+use Rattle.cat_key.specs.Names.{words_of, fingerprint_of}
 use Rattle.cat_key.proofs.Packing.{length-words_of, get_or-words_of_below, name_bytes}
 use Rattle.cat_history.specs.Maps.{Map, at as map_at}
 use Rattle.cat_history.specs.declared.op.Change.TheVariants as change
 use Rattle.pm_words.specs.declared.action.Action.{Action}
 use Rattle.pm_words.specs.declared.machine.Turn.{Turn}
 use Rattle.pm_words.specs.declared.machine.Turn.TheVariants.{Go, Done}
-use Rattle.pm_words.specs.Places.{node_words}
 use Rattle.data_node.specs.Slots.{IsLive, IsClear, prints_of}
 use Rattle.data_node.specs.Bits.{with_live, without_live, printed}
-use Rattle.data_node.specs.Spots.{Spot, updated, bitmap_offset, print_offset, slot_offset, IsLiveIn, name_words, value_in, print_in_spot, Means}
+use Rattle.data_node.specs.Spots.{Spot, updated, bitmap_offset, print_offset, slot_offset, IsLiveIn, name_words, Means}
 use Rattle.data_node.proofs.BitLemmas.{with_live_below, without_live_below, printed_below, prints_of-printed}
 use Rattle.data_node.proofs.SpotLemmas.{updated-same, updated-other, lacks}
 use Rattle.data_node.proofs.StoreLemmas.{HasPair, means_slot_store, means_print_store, means_added, means_moved_from}
-use Rattle.call_stages.specs.declared.once.Once.{Once}
-use Rattle.call_stages.specs.Stages.{Known, Knows, Stage, Idle, Holds}
+use Rattle.call_stages.specs.Stages.{Knows, Stage, Holds}
 use Rattle.call_stages.specs.Kinds.{Step, stores, commits}
 use Rattle.node_ops.specs.declared.call.Call.{Call}
 use Rattle.node_ops.specs.declared.lookup.Hit.{Hit}
@@ -28,10 +26,10 @@ use Rattle.node_ops.specs.declared.fill.Fill.{Fill}
 use Rattle.node_ops.specs.declared.fill.FillAt.{FillAt}
 use Rattle.node_ops.specs.declared.fill.FillAt.TheVariants as fill_at
 use Rattle.node_ops.specs.declared.finish.Finish.{Finish}
-use Rattle.node_ops.specs.Calls.{IsCall, name_in}
+use Rattle.node_ops.specs.Calls.{name_in}
 use Rattle.node_ops.specs.LookupSteps.{value_of, IsHit}
 use Rattle.node_ops.specs.FenceSteps.{fence_asks, fence_next}
-use Rattle.node_ops.specs.FillSteps.{IsFill, IsFillAt, fill_word, bitmap_without, bitmap_after, fill_asks, fill_at_asks, fill_turned, fill_at_turned, slot_fenced, print_fenced, filled}
+use Rattle.node_ops.specs.FillSteps.{IsFill, IsFillAt, fill_word, bitmap_without, bitmap_after, fill_asks, fill_at_asks, fill_turned, fill_at_turned, slot_fenced, print_fenced}
 use Rattle.node_ops.specs.CallStages.{words_from, nothing, knows, decided, seen_hit, seen_fill, pair_words, fill_stage, fill_at_known, finish_stage}
 use Rattle.node_ops.proofs.SeenLemmas.{Seen, Stand, seen_append, seen_front, seen_back, stand_taken, taken_stand, stand_whole, whole_stand, stand_updated, name_stands}
 use Rattle.node_ops.proofs.FinishLaw.{Fences, fence_leads}

@@ -1,33 +1,30 @@
 -- Each turn of a look-up is a step of a kind. At its end the next step of the call may rely on what the name has.
-use Rattle.std.proofs.Common.{◌≡◌, ℕ, zero, suc, ◌+◌, ◌-◌, ◌*◌, ◌%◌, ◌<◌, ◌≤◌, ◌^◌, ◌==◌, ◌||◌, ◌&&◌, Bool, true, false, cond, ltb, leb, List, [], ◌∷◌, ◌++◌, Option, Some, None, IfSome, length, take, get_or, set, inl, inr, ⊎_elim, refl, sym, subst, ap, ◌∙◌, arith}
+use Rattle.std.proofs.Common.{◌≡◌, ℕ, zero, suc, ◌+◌, ◌%◌, ◌<◌, ◌≤◌, ◌==◌, ◌||◌, Bool, true, false, cond, ltb, List, [], ◌∷◌, ◌++◌, Option, Some, None, IfSome, length, take, get_or, set, inl, inr, ⊎_elim, refl, sym, subst, ap, ◌∙◌, arith}
 use Rattle.std.specs.Int.{bit_at}
 use Rattle.std.proofs.Math.ListN.{length-set}
 use Rattle.std.proofs.lemmas.Bool.{eqb-true, eqb-false, ltb-true, ltb-false, leb-false, lt-ltb, eq-eqb, or_cases, and_parts, and_from, both_ways}
 use Rattle.std.proofs.lemmas.Nat.Bits.{bit_at-zero}
-use Rattle.cat_key.specs.Names.{words_of, bytes_of, fingerprint_of}
+use Rattle.cat_key.specs.Names.{words_of}
 use Rattle.cat_key.proofs.Packing.{length-words_of}
 use Rattle.cat_history.specs.Maps.{Map, at}
 use Rattle.cat_history.specs.Writes.{name_of}
 use Rattle.cat_history.specs.declared.op.Change.{Change}
 use Rattle.pm_words.specs.declared.action.Action.{Action}
-use Rattle.pm_words.specs.declared.action.Action.TheVariants.{Load, Store, Exchange}
+use Rattle.pm_words.specs.declared.action.Action.TheVariants.{Load, Exchange}
 use Rattle.pm_words.specs.declared.again.Again.TheVariants.{Locked, Moved}
 use Rattle.pm_words.specs.declared.machine.Turn.{Turn}
 use Rattle.pm_words.specs.declared.machine.Turn.TheVariants.{Go, Done}
 use Rattle.pm_words.specs.Places.{node_words}
-use Rattle.version_lock.specs.declared.TheConstants.{LAST_COUNT}
-use Rattle.version_lock.specs.Versions.{generation_of, count_of, kept_count, locked_word, IsFree, IsWorn}
+use Rattle.version_lock.specs.Versions.{generation_of, kept_count, locked_word, IsFree, IsWorn}
 use Rattle.data_node.specs.Slots.{IsLive}
 use Rattle.data_node.specs.Bits.{without_live, lowest_live, candidate_bits}
-use Rattle.data_node.specs.Spots.{Spot, bitmap_offset, slot_offset, IsLiveIn, name_words, value_in, IsTidy, Means}
-use Rattle.data_node.proofs.BitLemmas.{IsLowestLive, lowest_live-some, lowest_live-none, without_live-other}
+use Rattle.data_node.specs.Spots.{Spot, bitmap_offset, slot_offset, IsLiveIn, name_words, IsTidy, Means}
+use Rattle.data_node.proofs.BitLemmas.{lowest_live-some, lowest_live-none, without_live-other}
 use Rattle.data_node.proofs.SpotLemmas.{at_found, at_missing}
 use Rattle.data_node.proofs.StoreLemmas.{candidates_cover}
-use Rattle.call_stages.specs.declared.once.Once.{Once}
 use Rattle.call_stages.specs.declared.once.Once.TheVariants as once
-use Rattle.call_stages.specs.declared.once.Placed.{Placed}
 use Rattle.call_stages.specs.Stages.{Known, Knows, Stage, Idle, Saw, Holds, just_held, pended}
-use Rattle.call_stages.specs.Kinds.{Told, HasWordAt, word_place, version_place, clock_place, Look, Step, looks, locks, unlocks, turns_back, is_worn, sees, misses, times, learns, decides, is_spent}
+use Rattle.call_stages.specs.Kinds.{HasWordAt, clock_place, Step, looks, locks, unlocks, turns_back, is_worn, sees, misses, times, learns, decides, is_spent}
 use Rattle.node_ops.specs.declared.call.Call.{Call}
 use Rattle.node_ops.specs.declared.lookup.Hold.{Hold}
 use Rattle.node_ops.specs.declared.lookup.Directory.{Directory}
@@ -40,7 +37,7 @@ use Rattle.node_ops.specs.declared.lookup.LookupAt.TheVariants as look
 use Rattle.node_ops.specs.declared.lookup.Lookup.{Lookup}
 use Rattle.node_ops.specs.Calls.{IsCall, name_in, call_place}
 use Rattle.node_ops.specs.LookupSteps.{is_free_word, is_worn_word, is_spent as has_reached, value_of, goes_to, ends, finds, saw_version, tried_lock, saw_clock, saw_prints, saw_name, saw_directory, next_candidate, candidate_turned, lookup_at_asks, lookup_at_turned, IsComparing, IsLookupAt}
-use Rattle.node_ops.specs.CallStages.{words_from, nothing, knows, timed, lookup_at_stage, lookup_stage}
+use Rattle.node_ops.specs.CallStages.{words_from, knows, timed, lookup_at_stage, lookup_stage}
 use Rattle.node_ops.proofs.SeenLemmas.{Seen, Stand, seen_append, seen_front, seen_back, stand_taken, taken_stand, stand_whole, whole_stand, stand_more, stand_set, name_stands}
 
 -- what is known of the node once the name is looked up: the directory, and the name's words in the slot that has it

@@ -1,13 +1,13 @@
 -- What a turn leaves to be done.
-use Rattle.std.proofs.Common.{◌≡◌, ℕ, ◌+◌, ◌-◌, ◌*◌, ◌<◌, ◌≤◌, ◌^◌, ◌==◌, Bool, true, false, cond, ltb, List, Option, Some, None, get_or, inl, inr, refl, sym, subst, ap, ◌∙◌, arith}
+use Rattle.std.proofs.Common.{◌≡◌, ℕ, ◌+◌, ◌-◌, ◌*◌, ◌<◌, ◌≤◌, ◌==◌, true, false, cond, ltb, Option, Some, None, get_or, inl, inr, refl, sym, subst, ◌∙◌, arith}
 use Rattle.std.specs.Int.{bit_at}
-use Rattle.std.proofs.lemmas.Bool.{cases_eq, cases_lt, ltb-true, ltb-false}
+use Rattle.std.proofs.lemmas.Bool.{cases_lt, ltb-true}
 use Rattle.pm_words.specs.declared.machine.Turn.{Turn}
 use Rattle.pm_words.specs.declared.machine.Turn.TheVariants.{Go, Done}
 use Rattle.pm_words.specs.Turns.{GoesBelow}
 use Rattle.data_node.specs.Slots.{IsLive}
 use Rattle.data_node.specs.Bits.{without_live, lowest_live}
-use Rattle.data_node.proofs.BitLemmas.{IsLowestLive, lowest_live-some, without_live-same, without_live-other, without_live_below}
+use Rattle.data_node.proofs.BitLemmas.{lowest_live-some, without_live-same, without_live-other, without_live_below}
 use Rattle.node_ops.specs.declared.call.Call.{Call}
 use Rattle.node_ops.specs.declared.lookup.Hold.{Hold}
 use Rattle.node_ops.specs.declared.lookup.Directory.{Directory}
@@ -15,14 +15,16 @@ use Rattle.node_ops.specs.declared.lookup.LookupAt.{LookupAt}
 use Rattle.node_ops.specs.declared.lookup.LookupAt.TheVariants as look
 use Rattle.node_ops.specs.declared.lookup.Lookup.{Lookup}
 use Rattle.node_ops.specs.declared.lookup.Looked.{Looked}
-use Rattle.node_ops.specs.declared.fence.FenceAt.{FenceAt}
-use Rattle.node_ops.specs.declared.fence.FenceAt.TheVariants as fence_at
 use Rattle.node_ops.specs.declared.fence.Fence.{Fence}
 use Rattle.node_ops.specs.declared.fill.Fill.{Fill}
 use Rattle.node_ops.specs.declared.fill.FillAt.{FillAt}
 use Rattle.node_ops.specs.declared.fill.FillAt.TheVariants as fill_at
 use Rattle.node_ops.specs.declared.finish.Finish.{Finish}
+use Rattle.call_stages.specs.declared.once.Once.{Once}
+use Rattle.call_stages.specs.declared.once.Placed.{Placed}
+use Rattle.node_ops.specs.declared.running.Running.{Running}
 use Rattle.node_ops.specs.FenceSteps.{fence_next}
+use Rattle.node_ops.specs.RunningSteps.{running_left}
 use Rattle.node_ops.specs.LookupSteps.{IsLookup, IsLookupAt, IsComparing, lookup_left, lookup_at_left, saw_name, next_candidate, candidate_turned}
 use Rattle.node_ops.specs.FinishSteps.{finish_left}
 use Rattle.node_ops.specs.FillSteps.{fill_turned, fill_at_turned, fill_left, fill_at_left, filled, slot_fenced, print_fenced}
@@ -113,3 +115,8 @@ filled_fewer fill got finish is = at fill.at is
     at (fill_at.FenceSlot fence) is = absurd (slot_goes_on (fence_next fence got) is)
     at (fill_at.FencePrint fence) is = absurd (print_goes_on (fence_next fence got) is)
     at fill_at.Bitmap is = let same : finish ≡ filled fill = cc in subst (λ (f : Finish). finish_left f < 19) (sym same) (omega arith)
+
+-- what is left after a turn: nothing once it is done
+abbrev pub turn_left : Turn Running (Once Placed) → ℕ
+turn_left (Go running) = running_left running + 1
+turn_left (Done answer) = 0

@@ -1,5 +1,5 @@
 -- A call stays one of its op, and makes no other change than the op's.
-use Rattle.std.proofs.Common.{◌≡◌, ℕ, ◌+◌, Bool, true, false, cond, ltb, List, Option, Some, None, IfSome, refl, sym, subst, ap, ◌∙◌}
+use Rattle.std.proofs.Common.{◌≡◌, ℕ, ◌+◌, true, false, cond, ltb, List, Option, Some, None, IfSome, refl, sym, subst, ap, ◌∙◌}
 use Rattle.pm_words.specs.declared.layout.Layout.{Layout}
 use Rattle.pm_words.specs.declared.machine.Turn.{Turn}
 use Rattle.pm_words.specs.declared.machine.Turn.TheVariants.{Go, Done}
@@ -43,9 +43,9 @@ use Rattle.node_ops.specs.FillSteps.{fill_turned, fill_at_turned, slot_fenced, p
 use Rattle.node_ops.specs.GetSteps.{IsGet, get_call, get_turned}
 use Rattle.node_ops.specs.PutSteps.{IsPut, put_call, put_turned, put_looked, put_into, put_full, put_filled, put_finished}
 use Rattle.node_ops.specs.DelSteps.{IsDel, del_call, del_turned, del_looked, del_hit, del_finished}
-use Rattle.node_ops.specs.RunningSteps.{running_call, running_asks, running_turned, wrapped, Sound, IsRunning}
-use Rattle.node_ops.specs.CallStages.{stage_of, lookup_at_stage, finish_at_held, change_of}
-use Rattle.node_ops.specs.Asked.{Gives, TakesOut, IsOf, IsOfAfter, IsAbout, name_asked, change_asked}
+use Rattle.node_ops.specs.RunningSteps.{running_call, running_asks, running_turned, wrapped, IsRunning}
+use Rattle.node_ops.specs.CallStages.{lookup_at_stage, finish_at_held, change_of}
+use Rattle.node_ops.specs.Asked.{Gives, TakesOut, IsOf, IsOfAfter, IsAbout}
 use Rattle.node_ops.specs.Laws.{TurnsKeepOp, CountsOwnChange, HoldsOwnName}
 use Rattle.node_ops.proofs.CallSound.{Stays, get_stays, put_stays, del_stays}
 

@@ -1,10 +1,10 @@
 -- Words of a node that a call knows, and what is left of them by a store.
-use Rattle.std.proofs.Common.{◌≡◌, ℕ, zero, suc, ◌+◌, ◌*◌, ◌<◌, ◌≤◌, ◌⊎◌, List, [], ◌∷◌, ◌++◌, Option, Some, None, IfSome, length, take, get_or, set, inl, inr, refl, sym, subst, ap, ◌∙◌, arith}
+use Rattle.std.proofs.Common.{◌≡◌, ℕ, zero, suc, ◌+◌, ◌<◌, ◌≤◌, List, [], ◌∷◌, ◌++◌, length, take, get_or, set, inl, inr, sym, subst, ◌∙◌, arith}
 use Rattle.std.specs.List.{AllByRecursion}
-use Rattle.std.proofs.lemmas.Bool.{cases_eq, cases_lt}
+use Rattle.std.proofs.lemmas.Bool.{cases_eq}
 use Rattle.std.proofs.lemmas.List.{get_or-set_same, get_or-set_other}
 use Rattle.data_node.specs.Spots.{Spot, updated, slot_offset, name_words}
-use Rattle.data_node.proofs.SpotLemmas.{updated-same, updated-other}
+use Rattle.data_node.proofs.SpotLemmas.{updated-other}
 use Rattle.node_ops.specs.CallStages.{words_from}
 
 -- the node's words are these

@@ -1,5 +1,5 @@
 -- The end of a write whose store is made, step by step.
-use Rattle.std.specs.Prelude.{ℕ, ◌+◌, ◌^◌, ◌<◌, Option, Some, None}
+use Rattle.std.specs.Prelude.{ℕ, ◌+◌, Option, Some, None}
 use Rattle.pm_words.specs.declared.action.Action.{Action}
 use Rattle.pm_words.specs.declared.action.Action.TheVariants.{Store, Add}
 use Rattle.pm_words.specs.declared.machine.Turn.{Turn}

@@ -1,4 +1,4 @@
-ghost use Rattle.std.specs.Prelude.{◌≡◌, ℕ, IsTrue, IfOk};
+ghost use Rattle.std.specs.Prelude.{◌≡◌, ℕ, IsTrue};
 ghost use Rattle.pm_words.specs.Layouts.{IsLayout};
 ghost use Rattle.call_stages.specs.Kinds.{Told, version_place};
 ghost use Rattle.node_ops.specs.RunningSteps.{Sound};
@@ -8,7 +8,6 @@ use call_stages::{Once, Placed};
 use cat_key::Name;
 use pm_words::offsets::node;
 use pm_words::{Action, Again, Layout, Machine, Turn};
-use std::alloc::Global;
 use std::process::Abort;
 use std::test::Fail;
 use version_lock::{GENERATION_UNIT, LAST_COUNT};
@@ -16,19 +15,32 @@ use version_lock::{GENERATION_UNIT, LAST_COUNT};
 /// The limit of a call that is not to be refused.
 const FAR: u64 = 1 << 62;
 
+/// Words enough for the rows of all tests.
+const ROW: usize = 5000;
+
 /// A row of words on which calls run alone in generation 1, and how many actions were done on it.
 #[derive(Drop)]
 struct Row {
     layout: Layout,
     words: Vec<u64>,
     actions: u64,
+    ghost in_range: { IsLayout layout },
 }
 
 impl Row {
-    /// The place that an action works on: a drain's is the durable twin.
-    fn place_of(&self, rt: &impl Abort, action: Action) -> u64
-        requires { IsLayout self.now.layout }
+    fn new(layout: Layout, words: Vec<u64>) -> Row
+        requires { IsLayout layout }
+        ensures { result.layout ≡ layout }
     {
+        Row {
+            layout,
+            words,
+            actions: 0,
+        }
+    }
+
+    /// The place that an action works on: a drain's is the durable twin.
+    fn place_of(&self, rt: &impl Abort, action: Action) -> u64 {
         match action {
             Action::Load(place)
             | Action::Store(place, _)
@@ -41,7 +53,6 @@ impl Row {
     }
 
     fn act(&mut self, rt: &impl Abort, action: Action) -> u64
-        requires { IsLayout self.old.layout }
         ensures { self.new.layout ≡ self.old.layout }
     {
         let place = self.place_of(rt, action) as usize;
@@ -70,9 +81,7 @@ impl Row {
 
 impl Row {
     /// The cached and the durable word of node 0 with this offset.
-    fn twins(&self, rt: &impl Abort, offset: u64) -> (u64, u64)
-        requires { IsLayout self.now.layout }
-    {
+    fn twins(&self, rt: &impl Abort, offset: u64) -> (u64, u64) {
         assert!(rt; offset < 16 + 4 * self.layout.slots(), "{offset}");
         let word = self.layout.node_word(0, offset);
         let cached = self.layout.cached(word) as usize;
@@ -108,8 +117,7 @@ fn tell(rt: &impl Abort, layout: &Layout, action: Action, got: u64)
 
 /// Runs a call to its answer.
 fn run(rt: &impl Abort, row: &mut Row, call: Running) -> Once<Placed>
-    requires layout { IsLayout row.old.layout }
-    requires sound { Sound row.old.layout 1 call }
+    requires { Sound row.old.layout 1 call }
     ensures { row.new.layout ≡ row.old.layout }
 {
     let mut turn = Turn::Go(call);
@@ -173,19 +181,6 @@ fn done(old: Option<u64>, place: u64) -> Once<Placed> {
     })
 }
 
-/// A fresh node of this many slots.
-fn fresh(rt: &impl Abort, alloc: Global, slots: u64) -> Result<Row, Fail>
-    ensures { IfOk result (λ row. IsLayout row.layout) }
-{
-    let layout = Layout::new(1, slots, 1).ok().expect(rt, "a layout");
-    let words = vec![in alloc; 0u64; 2 * 8192]?;
-    Ok(Row {
-        layout,
-        words,
-        actions: 0,
-    })
-}
-
 /// Puts, gets and deletes on a node of four slots, one after another: what each answers, and in how many actions.
 ///
 /// A look-up takes 12 actions until the fingerprints are loaded, and three or four for each slot with the name's
@@ -193,7 +188,8 @@ fn fresh(rt: &impl Abort, alloc: Global, slots: u64) -> Result<Row, Fail>
 /// end a fence, the add and the unlock.
 #[test]
 fn one_caller_on_four_slots(rt: HostRuntime) -> Result<(), Fail> {
-    let mut row = fresh(&rt, rt.alloc(), 4)?;
+    let layout = Layout::new(1, 4, 1)?;
+    let mut row = Row::new(layout, vec![in rt.alloc(); 0u64; ROW]?);
     let put = |letter: u8, value: u64| Ask::Put {
         letter,
         value,
@@ -270,7 +266,8 @@ fn one_caller_on_four_slots(rt: HostRuntime) -> Result<(), Fail> {
 
 #[test]
 fn sixty_four_slots_take_no_longer(rt: HostRuntime) -> Result<(), Fail> {
-    let mut row = fresh(&rt, rt.alloc(), 64)?;
+    let layout = Layout::new(1, 64, 1)?;
+    let mut row = Row::new(layout, vec![in rt.alloc(); 0u64; ROW]?);
     let calls = [
         (
             Ask::Put {
@@ -300,27 +297,10 @@ fn sixty_four_slots_take_no_longer(rt: HostRuntime) -> Result<(), Fail> {
     Ok(())
 }
 
-/// A node that is locked in this run, or worn, turns every call back at its first action.
-#[test]
-fn locked_and_worn_nodes(rt: HostRuntime) -> Result<(), Fail> {
-    let locked = GENERATION_UNIT + 7;
-    let worn = GENERATION_UNIT + 2 * LAST_COUNT;
-    let answers = [
-        (
-            locked,
-            Once::Again(Again::Locked {
-                node: 0,
-                word: locked,
-            }),
-        ),
-        (
-            worn,
-            Once::Worn {
-                node: 0,
-                word: worn,
-            },
-        ),
-    ];
+/// On a node with this version word every call is answered so, at its first action.
+fn all_turn_back(rt: &impl Abort, mut row: Row, word: u64, answer: Once<Placed>) {
+    let place = row.layout.cached(row.layout.node_word(0, node::VERSION));
+    row.act(rt, Action::Store(place, word));
     let asks = [
         Ask::Get { letter: b'a' },
         Ask::Put {
@@ -333,16 +313,22 @@ fn locked_and_worn_nodes(rt: HostRuntime) -> Result<(), Fail> {
             limit: FAR,
         },
     ];
-    for (word, answer) in answers {
-        let mut row = fresh(&rt, rt.alloc(), 4)?;
-        let place = row.layout.cached(row.layout.node_word(0, node::VERSION));
-        row.act(&rt, Action::Store(place, word));
+    for ask in asks {
         row.actions = 0;
-        for ask in asks {
-            let call = started(&rt, row.layout, ask);
-            assert_eq!(rt; run(&rt, &mut row, call), answer, "{ask:?}");
-        }
-        assert_eq!(rt; row.actions, 3, "{answer:?}");
+        let call = started(rt, row.layout, ask);
+        assert_eq!(rt; run(rt, &mut row, call), answer, "{ask:?}");
+        assert_eq!(rt; row.actions, 1, "{ask:?}");
     }
+}
+
+#[test]
+fn locked_and_worn_nodes(rt: HostRuntime) -> Result<(), Fail> {
+    let layout = Layout::new(1, 4, 1)?;
+    let word = GENERATION_UNIT + 7;
+    let row = Row::new(layout, vec![in rt.alloc(); 0u64; ROW]?);
+    all_turn_back(&rt, row, word, Once::Again(Again::Locked { node: 0, word }));
+    let word = GENERATION_UNIT + 2 * LAST_COUNT;
+    let row = Row::new(layout, vec![in rt.alloc(); 0u64; ROW]?);
+    all_turn_back(&rt, row, word, Once::Worn { node: 0, word });
     Ok(())
 }

@@ -1,4 +1,4 @@
-use Rattle.std.proofs.Common.{◌≡◌, ◌<◌, ◌≤◌, sym, subst, ap, ◌∙◌, arith}
+use Rattle.std.proofs.Common.{◌≤◌, sym, subst, ap, ◌∙◌, arith}
 use Rattle.cat_key.specs.Names.{IsPacked, bytes_of, fingerprint_of}
 use Rattle.cat_key.proofs.Packing.{packed_from_name, bytes_of-words_of}
 use Rattle.node_ops.proofs.call.Call.new.Goals as goal
