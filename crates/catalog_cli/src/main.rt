@@ -10,7 +10,6 @@ mod tests;
 use cat_text::{StandardInput, StandardOutput};
 pub use catalog::catalog;
 pub use status::{Status, Verb};
-use std::alloc::AllocError;
 use std::process::ExitCode;
 use std::rt::Env;
 use std::{env, io};
@@ -25,33 +24,54 @@ const BUILT: &str =
 
 const VERSION: &str = "catalog 0.1.0";
 
-fn main(rt: HostRuntime) -> io::Result<ExitCode> {
-    let words = arguments(&rt)?;
-    match only_word(&words) {
-        Some("--help") => {
-            println!(rt; "{USAGE}\n{BUILT}")?;
-            return Ok(ExitCode::SUCCESS);
-        }
-        Some("--version") => {
-            println!(rt; "{VERSION}")?;
-            return Ok(ExitCode::SUCCESS);
-        }
-        _ => {}
-    }
-    let mut script = StandardInput::new(rt.stdin());
-    let mut out = StandardOutput::new(rt.stdout());
-    let status = catalog(rt.alloc(), &words, &mut script, &mut out);
+fn main(rt: HostRuntime) -> ExitCode {
+    let status = run(&rt);
     if status != Status::Done {
-        eprintln!(rt; "catalog: {status}")?;
+        // Where not even this can be written, the exit code still tells.
+        let _ = eprintln!(rt; "catalog: {status}");
     }
-    Ok(ExitCode::from(status.code()))
+    ExitCode::from(status.code())
 }
 
-/// The words behind the program's name.
-fn arguments<R: Env + AllocGlobal>(rt: &R) -> io::Result<Vec<String>> {
+/// Answers `--help` and `--version`, and hands every other command on.
+fn run(rt: &HostRuntime) -> Status {
+    let words = match arguments(rt) {
+        Ok(words) => words,
+        Err(status) => return status,
+    };
+    match only_word(&words) {
+        Some("--help") => shown(println!(rt; "{USAGE}\n{BUILT}")),
+        Some("--version") => shown(println!(rt; "{VERSION}")),
+        _ => {
+            let mut script = StandardInput::new(rt.stdin());
+            let mut out = StandardOutput::new(rt.stdout());
+            catalog(rt.alloc(), &words, &mut script, &mut out)
+        }
+    }
+}
+
+/// How an answer of `main`'s own ends.
+fn shown(printed: io::Result<()>) -> Status {
+    match printed {
+        Ok(()) => Status::Done,
+        Err(_) => Status::Write,
+    }
+}
+
+/// The words behind the program's name. Words that are no text are those of no command.
+fn arguments<R: Env + AllocGlobal>(rt: &R) -> Result<Vec<String>, Status> {
+    let args = match env::args(rt) {
+        Ok(args) => args,
+        Err(error) if matches!(error.kind(), io::ErrorKind::InvalidData) => {
+            return Err(Status::NotBuilt(Verb::Play));
+        }
+        Err(_) => return Err(Status::NoMemory),
+    };
     let mut words = Vec::new(rt.alloc());
-    for word in env::args(rt)?.skip(1) {
-        words.push(word)?;
+    for word in args.skip(1) {
+        if words.push(word).is_err() {
+            return Err(Status::NoMemory);
+        }
     }
     Ok(words)
 }
