@@ -1,6 +1,6 @@
 -- The words of a command, one by one.
 use Rattle.std.proofs.Common.{◌≡◌, ℕ, ◌<◌, ◌≤◌, List, [], ◌∷◌, length, get_or, map, refl, sym, ap, subst, ◌∙◌, arith}
-use Rattle.std.specs.Prelude.{Result, Ok, Err, Some, IfOk, codes}
+use Rattle.std.specs.Prelude.{Result, Ok, Err, Some, IfOk}
 use Rattle.std.specs.Result.{result_ok}
 use Rattle.std.proofs.lemmas.Option.{none-some, same_Some}
 use Rattle.cat_text.specs.Scripts.{IsNumber}
