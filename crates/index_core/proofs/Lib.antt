@@ -1,0 +1,7 @@
+pub mod Lists
+pub mod Owing
+pub mod Stepping
+pub mod Fresh
+pub mod Phases
+pub mod Lonely
+pub mod Alone

@@ -1,0 +1,82 @@
+-- Lists of entries, read by their places.
+use Rattle.std.proofs.Common.{◌≡◌, ℕ, zero, suc, ◌+◌, ◌<◌, ◌⊎◌, inl, inr, ⊎_elim, true, false, is_some, List, [], ◌∷◌, ◌++◌, length, get_or, set, map, refl, sym, ap, ◌∙◌, arith}
+use Rattle.std.proofs.lemmas.List.{length-append}
+use Rattle.std.specs.Prelude.{Option, Some, None}
+use mathlib.Core.Option.{some, some-injective, some-ne-none}
+use lib.ListN.{get_elem?}
+use Rattle.index_core.specs.declared.entry.Entry.{Entry}
+use Rattle.index_core.specs.Entries.{idle_entry, idle_entries, machine_owes, owed}
+
+module _ {A : Type 0} where
+  pub within : (l : List A) (i : ℕ) (a : A) → get_elem? l i ≡ some a → i < length l
+  within [] i a e = absurd (some-ne-none a (sym e))
+  within (x ∷ xs) zero a e = omega arith
+  within (x ∷ xs) (suc i) a e = let h = within xs i a e in omega arith
+
+  pub there_is : (l : List A) (i : ℕ) → i < length l → (a : A) × (get_elem? l i ≡ some a)
+  there_is [] i h = absurd (omega arith)
+  there_is (x ∷ xs) zero h = (x, refl)
+  there_is (x ∷ xs) (suc i) h = there_is xs i (omega arith)
+
+  -- an element read by its index
+  pub read_is : (l : List A) (i : ℕ) (a b : A) → get_elem? l i ≡ some a → b ≡ get_or l i b → b ≡ a
+  read_is [] i a b e d = absurd (some-ne-none a (sym e))
+  read_is (x ∷ xs) zero a b e d = d ∙ some-injective x a e
+  read_is (x ∷ xs) (suc i) a b e d = read_is xs i a b e d
+
+  -- the last one stands at the length of those before it
+  pub at_end : (l : List A) (a b : A) (i : ℕ) → get_elem? (l ++ a ∷ []) i ≡ some b → (get_elem? l i ≡ some b) ⊎ ((i ≡ length l) × (a ≡ b))
+  at_end [] a b zero e = inr (refl, some-injective a b e)
+  at_end [] a b (suc i) e = absurd (some-ne-none b (sym e))
+  at_end (x ∷ xs) a b zero e = inl e
+  at_end (x ∷ xs) a b (suc i) e = ⊎_elim (λ t. inl t) (λ t. inr (ap suc t.0, t.1)) (at_end xs a b i e)
+
+module _ {A B : Type 0} (f : A → B) where
+  pub map_there : (l : List A) (i : ℕ) (a : A) → get_elem? l i ≡ some a → get_elem? (map f l) i ≡ some (f a)
+  map_there [] i a e = absurd (some-ne-none a (sym e))
+  map_there (x ∷ xs) zero a e = ap (λ y. some (f y)) (some-injective x a e)
+  map_there (x ∷ xs) (suc i) a e = map_there xs i a e
+
+  pub map_from : (l : List A) (i : ℕ) (b : B) → get_elem? (map f l) i ≡ some b → (a : A) × (get_elem? l i ≡ some a) × (f a ≡ b)
+  map_from [] i b e = absurd (some-ne-none b (sym e))
+  map_from (x ∷ xs) zero b e = (x, refl, some-injective (f x) b e)
+  map_from (x ∷ xs) (suc i) b e = map_from xs i b e
+
+  pub map_set : (l : List A) (i : ℕ) (a : A) → map f (set l i a) ≡ set (map f l) i (f a)
+  map_set [] i a = refl
+  map_set (x ∷ xs) zero a = refl
+  map_set (x ∷ xs) (suc i) a = ap (λ ys. f x ∷ ys) (map_set xs i a)
+
+pub idle-length : (callers : ℕ) → length (idle_entries callers) ≡ callers
+idle-length zero = refl
+idle-length (suc callers) = let one = length-append (idle_entries callers) (idle_entry callers ∷ []) in let before = idle-length callers in omega arith
+
+pub idle-each : (callers i : ℕ) (entry : Entry) → get_elem? (idle_entries callers) i ≡ some entry → entry ≡ idle_entry i
+idle-each zero i entry e = absurd (some-ne-none entry (sym e))
+idle-each (suc callers) i entry e =
+    ⊎_elim
+    (λ (before : get_elem? (idle_entries callers) i ≡ some entry). idle-each callers i entry before)
+    (λ (last : (i ≡ length (idle_entries callers)) × (idle_entry callers ≡ entry)). sym last.1 ∙ ap idle_entry (sym (last.0 ∙ idle-length callers)))
+    (at_end (idle_entries callers) (idle_entry callers) entry i e)
+
+owed-append : (l : List Entry) (entry : Entry) → owed (l ++ entry ∷ []) ≡ owed l + machine_owes entry.machine
+owed-append [] entry = omega arith
+owed-append (x ∷ xs) entry = let rest = owed-append xs entry in omega arith
+
+pub idle-owed : (callers : ℕ) → owed (idle_entries callers) ≡ 0
+idle-owed zero = refl
+idle-owed (suc callers) = owed-append (idle_entries callers) (idle_entry callers) ∙ ap (λ (n : ℕ). n + 0) (idle-owed callers)
+
+-- what is owed once one entry is another
+pub owed-set : (l : List Entry) (i : ℕ) (was now : Entry) → get_elem? l i ≡ some was → owed (set l i now) + machine_owes was.machine ≡ owed l + machine_owes now.machine
+owed-set [] i was now e = absurd (some-ne-none was (sym e))
+owed-set (x ∷ xs) zero was now e = let same = ap (λ (d : Entry). machine_owes d.machine) (some-injective x was e) in omega arith
+owed-set (x ∷ xs) (suc i) was now e = let rest = owed-set xs i was now e in omega arith
+
+pub none_of : {A : Type 0} → (o : Option A) → is_some o ≡ false → o ≡ None
+none_of None e = refl
+none_of (Some a) e = absurd (cc)
+
+pub some_of : {A : Type 0} → (o : Option A) → is_some o ≡ true → (a : A) × (o ≡ Some a)
+some_of None e = absurd (cc)
+some_of (Some a) e = (a, refl)

@@ -1,0 +1,160 @@
+-- Each turn of a call pays what it counts from what it owes.
+use Rattle.std.proofs.Common.{◌≡◌, ℕ, ◌+◌, ◌-◌, ◌<◌, ◌≤◌, ◌^◌, true, false, List, [], ◌∷◌, length, refl, ◌∙◌, arith}
+use Rattle.std.specs.Prelude.{Option, Some, None, Result, Ok, Err, OnOk, min, nat_le}
+use Rattle.std.proofs.lemmas.Bool.{leb-true, leb-false}
+use Rattle.std.proofs.Math.Nat.{min-eq_left, min-eq_right}
+use Rattle.index_core.specs.declared.entry.Entry.{Entry}
+use Rattle.pm_words.specs.declared.machine.Turn.{Turn}
+use Rattle.pm_words.specs.declared.machine.Turn.TheVariants.{Go, Done}
+use Rattle.cat_history.specs.declared.op.Change.{Change}
+use Rattle.call_stages.specs.declared.once.Once.{Once}
+use Rattle.call_stages.specs.declared.once.Placed.{Placed}
+use Rattle.call_stages.specs.Stages.{counted}
+use Rattle.node_ops.specs.declared.call.Call.{Call}
+use Rattle.node_ops.specs.declared.lookup.Looked.{Looked}
+use Rattle.node_ops.specs.declared.lookup.Looked.TheVariants as looked
+use Rattle.node_ops.specs.declared.lookup.Lookup.{Lookup}
+use Rattle.node_ops.specs.declared.lookup.LookupAt.{LookupAt}
+use Rattle.node_ops.specs.declared.lookup.LookupAt.TheVariants as look
+use Rattle.node_ops.specs.declared.fence.Fence.{Fence}
+use Rattle.node_ops.specs.declared.finish.Finish.{Finish}
+use Rattle.node_ops.specs.declared.finish.FinishAt.{FinishAt}
+use Rattle.node_ops.specs.declared.finish.FinishAt.TheVariants as finish_at
+use Rattle.node_ops.specs.declared.get.Get.{Get}
+use Rattle.node_ops.specs.declared.get.Get.TheVariants as get
+use Rattle.node_ops.specs.declared.put.Put.{Put}
+use Rattle.node_ops.specs.declared.put.Put.TheVariants as put
+use Rattle.node_ops.specs.declared.del.Del.{Del}
+use Rattle.node_ops.specs.declared.del.Del.TheVariants as del
+use Rattle.node_ops.specs.declared.running.Running.{Running}
+use Rattle.node_ops.specs.declared.running.Running.TheVariants.{Getting, Putting, Deleting}
+use Rattle.node_ops.specs.FenceSteps.{fence_next}
+use Rattle.node_ops.specs.LookupSteps.{lookup_turned}
+use Rattle.node_ops.specs.FinishSteps.{finish_fenced}
+use Rattle.node_ops.specs.GetSteps.{get_turned, get_looked}
+use Rattle.node_ops.specs.PutSteps.{put_finished}
+use Rattle.node_ops.specs.DelSteps.{del_finished}
+use Rattle.node_ops.specs.RunningSteps.{running_turned, wrapped}
+use Rattle.node_ops.specs.CallStages.{stage_of, lookup_at_stage, lookup_stage, finish_stage}
+use Rattle.index_law.specs.Worlds.{written}
+use Rattle.index_core.specs.Entries.{owes, machine_owes, owed}
+
+-- what a call owes after a turn
+abbrev pub owes_after : Turn Running (Once Placed) → ℕ
+owes_after (Go running) = owes running
+owes_after (Done answer) = 0
+
+lookup_counts : (call : Call) (at : LookupAt) → counted (lookup_at_stage call at) ≡ None
+lookup_counts call look.Version = refl
+lookup_counts call (look.Lock version locked) = refl
+lookup_counts call (look.Clock locked) = refl
+lookup_counts call (look.Spent hold) = refl
+lookup_counts call (look.Bitmap hold) = refl
+lookup_counts call (look.Prints hold bitmap prints k) = refl
+lookup_counts call (look.Name hold directory left slot k) = refl
+lookup_counts call (look.Value hold directory slot) = refl
+
+abbrev pub many : Option Change → ℕ
+many None = 0
+many (Some change) = 1
+
+put_one : (put : Put) → owes (Putting put) ≤ 1
+put_one (put.Looking lookup value) = omega arith
+put_one (put.Filling fill) = omega arith
+put_one (put.Replacing call hold bitmap hit value) = omega arith
+put_one (put.Refusing call hold bitmap) = omega arith
+put_one (put.Finishing finish) = at finish.at
+  where
+    at : (at : FinishAt) → owes (Putting (put.Finishing (record finish { at = at }))) ≤ 1
+    at (finish_at.Fence fence) = omega arith
+    at finish_at.Add = omega arith
+    at (finish_at.Unlock place) = omega arith
+
+del_one : (del : Del) → owes (Deleting del) ≤ 1
+del_one (del.Looking lookup) = omega arith
+del_one (del.Clearing call hold bitmap hit) = omega arith
+del_one (del.Finishing finish) = at finish.at
+  where
+    at : (at : FinishAt) → owes (Deleting (del.Finishing (record finish { at = at }))) ≤ 1
+    at (finish_at.Fence fence) = omega arith
+    at finish_at.Add = omega arith
+    at (finish_at.Unlock place) = omega arith
+
+pub owes_one : (running : Running) → owes running ≤ 1
+owes_one (Getting get) = omega arith
+owes_one (Putting put) = put_one put
+owes_one (Deleting del) = del_one del
+
+-- a call that owes one and counts nothing may turn as it likes
+after_one : (turn : Turn Running (Once Placed)) → owes_after turn ≤ 1
+after_one (Go running) = owes_one running
+after_one (Done answer) = omega arith
+
+get_pays : (get : Get) (x : ℕ) → (owes_after (wrapped Getting (get_turned get x)) ≡ 0) × (counted (stage_of (Getting get)) ≡ None)
+get_pays (get.Looking lookup) x = (at (lookup_turned lookup x), lookup_counts lookup.call lookup.at)
+  where
+    at : (turn : Turn Lookup Looked) → owes_after (wrapped Getting (get_looked lookup.call turn)) ≡ 0
+    at (Go next) = refl
+    at (Done (looked.Early answer)) = refl
+    at (Done (looked.Found found)) = refl
+get_pays (get.Unlocking call hold old) x = (refl, refl)
+
+put_finish_pays : (finish : Finish) (at : FinishAt) (x : ℕ)
+    → owes_after (running_turned (Putting (put.Finishing (record finish { at = at }))) x) + many (counted (finish_stage (record finish { at = at }))) ≤ owes (Putting (put.Finishing (record finish { at = at })))
+put_finish_pays finish (finish_at.Fence fence) x = fenced (fence_next fence x)
+  where
+    fenced : (next : Option Fence) → owes_after (wrapped Putting (put_finished (finish_fenced (record finish { at = finish_at.Fence fence }) next))) + 0 ≤ 1
+    fenced (Some next) = omega arith
+    fenced None = omega arith
+put_finish_pays finish finish_at.Add x = omega arith
+put_finish_pays finish (finish_at.Unlock place) x = omega arith
+
+del_finish_pays : (finish : Finish) (at : FinishAt) (x : ℕ)
+    → owes_after (running_turned (Deleting (del.Finishing (record finish { at = at }))) x) + many (counted (finish_stage (record finish { at = at }))) ≤ owes (Deleting (del.Finishing (record finish { at = at })))
+del_finish_pays finish (finish_at.Fence fence) x = fenced (fence_next fence x)
+  where
+    fenced : (next : Option Fence) → owes_after (wrapped Deleting (del_finished (finish_fenced (record finish { at = finish_at.Fence fence }) next))) + 0 ≤ 1
+    fenced (Some next) = omega arith
+    fenced None = omega arith
+del_finish_pays finish finish_at.Add x = omega arith
+del_finish_pays finish (finish_at.Unlock place) x = omega arith
+
+pub pays : (running : Running) (x : ℕ) → owes_after (running_turned running x) + many (counted (stage_of running)) ≤ owes running
+pays (Getting get) x = let is = get_pays get x in let none : many (counted (stage_of (Getting get))) ≡ 0 = rw is.1 refl in let zero_after = is.0 in omega arith
+pays (Putting (put.Looking lookup value)) x =
+    let one = after_one (running_turned (Putting (put.Looking lookup value)) x) in
+    let none : many (counted (lookup_stage lookup)) ≡ 0 = rw (lookup_counts lookup.call lookup.at) refl in
+    omega arith
+pays (Putting (put.Filling fill)) x = let one = after_one (running_turned (Putting (put.Filling fill)) x) in omega arith
+pays (Putting (put.Replacing call hold bitmap hit value)) x = omega arith
+pays (Putting (put.Refusing call hold bitmap)) x = omega arith
+pays (Putting (put.Finishing finish)) x = put_finish_pays finish finish.at x
+pays (Deleting (del.Looking lookup)) x =
+    let one = after_one (running_turned (Deleting (del.Looking lookup)) x) in
+    let none : many (counted (lookup_stage lookup)) ≡ 0 = rw (lookup_counts lookup.call lookup.at) refl in
+    omega arith
+pays (Deleting (del.Clearing call hold bitmap hit)) x = omega arith
+pays (Deleting (del.Finishing finish)) x = del_finish_pays finish finish.at x
+
+pub written-length : (caller index : ℕ) (change : Option Change) → length (written caller index change) ≡ many change
+written-length caller index None = refl
+written-length caller index (Some change) = refl
+
+-- each party owes one at most
+pub owed_within : (entries : List Entry) → owed entries ≤ length entries
+owed_within [] = omega arith
+owed_within (entry ∷ entries) = let rest = owed_within entries in let one = at_most entry.machine in omega arith
+  where
+    at_most : (machine : Option Running) → machine_owes machine ≤ 1
+    at_most None = omega arith
+    at_most (Some machine) = owes_one machine
+
+-- room for so many more beside what is owed
+pub room_made : {E : Type 0} → (r : Result (Unit {0}) E) (more writes parties len cap owing : ℕ) → OnOk r (len + more ≤ cap) → more ≡ min (writes + parties) (2 ^ 64 - 1) → owing ≤ parties → cap < 2 ^ 63
+    → OnOk r (writes ≤ cap - (len + owing))
+room_made (Ok unit) more writes parties len cap owing room is few small =
+    elim (nat_le (writes + parties) (2 ^ 64 - 1)) as (λ b. nat_le (writes + parties) (2 ^ 64 - 1) ≡ b → writes ≤ cap - (len + owing)) [
+      | true ↦ λ e. let same = is ∙ min-eq_left (leb-true (writes + parties) (2 ^ 64 - 1) e) in omega arith
+      | false ↦ λ e. let past = leb-false (writes + parties) (2 ^ 64 - 1) e in let most : 2 ^ 64 - 1 ≤ writes + parties = omega arith in let same = is ∙ min-eq_right most in omega arith
+    ] refl
+room_made (Err error) more writes parties len cap owing room is few small = tt

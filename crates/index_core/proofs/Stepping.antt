@@ -1,0 +1,272 @@
+-- What a step and a start of a party keep, over plain variables.
+use Rattle.std.proofs.Common.{◌≡◌, ◌≢◌, ℕ, ◌+◌, ◌-◌, ◌<◌, ◌≤◌, ◌^◌, ⊎_elim, inl, inr, Bool, true, false, cond, List, [], ◌∷◌, ◌++◌, length, set, map, refl, sym, ap, ◌∙◌, subst, arith}
+use Rattle.std.specs.Prelude.{Option, Some, None, IfSome, slice_set}
+use Rattle.std.specs.FinMap.{get-insert, get-remove}
+use Rattle.std.proofs.lemmas.Cmp.{nat_list_cmp_total}
+use Rattle.std.proofs.lemmas.List.{append-nil, length-append}
+use Rattle.std.proofs.lemmas.List.Sums.{fold-append}
+use mathlib.Core.Option.{some}
+use lib.ListN.{get_elem?, length-set}
+use Rattle.cat_key.specs.Names.{IsName}
+use Rattle.pm_words.specs.declared.layout.Layout.{Layout}
+use Rattle.pm_words.specs.declared.machine.Turn.{Turn}
+use Rattle.pm_words.specs.declared.machine.Turn.TheVariants.{Go, Done}
+use Rattle.pm_words.specs.Images.{Row}
+use Rattle.pm_words.specs.Rows.{CanAct, acted, got}
+use Rattle.cat_history.specs.Maps.{Map, at, map_of}
+use Rattle.cat_history.specs.Writes.{name_of, changed, after_all}
+use Rattle.cat_history.specs.declared.op.Change.{Change}
+use Rattle.cat_history.specs.declared.op.Change.TheVariants as change
+use Rattle.cat_history.specs.declared.op.Write.{Write}
+use Rattle.data_node.proofs.SpotLemmas.{same_name}
+use Rattle.call_stages.specs.declared.once.Once.{Once}
+use Rattle.call_stages.specs.declared.once.Placed.{Placed}
+use Rattle.call_stages.specs.Stages.{Stage, Idle, Saw, Holds, counted}
+use Rattle.call_stages.specs.Kinds.{Step, Told}
+use Rattle.node_ops.specs.declared.running.Running.{Running}
+use Rattle.node_ops.specs.RunningSteps.{wrapped, running_call, running_asks, running_turned, running_takes, IsRunning, Sound}
+use Rattle.node_ops.specs.CallStages.{stage_of, stage_after, reply_of, SoundAfter}
+use Rattle.node_ops.proofs.CallLaw.{turns_are_steps}
+use Rattle.node_ops.proofs.CallSound.{Stays, get_stays, put_stays, del_stays, turns_stay_sound}
+use Rattle.node_ops.proofs.OpLaw.{turns_keep_op}
+use Rattle.node_ops.specs.Asked.{IsOf, IsOfAfter}
+use Rattle.node_ops.specs.declared.call.Call.{Call}
+use Rattle.node_ops.specs.declared.get.Get.{Get}
+use Rattle.node_ops.specs.declared.put.Put.{Put}
+use Rattle.node_ops.specs.declared.del.Del.{Del}
+use Rattle.node_ops.specs.declared.running.Running.TheVariants.{Getting, Putting, Deleting}
+use Rattle.node_ops.specs.GetSteps.{IsGet, get_call, get_turned}
+use Rattle.node_ops.specs.PutSteps.{IsPut, put_call, put_turned}
+use Rattle.node_ops.specs.DelSteps.{IsDel, del_call, del_turned}
+use Rattle.cat_history.specs.declared.op.Op.{Op}
+use Rattle.index_law.specs.Facts.{Facts}
+use Rattle.index_law.specs.Worlds.{Party, World, facts, written, moved_on, stepped}
+use Rattle.index_law.specs.Lawful.{Sure, Lawful}
+use Rattle.index_law.specs.Laws.{Allowed, ActionLaw, IsLegal, StepLaw}
+use Rattle.index_law.proofs.Actions.{action_law, zero_told}
+use Rattle.index_law.proofs.Own.{allow_law, sure_within}
+use Rattle.index_law.proofs.Law.{step_law}
+use Rattle.index_law.proofs.Starts.{start_law}
+use Rattle.index_law.proofs.Parties.{at_set}
+use Rattle.index_core.specs.declared.entry.Entry.{Entry}
+use Rattle.index_core.specs.declared.entry.CoreCall.{CoreCall}
+use Rattle.index_core.specs.declared.entry.CoreCall.TheVariants as call
+use Rattle.index_core.specs.CoreCalls.{machine_of, writes_of}
+use Rattle.index_core.specs.Entries.{machine_stage, party_of, entry_with, entry_after, machine_owes, owes, owed, IsEntry}
+use Rattle.index_core.specs.Indexes.{Index, world, IsIndex, view_of, started_index, told, stepped_index, MakesCall}
+use Rattle.index_core.proofs.Lists.{map_there, map_set, owed-set}
+use Rattle.index_core.proofs.Owing.{owes_after, pays, many, written-length}
+
+-- what is counted is of a name
+counted_named : (l : Layout) (g : ℕ) (f : Facts) (caller index since : ℕ) (stage : Stage) → Sure l g f caller index since stage → IfSome (counted stage) (λ change. IsName (name_of change))
+counted_named l g f caller index since Idle sure = tt
+counted_named l g f caller index since (Saw n v w) sure = tt
+counted_named l g f caller index since (Holds n w h) sure = at h.ready h.pending sure.about
+  where
+    pending : (pending : Option Change) → IfSome pending (λ c. name_of c ≡ h.name) → IfSome pending (λ change. IsName (name_of change))
+    pending None about = tt
+    pending (Some change) about = subst IsName (sym about) sure.named
+
+    at : (ready : Bool) (p : Option Change) → IfSome p (λ c. name_of c ≡ h.name) → IfSome (elim ready [ true ↦ p | false ↦ None ]) (λ change. IsName (name_of change))
+    at true p about = pending p about
+    at false p about = tt
+
+-- a map of names stays one
+changed_names : (m : Map) (change : Change) → ((name : List ℕ) (value : ℕ) → at m name ≡ Some value → IsName name) → IsName (name_of change)
+    → (name : List ℕ) (value : ℕ) → at (changed m change) name ≡ Some value → IsName name
+changed_names m (change.Put about number) names is name value e =
+    elim (same_name name about) [
+      | inl same ↦ subst IsName (sym same.0) is
+      | inr different ↦ names name value (sym (get-insert nat_list_cmp_total m about number name ∙ ap (λ b. cond b (Some number) (at m name)) different.1) ∙ e)
+    ]
+changed_names m (change.Del about) names is name value e =
+    elim (same_name name about) [
+      | inl same ↦ subst IsName (sym same.0) is
+      | inr different ↦ names name value (sym (get-remove nat_list_cmp_total m about name ∙ ap (λ b. cond b None (at m name)) different.1) ∙ e)
+    ]
+
+longer_names : (base : Map) (history : List Write) (caller index : ℕ) (change : Option Change) → ((name : List ℕ) (value : ℕ) → at (after_all base history) name ≡ Some value → IsName name)
+    → IfSome change (λ c. IsName (name_of c)) → (name : List ℕ) (value : ℕ) → at (after_all base (history ++ written caller index change)) name ≡ Some value → IsName name
+longer_names base history caller index None names is = subst (λ (h : List Write). (name : List ℕ) (value : ℕ) → at (after_all base h) name ≡ Some value → IsName name) (sym (append-nil history)) names
+longer_names base history caller index (Some change) names is =
+    subst (λ (m : Map). (name : List ℕ) (value : ℕ) → at m name ≡ Some value → IsName name) (sym (fold-append (λ (n : Map) (w : Write). changed n w.change) base history ((record { caller = caller; index = index; change = change }) ∷ [])))
+    (changed_names (after_all base history) change names is)
+
+-- what a step of a party's machine needs and leaves
+pub record StepFacts (s : Index) (party : ℕ) (entry : Entry) (machine : Running) : Type 0 where
+  pub fits : IsRunning machine
+  pub can : CanAct s.layout s.words (running_asks machine)
+  pub takes : running_takes machine (told s machine)
+  pub keeps_op : (asked : Op) → IsOf asked machine → IsOfAfter asked (running_turned machine (told s machine))
+  pub keeps_call : MakesCall (running_call machine) (running_turned machine (told s machine))
+  pub kept : (spare : ℕ) → IsIndex (stepped_index s party entry machine spare)
+  pub legal : (spare : ℕ) → IsLegal s.layout s.generation (facts (world (stepped_index s party entry machine spare))) entry.caller entry.index entry.since (stage_of machine) (reply_of (running_turned machine (told s machine)))
+
+after_party : (entry : Entry) (turn : Turn Running (Once Placed)) → moved_on (party_of entry) (stage_after turn) ≡ party_of (entry_after entry turn)
+after_party entry (Go machine) = refl
+after_party entry (Done answer) = refl
+
+after_entry : (l : Layout) (g i : ℕ) (entry : Entry) (turn : Turn Running (Once Placed)) → entry.caller ≡ i → SoundAfter l g turn → IsEntry l g i (entry_after entry turn)
+after_entry l g i entry (Go machine) same sound = record { caller = same; machine = sound }
+after_entry l g i entry (Done answer) same sound = record { caller = same; machine = tt }
+
+-- entries of which one is another
+set_entries : (l : Layout) (g : ℕ) (entries : List Entry) (i : ℕ) (now : Entry) → ((j : ℕ) (entry : Entry) → get_elem? entries j ≡ some entry → IsEntry l g j entry) → IsEntry l g i now
+    → (j : ℕ) (entry : Entry) → get_elem? (set entries i now) j ≡ some entry → IsEntry l g j entry
+set_entries l g entries i now all is j entry at =
+    ⊎_elim
+    (λ (t : (j ≡ i) × (now ≡ entry)). subst (λ (k : ℕ). IsEntry l g k entry) (sym t.0) (subst (IsEntry l g i) t.1 is))
+    (λ (t : (j ≢ i) × (get_elem? entries j ≡ some entry)). all j entry t.1)
+    (at_set entries i j now entry at)
+
+-- each turn makes the same call
+same_call : {M : Type 0} (fits : M → Type 0) (of : M → Call) (wrap : M → Running) (c : Call) (turn : Turn M (Once Placed)) → ((m : M) → running_call (wrap m) ≡ of m) → Stays fits of c turn → MakesCall c (wrapped wrap turn)
+same_call fits of wrap c (Go machine) same stays = same machine ∙ stays.1
+same_call fits of wrap c (Done answer) same stays = tt
+
+keeps_call : (machine : Running) (x : ℕ) → running_takes machine x → MakesCall (running_call machine) (running_turned machine x)
+keeps_call (Getting get) x takes = same_call IsGet get_call (λ (m : Get). Getting m) (get_call get) (get_turned get x) (λ m. refl) (get_stays get x takes.0 takes.1)
+keeps_call (Putting put) x takes = same_call IsPut put_call (λ (m : Put). Putting m) (put_call put) (put_turned put x) (λ m. refl) (put_stays put x takes.0 takes.1)
+keeps_call (Deleting del) x takes = same_call IsDel del_call (λ (m : Del). Deleting m) (del_call del) (del_turned del x) (λ m. refl) (del_stays del x takes.0 takes.1)
+
+pub step_facts : (s : Index) (party : ℕ) (entry : Entry) (machine : Running) → IsIndex s → get_elem? s.entries party ≡ some entry → entry.machine ≡ Some machine → length s.history < 2 ^ 63
+    → StepFacts s party entry machine
+step_facts s i entry machine is there flies room =
+    let l = s.layout in
+    let g = s.generation in
+    let w = world s in
+    let p = party_of entry in
+    let a = running_asks machine in
+    let x = told s machine in
+    let turn = running_turned machine x in
+    let stage : machine_stage entry.machine ≡ stage_of machine = ap machine_stage flies in
+    let there' = map_there party_of s.entries i entry there in
+    let own = is.entries i entry there in
+    let sound : Sound l g machine = subst (λ (o : Option Running). IfSome o (Sound l g)) flies own.machine in
+    let known : Sure l g (facts w) entry.caller entry.index entry.since (stage_of machine) = subst (Sure l g (facts w) entry.caller entry.index entry.since) stage (is.lawful.sure i p there') in
+    let first = turns_are_steps l g machine 0 sound (zero_told l g a) in
+    let allowed = allow_law l g (stage_of machine) a 0 _ _ (sure_within l g (facts w) entry.caller entry.index entry.since (stage_of machine) known) first in
+    let act : ActionLaw w a = action_law w i p a is.lawful there' (subst (λ (u : Stage). Allowed l u a) (sym stage) allowed) room in
+    let step = turns_are_steps l g machine x sound act.told in
+    let law : StepLaw w i p a x (stage_after turn) (reply_of turn) =
+    step_law w i p a x (stage_after turn) (reply_of turn) is.lawful there' (subst (λ (u : Stage). Step l g u a x (stage_after turn) (reply_of turn)) (sym stage) step) refl room in
+    let parties : slice_set (map party_of s.entries) i (moved_on p (stage_after turn)) ≡ map party_of (slice_set s.entries i (entry_after entry turn)) =
+    ap (λ (q : Party). set (map party_of s.entries) i q) (after_party entry turn) ∙ sym (map_set party_of s.entries i (entry_after entry turn)) in
+    let same : Path World (stepped w i p a (stage_after turn)) (world (stepped_index s i entry machine 0)) =
+    (λ k. record { layout = l; generation = g; words = acted l s.words a; parties = parties k; base = map_of s.base; history = s.history ++ written entry.caller entry.index (counted (stage k)) }) in
+    let own_told = subst (λ (v : Layout × ℕ). Told v.0 v.1 a x) (λ k. (sym sound.layout k, sym sound.generation k)) act.told in
+    record {
+      fits = sound.here;
+      can = act.can;
+      takes = (sound.here, own_told);
+      keeps_op = λ asked of. turns_keep_op l g asked machine x sound act.told of;
+      keeps_call = keeps_call machine x (sound.here, own_told);
+      kept = λ spare. record {
+        lawful = subst Lawful same law.kept;
+        callers = length-set s.entries i (entry_after entry turn) ∙ is.callers;
+        entries = set_entries l g s.entries i (entry_after entry turn) is.entries (after_entry l g i entry turn own.caller (turns_stay_sound l g machine x sound act.told));
+        names = longer_names (map_of s.base) s.history entry.caller entry.index (counted (stage_of machine)) is.names (counted_named l g (facts w) entry.caller entry.index entry.since (stage_of machine) known);
+      };
+      legal = λ spare. subst (λ (u : World). IsLegal l g (facts u) entry.caller entry.index entry.since (stage_of machine) (reply_of turn)) same
+          (subst (λ (u : Stage). IsLegal l g (facts (stepped w i p a (stage_after turn))) entry.caller entry.index entry.since u (reply_of turn)) stage law.legal);
+    }
+
+-- what the calls owe falls by what the step counts
+pub step_owes : (s : Index) (party : ℕ) (entry : Entry) (machine : Running) → get_elem? s.entries party ≡ some entry → entry.machine ≡ Some machine
+    → owed (stepped_index s party entry machine 0).entries + length (written entry.caller entry.index (counted (stage_of machine))) ≤ owed s.entries
+step_owes s i entry machine there flies =
+    let turn = running_turned machine (told s machine) in
+    let moved = owed-set s.entries i entry (entry_after entry turn) there in
+    let was : machine_owes entry.machine ≡ owes machine = ap machine_owes flies in
+    let now = after turn in
+    let paid = pays machine (told s machine) in
+    let count = written-length entry.caller entry.index (counted (stage_of machine)) in
+    omega arith
+  where
+    after : (turn : Turn Running (Once Placed)) → machine_owes (entry_after entry turn).machine ≡ owes_after turn
+    after (Go machine) = refl
+    after (Done answer) = refl
+
+-- the machine of a call that begins relies on nothing
+pub machine_idle : (s : Index) (party : ℕ) (c : CoreCall) → stage_of (machine_of (view_of s party) c) ≡ Idle
+machine_idle s party (call.Put name value limit) = refl
+machine_idle s party (call.Get name) = refl
+machine_idle s party (call.Del name limit) = refl
+
+pub machine_begins : (s : Index) (party : ℕ) (c : CoreCall) → IsRunning (machine_of (view_of s party) c) → Sound s.layout s.generation (machine_of (view_of s party) c)
+machine_begins s party (call.Put name value limit) here = record { layout = refl; generation = refl; here = here }
+machine_begins s party (call.Get name) here = record { layout = refl; generation = refl; here = here }
+machine_begins s party (call.Del name limit) here = record { layout = refl; generation = refl; here = here }
+
+machine_writes : (s : Index) (party : ℕ) (c : CoreCall) → owes (machine_of (view_of s party) c) ≡ writes_of c
+machine_writes s party (call.Put name value limit) = refl
+machine_writes s party (call.Get name) = refl
+machine_writes s party (call.Del name limit) = refl
+
+pub start_keeps : (s : Index) (party : ℕ) (entry : Entry) (c : CoreCall) (spare : ℕ) → IsIndex s → get_elem? s.entries party ≡ some entry → entry.machine ≡ None
+    → IsRunning (machine_of (view_of s party) c) → IsIndex (started_index s party entry c spare)
+start_keeps s i entry c spare is there idle here =
+    let m = machine_of (view_of s i) c in
+    let now = entry_with entry (length s.history) m in
+    let there' = map_there party_of s.entries i entry there in
+    let lawful = start_law (world s) i (party_of entry) entry.calls is.lawful there' (ap machine_stage idle) in
+    let parties : slice_set (map party_of s.entries) i (record { caller = entry.caller; index = entry.calls; since = length s.history; stage = Idle }) ≡ map party_of (slice_set s.entries i now) =
+    ap (λ (u : Stage). set (map party_of s.entries) i (record { caller = entry.caller; index = entry.calls; since = length s.history; stage = u })) (sym (machine_idle s i c)) ∙ sym (map_set party_of s.entries i now) in
+    record {
+      lawful = subst (λ (parties : List Party). Lawful (record { layout = s.layout; generation = s.generation; words = s.words; parties = parties; base = map_of s.base; history = s.history })) parties lawful;
+      callers = length-set s.entries i now ∙ is.callers;
+      entries = set_entries s.layout s.generation s.entries i now is.entries (record { caller = (is.entries i entry there).caller; machine = machine_begins s i c here });
+      names = is.names;
+    }
+
+pub start_owes : (s : Index) (party : ℕ) (entry : Entry) (c : CoreCall) → get_elem? s.entries party ≡ some entry → entry.machine ≡ None
+    → owed (started_index s party entry c 0).entries ≡ owed s.entries + writes_of c
+start_owes s i entry c there idle =
+    let moved = owed-set s.entries i entry (entry_with entry (length s.history) (machine_of (view_of s i) c)) there in
+    let was : machine_owes entry.machine ≡ 0 = ap machine_owes idle in
+    let now = machine_writes s i c in
+    omega arith
+
+-- how much room is told of an index is none of its laws
+pub respare : (s : Index) (spare : ℕ) → IsIndex s → IsIndex (record s { spare = spare })
+respare s spare is = record { lawful = is.lawful; callers = is.callers; entries = is.entries; names = is.names }
+
+-- the index that a step leaves, at values that are equal to its own
+pub step_at : (s : Index) (i : ℕ) (e r e' : Entry) (m m' : Running) (row : Row) (got' : ℕ) (turn : Turn Running (Once Placed)) (history : List Write) (spare : ℕ)
+    → r ≡ e → m' ≡ m → row ≡ record { layout = s.layout; words = acted s.layout s.words (running_asks m') } → got' ≡ got s.layout s.words (running_asks m') → turn ≡ running_turned m' got'
+    → e' ≡ entry_after r turn → history ≡ s.history ++ written r.caller r.index (counted (stage_of m'))
+    → Path Index (record { layout = row.layout; generation = s.generation; words = row.words; entries = set s.entries i e'; base = s.base; history = history; spare = spare }) (stepped_index s i e m spare)
+step_at s i e r e' m m' row got' turn history spare p q a b c d h =
+    let turn' : turn ≡ running_turned m (told s m) = c ∙ (λ k. running_turned (q k) (b k)) ∙ ap (λ (x : Running). running_turned m (told s x)) q in
+    let entry' : e' ≡ entry_after e (running_turned m (told s m)) = d ∙ (λ k. entry_after (p k) (turn' k)) in
+    let row' : row ≡ record { layout = s.layout; words = acted s.layout s.words (running_asks m) } = a ∙ ap (λ (x : Running). record { layout = s.layout; words = acted s.layout s.words (running_asks x) }) q in
+    let history' : history ≡ s.history ++ written e.caller e.index (counted (stage_of m)) = h ∙ (λ k. s.history ++ written (p k).caller (p k).index (counted (stage_of (q k)))) in
+    λ k. record { layout = (row' k).layout; generation = s.generation; words = (row' k).words; entries = set s.entries i (entry' k); base = s.base; history = history' k; spare = spare }
+
+-- and the index that a start leaves
+pub start_at : (s : Index) (i : ℕ) (e r e' : Entry) (c : CoreCall) (m : Running) (since spare : ℕ) → r ≡ e → since ≡ length s.history → m ≡ machine_of (view_of s i) c → e' ≡ entry_with r since m
+    → Path Index (record { layout = s.layout; generation = s.generation; words = s.words; entries = set s.entries i e'; base = s.base; history = s.history; spare = spare }) (started_index s i e c spare)
+start_at s i e r e' c m since spare p q a d =
+    let entry' : e' ≡ entry_with e (length s.history) (machine_of (view_of s i) c) = d ∙ (λ k. entry_with (p k) (q k) (a k)) in
+    λ k. record { layout = s.layout; generation = s.generation; words = s.words; entries = set s.entries i (entry' k); base = s.base; history = s.history; spare = spare }
+
+pub same_machine : (r e : Entry) (m' m : Running) → r ≡ e → r.machine ≡ Some m' → e.machine ≡ Some m → m' ≡ m
+same_machine r e m' m p q d = let both : Some m' ≡ Some m = sym q ∙ ap (λ (x : Entry). x.machine) p ∙ d in cc
+
+-- a step leaves room for what is owed
+pub step_room : (s : Index) (i : ℕ) (e : Entry) (m : Running) (history : List Write) (entries : List Entry) (len cap len' cap' : ℕ) → get_elem? s.entries i ≡ some e → e.machine ≡ Some m
+    → history ≡ s.history ++ written e.caller e.index (counted (stage_of m)) → entries ≡ (stepped_index s i e m 0).entries → len ≡ length s.history → len' ≡ length history → cap ≤ cap' → len + owed s.entries ≤ cap
+    → (len' + owed entries ≤ cap') × (cap - (len + owed s.entries) ≤ cap' - (len' + owed entries))
+step_room s i e m history entries len cap len' cap' there flies h same was now larger room =
+    let paid = step_owes s i e m there flies in
+    let owing = ap owed same in
+    let longer = ap length h ∙ length-append s.history (written e.caller e.index (counted (stage_of m))) in
+    (omega arith, omega arith)
+
+-- there is room for the write that a step counts
+pub count_room : (s : Index) (i : ℕ) (e r : Entry) (m : Running) (counts : Option Change) (len cap : ℕ) → get_elem? s.entries i ≡ some e → e.machine ≡ Some m → r ≡ e → counts ≡ counted (stage_of m)
+    → len + owed s.entries ≤ cap → len + length (written r.caller r.index counts) ≤ cap
+count_room s i e r m counts len cap there flies read same room =
+    let paid = step_owes s i e m there flies in
+    let count = written-length r.caller r.index counts ∙ ap many same ∙ sym (written-length e.caller e.index (counted (stage_of m))) in
+    omega arith

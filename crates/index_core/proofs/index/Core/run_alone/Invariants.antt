@@ -1,0 +1,8 @@
+use Rattle.index_core.proofs.Alone.{Lone, left_at}
+use Rattle.index_core.proofs.index.Core.run_alone.Given as goal
+
+abbrev pub invariant-steps : goal.invariant-steps
+invariant-steps g l = Lone l.fn.self l.self l.caller l.fn.call
+
+abbrev pub decreases-steps : goal.decreases-steps
+decreases-steps g l = left_at l.self l.caller

@@ -1,0 +1,226 @@
+use Rattle.std.proofs.Common.{◌≡◌, ℕ, ◌+◌, ◌<◌, ◌^◌, ◌++◌, length, arith, ap, sym, ◌∙◌, subst}
+use Rattle.std.specs.Prelude.{Option, ◌-◌, slice_set}
+use lib.ListN.{get_elem?}
+use Rattle.pm_words.specs.declared.action.Action.{Action}
+use Rattle.pm_words.specs.declared.machine.Turn.{Turn}
+use Rattle.pm_words.specs.Turns.{GoesBelow}
+use Rattle.call_stages.specs.declared.once.Once.{Once}
+use Rattle.call_stages.specs.declared.once.Placed.{Placed}
+use Rattle.cat_history.specs.declared.op.Op.{Op}
+use Rattle.node_ops.specs.Asked.{IsOf, IsOfAfter}
+use Rattle.pm_words.specs.Rows.{acted, got, CanAct}
+use Rattle.cat_history.specs.declared.op.Change.{Change}
+use Rattle.call_stages.specs.Stages.{counted}
+use Rattle.node_ops.specs.declared.running.Running.{Running}
+use Rattle.node_ops.specs.CallStages.{stage_of, reply_of}
+use Rattle.node_ops.specs.RunningSteps.{running_call, running_left, running_asks, running_turned, running_takes, IsRunning}
+use Rattle.index_law.specs.Worlds.{facts, written}
+use Rattle.index_law.specs.Laws.{IsLegal}
+use Rattle.index_core.specs.declared.entry.Entry.{Entry}
+use Rattle.index_core.specs.Entries.{stepped_of, owed}
+use Rattle.index_core.specs.Indexes.{Index, IsIndex, world, told, stepped_index, MakesCall}
+use Rattle.index_core.proofs.Lists.{within, read_is}
+use Rattle.index_core.proofs.Stepping.{step_facts, step_at, same_machine, step_room, count_room}
+use Rattle.index_core.proofs.index.Core.step.Goals as goal
+
+pub index-entry-requires : goal.index-entry-requires
+index-entry-requires g c =
+    let s : Index = record { layout = c.self.inside.memory.layout; generation = c.self.inside.generation; words = c.self.inside.memory.words; entries = c.self.inside.entries.items; base = c.self.inside.base; history = c.self.inside.history.items; spare = 0 } in
+    let i = c.args.party in
+    let flies = c.requires.flies in
+    let e = flies.entry in
+    let there = ap (λ (v : Index). get_elem? v.entries i) c.self.view_is ∙ flies.there in
+    omega (arith, within s.entries i e there, c.self.inside.entries.ok.0)
+
+pub index_mut-requires : goal.index_mut-requires
+index_mut-requires g c =
+    let s : Index = record { layout = c.self.inside.memory.layout; generation = c.self.inside.generation; words = c.self.inside.memory.words; entries = c.self.inside.entries.items; base = c.self.inside.base; history = c.self.inside.history.items; spare = 0 } in
+    let i = c.args.party in
+    let flies = c.requires.flies in
+    let e = flies.entry in
+    let there = ap (λ (v : Index). get_elem? v.entries i) c.self.view_is ∙ flies.there in
+    omega (arith, within s.entries i e there, c.self.inside.entries.ok.0)
+
+pub unreachable-requires : goal.unreachable-requires
+unreachable-requires g c =
+    let s : Index = record { layout = c.self.inside.memory.layout; generation = c.self.inside.generation; words = c.self.inside.memory.words; entries = c.self.inside.entries.items; base = c.self.inside.base; history = c.self.inside.history.items; spare = 0 } in
+    let i = c.args.party in
+    let flies = c.requires.flies in
+    let e = flies.entry in
+    let there = ap (λ (v : Index). get_elem? v.entries i) c.self.view_is ∙ flies.there in
+    let read = read_is s.entries i e c.index-entry.result.now there c.index-entry.ensures in
+    c.in_default.not-Some flies.machine (ap (λ (d : Entry). d.machine) read ∙ flies.flies)
+
+pub action-action-requires : goal.action-action-requires
+action-action-requires g c =
+    let s : Index = record { layout = c.self.inside.memory.layout; generation = c.self.inside.generation; words = c.self.inside.memory.words; entries = c.self.inside.entries.items; base = c.self.inside.base; history = c.self.inside.history.items; spare = 0 } in
+    let i = c.args.party in
+    let flies = c.requires.flies in
+    let e = flies.entry in
+    let there = ap (λ (v : Index). get_elem? v.entries i) c.self.view_is ∙ flies.there in
+    let read = read_is s.entries i e c.index-entry.result.now there c.index-entry.ensures in
+    let m = flies.machine in
+    let same_m = same_machine c.index-entry.result.now e c.in-Some.machine m read c.in-Some.is flies.flies in
+    let small = c.self.inside.history.small in
+    let room : length s.history < 2 ^ 63 = omega (arith, c.self.inside.history.ok.0, c.self.inside.history.ok.1, small) in
+    let facts_here = step_facts s i e m c.self.invariant.0 there flies.flies room in
+    subst IsRunning (sym same_m) facts_here.fits
+
+pub counts-counts-requires : goal.counts-counts-requires
+counts-counts-requires g c =
+    let s : Index = record { layout = c.self.inside.memory.layout; generation = c.self.inside.generation; words = c.self.inside.memory.words; entries = c.self.inside.entries.items; base = c.self.inside.base; history = c.self.inside.history.items; spare = 0 } in
+    let i = c.args.party in
+    let flies = c.requires.flies in
+    let e = flies.entry in
+    let there = ap (λ (v : Index). get_elem? v.entries i) c.self.view_is ∙ flies.there in
+    let read = read_is s.entries i e c.index-entry.result.now there c.index-entry.ensures in
+    let m = flies.machine in
+    let same_m = same_machine c.index-entry.result.now e c.in-Some.machine m read c.in-Some.is flies.flies in
+    let small = c.self.inside.history.small in
+    let room : length s.history < 2 ^ 63 = omega (arith, c.self.inside.history.ok.0, c.self.inside.history.ok.1, small) in
+    let facts_here = step_facts s i e m c.self.invariant.0 there flies.flies room in
+    subst IsRunning (sym same_m) facts_here.fits
+
+pub act-got-requires : goal.act-got-requires
+act-got-requires g c =
+    let s : Index = record { layout = c.self.inside.memory.layout; generation = c.self.inside.generation; words = c.self.inside.memory.words; entries = c.self.inside.entries.items; base = c.self.inside.base; history = c.self.inside.history.items; spare = 0 } in
+    let i = c.args.party in
+    let flies = c.requires.flies in
+    let e = flies.entry in
+    let there = ap (λ (v : Index). get_elem? v.entries i) c.self.view_is ∙ flies.there in
+    let read = read_is s.entries i e c.index-entry.result.now there c.index-entry.ensures in
+    let m = flies.machine in
+    let same_m = same_machine c.index-entry.result.now e c.in-Some.machine m read c.in-Some.is flies.flies in
+    let small = c.self.inside.history.small in
+    let room : length s.history < 2 ^ 63 = omega (arith, c.self.inside.history.ok.0, c.self.inside.history.ok.1, small) in
+    let facts_here = step_facts s i e m c.self.invariant.0 there flies.flies room in
+    subst (CanAct s.layout s.words) (sym (c.action-action.ensures ∙ ap running_asks same_m)) facts_here.can
+
+pub count-requires : goal.count-requires
+count-requires g c =
+    let s : Index = record { layout = c.self.inside.memory.layout; generation = c.self.inside.generation; words = c.self.inside.memory.words; entries = c.self.inside.entries.items; base = c.self.inside.base; history = c.self.inside.history.items; spare = 0 } in
+    let i = c.args.party in
+    let flies = c.requires.flies in
+    let e = flies.entry in
+    let there = ap (λ (v : Index). get_elem? v.entries i) c.self.view_is ∙ flies.there in
+    let read = read_is s.entries i e c.index-entry.result.now there c.index-entry.ensures in
+    let m = flies.machine in
+    let same_m = same_machine c.index-entry.result.now e c.in-Some.machine m read c.in-Some.is flies.flies in
+    let small = c.self.inside.history.small in
+    let room : length s.history < 2 ^ 63 = omega (arith, c.self.inside.history.ok.0, c.self.inside.history.ok.1, small) in
+    let facts_here = step_facts s i e m c.self.invariant.0 there flies.flies room in
+    count_room s i e c.index-entry.result.now m c.counts-counts.result _ _ there flies.flies read (c.counts-counts.ensures ∙ ap (λ (n : Running). counted (stage_of n)) same_m) c.self.invariant.1
+
+pub resume-requires : goal.resume-requires
+resume-requires g c =
+    let s : Index = record { layout = c.self.inside.memory.layout; generation = c.self.inside.generation; words = c.self.inside.memory.words; entries = c.self.inside.entries.items; base = c.self.inside.base; history = c.self.inside.history.items; spare = 0 } in
+    let i = c.args.party in
+    let flies = c.requires.flies in
+    let e = flies.entry in
+    let there = ap (λ (v : Index). get_elem? v.entries i) c.self.view_is ∙ flies.there in
+    let read = read_is s.entries i e c.index-entry.result.now there c.index-entry.ensures in
+    let m = flies.machine in
+    let same_m = same_machine c.index-entry.result.now e c.in-Some.machine m read c.in-Some.is flies.flies in
+    let small = c.self.inside.history.small in
+    let room : length s.history < 2 ^ 63 = omega (arith, c.self.inside.history.ok.0, c.self.inside.history.ok.1, small) in
+    let facts_here = step_facts s i e m c.self.invariant.0 there flies.flies room in
+    let given : c.act-got.result ≡ told s m = c.act-got.ensures.got ∙ ap (got s.layout s.words) (c.action-action.ensures ∙ ap running_asks same_m) in
+    subst (λ (x : Running × ℕ). running_takes x.0 x.1) (λ k. (sym same_m k, sym given k)) facts_here.takes
+
+pub invariant_of-self : goal.invariant_of-self
+invariant_of-self g c =
+    let s : Index = record { layout = c.self.inside.memory.layout; generation = c.self.inside.generation; words = c.self.inside.memory.words; entries = c.self.inside.entries.items; base = c.self.inside.base; history = c.self.inside.history.items; spare = 0 } in
+    let i = c.args.party in
+    let flies = c.requires.flies in
+    let e = flies.entry in
+    let there = ap (λ (v : Index). get_elem? v.entries i) c.self.view_is ∙ flies.there in
+    let read = read_is s.entries i e c.index-entry.result.now there c.index-entry.ensures in
+    let m = flies.machine in
+    let same_m = same_machine c.index-entry.result.now e c.in-Some.machine m read c.in-Some.is flies.flies in
+    let small = c.self.inside.history.small in
+    let room : length s.history < 2 ^ 63 = omega (arith, c.self.inside.history.ok.0, c.self.inside.history.ok.1, small) in
+    let facts_here = step_facts s i e m c.self.invariant.0 there flies.flies room in
+    let counts = c.counts-counts.ensures ∙ ap (λ (n : Running). counted (stage_of n)) same_m in
+    let items = c.count.ensures.items ∙ ap (λ (o : Option Change). s.history ++ written c.index-entry.result.now.caller c.index-entry.result.now.index o) c.counts-counts.ensures in
+    let same = λ (spare : ℕ). step_at s i e c.index-entry.result.now c.after-stepped.result.0 m c.in-Some.machine c.act-got.new.self c.act-got.result c.resume.result c.count.new.history.items spare read same_m
+    (c.act-got.ensures.row ∙ ap (λ (a : Action). record { layout = s.layout; words = acted s.layout s.words a }) c.action-action.ensures) (c.act-got.ensures.got ∙ ap (got s.layout s.words) c.action-action.ensures) c.resume.ensures.turned c.after-stepped.ensures.entry items in
+    let roomy = step_room s i e m c.count.new.history.items _ _ _ _ _ there flies.flies (ap (λ (v : Index). v.history) (same 0)) (ap (λ (v : Index). v.entries) (same 0)) c.self.inside.history.ok.0 c.count.new.history.ok.0 c.count.ensures.room c.self.invariant.1 in
+    (subst IsIndex (sym (same 0)) (facts_here.kept 0), roomy.0)
+
+pub returns-clause-stepped : goal.returns-clause-stepped
+returns-clause-stepped g c =
+    let s : Index = record { layout = c.self.inside.memory.layout; generation = c.self.inside.generation; words = c.self.inside.memory.words; entries = c.self.inside.entries.items; base = c.self.inside.base; history = c.self.inside.history.items; spare = 0 } in
+    let i = c.args.party in
+    let flies = c.requires.flies in
+    let e = flies.entry in
+    let there = ap (λ (v : Index). get_elem? v.entries i) c.self.view_is ∙ flies.there in
+    let read = read_is s.entries i e c.index-entry.result.now there c.index-entry.ensures in
+    let m = flies.machine in
+    let same_m = same_machine c.index-entry.result.now e c.in-Some.machine m read c.in-Some.is flies.flies in
+    let small = c.self.inside.history.small in
+    let room : length s.history < 2 ^ 63 = omega (arith, c.self.inside.history.ok.0, c.self.inside.history.ok.1, small) in
+    let facts_here = step_facts s i e m c.self.invariant.0 there flies.flies room in
+    let counts = c.counts-counts.ensures ∙ ap (λ (n : Running). counted (stage_of n)) same_m in
+    let items = c.count.ensures.items ∙ ap (λ (o : Option Change). s.history ++ written c.index-entry.result.now.caller c.index-entry.result.now.index o) c.counts-counts.ensures in
+    let same = λ (spare : ℕ). step_at s i e c.index-entry.result.now c.after-stepped.result.0 m c.in-Some.machine c.act-got.new.self c.act-got.result c.resume.result c.count.new.history.items spare read same_m
+    (c.act-got.ensures.row ∙ ap (λ (a : Action). record { layout = s.layout; words = acted s.layout s.words a }) c.action-action.ensures) (c.act-got.ensures.got ∙ ap (got s.layout s.words) c.action-action.ensures) c.resume.ensures.turned c.after-stepped.ensures.entry items in
+    let roomy = step_room s i e m c.count.new.history.items _ _ _ _ _ there flies.flies (ap (λ (v : Index). v.history) (same 0)) (ap (λ (v : Index). v.entries) (same 0)) c.self.inside.history.ok.0 c.count.new.history.ok.0 c.count.ensures.room c.self.invariant.1 in
+    let turn = c.resume.ensures.turned ∙ (λ k. running_turned (same_m k) (c.act-got.ensures.got k)) ∙ ap (λ (a : Action). running_turned m (got s.layout s.words a)) (c.action-action.ensures ∙ ap running_asks same_m) in
+    let n : ℕ = c.count.new.history.cap - (c.count.new.history.len + owed (slice_set s.entries i c.after-stepped.result.0)) in
+    let new : Index = record { layout = c.act-got.new.self.layout; generation = s.generation; words = c.act-got.new.self.words; entries = slice_set s.entries i c.after-stepped.result.0; base = s.base; history = c.count.new.history.items; spare = n } in
+    record {
+      entry = e;
+      machine = m;
+      there = flies.there;
+      flies = flies.flies;
+      is = same n ∙ ap (λ (v : Index). stepped_index v i e m n) c.self.view_is;
+      comes_to = c.after-stepped.ensures.stepped ∙ ap stepped_of turn ∙ ap (λ (v : Index). stepped_of (running_turned m (told v m))) c.self.view_is;
+      keeps_op = subst (λ (v : Index). (asked : Op) → IsOf asked m → IsOfAfter asked (running_turned m (told v m))) c.self.view_is facts_here.keeps_op;
+      keeps_call = subst (λ (v : Index). MakesCall (running_call m) (running_turned m (told v m))) c.self.view_is facts_here.keeps_call;
+      fewer = subst (λ (v : Index). GoesBelow running_left (running_left m) (running_turned m (told v m))) c.self.view_is
+          (subst (λ (q : Running × Turn Running (Once Placed)). GoesBelow running_left (running_left q.0) q.1) (λ k. (same_m k, turn k)) c.resume.ensures.fewer);
+      legal = subst (λ (v : Index). IsLegal new.layout new.generation (facts (world new)) e.caller e.index e.since (stage_of m) (reply_of (running_turned m (told v m)))) c.self.view_is
+          (subst (λ (v : Index). IsLegal v.layout v.generation (facts (world v)) e.caller e.index e.since (stage_of m) (reply_of (running_turned m (told s m)))) (sym (same n)) (facts_here.legal n));
+    }
+
+pub returns-clause-spare : goal.returns-clause-spare
+returns-clause-spare g c =
+    let s : Index = record { layout = c.self.inside.memory.layout; generation = c.self.inside.generation; words = c.self.inside.memory.words; entries = c.self.inside.entries.items; base = c.self.inside.base; history = c.self.inside.history.items; spare = 0 } in
+    let i = c.args.party in
+    let flies = c.requires.flies in
+    let e = flies.entry in
+    let there = ap (λ (v : Index). get_elem? v.entries i) c.self.view_is ∙ flies.there in
+    let read = read_is s.entries i e c.index-entry.result.now there c.index-entry.ensures in
+    let m = flies.machine in
+    let same_m = same_machine c.index-entry.result.now e c.in-Some.machine m read c.in-Some.is flies.flies in
+    let small = c.self.inside.history.small in
+    let room : length s.history < 2 ^ 63 = omega (arith, c.self.inside.history.ok.0, c.self.inside.history.ok.1, small) in
+    let facts_here = step_facts s i e m c.self.invariant.0 there flies.flies room in
+    let counts = c.counts-counts.ensures ∙ ap (λ (n : Running). counted (stage_of n)) same_m in
+    let items = c.count.ensures.items ∙ ap (λ (o : Option Change). s.history ++ written c.index-entry.result.now.caller c.index-entry.result.now.index o) c.counts-counts.ensures in
+    let same = λ (spare : ℕ). step_at s i e c.index-entry.result.now c.after-stepped.result.0 m c.in-Some.machine c.act-got.new.self c.act-got.result c.resume.result c.count.new.history.items spare read same_m
+    (c.act-got.ensures.row ∙ ap (λ (a : Action). record { layout = s.layout; words = acted s.layout s.words a }) c.action-action.ensures) (c.act-got.ensures.got ∙ ap (got s.layout s.words) c.action-action.ensures) c.resume.ensures.turned c.after-stepped.ensures.entry items in
+    let roomy = step_room s i e m c.count.new.history.items _ _ _ _ _ there flies.flies (ap (λ (v : Index). v.history) (same 0)) (ap (λ (v : Index). v.entries) (same 0)) c.self.inside.history.ok.0 c.count.new.history.ok.0 c.count.ensures.room c.self.invariant.1 in
+    let was = ap (λ (v : Index). v.spare) c.self.view_is in
+    let fewer = roomy.1 in
+    omega arith
+
+pub returns-clause-index : goal.returns-clause-index
+returns-clause-index g c =
+    let s : Index = record { layout = c.self.inside.memory.layout; generation = c.self.inside.generation; words = c.self.inside.memory.words; entries = c.self.inside.entries.items; base = c.self.inside.base; history = c.self.inside.history.items; spare = 0 } in
+    let i = c.args.party in
+    let flies = c.requires.flies in
+    let e = flies.entry in
+    let there = ap (λ (v : Index). get_elem? v.entries i) c.self.view_is ∙ flies.there in
+    let read = read_is s.entries i e c.index-entry.result.now there c.index-entry.ensures in
+    let m = flies.machine in
+    let same_m = same_machine c.index-entry.result.now e c.in-Some.machine m read c.in-Some.is flies.flies in
+    let small = c.self.inside.history.small in
+    let room : length s.history < 2 ^ 63 = omega (arith, c.self.inside.history.ok.0, c.self.inside.history.ok.1, small) in
+    let facts_here = step_facts s i e m c.self.invariant.0 there flies.flies room in
+    let counts = c.counts-counts.ensures ∙ ap (λ (n : Running). counted (stage_of n)) same_m in
+    let items = c.count.ensures.items ∙ ap (λ (o : Option Change). s.history ++ written c.index-entry.result.now.caller c.index-entry.result.now.index o) c.counts-counts.ensures in
+    let same = λ (spare : ℕ). step_at s i e c.index-entry.result.now c.after-stepped.result.0 m c.in-Some.machine c.act-got.new.self c.act-got.result c.resume.result c.count.new.history.items spare read same_m
+    (c.act-got.ensures.row ∙ ap (λ (a : Action). record { layout = s.layout; words = acted s.layout s.words a }) c.action-action.ensures) (c.act-got.ensures.got ∙ ap (got s.layout s.words) c.action-action.ensures) c.resume.ensures.turned c.after-stepped.ensures.entry items in
+    let roomy = step_room s i e m c.count.new.history.items _ _ _ _ _ there flies.flies (ap (λ (v : Index). v.history) (same 0)) (ap (λ (v : Index). v.entries) (same 0)) c.self.inside.history.ok.0 c.count.new.history.ok.0 c.count.ensures.room c.self.invariant.1 in
+    subst IsIndex (sym (same _)) (facts_here.kept _)

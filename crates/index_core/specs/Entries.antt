@@ -1,0 +1,88 @@
+-- The parties of the core, each with its call in flight.
+use Rattle.std.specs.Prelude.{◌≡◌, ℕ, zero, suc, ◌+◌, ◌-◌, ◌^◌, min, List, [], ◌∷◌, ◌++◌, Option, Some, None, IfSome}
+use Rattle.pm_words.specs.declared.layout.Layout.{Layout}
+use Rattle.pm_words.specs.declared.machine.Turn.{Turn}
+use Rattle.pm_words.specs.declared.machine.Turn.TheVariants.{Go, Done}
+use Rattle.call_stages.specs.declared.once.Once.{Once}
+use Rattle.call_stages.specs.declared.once.Placed.{Placed}
+use Rattle.call_stages.specs.Stages.{Stage, Idle}
+use Rattle.node_ops.specs.declared.finish.FinishAt.{FinishAt}
+use Rattle.node_ops.specs.declared.finish.FinishAt.TheVariants as finish_at
+use Rattle.node_ops.specs.declared.put.Put.{Put}
+use Rattle.node_ops.specs.declared.put.Put.TheVariants as put
+use Rattle.node_ops.specs.declared.del.Del.{Del}
+use Rattle.node_ops.specs.declared.del.Del.TheVariants as del
+use Rattle.node_ops.specs.declared.running.Running.{Running}
+use Rattle.node_ops.specs.declared.running.Running.TheVariants.{Getting, Putting, Deleting}
+use Rattle.node_ops.specs.CallStages.{stage_of}
+use Rattle.node_ops.specs.RunningSteps.{Sound}
+use Rattle.index_law.specs.Worlds.{Party}
+use Rattle.index_core.specs.declared.entry.Entry.{Entry}
+use Rattle.index_core.specs.declared.entry.CoreReply.TheVariants as reply
+use Rattle.index_core.specs.declared.entry.Stepped.{Stepped}
+use Rattle.index_core.specs.declared.entry.Stepped.TheVariants.{Going, Answered}
+
+-- What a call in flight relies on.
+abbrev pub machine_stage : Option Running → Stage
+machine_stage None = Idle
+machine_stage (Some machine) = stage_of machine
+
+-- The party as the law of the index knows it.
+abbrev pub party_of : Entry → Party
+party_of entry = record { caller = entry.caller; index = entry.index; since = entry.since; stage = machine_stage entry.machine }
+
+-- It has made no call.
+abbrev pub idle_entry : ℕ → Entry
+idle_entry caller = record { caller = caller; calls = 0; index = 0; since = 0; machine = None }
+
+-- So many of them, each at the place of its number.
+abbrev pub idle_entries : ℕ → List Entry
+idle_entries zero = []
+idle_entries (suc callers) = idle_entries callers ++ idle_entry callers ∷ []
+
+-- It begins this call.
+abbrev pub entry_with : Entry → ℕ → Running → Entry
+entry_with entry since machine =
+    record { caller = entry.caller; calls = min (entry.calls + 1) (2 ^ 64 - 1); index = entry.calls; since = since; machine = Some machine }
+
+-- After its call's turn.
+abbrev pub entry_after : Entry → Turn Running (Once Placed) → Entry
+entry_after entry (Go machine) = record entry { machine = Some machine }
+entry_after entry (Done answer) = record entry { machine = None }
+
+abbrev pub stepped_of : Turn Running (Once Placed) → Stepped
+stepped_of (Go machine) = Going
+stepped_of (Done answer) = Answered (reply.Placed answer)
+
+-- How many writes a call in flight may still place.
+abbrev finish_owes : FinishAt → ℕ
+finish_owes (finish_at.Fence fence) = 1
+finish_owes finish_at.Add = 1
+finish_owes (finish_at.Unlock place) = 0
+
+abbrev put_owes : Put → ℕ
+put_owes (put.Finishing finish) = finish_owes finish.at
+put_owes _ = 1
+
+abbrev del_owes : Del → ℕ
+del_owes (del.Finishing finish) = finish_owes finish.at
+del_owes _ = 1
+
+abbrev pub owes : Running → ℕ
+owes (Getting get) = 0
+owes (Putting put) = put_owes put
+owes (Deleting del) = del_owes del
+
+abbrev pub machine_owes : Option Running → ℕ
+machine_owes None = 0
+machine_owes (Some machine) = owes machine
+
+-- How many writes all the calls in flight may still place.
+abbrev pub owed : List Entry → ℕ
+owed [] = 0
+owed (entry ∷ entries) = machine_owes entry.machine + owed entries
+
+-- The party stands at the place of its number.
+pub record IsEntry (l : Layout) (g : ℕ) (i : ℕ) (entry : Entry) : Type 0 where
+  pub caller : entry.caller ≡ i
+  pub machine : IfSome entry.machine (Sound l g)  -- its call is one of this index

@@ -1,0 +1,5 @@
+pub mod CoreCalls
+pub mod Entries
+pub mod Indexes
+pub mod Fresh
+pub mod Lone

@@ -1,0 +1,39 @@
+ghost use Rattle.std.specs.Prelude.{◌≡◌};
+ghost use Rattle.cat_key.specs.Names.{IsName};
+
+use crate::entry::CoreCall;
+use cat_key::Name;
+use node_ops::{Del, Get, Put, Running, View};
+
+impl CoreCall {
+    ghost use Rattle.node_ops.specs.Asked.{IsOf};
+    ghost use Rattle.node_ops.specs.Calls.{IsView};
+    ghost use Rattle.node_ops.specs.RunningSteps.{IsRunning};
+    ghost use Rattle.index_core.specs.CoreCalls.{LimitFits, machine_of, op_of};
+
+    /// The machine that makes the call.
+    pub(crate) fn machine(self, view: View) -> Running
+        requires view { IsView view }
+        requires limit { LimitFits self }
+        ensures machine { result ≡ machine_of view self }
+        ensures sound { IsRunning result }
+        ensures op { IsOf (op_of self) result }
+    {
+        match self {
+            CoreCall::Put { name, value, limit } => {
+                Running::Putting(Put::new(view, &named(name), value, limit))
+            }
+            CoreCall::Get { name } => Running::Getting(Get::new(view, &named(name))),
+            CoreCall::Del { name, limit } => Running::Deleting(Del::new(view, &named(name), limit)),
+        }
+    }
+}
+
+/// The name, of which its words tell that it is one.
+fn named(name: Name) -> Name
+    ensures same { result ≡ name }
+    ensures name { IsName result }
+{
+    let _words = name.words();
+    name
+}

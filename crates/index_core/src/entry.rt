@@ -1,0 +1,144 @@
+ghost use Rattle.std.specs.Prelude.{◌≡◌, IfOk};
+ghost use Rattle.index_core.specs.Entries.{idle_entries};
+
+use call_stages::{Once, Placed};
+use cat_key::Name;
+use node_ops::Running;
+use pm_words::{NoMemory, Turn};
+use std::alloc::Global;
+
+/// What a party calls. A put or delete is refused where the clock, loaded under the lock of its node, has reached `limit`.
+#[derive(Clone, Copy)]
+pub enum CoreCall {
+    Put { name: Name, value: u64, limit: u64 },
+    Get { name: Name },
+    Del { name: Name, limit: u64 },
+}
+
+/// A party and its call in flight, if it has one.
+#[derive(Clone, Copy)]
+pub struct Entry {
+    /// The party's number.
+    pub caller: u64,
+    /// How many calls it has begun.
+    pub calls: u64,
+    /// The index of its call in flight, or of its last one, among its calls.
+    pub index: u64,
+    /// How long the history was as that call began.
+    pub since: u64,
+    /// The machine that makes its call in flight.
+    pub machine: Option<Running>,
+}
+
+/// What a call is answered.
+#[derive(Clone, Copy)]
+pub enum CoreReply {
+    /// The answer of one try of a put, a get or a delete.
+    Placed(Once<Placed>),
+}
+
+/// What one step comes to.
+#[derive(Clone, Copy)]
+pub enum Stepped {
+    Going,
+    Answered(CoreReply),
+}
+
+/// The answer of a call that is made with no other in flight.
+#[derive(Clone, Copy)]
+pub enum Whole {
+    Placed(Placed),
+    /// A put found no room: the map lacks the name, and has as many names as the node has slots.
+    Full,
+    /// The clock had reached the call's limit.
+    Spent { clock: u64 },
+    /// No more locks can be taken of the node in this run.
+    Worn { node: u64, word: u64 },
+}
+
+/// The party has a call in flight already.
+#[derive(Clone, Copy, PartialEq, Eq, Debug)]
+pub struct InFlight;
+
+impl Whole {
+    ghost use Rattle.std.specs.Prelude.{◌≡◌};
+    ghost use Rattle.index_core.specs.Lone.{whole_of_reply};
+
+    /// A call that is alone is turned back by a full node only.
+    pub(crate) fn of(reply: CoreReply) -> Whole
+        ensures { result ≡ whole_of_reply reply }
+    {
+        let CoreReply::Placed(answer) = reply;
+        match answer {
+            Once::Done(placed) => Whole::Placed(placed),
+            Once::Spent { clock } => Whole::Spent { clock },
+            Once::Worn { node, word } => Whole::Worn { node, word },
+            Once::Again(_) => Whole::Full,
+        }
+    }
+}
+
+impl Entry {
+    ghost use Rattle.std.specs.Prelude.{◌≡◌};
+    ghost use Rattle.index_core.specs.Entries.{idle_entry, entry_with, entry_after, stepped_of};
+
+    /// A party that has made no call.
+    pub(crate) fn idle(caller: u64) -> Entry
+        ensures { result ≡ idle_entry caller }
+    {
+        Entry {
+            caller,
+            calls: 0,
+            index: 0,
+            since: 0,
+            machine: None,
+        }
+    }
+
+    /// It begins a call, at this length of the history.
+    pub(crate) fn begins(self, since: u64, machine: Running) -> Entry
+        ensures { result ≡ entry_with self since machine }
+    {
+        Entry {
+            calls: self.calls.saturating_add(1),
+            index: self.calls,
+            since,
+            machine: Some(machine),
+            ..self
+        }
+    }
+
+    /// The party after its call's turn, and what the step comes to.
+    pub(crate) fn after(self, turn: Turn<Running, Once<Placed>>) -> (Entry, Stepped)
+        ensures entry { result.0 ≡ entry_after self turn }
+        ensures stepped { result.1 ≡ stepped_of turn }
+    {
+        match turn {
+            Turn::Go(machine) => (
+                Entry {
+                    machine: Some(machine),
+                    ..self
+                },
+                Stepped::Going,
+            ),
+            Turn::Done(answer) => (
+                Entry {
+                    machine: None,
+                    ..self
+                },
+                Stepped::Answered(CoreReply::Placed(answer)),
+            ),
+        }
+    }
+}
+
+/// So many parties that have made no call.
+pub(crate) fn idle_entries(alloc: Global, callers: u64) -> Result<Vec<Entry>, NoMemory>
+    ensures { IfOk result (λ entries. entries.items ≡ idle_entries callers) }
+{
+    let mut entries = Vec::with_capacity(alloc, callers as usize)?;
+    for caller in 0..callers {
+        entries.push(Entry::idle(caller))?;
+    }
+    Ok(entries)
+}

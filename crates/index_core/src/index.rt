@@ -1,0 +1,185 @@
+ghost use Rattle.std.specs.Prelude.{◌≡◌, ℕ, ◌+◌, ◌-◌, ◌<◌, ◌≤◌, ◌↔◌, List, ◌++◌, length, replicate, IfOk, OnOk, OnErr, IsErr, vec_len, vec_capacity, Some, None};
+ghost use Rattle.pm_words.specs.Layouts.{IsLayout};
+ghost use Rattle.index_law.specs.Worlds.{written};
+ghost use Rattle.index_core.specs.CoreCalls.{LimitFits, writes_of};
+ghost use Rattle.index_core.specs.Indexes.{IsInFlight, IsIndex, Starts, StepsTo};
+ghost use Rattle.index_core.specs.Fresh.{IsFreshIndex};
+ghost use Rattle.index_core.specs.Lone.{IsQuiet, RunsAlone, locks_left};
+
+use crate::entry::{CoreCall, Entry, InFlight, Stepped, Whole, idle_entries};
+use cat_history::{Change, Listed, Write};
+use cat_key::Pair;
+use node_ops::View;
+use pm_words::{Image, Layout, Machine, Memory, NoMemory, Steps};
+use std::alloc::Global;
+use std::marker::Model;
+use std::sync::ledger::Ledger;
+
+/// The generation of a fresh image.
+const FIRST_GENERATION: u64 = 1;
+
+/// An index in memory, with at most one call in flight for each caller.
+#[derive(Drop)]
+pub struct Core {
+    memory: Memory,
+    generation: u64,
+    entries: Vec<Entry>,
+    base: Listed<Pair>,
+    history: Vec<Write>,
+}
+
+impl Model for Core {
+    ghost use Rattle.std.specs.Prelude.{vec_len, vec_capacity, ◌+◌, ◌-◌, ◌≤◌};
+    ghost use Rattle.index_core.specs.Entries.{owed};
+    ghost use Rattle.index_core.specs.Indexes.{Index, IsIndex};
+
+    ghost Value = { Index };
+
+    ghost view = { λ c. record { layout = c.memory.layout; generation = c.generation; words = c.memory.words; entries = c.entries.items; base = c.base; history = c.history.items; spare = vec_capacity c.history - (vec_len c.history + owed c.entries.items) } };
+
+    ghost invariant = { λ c. IsIndex (record { layout = c.memory.layout; generation = c.generation; words = c.memory.words; entries = c.entries.items; base = c.base; history = c.history.items; spare = 0 })
+        × (vec_len c.history + owed c.entries.items ≤ vec_capacity c.history) };
+}
+
+impl Core {
+    /// An index without names. Every caller is idle.
+    pub fn fresh(alloc: Global, layout: Layout) -> Result<Core, NoMemory>
+        requires layout { IsLayout layout }
+        requires one_node { layout.nodes ≡ 1 }
+        ensures { IfOk result (IsFreshIndex layout) }
+    {
+        Ok(Core {
+            memory: Memory::of(alloc, Image::fresh(alloc, layout)?)?,
+            generation: FIRST_GENERATION,
+            entries: idle_entries(alloc, layout.callers())?,
+            base: Listed::of(Vec::new(alloc)),
+            history: Vec::new(alloc),
+        })
+    }
+
+    /// Begins a call of the party, of which a put or delete takes one of `spare`. `InFlight` comes exactly where the
+    /// party's last call isn't answered, and then nothing changes.
+    pub fn start(&mut self, party: u64, call: CoreCall) -> Result<(), InFlight>
+        requires party { party < self.old.layout.callers }
+        requires limit { LimitFits call }
+        requires spare { writes_of call ≤ self.old.spare }
+        ensures in_flight { IsErr result ↔ IsInFlight self.old party }
+        ensures err { OnErr result (self.new ≡ self.old) }
+        ensures started { OnOk result (Starts self.old party call self.new) }
+        ensures spare { OnOk result (self.new.spare + writes_of call ≡ self.old.spare) }
+        ensures index { IsIndex self.new }
+    {
+        let at = party as usize;
+        let entry = self.entries[at];
+        if entry.machine.is_some() {
+            return Err(InFlight);
+        }
+        let machine = call.machine(View {
+            layout: self.memory.layout(),
+            generation: self.generation,
+            caller: party,
+        });
+        let since = self.history.len() as u64;
+        self.entries[at] = entry.begins(since, machine);
+        Ok(())
+    }
+
+    /// One action of the party's call, which is in flight.
+    pub fn step<L: Ledger>(&mut self, party: u64, steps: &mut Steps<L>) -> Stepped
+        requires flies { IsInFlight self.old party }
+        ensures stepped { StepsTo self.old party self.new result }
+        ensures spare { self.old.spare ≤ self.new.spare }
+        ensures tick { steps.new ≡ steps.old + 1 }
+        ensures index { IsIndex self.new }
+    {
+        let at = party as usize;
+        let entry = self.entries[at];
+        let Some(machine) = entry.machine else {
+            unreachable!()
+        };
+        let action = machine.action();
+        let counts = machine.counts();
+        let got = self.memory.act(action, steps);
+        count(&mut self.history, entry, counts);
+        let (next, stepped) = entry.after(machine.resume(got));
+        self.entries[at] = next;
+        stepped
+    }
+
+    /// Makes room for so many writes. On `NoMemory` nothing changes.
+    pub fn reserve(&mut self, writes: u64) -> Result<(), NoMemory>
+        ensures ok { OnOk result (writes ≤ self.new.spare) }
+        ensures kept { self.new ≡ record self.old { spare = self.new.spare } }
+        ensures spare { self.old.spare ≤ self.new.spare }
+    {
+        // Each call in flight may still place one.
+        let owed = self.entries.len();
+        self.history.reserve((writes as usize).saturating_add(owed))
+    }
+
+    /// A whole call of a caller, with no other in flight. Its answer is told by its cause: the locks of the node are used
+    /// up, else the clock has reached the limit, else there is no room for a new name, else it takes place.
+    pub fn run_alone<L: Ledger>(
+        &mut self,
+        caller: u64,
+        call: CoreCall,
+        steps: &mut Steps<L>,
+    ) -> Whole
+        requires caller { caller < self.old.layout.callers }
+        requires limit { LimitFits call }
+        requires spare { writes_of call ≤ self.old.spare }
+        requires quiet { IsQuiet self.old }
+        ensures runs { RunsAlone self.old caller call self.new result }
+        ensures quiet { IsQuiet self.new }
+        ensures spare { self.old.spare ≤ self.new.spare + 1 }
+        ensures locks { locks_left self.old ≤ locks_left self.new + 1 }
+        ensures index { IsIndex self.new }
+    {
+        let Ok(()) = self.start(caller, call) else {
+            unreachable!()
+        };
+        'steps: loop {
+            if let Stepped::Answered(reply) = self.step(caller, steps) {
+                return Whole::of(reply);
+            }
+        }
+    }
+
+    /// The writes placed since the base, each at its place.
+    pub fn history(&self) -> &[Write]
+        ensures { result.now ≡ self.now.history }
+    {
+        self.history.as_slice()
+    }
+
+    /// The map that the history begins with.
+    pub fn base(&self) -> &Listed<Pair>
+        ensures { result.now ≡ self.now.base }
+    {
+        &self.base
+    }
+
+    pub fn layout(&self) -> Layout
+        ensures { result ≡ self.now.layout }
+    {
+        self.memory.layout()
+    }
+}
+
+/// Counts the write of a step, if it has one.
+fn count(history: &mut Vec<Write>, entry: Entry, counts: Option<Change>)
+    requires { vec_len history.old + length (written entry.caller entry.index counts) ≤ vec_capacity history.old }
+    ensures items { history.new.items ≡ history.old.items ++ written entry.caller entry.index counts }
+    ensures room { vec_capacity history.old ≤ vec_capacity history.new }
+{
+    if let Some(change) = counts {
+        let Entry { caller, index, .. } = entry;
+        let Ok(()) = history.push(Write {
+            caller,
+            index,
+            change,
+        }) else {
+            unreachable!()
+        };
+    }
+}
