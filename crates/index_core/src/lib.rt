@@ -10,3 +10,6 @@ mod index;
 
 pub use entry::{CoreCall, CoreReply, Entry, InFlight, Stepped, Whole};
 pub use index::Core;
+
+#[cfg(test)]
+mod tests;

@@ -1,0 +1,177 @@
+ghost use Rattle.std.specs.Prelude.{◌≡◌, ◌<◌, ◌≤◌};
+ghost use Rattle.index_core.specs.CoreCalls.{LimitFits, writes_of};
+
+use super::*;
+use call_stages::{Once, Placed};
+use cat_history::{NameMap, PlainMap};
+use cat_key::Name;
+use pm_words::{Layout, Steps};
+use std::alloc::Global;
+use std::marker::Brand;
+use std::sync::ledger::{Blank, Ledger};
+use std::test::Fail;
+
+/// No call has as many steps.
+const MANY: u64 = 1000;
+
+/// A put, a get or a delete of the one name of this test.
+fn call_of(kind: u64, name: Name) -> CoreCall
+    ensures limit { LimitFits result }
+    ensures writes { writes_of result ≤ 1 }
+{
+    match kind {
+        0 => CoreCall::Put {
+            name,
+            value: 7,
+            limit: 9,
+        },
+        1 => CoreCall::Get { name },
+        _ => CoreCall::Del { name, limit: 9 },
+    }
+}
+
+/// Begins a call of a party that is idle.
+fn begin(core: &mut Core, party: u64, kind: u64) -> Result<(), Fail> {
+    let name = Name::read(b"a").ok().ok_or("a")?;
+    core.reserve(1)?;
+    if party >= core.layout().callers() {
+        return Err("no such party")?;
+    }
+    core.start(party, call_of(kind, name))
+        .ok()
+        .ok_or("in flight")?;
+    Ok(())
+}
+
+/// At most so many steps of a party's call, and its answer if it is done. That the call is in flight is told by a start,
+/// which is refused and changes nothing.
+fn run<L: Ledger>(
+    core: &mut Core,
+    party: u64,
+    most: u64,
+    steps: &mut Steps<L>,
+) -> Result<Option<Once<Placed>>, Fail> {
+    let name = Name::read(b"z").ok().ok_or("z")?;
+    for _ in 0..most {
+        if party >= core.layout().callers() || core.start(party, CoreCall::Get { name }).is_ok() {
+            return Ok(None);
+        }
+        let Stepped::Answered(CoreReply::Placed(answer)) = core.step(party, steps) else {
+            continue;
+        };
+        return Ok(Some(answer));
+    }
+    Ok(None)
+}
+
+/// A party's answer and its place, if it took place.
+fn placed(answer: Option<Once<Placed>>) -> Option<Placed> {
+    match answer {
+        Some(Once::Done(placed)) => Some(placed),
+        _ => None,
+    }
+}
+
+/// The rest of a party's call. Where it is turned back it is made once more, alone.
+fn finish<L: Ledger>(
+    core: &mut Core,
+    party: u64,
+    kind: u64,
+    steps: &mut Steps<L>,
+) -> Result<Placed, Fail> {
+    let first = placed(run(core, party, MANY, steps)?);
+    if let Some(placed) = first {
+        return Ok(placed);
+    }
+    begin(core, party, kind)?;
+    let again = placed(run(core, party, MANY, steps)?);
+    Ok(again.ok_or("a call alone takes place")?)
+}
+
+/// What the plain map answers.
+fn plain(map: &mut PlainMap, kind: u64) -> Option<u64> {
+    let name = Name::read(b"a").ok()?;
+    match kind {
+        0 => map.put(&name, 7).ok().flatten(),
+        1 => map.get(&name),
+        _ => map.del(&name),
+    }
+}
+
+/// Whether the answers are the plain map's, in the order of the places; a read at the place of a write comes before it.
+fn is_explained(
+    map: &mut PlainMap,
+    one: Placed,
+    one_kind: u64,
+    two: Placed,
+    two_kind: u64,
+) -> bool {
+    let swapped = two.place < one.place || (two.place == one.place && two_kind == 1);
+    if swapped {
+        let old = plain(map, two_kind);
+        return two.old == old && one.old == plain(map, one_kind);
+    }
+    let old = plain(map, one_kind);
+    one.old == old && two.old == plain(map, two_kind)
+}
+
+/// The first caller makes so many steps, then the second a whole call, then the first goes on. Tells whether the plain
+/// map gives their answers. Where `present`, the name has been put before.
+fn interleave<L: Ledger>(
+    alloc: Global,
+    one_kind: u64,
+    two_kind: u64,
+    before: u64,
+    present: bool,
+    steps: &mut Steps<L>,
+) -> Result<bool, Fail> {
+    let mut core = Core::fresh(alloc, Layout::new(1, 4, 2)?)?;
+    let mut map = PlainMap::new(alloc, 4)?;
+    if present {
+        begin(&mut core, 0, 0)?;
+        run(&mut core, 0, MANY, steps)?;
+        plain(&mut map, 0);
+    }
+    begin(&mut core, 0, one_kind)?;
+    let early = placed(run(&mut core, 0, before, steps)?);
+    begin(&mut core, 1, two_kind)?;
+    let met = placed(run(&mut core, 1, MANY, steps)?);
+    let one = match early {
+        Some(placed) => placed,
+        None => finish(&mut core, 0, one_kind, steps)?,
+    };
+    let two = match met {
+        Some(placed) => placed,
+        None => {
+            begin(&mut core, 1, two_kind)?;
+            finish(&mut core, 1, two_kind, steps)?
+        }
+    };
+    Ok(is_explained(&mut map, one, one_kind, two, two_kind))
+}
+
+/// The first case whose answers the plain map doesn't give: the kinds of both calls, and how many steps came before.
+fn first_unexplained<L: Ledger>(
+    alloc: Global,
+    blank: Blank,
+) -> Result<Option<(u64, u64, u64)>, Fail>
+    requires name { blank.name ≡ L.name }
+    requires parts { (blank.parts ≡ L.parts) × (0 < L.parts) }
+{
+    let (book, share) = blank.open::<L>();
+    let mut steps = Steps::new(book, share);
+    for case in 0..1620 {
+        let (one, two, before) = (case % 3, case / 3 % 3, case / 9 % 90);
+        if !interleave(alloc, one, two, before, case < 810, &mut steps)? {
+            return Ok(Some((one, two, before)));
+        }
+    }
+    Ok(None)
+}
+
+#[test]
+fn interleaved_calls_answer_as_the_plain_map(rt: HostRuntime) -> Result<(), Fail> {
+    let found = first_unexplained::<Brand>(rt.alloc(), Blank::new(1))?;
+    assert_eq!(rt; found, None);
+    Ok(())
+}
