@@ -83,10 +83,10 @@ fn answer<M: NameMap>(map: &mut M, op: &Op, place: u64) -> Reply
 }
 
 /// Whether a record is of a write that has a place.
-fn is_placed_write(record: &Record) -> bool
-    ensures { length (write_of record.now) ≡ (if result then 1 else 0) }
+fn is_placed_write(entry: &Record) -> bool
+    ensures { length (write_of entry.now) ≡ (if result then 1 else 0) }
 {
-    match (&record.op, &record.reply) {
+    match (&entry.op, &entry.reply) {
         (Op::Get { .. }, _) | (_, Reply::Full) => false,
         (Op::Put { .. } | Op::Del { .. }, Reply::Old { .. }) => true,
     }
