@@ -1,6 +1,6 @@
 -- The kinds of step of a call: from a stage, by an action that gives a number, to the next stage, with the answer if the
 -- call is done. What a step says of a node's words it says of any words, so that no machine need know of the index.
-use Rattle.std.specs.Prelude.{◌≡◌, ◌≢◌, ℕ, ◌+◌, ◌<◌, ◌≤◌, ◌^◌, Bool, true, false, Option, Some, None, IfSome, List}
+use Rattle.std.specs.Prelude.{◌≡◌, ◌≢◌, ℕ, ◌+◌, ◌<◌, ◌≤◌, ◌^◌, ◌⊎◌, Bool, true, false, Option, Some, None, IfSome, List, []}
 use Rattle.pm_words.specs.declared.action.Action.{Action}
 use Rattle.pm_words.specs.declared.action.Action.TheVariants.{Load, Store, Exchange, Add, Drain}
 use Rattle.pm_words.specs.declared.again.Again.TheVariants as again
@@ -16,7 +16,7 @@ use Rattle.data_node.specs.Spots.{Spot, IsTidy, Means, updated, bitmap_offset}
 use Rattle.call_stages.specs.declared.once.Once.{Once}
 use Rattle.call_stages.specs.declared.once.Once.TheVariants as once
 use Rattle.call_stages.specs.declared.once.Placed.{Placed}
-use Rattle.call_stages.specs.Stages.{Known, Knows, Held, Stage, Idle, Saw, Holds, just_held, pended}
+use Rattle.call_stages.specs.Stages.{Known, Knows, KnowsDurable, IsAmong, Held, Stage, Idle, Saw, Holds, just_held, pended}
 
 -- The places of the clock, of a node's version word, and of a node's word by its offset.
 abbrev pub clock_place : Layout → ℕ
@@ -43,6 +43,15 @@ pub record IsClean (h : Held) : Type 0 where
   pub ready : h.ready ≡ false
   pub placed : h.placed ≡ None
 
+-- With a store at this offset one more word may differ from its durable twin.
+pub record Soils (before : List (ℕ × ℕ)) (offset : ℕ) (after : List (ℕ × ℕ)) : Type 0 where
+  pub stored : IsAmong after offset
+  pub others : (other : ℕ) → IsAmong before other → IsAmong after other
+
+-- Once the word at this offset is durable, no more than the other words may differ.
+abbrev pub Cleans : List (ℕ × ℕ) → ℕ → List (ℕ × ℕ) → Type 0
+Cleans before offset after = (other : ℕ) → IsAmong before other → (other ≡ offset) ⊎ IsAmong after other
+
 -- From one stage to the next by an action that changes no word.
 pub data Look (l : Layout) (g : ℕ) : Stage → Action → ℕ → Stage → Option (Once Placed) → Type 0 where
   turns_back : {n x : ℕ} → n < l.nodes → (IsFree x g → ⊥) → Look l g Idle (Load (version_place l n)) x Idle (Some (once.Again (again.Locked n x)))
@@ -59,13 +68,14 @@ pub data Look (l : Layout) (g : ℕ) : Stage → Action → ℕ → Stage → Op
       Look l g (Holds n w h) (Load (word_place l n offset)) x (Holds n w (record h { known = k })) None
   -- with the word that it loads it knows what its name had, and may find that the node shows its change already
   decides : {n w x offset : ℕ} {h : Held} {k : Known} {old : Option ℕ} {pending : Option Change} {ready : Bool} →
-      HasWordAt l n offset → 0 < offset → IsClean h → IfSome pending (λ c. name_of c ≡ h.name) →
+      HasWordAt l n offset → 0 < offset → IsClean h → h.dirty ≡ [] → IfSome pending (λ c. name_of c ≡ h.name) →
       ((s : Spot) → IsTidy l.slots s → Knows h.name h.known s → s offset ≡ x → Knows h.name k s) →
       ((range : List ℕ → Bool) (s : Spot) (m : Map) → range h.name ≡ true → Knows h.name h.known s → s offset ≡ x → Means l.slots range s m →
       (at m h.name ≡ old) × Means l.slots range s (pended pending m)) →
       Look l g (Holds n w h) (Load (word_place l n offset)) x (Holds n w (record h { known = k; old = Some old; pending = pending; ready = ready })) None
   -- it loads a word of its node to make it durable
-  glances : {n w x offset : ℕ} {h : Held} → HasWordAt l n offset → h.ready ≡ false → Look l g (Holds n w h) (Load (word_place l n offset)) x (Holds n w h) None
+  glances : {n w x offset : ℕ} {h : Held} → HasWordAt l n offset → h.ready ≡ false →
+      Look l g (Holds n w h) (Load (word_place l n offset)) x (Holds n w (record h { hand = Some (offset, x) })) None
 
 -- What a call that gives its node back is answered.
 pub data Answers (l : Layout) (h : Held) : Once Placed → Type 0 where
@@ -81,22 +91,25 @@ pub data Step (l : Layout) (g : ℕ) : Stage → Action → ℕ → Stage → Op
   looks : {s : Stage} {a : Action} {x : ℕ} {t : Stage} {r : Option (Once Placed)} → Look l g s a x t r → Step l g s a x t r
   locks : {n v w x : ℕ} {name : List ℕ} → x ≡ v → IsName name →
       Step l g (Saw n v w) (Exchange (version_place l n) v w) x (Holds n w (just_held name)) None
-  -- it stores a word that changes nothing of what the node means
-  stores : {n w x y offset : ℕ} {h : Held} {k : Known} → HasWordAt l n offset → 0 < offset → y < 2 ^ 64 → IsClean h →
+  -- it stores a word that changes nothing of what the node means, whichever of its earlier stores are durable yet
+  stores : {n w x y offset : ℕ} {h : Held} {k : Known} {dirty : List (ℕ × ℕ)} → HasWordAt l n offset → 0 < offset → y < 2 ^ 64 → IsClean h →
+      Soils h.dirty offset dirty →
       ((s : Spot) → IsTidy l.slots s → Knows h.name h.known s → Knows h.name k (updated s offset y)) →
-      ((range : List ℕ → Bool) (s : Spot) (m : Map) → Knows h.name h.known s → Means l.slots range s m → Means l.slots range (updated s offset y) m) →
-      Step l g (Holds n w h) (Store (word_place l n offset) y) x (Holds n w (record h { known = k })) None
-  -- with this store the node means the map with the call's change
-  commits : {n w x y offset : ℕ} {h : Held} {k : Known} {old : Option ℕ} {c : Change} → HasWordAt l n offset → 0 < offset → y < 2 ^ 64 → IsClean h →
-      h.old ≡ Some old → name_of c ≡ h.name →
+      ((range : List ℕ → Bool) (s : Spot) (m : Map) → KnowsDurable h s → Means l.slots range s m → Means l.slots range (updated s offset y) m) →
+      Step l g (Holds n w h) (Store (word_place l n offset) y) x (Holds n w (record h { known = k; dirty = dirty; hand = None })) None
+  -- with this store, before which all is durable, the node means the map with the call's change
+  commits : {n w x y offset : ℕ} {h : Held} {k : Known} {dirty : List (ℕ × ℕ)} {old : Option ℕ} {c : Change} →
+      HasWordAt l n offset → 0 < offset → y < 2 ^ 64 → IsClean h → h.dirty ≡ [] → IsAmong dirty offset → h.old ≡ Some old → name_of c ≡ h.name →
       ((s : Spot) → IsTidy l.slots s → Knows h.name h.known s → Knows h.name k (updated s offset y)) →
       ((range : List ℕ → Bool) (s : Spot) (m : Map) → range h.name ≡ true → Knows h.name h.known s → at m h.name ≡ old → Means l.slots range s m →
       Means l.slots range (updated s offset y) (changed m c)) →
-      Step l g (Holds n w h) (Store (word_place l n offset) y) x (Holds n w (record h { known = k; pending = Some c })) None
-  -- it makes a word of its node durable, and may then be ready to count
-  drains : {n w x y offset : ℕ} {h : Held} {ready : Bool} → HasWordAt l n offset → y < 2 ^ 64 → h.ready ≡ false →
-      Step l g (Holds n w h) (Drain (word_place l n offset) y) x (Holds n w (record h { ready = ready })) None
-  counts : {n w x : ℕ} {h : Held} {c : Change} → h.ready ≡ true → h.pending ≡ Some c → h.placed ≡ None →
+      Step l g (Holds n w h) (Store (word_place l n offset) y) x (Holds n w (record h { known = k; dirty = dirty; hand = None; pending = Some c })) None
+  -- it makes the word that it loaded durable, and may then be ready to count
+  drains : {n w x y offset : ℕ} {h : Held} {dirty : List (ℕ × ℕ)} {ready : Bool} → HasWordAt l n offset → y < 2 ^ 64 → h.ready ≡ false →
+      h.hand ≡ Some (offset, y) → Cleans h.dirty offset dirty →
+      Step l g (Holds n w h) (Drain (word_place l n offset) y) x (Holds n w (record h { dirty = dirty; hand = None; ready = ready })) None
+  -- it counts its change, once all is durable
+  counts : {n w x : ℕ} {h : Held} {c : Change} → h.dirty ≡ [] → h.ready ≡ true → h.pending ≡ Some c → h.placed ≡ None →
       Step l g (Holds n w h) (Add (clock_place l)) x (Holds n w (record h { time = None; pending = None; ready = false; placed = Some x })) None
-  unlocks : {n w x f : ℕ} {h : Held} {r : Once Placed} → f ≡ w + 1 → h.pending ≡ None → h.ready ≡ false → Answers l h r →
+  unlocks : {n w x f : ℕ} {h : Held} {r : Once Placed} → f ≡ w + 1 → h.pending ≡ None → h.dirty ≡ [] → h.ready ≡ false → Answers l h r →
       Step l g (Holds n w h) (Store (version_place l n) f) x Idle (Some r)
