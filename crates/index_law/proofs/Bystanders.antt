@@ -1,6 +1,6 @@
 -- What a party relies on stays where the words of its node, and the map on its range, stay.
 use Rattle.std.proofs.Common.{◌≡◌, ◌≢◌, ℕ, ◌<◌, ◌≤◌, Bool, true, false, cond, List, [], ◌∷◌, ◌++◌, length, refl, sym, ap, ◌∙◌, subst, arith}
-use Rattle.std.specs.Prelude.{◌==◌, slice_get, Option, Some, None, IfSome}
+use Rattle.std.specs.Prelude.{◌==◌, if◌then◌else◌, slice_get, Option, Some, None, IfSome}
 use Rattle.std.proofs.lemmas.Bool.{eqb-true, ne_eqb}
 use Rattle.std.proofs.lemmas.List.{append-nil, length-append}
 use Rattle.pm_words.specs.declared.layout.Layout.{Layout}
@@ -10,7 +10,7 @@ use Rattle.cat_history.specs.declared.op.Change.{Change}
 use Rattle.cat_history.specs.declared.op.Write.{Write}
 use Rattle.data_node.specs.Spots.{Spot, Means, updated}
 use Rattle.call_stages.specs.Stages.{Knows, Held, Stage, Idle, Saw, Holds, pended}
-use Rattle.index_law.specs.Facts.{Facts, map_now, range_of}
+use Rattle.index_law.specs.Facts.{Facts, map_now, range_of, cached_word}
 use Rattle.index_law.specs.Lawful.{HoldsNode, IsTime, HasWriteAt, IsPlaced, map_before, SureHolds, Sure}
 use Rattle.index_law.proofs.Maps.{at-changed_other, at-changed_alike, after_all-push, after-longer, slice_get-longer, means_alike}
 use Rattle.index_law.proofs.Rows.{with_version, with_word, with_writes}
@@ -68,7 +68,7 @@ module _ (l : Layout) (g : ℕ) (f f' : Facts) (later : IsLater f f') where
     old_kept caller index since name inside None tells = steady.map name inside
     old_kept caller index since name inside (Some place) tells = let within = tells.within in ap (λ (m : Map). at m name) (after_kept place (omega arith))
 
-    pended_alike : (pending : Option Change) (name : List ℕ) → range_of l f n name ≡ true → at (pended pending (map_now f')) name ≡ at (pended pending (map_now f)) name
+    pub pended_alike : (pending : Option Change) (name : List ℕ) → range_of l f n name ≡ true → at (pended pending (map_now f')) name ≡ at (pended pending (map_now f)) name
     pended_alike None name inside = steady.map name inside
     pended_alike (Some c) name inside = at-changed_alike (map_now f) (map_now f') c name (steady.map name inside)
 
@@ -84,6 +84,8 @@ module _ (l : Layout) (g : ℕ) (f f' : Facts) (later : IsLater f f') where
       named = knows.named;
       inside = knows.inside;
       knows = subst (Knows h.name h.known) (sym steady.now) knows.knows;
+      hand = if_some (λ hand. cached_word f n hand.0 ≡ hand.1) (λ hand. cached_word f' n hand.0 ≡ hand.1) h.hand
+          (λ hand is. (λ k. if hand.0 == 0 then steady.version k else steady.now k hand.0) ∙ is) knows.hand;
       means = means_kept l.slots h.pending knows.means;
       about = knows.about;
       time = if_some (IsTime (range_of l f n) f.base f.history since h.limit) (IsTime (range_of l f' n) f'.base f'.history since h.limit) h.time (time_kept since h.limit) knows.time;

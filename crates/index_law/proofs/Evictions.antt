@@ -8,9 +8,11 @@ use Rattle.pm_words.proofs.Kept.{evicted_row}
 use Rattle.call_stages.specs.Kinds.{HasWordAt, clock_place, word_place}
 use Rattle.index_law.specs.Facts.{Facts}
 use Rattle.index_law.specs.Worlds.{facts, evicted}
-use Rattle.index_law.specs.Lawful.{AreKnown, AreSure, AreSettled, AreFreeOrHeld}
+use Rattle.index_law.specs.Twins.{AreDurable}
+use Rattle.index_law.specs.Lawful.{AreKnown, AreSure, AreSettled, AreFreeOrHeld, AreBacked}
 use Rattle.index_law.specs.Laws.{EvictKeeps}
 use Rattle.index_law.proofs.Rows.{facts-apart}
+use Rattle.index_law.proofs.Twins.{IsCloser, evict_closer, evict_cached, closer_stage, closer_durable, closer_versions, closer_front, cached_front}
 
 -- the words of the nodes stand in front of the durable twins
 before_durable : (l : Layout) (word n offset : ℕ) → HasWordAt l n offset → word_place l n offset ≢ durable_place l word
@@ -22,6 +24,7 @@ evict_law w word lawful within =
     let g = w.generation in
     let x : ℕ = slice_index w.words (cached_place l word) in
     let same : facts (evicted w word) ≡ facts w = facts-apart l w.words w.base w.history (durable_place l word) x (before_durable l word) in
+    let closer : IsCloser l w.words (evicted w word).words = evict_closer l w.words word lawful.row.whole within in
     record {
       one_node = lawful.one_node;
       run = lawful.run;
@@ -33,4 +36,10 @@ evict_law w word lawful within =
       alone = lawful.alone;
       settled = subst (AreSettled l g) (sym same) lawful.settled;
       held = subst (λ (f : Facts). AreFreeOrHeld l g f w.parties) (sym same) lawful.held;
+      backed = subst (λ (f : Facts). AreBacked l f (evicted w word).words w.parties) (sym same)
+          (λ i p there. closer_stage l w.words (evicted w word).words w.base w.history closer p.stage (lawful.backed i p there));
+      durable = subst (λ (f : Facts). AreDurable l g f (evicted w word).words) (sym same) (closer_durable l w.words (evicted w word).words w.base w.history closer g lawful.durable);
+      durable_versions = closer_versions l w.words (evicted w word).words w.base w.history closer g lawful.versions lawful.durable_versions;
+      front = cached_front l g w.words (evicted w word).words (λ v has other. evict_cached l w.words word v has) lawful.front;
+      durable_front = closer_front l g w.words (evicted w word).words closer lawful.front lawful.durable_front;
     }

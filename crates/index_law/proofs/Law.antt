@@ -7,6 +7,7 @@ use lib.ListN.{get_elem?}
 use Rattle.pm_words.specs.declared.layout.Layout.{Layout}
 use Rattle.pm_words.specs.declared.action.Action.{Action}
 use Rattle.pm_words.specs.declared.action.Action.TheVariants.{Add}
+use Rattle.pm_words.specs.Rows.{acted}
 use Rattle.pm_words.proofs.Kept.{acted_row}
 use Rattle.version_lock.specs.Versions.{IsFree}
 use Rattle.call_stages.specs.declared.once.Once.{Once}
@@ -16,8 +17,12 @@ use Rattle.call_stages.specs.Kinds.{clock_place, Look, turns_back, is_worn, sees
 use Rattle.index_law.specs.Facts.{Facts}
 use Rattle.index_law.specs.Worlds.{Party, World, facts, counted_write, moved_on}
 use Rattle.index_law.specs.Lawful.{HoldsNode, Sure, Each, AreAlone, IsHeld, AreKnown, AreSettled, AreFreeOrHeld, Lawful}
+use Rattle.index_law.specs.Twins.{BacksStage, AreDurable}
 use Rattle.index_law.specs.Laws.{Counts, IsLegal, StepKeeps}
 use Rattle.index_law.proofs.Actions.{action_law}
+use Rattle.index_law.proofs.Backing.{Drained, backs_mine, backs_others, free_backs}
+use Rattle.index_law.proofs.Closer.{step_closer, step_cached, step_drained}
+use Rattle.index_law.proofs.Twins.{IsCloser, closer_stage, closer_durable, closer_versions, closer_front, cached_front}
 use Rattle.index_law.proofs.Locks.{own_of, others, stays_known, settles, lock_after, lock_before}
 use Rattle.index_law.proofs.Moves.{fact_after, Gives, gives, facts_step, clock_step}
 use Rattle.index_law.proofs.Own.{allow_law, sure_within, mine, legal}
@@ -36,20 +41,20 @@ module _ {l : Layout} {g : ℕ} where
   look_counts (misses other) count = λ e. cc
   look_counts (times {n = n} {w = w} {x = x} {h = h} clean below) count = unready_counts l n w x count h _ clean.ready (λ e. cc)
   look_counts (learns {n = n} {w = w} {x = x} {h = h} has positive unready learnt) count = unready_counts l n w x count h _ unready (λ e. cc)
-  look_counts (decides {n = n} {w = w} {x = x} {h = h} has positive clean about learnt decided) count = unready_counts l n w x count h _ clean.ready (λ e. cc)
+  look_counts (decides {n = n} {w = w} {x = x} {h = h} has positive clean durable about learnt decided) count = unready_counts l n w x count h _ clean.ready (λ e. cc)
   look_counts (glances {n = n} {w = w} {x = x} {h = h} has unready) count = unready_counts l n w x count h _ unready (λ e. cc)
 
   -- what is counted is counted at the length of the history
   step_counts : {s : Stage} {a : Action} {x : ℕ} {t : Stage} {r : Option (Once Placed)} → (k : Step l g s a x t r) → (f : Facts) → Gives k f → Counts l (length f.history) a x (counted s)
   step_counts (looks look) f e = look_counts look (length f.history)
   step_counts (locks same named) f e = λ e. cc
-  step_counts (stores {n = n} {w = w} {x = x} {h = h} has positive small clean learnt means) f e = unready_counts l n w x (length f.history) h _ clean.ready (λ e. cc)
-  step_counts (commits {n = n} {w = w} {x = x} {h = h} has positive small clean old about learnt means) f e = unready_counts l n w x (length f.history) h _ clean.ready (λ e. cc)
-  step_counts (drains {n = n} {w = w} {x = x} {h = h} has small unready) f e = unready_counts l n w x (length f.history) h _ unready (λ e. cc)
-  step_counts (counts {x = x} {h = h} {c = c} ready pending unplaced) f e =
+  step_counts (stores {n = n} {w = w} {x = x} {h = h} has positive small clean soils learnt means) f e = unready_counts l n w x (length f.history) h _ clean.ready (λ e. cc)
+  step_counts (commits {n = n} {w = w} {x = x} {h = h} has positive small clean durable soiled old about learnt means) f e = unready_counts l n w x (length f.history) h _ clean.ready (λ e. cc)
+  step_counts (drains {n = n} {w = w} {x = x} {h = h} has small unready hand cleans) f e = unready_counts l n w x (length f.history) h _ unready (λ e. cc)
+  step_counts (counts {x = x} {h = h} {c = c} durable ready pending unplaced) f e =
       subst (λ b. Counts l (length f.history) (Add (clock_place l)) x (elim b [ true ↦ h.pending | false ↦ None ])) (sym ready)
       (subst (Counts l (length f.history) (Add (clock_place l)) x) (sym pending) (refl, e))
-  step_counts (unlocks {n = n} {w = w} {x = x} {h = h} next pending unready answers) f e = unready_counts l n w x (length f.history) h _ unready (λ e. cc)
+  step_counts (unlocks {n = n} {w = w} {x = x} {h = h} next pending durable unready answers) f e = unready_counts l n w x (length f.history) h _ unready (λ e. cc)
 
 module _ (w : World) (i : ℕ) (p : Party) (lawful : Lawful w) (there : get_elem? w.parties i ≡ some p) where
   -- no other party holds a node that this one holds
@@ -118,6 +123,18 @@ module _ (w : World) (i : ℕ) (p : Party) (lawful : Lawful w) (there : get_elem
         (λ j d other at. let was = lawful.begun j d at in omega arith)
         (let was = lawful.begun i p there in omega arith)
 
+    -- from the durable twins after the step, with the facts before it
+    module _ (words : List ℕ) (drained : Drained k (facts w) words) (durable : AreDurable w.layout w.generation (facts w) words)
+        (backed : Each (λ d. BacksStage w.layout (facts w) words d.stage) w.parties) where
+      backed_after : Each (λ d. BacksStage w.layout (fact_after k (facts w) p.caller p.index) words d.stage) (set w.parties i (moved_on p t))
+      backed_after = each_set (λ (d : Party). BacksStage w.layout (fact_after k (facts w) p.caller p.index) words d.stage) w.parties i (moved_on p t)
+          (λ j d other at. backs_others (facts w) words p.caller p.index p.since k given knows d.caller d.index d.since d.stage (apart j d other at) (lawful.sure j d at) (backed j d at))
+          (backs_mine (facts w) words p.caller p.index p.since k given knows
+          (mine (facts w) p.caller p.index p.since (lawful.begun i p there) lawful.versions lawful.one_node lawful.settled k given knows) drained durable (backed i p there))
+
+      durable_after : AreDurable w.layout w.generation (fact_after k (facts w) p.caller p.index) words
+      durable_after = free_backs (facts w) words p.caller p.index p.since k knows durable (backed i p there)
+
 pub step_law : StepKeeps
 step_law w i p a x t r lawful there k told room =
     let l = w.layout in
@@ -126,6 +143,12 @@ step_law w i p a x t r lawful there k told room =
     let known = lawful.sure i p there in
     let given = gives w.words w.base w.history p.caller p.index p.since k lawful.clock told known in
     let same = facts_step w.words w.base w.history p.caller p.index p.since k lawful.row told known in
+    let words = acted l w.words a in
+    let closer : IsCloser l w.words words = step_closer w.words w.base w.history p.caller p.index p.since lawful.row k told known in
+    let drained = step_drained w.words w.base w.history p.caller p.index p.since lawful.row k known in
+    let durable = closer_durable l w.words words w.base w.history closer g lawful.durable in
+    let backed : Each (λ d. BacksStage l f words d.stage) w.parties =
+    λ j d at. closer_stage l w.words words w.base w.history closer d.stage (lawful.backed j d at) in
     let can = (action_law w i p a lawful there (allow_law l g p.stage a x t r (sure_within l g f p.caller p.index p.since p.stage known) k) room).can in
     record {
       can = can;
@@ -140,6 +163,12 @@ step_law w i p a x t r lawful there k told room =
         alone = alone_after w i p lawful there k given;
         settled = subst (AreSettled l g) (sym same) (settles f p.caller p.index p.since k known lawful.settled);
         held = subst (λ (φ : Facts). AreFreeOrHeld l g φ (set w.parties i (moved_on p t))) (sym same) (held_after w i p lawful there k given);
+        backed = subst (λ (φ : Facts). Each (λ d. BacksStage l φ words d.stage) (set w.parties i (moved_on p t))) (sym same)
+            (backed_after w i p lawful there k given words drained durable backed);
+        durable = subst (λ (φ : Facts). AreDurable l g φ words) (sym same) (durable_after w i p lawful there k given words drained durable backed);
+        durable_versions = closer_versions l w.words words w.base w.history closer g lawful.versions lawful.durable_versions;
+        front = cached_front l g w.words words (step_cached w.words w.base w.history p.caller p.index p.since lawful.row k told known) lawful.front;
+        durable_front = closer_front l g w.words words closer lawful.front lawful.durable_front;
       };
       counts = step_counts k f given;
       legal = subst (λ (φ : Facts). IsLegal l g φ p.caller p.index p.since p.stage r) (sym same) (legal f p.caller p.index p.since k given known);

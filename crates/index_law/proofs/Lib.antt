@@ -11,4 +11,7 @@ pub mod Law
 pub mod Starts
 pub mod Fresh
 pub mod Rounds
+pub mod Twins
+pub mod Backing
+pub mod Closer
 pub mod Evictions

@@ -17,10 +17,10 @@ use Rattle.call_stages.specs.declared.once.Once.{Once}
 use Rattle.call_stages.specs.declared.once.Placed.{Placed}
 use Rattle.call_stages.specs.Stages.{Held, Stage, Saw, Holds, counted}
 use Rattle.call_stages.specs.Kinds.{Look, turns_back, is_worn, sees, misses, times, learns, decides, glances, Step, looks, locks, stores, commits, drains, counts, unlocks, clock_place, word_place, version_place}
-use Rattle.index_law.specs.Facts.{Facts, facts_of}
+use Rattle.index_law.specs.Facts.{Facts, facts_of, cached_word}
 use Rattle.index_law.specs.Worlds.{written}
 use Rattle.index_law.specs.Lawful.{Sure}
-use Rattle.index_law.proofs.Rows.{with_version, with_word, with_writes, version_in-here, spot_in-here, facts-elsewhere, facts-version, facts-word}
+use Rattle.index_law.proofs.Rows.{with_version, with_word, with_writes, version_in-here, spot_in-here, cached_word-here, facts-elsewhere, facts-version, facts-word}
 
 -- a step that is not ready counts nothing
 unready_adds : (n w : ℕ) (h : Held) (caller index : ℕ) → h.ready ≡ false → written caller index (counted (Holds n w h)) ≡ []
@@ -46,11 +46,11 @@ module _ {l : Layout} {g : ℕ} where
   abbrev pub fact_after : {s : Stage} {a : Action} {x : ℕ} {t : Stage} {r : Option (Once Placed)} → Step l g s a x t r → Facts → ℕ → ℕ → Facts
   fact_after (looks look) f caller index = f
   fact_after (locks {n = n} {w = w} same named) f caller index = with_version f n w
-  fact_after (stores {n = n} {y = y} {offset = offset} has positive small clean knows means) f caller index = with_word f n offset y
-  fact_after (commits {n = n} {y = y} {offset = offset} has positive small clean old about knows means) f caller index = with_word f n offset y
-  fact_after (drains has small unready) f caller index = f
-  fact_after (counts {c = c} ready pending unplaced) f caller index = with_writes f ((record { caller = caller; index = index; change = c }) ∷ [])
-  fact_after (unlocks {n = n} {f = freed} next pending unready answers) f caller index = with_version f n freed
+  fact_after (stores {n = n} {y = y} {offset = offset} has positive small clean soils knows means) f caller index = with_word f n offset y
+  fact_after (commits {n = n} {y = y} {offset = offset} has positive small clean durable soiled old about knows means) f caller index = with_word f n offset y
+  fact_after (drains has small unready hand cleans) f caller index = f
+  fact_after (counts {c = c} durable ready pending unplaced) f caller index = with_writes f ((record { caller = caller; index = index; change = c }) ∷ [])
+  fact_after (unlocks {n = n} {f = freed} next pending durable unready answers) f caller index = with_version f n freed
 
   -- the number that a look gives
   abbrev pub Gave : {s : Stage} {a : Action} {x : ℕ} {t : Stage} {r : Option (Once Placed)} → Look l g s a x t r → Facts → Type 0
@@ -60,18 +60,18 @@ module _ {l : Layout} {g : ℕ} where
   Gave (misses {n = n} {x = x} other) f = x ≡ f.version n
   Gave (times {x = x} clean below) f = x ≡ length f.history
   Gave (learns {n = n} {x = x} {offset = offset} has positive unready knows) f = x ≡ f.now n offset
-  Gave (decides {n = n} {x = x} {offset = offset} has positive clean about knows decided) f = x ≡ f.now n offset
-  Gave (glances has unready) f = Unit {0}
+  Gave (decides {n = n} {x = x} {offset = offset} has positive clean durable about knows decided) f = x ≡ f.now n offset
+  Gave (glances {n = n} {x = x} {offset = offset} has unready) f = x ≡ cached_word f n offset
 
   -- the number that a step is told
   abbrev pub Gives : {s : Stage} {a : Action} {x : ℕ} {t : Stage} {r : Option (Once Placed)} → Step l g s a x t r → Facts → Type 0
   Gives (looks look) f = Gave look f
   Gives (locks {n = n} {x = x} same named) f = x ≡ f.version n
-  Gives (stores has positive small clean knows means) f = Unit {0}
-  Gives (commits has positive small clean old about knows means) f = Unit {0}
-  Gives (drains has small unready) f = Unit {0}
-  Gives (counts {x = x} ready pending unplaced) f = x ≡ length f.history
-  Gives (unlocks next pending unready answers) f = Unit {0}
+  Gives (stores has positive small clean soils knows means) f = Unit {0}
+  Gives (commits has positive small clean durable soiled old about knows means) f = Unit {0}
+  Gives (drains has small unready hand cleans) f = Unit {0}
+  Gives (counts {x = x} durable ready pending unplaced) f = x ≡ length f.history
+  Gives (unlocks next pending durable unready answers) f = Unit {0}
 
   look_adds : {s : Stage} {a : Action} {x : ℕ} {t : Stage} {r : Option (Once Placed)} → Look l g s a x t r → (caller index : ℕ) → written caller index (counted s) ≡ []
   look_adds (turns_back here busy) caller index = refl
@@ -80,11 +80,11 @@ module _ {l : Layout} {g : ℕ} where
   look_adds (misses other) caller index = refl
   look_adds (times {n = n} {w = w} {h = h} clean below) caller index = unready_adds n w h caller index clean.ready
   look_adds (learns {n = n} {w = w} {h = h} has positive unready knows) caller index = unready_adds n w h caller index unready
-  look_adds (decides {n = n} {w = w} {h = h} has positive clean about knows decided) caller index = unready_adds n w h caller index clean.ready
+  look_adds (decides {n = n} {w = w} {h = h} has positive clean durable about knows decided) caller index = unready_adds n w h caller index clean.ready
   look_adds (glances {n = n} {w = w} {h = h} has unready) caller index = unready_adds n w h caller index unready
 
   -- a look leaves the words
-  look_keeps : {s : Stage} {a : Action} {x : ℕ} {t : Stage} {r : Option (Once Placed)} → Look l g s a x t r → (ws : List ℕ) → x ≡ got l ws a → acted l ws a ≡ ws
+  pub look_keeps : {s : Stage} {a : Action} {x : ℕ} {t : Stage} {r : Option (Once Placed)} → Look l g s a x t r → (ws : List ℕ) → x ≡ got l ws a → acted l ws a ≡ ws
   look_keeps (turns_back {n = n} here busy) ws e = set-get_or ws (version_place l n) 0
   look_keeps (is_worn {n = n} here free worn) ws e = set-get_or ws (version_place l n) 0
   look_keeps (sees {n = n} here free unworn lock) ws e = set-get_or ws (version_place l n) 0
@@ -94,7 +94,7 @@ module _ {l : Layout} {g : ℕ} where
       ap (λ (b : Bool). slice_set ws (version_place l n) (cond b w word)) (ne_eqb word v ne) ∙ set-get_or ws (version_place l n) 0
   look_keeps (times clean below) ws e = set-get_or ws (clock_place l) 0
   look_keeps (learns {n = n} {offset = offset} has positive unready knows) ws e = set-get_or ws (word_place l n offset) 0
-  look_keeps (decides {n = n} {offset = offset} has positive clean about knows decided) ws e = set-get_or ws (word_place l n offset) 0
+  look_keeps (decides {n = n} {offset = offset} has positive clean durable about knows decided) ws e = set-get_or ws (word_place l n offset) 0
   look_keeps (glances {n = n} {offset = offset} has unready) ws e = set-get_or ws (word_place l n offset) 0
 
   module _ (ws : List ℕ) (base : Map) (h : List Write) (caller index since : ℕ) where
@@ -109,18 +109,18 @@ module _ {l : Layout} {g : ℕ} where
     gave (misses {n = n} other) clock e knows = e ∙ sym (version_in-here l ws n (here knows))
     gave (times clean below) clock e knows = e ∙ clock
     gave (learns {n = n} {offset = offset} has positive unready learnt) clock e knows = e ∙ sym (spot_in-here l ws n offset has positive)
-    gave (decides {n = n} {offset = offset} has positive clean about learnt decided) clock e knows = e ∙ sym (spot_in-here l ws n offset has positive)
-    gave (glances has unready) clock e knows = tt
+    gave (decides {n = n} {offset = offset} has positive clean durable about learnt decided) clock e knows = e ∙ sym (spot_in-here l ws n offset has positive)
+    gave (glances {n = n} {offset = offset} has unready) clock e knows = e ∙ sym (cached_word-here l ws base h n offset has)
 
     pub gives : {s : Stage} {a : Action} {x : ℕ} {t : Stage} {r : Option (Once Placed)} → (k : Step l g s a x t r) → slice_index ws (clock_place l) ≡ length h
         → x ≡ got l ws a → Sure l g (facts_of l ws base h) caller index since s → Gives k (facts_of l ws base h)
     gives (looks look) clock e knows = gave look clock e knows
     gives (locks {n = n} same named) clock e knows = e ∙ sym (version_in-here l ws n (here knows))
-    gives (stores has positive small clean learnt means) clock e knows = tt
-    gives (commits has positive small clean old about learnt means) clock e knows = tt
-    gives (drains has small unready) clock e knows = tt
-    gives (counts ready pending unplaced) clock e knows = e ∙ clock
-    gives (unlocks next pending unready answers) clock e knows = tt
+    gives (stores has positive small clean soils learnt means) clock e knows = tt
+    gives (commits has positive small clean durable soiled old about learnt means) clock e knows = tt
+    gives (drains has small unready hand cleans) clock e knows = tt
+    gives (counts durable ready pending unplaced) clock e knows = e ∙ clock
+    gives (unlocks next pending durable unready answers) clock e knows = tt
 
     pub facts_step : {s : Stage} {a : Action} {x : ℕ} {t : Stage} {r : Option (Once Placed)} → (k : Step l g s a x t r) → IsRow l ws
         → x ≡ got l ws a → Sure l g (facts_of l ws base h) caller index since s
@@ -132,18 +132,18 @@ module _ {l : Layout} {g : ℕ} where
         unadded l base h (slice_set ws (version_place l n) (cond (word == v) w word)) [] refl
         ∙ ap (λ (y : ℕ). facts_of l (slice_set ws (version_place l n) y) base h) hit
         ∙ facts-version l ws base h n w row.whole (here knows)
-    facts_step (stores {n = n} {w = w} {y = y} {offset = offset} {h = held} has positive small clean learnt means) row e knows =
+    facts_step (stores {n = n} {w = w} {y = y} {offset = offset} {h = held} has positive small clean soils learnt means) row e knows =
         unadded l base h _ _ (unready_adds n w held caller index clean.ready) ∙ facts-word l ws base h n offset y row.whole has positive
-    facts_step (commits {n = n} {w = w} {y = y} {offset = offset} {h = held} has positive small clean old about learnt means) row e knows =
+    facts_step (commits {n = n} {w = w} {y = y} {offset = offset} {h = held} has positive small clean durable soiled old about learnt means) row e knows =
         unadded l base h _ _ (unready_adds n w held caller index clean.ready) ∙ facts-word l ws base h n offset y row.whole has positive
-    facts_step (drains {n = n} {w = w} {y = y} {offset = offset} {h = held} has small unready) row e knows =
+    facts_step (drains {n = n} {w = w} {y = y} {offset = offset} {h = held} has small unready hand cleans) row e knows =
         unadded l base h _ _ (unready_adds n w held caller index unready)
         ∙ ap (λ (place : ℕ). facts_of l (slice_set ws place y) base h) (place_of-drain l (Node n offset) y)
         ∙ facts-elsewhere l ws base h (Durable (Node n offset)) y has (λ m o same. cc)
-    facts_step (counts {n = n} {w = w} {h = held} {c = c} ready pending unplaced) row e knows =
+    facts_step (counts {n = n} {w = w} {h = held} {c = c} durable ready pending unplaced) row e knows =
         ap (λ (u : List Write). facts_of l (acted l ws (Add (clock_place l))) base (h ++ u)) (ready_adds n w held c caller index ready pending)
         ∙ facts-elsewhere l ws base (h ++ (record { caller = caller; index = index; change = c }) ∷ []) Clock (slice_index ws (clock_place l) + 1) tt (λ m o same. cc)
-    facts_step (unlocks {n = n} {w = w} {f = freed} {h = held} next pending unready answers) row e knows =
+    facts_step (unlocks {n = n} {w = w} {f = freed} {h = held} next pending durable unready answers) row e knows =
         unadded l base h _ _ (unready_adds n w held caller index unready) ∙ facts-version l ws base h n freed row.whole knows.here
 
     -- the clock counts the history
@@ -153,17 +153,17 @@ module _ {l : Layout} {g : ℕ} where
     clock_step (looks look) row clock e knows =
         ap (λ (v : List ℕ). slice_index v (clock_place l)) (look_keeps look ws e) ∙ clock ∙ lengths h _ (look_adds look caller index)
     clock_step (locks {n = n} same named) row clock e knows = beside l ws (Cached (Node n 0)) _ (here knows, omega arith) (λ alike. cc) ∙ clock ∙ lengths h [] refl
-    clock_step (stores {n = n} {w = w} {y = y} {offset = offset} {h = held} has positive small clean learnt means) row clock e knows =
+    clock_step (stores {n = n} {w = w} {y = y} {offset = offset} {h = held} has positive small clean soils learnt means) row clock e knows =
         beside l ws (Cached (Node n offset)) y has (λ alike. cc) ∙ clock ∙ lengths h _ (unready_adds n w held caller index clean.ready)
-    clock_step (commits {n = n} {w = w} {y = y} {offset = offset} {h = held} has positive small clean old about learnt means) row clock e knows =
+    clock_step (commits {n = n} {w = w} {y = y} {offset = offset} {h = held} has positive small clean durable soiled old about learnt means) row clock e knows =
         beside l ws (Cached (Node n offset)) y has (λ alike. cc) ∙ clock ∙ lengths h _ (unready_adds n w held caller index clean.ready)
-    clock_step (drains {n = n} {w = w} {y = y} {offset = offset} {h = held} has small unready) row clock e knows =
+    clock_step (drains {n = n} {w = w} {y = y} {offset = offset} {h = held} has small unready hand cleans) row clock e knows =
         ap (λ (place : ℕ). slice_index (slice_set ws place y) (clock_place l)) (place_of-drain l (Node n offset) y)
         ∙ beside l ws (Durable (Node n offset)) y has (λ alike. cc) ∙ clock ∙ lengths h _ (unready_adds n w held caller index unready)
-    clock_step (counts {n = n} {w = w} {h = held} {c = c} ready pending unplaced) row clock e knows =
+    clock_step (counts {n = n} {w = w} {h = held} {c = c} durable ready pending unplaced) row clock e knows =
         let write : Write = record { caller = caller; index = index; change = c } in
         at-set_same l ws Clock (slice_index ws (clock_place l) + 1) row.whole tt
         ∙ ap (λ (m : ℕ). m + 1) clock ∙ sym (length-append h (write ∷ []))
         ∙ ap (λ (u : List Write). length (h ++ u)) (sym (ready_adds n w held c caller index ready pending))
-    clock_step (unlocks {n = n} {w = w} {f = freed} {h = held} next pending unready answers) row clock e knows =
+    clock_step (unlocks {n = n} {w = w} {f = freed} {h = held} next pending durable unready answers) row clock e knows =
         beside l ws (Cached (Node n 0)) freed (knows.here, omega arith) (λ alike. cc) ∙ clock ∙ lengths h _ (unready_adds n w held caller index unready)

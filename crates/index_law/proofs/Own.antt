@@ -1,6 +1,7 @@
 -- What a party knows after its own step, and that its answer is legal.
-use Rattle.std.proofs.Common.{◌≡◌, ℕ, ◌≤◌, Bool, cond, [], ◌∷◌, ◌++◌, length, refl, sym, ap, ◌∙◌, subst, arith}
+use Rattle.std.proofs.Common.{◌≡◌, ℕ, ◌≤◌, ◌⊎◌, inr, Bool, cond, List, [], ◌∷◌, ◌++◌, length, refl, sym, ap, ◌∙◌, subst, arith}
 use Rattle.std.specs.Prelude.{slice_get, Option, Some, None, IfSome}
+use Rattle.std.specs.List.{AllByRecursion}
 use Rattle.std.proofs.lemmas.Bool.{eq-eqb}
 use Rattle.std.proofs.lemmas.List.{length-append}
 use Rattle.pm_words.specs.declared.layout.Layout.{Layout}
@@ -13,7 +14,7 @@ use Rattle.cat_history.specs.declared.op.Write.{Write}
 use Rattle.data_node.specs.Spots.{Spot, Means, updated}
 use Rattle.call_stages.specs.declared.once.Once.{Once}
 use Rattle.call_stages.specs.declared.once.Placed.{Placed}
-use Rattle.call_stages.specs.Stages.{Knows, Held, Stage, Idle, Saw, Holds, pended}
+use Rattle.call_stages.specs.Stages.{Knows, KnowsDurable, IsAmong, Held, Stage, Idle, Saw, Holds, pended}
 use Rattle.call_stages.specs.Kinds.{Look, turns_back, is_worn, sees, misses, times, learns, decides, glances, Answers, writes, reads, is_spent, has_no_room, Step, looks, locks, stores, commits, drains, counts, unlocks}
 use Rattle.index_law.specs.Facts.{Facts, map_now, range_of}
 use Rattle.index_law.specs.Lawful.{AreKnown, AreSettled, IsTime, HasWriteAt, IsPlaced, map_before, SureHolds, Sure}
@@ -31,14 +32,14 @@ allow_law l g s a x t r within (looks (sees here free unworn lock)) = loads_word
 allow_law l g s a x t r within (looks (misses other)) = exchanges within
 allow_law l g s a x t r within (looks (times clean below)) = loads_clock
 allow_law l g s a x t r within (looks (learns has positive unready learnt)) = loads_word has
-allow_law l g s a x t r within (looks (decides has positive clean about learnt decided)) = loads_word has
+allow_law l g s a x t r within (looks (decides has positive clean durable about learnt decided)) = loads_word has
 allow_law l g s a x t r within (looks (glances has unready)) = loads_word has
 allow_law l g s a x t r within (locks same named) = exchanges within
-allow_law l g s a x t r within (stores has positive small clean learnt means) = stores_word has positive small
-allow_law l g s a x t r within (commits has positive small clean old about learnt means) = stores_word has positive small
-allow_law l g s a x t r within (drains has small unready) = drains_word has small
-allow_law l g s a x t r within (counts ready pending unplaced) = adds
-allow_law l g s a x t r within (unlocks next pending unready answers) = frees within next
+allow_law l g s a x t r within (stores has positive small clean soils learnt means) = stores_word has positive small
+allow_law l g s a x t r within (commits has positive small clean durable soiled old about learnt means) = stores_word has positive small
+allow_law l g s a x t r within (drains has small unready hand cleans) = drains_word has small
+allow_law l g s a x t r within (counts durable ready pending unplaced) = adds
+allow_law l g s a x t r within (unlocks next pending durable unready answers) = frees within next
 
 -- who is sure of its node names one of the layout's
 pub sure_within : (l : Layout) (g : ℕ) (f : Facts) (caller index since : ℕ) (s : Stage) → Sure l g f caller index since s → IsWithin l s
@@ -46,13 +47,21 @@ sure_within l g f caller index since Idle knows = tt
 sure_within l g f caller index since (Saw n v w) knows = knows.here
 sure_within l g f caller index since (Holds n w h) knows = knows.here
 
+-- what is known of the words is known of those that are durable
+known_words : (h : Held) (s : Spot) (seen : List (ℕ × ℕ)) → AllByRecursion (λ (w : ℕ × ℕ). s w.0 ≡ w.1) seen → AllByRecursion (λ (w : ℕ × ℕ). IsAmong h.dirty w.0 ⊎ (s w.0 ≡ w.1)) seen
+known_words h s [] all = tt
+known_words h s (w ∷ seen) all = (inr all.0, known_words h s seen all.1)
+
+durably : (h : Held) (s : Spot) → Knows h.name h.known s → KnowsDurable h s
+durably h s knows = known_words h s h.known.seen knows.seen
+
 -- the word that was stored in the node's words
-stored : (f : Facts) (n offset y : ℕ) → (with_word f n offset y).now n ≡ updated (f.now n) offset y
+pub stored : (f : Facts) (n offset y : ℕ) → (with_word f n offset y).now n ≡ updated (f.now n) offset y
 stored f n offset y = ap (λ (b : Bool). cond b (updated (f.now n) offset y) (f.now n)) (eq-eqb n n refl)
 
 module _ {l : Layout} {g : ℕ} (f : Facts) (caller index since : ℕ) where
   -- what is known of a call with nothing pending
-  clean_means : (n w : ℕ) (h : Held) → SureHolds l g f caller index since n w h → h.pending ≡ None → Means l.slots (range_of l f n) (f.now n) (map_now f)
+  pub clean_means : (n w : ℕ) (h : Held) → SureHolds l g f caller index since n w h → h.pending ≡ None → Means l.slots (range_of l f n) (f.now n) (map_now f)
   clean_means n w h knows clean = subst (λ (p : Option Change). Means l.slots (range_of l f n) (f.now n) (pended p (map_now f))) clean knows.means
 
   -- what the name had in the map that the call took effect on
@@ -80,6 +89,7 @@ module _ {l : Layout} {g : ℕ} (f : Facts) (caller index since : ℕ) where
       named = knows.named;
       inside = knows.inside;
       knows = knows.knows;
+      hand = knows.hand;
       means = knows.means;
       about = knows.about;
       time = record {
@@ -98,13 +108,14 @@ module _ {l : Layout} {g : ℕ} (f : Facts) (caller index since : ℕ) where
       named = knows.named;
       inside = knows.inside;
       knows = learnt (f.now n) knows.means.tidy knows.knows (sym e);
+      hand = knows.hand;
       means = knows.means;
       about = knows.about;
       time = knows.time;
       old = knows.old;
       placed = knows.placed;
     }
-    look_mine (decides {n = n} {w = w} {h = h} {old = old} has positive clean about learnt decided) e knows =
+    look_mine (decides {n = n} {w = w} {h = h} {old = old} has positive clean durable about learnt decided) e knows =
         let means = clean_means n w h knows clean.pending in
         let found = decided (range_of l f n) (f.now n) (map_now f) knows.inside knows.knows (sym e) means in
         record {
@@ -114,13 +125,27 @@ module _ {l : Layout} {g : ℕ} (f : Facts) (caller index since : ℕ) where
           named = knows.named;
           inside = knows.inside;
           knows = learnt (f.now n) means.tidy knows.knows (sym e);
+          hand = knows.hand;
           means = found.1;
           about = about;
           time = knows.time;
           old = subst (λ (p : Option ℕ). at (map_before f p) h.name ≡ old) (sym clean.placed) found.0;
           placed = knows.placed;
         }
-    look_mine (glances has unready) e knows = knows
+    look_mine (glances has unready) e knows = record {
+      here = knows.here;
+      stands = knows.stands;
+      lock = knows.lock;
+      named = knows.named;
+      inside = knows.inside;
+      knows = knows.knows;
+      hand = sym e;
+      means = knows.means;
+      about = knows.about;
+      time = knows.time;
+      old = knows.old;
+      placed = knows.placed;
+    }
 
     module _ (one_node : l.nodes ≡ 1) (settled : AreSettled l g f) where
       pub mine : {s : Stage} {a : Action} {x : ℕ} {t : Stage} {r : Option (Once Placed)} → (k : Step l g s a x t r) → Gives k f → Sure l g f caller index since s
@@ -133,33 +158,36 @@ module _ {l : Layout} {g : ℕ} (f : Facts) (caller index since : ℕ) where
         named = named;
         inside = let here = knows.here in eq-eqb n 0 (omega arith);
         knows = record { seen = tt; left = tt };
+        hand = tt;
         means = settled n knows.here (subst (λ (u : ℕ). IsFree u g) (sym (sym e ∙ same)) knows.free);
         about = tt;
         time = tt;
         old = tt;
         placed = tt;
       }
-      mine (stores {n = n} {y = y} {offset = offset} {h = h} {k = k} has positive small clean learnt means) e knows = record {
+      mine (stores {n = n} {y = y} {offset = offset} {h = h} {k = k} has positive small clean soils learnt means) e knows = record {
         here = knows.here;
         stands = knows.stands;
         lock = knows.lock;
         named = knows.named;
         inside = knows.inside;
         knows = subst (Knows h.name k) (sym (stored f n offset y)) (learnt (f.now n) knows.means.tidy knows.knows);
+        hand = tt;
         means = subst (λ (s : Spot). Means l.slots (range_of l f n) s (pended h.pending (map_now f))) (sym (stored f n offset y))
-            (means (range_of l f n) (f.now n) (pended h.pending (map_now f)) knows.knows knows.means);
+            (means (range_of l f n) (f.now n) (pended h.pending (map_now f)) (durably h (f.now n) knows.knows) knows.means);
         about = knows.about;
         time = knows.time;
         old = knows.old;
         placed = knows.placed;
       }
-      mine (commits {n = n} {w = w} {y = y} {offset = offset} {h = h} {k = k} {old = old} {c = c} has positive small clean old_known about learnt means) e knows = record {
+      mine (commits {n = n} {w = w} {y = y} {offset = offset} {h = h} {k = k} {old = old} {c = c} has positive small clean durable soiled old_known about learnt means) e knows = record {
         here = knows.here;
         stands = knows.stands;
         lock = knows.lock;
         named = knows.named;
         inside = knows.inside;
         knows = subst (Knows h.name k) (sym (stored f n offset y)) (learnt (f.now n) knows.means.tidy knows.knows);
+        hand = tt;
         means = subst (λ (s : Spot). Means l.slots (range_of l f n) s (changed (map_now f) c)) (sym (stored f n offset y))
             (means (range_of l f n) (f.now n) (map_now f) knows.inside knows.knows (old_is n w h None old knows clean.placed old_known) (clean_means n w h knows clean.pending));
         about = about;
@@ -167,20 +195,21 @@ module _ {l : Layout} {g : ℕ} (f : Facts) (caller index since : ℕ) where
         old = knows.old;
         placed = knows.placed;
       }
-      mine (drains has small unready) e knows = record {
+      mine (drains has small unready hand cleans) e knows = record {
         here = knows.here;
         stands = knows.stands;
         lock = knows.lock;
         named = knows.named;
         inside = knows.inside;
         knows = knows.knows;
+        hand = tt;
         means = knows.means;
         about = knows.about;
         time = knows.time;
         old = knows.old;
         placed = knows.placed;
       }
-      mine (counts {n = n} {w = w} {x = x} {h = h} {c = c} ready pending unplaced) e knows =
+      mine (counts {n = n} {w = w} {x = x} {h = h} {c = c} durable ready pending unplaced) e knows =
           let write : Write = record { caller = caller; index = index; change = c } in
           let same : after f.base (f.history ++ write ∷ []) x ≡ map_now f = after-longer f.base f.history (write ∷ []) x (omega (arith, e)) ∙ after-whole f.base f.history x e in
           record {
@@ -190,6 +219,7 @@ module _ {l : Layout} {g : ℕ} (f : Facts) (caller index since : ℕ) where
             named = knows.named;
             inside = knows.inside;
             knows = knows.knows;
+            hand = knows.hand;
             means = subst (Means l.slots (range_of l f n) (f.now n)) (sym (after_all-push f.base f.history write))
                 (subst (λ (p : Option Change). Means l.slots (range_of l f n) (f.now n) (pended p (map_now f))) pending knows.means);
             about = tt;
@@ -209,7 +239,7 @@ module _ {l : Layout} {g : ℕ} (f : Facts) (caller index since : ℕ) where
           old_then : {m m' : Option ℕ} → (o : Option (Option ℕ)) → IfSome o (λ old. m ≡ old) → m' ≡ m → IfSome o (λ old. m' ≡ old)
           old_then None was same = tt
           old_then (Some old) was same = same ∙ was
-      mine (unlocks next pending unready answers) e knows = tt
+      mine (unlocks next pending durable unready answers) e knows = tt
 
   -- the answer of a call that gives its node back
   answered : (n w freed : ℕ) (h : Held) (r : Once Placed) → h.pending ≡ None → Answers l h r → SureHolds l g f caller index since n w h → IsLegalHeld l (with_version f n freed) caller index since n h r
@@ -251,11 +281,11 @@ module _ {l : Layout} {g : ℕ} (f : Facts) (caller index since : ℕ) where
   legal (looks (misses other)) e knows = (sym e, other)
   legal (looks (times clean below)) e knows = tt
   legal (looks (learns has positive unready learnt)) e knows = tt
-  legal (looks (decides has positive clean about learnt decided)) e knows = tt
+  legal (looks (decides has positive clean durable about learnt decided)) e knows = tt
   legal (looks (glances has unready)) e knows = tt
   legal (locks same named) e knows = tt
-  legal (stores has positive small clean learnt means) e knows = tt
-  legal (commits has positive small clean old about learnt means) e knows = tt
-  legal (drains has small unready) e knows = tt
-  legal (counts ready pending unplaced) e knows = tt
-  legal (unlocks {n = n} {w = w} {f = freed} {h = h} {r = r} next pending unready answers) e knows = answered n w freed h r pending answers knows
+  legal (stores has positive small clean soils learnt means) e knows = tt
+  legal (commits has positive small clean durable soiled old about learnt means) e knows = tt
+  legal (drains has small unready hand cleans) e knows = tt
+  legal (counts durable ready pending unplaced) e knows = tt
+  legal (unlocks {n = n} {w = w} {f = freed} {h = h} {r = r} next pending durable unready answers) e knows = answered n w freed h r pending answers knows

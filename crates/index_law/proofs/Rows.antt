@@ -10,7 +10,7 @@ use Rattle.cat_history.specs.Maps.{Map}
 use Rattle.cat_history.specs.declared.op.Write.{Write}
 use Rattle.data_node.specs.Spots.{updated}
 use Rattle.call_stages.specs.Kinds.{version_place, word_place, HasWordAt}
-use Rattle.index_law.specs.Facts.{Facts, facts_of, version_in, spot_in}
+use Rattle.index_law.specs.Facts.{Facts, facts_of, version_in, spot_in, cached_word}
 
 -- the words that belong to a node's spot
 abbrev pub in_spot : Layout → ℕ → ℕ → Bool
@@ -20,7 +20,7 @@ both : (a b : Bool) → (a && b) ≡ true → (a ≡ true) × (b ≡ true)
 both true b e = (refl, e)
 both false b e = absurd (let no_way : false ≡ true = e in cc)
 
-in_spot-true : (l : Layout) (n offset : ℕ) → in_spot l n offset ≡ true → HasWordAt l n offset × (0 < offset)
+pub in_spot-true : (l : Layout) (n offset : ℕ) → in_spot l n offset ≡ true → HasWordAt l n offset × (0 < offset)
 in_spot-true l n offset e =
     let outer = both (nat_lt n l.nodes) (nat_lt 0 offset && nat_lt offset (node_words l)) e in
     let inner = both (nat_lt 0 offset) (nat_lt offset (node_words l)) outer.1 in
@@ -39,6 +39,14 @@ version_in-here l words n here = rw (lt-ltb n l.nodes here) refl
 pub spot_in-here : (l : Layout) (words : List ℕ) (n offset : ℕ) → HasWordAt l n offset → 0 < offset → spot_in l words n offset ≡ slice_index words (word_place l n offset)
 unfolding spot_in
 spot_in-here l words n offset has positive = rw (true-in_spot l n offset has positive) refl
+
+-- each word of a node, its version word among them
+pub cached_word-here : (l : Layout) (words : List ℕ) (base : Map) (history : List Write) (n offset : ℕ) → HasWordAt l n offset
+    → cached_word (facts_of l words base history) n offset ≡ slice_index words (word_place l n offset)
+cached_word-here l words base history n offset has = ⊎_elim
+    (λ (first : offset ≡ 0). rw (eq-eqb offset 0 first) (version_in-here l words n has.0 ∙ ap (λ (o : ℕ). slice_index words (word_place l n o)) (sym first)))
+    (λ (other : offset ≡ 0 → ⊥). rw (ne_eqb offset 0 other) (spot_in-here l words n offset has (omega (arith, other))))
+    (cases_eq offset 0)
 
 -- rows with the same version words have the same versions
 version_in-alike : (l : Layout) (words words' : List ℕ) (n : ℕ) → (n < l.nodes → slice_index words' (version_place l n) ≡ slice_index words (version_place l n)) → version_in l words' n ≡ version_in l words n

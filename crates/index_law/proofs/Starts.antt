@@ -5,6 +5,7 @@ use lib.ListN.{get_elem?}
 use Rattle.version_lock.specs.Versions.{IsFree}
 use Rattle.call_stages.specs.Stages.{Stage, Idle}
 use Rattle.index_law.specs.Worlds.{Party, World, facts}
+use Rattle.index_law.specs.Twins.{BacksStage}
 use Rattle.index_law.specs.Lawful.{HoldsNode, Sure, IsHeld, Lawful}
 use Rattle.index_law.specs.Laws.{StartKeeps, JoinKeeps, RestIsLawful, IdleIsAtRest}
 use Rattle.index_law.proofs.Parties.{at_set, at_snoc, at_longer, each_snoc, set_else, each_set}
@@ -42,6 +43,12 @@ swap_law w i p q lawful there idle idle' since = record {
       (λ same. idle_holds p n idle (subst (λ (e : Party). HoldsNode e.stage n) (some-injective _ _ (sym held.there ∙ ap (get_elem? w.parties) same ∙ there)) held.holds)) in
       inr (record { place = held.place; party = held.party; there = set_else w.parties i held.place q other ∙ held.there; holds = held.holds }))
       (lawful.held n here);
+  backed = each_set (λ (d : Party). BacksStage w.layout (facts w) w.words d.stage) w.parties i q (λ j d other at. lawful.backed j d at)
+      (subst (λ (s : Stage). BacksStage w.layout (facts w) w.words s) (sym idle') tt);
+  durable = lawful.durable;
+  durable_versions = lawful.durable_versions;
+  front = lawful.front;
+  durable_front = lawful.durable_front;
 }
 
 pub start_law : StartKeeps
@@ -71,6 +78,12 @@ join_law w q lawful idle since = record {
       (λ (held : IsHeld w.parties n).
       inr (record { place = held.place; party = held.party; there = at_longer w.parties (q ∷ []) held.place held.party held.there; holds = held.holds }))
       (lawful.held n here);
+  backed = each_snoc (λ (d : Party). BacksStage w.layout (facts w) w.words d.stage) w.parties q lawful.backed
+      (subst (λ (s : Stage). BacksStage w.layout (facts w) w.words s) (sym idle) tt);
+  durable = lawful.durable;
+  durable_versions = lawful.durable_versions;
+  front = lawful.front;
+  durable_front = lawful.durable_front;
 }
 
 pub rest_law : RestIsLawful
@@ -85,6 +98,11 @@ rest_law w rest = record {
   alone = λ u v n b d at_u at_v holds_u holds_v. absurd (idle_holds b n (rest.idle u b at_u) holds_u);
   settled = λ n here free. rest.means n here;
   held = λ n here. inl (rest.free n here);
+  backed = λ j d at. subst (λ (s : Stage). BacksStage w.layout (facts w) w.words s) (sym (rest.idle j d at)) tt;
+  durable = λ n here free. rest.durable n here;
+  durable_versions = rest.durable_versions;
+  front = rest.front;
+  durable_front = rest.durable_front;
 }
 
 pub idle_law : IdleIsAtRest
@@ -102,6 +120,10 @@ idle_law w lawful idle =
       versions = lawful.versions;
       free = free;
       means = λ n here. lawful.settled n here (free n here);
+      durable = λ n here. lawful.durable n here (free n here);
+      durable_versions = lawful.durable_versions;
+      front = lawful.front;
+      durable_front = lawful.durable_front;
       idle = idle;
       begun = lawful.begun;
     }

@@ -3,6 +3,7 @@ use Rattle.std.specs.Prelude.{◌≡◌, ℕ, ◌<◌, ◌≤◌, ◌⊎◌, Boo
 use mathlib.Core.Option.{some}
 use lib.ListN.{get_elem?}
 use Rattle.pm_words.specs.declared.layout.Layout.{Layout}
+use Rattle.pm_words.specs.Places.{Cached, Durable}
 use Rattle.pm_words.specs.Rows.{IsRow}
 use Rattle.version_lock.specs.declared.TheConstants.{LAST_COUNT, GENERATION_LIMIT}
 use Rattle.version_lock.specs.Versions.{generation_of, count_of, kept_count, locked_word, IsFree, IsLocked, IsWorn}
@@ -14,7 +15,8 @@ use Rattle.cat_history.specs.declared.op.Write.{Write}
 use Rattle.data_node.specs.Spots.{Means}
 use Rattle.call_stages.specs.Kinds.{clock_place}
 use Rattle.call_stages.specs.Stages.{Knows, Held, Stage, Idle, Saw, Holds, pended}
-use Rattle.index_law.specs.Facts.{Facts, map_now, range_of}
+use Rattle.index_law.specs.Facts.{Facts, map_now, range_of, cached_word}
+use Rattle.index_law.specs.Twins.{BacksStage, AreDurable, AreDurablyKnown, IsFront}
 use Rattle.index_law.specs.Worlds.{Party, World, facts}
 
 -- The party holds the node.
@@ -72,6 +74,7 @@ pub record SureHolds (l : Layout) (g : ℕ) (f : Facts) (caller index since n w 
   pub named : IsName h.name
   pub inside : range_of l f n h.name ≡ true
   pub knows : Knows h.name h.known (f.now n)
+  pub hand : IfSome h.hand (λ hand. cached_word f n hand.0 ≡ hand.1)
   pub means : Means l.slots (range_of l f n) (f.now n) (pended h.pending (map_now f))
   pub about : IfSome h.pending (λ c. name_of c ≡ h.name)
   pub time : IfSome h.time (IsTime (range_of l f n) f.base f.history since h.limit)
@@ -129,6 +132,11 @@ HaveBegun history parties = Each (λ p. p.since ≤ length history) parties
 abbrev pub AreSure : Layout → ℕ → Facts → List Party → Type 0
 AreSure l g f parties = Each (λ p. Sure l g f p.caller p.index p.since p.stage) parties
 
+-- The durable twins of each node that a party holds back its call. It reads the words of these nodes, both twins, and
+-- the map on their ranges.
+abbrev pub AreBacked : Layout → Facts → List ℕ → List Party → Type 0
+AreBacked l f words parties = Each (λ p. BacksStage l f words p.stage) parties
+
 -- The index is lawful.
 pub record Lawful (w : World) : Type 0 where
   pub one_node : w.layout.nodes ≡ 1
@@ -141,3 +149,8 @@ pub record Lawful (w : World) : Type 0 where
   pub alone : AreAlone w.parties
   pub settled : AreSettled w.layout w.generation (facts w)
   pub held : AreFreeOrHeld w.layout w.generation (facts w) w.parties
+  pub backed : AreBacked w.layout (facts w) w.words w.parties
+  pub durable : AreDurable w.layout w.generation (facts w) w.words
+  pub durable_versions : AreDurablyKnown w.layout w.generation w.words
+  pub front : IsFront w.layout w.generation w.words Cached
+  pub durable_front : IsFront w.layout w.generation w.words Durable

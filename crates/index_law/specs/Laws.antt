@@ -10,7 +10,7 @@ use Rattle.pm_words.specs.declared.again.Again.{Again}
 use Rattle.pm_words.specs.declared.again.Again.TheVariants as again
 use Rattle.pm_words.specs.Layouts.{IsLayout}
 use Rattle.pm_words.specs.Images.{fresh_words}
-use Rattle.pm_words.specs.Places.{image_words}
+use Rattle.pm_words.specs.Places.{Cached, Durable, image_words}
 use Rattle.pm_words.specs.Rows.{IsRow, MayName, CanAct, acted, got, row_of}
 use Rattle.version_lock.specs.Versions.{IsFree, IsWorn}
 use Rattle.cat_history.specs.Maps.{at}
@@ -23,7 +23,8 @@ use Rattle.call_stages.specs.declared.once.Once.TheVariants as once
 use Rattle.call_stages.specs.declared.once.Placed.{Placed}
 use Rattle.call_stages.specs.Stages.{Held, Stage, Idle, Saw, Holds, counted}
 use Rattle.call_stages.specs.Kinds.{Step, Told, HasWordAt, clock_place, word_place, version_place}
-use Rattle.index_law.specs.Facts.{Facts, map_now, range_of}
+use Rattle.index_law.specs.Facts.{Facts, map_now, range_of, durable_spot}
+use Rattle.index_law.specs.Twins.{AreDurablyKnown, IsFront}
 use Rattle.index_law.specs.Worlds.{Party, World, facts, stepped, started, joined, evicted}
 use Rattle.index_law.specs.Lawful.{Lawful, Each, HasWriteAt, IsGeneration, ClockCounts, AreKnown, HaveBegun}
 
@@ -152,6 +153,10 @@ pub record IsAtRest (w : World) : Type 0 where
   pub free : (n : ℕ) → n < w.layout.nodes → IsFree ((facts w).version n) w.generation
   pub means : (n : ℕ) → n < w.layout.nodes →
       Means w.layout.slots (range_of w.layout (facts w) n) ((facts w).now n) (map_now (facts w))
+  pub durable : (n : ℕ) → n < w.layout.nodes → (offset : ℕ) → durable_spot w.layout w.words n offset ≡ (facts w).now n offset
+  pub durable_versions : AreDurablyKnown w.layout w.generation w.words
+  pub front : IsFront w.layout w.generation w.words Cached
+  pub durable_front : IsFront w.layout w.generation w.words Durable
   pub idle : Each (λ p. p.stage ≡ Idle) w.parties
   pub begun : HaveBegun w.history w.parties
 
@@ -172,12 +177,11 @@ abbrev pub NextRoundIsAtRest : Type 0
 NextRoundIsAtRest = (w : World) (parties : List Party) → IsAtRest w → Each (λ p. p.stage ≡ Idle) parties → HaveBegun [] parties →
     IsAtRest (next_round w parties)
 
--- The row of a fresh image of one node, without names, in any run.
-abbrev pub fresh_world : Layout → ℕ → List Party → World
-fresh_world l g parties = record { layout = l; generation = g; words = row_of l (fresh_words l); parties = parties; base = empty; history = [] }
+-- The row of a fresh image of one node, without names, in its first run.
+abbrev pub fresh_world : Layout → List Party → World
+fresh_world l parties = record { layout = l; generation = 1; words = row_of l (fresh_words l); parties = parties; base = empty; history = [] }
 
 -- Nothing is in flight there.
 abbrev pub FreshIsAtRest : Type 0
-FreshIsAtRest = (l : Layout) (g : ℕ) (parties : List Party) → IsLayout l → l.nodes ≡ 1 → IsGeneration g →
-    Each (λ p. p.stage ≡ Idle) parties →
-    HaveBegun [] parties → IsAtRest (fresh_world l g parties)
+FreshIsAtRest = (l : Layout) (parties : List Party) → IsLayout l → l.nodes ≡ 1 → Each (λ p. p.stage ≡ Idle) parties → HaveBegun [] parties →
+    IsAtRest (fresh_world l parties)

@@ -1,4 +1,5 @@
 pub mod Facts
 pub mod Worlds
+pub mod Twins
 pub mod Lawful
 pub mod Laws

@@ -1,0 +1,106 @@
+-- Words that become durable: each durable twin stays, or is its cached twin from then on.
+use Rattle.std.proofs.Common.{◌≡◌, ℕ, ◌+◌, ◌<◌, ◌≤◌, ◌⊎◌, inl, inr, ⊎_elim, Bool, true, false, cond, List, length, slice_index, slice_set, refl, sym, ap, ◌∙◌, subst, arith}
+use Rattle.std.proofs.lemmas.Bool.{cases_eq}
+use Rattle.std.proofs.lemmas.List.{get_or-set_same, get_or-set_other}
+use Rattle.pm_words.specs.declared.layout.Layout.{Layout}
+use Rattle.pm_words.specs.declared.action.Action.TheVariants.{Drain}
+use Rattle.pm_words.specs.Places.{Word, Header, Root, Node, Place, Cached, Durable, HasWord, HasPlace, at, place_number, word_number, image_words, row_words, cached_place, durable_place}
+use Rattle.pm_words.specs.Rows.{acted, evicted}
+use Rattle.pm_words.proofs.Apart.{words_within, at-set_other}
+use Rattle.pm_words.proofs.Kept.{place_of-drain}
+use Rattle.version_lock.specs.Versions.{generation_of}
+use Rattle.cat_history.specs.Maps.{Map}
+use Rattle.cat_history.specs.declared.op.Write.{Write}
+use Rattle.data_node.specs.Spots.{Spot}
+use Rattle.call_stages.specs.Stages.{Held, Stage, Idle, Saw, Holds}
+use Rattle.call_stages.specs.Kinds.{HasWordAt, version_place, word_place}
+use Rattle.index_law.specs.Facts.{Facts, facts_of, version_in, spot_in, durable_version, durable_spot}
+use Rattle.index_law.specs.Lawful.{AreKnown}
+use Rattle.index_law.specs.Twins.{IsMix, IsBacked, BacksStage, AreDurable, AreDurablyKnown, IsFront}
+use Rattle.index_law.proofs.Rows.{in_spot, in_spot-true, version_in-here}
+
+-- the durable words of another row are those of this one, or its cached ones
+abbrev pub IsCloser : Layout → List ℕ → List ℕ → Type 0
+IsCloser l words words' = (w : Word) → HasWord l w → (at l words' (Durable w) ≡ at l words (Durable w)) ⊎ (at l words' (Durable w) ≡ at l words (Cached w))
+
+-- so are they once a word is copied
+pub evict_closer : (l : Layout) (words : List ℕ) (word : ℕ) → length words ≡ row_words l → word < image_words l → IsCloser l words (evicted l words word)
+evict_closer l words word whole within w has =
+    let x : ℕ = slice_index words (cached_place l word) in
+    ⊎_elim
+    (λ (same : word_number l w ≡ word). inr (subst (λ (k : ℕ). slice_index (slice_set words (durable_place l word) x) (durable_place l k) ≡ slice_index words (cached_place l k)) (sym same)
+    (get_or-set_same words (durable_place l word) x 0 (omega arith))))
+    (λ (other : word_number l w ≡ word → ⊥). inl (get_or-set_other words (durable_place l word) (place_number l (Durable w)) x 0 (λ e. other (omega arith))))
+    (cases_eq (word_number l w) word)
+
+-- while the cached words stay
+pub evict_cached : (l : Layout) (words : List ℕ) (word : ℕ) (w : Word) → HasWord l w → at l (evicted l words word) (Cached w) ≡ at l words (Cached w)
+evict_cached l words word w has =
+    let x : ℕ = slice_index words (cached_place l word) in
+    let within = words_within l w has in
+    get_or-set_other words (durable_place l word) (place_number l (Cached w)) x 0 (λ e. absurd (omega arith))
+
+-- a drain of a word that gives its cached twin copies it
+pub drain_evicts : (l : Layout) (words : List ℕ) (n offset y : ℕ) → y ≡ slice_index words (word_place l n offset)
+    → acted l words (Drain (word_place l n offset) y) ≡ evicted l words (word_number l (Node n offset))
+drain_evicts l words n offset y is = λ k. slice_set words (place_of-drain l (Node n offset) y k) (is k)
+
+-- a store elsewhere than in durable twins leaves these
+pub store_closer : (l : Layout) (words : List ℕ) (p : Place) (x : ℕ) → HasPlace l p → ((w : Word) → Durable w ≡ p → ⊥) → IsCloser l words (slice_set words (place_number l p) x)
+store_closer l words p x has other w has_word = inl (at-set_other l words p (Durable w) x has has_word (other w))
+
+-- the durable words of a node
+pub closer_spot : (l : Layout) (words words' : List ℕ) → IsCloser l words words' → (n offset : ℕ)
+    → (durable_spot l words' n offset ≡ durable_spot l words n offset) ⊎ (durable_spot l words' n offset ≡ spot_in l words n offset)
+unfolding durable_spot spot_in
+closer_spot l words words' closer n offset =
+    elim (in_spot l n offset) as (λ b. in_spot l n offset ≡ b → (cond b (at l words' (Durable (Node n offset))) 0 ≡ cond b (at l words (Durable (Node n offset))) 0)
+    ⊎ (cond b (at l words' (Durable (Node n offset))) 0 ≡ cond b (at l words (Cached (Node n offset))) 0)) [
+      | true ↦ λ is. closer (Node n offset) (in_spot-true l n offset is).0
+      | false ↦ λ is. inl refl
+    ] refl
+
+-- a node goes on to back its call
+closer_backed : (l : Layout) (f : Facts) (d d' : Spot) (n : ℕ) (h : Held) → ((offset : ℕ) → (d' offset ≡ d offset) ⊎ (d' offset ≡ f.now n offset)) → IsBacked l f d n h → IsBacked l f d' n h
+closer_backed l f d d' n h closer backed = record {
+  clean = λ offset spared. ⊎_elim (λ stays. stays ∙ backed.clean offset spared) (λ is. is) (closer offset);
+  mixes = λ mix is. backed.mixes mix (λ offset.
+      ⊎_elim (λ durable. ⊎_elim (λ stays. inl (durable ∙ stays)) (λ cached. inr (durable ∙ cached)) (closer offset)) (λ cached. inr cached) (is offset));
+}
+
+module _ (l : Layout) (words words' : List ℕ) (base : Map) (history : List Write) (closer : IsCloser l words words') where
+  abbrev f : Facts
+  f = facts_of l words base history
+
+  pub closer_stage : (u : Stage) → BacksStage l f words u → BacksStage l f words' u
+  closer_stage Idle backed = tt
+  closer_stage (Saw n v w) backed = tt
+  closer_stage (Holds n w h) backed = closer_backed l f (durable_spot l words n) (durable_spot l words' n) n h (closer_spot l words words' closer n) backed
+
+  pub closer_durable : (g : ℕ) → AreDurable l g f words → AreDurable l g f words'
+  closer_durable g durable n here free offset = ⊎_elim (λ stays. stays ∙ durable n here free offset) (λ is. is) (closer_spot l words words' closer n offset)
+
+  pub closer_versions : (g : ℕ) → AreKnown l g f → AreDurablyKnown l g words → AreDurablyKnown l g words'
+  closer_versions g known durably n here =
+      let has : HasWordAt l n 0 = (here, omega arith) in
+      ⊎_elim
+      (λ (stays : at l words' (Durable (Node n 0)) ≡ at l words (Durable (Node n 0))). subst (λ (v : ℕ). generation_of v ≤ g) (sym stays) (durably n here))
+      (λ (is : at l words' (Durable (Node n 0)) ≡ at l words (Cached (Node n 0))).
+      subst (λ (v : ℕ). generation_of v ≤ g) (version_in-here l words n here ∙ sym is) (known n here))
+      (closer (Node n 0) has)
+
+-- and the words in front of the nodes stay
+pub closer_front : (l : Layout) (g : ℕ) (words words' : List ℕ) → IsCloser l words words' → IsFront l g words Cached → IsFront l g words Durable → IsFront l g words' Durable
+closer_front l g words words' closer cached durable = record {
+  generation = ⊎_elim (λ stays. stays ∙ durable.generation) (λ is. is ∙ cached.generation) (closer (Header 5) (omega arith));
+  header = λ k least most. ⊎_elim (λ stays. stays ∙ durable.header k least most) (λ is. is ∙ cached.header k least most) (closer (Header k) most);
+  root = λ k least most. ⊎_elim (λ stays. stays ∙ durable.root k least most) (λ is. is ∙ cached.root k least most) (closer (Root k) most);
+}
+
+pub cached_front : (l : Layout) (g : ℕ) (words words' : List ℕ) → ((w : Word) → HasWord l w → ((n offset : ℕ) → w ≡ Node n offset → ⊥) → at l words' (Cached w) ≡ at l words (Cached w))
+    → IsFront l g words Cached → IsFront l g words' Cached
+cached_front l g words words' same front = record {
+  generation = same (Header 5) (omega arith) (λ n offset e. cc) ∙ front.generation;
+  header = λ k least most. same (Header k) most (λ n offset e. cc) ∙ front.header k least most;
+  root = λ k least most. same (Root k) most (λ n offset e. cc) ∙ front.root k least most;
+}
