@@ -1,5 +1,5 @@
 -- Each turn of a call is a step of a kind.
-use Rattle.std.proofs.Common.{◌≡◌, ℕ, ◌+◌, ◌-◌, ◌*◌, ◌/◌, ◌<◌, ◌≤◌, ◌^◌, true, false, [], ◌∷◌, ◌++◌, Option, Some, None, inl, length, get_or, refl, sym, subst, ap, ◌∙◌, arith}
+use Rattle.std.proofs.Common.{◌≡◌, ℕ, ◌/◌, ◌<◌, ◌≤◌, ◌^◌, true, false, [], ◌∷◌, ◌++◌, Option, Some, None, inl, length, get_or, refl, sym, subst, ap, ◌∙◌, arith}
 use Rattle.std.specs.FinMap.{remove}
 use Rattle.cat_key.specs.Names.{words_of}
 use Rattle.cat_key.proofs.Packing.{length-words_of}

@@ -1,5 +1,5 @@
 -- Each turn of the writing of a pair into a clear slot is a step of a kind.
-use Rattle.std.proofs.Common.{◌≡◌, ℕ, zero, suc, ◌+◌, ◌-◌, ◌*◌, ◌/◌, ◌%◌, ◌<◌, ◌≤◌, ◌^◌, ◌⊎◌, Bool, true, false, cond, ltb, List, [], ◌∷◌, ◌++◌, Option, Some, None, IfSome, length, take, get_or, inl, inr, ⊎_elim, refl, sym, subst, ap, ◌∙◌, arith, length-append}
+use Rattle.std.proofs.Common.{◌≡◌, ℕ, zero, suc, ◌+◌, ◌%◌, ◌<◌, ◌≤◌, ◌^◌, ◌⊎◌, Bool, true, false, cond, ltb, List, [], ◌∷◌, ◌++◌, Option, Some, None, IfSome, length, take, get_or, inl, inr, ⊎_elim, refl, sym, subst, ap, ◌∙◌, arith, length-append}
 use Rattle.std.specs.List.{AllByRecursion}
 use Rattle.std.specs.Int.{bit_at}
 use Rattle.std.specs.FinMap.{insert}
@@ -31,7 +31,7 @@ use Rattle.node_ops.specs.Calls.{name_in}
 use Rattle.node_ops.specs.LookupSteps.{value_of, IsHit}
 use Rattle.node_ops.specs.FenceSteps.{fence_of, fence_asks, fence_next}
 use Rattle.node_ops.specs.FillSteps.{IsFill, IsFillAt, fill_word, bitmap_without, bitmap_after, fill_asks, fill_at_asks, fill_turned, fill_at_turned, slot_fenced, print_fenced}
-use Rattle.node_ops.specs.CallStages.{words_from, nothing, knows, decided, fence_rest, fencing, seen_hit, seen_fill, pair_words, slot_words, fill_stage, fill_at_held, finish_stage}
+use Rattle.node_ops.specs.CallStages.{words_from, nothing, knows, decided, fence_rest, seen_hit, seen_fill, pair_words, slot_words, fill_stage, fill_at_held, finish_stage}
 use Rattle.node_ops.proofs.SeenLemmas.{Seen, Stand, seen_append, seen_front, seen_back, stand_taken, taken_stand, stand_whole, whole_stand, stand_updated, name_stands}
 use Rattle.node_ops.proofs.FinishLaw.{Fences, fence_leads}
 

@@ -1,5 +1,5 @@
 -- Each turn of a fence and of the end of a write is a step of a kind.
-use Rattle.std.proofs.Common.{◌≡◌, ℕ, ◌+◌, ◌-◌, ◌<◌, ◌≤◌, Bool, true, false, cond, ltb, List, [], ◌∷◌, Option, Some, None, inl, inr, ⊎_elim, refl, sym, arith}
+use Rattle.std.proofs.Common.{◌≡◌, ℕ, ◌+◌, ◌-◌, ◌<◌, ◌≤◌, Bool, true, false, cond, ltb, List, [], ◌∷◌, Option, Some, None, inl, inr, refl, arith}
 use Rattle.std.proofs.lemmas.Bool.{cases_eq, ltb-false}
 use Rattle.pm_words.specs.declared.action.Action.{Action}
 use Rattle.pm_words.specs.declared.machine.Turn.{Turn}
@@ -19,7 +19,7 @@ use Rattle.node_ops.specs.declared.finish.FinishAt.TheVariants as finish_at
 use Rattle.node_ops.specs.Calls.{IsCall, call_place, name_in}
 use Rattle.node_ops.specs.FenceSteps.{IsFence, IsFenceAt, fence_asks, fence_at_asks, fence_next, fence_at_next}
 use Rattle.node_ops.specs.FinishSteps.{IsFinish, IsFinishAt, finish_asks, finish_at_asks, finish_turned, finish_at_turned, finish_fenced}
-use Rattle.node_ops.specs.CallStages.{fence_rest, fencing, finish_stage, finish_at_held, changes, change_of}
+use Rattle.node_ops.specs.CallStages.{fencing, finish_stage, finish_at_held, changes, change_of}
 
 -- A fence that goes on has one word fewer to make durable. At its end only the other words may not be, and the call may
 -- be ready to count.
