@@ -1,5 +1,5 @@
 -- Each turn of a call is a step of a kind.
-use Rattle.std.proofs.Common.{◌≡◌, ℕ, ◌/◌, ◌<◌, ◌≤◌, ◌^◌, true, false, [], ◌∷◌, ◌++◌, Option, Some, None, length, get_or, refl, sym, subst, ap, ◌∙◌, arith}
+use Rattle.std.proofs.Common.{◌≡◌, ℕ, ◌/◌, ◌<◌, ◌≤◌, ◌^◌, true, false, [], ◌∷◌, ◌++◌, Option, Some, None, inl, length, get_or, refl, sym, subst, ap, ◌∙◌, arith}
 use Rattle.std.specs.FinMap.{remove}
 use Rattle.cat_key.specs.Names.{words_of}
 use Rattle.cat_key.proofs.Packing.{length-words_of}
@@ -37,6 +37,7 @@ use Rattle.node_ops.specs.declared.del.Del.TheVariants as del
 use Rattle.node_ops.specs.declared.running.Running.{Running}
 use Rattle.node_ops.specs.declared.running.Running.TheVariants.{Getting, Putting, Deleting}
 use Rattle.node_ops.specs.Calls.{IsCall, name_in}
+use Rattle.node_ops.specs.FenceSteps.{fence_of}
 use Rattle.node_ops.specs.LookupSteps.{IsHit, IsFound, lookup_turned}
 use Rattle.node_ops.specs.FinishSteps.{finish_turned}
 use Rattle.node_ops.specs.FillSteps.{fill_turned}
@@ -45,7 +46,7 @@ use Rattle.node_ops.specs.PutSteps.{IsPut, put_call, put_asks, put_turned, put_l
 use Rattle.node_ops.specs.DelSteps.{IsDel, del_call, del_asks, del_turned, del_looked, del_hit, del_finished, cleared}
 use Rattle.node_ops.specs.RunningSteps.{running_call, running_asks, running_turned, wrapped, IsRunning}
 use Rattle.node_ops.specs.Laws.{TurnsAreSteps}
-use Rattle.node_ops.specs.CallStages.{words_from, nothing, knows, decided, seen_hit, seen_fill, get_stage, put_stage, del_stage, stage_of, stage_after, reply_of}
+use Rattle.node_ops.specs.CallStages.{words_from, nothing, knows, decided, fence_rest, seen_hit, seen_fill, get_stage, put_stage, del_stage, stage_of, stage_after, reply_of}
 use Rattle.node_ops.proofs.SeenLemmas.{Seen, Stand, seen_append, seen_front, seen_back, stand_whole, name_stands}
 use Rattle.node_ops.proofs.LookupLaw.{hit_words, found_known, Leads_found, Leads, lookup_leads}
 use Rattle.node_ops.proofs.FinishLaw.{Finishes, finish_leads}
@@ -166,8 +167,9 @@ module _ (call : Call) (sound : IsCall call) where
       (put_stage (put.Finishing (replaced call hold hit value))) None
   replacing_leads hold bitmap hit value x is fits =
       let within : hit.slot < slots = is.within in
-      commits {h = decided call hold (Some hit.value) (knows (seen_hit call bitmap (Some hit)))} {k = nothing} {old = Some hit.value} {c = change.Put (name_in call) value}
-      (sound.node, (omega arith)) (omega arith) fits (record { pending = refl; ready = refl; placed = refl }) refl refl
+      commits {h = decided call hold (Some hit.value) (knows (seen_hit call bitmap (Some hit)))} {k = nothing}
+      {dirty = fence_rest (fence_of (slot_offset hit.slot 3)) ∷ []} {old = Some hit.value} {c = change.Put (name_in call) value}
+      (sound.node, (omega arith)) (omega arith) fits (record { pending = refl; ready = refl; placed = refl }) refl (inl (omega arith, omega arith)) refl refl
       (λ s tidy before. record { seen = tt; left = tt })
       (λ range s m in_range before old means.
       let here = hit_words_known s call bitmap hit sound before.seen is.live in
@@ -196,8 +198,9 @@ module _ (call : Call) (sound : IsCall call) where
       → Step call.view.layout call.view.generation (del_stage (del.Clearing call hold bitmap hit)) (del_asks (del.Clearing call hold bitmap hit)) x
       (del_stage (del.Finishing (cleared call hold hit))) None
   clearing_leads hold bitmap hit x fits is =
-      commits {h = decided call hold (Some hit.value) (knows (seen_hit call bitmap (Some hit)))} {k = nothing} {old = Some hit.value} {c = change.Del (name_in call)}
-      (sound.node, (omega arith)) (omega arith) (without_live_below 64 bitmap hit.slot fits) (record { pending = refl; ready = refl; placed = refl }) refl refl
+      commits {h = decided call hold (Some hit.value) (knows (seen_hit call bitmap (Some hit)))} {k = nothing}
+      {dirty = fence_rest (fence_of bitmap_offset) ∷ []} {old = Some hit.value} {c = change.Del (name_in call)}
+      (sound.node, (omega arith)) (omega arith) (without_live_below 64 bitmap hit.slot fits) (record { pending = refl; ready = refl; placed = refl }) refl (inl (omega arith, omega arith)) refl refl
       (λ s tidy before. record { seen = tt; left = tt })
       (λ range s m in_range before old means.
       let here = hit_words_known s call bitmap hit sound before.seen is.live in
@@ -206,7 +209,7 @@ module _ (call : Call) (sound : IsCall call) where
 
 get_leads : (get : Get) (x : ℕ) → IsGet get → Gets (get_call get) (get_stage get) (get_asks get) x (get_turned get x)
 get_leads (get.Looking lookup) x sound = get_looked_leads lookup.call sound.call _ _ x (lookup_turned lookup x) (lookup_leads lookup.call sound.call lookup.at x sound.here)
-get_leads (get.Unlocking call hold old) x sound = unlocks refl refl refl (reads refl refl refl)
+get_leads (get.Unlocking call hold old) x sound = unlocks refl refl refl refl (reads refl refl refl)
 
 put_leads : (put : Put) (x : ℕ) → IsPut put → Told (put_call put).view.layout (put_call put).view.generation (put_asks put) x
     → Puts (put_call put) (put_stage put) (put_asks put) x (put_turned put x)
@@ -216,7 +219,7 @@ put_leads (put.Filling fill) x sound told = put_filled_leads fill.call sound.cal
 put_leads (put.Replacing call hold bitmap hit value) x sound told = replacing_leads call sound.call hold bitmap hit value x sound.hit sound.value
 put_leads (put.Finishing finish) x sound told = put_finished_leads finish.call sound.call _ _ x (finish_turned finish x) (finish_leads finish x sound)
 put_leads (put.Refusing call hold bitmap) x sound told =
-    unlocks refl refl refl (has_no_room refl refl (λ s tidy known. subst (λ b. AreAllLive b call.view.layout.slots) (sym known.seen.0) sound.full))
+    unlocks refl refl refl refl (has_no_room refl refl (λ s tidy known. subst (λ b. AreAllLive b call.view.layout.slots) (sym known.seen.0) sound.full))
 
 del_leads : (del : Del) (x : ℕ) → IsDel del → Dels (del_call del) (del_stage del) (del_asks del) x (del_turned del x)
 del_leads (del.Looking lookup) x sound = del_looked_leads lookup.call sound.call _ _ x (lookup_turned lookup x) (lookup_leads lookup.call sound.call lookup.at x sound.here)

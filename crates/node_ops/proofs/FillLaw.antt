@@ -1,5 +1,6 @@
 -- Each turn of the writing of a pair into a clear slot is a step of a kind.
-use Rattle.std.proofs.Common.{◌≡◌, ℕ, zero, suc, ◌+◌, ◌%◌, ◌<◌, ◌≤◌, ◌^◌, Bool, true, false, cond, ltb, List, [], ◌∷◌, ◌++◌, Option, Some, None, IfSome, length, take, get_or, inl, inr, refl, sym, subst, ap, ◌∙◌, arith, length-append}
+use Rattle.std.proofs.Common.{◌≡◌, ℕ, zero, suc, ◌+◌, ◌%◌, ◌<◌, ◌≤◌, ◌^◌, ◌⊎◌, Bool, true, false, cond, ltb, List, [], ◌∷◌, ◌++◌, Option, Some, None, IfSome, length, take, get_or, inl, inr, ⊎_elim, refl, sym, subst, ap, ◌∙◌, arith, length-append}
+use Rattle.std.specs.List.{AllByRecursion}
 use Rattle.std.specs.Int.{bit_at}
 use Rattle.std.specs.FinMap.{insert}
 use Rattle.std.proofs.lemmas.Bool.{cases_eq, ltb-false, lt-ltb}
@@ -17,8 +18,8 @@ use Rattle.data_node.specs.Spots.{Spot, updated, bitmap_offset, print_offset, sl
 use Rattle.data_node.proofs.BitLemmas.{with_live_below, without_live_below, printed_below, prints_of-printed}
 use Rattle.data_node.proofs.SpotLemmas.{updated-same, updated-other, lacks}
 use Rattle.data_node.proofs.StoreLemmas.{HasPair, means_slot_store, means_print_store, means_added, means_moved_from}
-use Rattle.call_stages.specs.Stages.{Knows, Stage, Holds}
-use Rattle.call_stages.specs.Kinds.{Step, stores, commits}
+use Rattle.call_stages.specs.Stages.{Knows, IsAmong, Held, Stage, Holds}
+use Rattle.call_stages.specs.Kinds.{Soils, Step, stores, commits}
 use Rattle.node_ops.specs.declared.call.Call.{Call}
 use Rattle.node_ops.specs.declared.lookup.Hit.{Hit}
 use Rattle.node_ops.specs.declared.fence.Fence.{Fence}
@@ -28,9 +29,9 @@ use Rattle.node_ops.specs.declared.fill.FillAt.TheVariants as fill_at
 use Rattle.node_ops.specs.declared.finish.Finish.{Finish}
 use Rattle.node_ops.specs.Calls.{name_in}
 use Rattle.node_ops.specs.LookupSteps.{value_of, IsHit}
-use Rattle.node_ops.specs.FenceSteps.{fence_asks, fence_next}
+use Rattle.node_ops.specs.FenceSteps.{fence_of, fence_asks, fence_next}
 use Rattle.node_ops.specs.FillSteps.{IsFill, IsFillAt, fill_word, bitmap_without, bitmap_after, fill_asks, fill_at_asks, fill_turned, fill_at_turned, slot_fenced, print_fenced}
-use Rattle.node_ops.specs.CallStages.{words_from, nothing, knows, decided, seen_hit, seen_fill, pair_words, fill_stage, fill_at_known, finish_stage}
+use Rattle.node_ops.specs.CallStages.{words_from, nothing, knows, decided, fence_rest, seen_hit, seen_fill, pair_words, slot_words, fill_stage, fill_at_held, finish_stage}
 use Rattle.node_ops.proofs.SeenLemmas.{Seen, Stand, seen_append, seen_front, seen_back, stand_taken, taken_stand, stand_whole, whole_stand, stand_updated, name_stands}
 use Rattle.node_ops.proofs.FinishLaw.{Fences, fence_leads}
 
@@ -64,6 +65,38 @@ hit_seen s call bitmap (Some hit) seen = (seen.0, stand_whole s (slot_offset hit
 pub seen_hit_from : (s : Spot) (call : Call) (bitmap : ℕ) (hit : Option Hit) → s bitmap_offset ≡ bitmap → Hit_stands s call hit → Seen s (seen_hit call bitmap hit)
 seen_hit_from s call bitmap None is stands = (is, tt)
 seen_hit_from s call bitmap (Some hit) is stands = (is, whole_stand s (slot_offset hit.slot 0) call.name stands)
+
+-- one more word of a slot is stored
+slot_soils : (slot count : ℕ) → Soils (slot_words slot count) (slot_offset slot count) (slot_words slot (suc count))
+slot_soils slot zero = record { stored = inl (omega arith, omega arith); others = λ offset none. absurd none }
+slot_soils slot (suc count) = record {
+  stored = inl (omega arith, omega arith);
+  others = λ offset among. ⊎_elim (λ within. let high : offset < slot_offset slot 0 + suc count = within.1 in inl (within.0, omega arith)) (λ none. absurd none) among;
+}
+
+-- the words of slots stand behind the fingerprints
+slot_behind : (slot count offset : ℕ) → IsAmong (slot_words slot count) offset → 16 ≤ offset
+slot_behind slot zero offset none = absurd none
+slot_behind slot (suc count) offset (inl within) = let low : slot_offset slot 0 ≤ offset = within.0 in omega arith
+slot_behind slot (suc count) offset (inr none) = absurd none
+
+-- the fingerprint is stored once the slot is, whose line the first fence is for
+print_soils : (slot : ℕ) → Soils (slot_words slot 4) (print_offset slot) (fence_rest (fence_of (slot_offset slot 0)) ∷ (print_offset slot, 1) ∷ [])
+print_soils slot = record {
+  stored = inr (inl (omega arith, omega arith));
+  others = λ offset among. ⊎_elim (λ within.
+      let low : slot_offset slot 0 ≤ offset = within.0 in
+      let high : offset < slot_offset slot 0 + 4 = within.1 in
+      inl (omega arith, omega arith)) (λ none. absurd none) among;
+}
+
+-- the second fence is for the line of the fingerprint
+print_in_line : (slot offset : ℕ) → IsAmong ((print_offset slot, 1) ∷ []) offset → IsAmong (fence_rest (fence_of (print_offset slot)) ∷ []) offset
+print_in_line slot offset (inl within) =
+    let low : print_offset slot ≤ offset = within.0 in
+    let high : offset < print_offset slot + 1 = within.1 in
+    inl (omega arith, omega arith)
+print_in_line slot offset (inr none) = absurd none
 
 module _ (fill : Fill) (sound : IsFill fill) where
   abbrev slots : ℕ
@@ -111,6 +144,21 @@ module _ (fill : Fill) (sound : IsFill fill) where
         );
         left = tt;
       }
+
+  -- the word with the fingerprint and the bitmap, where only words behind them may not be durable
+  durable : (s : Spot) (dirty : List (ℕ × ℕ)) (prints count : ℕ) → ((offset : ℕ) → IsAmong dirty offset → 16 ≤ offset)
+      → AllByRecursion (λ (w : ℕ × ℕ). IsAmong dirty w.0 ⊎ (s w.0 ≡ w.1)) (seen_fill fill prints count) → (s (print_offset fill.slot) ≡ prints) × (s bitmap_offset ≡ fill.bitmap)
+  durable s dirty prints count behind known =
+      let small_slot : fill.slot < 64 = in_node in
+      let sure : (offset word : ℕ) → offset < 16 → IsAmong dirty offset ⊎ (s offset ≡ word) → s offset ≡ word =
+      λ offset word before either. ⊎_elim (λ among. absurd (let past : 16 ≤ offset = behind offset among in omega arith)) (λ is. is) either in
+      let pairs = words_from (slot_offset fill.slot 0) (take count (pair_words fill)) in
+      let bitmap : IsAmong dirty bitmap_offset ⊎ (s bitmap_offset ≡ fill.bitmap) =
+      elim fill.hit as (λ hit. AllByRecursion (λ (w : ℕ × ℕ). IsAmong dirty w.0 ⊎ (s w.0 ≡ w.1)) (seen_hit fill.call fill.bitmap hit ++ pairs) → IsAmong dirty bitmap_offset ⊎ (s bitmap_offset ≡ fill.bitmap)) [
+        | None ↦ λ facts. facts.0
+        | Some hit ↦ λ facts. facts.0
+      ] known.1 in
+      (sure (print_offset fill.slot) prints (omega arith) known.0, sure bitmap_offset fill.bitmap (omega arith) bitmap)
 
   -- the slot is not the one that has the name
   other_slot : (hit : Hit) → IsHit slots fill.bitmap hit → hit.slot ≡ fill.slot → ⊥
@@ -208,60 +256,65 @@ module _ (fill : Fill) (sound : IsFill fill) where
         | Some hit ↦ with_live_below 64 (without_live fill.bitmap hit.slot) fill.slot (omega arith) (omega arith) (without_live_below 64 fill.bitmap hit.slot sound.bitmap)
       ]
 
-  -- a fence leaves all as it is
-  slot_fence : (x : ℕ) (action : Action) (o : Option Fence)
-      → Fences fill.call fill.hold.locked (decided fill.call fill.hold (value_of fill.hit) (knows (seen_fill fill (printed fill.prints fill.slot fill.call.print) 4))) action x o
-      → Fills fill.call (Holds fill.call.node fill.hold.locked (decided fill.call fill.hold (value_of fill.hit) (knows (seen_fill fill (printed fill.prints fill.slot fill.call.print) 4)))) action x (slot_fenced fill o)
-  slot_fence x action (Some fence) step = step
-  slot_fence x action None step = step false
+  -- what is held while the slot's words are stored, and once its fingerprint is
+  abbrev writing : ℕ → Held
+  writing count = record (decided fill.call fill.hold (value_of fill.hit) (knows (seen_fill fill fill.prints count))) { dirty = slot_words fill.slot count }
 
-  print_fence : (x : ℕ) (action : Action) (o : Option Fence)
-      → Fences fill.call fill.hold.locked (decided fill.call fill.hold (value_of fill.hit) (knows (seen_fill fill (printed fill.prints fill.slot fill.call.print) 4))) action x o
-      → Fills fill.call (Holds fill.call.node fill.hold.locked (decided fill.call fill.hold (value_of fill.hit) (knows (seen_fill fill (printed fill.prints fill.slot fill.call.print) 4)))) action x (print_fenced fill o)
-  print_fence x action (Some fence) step = step
-  print_fence x action None step = step false
+  abbrev written : Held
+  written = decided fill.call fill.hold (value_of fill.hit) (knows (seen_fill fill (printed fill.prints fill.slot fill.call.print) 4))
+
+  -- the first fence is followed by the second, and that by the bitmap
+  slot_fence : (x : ℕ) (stage : Stage) (action : Action) (o : Option Fence) → Fences fill.call fill.hold.locked written ((print_offset fill.slot, 1) ∷ []) stage action x o
+      → Fills fill.call stage action x (slot_fenced fill o)
+  slot_fence x stage action (Some fence) step = step
+  slot_fence x stage action None step = step (fence_rest (fence_of (print_offset fill.slot)) ∷ []) false (print_in_line fill.slot)
+
+  print_fence : (x : ℕ) (stage : Stage) (action : Action) (o : Option Fence) → Fences fill.call fill.hold.locked written [] stage action x o → Fills fill.call stage action x (print_fenced fill o)
+  print_fence x stage action (Some fence) step = step
+  print_fence x stage action None step = step [] false (λ offset none. none)
 
   -- a store of one more word of the slot
   word_step : (k x : ℕ) → k < 4 → Step fill.call.view.layout fill.call.view.generation
-      (Holds fill.call.node fill.hold.locked (decided fill.call fill.hold (value_of fill.hit) (knows (seen_fill fill fill.prints k)))) (fill_at_asks fill (fill_at.Word k)) x
-      (Holds fill.call.node fill.hold.locked (decided fill.call fill.hold (value_of fill.hit) (knows (seen_fill fill fill.prints (k + 1))))) None
+      (Holds fill.call.node fill.hold.locked (writing k)) (fill_at_asks fill (fill_at.Word k)) x (Holds fill.call.node fill.hold.locked (writing (k + 1))) None
   word_step k x small =
       let within : fill.slot < slots = sound.within in
+      let more : suc k ≡ k + 1 = omega arith in
       stores (sound.call.node, (omega arith)) (omega arith) (word_below k) (record { pending = refl; ready = refl; placed = refl })
+      (subst (λ count. Soils (slot_words fill.slot k) (slot_offset fill.slot k) (slot_words fill.slot count)) more (slot_soils fill.slot k))
       (λ s tidy before. known (updated s (slot_offset fill.slot k) (fill_word fill k)) fill.prints (k + 1) (omega arith) (word_stored s k small (relies s fill.prints k (omega arith) before)))
       (λ range s m before means.
-      let facts = relies s fill.prints k (omega arith) before in
-      means_slot_store slots range s m fill.slot k (fill_word fill k) limit small (subst (λ b. IsClear b fill.slot) (sym facts.bitmap_is) sound.clear) means)
+      let facts = durable s (slot_words fill.slot k) fill.prints k (slot_behind fill.slot k) before in
+      means_slot_store slots range s m fill.slot k (fill_word fill k) limit small (subst (λ b. IsClear b fill.slot) (sym facts.1) sound.clear) means)
 
   pub fill_at_leads : (at : FillAt) (x : ℕ) → IsFillAt fill.call at
-      → Fills fill.call (Holds fill.call.node fill.hold.locked (decided fill.call fill.hold (value_of fill.hit) (fill_at_known fill at))) (fill_at_asks fill at) x (fill_at_turned fill at x)
+      → Fills fill.call (Holds fill.call.node fill.hold.locked (fill_at_held fill at)) (fill_at_asks fill at) x (fill_at_turned fill at x)
   fill_at_leads (fill_at.Word k) x small =
-      elim (ltb (k + 1) 4) as (λ b. ltb (k + 1) 4 ≡ b → Fills fill.call (Holds fill.call.node fill.hold.locked (decided fill.call fill.hold (value_of fill.hit) (fill_at_known fill (fill_at.Word k))))
+      elim (ltb (k + 1) 4) as (λ b. ltb (k + 1) 4 ≡ b → Fills fill.call (Holds fill.call.node fill.hold.locked (fill_at_held fill (fill_at.Word k)))
       (fill_at_asks fill (fill_at.Word k)) x (cond b (Go (record fill { at = fill_at.Word (k + 1) })) (Go (record fill { at = fill_at.Print })))) [
         | true ↦ λ is. word_step k x small
         | false ↦ λ is.
             let last : k + 1 ≡ 4 = let past : 4 ≤ k + 1 = ltb-false _ _ is in omega arith in
             subst (λ (count : ℕ). Step fill.call.view.layout fill.call.view.generation
-            (Holds fill.call.node fill.hold.locked (decided fill.call fill.hold (value_of fill.hit) (knows (seen_fill fill fill.prints k)))) (fill_at_asks fill (fill_at.Word k)) x
-            (Holds fill.call.node fill.hold.locked (decided fill.call fill.hold (value_of fill.hit) (knows (seen_fill fill fill.prints count)))) None) last (word_step k x small)
+            (Holds fill.call.node fill.hold.locked (writing k)) (fill_at_asks fill (fill_at.Word k)) x (Holds fill.call.node fill.hold.locked (writing count)) None) last (word_step k x small)
       ] refl
   fill_at_leads fill_at.Print x here =
       let small_slot : fill.slot < 64 = in_node in
       let word = printed fill.prints fill.slot fill.call.print in
       stores (sound.call.node, (omega arith)) (omega arith) (printed_below fill.prints fill.slot fill.call.print print_below) (record { pending = refl; ready = refl; placed = refl })
+      (print_soils fill.slot)
       (λ s tidy before. known (updated s (print_offset fill.slot) word) word 4 (omega arith) (print_stored s word (relies s fill.prints 4 (omega arith) before)))
       (λ range s m before means.
-      let facts = relies s fill.prints 4 (omega arith) before in
-      subst (λ w. Means slots range (updated s (print_offset fill.slot) (printed w fill.slot fill.call.print)) m) facts.print_is
-      (means_print_store s fill.slot fill.call.print in_node print_below slots range m (subst (λ b. IsClear b fill.slot) (sym facts.bitmap_is) sound.clear) means))
-  fill_at_leads (fill_at.FenceSlot fence) x here = slot_fence x (fence_asks fill.call fence) (fence_next fence x)
-      (fence_leads fill.call fence fill.hold.locked (decided fill.call fill.hold (value_of fill.hit) (knows (seen_fill fill (printed fill.prints fill.slot fill.call.print) 4))) x sound.call here refl)
-  fill_at_leads (fill_at.FencePrint fence) x here = print_fence x (fence_asks fill.call fence) (fence_next fence x)
-      (fence_leads fill.call fence fill.hold.locked (decided fill.call fill.hold (value_of fill.hit) (knows (seen_fill fill (printed fill.prints fill.slot fill.call.print) 4))) x sound.call here refl)
+      let facts = durable s (slot_words fill.slot 4) fill.prints 4 (slot_behind fill.slot 4) before in
+      subst (λ w. Means slots range (updated s (print_offset fill.slot) (printed w fill.slot fill.call.print)) m) facts.0
+      (means_print_store s fill.slot fill.call.print in_node print_below slots range m (subst (λ b. IsClear b fill.slot) (sym facts.1) sound.clear) means))
+  fill_at_leads (fill_at.FenceSlot fence) x here = slot_fence x _ (fence_asks fill.call fence) (fence_next fence x)
+      (fence_leads fill.call fence fill.hold.locked written ((print_offset fill.slot, 1) ∷ []) x sound.call here refl)
+  fill_at_leads (fill_at.FencePrint fence) x here = print_fence x _ (fence_asks fill.call fence) (fence_next fence x)
+      (fence_leads fill.call fence fill.hold.locked written [] x sound.call here refl)
   fill_at_leads fill_at.Bitmap x here =
       let word = printed fill.prints fill.slot fill.call.print in
-      commits {h = decided fill.call fill.hold (value_of fill.hit) (knows (seen_fill fill word 4))} {k = nothing} {old = value_of fill.hit} {c = change.Put name fill.value}
-      (sound.call.node, (omega arith)) (omega arith) bitmap_below (record { pending = refl; ready = refl; placed = refl }) refl refl
+      commits {h = written} {k = nothing} {dirty = fence_rest (fence_of bitmap_offset) ∷ []} {old = value_of fill.hit} {c = change.Put name fill.value}
+      (sound.call.node, (omega arith)) (omega arith) bitmap_below (record { pending = refl; ready = refl; placed = refl }) refl (inl (omega arith, omega arith)) refl refl
       (λ s tidy before. record { seen = tt; left = tt })
       (λ range s m in_range before old means. means_filled range s m in_range (relies s word 4 (omega arith) before) old means)
 

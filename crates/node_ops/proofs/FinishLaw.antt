@@ -1,13 +1,14 @@
 -- Each turn of a fence and of the end of a write is a step of a kind.
-use Rattle.std.proofs.Common.{◌≡◌, ℕ, ◌+◌, ◌<◌, ◌≤◌, Bool, true, false, cond, ltb, Option, Some, None, refl, sym, subst, arith}
+use Rattle.std.proofs.Common.{◌≡◌, ℕ, ◌+◌, ◌-◌, ◌<◌, ◌≤◌, Bool, true, false, cond, ltb, List, [], ◌∷◌, Option, Some, None, inl, inr, refl, arith}
+use Rattle.std.proofs.lemmas.Bool.{cases_eq, ltb-false}
 use Rattle.pm_words.specs.declared.action.Action.{Action}
 use Rattle.pm_words.specs.declared.machine.Turn.{Turn}
 use Rattle.pm_words.specs.declared.machine.Turn.TheVariants.{Go, Done}
 use Rattle.pm_words.specs.Places.{node_words}
 use Rattle.call_stages.specs.declared.once.Once.{Once}
 use Rattle.call_stages.specs.declared.once.Placed.{Placed}
-use Rattle.call_stages.specs.Stages.{Held, Stage, Idle, Holds}
-use Rattle.call_stages.specs.Kinds.{Step, looks, glances, drains, counts, unlocks, writes}
+use Rattle.call_stages.specs.Stages.{IsAmong, Held, Stage, Idle, Holds}
+use Rattle.call_stages.specs.Kinds.{Cleans, Step, looks, glances, drains, counts, unlocks, writes}
 use Rattle.node_ops.specs.declared.call.Call.{Call}
 use Rattle.node_ops.specs.declared.fence.Fence.{Fence}
 use Rattle.node_ops.specs.declared.fence.FenceAt.{FenceAt}
@@ -18,32 +19,60 @@ use Rattle.node_ops.specs.declared.finish.FinishAt.TheVariants as finish_at
 use Rattle.node_ops.specs.Calls.{IsCall, call_place, name_in}
 use Rattle.node_ops.specs.FenceSteps.{IsFence, IsFenceAt, fence_asks, fence_at_asks, fence_next, fence_at_next}
 use Rattle.node_ops.specs.FinishSteps.{IsFinish, IsFinishAt, finish_asks, finish_at_asks, finish_turned, finish_at_turned, finish_fenced}
-use Rattle.node_ops.specs.CallStages.{finish_stage, finish_at_held, changes, change_of}
+use Rattle.node_ops.specs.CallStages.{fencing, finish_stage, finish_at_held, changes, change_of}
 
--- a fence that goes on leaves the stage as it is; its last drain may make the call ready to count
-abbrev pub Fences : Call → ℕ → Held → Action → ℕ → Option Fence → Type 0
-Fences call word held action x (Some fence) =
-    Step call.view.layout call.view.generation (Holds call.node word held) action x (Holds call.node word held) None
-Fences call word held action x None =
-    (ready : Bool) → Step call.view.layout call.view.generation (Holds call.node word held) action x (Holds call.node word (record held { ready = ready })) None
+-- A fence that goes on has one word fewer to make durable. At its end only the other words may not be, and the call may
+-- be ready to count.
+abbrev pub Fences : Call → ℕ → Held → List (ℕ × ℕ) → Stage → Action → ℕ → Option Fence → Type 0
+Fences call word held others stage action x (Some fence) =
+    Step call.view.layout call.view.generation stage action x (Holds call.node word (fencing held fence others)) None
+Fences call word held others stage action x None =
+    (dirty : List (ℕ × ℕ)) (ready : Bool) → ((offset : ℕ) → IsAmong others offset → IsAmong dirty offset) →
+    Step call.view.layout call.view.generation stage action x (Holds call.node word (record held { dirty = dirty; hand = None; ready = ready })) None
 
-pub fence_leads : (call : Call) (fence : Fence) (word : ℕ) (held : Held) (x : ℕ) → IsCall call → IsFence call.view.layout fence → held.ready ≡ false
-    → Fences call word held (fence_asks call fence) x (fence_next fence x)
-fence_leads call fence word held x sound is waits = at fence.at is.value
+-- with the word in hand durable, the rest of the line is one word shorter
+rest_shrinks : (line word : ℕ) (others : List (ℕ × ℕ)) → word < 8 → Cleans ((line + word, 8 - word) ∷ others) (line + word) ((line + (word + 1), 8 - (word + 1)) ∷ others)
+rest_shrinks line word others small offset (inr among) = inr (inr among)
+rest_shrinks line word others small offset (inl within) =
+    let low : line + word ≤ offset = within.0 in
+    let high : offset < line + word + (8 - word) = within.1 in
+    elim (cases_eq offset (line + word)) [
+      | inl same ↦ inl same
+      | inr other ↦ inr (inl (omega arith, omega arith))
+    ]
+
+-- and with the last one nothing of it is left
+rest_ends : (line word : ℕ) (others dirty : List (ℕ × ℕ)) → word < 8 → 8 ≤ word + 1 → ((offset : ℕ) → IsAmong others offset → IsAmong dirty offset)
+    → Cleans ((line + word, 8 - word) ∷ others) (line + word) dirty
+rest_ends line word others dirty small last kept offset (inr among) = inr (kept offset among)
+rest_ends line word others dirty small last kept offset (inl within) =
+    let low : line + word ≤ offset = within.0 in
+    let high : offset < line + word + (8 - word) = within.1 in
+    inl (omega arith)
+
+pub fence_leads : (call : Call) (fence : Fence) (word : ℕ) (held : Held) (others : List (ℕ × ℕ)) (x : ℕ) → IsCall call → IsFence call.view.layout fence → held.ready ≡ false
+    → Fences call word held others (Holds call.node word (fencing held fence others)) (fence_asks call fence) x (fence_next fence x)
+fence_leads call fence word held others x sound is waits = at fence.at is.value
   where
     within : fence.line + fence.word < node_words call.view.layout
     within = let last : fence.line + 8 ≤ node_words call.view.layout = is.within in let small : fence.word < 8 = is.word in omega arith
 
-    at : (at : FenceAt) → IsFenceAt at → Fences call word held (fence_at_asks (call_place call (fence.line + fence.word)) at) x (fence_at_next fence at x)
+    at : (at : FenceAt) → IsFenceAt at → Fences call word held others (Holds call.node word (fencing held (record fence { at = at }) others))
+        (fence_at_asks (call_place call (fence.line + fence.word)) at) x (fence_at_next fence at x)
     at fence_at.Load fits = looks (glances (sound.node, within) waits)
     at (fence_at.Drain value) fits =
-        elim (ltb (fence.word + 1) 8) as (λ b. Fences call word held (fence_at_asks (call_place call (fence.line + fence.word)) (fence_at.Drain value)) x
+        elim (ltb (fence.word + 1) 8) as (λ b. ltb (fence.word + 1) 8 ≡ b →
+        Fences call word held others (Holds call.node word (fencing held (record fence { at = fence_at.Drain value }) others))
+        (fence_at_asks (call_place call (fence.line + fence.word)) (fence_at.Drain value)) x
         (cond b (Some (record fence { word = fence.word + 1; at = fence_at.Load })) None)) [
-          | true ↦ subst (λ (r : Bool). Step call.view.layout call.view.generation (Holds call.node word held)
-              (fence_at_asks (call_place call (fence.line + fence.word)) (fence_at.Drain value)) x (Holds call.node word (record held { ready = r })) None)
-              (sym waits) (drains (sound.node, within) fits waits)
-          | false ↦ λ ready. drains (sound.node, within) fits waits
-        ]
+          | true ↦ λ more. drains (sound.node, within) fits waits refl (rest_shrinks fence.line fence.word others is.word)
+          | false ↦ λ last dirty ready kept. drains (sound.node, within) fits waits refl
+              (rest_ends fence.line fence.word others dirty is.word (ltb-false _ _ last) kept)
+        ] refl
+
+-- what is held while the bitmap's or the value's line is made durable
+abbrev stored : Finish → Held
+stored finish = changes finish.call finish.hold finish.old (change_of (name_in finish.call) finish.new) false
 
 -- the kind of step of a turn
 abbrev pub Finishes : Call → Stage → Action → ℕ → Turn Finish (Once Placed) → Type 0
@@ -53,15 +82,13 @@ Finishes call stage action x (Done answer) = Step call.view.layout call.view.gen
 pub finish_leads : (finish : Finish) (x : ℕ) → IsFinish finish → Finishes finish.call (finish_stage finish) (finish_asks finish) x (finish_turned finish x)
 finish_leads finish x sound = at finish.at sound.here
   where
-    fenced : (action : Action) (o : Option Fence) → Fences finish.call finish.hold.locked
-        (changes finish.call finish.hold finish.old (change_of (name_in finish.call) finish.new) false) action x o
-        → Finishes finish.call (Holds finish.call.node finish.hold.locked (changes finish.call finish.hold finish.old (change_of (name_in finish.call) finish.new) false)) action x (finish_fenced finish o)
-    fenced action (Some fence) step = step
-    fenced action None step = step true
+    fenced : (stage : Stage) (action : Action) (o : Option Fence) → Fences finish.call finish.hold.locked (stored finish) [] stage action x o → Finishes finish.call stage action x (finish_fenced finish o)
+    fenced stage action (Some fence) step = step
+    fenced stage action None step = step [] true (λ offset none. none)
 
     at : (at : FinishAt) → IsFinishAt finish.call at
         → Finishes finish.call (Holds finish.call.node finish.hold.locked (finish_at_held finish at)) (finish_at_asks finish at) x (finish_at_turned finish at x)
-    at (finish_at.Fence fence) here = fenced (fence_asks finish.call fence) (fence_next fence x)
-        (fence_leads finish.call fence finish.hold.locked (changes finish.call finish.hold finish.old (change_of (name_in finish.call) finish.new) false) x sound.call here refl)
-    at finish_at.Add here = counts refl refl refl
-    at (finish_at.Unlock place) here = unlocks refl refl refl (writes refl refl)
+    at (finish_at.Fence fence) here = fenced _ (fence_asks finish.call fence) (fence_next fence x)
+        (fence_leads finish.call fence finish.hold.locked (stored finish) [] x sound.call here refl)
+    at finish_at.Add here = counts refl refl refl refl
+    at (finish_at.Unlock place) here = unlocks refl refl refl refl (writes refl refl)

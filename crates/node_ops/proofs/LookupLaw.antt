@@ -61,6 +61,8 @@ Leads_found call stage action x found =
       name = name_in call;
       limit = call.limit;
       known = k;
+      dirty = [];
+      hand = None;
       time = Some found.hold.clock;
       old = Some (value_of found.hit);
       pending = pending;
@@ -129,7 +131,7 @@ module _ (call : Call) (sound : IsCall call) where
       → ((range : List ℕ → Bool) (s : Spot) (m : Map) → range name ≡ true → Knows name k s → s offset ≡ x → Means slots range s m → at m name ≡ value_of found.hit)
       → Leads_found call (Holds call.node found.hold.locked (timed call found.hold k)) (Load (call_place call offset)) x found
   decide found k offset x within behind learnt old = λ next pending ready named less means.
-      looks (decides (has_word offset within) behind (record { pending = refl; ready = refl; placed = refl }) named
+      looks (decides (has_word offset within) behind (record { pending = refl; ready = refl; placed = refl }) refl named
       (λ s tidy known e. less s (learnt s tidy known e))
       (λ range s m in_range known e is. let was = old range s m in_range known e is in (was, means range s m in_range was is)))
 
@@ -279,7 +281,7 @@ module _ (call : Call) (sound : IsCall call) where
   lookup_leads look.Version x here = version_leads x
   lookup_leads (look.Lock version word) x here = lock_leads version word x
   lookup_leads (look.Clock word) x here = clock_leads word x
-  lookup_leads (look.Spent hold) x here = unlocks refl refl refl (is_spent refl)
+  lookup_leads (look.Spent hold) x here = unlocks refl refl refl refl (is_spent refl)
   lookup_leads (look.Bitmap hold) x here = looks (learns (has_word bitmap_offset (omega arith)) (omega arith) refl (λ s tidy known e. record { seen = (e, tt); left = tt }))
   lookup_leads (look.Prints hold bitmap prints k) x here = prints_leads hold bitmap prints k x here.1.prints here.2
   lookup_leads (look.Name hold directory left slot k) x here = name_leads hold directory left slot k x here.2 here.3

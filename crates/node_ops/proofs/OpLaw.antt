@@ -10,7 +10,7 @@ use Rattle.cat_history.specs.declared.op.Change.TheVariants as change
 use Rattle.data_node.specs.Bits.{lowest_clear}
 use Rattle.call_stages.specs.declared.once.Once.{Once}
 use Rattle.call_stages.specs.declared.once.Placed.{Placed}
-use Rattle.call_stages.specs.Stages.{Holds, counted}
+use Rattle.call_stages.specs.Stages.{Stage, Idle, Saw, Holds, counted}
 use Rattle.call_stages.specs.Kinds.{Told}
 use Rattle.node_ops.specs.declared.call.Call.{Call}
 use Rattle.node_ops.specs.declared.lookup.Found.{Found}
@@ -44,9 +44,9 @@ use Rattle.node_ops.specs.GetSteps.{IsGet, get_call, get_turned}
 use Rattle.node_ops.specs.PutSteps.{IsPut, put_call, put_turned, put_looked, put_into, put_full, put_filled, put_finished}
 use Rattle.node_ops.specs.DelSteps.{IsDel, del_call, del_turned, del_looked, del_hit, del_finished}
 use Rattle.node_ops.specs.RunningSteps.{running_call, running_asks, running_turned, wrapped, IsRunning}
-use Rattle.node_ops.specs.CallStages.{lookup_at_stage, finish_at_held, change_of}
-use Rattle.node_ops.specs.Asked.{Gives, TakesOut, IsOf, IsOfAfter, IsAbout}
-use Rattle.node_ops.specs.Laws.{TurnsKeepOp, CountsOwnChange, HoldsOwnName}
+use Rattle.node_ops.specs.CallStages.{lookup_at_stage, finish_at_held, change_of, stage_of}
+use Rattle.node_ops.specs.Asked.{Gives, TakesOut, IsOf, IsOfAfter, IsAbout, change_asked}
+use Rattle.node_ops.specs.Laws.{TurnsKeepOp, CountsOwnChange, HoldsOwnName, PendingIsOwnChange}
 use Rattle.node_ops.proofs.CallSound.{Stays, get_stays, put_stays, del_stays}
 
 -- what a finish leaves under the name is the same after a turn
@@ -247,3 +247,51 @@ holds_own_name (op.Del name) (Deleting (del.Looking lookup)) is = subst (λ n. I
 holds_own_name (op.Del name) (Deleting (del.Clearing call hold bitmap hit)) is = is.0
 holds_own_name (op.Del name) (Deleting (del.Finishing finish)) is =
     subst (λ n. IsAbout n (Holds finish.call.node finish.hold.locked (finish_at_held finish finish.at))) is.0 (finish_about finish finish.at)
+
+-- what a stage has pending
+abbrev pub pending_in : Stage → Option Change
+pending_in Idle = None
+pending_in (Saw n v w) = None
+pending_in (Holds n w h) = h.pending
+
+lookup_pends : (call : Call) (at : LookupAt) → pending_in (lookup_at_stage call at) ≡ None
+lookup_pends call look.Version = refl
+lookup_pends call (look.Lock version locked) = refl
+lookup_pends call (look.Clock locked) = refl
+lookup_pends call (look.Spent hold) = refl
+lookup_pends call (look.Bitmap hold) = refl
+lookup_pends call (look.Prints hold bitmap prints k) = refl
+lookup_pends call (look.Name hold directory left slot k) = refl
+lookup_pends call (look.Value hold directory slot) = refl
+
+finish_pends : (P : Change → Type 0) (finish : Finish) (at : FinishAt) → P (change_of (name_in finish.call) finish.new) → IfSome (finish_at_held finish at).pending P
+finish_pends P finish (finish_at.Fence fence) holds = holds
+finish_pends P finish finish_at.Add holds = holds
+finish_pends P finish (finish_at.Unlock place) holds = tt
+
+pub pending_is_own : (op : Op) (running : Running) → IsOf op running → IfSome (pending_in (stage_of running)) (λ change. change_asked op ≡ Some change)
+pending_is_own (op.Get name) (Getting (get.Looking lookup)) is = counts_nothing _ _ (lookup_pends lookup.call lookup.at)
+pending_is_own (op.Get name) (Getting (get.Unlocking call hold old)) is = tt
+pending_is_own (op.Get name) (Putting put) is = absurd is
+pending_is_own (op.Get name) (Deleting del) is = absurd is
+pending_is_own (op.Put name value) (Getting get) is = absurd is
+pending_is_own (op.Put name value) (Putting (put.Looking lookup number)) is = counts_nothing _ _ (lookup_pends lookup.call lookup.at)
+pending_is_own (op.Put name value) (Putting (put.Filling fill)) is = tt
+pending_is_own (op.Put name value) (Putting (put.Replacing call hold bitmap hit number)) is = tt
+pending_is_own (op.Put name value) (Putting (put.Finishing finish)) is =
+    finish_pends (λ c. Some (change.Put name value) ≡ Some c) finish finish.at
+    (ap Some (sym (ap (λ (n : Option ℕ). change_of (name_in finish.call) n) is.1 ∙ ap (λ (n : List ℕ). change.Put n value) is.0)))
+pending_is_own (op.Put name value) (Putting (put.Refusing call hold bitmap)) is = tt
+pending_is_own (op.Put name value) (Deleting del) is = absurd is
+pending_is_own (op.Del name) (Getting get) is = absurd is
+pending_is_own (op.Del name) (Putting put) is = absurd is
+pending_is_own (op.Del name) (Deleting (del.Looking lookup)) is = counts_nothing _ _ (lookup_pends lookup.call lookup.at)
+pending_is_own (op.Del name) (Deleting (del.Clearing call hold bitmap hit)) is = tt
+pending_is_own (op.Del name) (Deleting (del.Finishing finish)) is =
+    finish_pends (λ c. Some (change.Del name) ≡ Some c) finish finish.at
+    (ap Some (sym (ap (λ (n : Option ℕ). change_of (name_in finish.call) n) is.1 ∙ ap (λ (n : List ℕ). change.Del n) is.0)))
+
+pub pends_own_change : PendingIsOwnChange
+pends_own_change op running n w h change is here pending =
+    subst (λ (o : Option Change). IfSome o (λ c. change_asked op ≡ Some c)) pending
+    (subst (λ (s : Stage). IfSome (pending_in s) (λ c. change_asked op ≡ Some c)) here (pending_is_own op running is))

@@ -1,5 +1,6 @@
 -- What a call in flight has and knows of its node.
-use Rattle.std.specs.Prelude.{ℕ, ◌+◌, List, [], ◌∷◌, ◌++◌, take, Bool, true, false, Option, Some, None}
+use Rattle.std.specs.Prelude.{ℕ, zero, suc, ◌+◌, ◌-◌, List, [], ◌∷◌, ◌++◌, take, Bool, true, false, Option, Some, None}
+use Rattle.pm_words.specs.declared.TheConstants.{LINE}
 use Rattle.pm_words.specs.declared.machine.Turn.{Turn}
 use Rattle.pm_words.specs.declared.machine.Turn.TheVariants.{Go, Done}
 use Rattle.pm_words.specs.declared.layout.Layout.{Layout}
@@ -16,6 +17,9 @@ use Rattle.node_ops.specs.declared.lookup.Hit.{Hit}
 use Rattle.node_ops.specs.declared.lookup.LookupAt.{LookupAt}
 use Rattle.node_ops.specs.declared.lookup.LookupAt.TheVariants as look
 use Rattle.node_ops.specs.declared.lookup.Lookup.{Lookup}
+use Rattle.node_ops.specs.declared.fence.Fence.{Fence}
+use Rattle.node_ops.specs.declared.fence.FenceAt.{FenceAt}
+use Rattle.node_ops.specs.declared.fence.FenceAt.TheVariants as fence_at
 use Rattle.node_ops.specs.declared.fill.Fill.{Fill}
 use Rattle.node_ops.specs.declared.fill.FillAt.{FillAt}
 use Rattle.node_ops.specs.declared.fill.FillAt.TheVariants as fill_at
@@ -54,20 +58,36 @@ seen_hit call bitmap (Some hit) = (bitmap_offset, bitmap) ∷ words_from (slot_o
 
 -- the node is held, with the clock loaded and below the limit
 abbrev pub timed : Call → Hold → Known → Held
-timed call hold known = record { name = name_in call; limit = call.limit; known = known; time = Some hold.clock; old = None; pending = None; ready = false; placed = None }
+timed call hold known = record { name = name_in call; limit = call.limit; known = known; dirty = []; hand = None; time = Some hold.clock; old = None; pending = None; ready = false; placed = None }
 
 -- and it is known what the name has
 abbrev pub decided : Call → Hold → Option ℕ → Known → Held
-decided call hold old known = record { name = name_in call; limit = call.limit; known = known; time = Some hold.clock; old = Some old; pending = None; ready = false; placed = None }
+decided call hold old known = record { name = name_in call; limit = call.limit; known = known; dirty = []; hand = None; time = Some hold.clock; old = Some old; pending = None; ready = false; placed = None }
 
 -- and the node's words show this change
 abbrev pub changes : Call → Hold → Option ℕ → Change → Bool → Held
 changes call hold old change ready =
-    record { name = name_in call; limit = call.limit; known = nothing; time = Some hold.clock; old = Some old; pending = Some change; ready = ready; placed = None }
+    record { name = name_in call; limit = call.limit; known = nothing; dirty = []; hand = None; time = Some hold.clock; old = Some old; pending = Some change; ready = ready; placed = None }
 
 -- and the change has its place
 abbrev pub has_place : Call → Option ℕ → ℕ → Held
-has_place call old place = record { name = name_in call; limit = call.limit; known = nothing; time = None; old = Some old; pending = None; ready = false; placed = Some place }
+has_place call old place = record { name = name_in call; limit = call.limit; known = nothing; dirty = []; hand = None; time = None; old = Some old; pending = None; ready = false; placed = Some place }
+
+-- the words that a fence has still to make durable: the rest of its line
+abbrev pub fence_rest : Fence → ℕ × ℕ
+fence_rest fence = (fence.line + fence.word, LINE - fence.word)
+
+-- the word that a fence has loaded to make it durable
+abbrev pub fence_at_hand : ℕ → FenceAt → Option (ℕ × ℕ)
+fence_at_hand offset fence_at.Load = None
+fence_at_hand offset (fence_at.Drain value) = Some (offset, value)
+
+abbrev pub fence_hand : Fence → Option (ℕ × ℕ)
+fence_hand fence = fence_at_hand (fence.line + fence.word) fence.at
+
+-- while a fence is at work, and these words are for the next
+abbrev pub fencing : Held → Fence → List (ℕ × ℕ) → Held
+fencing held fence others = record held { dirty = fence_rest fence ∷ others; hand = fence_hand fence }
 
 abbrev pub lookup_at_stage : Call → LookupAt → Stage
 lookup_at_stage call look.Version = Idle
@@ -104,8 +124,32 @@ fill_at_known fill (fill_at.FenceSlot fence) = knows (seen_fill fill (printed fi
 fill_at_known fill (fill_at.FencePrint fence) = knows (seen_fill fill (printed fill.prints fill.slot fill.call.print) 4)
 fill_at_known fill fill_at.Bitmap = knows (seen_fill fill (printed fill.prints fill.slot fill.call.print) 4)
 
+-- the first so many words of a slot
+abbrev pub slot_words : ℕ → ℕ → List (ℕ × ℕ)
+slot_words slot zero = []
+slot_words slot (suc count) = (slot_offset slot 0, suc count) ∷ []
+
+-- what is not durable yet: the words stored in the slot, then its fingerprint
+abbrev pub fill_at_dirty : ℕ → FillAt → List (ℕ × ℕ)
+fill_at_dirty slot (fill_at.Word k) = slot_words slot k
+fill_at_dirty slot fill_at.Print = slot_words slot 4
+fill_at_dirty slot (fill_at.FenceSlot fence) = fence_rest fence ∷ (print_offset slot, 1) ∷ []
+fill_at_dirty slot (fill_at.FencePrint fence) = fence_rest fence ∷ []
+fill_at_dirty slot fill_at.Bitmap = []
+
+abbrev pub fill_at_hand : FillAt → Option (ℕ × ℕ)
+fill_at_hand (fill_at.Word k) = None
+fill_at_hand fill_at.Print = None
+fill_at_hand (fill_at.FenceSlot fence) = fence_hand fence
+fill_at_hand (fill_at.FencePrint fence) = fence_hand fence
+fill_at_hand fill_at.Bitmap = None
+
+abbrev pub fill_at_held : Fill → FillAt → Held
+fill_at_held fill at =
+    record (decided fill.call fill.hold (value_of fill.hit) (fill_at_known fill at)) { dirty = fill_at_dirty fill.slot at; hand = fill_at_hand at }
+
 abbrev pub fill_stage : Fill → Stage
-fill_stage fill = Holds fill.call.node fill.hold.locked (decided fill.call fill.hold (value_of fill.hit) (fill_at_known fill fill.at))
+fill_stage fill = Holds fill.call.node fill.hold.locked (fill_at_held fill fill.at)
 
 -- the change that a write makes: a put of this number, or a delete
 abbrev pub change_of : List ℕ → Option ℕ → Change
@@ -113,7 +157,7 @@ change_of name (Some value) = change.Put name value
 change_of name None = change.Del name
 
 abbrev pub finish_at_held : Finish → FinishAt → Held
-finish_at_held finish (finish_at.Fence fence) = changes finish.call finish.hold finish.old (change_of (name_in finish.call) finish.new) false
+finish_at_held finish (finish_at.Fence fence) = fencing (changes finish.call finish.hold finish.old (change_of (name_in finish.call) finish.new) false) fence []
 finish_at_held finish finish_at.Add = changes finish.call finish.hold finish.old (change_of (name_in finish.call) finish.new) true
 finish_at_held finish (finish_at.Unlock place) = has_place finish.call finish.old place
 

@@ -2,7 +2,8 @@
 use Rattle.std.specs.Prelude.{◌≡◌, ℕ, Some, IfSome}
 use Rattle.pm_words.specs.declared.layout.Layout.{Layout}
 use Rattle.cat_history.specs.declared.op.Op.{Op}
-use Rattle.call_stages.specs.Stages.{counted}
+use Rattle.cat_history.specs.declared.op.Change.{Change}
+use Rattle.call_stages.specs.Stages.{Held, Holds, counted}
 use Rattle.call_stages.specs.Kinds.{Told, Step}
 use Rattle.node_ops.specs.declared.running.Running.{Running}
 use Rattle.node_ops.specs.RunningSteps.{running_asks, running_turned, Sound}
@@ -30,3 +31,8 @@ CountsOwnChange = (op : Op) (running : Running) → IsOf op running → IfSome (
 -- and what it holds is held for the op's name
 abbrev pub HoldsOwnName : Type 0
 HoldsOwnName = (op : Op) (running : Running) → IsOf op running → IsAbout (name_asked op) (stage_of running)
+
+-- and what it has pending, which a crash may find in the node already, is the change of the op
+abbrev pub PendingIsOwnChange : Type 0
+PendingIsOwnChange = (op : Op) (running : Running) (n w : ℕ) (h : Held) (change : Change) → IsOf op running → stage_of running ≡ Holds n w h →
+    h.pending ≡ Some change → change_asked op ≡ Some change

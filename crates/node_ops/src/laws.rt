@@ -1,6 +1,6 @@
 //! The laws of the machines, which the index rests on.
 
-ghost use Rattle.node_ops.specs.Laws.{TurnsAreSteps, TurnsStaySound, TurnsKeepOp, CountsOwnChange, HoldsOwnName};
+ghost use Rattle.node_ops.specs.Laws.{TurnsAreSteps, TurnsStaySound, TurnsKeepOp, CountsOwnChange, HoldsOwnName, PendingIsOwnChange};
 
 /// Each turn of a sound call, whatever number it is told, is a step of one of the kinds, with the answer of the turn.
 pub fn turns_are_steps()
@@ -21,4 +21,9 @@ pub fn turns_keep_op()
 pub fn calls_are_of_ops()
     ensures change { CountsOwnChange }
     ensures name { HoldsOwnName }
+{}
+
+/// The change that a call has pending, which the words of its node show already, is its own op's.
+pub fn pending_law()
+    ensures { PendingIsOwnChange }
 {}
