@@ -10,10 +10,10 @@ use Rattle.cat_history.specs.declared.op.Change.TheVariants.{Put, Del}
 use Rattle.cat_history.proofs.PlainMapLemmas.{by_names}
 
 -- a change leaves every other name
-pub changed_other : (m : Map) (c : Change) (name : List ℕ) → name ≢ name_of c → at (changed m c) name ≡ at m name
-changed_other m (Put key value) name other =
+pub at-changed_other : (m : Map) (c : Change) (name : List ℕ) → name ≢ name_of c → at (changed m c) name ≡ at m name
+at-changed_other m (Put key value) name other =
     get-insert nat_list_cmp_total m key value name ∙ by_names name key (λ b. cond b (Some value) (at m name) ≡ at m name) (λ e. absurd (other e)) (λ _. refl)
-changed_other m (Del key) name other =
+at-changed_other m (Del key) name other =
     get-remove nat_list_cmp_total m key name ∙ by_names name key (λ b. cond b None (at m name) ≡ at m name) (λ e. absurd (other e)) (λ _. refl)
 
 -- a change is found right after it

@@ -13,7 +13,7 @@ use Rattle.cat_history.specs.Writes.{changed, name_of}
 use Rattle.cat_history.specs.CrashEnds.{IsFound, has_value, is_found, found_in, after_changes, IsCrashEnd, IsFoundCut, HasOldOrCut, OldOrCutIsCrashEnd, NoneOrOneIsCrashEnd}
 use Rattle.cat_history.specs.declared.op.Change.{Change}
 use Rattle.cat_history.specs.declared.op.Change.TheVariants.{Put, Del}
-use Rattle.cat_history.proofs.ChangeLemmas.{changed_other, changed_found, found_alike}
+use Rattle.cat_history.proofs.ChangeLemmas.{at-changed_other, changed_found, found_alike}
 use Rattle.cat_history.proofs.PlainMapLemmas.{by_names, some≢none}
 
 value-Decides : (o : Option ℕ) (value : ℕ) → Decides (has_value o value) (o ≡ Some value)
@@ -65,7 +65,7 @@ after_first : (m : Map) (first : Change) (later : List Change) (end : Map) → I
 after_first m first later end found old_or_cut name =
     by_names name (name_of first) (λ _. (at end name ≡ at (changed m first) name) ⊎ IsFoundCut later end name)
     (λ here. inl (subst (λ k. at end k ≡ at (changed m first) k) (sym here) (found_alike (changed m first) end first (changed_found m first) found)))
-    (λ other. subst (λ o. (at end name ≡ o) ⊎ IsFoundCut later end name) (sym (changed_other m first name other))
+    (λ other. subst (λ o. (at end name ≡ o) ⊎ IsFoundCut later end name) (sym (at-changed_other m first name other))
     (skipped m first later end name (λ _ about. other (sym about)) (old_or_cut name)))
 
 pub old_or_cut_is_crash_end : OldOrCutIsCrashEnd
@@ -88,7 +88,7 @@ one_is_crash_end m cuts c cut =
     old_or_cut_is_crash_end m cuts (changed m c) (λ name.
     by_names name (name_of c) (λ _. (at (changed m c) name ≡ at m name) ⊎ IsFoundCut cuts (changed m c) name)
     (λ here. inr (record { change = c; cut = cut; about = sym here; found = changed_found m c }))
-    (λ other. inl (changed_other m c name other)))
+    (λ other. inl (at-changed_other m c name other)))
 
 pub none_or_one_is_crash_end : NoneOrOneIsCrashEnd
 none_or_one_is_crash_end m cuts = (none_is_crash_end m cuts, one_is_crash_end m cuts)
