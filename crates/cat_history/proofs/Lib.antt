@@ -1,2 +1,4 @@
 pub mod LoneRoundLemmas
 pub mod PlainMapLemmas
+pub mod ChangeLemmas
+pub mod CrashEndLemmas

@@ -17,14 +17,14 @@ use Rattle.cat_key.specs.declared.Pair.{Pair}
 use Rattle.cat_history.specs.Maps.{Map, at, map_of}
 use Rattle.cat_history.specs.PlainMaps.{NamesDiffer}
 
-abbrev same : List ℕ → List ℕ → Bool
+abbrev pub same : List ℕ → List ℕ → Bool
 same a b = eq_by_cmp name_cmp a b
 
 same-Decides : (a b : List ℕ) → Decides (same a b) (a ≡ b)
 same-Decides a b = subst (λ r. Decides r (a ≡ b)) (texts_ties a b) (bytes_eq-Decides a b)
 
 -- whether two names are one, by cases
-by_names : (a b : List ℕ) (P : Bool → Type 0) → (a ≡ b → P true) → (a ≢ b → P false) → P (same a b)
+pub by_names : (a b : List ℕ) (P : Bool → Type 0) → (a ≡ b → P true) → (a ≢ b → P false) → P (same a b)
 by_names a b P alike unlike =
     elim (same a b) as (λ r. Decides r (a ≡ b) → P r) [
       | true ↦ λ d. alike (d.0 refl)

@@ -4,3 +4,4 @@ pub mod Records
 pub mod Rounds
 pub mod LoneRounds
 pub mod PlainMaps
+pub mod CrashEnds
