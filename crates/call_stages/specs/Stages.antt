@@ -59,6 +59,18 @@ abbrev pub pended : Option Change → Map → Map
 pended None m = m
 pended (Some c) m = changed m c
 
+-- The change that the party's call has pending.
+abbrev pub pending_in : Stage → Option Change
+pending_in Idle = None
+pending_in (Saw n v w) = None
+pending_in (Holds n w h) = h.pending
+
+-- The place that its change was given.
+abbrev pub placed_in : Stage → Option ℕ
+placed_in Idle = None
+placed_in (Saw n v w) = None
+placed_in (Holds n w h) = h.placed
+
 -- The change that the party's next step counts.
 abbrev pub counted : Stage → Option Change
 counted Idle = None

@@ -69,7 +69,7 @@ put_fits (put.Looking lookup value) is = is.0.call
 put_fits (put.Filling fill) is = is.call
 put_fits (put.Replacing call hold bitmap hit value) is = is.call
 put_fits (put.Finishing finish) is = is.call
-put_fits (put.Refusing call hold bitmap) is = is.call
+put_fits (put.Refusing call hold bitmap value) is = is.call
 
 del_fits : (d : Del) → IsDel d → IsCall (del_call d)
 del_fits (del.Looking lookup) is = is.call

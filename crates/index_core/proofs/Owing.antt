@@ -62,7 +62,7 @@ put_one : (put : Put) → owes (Putting put) ≤ 1
 put_one (put.Looking lookup value) = omega arith
 put_one (put.Filling fill) = omega arith
 put_one (put.Replacing call hold bitmap hit value) = omega arith
-put_one (put.Refusing call hold bitmap) = omega arith
+put_one (put.Refusing call hold bitmap value) = omega arith
 put_one (put.Finishing finish) = at finish.at
   where
     at : (at : FinishAt) → owes (Putting (put.Finishing (record finish { at = at }))) ≤ 1
@@ -127,7 +127,7 @@ pays (Putting (put.Looking lookup value)) x =
     omega arith
 pays (Putting (put.Filling fill)) x = let one = after_one (running_turned (Putting (put.Filling fill)) x) in omega arith
 pays (Putting (put.Replacing call hold bitmap hit value)) x = omega arith
-pays (Putting (put.Refusing call hold bitmap)) x = omega arith
+pays (Putting (put.Refusing call hold bitmap value)) x = omega arith
 pays (Putting (put.Finishing finish)) x = put_finish_pays finish finish.at x
 pays (Deleting (del.Looking lookup)) x =
     let one = after_one (running_turned (Deleting (del.Looking lookup)) x) in

@@ -88,7 +88,7 @@ put_phase (put.Looking lookup value) = lookup_phase lookup.at
 put_phase (put.Filling fill) = hold_phase fill.hold
 put_phase (put.Replacing call hold bitmap hit value) = hold_phase hold
 put_phase (put.Finishing finish) = finish_phase finish.hold finish.at
-put_phase (put.Refusing call hold bitmap) = hold_phase hold
+put_phase (put.Refusing call hold bitmap value) = hold_phase hold
 
 abbrev pub del_phase : Del → Phase
 del_phase (del.Looking lookup) = lookup_phase lookup.at
@@ -249,7 +249,7 @@ put_leads name value (put.Finishing finish) x = at finish.at
         fenced None = works refl
     at finish_at.Add = counts tt refl
     at (finish_at.Unlock place) = answers tt refl
-put_leads name value (put.Refusing call hold bitmap) x = refuses tt refl
+put_leads name value (put.Refusing call hold bitmap value) x = refuses tt refl
 
 del_leads : (name : List ℕ) (del : Del) (x : ℕ) → RunningLeads (op.Del name) (Deleting del) x (wrapped Deleting (del_turned del x))
 del_leads name (del.Looking lookup) x = at (lookup_turned lookup x) (lookup_leads (op.Del name) lookup.call lookup.at x)

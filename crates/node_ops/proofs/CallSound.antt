@@ -162,7 +162,7 @@ put_stays (put.Finishing finish) x sound told = at (finish_turned finish x) (fin
     at : (turn : Turn Finish (Once Placed)) → SoundFinish finish.call turn → Stays IsPut put_call finish.call (put_finished turn)
     at (Go next) is = is
     at (Done answer) is = tt
-put_stays (put.Refusing call hold bitmap) x sound told = tt
+put_stays (put.Refusing call hold bitmap value) x sound told = tt
 
 pub del_stays : (del : Del) (x : ℕ) → IsDel del → Told (del_call del).view.layout (del_call del).view.generation (del_asks del) x → Stays IsDel del_call (del_call del) (del_turned del x)
 del_stays (del.Looking lookup) x sound told = at (lookup_turned lookup x) (lookup_stays lookup x sound told)

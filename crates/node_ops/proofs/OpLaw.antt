@@ -10,7 +10,7 @@ use Rattle.cat_history.specs.declared.op.Change.TheVariants as change
 use Rattle.data_node.specs.Bits.{lowest_clear}
 use Rattle.call_stages.specs.declared.once.Once.{Once}
 use Rattle.call_stages.specs.declared.once.Placed.{Placed}
-use Rattle.call_stages.specs.Stages.{Stage, Idle, Saw, Holds, counted}
+use Rattle.call_stages.specs.Stages.{Stage, Holds, counted, pending_in}
 use Rattle.call_stages.specs.Kinds.{Told}
 use Rattle.node_ops.specs.declared.call.Call.{Call}
 use Rattle.node_ops.specs.declared.lookup.Found.{Found}
@@ -45,8 +45,8 @@ use Rattle.node_ops.specs.PutSteps.{IsPut, put_call, put_turned, put_looked, put
 use Rattle.node_ops.specs.DelSteps.{IsDel, del_call, del_turned, del_looked, del_hit, del_finished}
 use Rattle.node_ops.specs.RunningSteps.{running_call, running_asks, running_turned, wrapped, IsRunning}
 use Rattle.node_ops.specs.CallStages.{lookup_at_stage, finish_at_held, change_of, stage_of}
-use Rattle.node_ops.specs.Asked.{Gives, TakesOut, IsOf, IsOfAfter, IsAbout, change_asked}
-use Rattle.node_ops.specs.Laws.{TurnsKeepOp, CountsOwnChange, HoldsOwnName, PendingIsOwnChange}
+use Rattle.node_ops.specs.Asked.{Gives, TakesOut, IsOf, IsOfAfter, IsAbout, op_of_finish, op_in, change_asked}
+use Rattle.node_ops.specs.Laws.{TurnsKeepOp, CountsOwnChange, HoldsOwnName, PendingIsOwnChange, OpIsTold}
 use Rattle.node_ops.proofs.CallSound.{Stays, get_stays, put_stays, del_stays}
 
 -- what a finish leaves under the name is the same after a turn
@@ -97,7 +97,7 @@ put_keeps value (put.Looking lookup number) x is = at (lookup_turned lookup x)
   where
     full : (found : Found) (hit : Option Hit) → Gives value (put_full lookup.call found.hold found.directory.bitmap hit number)
     full found (Some hit) = is
-    full found None = tt
+    full found None = is
 
     into : (found : Found) (clear : Option ℕ) → Gives value (put_into lookup.call found number clear)
     into found (Some slot) = is
@@ -118,7 +118,7 @@ put_keeps value (put.Finishing finish) x is = at (finish_turned finish x) (finis
     at : (turn : Turn Finish (Once Placed)) → NewAfter finish.new turn → GivesAfter value (put_finished turn)
     at (Go next) same = same ∙ is
     at (Done answer) same = tt
-put_keeps value (put.Refusing call hold bitmap) x is = tt
+put_keeps value (put.Refusing call hold bitmap number) x is = tt
 
 abbrev TakesOutAfter : Turn Del (Once Placed) → Type 0
 TakesOutAfter (Go del) = TakesOut del
@@ -218,7 +218,7 @@ counts_own_change (op.Put name value) (Putting (put.Replacing call hold bitmap h
 counts_own_change (op.Put name value) (Putting (put.Finishing finish)) is =
     finish_counts (λ c. Some (change.Put name value) ≡ Some c) finish finish.at
     (ap Some (sym (ap (λ (n : Option ℕ). change_of (name_in finish.call) n) is.1 ∙ ap (λ (n : List ℕ). change.Put n value) is.0)))
-counts_own_change (op.Put name value) (Putting (put.Refusing call hold bitmap)) is = tt
+counts_own_change (op.Put name value) (Putting (put.Refusing call hold bitmap number)) is = tt
 counts_own_change (op.Put name value) (Deleting del) is = absurd is
 counts_own_change (op.Del name) (Getting get) is = absurd is
 counts_own_change (op.Del name) (Putting put) is = absurd is
@@ -239,7 +239,7 @@ holds_own_name (op.Put name value) (Putting (put.Filling fill)) is = is.0
 holds_own_name (op.Put name value) (Putting (put.Replacing call hold bitmap hit number)) is = is.0
 holds_own_name (op.Put name value) (Putting (put.Finishing finish)) is =
     subst (λ n. IsAbout n (Holds finish.call.node finish.hold.locked (finish_at_held finish finish.at))) is.0 (finish_about finish finish.at)
-holds_own_name (op.Put name value) (Putting (put.Refusing call hold bitmap)) is = is.0
+holds_own_name (op.Put name value) (Putting (put.Refusing call hold bitmap number)) is = is.0
 holds_own_name (op.Put name value) (Deleting del) is = absurd is
 holds_own_name (op.Del name) (Getting get) is = absurd is
 holds_own_name (op.Del name) (Putting put) is = absurd is
@@ -247,12 +247,6 @@ holds_own_name (op.Del name) (Deleting (del.Looking lookup)) is = subst (λ n. I
 holds_own_name (op.Del name) (Deleting (del.Clearing call hold bitmap hit)) is = is.0
 holds_own_name (op.Del name) (Deleting (del.Finishing finish)) is =
     subst (λ n. IsAbout n (Holds finish.call.node finish.hold.locked (finish_at_held finish finish.at))) is.0 (finish_about finish finish.at)
-
--- what a stage has pending
-abbrev pub pending_in : Stage → Option Change
-pending_in Idle = None
-pending_in (Saw n v w) = None
-pending_in (Holds n w h) = h.pending
 
 lookup_pends : (call : Call) (at : LookupAt) → pending_in (lookup_at_stage call at) ≡ None
 lookup_pends call look.Version = refl
@@ -281,7 +275,7 @@ pending_is_own (op.Put name value) (Putting (put.Replacing call hold bitmap hit 
 pending_is_own (op.Put name value) (Putting (put.Finishing finish)) is =
     finish_pends (λ c. Some (change.Put name value) ≡ Some c) finish finish.at
     (ap Some (sym (ap (λ (n : Option ℕ). change_of (name_in finish.call) n) is.1 ∙ ap (λ (n : List ℕ). change.Put n value) is.0)))
-pending_is_own (op.Put name value) (Putting (put.Refusing call hold bitmap)) is = tt
+pending_is_own (op.Put name value) (Putting (put.Refusing call hold bitmap number)) is = tt
 pending_is_own (op.Put name value) (Deleting del) is = absurd is
 pending_is_own (op.Del name) (Getting get) is = absurd is
 pending_is_own (op.Del name) (Putting put) is = absurd is
@@ -295,3 +289,21 @@ pub pends_own_change : PendingIsOwnChange
 pends_own_change op running n w h change is here pending =
     subst (λ (o : Option Change). IfSome o (λ c. change_asked op ≡ Some c)) pending
     (subst (λ (s : Stage). IfSome (pending_in s) (λ c. change_asked op ≡ Some c)) here (pending_is_own op running is))
+
+-- a call is of no other op than the one that its machine tells
+pub op_told : OpIsTold
+op_told (op.Get name) (Getting get) is = ap op.Get is
+op_told (op.Get name) (Putting put) is = absurd is
+op_told (op.Get name) (Deleting del) is = absurd is
+op_told (op.Put name value) (Getting get) is = absurd is
+op_told (op.Put name value) (Putting (put.Looking lookup number)) is = λ k. op.Put (is.0 k) (is.1 k)
+op_told (op.Put name value) (Putting (put.Filling fill)) is = λ k. op.Put (is.0 k) (is.1 k)
+op_told (op.Put name value) (Putting (put.Replacing call hold bitmap hit number)) is = λ k. op.Put (is.0 k) (is.1 k)
+op_told (op.Put name value) (Putting (put.Finishing finish)) is = ap (op_of_finish finish) is.1 ∙ ap (λ (n : List ℕ). op.Put n value) is.0
+op_told (op.Put name value) (Putting (put.Refusing call hold bitmap number)) is = λ k. op.Put (is.0 k) (is.1 k)
+op_told (op.Put name value) (Deleting del) is = absurd is
+op_told (op.Del name) (Getting get) is = absurd is
+op_told (op.Del name) (Putting put) is = absurd is
+op_told (op.Del name) (Deleting (del.Looking lookup)) is = ap op.Del is.0
+op_told (op.Del name) (Deleting (del.Clearing call hold bitmap hit)) is = ap op.Del is.0
+op_told (op.Del name) (Deleting (del.Finishing finish)) is = ap (op_of_finish finish) is.1 ∙ ap op.Del is.0

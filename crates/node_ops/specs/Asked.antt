@@ -9,6 +9,7 @@ use Rattle.cat_history.specs.declared.op.Change.TheVariants as change
 use Rattle.call_stages.specs.declared.once.Once.{Once}
 use Rattle.call_stages.specs.declared.once.Placed.{Placed}
 use Rattle.call_stages.specs.Stages.{Stage, Idle, Saw, Holds}
+use Rattle.node_ops.specs.declared.finish.Finish.{Finish}
 use Rattle.node_ops.specs.declared.put.Put.{Put}
 use Rattle.node_ops.specs.declared.put.Put.TheVariants as put
 use Rattle.node_ops.specs.declared.del.Del.{Del}
@@ -32,13 +33,13 @@ change_asked (op.Put name value) = Some (change.Put name value)
 change_asked (op.Get name) = None
 change_asked (op.Del name) = Some (change.Del name)
 
--- the put gives this value; one that gives its node back unchanged may have been of any
+-- the put gives this value
 abbrev pub Gives : ℕ → Put → Type 0
 Gives value (put.Looking lookup number) = number ≡ value
 Gives value (put.Filling fill) = fill.value ≡ value
 Gives value (put.Replacing call hold bitmap hit number) = number ≡ value
 Gives value (put.Finishing finish) = finish.new ≡ Some value
-Gives value (put.Refusing call hold bitmap) = Unit {0}
+Gives value (put.Refusing call hold bitmap number) = number ≡ value
 
 -- the delete leaves no value
 abbrev pub TakesOut : Del → Type 0
@@ -55,6 +56,29 @@ IsOf _ _ = ⊥
 abbrev pub IsOfAfter : Op → Turn Running (Once Placed) → Type 0
 IsOfAfter op (Go running) = IsOf op running
 IsOfAfter op (Done answer) = Unit {0}
+
+-- the op that a finish is of
+abbrev pub op_of_finish : Finish → Option ℕ → Op
+op_of_finish finish (Some value) = op.Put (name_in finish.call) value
+op_of_finish finish None = op.Del (name_in finish.call)
+
+-- the op that a call in flight is of
+abbrev pub put_op : Put → Op
+put_op (put.Looking lookup value) = op.Put (name_in lookup.call) value
+put_op (put.Filling fill) = op.Put (name_in fill.call) fill.value
+put_op (put.Replacing call hold bitmap hit value) = op.Put (name_in call) value
+put_op (put.Finishing finish) = op_of_finish finish finish.new
+put_op (put.Refusing call hold bitmap value) = op.Put (name_in call) value
+
+abbrev pub del_op : Del → Op
+del_op (del.Looking lookup) = op.Del (name_in lookup.call)
+del_op (del.Clearing call hold bitmap hit) = op.Del (name_in call)
+del_op (del.Finishing finish) = op_of_finish finish finish.new
+
+abbrev pub op_in : Running → Op
+op_in (Getting get) = op.Get (name_in (get_call get))
+op_in (Putting put) = put_op put
+op_in (Deleting del) = del_op del
 
 -- what is held is held for this name
 abbrev pub IsAbout : List ℕ → Stage → Type 0

@@ -173,7 +173,7 @@ put_stage (put.Looking lookup value) = lookup_stage lookup
 put_stage (put.Filling fill) = fill_stage fill
 put_stage (put.Replacing call hold bitmap hit value) = Holds call.node hold.locked (decided call hold (Some hit.value) (knows (seen_hit call bitmap (Some hit))))
 put_stage (put.Finishing finish) = finish_stage finish
-put_stage (put.Refusing call hold bitmap) = Holds call.node hold.locked (decided call hold None (knows ((bitmap_offset, bitmap) ∷ [])))
+put_stage (put.Refusing call hold bitmap value) = Holds call.node hold.locked (decided call hold None (knows ((bitmap_offset, bitmap) ∷ [])))
 
 abbrev pub del_stage : Del → Stage
 del_stage (del.Looking lookup) = lookup_stage lookup

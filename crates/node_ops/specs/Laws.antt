@@ -7,7 +7,7 @@ use Rattle.call_stages.specs.Stages.{Held, Holds, counted}
 use Rattle.call_stages.specs.Kinds.{Told, Step}
 use Rattle.node_ops.specs.declared.running.Running.{Running}
 use Rattle.node_ops.specs.RunningSteps.{running_asks, running_turned, Sound}
-use Rattle.node_ops.specs.Asked.{IsOf, IsOfAfter, IsAbout, name_asked, change_asked}
+use Rattle.node_ops.specs.Asked.{IsOf, IsOfAfter, IsAbout, op_in, name_asked, change_asked}
 use Rattle.node_ops.specs.CallStages.{stage_of, stage_after, reply_of, SoundAfter}
 
 -- a turn is a step of a kind, with the answer of the turn
@@ -36,3 +36,7 @@ HoldsOwnName = (op : Op) (running : Running) → IsOf op running → IsAbout (na
 abbrev pub PendingIsOwnChange : Type 0
 PendingIsOwnChange = (op : Op) (running : Running) (n w : ℕ) (h : Held) (change : Change) → IsOf op running → stage_of running ≡ Holds n w h →
     h.pending ≡ Some change → change_asked op ≡ Some change
+
+-- a call is of no other op than the one that its machine tells
+abbrev pub OpIsTold : Type 0
+OpIsTold = (op : Op) (running : Running) → IsOf op running → op_in running ≡ op

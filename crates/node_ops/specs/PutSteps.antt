@@ -37,19 +37,19 @@ put_call (Looking lookup value) = lookup.call
 put_call (Filling fill) = fill.call
 put_call (Replacing call hold bitmap hit value) = call
 put_call (Finishing finish) = finish.call
-put_call (Refusing call hold bitmap) = call
+put_call (Refusing call hold bitmap value) = call
 
 abbrev pub put_asks : Put → Action
 put_asks (Looking lookup value) = lookup_asks lookup
 put_asks (Filling fill) = fill_asks fill
 put_asks (Replacing call hold bitmap hit value) = Store (call_place call (slot_offset hit.slot 3)) value
 put_asks (Finishing finish) = finish_asks finish
-put_asks (Refusing call hold bitmap) = Store (call_place call 0) (hold.locked + 1)
+put_asks (Refusing call hold bitmap value) = Store (call_place call 0) (hold.locked + 1)
 
 -- no slot is clear
 abbrev pub put_full : Call → Hold → ℕ → Option Hit → ℕ → Put
 put_full call hold bitmap (Some hit) value = Replacing call hold bitmap hit value
-put_full call hold bitmap None value = Refusing call hold bitmap
+put_full call hold bitmap None value = Refusing call hold bitmap value
 
 -- the lowest clear slot takes the name, if there is one
 abbrev pub put_into : Call → Found → ℕ → Option ℕ → Put
@@ -92,7 +92,7 @@ put_turned (Looking lookup value) got = put_looked lookup.call value (lookup_tur
 put_turned (Filling fill) got = put_filled (fill_turned fill got)
 put_turned (Replacing call hold bitmap hit value) got = Go (Finishing (replaced call hold hit value))
 put_turned (Finishing finish) got = put_finished (finish_turned finish got)
-put_turned (Refusing call hold bitmap) got = Done (once.Again NoFree)
+put_turned (Refusing call hold bitmap value) got = Done (once.Again NoFree)
 
 -- no slot is clear, and the name is in this one
 pub record IsReplacing (of : Call) (hold : Hold) (bitmap : ℕ) (found : Hit) (number : ℕ) : Type 0 where
@@ -113,7 +113,7 @@ IsPut (Looking lookup value) = IsLookup lookup × (value < 2 ^ 64)
 IsPut (Filling fill) = IsFill fill
 IsPut (Replacing call hold bitmap hit value) = IsReplacing call hold bitmap hit value
 IsPut (Finishing finish) = IsFinish finish
-IsPut (Refusing call hold bitmap) = IsRefusing call hold bitmap
+IsPut (Refusing call hold bitmap value) = IsRefusing call hold bitmap
 
 abbrev pub put_takes : Put → ℕ → Type 0
 put_takes put got = IsPut put × Told (put_call put).view.layout (put_call put).view.generation (put_asks put) got
@@ -123,4 +123,4 @@ put_left (Looking lookup value) = lookup_left lookup + 57
 put_left (Filling fill) = fill_left fill + 18
 put_left (Replacing call hold bitmap hit value) = 19
 put_left (Finishing finish) = finish_left finish
-put_left (Refusing call hold bitmap) = 1
+put_left (Refusing call hold bitmap value) = 1

@@ -5,6 +5,7 @@ use crate::fence::Fence;
 use crate::finish::{Finish, FinishAt};
 use crate::lookup::{Found, Hit, Hold, Looked, Lookup};
 use call_stages::{Once, Placed};
+use cat_history::Op;
 use cat_key::Name;
 use data_node::without_live;
 use pm_words::offsets::node;
@@ -72,6 +73,30 @@ impl Del {
                 },
             },
         }
+    }
+}
+
+impl Del {
+    ghost use Rattle.std.specs.Prelude.{◌≡◌};
+    ghost use Rattle.node_ops.specs.DelSteps.{IsDel};
+    ghost use Rattle.node_ops.specs.Asked.{del_op};
+
+    /// The op that it is of.
+    pub(crate) fn op(&self) -> Op
+        requires { IsDel self.now }
+        ensures { result ≡ del_op self.now }
+    {
+        let call = match *self {
+            Del::Finishing { finish } => return finish.op(),
+            Del::Looking { lookup } => lookup.call,
+            Del::Clearing {
+                call,
+                hold: _,
+                bitmap: _,
+                hit: _,
+            } => call,
+        };
+        Op::Del { name: call.name() }
     }
 }
 

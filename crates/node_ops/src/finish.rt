@@ -4,7 +4,7 @@ use crate::call::{CLOCK, Call};
 use crate::fence::Fence;
 use crate::lookup::Hold;
 use call_stages::{Once, Placed};
-use cat_history::Change;
+use cat_history::{Change, Op};
 use pm_words::offsets::node;
 use pm_words::{Action, Machine, Turn};
 use version_lock::freed_of;
@@ -72,10 +72,11 @@ impl Machine for Finish {
 
 impl Finish {
     ghost use Rattle.std.specs.Prelude.{◌≡◌};
-    ghost use Rattle.call_stages.specs.Stages.{counted};
+    ghost use Rattle.call_stages.specs.Stages.{counted, placed_in};
     ghost use Rattle.node_ops.specs.Calls.{IsCall, name_in};
     ghost use Rattle.node_ops.specs.FinishSteps.{IsFinish, finishes_on};
     ghost use Rattle.node_ops.specs.CallStages.{change_of, finish_stage};
+    ghost use Rattle.node_ops.specs.Asked.{op_of_finish};
 
     /// It goes on there.
     fn goes_to(self, at: FinishAt) -> Turn<Finish, Once<Placed>>
@@ -93,6 +94,28 @@ impl Finish {
         match self.new {
             Some(value) => Change::Put { name, value },
             None => Change::Del { name },
+        }
+    }
+
+    /// The op that the write is of.
+    pub(crate) fn op(&self) -> Op
+        requires { IsCall self.now.call }
+        ensures { result ≡ op_of_finish self.now self.now.new }
+    {
+        let name = self.call.name();
+        match self.new {
+            Some(value) => Op::Put { name, value },
+            None => Op::Del { name },
+        }
+    }
+
+    /// The place that the write was given, if it has one.
+    pub(crate) fn place(&self) -> Option<u64>
+        ensures { result ≡ placed_in (finish_stage self.now) }
+    {
+        match self.at {
+            FinishAt::Unlock { place } => Some(place),
+            FinishAt::Fence { fence: _ } | FinishAt::Add => None,
         }
     }
 

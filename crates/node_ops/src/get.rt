@@ -40,6 +40,25 @@ impl Get {
     }
 }
 
+impl Get {
+    ghost use Rattle.std.specs.Prelude.{◌≡◌};
+    ghost use Rattle.node_ops.specs.GetSteps.{get_call};
+
+    /// What stays the same while it is made.
+    pub(crate) fn call(&self) -> Call
+        ensures { result ≡ get_call self.now }
+    {
+        match *self {
+            Get::Looking { lookup } => lookup.call,
+            Get::Unlocking {
+                call,
+                hold: _,
+                old: _,
+            } => call,
+        }
+    }
+}
+
 impl Machine for Get {
     ghost use Rattle.node_ops.specs.GetSteps.{IsGet, get_asks, get_turned, get_takes, get_left};
 

@@ -6,6 +6,7 @@ use crate::fill::{Fill, FillAt};
 use crate::finish::{Finish, FinishAt};
 use crate::lookup::{Found, Hit, Hold, Looked, Lookup};
 use call_stages::{Once, Placed};
+use cat_history::Op;
 use cat_key::{Name, WORDS};
 use data_node::clear_slot;
 use pm_words::offsets::node;
@@ -39,6 +40,7 @@ pub enum Put {
         call: Call,
         hold: Hold,
         bitmap: u64,
+        value: u64,
     },
 }
 
@@ -93,7 +95,47 @@ impl Put {
                 hit,
                 value,
             },
-            (None, None) => Put::Refusing { call, hold, bitmap },
+            (None, None) => Put::Refusing {
+                call,
+                hold,
+                bitmap,
+                value,
+            },
+        }
+    }
+}
+
+impl Put {
+    ghost use Rattle.std.specs.Prelude.{◌≡◌};
+    ghost use Rattle.node_ops.specs.PutSteps.{IsPut};
+    ghost use Rattle.node_ops.specs.Asked.{put_op};
+
+    /// The op that it is of.
+    pub(crate) fn op(&self) -> Op
+        requires { IsPut self.now }
+        ensures { result ≡ put_op self.now }
+    {
+        let (call, value) = match *self {
+            Put::Finishing { finish } => return finish.op(),
+            Put::Looking { lookup, value } => (lookup.call, value),
+            Put::Filling { fill } => (fill.call, fill.value),
+            Put::Replacing {
+                call,
+                hold: _,
+                bitmap: _,
+                hit: _,
+                value,
+            }
+            | Put::Refusing {
+                call,
+                hold: _,
+                bitmap: _,
+                value,
+            } => (call, value),
+        };
+        Op::Put {
+            name: call.name(),
+            value,
         }
     }
 }
@@ -129,6 +171,7 @@ impl Machine for Put {
                 call,
                 hold,
                 bitmap: _,
+                value: _,
             } => Action::Store(call.place(node::VERSION), freed_of(hold.locked)),
         }
     }
@@ -169,6 +212,7 @@ impl Machine for Put {
                 call: _,
                 hold: _,
                 bitmap: _,
+                value: _,
             } => Turn::Done(Once::Again(Again::NoFree)),
         }
     }

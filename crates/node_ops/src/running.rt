@@ -4,7 +4,7 @@ use crate::del::Del;
 use crate::get::Get;
 use crate::put::Put;
 use call_stages::{Once, Placed};
-use cat_history::Change;
+use cat_history::{Change, Op};
 use pm_words::{Action, Machine, Turn};
 
 /// Any call in flight.
@@ -58,9 +58,35 @@ impl Machine for Running {
 
 impl Running {
     ghost use Rattle.std.specs.Prelude.{◌≡◌};
-    ghost use Rattle.call_stages.specs.Stages.{counted};
+    ghost use Rattle.call_stages.specs.Stages.{counted, placed_in};
     ghost use Rattle.node_ops.specs.RunningSteps.{IsRunning};
     ghost use Rattle.node_ops.specs.CallStages.{stage_of};
+    ghost use Rattle.node_ops.specs.Asked.{op_in};
+
+    /// The op that the call is of.
+    pub fn op(&self) -> Op
+        requires { IsRunning self.now }
+        ensures { result ≡ op_in self.now }
+    {
+        match *self {
+            Running::Getting(get) => Op::Get {
+                name: get.call().name(),
+            },
+            Running::Putting(put) => put.op(),
+            Running::Deleting(del) => del.op(),
+        }
+    }
+
+    /// The place that its write was given, if it has one.
+    pub fn place(&self) -> Option<u64>
+        ensures { result ≡ placed_in (stage_of self.now) }
+    {
+        match *self {
+            Running::Putting(Put::Finishing { finish }) => finish.place(),
+            Running::Deleting(Del::Finishing { finish }) => finish.place(),
+            _ => None,
+        }
+    }
 
     /// The change that its next action counts in the clock, if it counts one.
     pub fn counts(&self) -> Option<Change>
