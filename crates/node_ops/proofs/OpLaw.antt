@@ -10,7 +10,7 @@ use Rattle.cat_history.specs.declared.op.Change.TheVariants as change
 use Rattle.data_node.specs.Bits.{lowest_clear}
 use Rattle.call_stages.specs.declared.once.Once.{Once}
 use Rattle.call_stages.specs.declared.once.Placed.{Placed}
-use Rattle.call_stages.specs.Stages.{Stage, Holds, counted, pending_in}
+use Rattle.call_stages.specs.Stages.{Stage, Holds, counted, pending_in, placed_in}
 use Rattle.call_stages.specs.Kinds.{Told}
 use Rattle.node_ops.specs.declared.call.Call.{Call}
 use Rattle.node_ops.specs.declared.lookup.Found.{Found}
@@ -285,10 +285,29 @@ pending_is_own (op.Del name) (Deleting (del.Finishing finish)) is =
     finish_pends (λ c. Some (change.Del name) ≡ Some c) finish finish.at
     (ap Some (sym (ap (λ (n : Option ℕ). change_of (name_in finish.call) n) is.1 ∙ ap (λ (n : List ℕ). change.Del n) is.0)))
 
+finish_unplaced : (finish : Finish) (at : FinishAt) → IfSome (finish_at_held finish at).pending (λ c. (finish_at_held finish at).placed ≡ None)
+finish_unplaced finish (finish_at.Fence fence) = refl
+finish_unplaced finish finish_at.Add = refl
+finish_unplaced finish (finish_at.Unlock place) = tt
+
+-- a call has its change pending or its place, not both
+pub pending_is_unplaced : (running : Running) → IfSome (pending_in (stage_of running)) (λ change. placed_in (stage_of running) ≡ None)
+pending_is_unplaced (Getting (get.Looking lookup)) = counts_nothing _ _ (lookup_pends lookup.call lookup.at)
+pending_is_unplaced (Getting (get.Unlocking call hold old)) = tt
+pending_is_unplaced (Putting (put.Looking lookup number)) = counts_nothing _ _ (lookup_pends lookup.call lookup.at)
+pending_is_unplaced (Putting (put.Filling fill)) = tt
+pending_is_unplaced (Putting (put.Replacing call hold bitmap hit number)) = tt
+pending_is_unplaced (Putting (put.Finishing finish)) = finish_unplaced finish finish.at
+pending_is_unplaced (Putting (put.Refusing call hold bitmap number)) = tt
+pending_is_unplaced (Deleting (del.Looking lookup)) = counts_nothing _ _ (lookup_pends lookup.call lookup.at)
+pending_is_unplaced (Deleting (del.Clearing call hold bitmap hit)) = tt
+pending_is_unplaced (Deleting (del.Finishing finish)) = finish_unplaced finish finish.at
+
 pub pends_own_change : PendingIsOwnChange
-pends_own_change op running n w h change is here pending =
-    subst (λ (o : Option Change). IfSome o (λ c. change_asked op ≡ Some c)) pending
-    (subst (λ (s : Stage). IfSome (pending_in s) (λ c. change_asked op ≡ Some c)) here (pending_is_own op running is))
+pends_own_change op running change is pending = (
+  subst (λ (o : Option Change). IfSome o (λ c. change_asked op ≡ Some c)) pending (pending_is_own op running is),
+  subst (λ (o : Option Change). IfSome o (λ c. placed_in (stage_of running) ≡ None)) pending (pending_is_unplaced running),
+)
 
 -- a call is of no other op than the one that its machine tells
 pub op_told : OpIsTold

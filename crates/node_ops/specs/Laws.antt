@@ -1,9 +1,9 @@
 -- What every turn of a sound call is and leaves. The index rests on these laws, and on nothing else of the machines.
-use Rattle.std.specs.Prelude.{◌≡◌, ℕ, Some, IfSome}
+use Rattle.std.specs.Prelude.{◌≡◌, ℕ, Some, None, IfSome}
 use Rattle.pm_words.specs.declared.layout.Layout.{Layout}
 use Rattle.cat_history.specs.declared.op.Op.{Op}
 use Rattle.cat_history.specs.declared.op.Change.{Change}
-use Rattle.call_stages.specs.Stages.{Held, Holds, counted}
+use Rattle.call_stages.specs.Stages.{counted, pending_in, placed_in}
 use Rattle.call_stages.specs.Kinds.{Told, Step}
 use Rattle.node_ops.specs.declared.running.Running.{Running}
 use Rattle.node_ops.specs.RunningSteps.{running_asks, running_turned, Sound}
@@ -32,10 +32,10 @@ CountsOwnChange = (op : Op) (running : Running) → IsOf op running → IfSome (
 abbrev pub HoldsOwnName : Type 0
 HoldsOwnName = (op : Op) (running : Running) → IsOf op running → IsAbout (name_asked op) (stage_of running)
 
--- and what it has pending, which a crash may find in the node already, is the change of the op
+-- and what it has pending, which a crash may find in the node already, is the change of the op, which has no place yet
 abbrev pub PendingIsOwnChange : Type 0
-PendingIsOwnChange = (op : Op) (running : Running) (n w : ℕ) (h : Held) (change : Change) → IsOf op running → stage_of running ≡ Holds n w h →
-    h.pending ≡ Some change → change_asked op ≡ Some change
+PendingIsOwnChange = (op : Op) (running : Running) (change : Change) → IsOf op running → pending_in (stage_of running) ≡ Some change →
+    (change_asked op ≡ Some change) × (placed_in (stage_of running) ≡ None)
 
 -- a call is of no other op than the one that its machine tells
 abbrev pub OpIsTold : Type 0
