@@ -27,10 +27,10 @@ fresh_is l layout one =
     let each : (P : Party → Type 0) → ((i : ℕ) → P (party_of (idle_entry i))) → Each P parties =
     (λ P idle i p at. let from = map_from party_of (idle_entries l.callers) i p at in
     subst P (ap party_of (sym (idle-each l.callers i from.0 from.1)) ∙ from.2) (idle i)) in
-    let rest = fresh_law l 1 parties layout one (record { least = omega arith; fits = omega arith }) (each (λ p. p.stage ≡ Idle) (λ i. refl)) (each (λ p. p.since ≤ 0) (λ i. omega arith)) in
+    let rest = fresh_law l parties layout one (each (λ p. p.stage ≡ Idle) (λ i. refl)) (each (λ p. p.since ≤ 0) (λ i. omega arith)) in
     record {
-      lawful = rest_law (fresh_world l 1 parties) rest;
+      lawful = rest_law (fresh_world l parties) rest;
       callers = idle-length l.callers;
-      entries = λ i entry at. subst (IsEntry l 1 i) (sym (idle-each l.callers i entry at)) (record { caller = refl; machine = tt });
+      entries = λ i entry at. subst (IsEntry l 1 i) (sym (idle-each l.callers i entry at)) (record { caller = refl; machine = tt; op = tt });
       names = λ name value e. absurd (let none : at (map_of []) name ≡ None = get-empty name_cmp name in let both = sym none ∙ e in cc);
     }

@@ -28,8 +28,8 @@ use Rattle.node_ops.specs.RunningSteps.{wrapped, running_call, running_asks, run
 use Rattle.node_ops.specs.CallStages.{stage_of, stage_after, reply_of, SoundAfter}
 use Rattle.node_ops.proofs.CallLaw.{turns_are_steps}
 use Rattle.node_ops.proofs.CallSound.{Stays, get_stays, put_stays, del_stays, turns_stay_sound}
-use Rattle.node_ops.proofs.OpLaw.{turns_keep_op}
-use Rattle.node_ops.specs.Asked.{IsOf, IsOfAfter}
+use Rattle.node_ops.proofs.OpLaw.{turns_keep_op, op_told}
+use Rattle.node_ops.specs.Asked.{IsOf, IsOfAfter, op_in}
 use Rattle.node_ops.specs.declared.call.Call.{Call}
 use Rattle.node_ops.specs.declared.get.Get.{Get}
 use Rattle.node_ops.specs.declared.put.Put.{Put}
@@ -106,9 +106,9 @@ after_party : (entry : Entry) (turn : Turn Running (Once Placed)) → moved_on (
 after_party entry (Go machine) = refl
 after_party entry (Done answer) = refl
 
-after_entry : (l : Layout) (g i : ℕ) (entry : Entry) (turn : Turn Running (Once Placed)) → entry.caller ≡ i → SoundAfter l g turn → IsEntry l g i (entry_after entry turn)
-after_entry l g i entry (Go machine) same sound = record { caller = same; machine = sound }
-after_entry l g i entry (Done answer) same sound = record { caller = same; machine = tt }
+after_entry : (l : Layout) (g i : ℕ) (entry : Entry) (op : Op) (turn : Turn Running (Once Placed)) → entry.caller ≡ i → SoundAfter l g turn → IsOfAfter op turn → IsEntry l g i (entry_after entry turn)
+after_entry l g i entry op (Go machine) same sound of = record { caller = same; machine = sound; op = subst (λ (o : Op). IsOf o machine) (sym (op_told op machine of)) of }
+after_entry l g i entry op (Done answer) same sound of = record { caller = same; machine = tt; op = tt }
 
 -- entries of which one is another
 set_entries : (l : Layout) (g : ℕ) (entries : List Entry) (i : ℕ) (now : Entry) → ((j : ℕ) (entry : Entry) → get_elem? entries j ≡ some entry → IsEntry l g j entry) → IsEntry l g i now
@@ -164,7 +164,8 @@ step_facts s i entry machine is there flies room =
       kept = λ spare. record {
         lawful = subst Lawful same law.kept;
         callers = length-set s.entries i (entry_after entry turn) ∙ is.callers;
-        entries = set_entries l g s.entries i (entry_after entry turn) is.entries (after_entry l g i entry turn own.caller (turns_stay_sound l g machine x sound act.told));
+        entries = set_entries l g s.entries i (entry_after entry turn) is.entries (after_entry l g i entry (op_in machine) turn own.caller (turns_stay_sound l g machine x sound act.told)
+            (turns_keep_op l g (op_in machine) machine x sound act.told (subst (λ (o : Option Running). IfSome o (λ m. IsOf (op_in m) m)) flies own.op)));
         names = longer_names (map_of s.base) s.history entry.caller entry.index (counted (stage_of machine)) is.names (counted_named l g (facts w) entry.caller entry.index entry.since (stage_of machine) known);
       };
       legal = λ spare. subst (λ (u : World). IsLegal l g (facts u) entry.caller entry.index entry.since (stage_of machine) (reply_of turn)) same
@@ -198,6 +199,11 @@ machine_begins s party (call.Put name value limit) here = record { layout = refl
 machine_begins s party (call.Get name) here = record { layout = refl; generation = refl; here = here }
 machine_begins s party (call.Del name limit) here = record { layout = refl; generation = refl; here = here }
 
+machine_op : (s : Index) (party : ℕ) (c : CoreCall) → IsOf (op_in (machine_of (view_of s party) c)) (machine_of (view_of s party) c)
+machine_op s party (call.Put name value limit) = (refl, refl)
+machine_op s party (call.Get name) = refl
+machine_op s party (call.Del name limit) = (refl, tt)
+
 machine_writes : (s : Index) (party : ℕ) (c : CoreCall) → owes (machine_of (view_of s party) c) ≡ writes_of c
 machine_writes s party (call.Put name value limit) = refl
 machine_writes s party (call.Get name) = refl
@@ -215,7 +221,7 @@ start_keeps s i entry c spare is there idle here =
     record {
       lawful = subst (λ (parties : List Party). Lawful (record { layout = s.layout; generation = s.generation; words = s.words; parties = parties; base = map_of s.base; history = s.history })) parties lawful;
       callers = length-set s.entries i now ∙ is.callers;
-      entries = set_entries s.layout s.generation s.entries i now is.entries (record { caller = (is.entries i entry there).caller; machine = machine_begins s i c here });
+      entries = set_entries s.layout s.generation s.entries i now is.entries (record { caller = (is.entries i entry there).caller; machine = machine_begins s i c here; op = machine_op s i c });
       names = is.names;
     }
 

@@ -16,6 +16,7 @@ use Rattle.node_ops.specs.declared.running.Running.{Running}
 use Rattle.node_ops.specs.declared.running.Running.TheVariants.{Getting, Putting, Deleting}
 use Rattle.node_ops.specs.CallStages.{stage_of}
 use Rattle.node_ops.specs.RunningSteps.{Sound}
+use Rattle.node_ops.specs.Asked.{IsOf, op_in}
 use Rattle.index_law.specs.Worlds.{Party}
 use Rattle.index_core.specs.declared.entry.Entry.{Entry}
 use Rattle.index_core.specs.declared.entry.CoreReply.TheVariants as reply
@@ -86,3 +87,4 @@ owed (entry ∷ entries) = machine_owes entry.machine + owed entries
 pub record IsEntry (l : Layout) (g : ℕ) (i : ℕ) (entry : Entry) : Type 0 where
   pub caller : entry.caller ≡ i
   pub machine : IfSome entry.machine (Sound l g)  -- its call is one of this index
+  pub op : IfSome entry.machine (λ machine. IsOf (op_in machine) machine)  -- and is made for one op

@@ -3,3 +3,4 @@ pub mod Entries
 pub mod Indexes
 pub mod Fresh
 pub mod Lone
+pub mod Crashes

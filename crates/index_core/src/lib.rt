@@ -5,9 +5,11 @@
 #![tactic(auto)]
 
 mod call;
+mod crash;
 mod entry;
 mod index;
 
+pub use crash::{Crashed, CutCall, Cuts};
 pub use entry::{CoreCall, CoreReply, Entry, InFlight, Stepped, Whole};
 pub use index::Core;
 
