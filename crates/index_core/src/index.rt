@@ -4,6 +4,8 @@ ghost use Rattle.index_law.specs.Worlds.{written};
 ghost use Rattle.index_core.specs.CoreCalls.{LimitFits, writes_of};
 ghost use Rattle.index_core.specs.Indexes.{IsInFlight, IsIndex, Starts, StepsTo};
 ghost use Rattle.index_core.specs.Fresh.{IsFreshIndex};
+ghost use Rattle.pm_words.specs.Places.{image_words};
+ghost use Rattle.index_core.specs.Crashes.{evicted_index};
 ghost use Rattle.index_core.specs.Lone.{IsQuiet, RunsAlone, locks_left};
 
 use crate::entry::{CoreCall, Entry, InFlight, Stepped, Whole, idle_entries};
@@ -104,6 +106,15 @@ impl Core {
         let (next, stepped) = entry.after(machine.resume(got));
         self.entries[at] = next;
         stepped
+    }
+
+    /// Makes an image word durable: its cached twin is copied to its durable one.
+    pub fn evict(&mut self, word: u64)
+        requires { word < image_words self.old.layout }
+        ensures evicted { self.new ≡ evicted_index self.old word }
+        ensures index { IsIndex self.new }
+    {
+        self.memory.evict(word);
     }
 
     /// Makes room for so many writes. On `NoMemory` nothing changes.
