@@ -1,7 +1,7 @@
 -- Lists of entries, read by their places.
 use Rattle.std.proofs.Common.{◌≡◌, ℕ, zero, suc, ◌+◌, ◌<◌, ◌⊎◌, inl, inr, ⊎_elim, true, false, is_some, List, [], ◌∷◌, ◌++◌, length, get_or, set, map, refl, sym, ap, ◌∙◌, arith}
 use Rattle.std.proofs.lemmas.List.{length-append}
-use Rattle.std.specs.Prelude.{Option, Some, None}
+use Rattle.std.specs.Prelude.{Option, Some, None, slice_get}
 use mathlib.Core.Option.{some, some-injective, some-ne-none}
 use lib.ListN.{get_elem?}
 use Rattle.index_core.specs.declared.entry.Entry.{Entry}
@@ -23,6 +23,15 @@ module _ {A : Type 0} where
   read_is [] i a b e d = absurd (some-ne-none a (sym e))
   read_is (x ∷ xs) zero a b e d = d ∙ some-injective x a e
   read_is (x ∷ xs) (suc i) a b e d = read_is xs i a b e d
+
+  -- and the other way about
+  pub there_at : (l : List A) (i : ℕ) (a : A) → i < length l → a ≡ get_or l i a → get_elem? l i ≡ some a
+  there_at l i a inside is = let there = there_is l i inside in there.1 ∙ ap some (sym (read_is l i there.0 a there.1 is))
+
+  pub got_there : (l : List A) (i : ℕ) (a : A) → get_elem? l i ≡ some a → slice_get l i ≡ Some a
+  got_there [] i a e = absurd (some-ne-none a (sym e))
+  got_there (x ∷ xs) zero a e = ap Some (some-injective x a e)
+  got_there (x ∷ xs) (suc i) a e = got_there xs i a e
 
   -- the last one stands at the length of those before it
   pub at_end : (l : List A) (a b : A) (i : ℕ) → get_elem? (l ++ a ∷ []) i ≡ some b → (get_elem? l i ≡ some b) ⊎ ((i ≡ length l) × (a ≡ b))

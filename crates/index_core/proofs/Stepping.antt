@@ -46,6 +46,7 @@ use Rattle.index_law.specs.Laws.{Allowed, ActionLaw, IsLegal, StepLaw}
 use Rattle.index_law.proofs.Actions.{action_law, zero_told}
 use Rattle.index_law.proofs.Own.{allow_law, sure_within}
 use Rattle.index_law.proofs.Law.{step_law}
+use Rattle.index_law.proofs.Maps.{changed_names}
 use Rattle.index_law.proofs.Starts.{start_law}
 use Rattle.index_law.proofs.Parties.{at_set}
 use Rattle.index_core.specs.declared.entry.Entry.{Entry}
@@ -70,20 +71,6 @@ counted_named l g f caller index since (Holds n w h) sure = at h.ready h.pending
     at : (ready : Bool) (p : Option Change) → IfSome p (λ c. name_of c ≡ h.name) → IfSome (elim ready [ true ↦ p | false ↦ None ]) (λ change. IsName (name_of change))
     at true p about = pending p about
     at false p about = tt
-
--- a map of names stays one
-changed_names : (m : Map) (change : Change) → ((name : List ℕ) (value : ℕ) → at m name ≡ Some value → IsName name) → IsName (name_of change)
-    → (name : List ℕ) (value : ℕ) → at (changed m change) name ≡ Some value → IsName name
-changed_names m (change.Put about number) names is name value e =
-    elim (same_name name about) [
-      | inl same ↦ subst IsName (sym same.0) is
-      | inr different ↦ names name value (sym (get-insert nat_list_cmp_total m about number name ∙ ap (λ b. cond b (Some number) (at m name)) different.1) ∙ e)
-    ]
-changed_names m (change.Del about) names is name value e =
-    elim (same_name name about) [
-      | inl same ↦ subst IsName (sym same.0) is
-      | inr different ↦ names name value (sym (get-remove nat_list_cmp_total m about name ∙ ap (λ b. cond b None (at m name)) different.1) ∙ e)
-    ]
 
 longer_names : (base : Map) (history : List Write) (caller index : ℕ) (change : Option Change) → ((name : List ℕ) (value : ℕ) → at (after_all base history) name ≡ Some value → IsName name)
     → IfSome change (λ c. IsName (name_of c)) → (name : List ℕ) (value : ℕ) → at (after_all base (history ++ written caller index change)) name ≡ Some value → IsName name

@@ -1,21 +1,26 @@
 -- What an eviction makes of the index, and what a crash leaves of it.
-use Rattle.std.specs.Prelude.{◌≡◌, ℕ, ◌^◌, List, [], ◌∷◌, ◌++◌, Option, Some, None}
+use Rattle.std.specs.Prelude.{◌≡◌, ℕ, ◌^◌, List, [], ◌∷◌, ◌++◌, Option, Some, None, IfSome, slice_get}
 use mathlib.Core.Option.{some}
 use lib.ListN.{get_elem?}
-use Rattle.pm_words.specs.Rows.{evicted}
+use Rattle.pm_words.specs.Images.{Row}
+use Rattle.pm_words.specs.Rows.{evicted, durable_row}
+use Rattle.cat_history.specs.Maps.{Map}
+use Rattle.cat_history.specs.CrashEnds.{IsCrashEnd}
 use Rattle.cat_history.specs.declared.op.Change.{Change}
 use Rattle.cat_history.specs.declared.op.Op.{Op}
 use Rattle.cat_history.specs.declared.op.Op.TheVariants as op
+use Rattle.sound_image.specs.Sound.{IsSound, IsMapOf}
 use Rattle.call_stages.specs.Stages.{placed_in}
 use Rattle.node_ops.specs.declared.running.Running.{Running}
-use Rattle.node_ops.specs.Asked.{op_in, change_asked}
-use Rattle.node_ops.specs.RunningSteps.{running_call}
+use Rattle.node_ops.specs.Asked.{op_in, name_asked, change_asked}
+use Rattle.node_ops.specs.RunningSteps.{IsRunning, running_call}
 use Rattle.node_ops.specs.CallStages.{stage_of}
 use Rattle.index_core.specs.declared.entry.CoreCall.{CoreCall}
 use Rattle.index_core.specs.declared.entry.CoreCall.TheVariants as call
 use Rattle.index_core.specs.declared.entry.Entry.{Entry}
 use Rattle.index_core.specs.declared.crash.CutCall.{CutCall}
-use Rattle.index_core.specs.Indexes.{Index}
+use Rattle.index_law.specs.Lawful.{HasWriteAt}
+use Rattle.index_core.specs.Indexes.{Index, map_of_index}
 
 -- The index once an image word is durable.
 abbrev pub evicted_index : Index → ℕ → Index
@@ -41,6 +46,18 @@ abbrev pub cut_call : ℕ → Option Running → Option CutCall
 cut_call party None = None
 cut_call party (Some machine) = Some (record { party = party; call = call_in machine; place = placed_in (stage_of machine) })
 
+abbrev pub cut_of : Option Entry → Option CutCall
+cut_of None = None
+cut_of (Some entry) = cut_call entry.caller entry.machine
+
+-- The call of the party at this place that a crash cuts off.
+abbrev pub cut_at : List Entry → ℕ → Option CutCall
+cut_at entries party = cut_of (slice_get entries party)
+
+-- Each call in flight is sound.
+abbrev pub AreRunning : List Entry → Type 0
+AreRunning entries = (i : ℕ) (entry : Entry) → get_elem? entries i ≡ some entry → IfSome entry.machine IsRunning
+
 -- The change of a write, as long as it has no place.
 abbrev pub unplaced : Option ℕ → Option Change → List Change
 unplaced (Some place) change = []
@@ -55,3 +72,16 @@ cut_change (Some machine) = unplaced (placed_in (stage_of machine)) (change_aske
 abbrev pub cut_changes : List Entry → List Change
 cut_changes [] = []
 cut_changes (entry ∷ entries) = cut_change entry.machine ++ cut_changes entries
+
+-- What a crash leaves: the durable words, which are a sound image, and the calls in flight.
+pub record IsCrash (s : Index) (image : Row) (cuts : List Entry) : Type 0 where
+  pub leaves : image ≡ record { layout = s.layout; words = durable_row s.layout s.words }
+  pub cut_off : cuts ≡ s.entries
+  pub sound : IsSound s.layout (durable_row s.layout s.words)
+  -- the map that the image keeps is the one after the whole history and after those of the unplaced writes that are found in it
+  pub end : Map
+  pub keeps : IsMapOf s.layout (durable_row s.layout s.words) end
+  pub ends : IsCrashEnd (map_of_index s) (cut_changes s.entries) end
+  -- a write that was cut off with a place stands there in the history
+  pub placed : (i place : ℕ) (entry : Entry) (machine : Running) → get_elem? s.entries i ≡ some entry → entry.machine ≡ Some machine →
+      placed_in (stage_of machine) ≡ Some place → HasWriteAt s.history entry.caller entry.index (name_asked (op_in machine)) place

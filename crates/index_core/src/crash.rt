@@ -1,14 +1,17 @@
-ghost use Rattle.std.specs.Prelude.{◌≡◌, ◌<◌, length, slice_index};
+//! What a crash leaves of an index.
+
+ghost use Rattle.std.specs.Prelude.{◌≡◌};
 
 use crate::entry::{CoreCall, Entry};
 use cat_history::Op;
 use node_ops::Running;
 use pm_words::Image;
+use std::marker::Model;
 
-/// The limit of a call that names none: no clock reaches it.
+/// The limit of a call that has none: no clock reaches it.
 const MOST_LIMIT: u64 = 1 << 62;
 
-/// What a crash leaves of an index.
+/// What a crash leaves: the image of the durable words, and the calls that were in flight.
 #[derive(Drop)]
 pub struct Crashed {
     pub image: Image,
@@ -30,11 +33,57 @@ pub struct CutCall {
     pub place: Option<u64>,
 }
 
+impl Model for Cuts {
+    ghost use Rattle.std.specs.Prelude.{List};
+    ghost use Rattle.index_core.specs.declared.entry.Entry.{Entry};
+    ghost use Rattle.index_core.specs.Crashes.{AreRunning};
+
+    ghost Value = { List Entry };
+
+    ghost view = { λ c. c.entries.items };
+
+    ghost invariant = { λ c. AreRunning c.entries.items };
+}
+
 impl Cuts {
+    ghost use Rattle.index_core.specs.Crashes.{AreRunning, cut_at};
+
     /// The calls in flight of these parties.
     pub(crate) fn of(entries: Vec<Entry>) -> Cuts
-        ensures { result.entries ≡ entries }
+        requires { AreRunning entries.items }
+        ensures { result ≡ entries.items }
     {
         Cuts { entries }
+    }
+
+    /// The call of this party that was cut off, if one was in flight.
+    pub fn get(&self, party: u64) -> Option<CutCall>
+        ensures { result ≡ cut_at self.now party }
+    {
+        let entry = self.entries.get(party as usize)?;
+        let machine = entry.machine?;
+        Some(CutCall {
+            party: entry.caller,
+            call: CoreCall::of(&machine),
+            place: machine.place(),
+        })
+    }
+}
+
+impl CoreCall {
+    ghost use Rattle.node_ops.specs.RunningSteps.{IsRunning};
+    ghost use Rattle.index_core.specs.Crashes.{call_in};
+
+    /// The call that a machine makes.
+    pub(crate) fn of(machine: &Running) -> CoreCall
+        requires { IsRunning machine.now }
+        ensures { result ≡ call_in machine.now }
+    {
+        let limit = machine.limit().unwrap_or(MOST_LIMIT);
+        match machine.op() {
+            Op::Put { name, value } => CoreCall::Put { name, value, limit },
+            Op::Get { name } => CoreCall::Get { name },
+            Op::Del { name } => CoreCall::Del { name, limit },
+        }
     }
 }

@@ -5,9 +5,10 @@ ghost use Rattle.index_core.specs.CoreCalls.{LimitFits, writes_of};
 ghost use Rattle.index_core.specs.Indexes.{IsInFlight, IsIndex, Starts, StepsTo};
 ghost use Rattle.index_core.specs.Fresh.{IsFreshIndex};
 ghost use Rattle.pm_words.specs.Places.{image_words};
-ghost use Rattle.index_core.specs.Crashes.{evicted_index};
+ghost use Rattle.index_core.specs.Crashes.{IsCrash, evicted_index};
 ghost use Rattle.index_core.specs.Lone.{IsQuiet, RunsAlone, locks_left};
 
+use crate::crash::{Crashed, Cuts};
 use crate::entry::{CoreCall, Entry, InFlight, Stepped, Whole, idle_entries};
 use cat_history::{Change, Listed, Write};
 use cat_key::Pair;
@@ -115,6 +116,17 @@ impl Core {
         ensures index { IsIndex self.new }
     {
         self.memory.evict(word);
+    }
+
+    /// What a crash leaves: a sound image of the durable words, which keeps the map after the whole history and after those
+    /// of the writes in flight that are found in it, and the calls that were in flight.
+    pub fn crash(self) -> Crashed
+        ensures { IsCrash self result.image result.cuts }
+    {
+        Crashed {
+            image: self.memory.crash(),
+            cuts: Cuts::of(self.entries),
+        }
     }
 
     /// Makes room for so many writes. On `NoMemory` nothing changes.

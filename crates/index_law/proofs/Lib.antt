@@ -15,3 +15,4 @@ pub mod Twins
 pub mod Backing
 pub mod Closer
 pub mod Evictions
+pub mod Crashes

@@ -1,5 +1,5 @@
 -- Maps after a change and after longer histories.
-use Rattle.std.proofs.Common.{◌≡◌, ◌≢◌, ℕ, zero, suc, ◌≤◌, Bool, true, false, cond, Option, Some, None, List, [], ◌∷◌, ◌++◌, length, refl, sym, ap, ◌∙◌, subst}
+use Rattle.std.proofs.Common.{◌≡◌, ◌≢◌, ℕ, zero, suc, ◌≤◌, Bool, true, false, cond, Option, Some, None, inl, inr, List, [], ◌∷◌, ◌++◌, length, refl, sym, ap, ◌∙◌, subst}
 use Rattle.std.specs.Prelude.{slice_get}
 use Rattle.std.specs.FinMap.{get-insert, get-remove, slice_cmp-IsAntisymmetric, nat_cmp-IsAntisymmetric}
 use Rattle.std.specs.Ordering.{eq_by_cmp, is_eq, nat_cmp}
@@ -14,7 +14,9 @@ use Rattle.cat_history.specs.Writes.{changed, name_of, after, after_all}
 use Rattle.cat_history.specs.declared.op.Change.{Change}
 use Rattle.cat_history.specs.declared.op.Change.TheVariants.{Put, Del}
 use Rattle.cat_history.specs.declared.op.Write.{Write}
+use Rattle.cat_key.specs.Names.{IsName}
 use Rattle.data_node.specs.Spots.{Spot, Means, Finds}
+use Rattle.data_node.proofs.SpotLemmas.{same_name}
 
 untied : (a b : List ℕ) → a ≢ b → eq_by_cmp (slice_cmp nat_cmp) a b ≡ false
 untied a b other =
@@ -66,3 +68,17 @@ means_alike slots range s m m' same means = record {
   tidy = means.tidy;
   agrees = λ name is inside. subst (Finds slots s name) (sym (same name inside)) (means.agrees name is inside);
 }
+
+-- a map of names stays one
+pub changed_names : (m : Map) (change : Change) → ((name : List ℕ) (value : ℕ) → at m name ≡ Some value → IsName name) → IsName (name_of change)
+    → (name : List ℕ) (value : ℕ) → at (changed m change) name ≡ Some value → IsName name
+changed_names m (Put about number) names is name value e =
+    elim (same_name name about) [
+      | inl same ↦ subst IsName (sym same.0) is
+      | inr different ↦ names name value (sym (get-insert nat_list_cmp_total m about number name ∙ ap (λ b. cond b (Some number) (at m name)) different.1) ∙ e)
+    ]
+changed_names m (Del about) names is name value e =
+    elim (same_name name about) [
+      | inl same ↦ subst IsName (sym same.0) is
+      | inr different ↦ names name value (sym (get-remove nat_list_cmp_total m about name ∙ ap (λ b. cond b None (at m name)) different.1) ∙ e)
+    ]

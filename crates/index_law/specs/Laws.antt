@@ -1,5 +1,5 @@
 -- The laws of a lawful index: which actions can be done, what a step and a start keep, and where it begins.
-use Rattle.std.specs.Prelude.{◌≡◌, ◌≢◌, ℕ, ◌+◌, ◌<◌, ◌≤◌, ◌^◌, true, List, [], length, Option, Some, None, IfSome}
+use Rattle.std.specs.Prelude.{◌≡◌, ◌≢◌, ℕ, ◌+◌, ◌<◌, ◌≤◌, ◌^◌, ◌⊎◌, true, List, [], length, Option, Some, None, IfSome}
 use Rattle.std.specs.FinMap.{empty}
 use mathlib.Core.Option.{some}
 use lib.ListN.{get_elem?}
@@ -11,17 +11,19 @@ use Rattle.pm_words.specs.declared.again.Again.TheVariants as again
 use Rattle.pm_words.specs.Layouts.{IsLayout}
 use Rattle.pm_words.specs.Images.{fresh_words}
 use Rattle.pm_words.specs.Places.{Cached, Durable, image_words}
-use Rattle.pm_words.specs.Rows.{IsRow, MayName, CanAct, acted, got, row_of}
+use Rattle.pm_words.specs.Rows.{IsRow, MayName, CanAct, acted, got, row_of, durable_row}
 use Rattle.version_lock.specs.Versions.{IsFree, IsWorn}
-use Rattle.cat_history.specs.Maps.{at}
-use Rattle.cat_history.specs.Writes.{after}
+use Rattle.cat_key.specs.Names.{IsName}
+use Rattle.cat_history.specs.Maps.{Map, at}
+use Rattle.cat_history.specs.Writes.{after, changed}
 use Rattle.cat_history.specs.declared.op.Change.{Change}
 use Rattle.data_node.specs.Slots.{AreAllLive}
 use Rattle.data_node.specs.Spots.{Means, bitmap_offset}
+use Rattle.sound_image.specs.Sound.{IsSound, IsMapOf}
 use Rattle.call_stages.specs.declared.once.Once.{Once}
 use Rattle.call_stages.specs.declared.once.Once.TheVariants as once
 use Rattle.call_stages.specs.declared.once.Placed.{Placed}
-use Rattle.call_stages.specs.Stages.{Held, Stage, Idle, Saw, Holds, counted}
+use Rattle.call_stages.specs.Stages.{Held, Stage, Idle, Saw, Holds, counted, pending_in}
 use Rattle.call_stages.specs.Kinds.{Step, Told, HasWordAt, clock_place, word_place, version_place}
 use Rattle.index_law.specs.Facts.{Facts, map_now, range_of, durable_spot}
 use Rattle.index_law.specs.Twins.{AreDurablyKnown, IsFront}
@@ -142,6 +144,24 @@ JoinKeeps = (w : World) (p : Party) → Lawful w → p.stage ≡ Idle → p.sinc
 -- Whatever word becomes durable, the index stays lawful.
 abbrev pub EvictKeeps : Type 0
 EvictKeeps = (w : World) (word : ℕ) → Lawful w → word < image_words w.layout → Lawful (evicted w word)
+
+-- Some party's call has this change pending.
+pub record HasPending (parties : List Party) (change : Change) : Type 0 where
+  pub place : ℕ
+  pub party : Party
+  pub there : get_elem? parties place ≡ some party
+  pub pending : pending_in party.stage ≡ Some change
+
+-- What a crash leaves: a sound image, which keeps the map as it is, or the map with the change that one call has pending.
+pub record CrashLaw (w : World) : Type 0 where
+  pub sound : IsSound w.layout (durable_row w.layout w.words)
+  pub end : Map
+  pub keeps : IsMapOf w.layout (durable_row w.layout w.words) end
+  pub left : (end ≡ map_now (facts w)) ⊎ ((change : Change) × HasPending w.parties change × (end ≡ changed (map_now (facts w)) change))
+
+-- At every moment a crash leaves that of a lawful index whose map has names alone.
+abbrev pub CrashLeavesSound : Type 0
+CrashLeavesSound = (w : World) → Lawful w → ((name : List ℕ) (value : ℕ) → at (map_now (facts w)) name ≡ Some value → IsName name) → CrashLaw w
 
 -- Nothing is in flight: no party relies on anything, each node is free, and each means the map.
 pub record IsAtRest (w : World) : Type 0 where

@@ -1,6 +1,6 @@
 //! The laws of a lawful index, each named by the contract of a function.
 
-ghost use Rattle.index_law.specs.Laws.{StepIsAllowed, AllowedMayName, AllowedCanAct, StepKeeps, StartKeeps, JoinKeeps, EvictKeeps, RestIsLawful, IdleIsAtRest, NextRoundIsAtRest, FreshIsAtRest};
+ghost use Rattle.index_law.specs.Laws.{StepIsAllowed, AllowedMayName, AllowedCanAct, StepKeeps, StartKeeps, JoinKeeps, EvictKeeps, CrashLeavesSound, RestIsLawful, IdleIsAtRest, NextRoundIsAtRest, FreshIsAtRest};
 
 /// A step, whatever number it is told, is by an action that its party may do.
 pub fn allow_law()
@@ -35,6 +35,11 @@ pub fn join_law()
 /// A word that becomes durable keeps the index lawful.
 pub fn evict_law()
     ensures { EvictKeeps }
+{}
+
+/// Whenever a crash comes, it leaves a sound image, which keeps the map, or the map with the change of one call in flight.
+pub fn crash_law()
+    ensures { CrashLeavesSound }
 {}
 
 /// An index in which nothing is in flight is lawful.

@@ -78,25 +78,36 @@ impl Del {
 
 impl Del {
     ghost use Rattle.std.specs.Prelude.{◌≡◌};
-    ghost use Rattle.node_ops.specs.DelSteps.{IsDel};
+    ghost use Rattle.node_ops.specs.DelSteps.{IsDel, del_call};
     ghost use Rattle.node_ops.specs.Asked.{del_op};
 
-    /// The op that it is of.
-    pub(crate) fn op(&self) -> Op
-        requires { IsDel self.now }
-        ensures { result ≡ del_op self.now }
+    /// What stays the same while it is made.
+    pub(crate) fn call(&self) -> Call
+        ensures { result ≡ del_call self.now }
     {
-        let call = match *self {
-            Del::Finishing { finish } => return finish.op(),
+        match *self {
             Del::Looking { lookup } => lookup.call,
+            Del::Finishing { finish } => finish.call,
             Del::Clearing {
                 call,
                 hold: _,
                 bitmap: _,
                 hit: _,
             } => call,
-        };
-        Op::Del { name: call.name() }
+        }
+    }
+
+    /// The op that it is of.
+    pub(crate) fn op(&self) -> Op
+        requires { IsDel self.now }
+        ensures { result ≡ del_op self.now }
+    {
+        if let Del::Finishing { finish } = *self {
+            return finish.op();
+        }
+        Op::Del {
+            name: self.call().name(),
+        }
     }
 }
 

@@ -107,34 +107,58 @@ impl Put {
 
 impl Put {
     ghost use Rattle.std.specs.Prelude.{◌≡◌};
-    ghost use Rattle.node_ops.specs.PutSteps.{IsPut};
+    ghost use Rattle.node_ops.specs.PutSteps.{IsPut, put_call};
     ghost use Rattle.node_ops.specs.Asked.{put_op};
+
+    /// What stays the same while it is made.
+    pub(crate) fn call(&self) -> Call
+        ensures { result ≡ put_call self.now }
+    {
+        match *self {
+            Put::Looking { lookup, value: _ } => lookup.call,
+            Put::Filling { fill } => fill.call,
+            Put::Finishing { finish } => finish.call,
+            Put::Replacing {
+                call,
+                hold: _,
+                bitmap: _,
+                hit: _,
+                value: _,
+            }
+            | Put::Refusing {
+                call,
+                hold: _,
+                bitmap: _,
+                value: _,
+            } => call,
+        }
+    }
 
     /// The op that it is of.
     pub(crate) fn op(&self) -> Op
         requires { IsPut self.now }
         ensures { result ≡ put_op self.now }
     {
-        let (call, value) = match *self {
+        let value = match *self {
             Put::Finishing { finish } => return finish.op(),
-            Put::Looking { lookup, value } => (lookup.call, value),
-            Put::Filling { fill } => (fill.call, fill.value),
+            Put::Looking { lookup: _, value } => value,
+            Put::Filling { fill } => fill.value,
             Put::Replacing {
-                call,
+                call: _,
                 hold: _,
                 bitmap: _,
                 hit: _,
                 value,
             }
             | Put::Refusing {
-                call,
+                call: _,
                 hold: _,
                 bitmap: _,
                 value,
-            } => (call, value),
+            } => value,
         };
         Op::Put {
-            name: call.name(),
+            name: self.call().name(),
             value,
         }
     }

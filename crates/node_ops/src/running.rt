@@ -59,9 +59,21 @@ impl Machine for Running {
 impl Running {
     ghost use Rattle.std.specs.Prelude.{◌≡◌};
     ghost use Rattle.call_stages.specs.Stages.{counted, placed_in};
-    ghost use Rattle.node_ops.specs.RunningSteps.{IsRunning};
+    ghost use Rattle.node_ops.specs.RunningSteps.{IsRunning, running_call};
     ghost use Rattle.node_ops.specs.CallStages.{stage_of};
     ghost use Rattle.node_ops.specs.Asked.{op_in};
+
+    /// The clock at which the call is refused, if there is one.
+    pub fn limit(&self) -> Option<u64>
+        ensures { result ≡ (running_call self.now).limit }
+    {
+        let call = match *self {
+            Running::Getting(get) => get.call(),
+            Running::Putting(put) => put.call(),
+            Running::Deleting(del) => del.call(),
+        };
+        call.limit
+    }
 
     /// The op that the call is of.
     pub fn op(&self) -> Op
