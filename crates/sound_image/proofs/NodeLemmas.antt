@@ -1,5 +1,5 @@
 -- The lowest offset at which a node breaks a rule, from the lowest slot that does; and the lowest word.
-use Rattle.std.proofs.Common.{◌≡◌, ℕ, ◌+◌, ◌*◌, ◌/◌, ◌<◌, ◌≤◌, ◌^◌, ◌==◌, ◌↔◌, List, Option, Some, None, inl, inr, refl, sym, ap, subst, ◌∙◌, arith}
+use Rattle.std.proofs.Common.{◌≡◌, ℕ, ◌+◌, ◌*◌, ◌/◌, ◌<◌, ◌≤◌, ◌==◌, ◌↔◌, List, Option, Some, None, inl, inr, refl, sym, ap, subst, ◌∙◌, arith}
 use Rattle.std.specs.Prelude.{not, IsTrue}
 use Rattle.std.proofs.lemmas.Bool.{cases_lt, cases_eq, eq-eqb, ne_eqb, false≢true}
 use Rattle.std.proofs.Math.Nat.{div-eq_of_lt, lt-div-mul-add}
@@ -7,10 +7,10 @@ use Rattle.cat_key.specs.Names.{IsName, words_of, fingerprint_of}
 use Rattle.cat_key.proofs.Packing.{words_tell_names}
 use Rattle.pm_words.specs.declared.layout.Layout.{Layout}
 use Rattle.pm_words.specs.Places.{Node, word_number}
-use Rattle.data_node.specs.Spots.{Spot, bitmap_offset, print_offset, slot_offset, IsLiveIn, name_words, print_in_spot}
+use Rattle.data_node.specs.Spots.{Spot, print_offset, slot_offset, IsLiveIn, name_words, print_in_spot}
 use Rattle.sound_image.specs.Lowest.{IsLowest, IsNumberOf}
 use Rattle.sound_image.specs.Nodes.{image_spot}
-use Rattle.sound_image.specs.Rules.{IsNameless, IsMisprinted, IsRepeated, BreaksNames, BreaksPrints, BreaksApart, BreaksInNode}
+use Rattle.sound_image.specs.Rules.{IsMisprinted, IsRepeated, BreaksPrints, BreaksApart, BreaksInNode}
 use Rattle.sound_image.proofs.LowestLemmas.{Moves, lowest-none, lowest-some}
 use Rattle.sound_image.proofs.WordLemmas.{node_number}
 
@@ -26,18 +26,6 @@ past_slots bitmap power positive =
           let bound : bitmap < bitmap / power * power + power = lt-div-mul-add positive in
           let rest : bitmap / power * power ≡ 0 = ap (λ q. q * power) none ∙ omega arith in
           omega arith
-
-pub bitmap_broken : (slots : ℕ) (s : Spot) → 2 ^ slots ≤ s bitmap_offset → IsLowest (BreaksNames slots s) (Some bitmap_offset)
-bitmap_broken slots s past = (inl (refl, past), in_front) where
-  in_front : (lower : ℕ) → lower < bitmap_offset → ¬ BreaksNames slots s lower
-  in_front lower below (inl bitmap) = omega (arith, bitmap.0)
-  in_front lower below (inr slot) = omega (arith, slot.1)
-
-pub names_move : (slots : ℕ) (s : Spot) → ¬ (2 ^ slots ≤ s bitmap_offset) → Moves (IsNameless slots s) (BreaksNames slots s) (λ slot. slot_offset slot 0)
-names_move slots s right = record { to = λ slot is. inr (slot, refl, is); from = from; rises = λ a b below. omega arith } where
-  from : (offset : ℕ) → BreaksNames slots s offset → (slot : ℕ) × IsNameless slots s slot × (slot_offset slot 0 ≡ offset)
-  from offset (inl bitmap) = absurd (right bitmap.1)
-  from offset (inr slot) = (slot.0, slot.2, sym slot.1)
 
 pub prints_move : (slots : ℕ) (s : Spot) → Moves (IsMisprinted slots s) (BreaksPrints slots s) print_offset
 prints_move slots s = record { to = λ slot is. (slot, refl, is); from = λ offset is. (is.0, is.2, sym is.1); rises = λ a b below. omega arith }

@@ -3,7 +3,7 @@
 ghost use Rattle.std.specs.Prelude.{◌≡◌, ◌≢◌, ℕ, ◌<◌, ◌↔◌, IsTrue, slice_index};
 ghost use Rattle.pm_words.specs.Places.{Word, word_at};
 ghost use Rattle.sound_image.specs.Lowest.{IsLowest, IsNumberOf};
-ghost use Rattle.sound_image.specs.Rules.{generation_in, IsSpare, IsLater, BreaksHeader, BreaksVersions};
+ghost use Rattle.sound_image.specs.Rules.{CountsOpenings, generation_in, IsSpare, IsLater, BreaksHeader, BreaksVersions};
 
 use pm_words::offsets::{header, node, root};
 use pm_words::{Image, LINE};
@@ -14,6 +14,13 @@ fn generation(image: &Image) -> u64
     ensures { result ≡ generation_in image.now.layout image.now.words }
 {
     image.word(header::GENERATION)
+}
+
+/// Whether a generation counts from 1 and fits into a version word.
+fn counts_openings(generation: u64) -> bool
+    ensures { IsTrue result ↔ CountsOpenings generation }
+{
+    1 <= generation && generation < GENERATION_LIMIT
 }
 
 /// The lowest spare word that is not 0.
@@ -32,8 +39,7 @@ fn used_spare(image: &Image) -> Option<u64>
 pub(crate) fn wrong_header(image: &Image) -> Option<u64>
     ensures { IsLowest (IsNumberOf image.now.layout (BreaksHeader image.now.layout image.now.words)) result }
 {
-    let generation = generation(image);
-    if generation < 1 || generation >= GENERATION_LIMIT {
+    if !counts_openings(generation(image)) {
         return Some(header::GENERATION);
     }
     used_spare(image)
