@@ -10,4 +10,6 @@ mod slots;
 
 pub use bits::{lowest_live, with_live, without_live};
 pub use node::Node;
-pub use slots::{MAX_SLOTS, PRINT_WORDS, candidates, clear_slot, print_in, with_print};
+pub use slots::{
+    MAX_SLOTS, PRINT_WORDS, candidates, clear_slot, is_live, print_at, print_in, with_print,
+};

@@ -1,6 +1,6 @@
 //! Bitmaps of live slots, and the words with the slots' fingerprints.
 
-ghost use Rattle.std.specs.Prelude.{◌≡◌, ◌≢◌, ◌⊎◌, ℕ, ◌%◌, ◌<◌, ◌≤◌, ◌↔◌, IsTrue, IsNone, Some, IfSome, slice_set};
+ghost use Rattle.std.specs.Prelude.{◌≡◌, ◌≢◌, ◌⊎◌, ℕ, ◌%◌, ◌<◌, ◌≤◌, ◌↔◌, IsTrue, IsNone, Some, IfSome, slice_index, slice_set};
 ghost use Rattle.std.specs.Int.{bit_at};
 ghost use Rattle.data_node.specs.Bits.{lowest_clear, printed, candidate_bits};
 ghost use Rattle.data_node.specs.Slots.{AreAllLive, IsLive, IsLowestClear, IsCandidate, prints_of, print_of};
@@ -17,7 +17,7 @@ pub(crate) const PRINTS_PER_WORD: u64 = 8;
 pub const PRINT_WORDS: usize = 8;
 
 /// Whether the slot is live.
-pub(crate) fn is_live(bitmap: u64, slot: u64) -> bool
+pub fn is_live(bitmap: u64, slot: u64) -> bool
     requires { slot < MAX_SLOTS }
     ensures { IsTrue result ↔ IsLive bitmap slot }
 {
@@ -54,7 +54,13 @@ pub fn print_in(prints: &[u64; PRINT_WORDS], slot: u64) -> u8
     requires { slot < MAX_SLOTS }
     ensures { result ≡ print_of prints.now slot }
 {
-    let word = prints[(slot / PRINTS_PER_WORD) as usize];
+    print_at(prints[(slot / PRINTS_PER_WORD) as usize], slot)
+}
+
+/// The fingerprint of a slot, in the word in which it stands.
+pub fn print_at(word: u64, slot: u64) -> u8
+    ensures { result ≡ slice_index (prints_of word) (slot % 8) }
+{
     word.to_le_bytes()[(slot % PRINTS_PER_WORD) as usize]
 }
 

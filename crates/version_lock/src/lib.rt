@@ -22,7 +22,7 @@ pub const GENERATION_LIMIT: u64 = 1 << 24;
 pub const LAST_COUNT: u64 = (1 << 39) - 1;
 
 /// The generation in a word.
-fn generation_in(word: u64) -> u64
+pub fn generation_in(word: u64) -> u64
     ensures { result ≡ generation_of word }
 {
     word / GENERATION_UNIT

@@ -1,0 +1,37 @@
+-- The lowest number of which something holds: how a loop finds it, and how it moves from slots to offsets and words.
+use Rattle.std.proofs.Common.{◌≡◌, ℕ, ◌+◌, ◌<◌, Option, Some, None, inl, inr, sym, subst, arith}
+use Rattle.std.proofs.lemmas.Bool.{cases_lt}
+use Rattle.sound_image.specs.Lowest.{IsLowest}
+
+-- P holds of none of the first so many numbers.
+abbrev pub NoneBelow : (ℕ → Type 0) → ℕ → Type 0
+NoneBelow P count = (number : ℕ) → number < count → ¬ P number
+
+pub none_below-next : (P : ℕ → Type 0) (count : ℕ) → NoneBelow P count → ¬ P count → NoneBelow P (count + 1)
+none_below-next P count none here number within holds =
+    elim (cases_lt number count) as (λ _. ⊥) [
+      | inl passed ↦ none number passed holds
+      | inr reached ↦ let last : number ≡ count = omega arith in here (subst P last holds)
+    ]
+
+-- where it holds of none but of the first so many, it holds of none
+pub none_at_all : (P : ℕ → Type 0) (count : ℕ) → ((number : ℕ) → P number → number < count) → NoneBelow P count → IsLowest P None
+none_at_all P count within none number holds = none number (within number holds) holds
+
+-- Q holds of the places of the numbers of which P holds, and of no other; and places rise with their numbers.
+pub record Moves (P Q : ℕ → Type 0) (place : ℕ → ℕ) : Type 0 where
+  pub to : (number : ℕ) → P number → Q (place number)
+  pub from : (there : ℕ) → Q there → (number : ℕ) × P number × (place number ≡ there)
+  pub rises : (number other : ℕ) → place number < place other → number < other
+
+pub lowest-none : (P Q : ℕ → Type 0) (place : ℕ → ℕ) (result : Option ℕ) → Moves P Q place → result ≡ None → IsLowest P None → IsLowest Q result
+lowest-none P Q place result moves is none = subst (IsLowest Q) (sym is) (λ there holds. let at = moves.from there holds in none at.0 at.1)
+
+pub lowest-some : (P Q : ℕ → Type 0) (place : ℕ → ℕ) (number result : ℕ) → Moves P Q place → result ≡ place number → IsLowest P (Some number) →
+    IsLowest Q (Some result)
+lowest-some P Q place number result moves is lowest = subst (λ n. IsLowest Q (Some n)) (sym is) (
+  moves.to number lowest.0,
+  λ there below holds.
+      let at = moves.from there holds in
+      lowest.1 at.0 (moves.rises at.0 number (subst (λ n. n < place number) (sym at.2) below)) at.1,
+)

@@ -1,0 +1,73 @@
+-- The lowest offset at which a node breaks a rule, from the lowest slot that does; and the lowest word.
+use Rattle.std.proofs.Common.{◌≡◌, ℕ, ◌+◌, ◌*◌, ◌/◌, ◌<◌, ◌≤◌, ◌==◌, ◌↔◌, List, Option, Some, None, inl, inr, refl, sym, ap, subst, ◌∙◌, arith}
+use Rattle.std.specs.Prelude.{not, IsTrue}
+use Rattle.std.proofs.lemmas.Bool.{cases_lt, cases_eq, eq-eqb, ne_eqb, false≢true}
+use Rattle.std.proofs.Math.Nat.{div-eq_of_lt, lt-div-mul-add}
+use Rattle.cat_key.specs.Names.{IsName, words_of, fingerprint_of}
+use Rattle.cat_key.proofs.Packing.{words_tell_names}
+use Rattle.pm_words.specs.declared.layout.Layout.{Layout}
+use Rattle.pm_words.specs.Places.{Node, word_number}
+use Rattle.data_node.specs.Spots.{Spot, print_offset, slot_offset, IsLiveIn, name_words, print_in_spot}
+use Rattle.sound_image.specs.Lowest.{IsLowest, IsNumberOf}
+use Rattle.sound_image.specs.Nodes.{image_spot}
+use Rattle.sound_image.specs.Rules.{IsMisprinted, IsRepeated, BreaksPrints, BreaksApart, BreaksInNode}
+use Rattle.sound_image.proofs.LowestLemmas.{Moves, lowest-none, lowest-some}
+use Rattle.sound_image.proofs.WordLemmas.{node_number}
+
+-- a bitmap has a bit from the slots on exactly where it is still something without the bits of the slots
+pub past_slots : (bitmap power : ℕ) → 0 < power → IsTrue (not (bitmap / power == 0)) ↔ (power ≤ bitmap)
+past_slots bitmap power positive =
+    elim (cases_lt bitmap power) as (λ _. IsTrue (not (bitmap / power == 0)) ↔ (power ≤ bitmap)) [
+      | inl below ↦ (λ yes. absurd (false≢true (sym (ap not (eq-eqb (bitmap / power) 0 (div-eq_of_lt below))) ∙ yes)), λ reached. absurd (omega arith))
+      | inr reached ↦ (λ _. reached, λ _. ap not (ne_eqb (bitmap / power) 0 (some reached)))
+    ] where
+      some : power ≤ bitmap → bitmap / power ≡ 0 → ⊥
+      some reached none =
+          let bound : bitmap < bitmap / power * power + power = lt-div-mul-add positive in
+          let rest : bitmap / power * power ≡ 0 = ap (λ q. q * power) none ∙ omega arith in
+          omega arith
+
+pub prints_move : (slots : ℕ) (s : Spot) → Moves (IsMisprinted slots s) (BreaksPrints slots s) print_offset
+prints_move slots s = record { to = λ slot is. (slot, refl, is); from = λ offset is. (is.0, is.2, sym is.1); rises = λ a b below. omega arith }
+
+pub apart_move : (slots : ℕ) (s : Spot) → Moves (IsRepeated slots s) (BreaksApart slots s) (λ slot. slot_offset slot 0)
+apart_move slots s = record { to = λ slot is. (slot, refl, is); from = λ offset is. (is.0, is.2, sym is.1); rises = λ a b below. omega arith }
+
+-- the offset at which node 0 breaks a rule, as a word: no other node is listed
+pub offsets_move : (l : Layout) (image : List ℕ) (P : ℕ → Spot → ℕ → Type 0) →
+    Moves (P l.slots (image_spot l image 0)) (IsNumberOf l (BreaksInNode l image P)) (λ offset. word_number l (Node 0 offset))
+offsets_move l image P = record {
+  to = λ offset breaks. record { word = Node 0 offset; numbered = refl; holds = record { node = 0; offset = offset; listed = refl; here = refl; breaks = breaks } };
+  from = λ there is.
+      let at = is.holds in (
+        at.offset,
+        subst (λ n. P l.slots (image_spot l image n) at.offset) at.listed at.breaks,
+        ap (λ n. word_number l (Node n at.offset)) (sym at.listed) ∙ sym (ap (word_number l) at.here) ∙ is.numbered,
+      );
+  rises = λ a b below. omega arith;
+}
+
+-- so what is known of node 0 is known of the image
+pub word_none : (l : Layout) (image : List ℕ) (P : ℕ → Spot → ℕ → Type 0) (result : Option ℕ) → result ≡ None → IsLowest (P l.slots (image_spot l image 0)) None →
+    IsLowest (IsNumberOf l (BreaksInNode l image P)) result
+word_none l image P result = lowest-none (P l.slots (image_spot l image 0)) (IsNumberOf l (BreaksInNode l image P)) (λ offset. word_number l (Node 0 offset)) result (offsets_move l image P)
+
+pub word_some : (l m : Layout) (image : List ℕ) (P : ℕ → Spot → ℕ → Type 0) (offset number : ℕ) → m ≡ l → number ≡ word_number m (Node 0 offset) →
+    IsLowest (P l.slots (image_spot l image 0)) (Some offset) → IsLowest (IsNumberOf l (BreaksInNode l image P)) (Some number)
+word_some l m image P offset number told is =
+    lowest-some (P l.slots (image_spot l image 0)) (IsNumberOf l (BreaksInNode l image P)) (λ o. word_number l (Node 0 o)) offset number (offsets_move l image P)
+    (node_number l m 0 offset number told is)
+
+-- a live slot that has a name is misprinted exactly where that name's fingerprint is another than the slot's
+pub misprinted_if : (slots : ℕ) (s : Spot) (slot : ℕ) (name : List ℕ) (mark print : ℕ) → slot < slots → IsLiveIn s slot → IsName name →
+    words_of name ≡ name_words s slot → mark ≡ fingerprint_of name → print ≡ print_in_spot s slot → IsTrue (not (mark == print)) ↔ IsMisprinted slots s slot
+misprinted_if slots s slot name mark print within live is_name stands of_name of_slot =
+    elim (cases_eq mark print) as (λ _. IsTrue (not (mark == print)) ↔ IsMisprinted slots s slot) [
+      | inl same ↦ (λ yes. absurd (false≢true (sym (ap not (eq-eqb mark print same)) ∙ yes)), λ is. absurd (is.other (sym of_slot ∙ sym same ∙ of_name ∙ ap fingerprint_of (one_name is))))
+      | inr other ↦ (
+        λ _. record { within = within; live = live; name = name; is_name = is_name; stands = stands; other = λ same. other (of_name ∙ sym same ∙ sym of_slot) },
+        λ _. ap not (ne_eqb mark print other),
+      )
+    ] where
+      one_name : (is : IsMisprinted slots s slot) → name ≡ is.name
+      one_name is = words_tell_names name is.name is_name is.is_name (stands ∙ sym is.stands)

@@ -1,0 +1,5 @@
+pub mod Lowest
+pub mod Nodes
+pub mod Rules
+pub mod Sound
+pub mod Laws

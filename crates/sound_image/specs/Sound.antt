@@ -1,0 +1,33 @@
+-- Which images are sound, which word of another is the first that breaks a rule, and which map a sound one keeps.
+use Rattle.std.specs.Prelude.{◌≡◌, ℕ, ◌<◌, List, Some}
+use Rattle.pm_words.specs.declared.layout.Layout.{Layout}
+use Rattle.pm_words.specs.Places.{Word}
+use Rattle.cat_key.specs.Names.{IsName}
+use Rattle.cat_history.specs.Maps.{Map, at}
+use Rattle.data_node.specs.Spots.{Means}
+use Rattle.sound_image.specs.Lowest.{IsLowest, IsNumberOf}
+use Rattle.sound_image.specs.Nodes.{image_spot, IsListed, range_in}
+use Rattle.sound_image.specs.Rules.{BreaksHeader, BreaksVersions, BreaksNames, BreaksPrints, BreaksApart, BreaksInNode}
+use Rattle.sound_image.specs.declared.broken.Broken.{Broken}
+
+-- The image breaks the rule of this number at this word.
+pub data Breaks (l : Layout) (image : List ℕ) : ℕ → Word → Type 0 where
+  in_header : {w : Word} → BreaksHeader l image w → Breaks l image 1 w
+  in_versions : {w : Word} → BreaksVersions l image w → Breaks l image 2 w
+  in_names : {w : Word} → BreaksInNode l image BreaksNames w → Breaks l image 6 w
+  in_prints : {w : Word} → BreaksInNode l image BreaksPrints w → Breaks l image 7 w
+  in_apart : {w : Word} → BreaksInNode l image BreaksApart w → Breaks l image 8 w
+
+-- It breaks no rule at any word.
+abbrev pub IsSound : Layout → List ℕ → Type 0
+IsSound l image = (rule : ℕ) (w : Word) → ¬ Breaks l image rule w
+
+-- It breaks this rule and no lower one, and breaks it at this word and at no lower one.
+pub record IsFirstBroken (l : Layout) (image : List ℕ) (broken : Broken) : Type 0 where
+  pub no_lower_rule : (rule : ℕ) (w : Word) → rule < broken.rule → ¬ Breaks l image rule w
+  pub lowest : IsLowest (IsNumberOf l (Breaks l image broken.rule)) (Some broken.word)
+
+-- Each listed node has, of the names that belong there, what the map has; and the map has names alone.
+pub record IsMapOf (l : Layout) (image : List ℕ) (m : Map) : Type 0 where
+  pub means : (n : ℕ) → IsListed l image n → Means l.slots (range_in l image n) (image_spot l image n) m
+  pub names : (name : List ℕ) (value : ℕ) → at m name ≡ Some value → IsName name

@@ -1,0 +1,75 @@
+//! The rules on the header, and on the version words that it bounds.
+
+ghost use Rattle.std.specs.Prelude.{◌≡◌, ◌≢◌, ℕ, ◌<◌, ◌↔◌, IsTrue, slice_index};
+ghost use Rattle.pm_words.specs.Places.{Word, word_at};
+ghost use Rattle.sound_image.specs.Lowest.{IsLowest, IsNumberOf};
+ghost use Rattle.sound_image.specs.Rules.{CountsOpenings, generation_in, IsSpare, IsLater, BreaksHeader, BreaksVersions};
+
+use pm_words::offsets::{header, node, root};
+use pm_words::{Image, LINE};
+use version_lock::GENERATION_LIMIT;
+
+/// The generation of the header.
+fn generation(image: &Image) -> u64
+    ensures { result ≡ generation_in image.now.layout image.now.words }
+{
+    image.word(header::GENERATION)
+}
+
+/// Whether a generation counts from 1 and fits into a version word.
+fn counts_openings(generation: u64) -> bool
+    ensures { IsTrue result ↔ CountsOpenings generation }
+{
+    1 <= generation && generation < GENERATION_LIMIT
+}
+
+/// The lowest spare word that is not 0.
+fn used_spare(image: &Image) -> Option<u64>
+    ensures { IsLowest (IsNumberOf image.now.layout (λ w. IsSpare w × (word_at image.now.layout image.now.words w ≢ 0))) result }
+{
+    for word in header::GENERATION + 1..2 * LINE {
+        if word != LINE + root::REFERENCE && image.word(word) != 0 {
+            return Some(word);
+        }
+    }
+    None
+}
+
+/// The lowest word that breaks rule 1.
+pub(crate) fn wrong_header(image: &Image) -> Option<u64>
+    ensures { IsLowest (IsNumberOf image.now.layout (BreaksHeader image.now.layout image.now.words)) result }
+{
+    if !counts_openings(generation(image)) {
+        return Some(header::GENERATION);
+    }
+    used_spare(image)
+}
+
+/// Whether the node's version word is of a later generation than the header.
+fn is_later(image: &Image, node: u64) -> bool
+    requires { node < image.now.layout.nodes }
+    ensures { IsTrue result ↔ IsLater image.now.layout image.now.words node }
+{
+    let version = image.word(image.layout().node_word(node, node::VERSION));
+    version_lock::generation_in(version) > generation(image)
+}
+
+/// The lowest node whose version word is of a later generation.
+fn later_node(image: &Image) -> Option<u64>
+    ensures { IsLowest (IsLater image.now.layout image.now.words) result }
+{
+    for node in 0..image.layout().nodes() {
+        if is_later(image, node) {
+            return Some(node);
+        }
+    }
+    None
+}
+
+/// The lowest word that breaks rule 2.
+pub(crate) fn wrong_version(image: &Image) -> Option<u64>
+    ensures { IsLowest (IsNumberOf image.now.layout (BreaksVersions image.now.layout image.now.words)) result }
+{
+    let node = later_node(image)?;
+    Some(image.layout().node_word(node, node::VERSION))
+}

@@ -1,0 +1,17 @@
+//! What a sound image of the index is, which map it keeps, and the program that finds where an image is not sound.
+//!
+//! An image is sound where it breaks none of the rules of `specs/Rules`. Whatever moment a crash comes at, it leaves a
+//! sound image; so one that breaks a rule was damaged otherwise, and is not opened.
+#![tactic(auto)]
+
+mod broken;
+mod header;
+mod laws;
+mod listed;
+mod node;
+
+pub use broken::{Broken, first_broken};
+pub use laws::{one_map_law, tidy_law};
+
+#[cfg(test)]
+mod tests;
