@@ -1,4 +1,5 @@
 pub mod Commands
+pub mod CoreMaps
 pub mod LoneRoundSteps
 pub mod Played
 pub mod Refusals

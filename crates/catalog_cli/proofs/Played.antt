@@ -70,9 +70,9 @@ all-played room base end all plans i reports told on done same is =
     subst (λ (ps : List RoundPlan). ArePlayedRounds room base ps told) whole
     (subst (λ (rs : List RoundReport). ArePlayedRounds room base (take i all ++ []) rs) each (on.goes [] [] tt))
 
--- each plan of a script's plans has calls of one caller
-pub caller-of-plan : (bytes : List ℕ) (plans all : List RoundPlan) (i : ℕ) (plan : RoundPlan) → IsScript bytes plans → all ≡ plans → i < length all →
+-- each of the plans, as a loop over them comes to it, has calls of one caller
+pub caller-of-plan : (plans all : List RoundPlan) (i : ℕ) (plan : RoundPlan) → All (λ (p : RoundPlan). AreOfOneCaller p.ops) plans → all ≡ plans → i < length all →
     plan ≡ get_or all i plan → AreOfOneCaller plan.ops
-caller-of-plan bytes plans all i plan script same less is =
-    let each : All (λ (p : RoundPlan). AreOfOneCaller p.ops) all = subst (λ (ps : List RoundPlan). All (λ (p : RoundPlan). AreOfOneCaller p.ops) ps) (sym same) (script-of-one-caller bytes plans script) in
+caller-of-plan plans all i plan callers same less is =
+    let each : All (λ (p : RoundPlan). AreOfOneCaller p.ops) all = subst (λ (ps : List RoundPlan). All (λ (p : RoundPlan). AreOfOneCaller p.ops) ps) (sym same) callers in
     subst (λ (p : RoundPlan). AreOfOneCaller p.ops) (sym is) (each i plan less)

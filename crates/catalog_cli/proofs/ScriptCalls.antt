@@ -1,11 +1,12 @@
 -- How many calls a script has.
-use Rattle.std.proofs.Common.{◌≡◌, ℕ, suc, ◌+◌, ◌<◌, ◌≤◌, Bool, true, false, cond, eqb, List, [], ◌∷◌, ◌++◌, length, get_or, All, refl, sym, ap, subst, arith, length-append}
+use Rattle.std.proofs.Common.{◌≡◌, ℕ, suc, ◌+◌, ◌<◌, ◌≤◌, Bool, true, false, cond, eqb, List, [], ◌∷◌, ◌++◌, length, get_or, drop, refl, sym, ap, ◌∙◌, arith, length-append}
 use Rattle.std.specs.List.{AllZip}
 use Rattle.std.proofs.lemmas.Bool.{true≢false}
-use Rattle.std.proofs.lemmas.List.Elements.{All-nil, All-cons}
+use Rattle.std.proofs.lemmas.List.Sums.{sum_by-cons, sum_by-drop_more}
 use Rattle.cat_history.specs.declared.op.CallerOp.{CallerOp}
 use Rattle.cat_text.specs.Scripts.{IsCallLine, IsScript, lines_after, lines_of}
 use Rattle.cat_text.specs.declared.script.RoundPlan.{RoundPlan}
+use Rattle.catalog_cli.specs.LoneCalls.{calls_in}
 
 one-line-at-most : (line : List ℕ) (b : Bool) → eqb (length line) 0 ≡ b → length (cond b [] (line ∷ [])) ≤ length line
 one-line-at-most line true is = omega arith
@@ -27,12 +28,15 @@ call-for-each-line [] (a ∷ asked) zip = absurd zip
 call-for-each-line (line ∷ lines) [] zip = absurd zip
 call-for-each-line (line ∷ lines) (a ∷ asked) zip = ap suc (call-for-each-line lines asked zip.1)
 
--- each round of a script has no more calls than the script has bytes
-pub calls-of-plan : (bytes : List ℕ) (plans all : List RoundPlan) (i : ℕ) (plan : RoundPlan) → IsScript bytes plans → all ≡ plans → i < length all →
-    plan ≡ get_or all i plan → length plan.ops ≤ length bytes
-calls-of-plan bytes plans all i plan script same less is =
-    let one : length script.0 ≤ length bytes = omega (arith, lines-fit [] bytes, call-for-each-line (lines_of bytes) script.0 script.2) in
-    let fits : List RoundPlan → Type 0 = All (λ (p : RoundPlan). length p.ops ≤ length bytes) in
-    let each : fits all = subst fits (sym same) (subst fits (sym script.1)
-    (All-cons (λ (p : RoundPlan). length p.ops ≤ length bytes) (record { ops = script.0 }) [] one (All-nil (λ (p : RoundPlan). length p.ops ≤ length bytes)))) in
-    subst (λ (p : RoundPlan). length p.ops ≤ length bytes) (sym is) (each i plan less)
+-- the rounds of a script have no more calls than the script has bytes
+pub calls-of-script : (bytes : List ℕ) (plans : List RoundPlan) → IsScript bytes plans → calls_in plans ≤ length bytes
+calls-of-script bytes plans script =
+    let round : RoundPlan = record { ops = script.0 } in
+    let one : calls_in plans ≡ length script.0 + calls_in [] = ap calls_in script.1 ∙ sum_by-cons (λ (p : RoundPlan). length p.ops) round [] in
+    omega (arith, one, lines-fit [] bytes, call-for-each-line (lines_of bytes) script.0 script.2)
+
+-- one round fewer is to come
+pub calls-to-come : (plans : List RoundPlan) (i : ℕ) (plan : RoundPlan) → i < length plans → plan ≡ get_or plans i plan →
+    calls_in (drop i plans) ≡ length plan.ops + calls_in (drop (i + 1) plans)
+calls-to-come plans i plan less is =
+    sum_by-drop_more (λ (p : RoundPlan). length p.ops) plans i plan less ∙ ap (λ (p : RoundPlan). length p.ops + calls_in (drop (i + 1) plans)) (sym is)

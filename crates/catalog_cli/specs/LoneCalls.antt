@@ -1,15 +1,21 @@
 -- The calls of a round that one caller makes.
-use Rattle.std.specs.Prelude.{◌≡◌, ℕ, List, All}
+use Rattle.std.specs.Prelude.{◌≡◌, ℕ, List, All, length}
+use Rattle.std.specs.List.{sum_by}
 use Rattle.cat_history.specs.Maps.{Map}
 use Rattle.cat_history.specs.Writes.{after_all}
 use Rattle.cat_history.specs.LoneRounds.{write_of}
 use Rattle.cat_history.specs.declared.op.CallerOp.{CallerOp}
 use Rattle.cat_history.specs.declared.op.Op.{Op}
 use Rattle.cat_history.specs.declared.record.Reply.{Reply}
+use Rattle.cat_text.specs.declared.script.RoundPlan.{RoundPlan}
 
 -- Some caller makes all the calls.
 abbrev pub AreOfOneCaller : List CallerOp → Type 0
 AreOfOneCaller asked = (caller : ℕ) × All (λ a. a.caller ≡ caller) asked
+
+-- How many calls the rounds have in all.
+abbrev pub calls_in : List RoundPlan → ℕ
+calls_in plans = sum_by (λ plan. length plan.ops) plans
 
 -- The map is what a call left that was answered so, whoever made it.
 abbrev pub IsLeftBy : Map → Op → Reply → Map → Type 0

@@ -9,13 +9,12 @@ ghost use Rattle.pm_words.specs.Layouts.{IsLayout};
 ghost use Rattle.pm_words.specs.declared.layout.Layout.{Layout};
 ghost use Rattle.catalog_cli.specs.Headline.{IsPlayCommand, AreBytesLeft, ArePlayedRounds, IsReportOf, LeavesSink, HasForeignLine, IsRefusal};
 
-use crate::round::run_lone_round;
+use crate::play::play;
 use crate::status::{Status, Verb};
 use cat_text::{
-    MOST_BYTES, NoMemory, Report, RoundReport, Script, ScriptFault, Sink, Source, WriteFault,
-    print_report, read_number, read_script, read_whole, write_whole,
+    MOST_BYTES, ScriptFault, Sink, Source, WriteFault, print_report, read_number, read_script,
+    read_whole, write_whole,
 };
-use data_node::Node;
 use pm_words::Layout;
 use std::alloc::Global;
 
@@ -82,7 +81,8 @@ fn asked_layout(words: &[String]) -> Option<Layout>
 
 /// Reads the script, plays it on a catalogue of this layout, and makes its report.
 fn report_of<S: Source>(alloc: Global, layout: &Layout, script: &mut S) -> Result<Vec<u8>, Status>
-    requires { IsLayout layout.now }
+    requires layout { IsLayout layout.now }
+    requires one_node { layout.now.nodes ≡ 1 }
     ensures report { IfOk result (λ text. (bytes : List ℕ) × AreBytesLeft (S.left script.old) bytes × IsReportOf layout.now.slots bytes text.items) }
     ensures read_to_end { OnOk result (IfSome (S.left script.old) (λ _. S.left script.new ≡ Some [])) }
     ensures refusal { IfErr result (λ status. IsRefusal MOST_BYTES status (S.left script.old) (S.faults script.old) (S.faults script.new)) }
@@ -92,18 +92,4 @@ fn report_of<S: Source>(alloc: Global, layout: &Layout, script: &mut S) -> Resul
     let report = play(alloc, layout, &plans)?;
     let text = print_report(alloc, &report)?;
     Ok(text)
-}
-
-/// Plays the rounds of a script, one after another, from an empty catalogue of this layout.
-fn play(alloc: Global, layout: &Layout, plans: &Script) -> Result<Report, NoMemory>
-    requires layout { IsLayout layout.now }
-    requires script { (bytes : List ℕ) × IsScript bytes plans.now × (length bytes ≤ MOST_BYTES) }
-    ensures { IfOk result (ArePlayedRounds layout.now.slots empty plans.now) }
-{
-    let mut node = Node::new(layout.slots());
-    let mut rounds = Vec::with_capacity(alloc, plans.as_slice().len())?;
-    for plan in plans.as_slice() {
-        rounds.push(run_lone_round(alloc, &mut node, plan)?)?;
-    }
-    Ok(Report::of(rounds))
 }

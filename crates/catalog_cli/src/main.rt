@@ -2,6 +2,8 @@
 #![tactic(auto)]
 
 mod catalog;
+mod core_map;
+mod play;
 mod round;
 mod status;
 #[cfg(test)]

@@ -1,14 +1,18 @@
 //! The top call on whole scripts, over a source and a sink in memory.
-ghost use Rattle.std.specs.Prelude.{◌≤◌, IfOk, length};
+ghost use Rattle.std.specs.Prelude.{◌≡◌, ◌<◌, ◌≤◌, IfOk, length};
 ghost use Rattle.catalog_cli.specs.LoneCalls.{AreOfOneCaller};
 
 use super::*;
+use crate::core_map::CoreMap;
 use crate::round::run_lone_round;
 use cat_history::{CallerOp, Listed, NameMap, Op, PlainMap};
 use cat_key::Name;
 use cat_text::{FaultPlan, MemorySink, MemorySource, Report, RoundPlan, ScriptFault, print_report};
 use data_node::Node;
+use pm_words::{Layout, Steps};
 use std::alloc::{AllocError, Global};
+use std::marker::Brand;
+use std::sync::ledger::{Blank, Ledger};
 use std::test::Fail;
 
 const PLAY: [&str; 4] = ["play", "1", "64", "1"];
@@ -290,15 +294,30 @@ fn report_on<M: NameMap>(
     print_report(alloc, &Report::of(rounds))
 }
 
+/// The printed report of a round on a core of 64 slots.
+fn report_on_core<L: Ledger>(alloc: Global, plan: &RoundPlan, blank: Blank) -> Result<Vec<u8>, Fail>
+    requires caller { AreOfOneCaller plan.now.ops }
+    requires calls { length plan.now.ops ≤ 300 }
+    requires name { blank.name ≡ L.name }
+    requires parts { (blank.parts ≡ L.parts) × (0 < L.parts) }
+{
+    let (book, share) = blank.open::<L>();
+    let steps = Steps::new(book, share);
+    let mut map = CoreMap::new(alloc, Layout::new(1, 64, 1)?, 300, steps)?;
+    Ok(report_on(alloc, &mut map, plan)?)
+}
+
 #[test]
-fn a_node_answers_as_the_plain_map(rt: HostRuntime) -> Result<(), Fail> {
+fn the_core_and_a_node_answer_as_the_plain_map(rt: HostRuntime) -> Result<(), Fail> {
     for seed in 1u32..=20 {
         let plan = drawn_plan(rt.alloc(), seed)?;
         let mut plain = PlainMap::new(rt.alloc(), 64)?;
         let mut node = Node::new(64);
         let wanted = report_on(rt.alloc(), &mut plain, &plan)?;
-        let told = report_on(rt.alloc(), &mut node, &plan)?;
-        assert_eq!(rt; told.as_slice(), wanted.as_slice(), "seed {seed}");
+        let on_node = report_on(rt.alloc(), &mut node, &plan)?;
+        let on_core = report_on_core::<Brand>(rt.alloc(), &plan, Blank::new(1))?;
+        assert_eq!(rt; on_node.as_slice(), wanted.as_slice(), "node, seed {seed}");
+        assert_eq!(rt; on_core.as_slice(), wanted.as_slice(), "core, seed {seed}");
     }
     Ok(())
 }

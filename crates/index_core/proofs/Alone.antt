@@ -136,6 +136,12 @@ started_parties s0 i e c n quiet there j p at =
 one_node : (s : Index) → IsIndex s → 0 < s.layout.nodes
 one_node s is = let one = is.lawful.one_node in omega arith
 
+-- with no call in flight, the map has no more names than its node has slots
+pub names_in_slots : (s : Index) → IsIndex s → IsQuiet s → len (map_of_index s) ≤ s.layout.slots
+names_in_slots s is quiet =
+    let rest = idle_law (world s) is.lawful (quiet_parties s quiet) in
+    names_fit s.layout.slots _ (map_of_index s) (rest.means 0 (one_node s is)) is.names
+
 pub lone_start : (s0 s : Index) (i : ℕ) (c : CoreCall) → IsQuiet s0 → Starts s0 i c s → s.spare + writes_of c ≡ s0.spare → IsIndex s → Lone s0 s i c
 lone_start s0 s i c quiet t spare is =
     let is' : IsIndex (started_index s0 i t.entry c s.spare) = subst IsIndex t.is is in
@@ -313,8 +319,7 @@ module _ (s0 s s' : Index) (i : ℕ) (c : CoreCall) (result : Stepped) (o : Lone
   lone_ends answer answered =
       let calls = o.entry.calls in
       let done = done_of (running_turned o.machine x) answer (sym own.comes_to ∙ answered) in
-      let rest = idle_law (world s') is'.lawful (quiet_parties s' (lone_quiet answer answered)) in
-      let few : len (map_of_index s') ≤ s'.layout.slots = names_fit s'.layout.slots _ (map_of_index s') (rest.means 0 (one_node s' is')) is'.names in
+      let few : len (map_of_index s') ≤ s'.layout.slots = names_in_slots s' is' (lone_quiet answer answered) in
       let map_is : map_of_index s' ≡ after_all (map_of s.base) (s.history ++ written i calls (counted (stage_of o.machine))) = (λ k. after_all (map_of ((own.is k).base)) (history_is k)) in
       let slots : s'.layout.slots ≡ s.layout.slots = ap (λ (v : Index). v.layout.slots) own.is in
       let fits : (m : Map) → m ≡ after_all (map_of s.base) (s.history ++ written i calls (counted (stage_of o.machine))) → len m ≤ s.layout.slots =

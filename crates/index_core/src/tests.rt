@@ -175,3 +175,56 @@ fn interleaved_calls_answer_as_the_plain_map(rt: HostRuntime) -> Result<(), Fail
     assert_eq!(rt; found, None);
     Ok(())
 }
+
+/// The answer of a put of the name by a caller of a fresh core, which makes no other call.
+fn put_alone<L: Ledger>(alloc: Global, steps: &mut Steps<L>) -> Result<Option<Placed>, Fail> {
+    let name = Name::read(b"a").ok().ok_or("a")?;
+    let mut core = Core::fresh(alloc, Layout::new(1, 4, 1)?)?;
+    core.reserve(1)?;
+    match core.run_alone(0, call_of(0, name), steps) {
+        Whole::Placed(placed) => Ok(Some(placed)),
+        _ => Ok(None),
+    }
+}
+
+/// Whether a get that the caller starts so many steps into its put is refused and leaves no trace: the history stays as
+/// long, and the put is answered as where it is alone.
+fn is_refused_without_trace<L: Ledger>(
+    alloc: Global,
+    before: u64,
+    steps: &mut Steps<L>,
+) -> Result<bool, Fail> {
+    let name = Name::read(b"a").ok().ok_or("a")?;
+    let mut core = Core::fresh(alloc, Layout::new(1, 4, 1)?)?;
+    begin(&mut core, 0, 0)?;
+    let early = run(&mut core, 0, before, steps)?;
+    let writes = core.history().len();
+    let refused = core.start(0, CoreCall::Get { name }) == Err(InFlight);
+    let kept = core.history().len() == writes;
+    let answer = placed(run(&mut core, 0, MANY, steps)?);
+    let alone = put_alone(alloc, steps)?;
+    Ok(early.is_none() && refused && kept && alone.is_some() && answer == alone)
+}
+
+/// How many steps of a put come before the first at which a get of the same caller leaves a trace.
+fn refused_starts<L: Ledger>(alloc: Global, blank: Blank) -> Result<u64, Fail>
+    requires name { blank.name ≡ L.name }
+    requires parts { (blank.parts ≡ L.parts) × (0 < L.parts) }
+{
+    let (book, share) = blank.open::<L>();
+    let mut steps = Steps::new(book, share);
+    for before in 0..MANY {
+        if !is_refused_without_trace(alloc, before, &mut steps)? {
+            return Ok(before);
+        }
+    }
+    Ok(MANY)
+}
+
+#[test]
+fn a_start_during_a_callers_own_put_is_refused_without_trace(rt: HostRuntime) -> Result<(), Fail> {
+    // The put has 68 steps, so it is in flight after each of the first 67.
+    let found = refused_starts::<Brand>(rt.alloc(), Blank::new(1))?;
+    assert_eq!(rt; found, 68);
+    Ok(())
+}

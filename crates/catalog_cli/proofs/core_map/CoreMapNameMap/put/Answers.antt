@@ -1,0 +1,16 @@
+use Rattle.std.proofs.Common.{refl, arith}
+use Rattle.catalog_cli.proofs.CoreMaps.{few_names, put_counted}
+use Rattle.catalog_cli.proofs.core_map.CoreMapNameMap.put.Goals as goal
+
+pub overflow_add-self : goal.overflow_add-self
+overflow_add-self g c = let few = few_names c.self.inside.core c.self.inside.names c.self.invariant in omega (arith, few)
+
+pub invariant_of-self-then-is_none : goal.invariant_of-self-then-is_none
+invariant_of-self-then-is_none g c =
+    put_counted c.self.inside.core c.call_alone.new.core c.args.name.now c.args.value c.self.inside.names _ c.in_ok-old.old _ c.self.invariant c.call_alone.ensures.index
+    c.call_alone.ensures.quiet c.in_ok-old.ensures.old c.in_ok-old.ensures.ok c.if-is_none.ensures refl
+
+pub invariant_of-self-else-is_none : goal.invariant_of-self-else-is_none
+invariant_of-self-else-is_none g c =
+    put_counted c.self.inside.core c.call_alone.new.core c.args.name.now c.args.value c.self.inside.names _ c.in_ok-old.old _ c.self.invariant c.call_alone.ensures.index
+    c.call_alone.ensures.quiet c.in_ok-old.ensures.old c.in_ok-old.ensures.ok c.if-is_none.ensures refl

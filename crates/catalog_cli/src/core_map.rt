@@ -1,0 +1,151 @@
+//! The core of the index as a map of names: each call is a whole call of one caller, with no other in flight.
+
+ghost use Rattle.std.specs.Prelude.{◌≡◌, ◌+◌, ◌<◌, ◌≤◌, ◌↔◌, IfOk, OnOk, OnErr, IsErr};
+ghost use Rattle.std.specs.FinMap.{empty};
+ghost use Rattle.cat_history.specs.Maps.{at};
+ghost use Rattle.pm_words.specs.Layouts.{IsLayout};
+ghost use Rattle.version_lock.specs.declared.TheConstants.{LAST_COUNT};
+ghost use Rattle.node_ops.specs.Asked.{name_asked};
+ghost use Rattle.index_core.specs.CoreCalls.{op_of};
+ghost use Rattle.index_core.specs.Indexes.{IsIndex, map_of_index};
+ghost use Rattle.index_core.specs.Lone.{IsQuiet, FindsNoRoom};
+ghost use Rattle.catalog_cli.specs.CoreMaps.{IsUnlimited, calls_left_of, map_after};
+
+use cat_history::{Full, NameMap, NoMemory};
+use cat_key::Name;
+use index_core::{Core, CoreCall, Whole};
+use pm_words::{Layout, Steps};
+use std::alloc::Global;
+use std::marker::Model;
+use std::sync::ledger::Ledger;
+
+/// The caller that makes the calls.
+const CALLER: u64 = 0;
+
+/// The clock at which writes are refused. No run comes as far.
+const LIMIT: u64 = 1 << 62;
+
+/// The index as a map of names. Contracts see it as its index.
+#[derive(Drop)]
+pub struct CoreMap<L: Ledger> {
+    core: Core,
+    /// How many names the map has.
+    names: u64,
+    steps: Steps<L>,
+}
+
+impl<L: Ledger> Model for CoreMap<L> {
+    ghost use Rattle.index_core.specs.Indexes.{Index};
+    ghost use Rattle.catalog_cli.specs.CoreMaps.{IsCoreMap};
+
+    ghost Value = { Index };
+
+    ghost view = { λ m. m.core };
+
+    ghost invariant = { λ m. IsCoreMap m.core m.names };
+}
+
+impl<L: Ledger> CoreMap<L> {
+    /// A map without names, that can have so many calls.
+    pub fn new(
+        alloc: Global,
+        layout: Layout,
+        calls: u64,
+        steps: Steps<L>,
+    ) -> Result<CoreMap<L>, NoMemory>
+        requires layout { IsLayout layout }
+        requires one_node { layout.nodes ≡ 1 }
+        requires calls { calls ≤ LAST_COUNT }
+        ensures empty { IfOk result (λ map. map_of_index map ≡ empty) }
+        ensures room { IfOk result (λ map. map.layout.slots ≡ layout.slots) }
+        ensures calls_left { IfOk result (λ map. calls ≤ calls_left_of map) }
+    {
+        let mut core = Core::fresh(alloc, layout)?;
+        core.reserve(calls)?;
+        Ok(CoreMap {
+            core,
+            names: 0,
+            steps,
+        })
+    }
+}
+
+impl<L: Ledger> NameMap for CoreMap<L> {
+    ghost use Rattle.index_core.specs.Indexes.{map_of_index};
+    ghost use Rattle.catalog_cli.specs.CoreMaps.{calls_left_of};
+
+    ghost contents = { map_of_index };
+
+    ghost room = { λ map. map.layout.slots };
+
+    ghost calls_left = { calls_left_of };
+
+    fn get(&mut self, name: &Name) -> Option<u64> {
+        let call = CoreCall::Get { name: *name };
+        match call_alone(&mut self.core, call, &mut self.steps) {
+            Ok(old) => old,
+            Err(Full) => unreachable!(),
+        }
+    }
+
+    fn put(&mut self, name: &Name, value: u64) -> Result<Option<u64>, Full> {
+        let call = CoreCall::Put {
+            name: *name,
+            value,
+            limit: LIMIT,
+        };
+        let old = call_alone(&mut self.core, call, &mut self.steps)?;
+        if old.is_none() {
+            self.names += 1;
+        }
+        Ok(old)
+    }
+
+    fn del(&mut self, name: &Name) -> Option<u64> {
+        let call = CoreCall::Del {
+            name: *name,
+            limit: LIMIT,
+        };
+        match call_alone(&mut self.core, call, &mut self.steps) {
+            Ok(old) => {
+                if old.is_some() {
+                    self.names -= 1;
+                }
+                old
+            }
+            Err(Full) => unreachable!(),
+        }
+    }
+
+    fn len(&self) -> u64 {
+        self.names
+    }
+}
+
+/// A whole call on an index that has calls left, with no other in flight. `Full` comes exactly where a put finds no room;
+/// else the answer is the number that the name had.
+fn call_alone<L: Ledger>(
+    core: &mut Core,
+    call: CoreCall,
+    steps: &mut Steps<L>,
+) -> Result<Option<u64>, Full>
+    requires index { IsIndex core.old }
+    requires quiet { IsQuiet core.old }
+    requires unlimited { IsUnlimited call }
+    requires calls_left { 0 < calls_left_of core.old }
+    ensures old { IfOk result (λ old. old ≡ at (map_of_index core.old) (name_asked (op_of call))) }
+    ensures ok { OnOk result (map_of_index core.new ≡ map_after (map_of_index core.old) (op_of call)) }
+    ensures full { IsErr result ↔ FindsNoRoom call core.old }
+    ensures err { OnErr result (map_of_index core.new ≡ map_of_index core.old) }
+    ensures layout { core.new.layout ≡ core.old.layout }
+    ensures calls_left { calls_left_of core.old ≤ calls_left_of core.new + 1 }
+    ensures quiet { IsQuiet core.new }
+    ensures index { IsIndex core.new }
+{
+    match core.run_alone(CALLER, call, steps) {
+        Whole::Placed(placed) => Ok(placed.old),
+        Whole::Full => Err(Full),
+        // There is a lock left, and the clock is below the limit.
+        Whole::Spent { .. } | Whole::Worn { .. } => unreachable!(),
+    }
+}
