@@ -249,7 +249,7 @@ put_leads name value (put.Finishing finish) x = at finish.at
         fenced None = works refl
     at finish_at.Add = counts tt refl
     at (finish_at.Unlock place) = answers tt refl
-put_leads name value (put.Refusing call hold bitmap value) x = refuses tt refl
+put_leads name value (put.Refusing call hold bitmap number) x = refuses tt refl
 
 del_leads : (name : List ℕ) (del : Del) (x : ℕ) → RunningLeads (op.Del name) (Deleting del) x (wrapped Deleting (del_turned del x))
 del_leads name (del.Looking lookup) x = at (lookup_turned lookup x) (lookup_leads (op.Del name) lookup.call lookup.at x)
