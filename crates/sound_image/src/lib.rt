@@ -8,10 +8,12 @@ mod broken;
 mod header;
 mod laws;
 mod listed;
+mod map;
 mod node;
 
 pub use broken::{Broken, first_broken};
 pub use laws::{one_map_law, tidy_law};
+pub use map::{is_found, number_in};
 
 #[cfg(test)]
 mod tests;

@@ -3,9 +3,9 @@
 ghost use Rattle.std.specs.Prelude.{◌≡◌, ℕ, ◌<◌, ◌≤◌, ◌^◌, ◌↔◌, IsTrue, IfSome};
 ghost use Rattle.pm_words.specs.Layouts.{IsLayout};
 ghost use Rattle.pm_words.specs.Places.{node_words};
-ghost use Rattle.data_node.specs.Spots.{bitmap_offset, print_offset, slot_offset, IsLiveIn, name_words, print_in_spot};
+ghost use Rattle.data_node.specs.Spots.{bitmap_offset, print_offset, slot_offset, IsLiveIn, name_words, value_in, print_in_spot};
 ghost use Rattle.sound_image.specs.Lowest.{IsLowest};
-ghost use Rattle.sound_image.specs.Nodes.{image_spot};
+ghost use Rattle.sound_image.specs.Nodes.{image_spot, HasWords};
 ghost use Rattle.sound_image.specs.Rules.{IsNameless, IsMisprinted, IsRepeated};
 
 use cat_key::{Name, WORDS};
@@ -147,6 +147,46 @@ fn are_alike(image: &Image, node: u64, lower: u64, slot: u64) -> bool
     is_live_in(image, node, lower)
         && is_live_in(image, node, slot)
         && name_in(image, node, lower) == name_in(image, node, slot)
+}
+
+/// Whether a slot is live and has these words in place of a name.
+fn has_words(image: &Image, node: u64, slot: u64, words: [u64; WORDS]) -> bool
+    requires node { node < image.now.layout.nodes }
+    requires slot { slot < image.now.layout.slots }
+    ensures { IsTrue result ↔ HasWords image.now.layout.slots (image_spot image.now.layout image.now.words node) words slot }
+{
+    is_live_in(image, node, slot) && name_in(image, node, slot) == words
+}
+
+/// The first node, which every layout has.
+pub(crate) fn first_node(image: &Image) -> u64
+    ensures first { result ≡ 0 }
+    ensures there { result < image.now.layout.nodes }
+{
+    let _layout = image.layout();
+    0
+}
+
+/// The lowest live slot that has these words in place of a name.
+pub(crate) fn slot_with(image: &Image, node: u64, words: [u64; WORDS]) -> Option<u64>
+    requires { node < image.now.layout.nodes }
+    ensures lowest { IsLowest (HasWords image.now.layout.slots (image_spot image.now.layout image.now.words node) words) result }
+{
+    for slot in 0..slots_of(image) {
+        if has_words(image, node, slot, words) {
+            return Some(slot);
+        }
+    }
+    None
+}
+
+/// The value in a slot.
+pub(crate) fn value_in(image: &Image, node: u64, slot: u64) -> u64
+    requires node { node < image.now.layout.nodes }
+    requires slot { slot < image.now.layout.slots }
+    ensures { result ≡ value_in (image_spot image.now.layout image.now.words node) slot }
+{
+    slot_word(image, node, slot, WORDS as u64)
 }
 
 /// Whether a slot is live, and a lower live slot has its name.
