@@ -144,9 +144,10 @@ fn repeated_names(rt: HostRuntime) -> Result<(), Fail> {
             [(17, 0b1101), (32, A), (40, B), (44, A), (24, 0x6162_0061)],
             (8, 44),
         ),
-        // It breaks rules 7 and 8, and the next one rules 6 and 8.
+        // These break rules 7 and 8, rules 6 and 8, and rules 6 and 7.
         ([(17, 3), (32, A), (36, A), (24, 0x61), (0, 0)], (7, 24)),
         ([(17, 19), (32, A), (36, A), (24, 0x6161), (0, 0)], (6, 17)),
+        ([(17, 3), (36, A), (0, 0), (0, 0), (0, 0)], (6, 32)),
     ] {
         let named = named_in(rt.alloc(), 1, 4, &changes)?;
         assert_eq!(rt; named, want, "{changes:?}");
