@@ -5,5 +5,7 @@
 #![tactic(auto)]
 
 mod once;
+#[cfg(test)]
+mod tests;
 
 pub use once::{Once, Placed};

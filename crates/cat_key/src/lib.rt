@@ -5,12 +5,13 @@
 #![tactic(auto)]
 
 ghost use Rattle.std.specs.Prelude.{◌≡◌, ℕ, ◌*◌, ◌<◌, ◌≤◌, ◌↔◌, List, [], length, IsOk, IfOk, IsErrOf, IsSome, IsNone, IfSome, Some, All, slice_index};
+ghost use Rattle.cat_key.specs.Faults.{text_of, bad_byte_text};
 ghost use Rattle.cat_key.specs.Names.{IsName, IsNameByte, IsFirstBad, AreNameWords, name_cmp, words_of, all_bytes, before_zero, fingerprint_of, WordsKeepOrder, WordsTellNames};
 ghost use Rattle.std.proofs.Common.{ap, refl, sym};
 ghost use Rattle.std.proofs.lemmas.Cmp.{nat_list_eq_equiv, nat_list_cmp_total};
 ghost use Rattle.std.specs.Cmp.{partial_equiv_from_equiv};
 ghost use Rattle.std.specs.Cmp.Lexicographic.{same_text, texts_po, texts_ties};
-ghost use Rattle.std.specs.Fmt.{styled_text};
+ghost use Rattle.std.specs.Fmt.{WritesOnOk, styled_text};
 ghost use Rattle.std.specs.Ordering.{as_partial_cmp};
 ghost use Rattle.std.specs.Str.{bytes_eq, IsUtf8};
 
@@ -39,15 +40,21 @@ pub enum NameFault {
 impl Error for NameFault {}
 
 impl fmt::Display for NameFault {
+    ghost output = { λ fault. Some (text_of fault) };
+
     fn fmt<W: fmt::Write>(&self, f: &mut fmt::Formatter<W>) -> fmt::Result {
         match self {
             NameFault::Empty => write!(f, "a name has at least one byte"),
             NameFault::Long { len } => write!(f, "a name has at most {MAX_LEN} bytes, not {len}"),
-            NameFault::Byte { at, byte } => {
-                write!(f, "byte {at} is {byte:#04x}, which no name has")
-            }
+            NameFault::Byte { at, byte } => write_bad_byte(f, *at, *byte),
         }
     }
+}
+
+fn write_bad_byte<W: fmt::Write>(f: &mut fmt::Formatter<W>, at: usize, byte: u8) -> fmt::Result
+    ensures { WritesOnOk W.write_str_gives f.old result (bad_byte_text at byte) f.new }
+{
+    write!(f, "byte {at} is 0x{byte:02x}, which no name has")
 }
 
 /// A name: 1 to 24 bytes, each from 0x21 to 0x7E.

@@ -2,3 +2,4 @@ pub mod Scripts
 pub mod Reports
 pub mod Outside
 pub mod OutsideMemory
+pub mod ScriptFaults

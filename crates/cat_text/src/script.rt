@@ -1,5 +1,8 @@
 //! Scripts: what lines ask, round by round, and what is wrong with a text that is no script.
 
+ghost use Rattle.std.specs.Prelude.{Some};
+ghost use Rattle.cat_text.specs.ScriptFaults.{text_of};
+
 use cat_history::{CallerOp, Listed};
 use std::fmt;
 
@@ -30,6 +33,8 @@ pub enum ScriptFault {
 }
 
 impl fmt::Display for ScriptFault {
+    ghost output = { λ fault. Some (text_of fault) };
+
     fn fmt<W: fmt::Write>(&self, f: &mut fmt::Formatter<W>) -> fmt::Result {
         match self {
             ScriptFault::Bytes => write!(f, "script: more than {MOST_BYTES} bytes"),

@@ -1,10 +1,12 @@
--- Statuses: their exit codes, and which of them the faults below come to.
-use Rattle.std.specs.Prelude.{ℕ}
+-- Statuses: their exit codes, what is told of them, and which of them the faults below come to.
+use Rattle.std.specs.Prelude.{ℕ, List, ◌++◌, codes}
+use Rattle.cat_text.specs.ScriptFaults.{text_of as script_text}
 use Rattle.cat_text.specs.declared.outside.source.ReadFault.{ReadFault}
 use Rattle.cat_text.specs.declared.outside.source.ReadFault.TheVariants as read
 use Rattle.cat_text.specs.declared.script.ScriptFault.{ScriptFault}
 use Rattle.cat_text.specs.declared.script.ScriptFault.TheVariants as script
-use Rattle.catalog_cli.specs.declared.status.Verb.TheVariants.{Line}
+use Rattle.catalog_cli.specs.declared.status.Verb.{Verb}
+use Rattle.catalog_cli.specs.declared.status.Verb.TheVariants.{Play, Line}
 use Rattle.catalog_cli.specs.declared.status.Status.{Status}
 use Rattle.catalog_cli.specs.declared.status.Status.TheVariants.{Done, Script, Read, Write, NoMemory, NotBuilt}
 
@@ -16,6 +18,20 @@ code_of Read = 4
 code_of Write = 5
 code_of NoMemory = 7
 code_of (NotBuilt verb) = 9
+
+-- What is told of a thing that isn't built yet.
+abbrev pub verb_text : Verb → List ℕ
+verb_text Play = codes "play"
+verb_text Line = codes "line"
+
+-- What is told of a status.
+abbrev pub text_of : Status → List ℕ
+text_of Done = codes "done"
+text_of (Script fault) = script_text fault
+text_of Read = codes "script: cannot read"
+text_of Write = codes "report: cannot write"
+text_of NoMemory = codes "out of memory"
+text_of (NotBuilt verb) = codes "not built: " ++ verb_text verb
 
 -- What a source comes to that was not read whole.
 abbrev pub status_of_read : ReadFault → Status

@@ -1,7 +1,7 @@
 //! How a run of the program ends.
 
-ghost use Rattle.std.specs.Prelude.{◌≡◌};
-ghost use Rattle.catalog_cli.specs.Statuses.{code_of};
+ghost use Rattle.std.specs.Prelude.{◌≡◌, Some};
+ghost use Rattle.catalog_cli.specs.Statuses.{code_of, text_of, verb_text};
 
 use cat_text::{NoMemory, ReadFault, ScriptFault};
 use std::fmt;
@@ -16,6 +16,8 @@ pub enum Verb {
 }
 
 impl fmt::Display for Verb {
+    ghost output = { λ verb. Some (verb_text verb) };
+
     fn fmt<W: fmt::Write>(&self, f: &mut fmt::Formatter<W>) -> fmt::Result {
         match self {
             Verb::Play => write!(f, "play"),
@@ -99,6 +101,8 @@ impl From<NoMemory> for Status {
 }
 
 impl fmt::Display for Status {
+    ghost output = { λ status. Some (text_of status) };
+
     fn fmt<W: fmt::Write>(&self, f: &mut fmt::Formatter<W>) -> fmt::Result {
         match self {
             Status::Done => write!(f, "done"),

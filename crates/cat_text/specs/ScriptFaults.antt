@@ -1,0 +1,12 @@
+-- What is told of a text that is no script.
+use Rattle.std.specs.Prelude.{ℕ, List, ◌++◌, codes}
+use Rattle.std.specs.Fmt.{decimal}
+use Rattle.cat_text.specs.declared.script.TheConstants.{MOST_BYTES}
+use Rattle.cat_text.specs.declared.script.ScriptFault.{ScriptFault}
+use Rattle.cat_text.specs.declared.script.ScriptFault.TheVariants.{Bytes, Line, NoMemory}
+
+-- What is told of a fault.
+abbrev pub text_of : ScriptFault → List ℕ
+text_of Bytes = codes "script: more than " ++ (decimal MOST_BYTES ++ codes " bytes")
+text_of (Line line) = codes "script: line " ++ (decimal line ++ codes " is no call")
+text_of NoMemory = codes "out of memory"
