@@ -182,8 +182,10 @@ impl Core {
         &self.base
     }
 
+    /// The layout of its words.
     pub fn layout(&self) -> Layout
-        ensures { result ≡ self.now.layout }
+        ensures layout { result ≡ self.now.layout }
+        ensures valid { IsLayout result }
     {
         self.memory.layout()
     }

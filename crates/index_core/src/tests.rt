@@ -11,8 +11,14 @@ use std::marker::Brand;
 use std::sync::ledger::{Blank, Ledger};
 use std::test::Fail;
 
+mod crashes;
+mod events;
+
 /// No call has as many steps.
 const MANY: u64 = 1000;
+
+/// No history here is as long.
+const LIMIT: u64 = 1000;
 
 /// A put, a get or a delete of the one name of this test.
 fn call_of(kind: u64, name: Name) -> CoreCall
@@ -23,10 +29,10 @@ fn call_of(kind: u64, name: Name) -> CoreCall
         0 => CoreCall::Put {
             name,
             value: 7,
-            limit: 9,
+            limit: LIMIT,
         },
         1 => CoreCall::Get { name },
-        _ => CoreCall::Del { name, limit: 9 },
+        _ => CoreCall::Del { name, limit: LIMIT },
     }
 }
 

@@ -1,0 +1,227 @@
+//! Crashes after each step of a write, with nothing, everything or every second word evicted before.
+
+ghost use Rattle.std.specs.Prelude.{◌≡◌, ◌<◌, ◌≤◌};
+ghost use Rattle.index_core.specs.CoreCalls.{LimitFits, writes_of};
+
+use super::{LIMIT, MANY, run};
+use crate::{Core, CoreCall, Crashed, CutCall, Cuts};
+use cat_history::{Change, NameMap, PlainMap};
+use cat_key::Name;
+use pm_words::{Image, Layout, Steps};
+use sound_image::{first_broken, is_found, number_in};
+use std::alloc::Global;
+use std::marker::Brand;
+use std::sync::ledger::{Blank, Ledger};
+use std::test::Fail;
+
+/// The names of these tests. The node has four slots.
+const NAMES: u64 = 6;
+
+fn name_of(number: u64) -> Result<Name, Fail> {
+    let byte = 0x61 + (number % NAMES) as u8;
+    Ok(Name::read(&[byte]).ok().ok_or("a name")?)
+}
+
+/// A put, an overwrite or a delete, and how many names there are before it.
+#[derive(Clone, Copy)]
+struct Case {
+    put: bool,
+    number: u64,
+    before: u64,
+}
+
+impl Case {
+    fn change(self) -> Result<Change, Fail> {
+        let name = name_of(self.number)?;
+        if self.put {
+            Ok(Change::Put { name, value: 70 })
+        } else {
+            Ok(Change::Del { name })
+        }
+    }
+}
+
+fn call_of(change: Change) -> CoreCall
+    ensures limit { LimitFits result }
+    ensures writes { writes_of result ≤ 1 }
+{
+    match change {
+        Change::Put { name, value } => CoreCall::Put {
+            name,
+            value,
+            limit: LIMIT,
+        },
+        Change::Del { name } => CoreCall::Del { name, limit: LIMIT },
+    }
+}
+
+/// Begins the write of a change by party 0.
+fn begin(core: &mut Core, change: Change) -> Result<(), Fail> {
+    core.reserve(1)?;
+    if core.layout().callers() == 0 {
+        return Err("no party")?;
+    }
+    core.start(0, call_of(change)).ok().ok_or("in flight")?;
+    Ok(())
+}
+
+/// Evicts the image words that the kind names: none, all, the odd or the even ones.
+fn evict(core: &mut Core, kind: u64) {
+    for word in 0..core.layout().image_words() {
+        if word < core.layout().image_words() && (kind == 1 || kind >= 2 && word % 2 == kind % 2) {
+            core.evict(word);
+        }
+    }
+}
+
+/// What a change makes of the plain map.
+fn apply(map: &mut PlainMap, change: &Change) {
+    match change {
+        Change::Put { name, value } => {
+            let _old = map.put(name, *value);
+        }
+        Change::Del { name } => {
+            let _old = map.del(name);
+        }
+    }
+}
+
+/// What the plain map has after the whole history.
+fn map_of(alloc: Global, core: &Core) -> Result<PlainMap, Fail> {
+    let mut map = PlainMap::new(alloc, NAMES)?;
+    for write in core.history() {
+        apply(&mut map, &write.change);
+    }
+    Ok(map)
+}
+
+/// Whether the image is sound and has of each name what the map has.
+fn is_kept(image: &Image, map: &mut PlainMap) -> Result<bool, Fail> {
+    let mut kept = first_broken(image).is_none();
+    for number in 0..NAMES {
+        let name = name_of(number)?;
+        kept = kept && number_in(image, &name) == map.get(&name);
+    }
+    Ok(kept)
+}
+
+/// What a crash shows of a write that was cut off, or was answered.
+#[derive(Clone, Copy, PartialEq, Eq, Debug)]
+enum Shown {
+    /// The image isn't what it has to be.
+    Wrong,
+    Lost,
+    Found,
+}
+
+/// A core of four slots with so many names.
+fn with_names<L: Ledger>(alloc: Global, count: u64, steps: &mut Steps<L>) -> Result<Core, Fail> {
+    let mut core = Core::fresh(alloc, Layout::new(1, 4, 1)?)?;
+    for value in 0..count {
+        let name = name_of(value)?;
+        begin(&mut core, Change::Put { name, value })?;
+        run(&mut core, 0, MANY, steps)?;
+    }
+    Ok(core)
+}
+
+/// Whether the crash cut off a write of party 0 that has no place.
+fn is_unplaced(cuts: &Cuts) -> bool {
+    matches!(cuts.get(0), Some(CutCall { place: None, .. }))
+}
+
+/// Crashes a core in which a write of this change is in flight or answered.
+fn shown_of(alloc: Global, core: Core, change: &Change) -> Result<Shown, Fail> {
+    let mut map = map_of(alloc, &core)?;
+    let Crashed { image, cuts } = core.crash();
+    let found = is_found(&image, change);
+    // A write that has no place is in the map where it is found.
+    if found && is_unplaced(&cuts) {
+        apply(&mut map, change);
+    }
+    if !is_kept(&image, &mut map)? {
+        return Ok(Shown::Wrong);
+    }
+    Ok(if found { Shown::Found } else { Shown::Lost })
+}
+
+/// A crash after so many steps of the case's write.
+fn crashed<L: Ledger>(
+    alloc: Global,
+    case: Case,
+    before: u64,
+    evicts: u64,
+    steps: &mut Steps<L>,
+) -> Result<Shown, Fail> {
+    let mut core = with_names(alloc, case.before, steps)?;
+    let change = case.change()?;
+    begin(&mut core, change)?;
+    run(&mut core, 0, before, steps)?;
+    evict(&mut core, evicts);
+    shown_of(alloc, core, &change)
+}
+
+/// The first step after which the write is found, if after each one before it was lost, and after each one from there on
+/// it is found.
+fn found_from<L: Ledger>(
+    alloc: Global,
+    case: Case,
+    evicts: u64,
+    steps: &mut Steps<L>,
+) -> Result<Option<u64>, Fail> {
+    let mut first = None;
+    for before in 0..70 {
+        let shown = crashed(alloc, case, before, evicts, steps)?;
+        match (shown, first) {
+            (Shown::Wrong, _) | (Shown::Lost, Some(_)) => return Ok(None),
+            (Shown::Found, None) => first = Some(before),
+            _ => {}
+        }
+    }
+    Ok(first)
+}
+
+/// The same with each kind of eviction.
+fn found_by_evictions<L: Ledger>(
+    alloc: Global,
+    blank: Blank,
+    case: Case,
+) -> Result<[Option<u64>; 4], Fail>
+    requires name { blank.name ≡ L.name }
+    requires parts { (blank.parts ≡ L.parts) × (0 < L.parts) }
+{
+    let (book, share) = blank.open::<L>();
+    let mut steps = Steps::new(book, share);
+    let mut first = [None; 4];
+    for evicts in 0..4 {
+        first[evicts as usize] = found_from(alloc, case, evicts, &mut steps)?;
+    }
+    Ok(first)
+}
+
+#[test]
+fn a_crash_keeps_the_map_with_what_is_found(rt: HostRuntime) -> Result<(), Fail> {
+    // A write is found from the store of its word on where that word is evicted, and else from its drain on. The bitmap is
+    // word 17 of the image, which a put into a clear slot stores as its event 50 and drains as 54, and a delete as 17 and 21;
+    // the value of slot 0 is word 35, and is stored in place as event 17 and drained as event 25.
+    let put = Case {
+        put: true,
+        number: 1,
+        before: 1,
+    };
+    let overwrite = Case {
+        put: true,
+        number: 0,
+        before: 4,
+    };
+    let delete = Case {
+        put: false,
+        number: 0,
+        before: 2,
+    };
+    for (case, stored, drained) in [(put, 50, 54), (overwrite, 17, 25), (delete, 17, 21)] {
+        let found = found_by_evictions::<Brand>(rt.alloc(), Blank::new(1), case)?;
+        assert_eq!(rt; found, [Some(drained), Some(stored), Some(drained), Some(stored)]);
+    }
+    Ok(())
+}
