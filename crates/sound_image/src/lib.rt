@@ -11,7 +11,7 @@ mod listed;
 mod node;
 
 pub use broken::{Broken, first_broken};
-pub use laws::{one_map_law, tidy_law};
+pub use laws::{fresh_law, map_law, spot_law, tidy_law};
 
 #[cfg(test)]
 mod tests;
