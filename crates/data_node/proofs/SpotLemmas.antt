@@ -4,10 +4,11 @@ use Rattle.std.specs.declared.cmp.Ordering.TheVariants.{Less, Equal, Greater}
 use Rattle.std.specs.Int.{bit_at}
 use Rattle.std.specs.Ordering.{eq_by_cmp, is_eq}
 use Rattle.std.specs.Cmp.{tied_itself}
-use Rattle.std.specs.FinMap.{insert, remove, get-insert, get-remove, same_map, slice_cmp-IsAntisymmetric, nat_cmp-IsAntisymmetric}
+use Rattle.std.specs.FinMap.{empty, get-empty, insert, remove, get-insert, get-remove, same_map, slice_cmp-IsAntisymmetric, nat_cmp-IsAntisymmetric}
 use Rattle.std.proofs.lemmas.Cmp.{nat_list_cmp_total}
 use Rattle.std.proofs.lemmas.Bool.{cases_eq, cases_lt, eq-eqb, ne_eqb}
-use Rattle.std.proofs.lemmas.Nat.Bits.{bit_at_above}
+use Rattle.std.proofs.lemmas.Nat.{pow_pos}
+use Rattle.std.proofs.lemmas.Nat.Bits.{bit_at_above, bit_at-zero}
 use Rattle.cat_key.specs.Names.{IsName, AreNameWords, name_cmp, words_of, bytes_of, fingerprint_of}
 use Rattle.cat_key.proofs.Packing.{bytes_of-words_of, words_tell_names}
 use Rattle.cat_history.specs.Maps.{Map, at}
@@ -199,3 +200,22 @@ remove_absent m name absent =
       | inl same ↦ is ∙ ap (λ b. cond b None (at m other)) same.1 ∙ sym (ap (at m) same.0 ∙ absent)
       | inr apart ↦ is ∙ ap (λ b. cond b None (at m other)) apart.1
     ])
+
+-- no slot is live where the bitmap is 0
+none_live : (s : Spot) → s bitmap_offset ≡ 0 → (slot : ℕ) → IsLiveIn s slot → ⊥
+none_live s none slot live =
+    let clear = bit_at-zero slot in
+    let set : IsLive 0 slot = subst (λ b. IsLive b slot) none live in
+    omega arith
+
+-- a node without a live slot means the empty map, on any range
+pub means_empty : (slots : ℕ) (range : List ℕ → Bool) (s : Spot) → s bitmap_offset ≡ 0 → Means slots range s empty
+means_empty slots range s none = record {
+  tidy = record {
+    bounded = let positive = pow_pos slots in omega (arith, none);
+    named = λ slot within live. absurd (none_live s none slot live);
+    printed = λ slot within live. absurd (none_live s none slot live);
+    apart = λ slot other within other_within live other_live same. absurd (none_live s none slot live);
+  };
+  agrees = λ name is inside. subst (Finds slots s name) (sym (get-empty name_cmp name)) (λ slot within live same. none_live s none slot live);
+}

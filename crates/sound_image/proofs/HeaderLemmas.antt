@@ -5,7 +5,8 @@ use Rattle.std.proofs.lemmas.Nat.{mul-le}
 use Rattle.pm_words.specs.declared.layout.Layout.{Layout}
 use Rattle.pm_words.specs.Places.{Header, Node, node_words, word_number}
 use Rattle.sound_image.specs.Lowest.{IsLowest, IsNumberOf}
-use Rattle.sound_image.specs.Rules.{CountsOpenings, generation_in, BreaksHeader, IsLater, BreaksVersions}
+use Rattle.sound_image.specs.Rules.{header_generation, BreaksHeader, IsLater, BreaksVersions}
+use Rattle.version_lock.specs.Versions.{IsGeneration}
 use Rattle.sound_image.proofs.LowestLemmas.{Moves}
 use Rattle.sound_image.proofs.WordLemmas.{IsUsedSpare, used_number}
 
@@ -22,11 +23,11 @@ none_in_front l image lower below is =
           omega (arith, at.least)
     ]
 
-pub generation_broken : (l : Layout) (image : List ℕ) → ¬ CountsOpenings (generation_in l image) → IsLowest (IsNumberOf l (BreaksHeader l image)) (Some 5)
+pub generation_broken : (l : Layout) (image : List ℕ) → ¬ IsGeneration (header_generation l image) → IsLowest (IsNumberOf l (BreaksHeader l image)) (Some 5)
 generation_broken l image wrong = (record { word = Header 5; numbered = refl; holds = inl (refl, wrong) }, none_in_front l image)
 
 -- where the generation is right, only spare words can break the rule
-used_of : (l : Layout) (image : List ℕ) → CountsOpenings (generation_in l image) → (number : ℕ) → IsNumberOf l (BreaksHeader l image) number →
+used_of : (l : Layout) (image : List ℕ) → IsGeneration (header_generation l image) → (number : ℕ) → IsNumberOf l (BreaksHeader l image) number →
     IsNumberOf l (IsUsedSpare l image) number
 used_of l image right number is =
     elim is.holds as (λ _. IsNumberOf l (IsUsedSpare l image) number) [
@@ -34,7 +35,7 @@ used_of l image right number is =
       | inr used ↦ record { word = is.word; numbered = is.numbered; holds = used }
     ]
 
-pub generation_right : (l : Layout) (image : List ℕ) (found : Option ℕ) → CountsOpenings (generation_in l image) → IsLowest (IsNumberOf l (IsUsedSpare l image)) found →
+pub generation_right : (l : Layout) (image : List ℕ) (found : Option ℕ) → IsGeneration (header_generation l image) → IsLowest (IsNumberOf l (IsUsedSpare l image)) found →
     IsLowest (IsNumberOf l (BreaksHeader l image)) found
 generation_right l image None right lowest = λ number is. lowest number (used_of l image right number is)
 generation_right l image (Some number) right lowest = (

@@ -6,3 +6,4 @@ pub mod NameCases
 pub mod FirstLemmas
 pub mod TidyLemmas
 pub mod MapLemmas
+pub mod FreshLemmas

@@ -9,7 +9,8 @@ use Rattle.pm_words.specs.declared.layout.Layout.{Layout}
 use Rattle.pm_words.specs.Places.{Word, Header, Node, word_at}
 use Rattle.data_node.specs.Spots.{Spot, bitmap_offset, print_offset, slot_offset, IsLiveIn, name_words, print_in_spot, IsTidy}
 use Rattle.sound_image.specs.Nodes.{image_spot, IsListed}
-use Rattle.sound_image.specs.Rules.{CountsOpenings, generation_in, IsSpare, BreaksNames, BreaksPrints, BreaksApart}
+use Rattle.sound_image.specs.Rules.{header_generation, IsSpare, BreaksNames, BreaksPrints, BreaksApart}
+use Rattle.version_lock.specs.Versions.{IsGeneration}
 use Rattle.sound_image.specs.Sound.{in_header, in_versions, in_names, in_prints, in_apart, IsSound}
 use Rattle.sound_image.specs.Laws.{KeepsRules, SoundIsTidy}
 use Rattle.sound_image.proofs.NameCases.{name_words_or_not}
@@ -18,8 +19,8 @@ use Rattle.sound_image.proofs.NameCases.{name_words_or_not}
 text_of : (s : Spot) (slot : ℕ) (name : List ℕ) → IsName name → words_of name ≡ name_words s slot → bytes_of (name_words s slot) ≡ name
 text_of s slot name is_name stands = ap bytes_of (sym stands) ∙ bytes_of-words_of name is_name
 
-counts_or_not : (g : ℕ) → CountsOpenings g ⊎ ¬ CountsOpenings g
-counts_or_not g =
+generation_or_not : (g : ℕ) → IsGeneration g ⊎ ¬ IsGeneration g
+generation_or_not g =
     elim (cases_lt g 1) [
       | inl zero ↦ inr (λ is. omega (arith, is.least))
       | inr least ↦ elim (cases_lt g GENERATION_LIMIT) [ inl fits ↦ inl (record { least = least; fits = fits }) | inr past ↦ inr (λ is. omega (arith, is.fits)) ]
@@ -96,9 +97,9 @@ none_broken l image sound n listed = record {
   apart = λ offset breaks. sound 8 (Node n offset) (in_apart (record { node = n; offset = offset; listed = listed; here = refl; breaks = breaks }));
 }
 
-generation_if : (l : Layout) (image : List ℕ) → IsSound l image → CountsOpenings (generation_in l image)
+generation_if : (l : Layout) (image : List ℕ) → IsSound l image → IsGeneration (header_generation l image)
 generation_if l image sound =
-    elim (counts_or_not (generation_in l image)) as (λ _. CountsOpenings (generation_in l image)) [
+    elim (generation_or_not (header_generation l image)) as (λ _. IsGeneration (header_generation l image)) [
       | inl counts ↦ counts
       | inr wrong ↦ absurd (sound 1 (Header 5) (in_header (inl (refl, wrong))))
     ]
@@ -110,9 +111,9 @@ spare_if l image sound w spare =
       | inr used ↦ absurd (sound 1 w (in_header (inr (spare, used))))
     ]
 
-versions_if : (l : Layout) (image : List ℕ) → IsSound l image → (n : ℕ) → n < l.nodes → generation_of (word_at l image (Node n 0)) ≤ generation_in l image
+versions_if : (l : Layout) (image : List ℕ) → IsSound l image → (n : ℕ) → n < l.nodes → generation_of (word_at l image (Node n 0)) ≤ header_generation l image
 versions_if l image sound n here =
-    elim (cases_lt (generation_in l image) (generation_of (word_at l image (Node n 0)))) as (λ _. generation_of (word_at l image (Node n 0)) ≤ generation_in l image) [
+    elim (cases_lt (header_generation l image) (generation_of (word_at l image (Node n 0)))) as (λ _. generation_of (word_at l image (Node n 0)) ≤ header_generation l image) [
       | inl later ↦ absurd (sound 2 (Node n 0) (in_versions (n, refl, record { here = here; later = later })))
       | inr known ↦ known
     ]

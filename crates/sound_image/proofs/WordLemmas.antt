@@ -5,6 +5,9 @@ use Rattle.pm_words.specs.declared.layout.Layout.{Layout}
 use Rattle.pm_words.specs.Places.{Word, Header, Root, Node, Line, Leaf, Cell, node_words, word_number, word_at}
 use Rattle.sound_image.specs.Lowest.{IsNumberOf}
 use Rattle.sound_image.specs.Nodes.{image_spot}
+use Rattle.sound_image.specs.Laws.{CrashKeepsSpot, StartCachesSpot}
+use Rattle.pm_words.specs.Rows.{durable_row}
+use Rattle.pm_words.proofs.Made.{durable_row-at, row_of-at}
 use Rattle.sound_image.specs.Rules.{IsSpare}
 
 -- A spare word that isn't 0.
@@ -51,3 +54,12 @@ image_spot-here l image n offset here behind within = rw (lt-ltb n l.nodes here,
 -- the number of a word of a node, by the layout that the image tells
 pub node_number : (l m : Layout) (n offset number : ℕ) → m ≡ l → number ≡ word_number m (Node n offset) → number ≡ word_number l (Node n offset)
 node_number l m n offset number told is = is ∙ ap (λ (k : Layout). word_number k (Node n offset)) told
+
+-- what was durable is in the image
+pub crash_keeps_spot : CrashKeepsSpot
+crash_keeps_spot l words n offset here behind within = image_spot-here l (durable_row l words) n offset here behind within ∙ durable_row-at l words (Node n offset)
+
+-- and what is in the image is cached
+pub start_caches_spot : StartCachesSpot
+start_caches_spot l image n offset is here behind within =
+    (row_of-at l image (Node n offset) is (here, within)).0 ∙ sym (image_spot-here l image n offset here behind within)

@@ -3,20 +3,14 @@
 use Rattle.std.specs.Prelude.{◌≡◌, ◌≢◌, ℕ, ◌<◌, ◌≤◌, ◌^◌, ◌⊎◌, List}
 use Rattle.pm_words.specs.declared.layout.Layout.{Layout}
 use Rattle.pm_words.specs.Places.{Word, Header, Root, Node, word_at}
-use Rattle.version_lock.specs.declared.TheConstants.{GENERATION_LIMIT}
-use Rattle.version_lock.specs.Versions.{generation_of}
+use Rattle.version_lock.specs.Versions.{generation_of, IsGeneration}
 use Rattle.cat_key.specs.Names.{IsName, AreNameWords, words_of, fingerprint_of}
 use Rattle.data_node.specs.Spots.{Spot, bitmap_offset, print_offset, slot_offset, IsLiveIn, name_words, print_in_spot}
 use Rattle.sound_image.specs.Nodes.{image_spot, IsListed}
 
--- How often the index was opened.
-abbrev pub generation_in : Layout → List ℕ → ℕ
-generation_in l image = word_at l image (Header 5)
-
--- It counts from 1, and fits into a version word.
-pub record CountsOpenings (g : ℕ) : Type 0 where
-  pub least : 1 ≤ g
-  pub fits : g < GENERATION_LIMIT
+-- The number of the run that wrote the header.
+abbrev pub header_generation : Layout → List ℕ → ℕ
+header_generation l image = word_at l image (Header 5)
 
 -- The words of the header line and of the root line that have no use.
 abbrev pub IsSpare : Word → Type 0
@@ -24,14 +18,14 @@ IsSpare (Header o) = (6 ≤ o) × (o < 8)
 IsSpare (Root o) = (1 ≤ o) × (o < 8)
 IsSpare _ = ⊥
 
--- Rule 1: the generation counts openings, and spare words are 0.
+-- Rule 1: the header has the number of a run, and spare words are 0.
 abbrev pub BreaksHeader : Layout → List ℕ → Word → Type 0
-BreaksHeader l image w = ((w ≡ Header 5) × ¬ CountsOpenings (generation_in l image)) ⊎ (IsSpare w × (word_at l image w ≢ 0))
+BreaksHeader l image w = ((w ≡ Header 5) × ¬ IsGeneration (header_generation l image)) ⊎ (IsSpare w × (word_at l image w ≢ 0))
 
 -- A node whose version word is of a later generation.
 pub record IsLater (l : Layout) (image : List ℕ) (n : ℕ) : Type 0 where
   pub here : n < l.nodes
-  pub later : generation_in l image < generation_of (word_at l image (Node n 0))
+  pub later : header_generation l image < generation_of (word_at l image (Node n 0))
 
 -- Rule 2: no version word is of a later generation, whether the node is listed or not.
 abbrev pub BreaksVersions : Layout → List ℕ → Word → Type 0

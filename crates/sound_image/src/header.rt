@@ -2,23 +2,24 @@
 
 ghost use Rattle.std.specs.Prelude.{◌≡◌, ◌≢◌, ℕ, ◌<◌, ◌↔◌, IsTrue, slice_index};
 ghost use Rattle.pm_words.specs.Places.{Word, word_at};
+ghost use Rattle.version_lock.specs.Versions.{IsGeneration};
 ghost use Rattle.sound_image.specs.Lowest.{IsLowest, IsNumberOf};
-ghost use Rattle.sound_image.specs.Rules.{CountsOpenings, generation_in, IsSpare, IsLater, BreaksHeader, BreaksVersions};
+ghost use Rattle.sound_image.specs.Rules.{header_generation, IsSpare, IsLater, BreaksHeader, BreaksVersions};
 
 use pm_words::offsets::{header, node, root};
 use pm_words::{Image, LINE};
 use version_lock::GENERATION_LIMIT;
 
-/// The generation of the header.
-fn generation(image: &Image) -> u64
-    ensures { result ≡ generation_in image.now.layout image.now.words }
+/// The number of the run that wrote the header.
+fn header_generation(image: &Image) -> u64
+    ensures { result ≡ header_generation image.now.layout image.now.words }
 {
     image.word(header::GENERATION)
 }
 
-/// Whether a generation counts from 1 and fits into a version word.
-fn counts_openings(generation: u64) -> bool
-    ensures { IsTrue result ↔ CountsOpenings generation }
+/// Whether this is the number of a run.
+fn is_generation(generation: u64) -> bool
+    ensures { IsTrue result ↔ IsGeneration generation }
 {
     1 <= generation && generation < GENERATION_LIMIT
 }
@@ -39,7 +40,7 @@ fn used_spare(image: &Image) -> Option<u64>
 pub(crate) fn wrong_header(image: &Image) -> Option<u64>
     ensures { IsLowest (IsNumberOf image.now.layout (BreaksHeader image.now.layout image.now.words)) result }
 {
-    if !counts_openings(generation(image)) {
+    if !is_generation(header_generation(image)) {
         return Some(header::GENERATION);
     }
     used_spare(image)
@@ -51,7 +52,7 @@ fn is_later(image: &Image, node: u64) -> bool
     ensures { IsTrue result ↔ IsLater image.now.layout image.now.words node }
 {
     let version = image.word(image.layout().node_word(node, node::VERSION));
-    version_lock::generation_in(version) > generation(image)
+    version_lock::generation_in(version) > header_generation(image)
 }
 
 /// The lowest node whose version word is of a later generation.

@@ -12,7 +12,7 @@ mod map;
 mod node;
 
 pub use broken::{Broken, first_broken};
-pub use laws::{one_map_law, tidy_law};
+pub use laws::{fresh_law, map_law, spot_law, tidy_law};
 pub use map::{is_found, number_in};
 
 #[cfg(test)]

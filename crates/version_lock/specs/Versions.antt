@@ -1,11 +1,16 @@
 -- What a node's version word says: bit 0 is its lock, bits 1 to 39 count the times that it was freed,
 -- and bits 40 to 63 are the generation, the run of the index that wrote it.
-use Rattle.std.specs.Prelude.{◌≡◌, ℕ, ◌+◌, ◌*◌, ◌/◌, ◌%◌, ◌<◌, ◌⊎◌, if◌then◌else◌, nat_lt}
-use Rattle.version_lock.specs.declared.TheConstants.{GENERATION_UNIT, LAST_COUNT}
+use Rattle.std.specs.Prelude.{◌≡◌, ℕ, ◌+◌, ◌*◌, ◌/◌, ◌%◌, ◌<◌, ◌≤◌, ◌⊎◌, if◌then◌else◌, nat_lt}
+use Rattle.version_lock.specs.declared.TheConstants.{GENERATION_UNIT, GENERATION_LIMIT, LAST_COUNT}
 
 -- the generation in bits 40 to 63
 abbrev pub generation_of : ℕ → ℕ
 generation_of word = word / GENERATION_UNIT
+
+-- the number of a run: it counts from 1, and fits into a version word
+pub record IsGeneration (g : ℕ) : Type 0 where
+  pub least : 1 ≤ g
+  pub fits : g < GENERATION_LIMIT
 
 -- the count in bits 1 to 39
 abbrev pub count_of : ℕ → ℕ

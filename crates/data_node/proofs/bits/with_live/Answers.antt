@@ -1,4 +1,3 @@
-use Rattle.data_node.specs.Bits.{with_live}
 use Rattle.data_node.proofs.Bitmaps.{live-set}
 use Rattle.data_node.proofs.bits.with_live.Goals as goal
 

@@ -1,0 +1,59 @@
+-- A fresh image is sound, and keeps no name.
+use Rattle.std.proofs.Common.{◌≡◌, ℕ, ◌<◌, ◌≤◌, Some, None, inl, inr, sym, subst, ◌∙◌, arith}
+use Rattle.std.specs.FinMap.{empty, get-empty}
+use Rattle.std.proofs.lemmas.Bool.{cases_eq}
+use Rattle.cat_key.specs.Names.{name_cmp}
+use Rattle.data_node.specs.Spots.{bitmap_offset, Means}
+use Rattle.data_node.proofs.SpotLemmas.{means_empty}
+use Rattle.pm_words.specs.declared.layout.Layout.{Layout}
+use Rattle.pm_words.specs.Images.{fresh_words}
+use Rattle.pm_words.specs.Layouts.{IsLayout}
+use Rattle.pm_words.specs.Places.{Word, Header, Root, Node, Line, Leaf, Cell, word_at}
+use Rattle.pm_words.proofs.Made.{fresh_at}
+use Rattle.version_lock.specs.Versions.{generation_of}
+use Rattle.sound_image.specs.Nodes.{image_spot, range_in}
+use Rattle.sound_image.specs.Rules.{IsSpare, header_generation}
+use Rattle.version_lock.specs.Versions.{IsGeneration}
+use Rattle.sound_image.specs.Laws.{KeepsRules, FreshIsSound}
+use Rattle.sound_image.proofs.WordLemmas.{image_spot-here}
+use Rattle.sound_image.proofs.TidyLemmas.{keeps_sound}
+
+fresh_spare : (l : Layout) (w : Word) → IsSpare w → word_at l (fresh_words l) w ≡ 0
+fresh_spare l (Header o) spare =
+    elim (cases_eq o 6) as (λ _. word_at l (fresh_words l) (Header o) ≡ 0) [
+      | inl six ↦ subst (λ k. word_at l (fresh_words l) (Header k) ≡ 0) (sym six) (fresh_at l (Header 6) (omega arith))
+      | inr other ↦
+          let seven : o ≡ 7 = omega (arith, spare.0, spare.1) in
+          subst (λ k. word_at l (fresh_words l) (Header k) ≡ 0) (sym seven) (fresh_at l (Header 7) (omega arith))
+    ]
+fresh_spare l (Root o) spare = fresh_at l (Root o) spare.1
+fresh_spare l (Node n o) spare = absurd spare
+fresh_spare l (Line c j o) spare = absurd spare
+fresh_spare l (Leaf k o) spare = absurd spare
+fresh_spare l (Cell kind k o) spare = absurd spare
+
+fresh_means : (l : Layout) → IsLayout l → (n : ℕ) → n ≡ 0 → Means l.slots (range_in l (fresh_words l) n) (image_spot l (fresh_words l) n) empty
+fresh_means l is n listed =
+    let nodes = is.nodes in
+    let here : n < l.nodes = omega (arith, nodes.0, listed) in
+    means_empty l.slots (range_in l (fresh_words l) n) (image_spot l (fresh_words l) n)
+    (image_spot-here l (fresh_words l) n bitmap_offset here (omega arith) (omega arith) ∙ fresh_at l (Node n bitmap_offset) (here, omega arith))
+
+fresh_keeps : (l : Layout) → IsLayout l → KeepsRules l (fresh_words l)
+fresh_keeps l is =
+    let first : header_generation l (fresh_words l) ≡ 1 = fresh_at l (Header 5) (omega arith) in
+    record {
+      generation = subst IsGeneration (sym first) (record { least = omega arith; fits = omega arith });
+      spare = fresh_spare l;
+      versions = λ n here. subst (λ (v : ℕ). generation_of v ≤ header_generation l (fresh_words l)) (sym (fresh_at l (Node n 0) (here, omega arith))) (omega arith);
+      tidy = λ n listed. (fresh_means l is n listed).tidy;
+    }
+
+pub fresh_is_sound : FreshIsSound
+fresh_is_sound l is = (
+  keeps_sound l (fresh_words l) (fresh_keeps l is),
+  record {
+    means = fresh_means l is;
+    names = λ name value has. absurd (let none : None ≡ Some value = sym (get-empty name_cmp name) ∙ has in cc);
+  },
+)
