@@ -1,5 +1,6 @@
 pub mod CoreCalls
 pub mod Entries
+pub mod Answers
 pub mod Indexes
 pub mod Fresh
 pub mod Lone
