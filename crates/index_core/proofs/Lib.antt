@@ -6,5 +6,7 @@ pub mod Fresh
 pub mod Phases
 pub mod Places
 pub mod Answering
+pub mod Scheduling
+pub mod OneHistory
 pub mod Lonely
 pub mod Alone

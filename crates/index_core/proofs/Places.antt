@@ -67,10 +67,10 @@ abbrev pub IsOverOnly : Option ℕ → Phase → Type 0
 IsOverOnly limit (Over w clock) = IsSomeAnd limit (λ most. most ≤ clock)
 IsOverOnly limit _ = Unit {0}
 
--- a call that goes on keeps its place, or takes the one that it is told with its change
+-- a call that goes on keeps its place, or has none and takes the one that it is told with its change
 abbrev pub Onward : Layout → Phase → Action → ℕ → Phase → Option Change → Type 0
 Onward l phase a x next None = place_in next ≡ place_in phase
-Onward l phase a x next (Some change) = (a ≡ Add (clock_place l)) × (place_in next ≡ Some x)
+Onward l phase a x next (Some change) = (a ≡ Add (clock_place l)) × (place_in phase ≡ None) × (place_in next ≡ Some x)
 
 -- the place that a call has where it is answered one: only a write has it before
 abbrev pub place_for : Option Change → ℕ → Option ℕ
@@ -109,7 +109,7 @@ module _ {l : Layout} {g n : ℕ} {limit : Option ℕ} {asked : Op} where
   onward (passes {w = w} {x = x} {h = h} none past) go = subst (Onward l (Locking w) _ x (Over w x)) (sym none) refl
   onward (spent none) go = absurd (cc)
   onward (works {w = w} {c = clock} {x = x} {a = a} none) go = subst (Onward l (Timed w clock) a x (Timed w clock)) (sym none) refl
-  onward (counts {w = w} {c = clock} {x = x} write some_change) go = subst (Onward l (Timed w clock) (Add (clock_place l)) x (Counted w x)) (sym some_change) (refl, refl)
+  onward (counts {w = w} {c = clock} {x = x} write some_change) go = subst (Onward l (Timed w clock) (Add (clock_place l)) x (Counted w x)) (sym some_change) (refl, refl, refl)
   onward (reads get none) go = absurd (cc)
   onward (refuses put none) go = absurd (cc)
   onward (answers write none) go = absurd (cc)

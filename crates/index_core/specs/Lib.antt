@@ -5,3 +5,4 @@ pub mod Indexes
 pub mod Fresh
 pub mod Lone
 pub mod Crashes
+pub mod Schedules
