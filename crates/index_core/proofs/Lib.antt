@@ -4,5 +4,9 @@ pub mod Stepping
 pub mod Crashing
 pub mod Fresh
 pub mod Phases
+pub mod Places
+pub mod Answering
+pub mod Scheduling
+pub mod OneHistory
 pub mod Lonely
 pub mod Alone

@@ -19,7 +19,7 @@ use Rattle.call_stages.specs.declared.once.Once.{Once}
 use Rattle.call_stages.specs.declared.once.Placed.{Placed}
 use Rattle.cat_history.specs.declared.op.Op.{Op}
 use Rattle.node_ops.specs.declared.call.Call.{Call}
-use Rattle.node_ops.specs.Asked.{IsOf, IsOfAfter}
+use Rattle.node_ops.specs.Asked.{IsOf, IsOfAfter, op_in}
 use Rattle.node_ops.specs.RunningSteps.{running_asks, running_turned, running_call, running_left}
 use Rattle.node_ops.specs.CallStages.{stage_of, reply_of}
 use Rattle.index_law.specs.Worlds.{World, facts, written}
@@ -28,6 +28,7 @@ use Rattle.index_law.specs.Laws.{IsLegal}
 use Rattle.index_core.specs.declared.entry.CoreCall.{CoreCall}
 use Rattle.index_core.specs.declared.entry.Entry.{Entry}
 use Rattle.index_core.specs.declared.entry.Stepped.{Stepped}
+use Rattle.index_core.specs.Answers.{SaysOf}
 use Rattle.index_core.specs.CoreCalls.{machine_of, op_of}
 use Rattle.index_core.specs.Entries.{party_of, entry_with, entry_after, stepped_of, IsEntry}
 
@@ -107,5 +108,7 @@ pub record StepsTo (old : Index) (party : ℕ) (new : Index) (result : Stepped) 
   pub keeps_call : MakesCall (running_call machine) (running_turned machine (told old machine))
   -- and has fewer actions left
   pub fewer : GoesBelow running_left (running_left machine) (running_turned machine (told old machine))
-  -- an answer is legal after the step
+  -- an answer is the map's, and a write that took place stands in the history
+  pub answer : SaysOf (map_of new.base) new.history entry (op_in machine) result
+  -- and is legal after the step in the words of stages
   pub legal : IsLegal new.layout new.generation (facts (world new)) entry.caller entry.index entry.since (stage_of machine) (reply_of (running_turned machine (told old machine)))

@@ -87,7 +87,8 @@ impl Core {
         Ok(())
     }
 
-    /// One action of the party's call, which is in flight.
+    /// One action of the party's call, which is in flight. Where it is answered, the number is that of its name in the map
+    /// at its place, which lies in the call's time, and a put or delete that took place stands there in the history.
     pub fn step<L: Ledger>(&mut self, party: u64, steps: &mut Steps<L>) -> Stepped
         requires flies { IsInFlight self.old party }
         ensures stepped { StepsTo self.old party self.new result }

@@ -8,10 +8,12 @@ mod call;
 mod crash;
 mod entry;
 mod index;
+mod laws;
 
 pub use crash::{Crashed, CutCall, Cuts};
 pub use entry::{CoreCall, CoreReply, Entry, InFlight, Stepped, Whole};
 pub use index::Core;
+pub use laws::one_history_law;
 
 #[cfg(test)]
 mod tests;

@@ -1,4 +1,4 @@
-use Rattle.std.proofs.Common.{◌≡◌, ℕ, ◌<◌, ap, sym, subst}
+use Rattle.std.proofs.Common.{◌<◌, ap, sym, subst}
 use Rattle.pm_words.specs.declared.layout.Layout.{Layout}
 use Rattle.pm_words.specs.Places.{image_words}
 use Rattle.index_core.specs.Indexes.{Index, IsIndex}

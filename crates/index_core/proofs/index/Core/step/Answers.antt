@@ -1,13 +1,14 @@
 use Rattle.std.proofs.Common.{◌≡◌, ℕ, ◌+◌, ◌<◌, ◌^◌, ◌++◌, length, arith, ap, sym, ◌∙◌, subst}
-use Rattle.std.specs.Prelude.{Option, ◌-◌, slice_set}
+use Rattle.std.specs.Prelude.{Option, IfSome, ◌-◌, slice_set}
 use lib.ListN.{get_elem?}
 use Rattle.pm_words.specs.declared.action.Action.{Action}
 use Rattle.pm_words.specs.declared.machine.Turn.{Turn}
 use Rattle.pm_words.specs.Turns.{GoesBelow}
 use Rattle.call_stages.specs.declared.once.Once.{Once}
 use Rattle.call_stages.specs.declared.once.Placed.{Placed}
+use Rattle.cat_history.specs.Maps.{map_of}
 use Rattle.cat_history.specs.declared.op.Op.{Op}
-use Rattle.node_ops.specs.Asked.{IsOf, IsOfAfter}
+use Rattle.node_ops.specs.Asked.{IsOf, IsOfAfter, op_in}
 use Rattle.pm_words.specs.Rows.{acted, got, CanAct}
 use Rattle.cat_history.specs.declared.op.Change.{Change}
 use Rattle.call_stages.specs.Stages.{counted}
@@ -17,8 +18,11 @@ use Rattle.node_ops.specs.RunningSteps.{running_call, running_left, running_asks
 use Rattle.index_law.specs.Worlds.{facts, written}
 use Rattle.index_law.specs.Laws.{IsLegal}
 use Rattle.index_core.specs.declared.entry.Entry.{Entry}
+use Rattle.index_core.specs.declared.entry.Stepped.{Stepped}
+use Rattle.index_core.specs.Answers.{SaysOf}
 use Rattle.index_core.specs.Entries.{stepped_of, owed}
 use Rattle.index_core.specs.Indexes.{Index, IsIndex, world, told, stepped_index, MakesCall}
+use Rattle.index_core.proofs.Answering.{says_of}
 use Rattle.index_core.proofs.Lists.{within, read_is}
 use Rattle.index_core.proofs.Stepping.{step_facts, step_at, same_machine, step_room, count_room}
 use Rattle.index_core.proofs.index.Core.step.Goals as goal
@@ -167,6 +171,7 @@ returns-clause-stepped g c =
     let roomy = step_room s i e m c.count.new.history.items _ _ _ _ _ there flies.flies (ap (λ (v : Index). v.history) (same 0)) (ap (λ (v : Index). v.entries) (same 0)) c.self.inside.history.ok.0 c.count.new.history.ok.0 c.count.ensures.room c.self.invariant.1 in
     let turn = c.resume.ensures.turned ∙ (λ k. running_turned (same_m k) (c.act-got.ensures.got k)) ∙ ap (λ (a : Action). running_turned m (got s.layout s.words a)) (c.action-action.ensures ∙ ap running_asks same_m) in
     let n : ℕ = c.count.new.history.cap - (c.count.new.history.len + owed (slice_set s.entries i c.after-stepped.result.0)) in
+    let of = subst (λ (o : Option Running). IfSome o (λ q. IsOf (op_in q) q)) flies.flies (c.self.invariant.0.entries i e there).op in
     let new : Index = record { layout = c.act-got.new.self.layout; generation = s.generation; words = c.act-got.new.self.words; entries = slice_set s.entries i c.after-stepped.result.0; base = s.base; history = c.count.new.history.items; spare = n } in
     record {
       entry = e;
@@ -179,6 +184,9 @@ returns-clause-stepped g c =
       keeps_call = subst (λ (v : Index). MakesCall (running_call m) (running_turned m (told v m))) c.self.view_is facts_here.keeps_call;
       fewer = subst (λ (v : Index). GoesBelow running_left (running_left m) (running_turned m (told v m))) c.self.view_is
           (subst (λ (q : Running × Turn Running (Once Placed)). GoesBelow running_left (running_left q.0) q.1) (λ k. (same_m k, turn k)) c.resume.ensures.fewer);
+      answer = subst (λ (r : Stepped). SaysOf (map_of new.base) new.history e (op_in m) r) (sym (c.after-stepped.ensures.stepped ∙ ap stepped_of turn))
+          (subst (λ (v : Index). SaysOf (map_of v.base) v.history e (op_in m) (stepped_of (running_turned m (told s m)))) (sym (same n))
+          (says_of s.layout s.generation (facts (world (stepped_index s i e m n))) e m (told s m) of (facts_here.legal n)));
       legal = subst (λ (v : Index). IsLegal new.layout new.generation (facts (world new)) e.caller e.index e.since (stage_of m) (reply_of (running_turned m (told v m)))) c.self.view_is
           (subst (λ (v : Index). IsLegal v.layout v.generation (facts (world v)) e.caller e.index e.since (stage_of m) (reply_of (running_turned m (told s m)))) (sym (same n)) (facts_here.legal n));
     }

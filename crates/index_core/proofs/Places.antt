@@ -1,0 +1,150 @@
+-- The place of a call in flight, and the answer that it ends with, by its phase.
+use Rattle.std.proofs.Common.{◌≡◌, ℕ, ◌≤◌, true, refl, sym, ap, subst}
+use Rattle.std.specs.Prelude.{Option, Some, None, IfSome, IsSomeAnd}
+use Rattle.std.proofs.lemmas.Bool.{leb-true}
+use Rattle.pm_words.specs.declared.layout.Layout.{Layout}
+use Rattle.pm_words.specs.declared.action.Action.{Action}
+use Rattle.pm_words.specs.declared.action.Action.TheVariants.{Add}
+use Rattle.cat_history.specs.declared.op.Change.{Change}
+use Rattle.cat_history.specs.declared.op.Op.{Op}
+use Rattle.cat_history.specs.declared.op.Op.TheVariants as op
+use Rattle.call_stages.specs.declared.once.Once.{Once}
+use Rattle.call_stages.specs.declared.once.Once.TheVariants as once
+use Rattle.call_stages.specs.declared.once.Placed.{Placed}
+use Rattle.call_stages.specs.Stages.{Stage, counted, placed_in}
+use Rattle.call_stages.specs.Kinds.{clock_place}
+use Rattle.node_ops.specs.declared.call.Call.{Call}
+use Rattle.node_ops.specs.declared.lookup.LookupAt.{LookupAt}
+use Rattle.node_ops.specs.declared.lookup.LookupAt.TheVariants as look
+use Rattle.node_ops.specs.declared.finish.Finish.{Finish}
+use Rattle.node_ops.specs.declared.finish.FinishAt.{FinishAt}
+use Rattle.node_ops.specs.declared.finish.FinishAt.TheVariants as finish_at
+use Rattle.node_ops.specs.declared.get.Get.TheVariants as get
+use Rattle.node_ops.specs.declared.put.Put.TheVariants as put
+use Rattle.node_ops.specs.declared.del.Del.TheVariants as del
+use Rattle.node_ops.specs.declared.running.Running.{Running}
+use Rattle.node_ops.specs.declared.running.Running.TheVariants.{Getting, Putting, Deleting}
+use Rattle.node_ops.specs.Asked.{change_asked}
+use Rattle.node_ops.specs.LookupSteps.{is_spent}
+use Rattle.node_ops.specs.CallStages.{stage_of, lookup_at_stage, finish_at_held}
+use Rattle.index_core.proofs.Phases.{Phase, Locking, Over, Timed, Counted, Goes, refused, worn, saw, moved, locks, times, passes, spent, works, counts, reads, refuses, answers, IsGet, IsWrite, lookup_phase, finish_phase, phase_of}
+
+-- the place that a call has in this phase
+abbrev pub place_in : Phase → Option ℕ
+place_in (Counted w place) = Some place
+place_in _ = None
+
+lookup_place : (call : Call) (at : LookupAt) → placed_in (lookup_at_stage call at) ≡ place_in (lookup_phase at)
+lookup_place call look.Version = refl
+lookup_place call (look.Lock version locked) = refl
+lookup_place call (look.Clock locked) = refl
+lookup_place call (look.Spent hold) = refl
+lookup_place call (look.Bitmap hold) = refl
+lookup_place call (look.Prints hold bitmap prints k) = refl
+lookup_place call (look.Name hold directory left slot k) = refl
+lookup_place call (look.Value hold directory slot) = refl
+
+finish_place : (finish : Finish) (at : FinishAt) → (finish_at_held finish at).placed ≡ place_in (finish_phase finish.hold at)
+finish_place finish (finish_at.Fence fence) = refl
+finish_place finish finish_at.Add = refl
+finish_place finish (finish_at.Unlock place) = refl
+
+-- its stage has the same
+pub place_is : (running : Running) → placed_in (stage_of running) ≡ place_in (phase_of running)
+place_is (Getting (get.Looking lookup)) = lookup_place lookup.call lookup.at
+place_is (Getting (get.Unlocking call hold old)) = refl
+place_is (Putting (put.Looking lookup number)) = lookup_place lookup.call lookup.at
+place_is (Putting (put.Filling fill)) = refl
+place_is (Putting (put.Replacing call hold bitmap hit number)) = refl
+place_is (Putting (put.Finishing finish)) = finish_place finish finish.at
+place_is (Putting (put.Refusing call hold bitmap number)) = refl
+place_is (Deleting (del.Looking lookup)) = lookup_place lookup.call lookup.at
+place_is (Deleting (del.Clearing call hold bitmap hit)) = refl
+place_is (Deleting (del.Finishing finish)) = finish_place finish finish.at
+
+-- a clock that is over the limit has reached it
+abbrev pub IsOverOnly : Option ℕ → Phase → Type 0
+IsOverOnly limit (Over w clock) = IsSomeAnd limit (λ most. most ≤ clock)
+IsOverOnly limit _ = Unit {0}
+
+-- a call that goes on keeps its place, or has none and takes the one that it is told with its change
+abbrev pub Onward : Layout → Phase → Action → ℕ → Phase → Option Change → Type 0
+Onward l phase a x next None = place_in next ≡ place_in phase
+Onward l phase a x next (Some change) = (a ≡ Add (clock_place l)) × (place_in phase ≡ None) × (place_in next ≡ Some x)
+
+-- the place that a call has where it is answered one: only a write has it before
+abbrev pub place_for : Option Change → ℕ → Option ℕ
+place_for None place = None
+place_for (Some change) place = Some place
+
+-- how a call comes to its answer
+abbrev pub EndsWith : Option ℕ → Op → Phase → Once Placed → Type 0
+EndsWith limit asked phase (once.Done placed) = place_in phase ≡ place_for (change_asked asked) placed.place
+EndsWith limit asked phase (once.Spent clock) = (place_in phase ≡ None) × (IsOverOnly limit phase → IsSomeAnd limit (λ most. most ≤ clock))
+EndsWith limit asked phase _ = place_in phase ≡ None
+
+reached : (limit : Option ℕ) (clock : ℕ) → is_spent limit clock ≡ true → IsSomeAnd limit (λ most. most ≤ clock)
+reached None clock e = absurd (cc)
+reached (Some most) clock e = leb-true most clock e
+
+get_changes : (asked : Op) → IsGet asked → change_asked asked ≡ None
+get_changes (op.Get name) is = refl
+get_changes (op.Put _ _) is = absurd is
+get_changes (op.Del _) is = absurd is
+
+write_place : (asked : Op) (place : ℕ) → IsWrite asked → Some place ≡ place_for (change_asked asked) place
+write_place (op.Get name) place is = absurd is
+write_place (op.Put _ _) place is = refl
+write_place (op.Del _) place is = refl
+
+module _ {l : Layout} {g n : ℕ} {limit : Option ℕ} {asked : Op} where
+  pub onward : {phase : Phase} {stage : Stage} {a : Action} {x : ℕ} {next : Phase} {answer : Option (Once Placed)} → Goes l g n limit asked phase stage a x next answer → answer ≡ None
+      → Onward l phase a x next (counted stage)
+  onward refused go = absurd (cc)
+  onward worn go = absurd (cc)
+  onward (saw unworn lock) go = refl
+  onward moved go = absurd (cc)
+  onward locks go = refl
+  onward (times {w = w} {x = x} {h = h} none below) go = subst (Onward l (Locking w) _ x (Timed w x)) (sym none) refl
+  onward (passes {w = w} {x = x} {h = h} none past) go = subst (Onward l (Locking w) _ x (Over w x)) (sym none) refl
+  onward (spent none) go = absurd (cc)
+  onward (works {w = w} {c = clock} {x = x} {a = a} none) go = subst (Onward l (Timed w clock) a x (Timed w clock)) (sym none) refl
+  onward (counts {w = w} {c = clock} {x = x} write some_change) go = subst (Onward l (Timed w clock) (Add (clock_place l)) x (Counted w x)) (sym some_change) (refl, refl, refl)
+  onward (reads get none) go = absurd (cc)
+  onward (refuses put none) go = absurd (cc)
+  onward (answers write none) go = absurd (cc)
+
+  pub over_only : {phase : Phase} {stage : Stage} {a : Action} {x : ℕ} {next : Phase} {answer : Option (Once Placed)} → Goes l g n limit asked phase stage a x next answer → IsOverOnly limit next
+  over_only refused = tt
+  over_only worn = tt
+  over_only (saw unworn lock) = tt
+  over_only moved = tt
+  over_only locks = tt
+  over_only (times none below) = tt
+  over_only (passes {x = x} none past) = reached limit x past
+  over_only (spent none) = tt
+  over_only (works none) = tt
+  over_only (counts write some_change) = tt
+  over_only (reads get none) = tt
+  over_only (refuses put none) = tt
+  over_only (answers write none) = tt
+
+  replies : {phase : Phase} {stage : Stage} {a : Action} {x : ℕ} {next : Phase} {reply : Option (Once Placed)} → Goes l g n limit asked phase stage a x next reply
+      → IfSome reply (λ answer. EndsWith limit asked phase answer × (counted stage ≡ None))
+  replies refused = (refl, refl)
+  replies worn = (refl, refl)
+  replies (saw unworn lock) = tt
+  replies moved = (refl, refl)
+  replies locks = tt
+  replies (times none below) = tt
+  replies (passes none past) = tt
+  replies (spent none) = ((refl, λ over. over), none)
+  replies (works none) = tt
+  replies (counts write some_change) = tt
+  replies (reads {c = clock} get none) = (ap (λ (o : Option Change). place_for o clock) (sym (get_changes asked get)), none)
+  replies (refuses put none) = (refl, none)
+  replies (answers {p = place} write none) = (write_place asked place write, none)
+
+  pub ends_with : {phase : Phase} {stage : Stage} {a : Action} {x : ℕ} {next : Phase} {reply : Option (Once Placed)} → Goes l g n limit asked phase stage a x next reply → (answer : Once Placed) → reply ≡ Some answer
+      → EndsWith limit asked phase answer × (counted stage ≡ None)
+  ends_with {phase = phase} {stage = stage} goes answer is = subst (λ (r : Option (Once Placed)). IfSome r (λ o. EndsWith limit asked phase o × (counted stage ≡ None))) is (replies goes)
