@@ -6,7 +6,7 @@ use Rattle.std.proofs.lemmas.Bool.{cases_eq, cases_lt, ne_eqb}
 use Rattle.pm_words.specs.declared.layout.Layout.{Layout}
 use Rattle.pm_words.specs.declared.action.Action.{Action}
 use Rattle.version_lock.specs.Versions.{IsFree}
-use Rattle.cat_history.specs.Maps.{Map, at}
+use Rattle.cat_history.specs.Maps.{Map}
 use Rattle.cat_history.specs.Writes.{changed}
 use Rattle.cat_history.specs.declared.op.Change.{Change}
 use Rattle.data_node.specs.Spots.{Spot, Means, updated}
@@ -62,9 +62,9 @@ module _ (slots : ℕ) (range : List ℕ → Bool) (m : Map) (durable s : Spot) 
   known_mix clean mix is [] all = tt
   known_mix clean mix is (w ∷ seen) all = (
     ⊎_elim
-    (λ dirty. inl dirty)
-    (λ spared. inr (⊎_elim (λ durably. durably ∙ clean w.0 spared ∙ all.0) (λ cached. cached ∙ all.0) (is w.0)))
-    (among_or h.dirty w.0),
+        (λ dirty. inl dirty)
+        (λ spared. inr (⊎_elim (λ durably. durably ∙ clean w.0 spared ∙ all.0) (λ cached. cached ∙ all.0) (is w.0)))
+        (among_or h.dirty w.0),
     known_mix clean mix is seen all.1,
   )
 

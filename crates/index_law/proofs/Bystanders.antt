@@ -6,13 +6,14 @@ use Rattle.std.proofs.lemmas.List.{append-nil, length-append}
 use Rattle.pm_words.specs.declared.layout.Layout.{Layout}
 use Rattle.cat_history.specs.Maps.{Map, at}
 use Rattle.cat_history.specs.Writes.{name_of, after}
+use Rattle.cat_history.proofs.ChangeLemmas.{at-changed_other}
 use Rattle.cat_history.specs.declared.op.Change.{Change}
 use Rattle.cat_history.specs.declared.op.Write.{Write}
 use Rattle.data_node.specs.Spots.{Spot, Means, updated}
 use Rattle.call_stages.specs.Stages.{Knows, Held, Stage, Idle, Saw, Holds, pended}
 use Rattle.index_law.specs.Facts.{Facts, map_now, range_of, cached_word}
 use Rattle.index_law.specs.Lawful.{HoldsNode, IsTime, HasWriteAt, IsPlaced, map_before, SureHolds, Sure}
-use Rattle.index_law.proofs.Maps.{at-changed_other, at-changed_alike, after_all-push, after-longer, slice_get-longer, means_alike}
+use Rattle.index_law.proofs.Maps.{at-changed_alike, after_all-push, after-longer, slice_get-longer, means_alike}
 use Rattle.index_law.proofs.Rows.{with_version, with_word, with_writes}
 
 -- what holds of what is there holds of it in another way

@@ -1,20 +1,20 @@
 -- What a step makes of the durable twins and of the words in front of the nodes, read off the row.
-use Rattle.std.proofs.Common.{◌≡◌, ℕ, ◌+◌, ◌<◌, inl, Bool, true, false, cond, List, length, slice_index, slice_set, refl, sym, ap, ◌∙◌, subst, arith}
+use Rattle.std.proofs.Common.{◌≡◌, ℕ, inl, true, false, cond, List, length, slice_index, slice_set, refl, sym, ap, ◌∙◌, subst, arith}
 use Rattle.std.specs.Prelude.{Option, Some, IfSome}
 use Rattle.pm_words.specs.declared.layout.Layout.{Layout}
 use Rattle.pm_words.specs.declared.action.Action.{Action}
 use Rattle.pm_words.specs.declared.action.Action.TheVariants.{Drain}
-use Rattle.pm_words.specs.Places.{Word, Header, Node, Place, Clock, Cached, Durable, HasWord, HasPlace, at, place_number, word_number, row_words}
-use Rattle.pm_words.specs.Rows.{IsRow, acted, evicted, got}
+use Rattle.pm_words.specs.Places.{Word, Header, Node, Place, Clock, Cached, Durable, HasWord, at, word_number, row_words}
+use Rattle.pm_words.specs.Rows.{IsRow, acted, got}
 use Rattle.pm_words.proofs.Apart.{words_within, at-set_other, at-set_same}
 use Rattle.pm_words.proofs.Kept.{place_of-drain}
 use Rattle.cat_history.specs.Maps.{Map}
 use Rattle.cat_history.specs.declared.op.Write.{Write}
 use Rattle.call_stages.specs.declared.once.Once.{Once}
 use Rattle.call_stages.specs.declared.once.Placed.{Placed}
-use Rattle.call_stages.specs.Stages.{Held, Stage, Holds}
-use Rattle.call_stages.specs.Kinds.{HasWordAt, word_place, version_place, Look, Step, looks, locks, stores, commits, drains, counts, unlocks}
-use Rattle.index_law.specs.Facts.{Facts, facts_of, cached_word, durable_spot, spot_in}
+use Rattle.call_stages.specs.Stages.{Stage}
+use Rattle.call_stages.specs.Kinds.{HasWordAt, word_place, Step, looks, locks, stores, commits, drains, counts, unlocks}
+use Rattle.index_law.specs.Facts.{facts_of, cached_word, durable_spot, spot_in}
 use Rattle.index_law.specs.Lawful.{Sure}
 use Rattle.index_law.proofs.Backing.{Drained}
 use Rattle.index_law.proofs.Moves.{look_keeps}

@@ -1,13 +1,13 @@
 -- What a crash leaves of a lawful index.
-use Rattle.std.proofs.Common.{◌≡◌, ℕ, ◌<◌, ◌≤◌, ◌⊎◌, inl, inr, ⊎_elim, Bool, true, false, cond, List, refl, sym, ap, ◌∙◌, subst, arith}
+use Rattle.std.proofs.Common.{◌≡◌, ℕ, ◌<◌, ◌≤◌, ◌⊎◌, inl, inr, ⊎_elim, cond, List, refl, sym, ap, ◌∙◌, subst, arith}
 use Rattle.std.specs.Prelude.{Option, Some, None, IfSome}
 use mathlib.Core.Option.{some}
 use lib.ListN.{get_elem?}
 use Rattle.pm_words.specs.declared.layout.Layout.{Layout}
-use Rattle.pm_words.specs.Places.{Word, Header, Root, Node, Durable, at, word_at}
+use Rattle.pm_words.specs.Places.{Header, Node, word_at}
 use Rattle.pm_words.specs.Rows.{durable_row}
 use Rattle.pm_words.proofs.Made.{durable_row-at}
-use Rattle.version_lock.specs.Versions.{generation_of, IsFree}
+use Rattle.version_lock.specs.Versions.{generation_of, IsFree, IsGeneration}
 use Rattle.cat_key.specs.Names.{IsName}
 use Rattle.cat_history.specs.Maps.{Map}
 use Rattle.cat_history.specs.Maps as maps
@@ -15,16 +15,14 @@ use Rattle.cat_history.specs.Writes.{changed, name_of}
 use Rattle.cat_history.specs.declared.op.Change.{Change}
 use Rattle.data_node.specs.Spots.{Spot, Means}
 use Rattle.sound_image.specs.Nodes.{image_spot}
-use Rattle.sound_image.specs.Rules.{IsSpare}
-use Rattle.sound_image.specs.Sound.{IsSound, IsMapOf}
 use Rattle.sound_image.specs.Laws.{KeepsRules}
 use Rattle.sound_image.proofs.TidyLemmas.{keeps_sound}
-use Rattle.call_stages.specs.Stages.{Held, Stage, Idle, Saw, Holds, pended, pending_in}
+use Rattle.call_stages.specs.Stages.{Stage, Idle, Saw, Holds, pended, pending_in}
 use Rattle.index_law.specs.Facts.{Facts, map_now, range_of, durable_spot}
 use Rattle.index_law.specs.Twins.{BacksStage}
 use Rattle.index_law.specs.Worlds.{Party, World, facts}
 use Rattle.index_law.specs.Lawful.{HoldsNode, IsHeld, Sure, Lawful}
-use Rattle.index_law.specs.Laws.{HasPending, CrashLaw, CrashLeavesSound}
+use Rattle.index_law.specs.Laws.{HasPending, CrashLeavesSound}
 use Rattle.index_law.proofs.Maps.{changed_names}
 use Rattle.index_law.proofs.Rows.{in_spot}
 
@@ -91,18 +89,12 @@ rules w lawful end means =
     let image = durable_row l w.words in
     let generation : word_at l image (Header 5) ≡ w.generation = durable_row-at l w.words (Header 5) ∙ lawful.durable_front.generation in
     record {
-      generation = record { least = subst (λ (g : ℕ). 1 ≤ g) (sym generation) lawful.run.least; fits = let fits = lawful.run.fits in omega (arith, generation) };
-      spare = spare;
+      generation = subst IsGeneration (sym generation) lawful.run;
+      spare = λ v spare. durable_row-at l w.words v ∙ lawful.durable_front.spare v spare;
       versions = λ n here. subst (λ (v : ℕ). generation_of v ≤ word_at l image (Header 5)) (sym (durable_row-at l w.words (Node n 0)))
           (let known = lawful.durable_versions n here in omega (arith, generation));
       tidy = λ n listed. (means n listed).tidy;
     }
-  where
-    spare : (v : Word) → IsSpare v → word_at w.layout (durable_row w.layout w.words) v ≡ 0
-    spare (Header o) is = durable_row-at w.layout w.words (Header o) ∙ lawful.durable_front.header o is.0 is.1
-    spare (Root o) is = durable_row-at w.layout w.words (Root o) ∙ lawful.durable_front.root o is.0 is.1
-    spare (Node n o) is = absurd is
-    spare _ is = absurd is
 
 pub crash_law : CrashLeavesSound
 crash_law w lawful names =

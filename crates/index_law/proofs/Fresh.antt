@@ -9,12 +9,13 @@ use Rattle.std.proofs.lemmas.Nat.Bits.{bit_at-zero}
 use Rattle.pm_words.specs.declared.layout.Layout.{Layout}
 use Rattle.pm_words.specs.Layouts.{IsLayout}
 use Rattle.pm_words.specs.Images.{fresh_words, fresh_word}
-use Rattle.pm_words.specs.Places.{Word, Header, Root, Node, Cached, Durable, Clock, HasWord, at}
+use Rattle.pm_words.specs.Places.{Word, Header, Root, Node, Line, Leaf, Cell, Cached, Durable, Clock, HasWord, at}
 use Rattle.pm_words.specs.Rows.{row_of}
 use Rattle.pm_words.proofs.Made.{fresh_at, fresh_image, row_of-at, row_of-at_volatile, row_of-row}
 use Rattle.version_lock.specs.Versions.{generation_of, IsFree}
 use Rattle.data_node.specs.Slots.{IsLive}
 use Rattle.data_node.specs.Spots.{Spot, IsLiveIn, Means, Finds, bitmap_offset}
+use Rattle.sound_image.specs.Rules.{IsSpare}
 use Rattle.call_stages.specs.Kinds.{HasWordAt, word_place}
 use Rattle.index_law.specs.Facts.{version_in, spot_in, durable_spot}
 use Rattle.index_law.specs.Laws.{FreshIsAtRest}
@@ -46,11 +47,14 @@ fresh_zero l n offset layout has = (row_of-at l (fresh_words l) (Node n offset) 
 fresh_version : (l : Layout) (n : ℕ) → IsLayout l → n < l.nodes → version_in l (row_of l (fresh_words l)) n ≡ 0
 fresh_version l n layout here = version_in-here l (row_of l (fresh_words l)) n here ∙ fresh_zero l n 0 layout (here, omega arith)
 
--- the durable twin of each word is the image's
+-- both twins of each word are the image's
+fresh_cached : (l : Layout) (w : Word) → IsLayout l → HasWord l w → at l (row_of l (fresh_words l)) (Cached w) ≡ fresh_word l w
+fresh_cached l w layout has = (row_of-at l (fresh_words l) w (fresh_image l layout) has).0 ∙ fresh_at l w has
+
 fresh_durable : (l : Layout) (w : Word) → IsLayout l → HasWord l w → at l (row_of l (fresh_words l)) (Durable w) ≡ fresh_word l w
 fresh_durable l w layout has = (row_of-at l (fresh_words l) w (fresh_image l layout) has).1 ∙ fresh_at l w has
 
--- both twins of a node's words are the image's
+-- the twins of a node's words are alike
 fresh_twins : (l : Layout) (n offset : ℕ) → IsLayout l → durable_spot l (row_of l (fresh_words l)) n offset ≡ spot_in l (row_of l (fresh_words l)) n offset
 unfolding durable_spot spot_in
 fresh_twins l n offset layout =
@@ -63,12 +67,20 @@ fresh_twins l n offset layout =
       | false ↦ λ is. refl
     ] refl
 
--- behind the generation the header is 0
-past_header : (l : Layout) (k : ℕ) → 6 ≤ k → k < 8 → fresh_word l (Header k) ≡ 0
-past_header l k least most = elim (cases_eq k 6) [
-  | inl six ↦ subst (λ (i : ℕ). fresh_word l (Header i) ≡ 0) (sym six) refl
-  | inr other ↦ subst (λ (i : ℕ). fresh_word l (Header i) ≡ 0) (let seven : 7 ≡ k = omega (arith, other) in seven) refl
-]
+-- a spare word is 0
+spare_zero : (l : Layout) (w : Word) → IsSpare w → HasWord l w × (fresh_word l w ≡ 0)
+spare_zero l (Header o) is = (
+  is.1,
+  elim (cases_eq o 6) [
+    | inl six ↦ subst (λ (i : ℕ). fresh_word l (Header i) ≡ 0) (sym six) refl
+    | inr other ↦ subst (λ (i : ℕ). fresh_word l (Header i) ≡ 0) (let seven : 7 ≡ o = omega (arith, other) in seven) refl
+  ],
+)
+spare_zero l (Root o) is = (is.1, refl)
+spare_zero l (Node n o) is = absurd is
+spare_zero l (Line c j o) is = absurd is
+spare_zero l (Leaf k o) is = absurd is
+spare_zero l (Cell kind k o) is = absurd is
 
 pub fresh_law : FreshIsAtRest
 fresh_law l parties layout one_node idle begun = record {
@@ -85,14 +97,12 @@ fresh_law l parties layout one_node idle begun = record {
   durable = λ n here offset. fresh_twins l n offset layout;
   durable_versions = λ n here. subst (λ (v : ℕ). generation_of v ≤ 1) (sym (fresh_durable l (Node n 0) layout (here, omega arith))) (omega arith);
   front = record {
-    generation = (row_of-at l (fresh_words l) (Header 5) (fresh_image l layout) (omega arith)).0 ∙ fresh_at l (Header 5) (omega arith);
-    header = λ k least most. (row_of-at l (fresh_words l) (Header k) (fresh_image l layout) most).0 ∙ fresh_at l (Header k) most ∙ past_header l k least most;
-    root = λ k least most. (row_of-at l (fresh_words l) (Root k) (fresh_image l layout) most).0 ∙ fresh_at l (Root k) most;
+    generation = fresh_cached l (Header 5) layout (omega arith);
+    spare = λ w is. let zero = spare_zero l w is in fresh_cached l w layout zero.0 ∙ zero.1;
   };
   durable_front = record {
     generation = fresh_durable l (Header 5) layout (omega arith);
-    header = λ k least most. fresh_durable l (Header k) layout most ∙ past_header l k least most;
-    root = λ k least most. fresh_durable l (Root k) layout most;
+    spare = λ w is. let zero = spare_zero l w is in fresh_durable l w layout zero.0 ∙ zero.1;
   };
   idle = idle;
   begun = begun;

@@ -1,10 +1,9 @@
 -- Maps after a change and after longer histories.
-use Rattle.std.proofs.Common.{◌≡◌, ◌≢◌, ℕ, zero, suc, ◌≤◌, Bool, true, false, cond, Option, Some, None, inl, inr, List, [], ◌∷◌, ◌++◌, length, refl, sym, ap, ◌∙◌, subst}
+use Rattle.std.proofs.Common.{◌≡◌, ℕ, zero, suc, ◌≤◌, Bool, true, cond, Option, Some, None, inl, inr, List, [], ◌∷◌, ◌++◌, length, refl, sym, ap, ◌∙◌, subst}
 use Rattle.std.specs.Prelude.{slice_get}
-use Rattle.std.specs.FinMap.{get-insert, get-remove, slice_cmp-IsAntisymmetric, nat_cmp-IsAntisymmetric}
-use Rattle.std.specs.Ordering.{eq_by_cmp, is_eq, nat_cmp}
+use Rattle.std.specs.FinMap.{get-insert, get-remove}
+use Rattle.std.specs.Ordering.{eq_by_cmp, nat_cmp}
 use Rattle.std.specs.Cmp.Lexicographic.{slice_cmp}
-use Rattle.std.specs.declared.cmp.Ordering.TheVariants.{Less, Equal, Greater}
 use Rattle.std.proofs.lemmas.Cmp.{nat_list_cmp_total}
 use Rattle.std.proofs.lemmas.List.{take-append-le}
 use Rattle.std.proofs.lemmas.List.Sums.{fold-append}
@@ -18,20 +17,7 @@ use Rattle.cat_key.specs.Names.{IsName}
 use Rattle.data_node.specs.Spots.{Spot, Means, Finds}
 use Rattle.data_node.proofs.SpotLemmas.{same_name}
 
-untied : (a b : List ℕ) → a ≢ b → eq_by_cmp (slice_cmp nat_cmp) a b ≡ false
-untied a b other =
-    elim (slice_cmp nat_cmp a b) as (λ r. slice_cmp nat_cmp a b ≡ r → is_eq r ≡ false) [
-      | Less ↦ λ is. refl
-      | Equal ↦ λ is. absurd (other (slice_cmp-IsAntisymmetric nat_cmp-IsAntisymmetric a b is))
-      | Greater ↦ λ is. refl
-    ] refl
-
--- a change leaves every other name
-pub at-changed_other : (m : Map) (c : Change) (name : List ℕ) → name ≢ name_of c → at (changed m c) name ≡ at m name
-at-changed_other m (Put key value) name other = get-insert nat_list_cmp_total m key value name ∙ ap (λ (b : Bool). cond b (Some value) (at m name)) (untied name key other)
-at-changed_other m (Del key) name other = get-remove nat_list_cmp_total m key name ∙ ap (λ (b : Bool). cond b None (at m name)) (untied name key other)
-
--- and at a name at which two maps are alike it leaves them alike
+-- at a name at which two maps are alike a change leaves them alike
 pub at-changed_alike : (m m' : Map) (c : Change) (name : List ℕ) → at m' name ≡ at m name → at (changed m' c) name ≡ at (changed m c) name
 at-changed_alike m m' (Put key value) name same =
     get-insert nat_list_cmp_total m' key value name ∙ ap (λ (o : Option ℕ). cond (eq_by_cmp (slice_cmp nat_cmp) name key) (Some value) o) same

@@ -1,10 +1,10 @@
 -- Words that become durable: each durable twin stays, or is its cached twin from then on.
-use Rattle.std.proofs.Common.{◌≡◌, ℕ, ◌+◌, ◌<◌, ◌≤◌, ◌⊎◌, inl, inr, ⊎_elim, Bool, true, false, cond, List, length, slice_index, slice_set, refl, sym, ap, ◌∙◌, subst, arith}
+use Rattle.std.proofs.Common.{◌≡◌, ℕ, ◌<◌, ◌≤◌, ◌⊎◌, inl, inr, ⊎_elim, true, false, cond, List, length, slice_index, slice_set, refl, sym, ◌∙◌, subst, arith}
 use Rattle.std.proofs.lemmas.Bool.{cases_eq}
 use Rattle.std.proofs.lemmas.List.{get_or-set_same, get_or-set_other}
 use Rattle.pm_words.specs.declared.layout.Layout.{Layout}
 use Rattle.pm_words.specs.declared.action.Action.TheVariants.{Drain}
-use Rattle.pm_words.specs.Places.{Word, Header, Root, Node, Place, Cached, Durable, HasWord, HasPlace, at, place_number, word_number, image_words, row_words, cached_place, durable_place}
+use Rattle.pm_words.specs.Places.{Word, Header, Root, Node, Line, Leaf, Cell, Place, Cached, Durable, HasWord, HasPlace, at, place_number, word_number, image_words, row_words, cached_place, durable_place}
 use Rattle.pm_words.specs.Rows.{acted, evicted}
 use Rattle.pm_words.proofs.Apart.{words_within, at-set_other}
 use Rattle.pm_words.proofs.Kept.{place_of-drain}
@@ -12,11 +12,12 @@ use Rattle.version_lock.specs.Versions.{generation_of}
 use Rattle.cat_history.specs.Maps.{Map}
 use Rattle.cat_history.specs.declared.op.Write.{Write}
 use Rattle.data_node.specs.Spots.{Spot}
+use Rattle.sound_image.specs.Rules.{IsSpare}
 use Rattle.call_stages.specs.Stages.{Held, Stage, Idle, Saw, Holds}
-use Rattle.call_stages.specs.Kinds.{HasWordAt, version_place, word_place}
-use Rattle.index_law.specs.Facts.{Facts, facts_of, version_in, spot_in, durable_version, durable_spot}
+use Rattle.call_stages.specs.Kinds.{HasWordAt, word_place}
+use Rattle.index_law.specs.Facts.{Facts, facts_of, spot_in, durable_spot}
 use Rattle.index_law.specs.Lawful.{AreKnown}
-use Rattle.index_law.specs.Twins.{IsMix, IsBacked, BacksStage, AreDurable, AreDurablyKnown, IsFront}
+use Rattle.index_law.specs.Twins.{IsBacked, BacksStage, AreDurable, AreDurablyKnown, IsFront}
 use Rattle.index_law.proofs.Rows.{in_spot, in_spot-true, version_in-here}
 
 -- the durable words of another row are those of this one, or its cached ones
@@ -89,18 +90,25 @@ module _ (l : Layout) (words words' : List ℕ) (base : Map) (history : List Wri
       subst (λ (v : ℕ). generation_of v ≤ g) (version_in-here l words n here ∙ sym is) (known n here))
       (closer (Node n 0) has)
 
+-- spare words are words, and no node's
+spare_word : (l : Layout) (w : Word) → IsSpare w → HasWord l w × ((n offset : ℕ) → w ≡ Node n offset → ⊥)
+spare_word l (Header o) is = (is.1, λ n offset e. cc)
+spare_word l (Root o) is = (is.1, λ n offset e. cc)
+spare_word l (Node n o) is = absurd is
+spare_word l (Line c j o) is = absurd is
+spare_word l (Leaf k o) is = absurd is
+spare_word l (Cell kind k o) is = absurd is
+
 -- and the words in front of the nodes stay
 pub closer_front : (l : Layout) (g : ℕ) (words words' : List ℕ) → IsCloser l words words' → IsFront l g words Cached → IsFront l g words Durable → IsFront l g words' Durable
 closer_front l g words words' closer cached durable = record {
   generation = ⊎_elim (λ stays. stays ∙ durable.generation) (λ is. is ∙ cached.generation) (closer (Header 5) (omega arith));
-  header = λ k least most. ⊎_elim (λ stays. stays ∙ durable.header k least most) (λ is. is ∙ cached.header k least most) (closer (Header k) most);
-  root = λ k least most. ⊎_elim (λ stays. stays ∙ durable.root k least most) (λ is. is ∙ cached.root k least most) (closer (Root k) most);
+  spare = λ w spare. ⊎_elim (λ stays. stays ∙ durable.spare w spare) (λ is. is ∙ cached.spare w spare) (closer w (spare_word l w spare).0);
 }
 
 pub cached_front : (l : Layout) (g : ℕ) (words words' : List ℕ) → ((w : Word) → HasWord l w → ((n offset : ℕ) → w ≡ Node n offset → ⊥) → at l words' (Cached w) ≡ at l words (Cached w))
     → IsFront l g words Cached → IsFront l g words' Cached
 cached_front l g words words' same front = record {
   generation = same (Header 5) (omega arith) (λ n offset e. cc) ∙ front.generation;
-  header = λ k least most. same (Header k) most (λ n offset e. cc) ∙ front.header k least most;
-  root = λ k least most. same (Root k) most (λ n offset e. cc) ∙ front.root k least most;
+  spare = λ w spare. same w (spare_word l w spare).0 (spare_word l w spare).1 ∙ front.spare w spare;
 }

@@ -5,8 +5,8 @@ use lib.ListN.{get_elem?}
 use Rattle.pm_words.specs.declared.layout.Layout.{Layout}
 use Rattle.pm_words.specs.Places.{Cached, Durable}
 use Rattle.pm_words.specs.Rows.{IsRow}
-use Rattle.version_lock.specs.declared.TheConstants.{LAST_COUNT, GENERATION_LIMIT}
-use Rattle.version_lock.specs.Versions.{generation_of, count_of, kept_count, locked_word, IsFree, IsLocked, IsWorn}
+use Rattle.version_lock.specs.declared.TheConstants.{LAST_COUNT}
+use Rattle.version_lock.specs.Versions.{generation_of, count_of, kept_count, locked_word, IsFree, IsLocked, IsWorn, IsGeneration}
 use Rattle.cat_key.specs.Names.{IsName}
 use Rattle.cat_history.specs.Maps.{Map, at}
 use Rattle.cat_history.specs.Writes.{name_of, after, after_all}
@@ -114,11 +114,6 @@ AreFreeOrHeld l g f parties = (n : ℕ) → n < l.nodes → IsFree (f.version n)
 -- No version word is of a later run. It reads the version words.
 abbrev pub AreKnown : Layout → ℕ → Facts → Type 0
 AreKnown l g f = (n : ℕ) → n < l.nodes → generation_of (f.version n) ≤ g
-
--- The number of a run: it fits into a version word.
-pub record IsGeneration (g : ℕ) : Type 0 where
-  pub least : 1 ≤ g
-  pub fits : g < GENERATION_LIMIT
 
 -- The clock is the length of the history. It reads the clock alone.
 abbrev pub ClockCounts : Layout → List ℕ → List Write → Type 0

@@ -12,7 +12,7 @@ use Rattle.pm_words.specs.Layouts.{IsLayout}
 use Rattle.pm_words.specs.Images.{fresh_words}
 use Rattle.pm_words.specs.Places.{Cached, Durable, image_words}
 use Rattle.pm_words.specs.Rows.{IsRow, MayName, CanAct, acted, got, row_of, durable_row}
-use Rattle.version_lock.specs.Versions.{IsFree, IsWorn}
+use Rattle.version_lock.specs.Versions.{IsFree, IsWorn, IsGeneration}
 use Rattle.cat_key.specs.Names.{IsName}
 use Rattle.cat_history.specs.Maps.{Map, at}
 use Rattle.cat_history.specs.Writes.{after, changed}
@@ -28,7 +28,7 @@ use Rattle.call_stages.specs.Kinds.{Step, Told, HasWordAt, clock_place, word_pla
 use Rattle.index_law.specs.Facts.{Facts, map_now, range_of, durable_spot}
 use Rattle.index_law.specs.Twins.{AreDurablyKnown, IsFront}
 use Rattle.index_law.specs.Worlds.{Party, World, facts, stepped, started, joined, evicted}
-use Rattle.index_law.specs.Lawful.{Lawful, Each, HasWriteAt, IsGeneration, ClockCounts, AreKnown, HaveBegun}
+use Rattle.index_law.specs.Lawful.{Lawful, Each, HasWriteAt, ClockCounts, AreKnown, HaveBegun}
 
 -- The actions that a party may do at its stage: which word it may change, and the right under which it may.
 pub data Allowed (l : Layout) : Stage → Action → Type 0 where

@@ -1,9 +1,10 @@
 -- What the durable twins of an index's words are between any two steps.
 use Rattle.std.specs.Prelude.{◌≡◌, ℕ, ◌<◌, ◌≤◌, ◌⊎◌, List}
 use Rattle.pm_words.specs.declared.layout.Layout.{Layout}
-use Rattle.pm_words.specs.Places.{Word, Header, Root, Place, Cached, Durable, at}
+use Rattle.pm_words.specs.Places.{Word, Header, Place, at}
 use Rattle.version_lock.specs.Versions.{generation_of, IsFree}
 use Rattle.data_node.specs.Spots.{Spot, Means}
+use Rattle.sound_image.specs.Rules.{IsSpare}
 use Rattle.call_stages.specs.Stages.{Held, Stage, Idle, Saw, Holds, IsAmong, pended}
 use Rattle.index_law.specs.Facts.{Facts, map_now, range_of, durable_spot, durable_version}
 
@@ -36,5 +37,4 @@ AreDurablyKnown l g words = (n : ℕ) → n < l.nodes → generation_of (durable
 -- One twin of the words in front of the nodes, but for those that the layout tells. It reads these words.
 pub record IsFront (l : Layout) (g : ℕ) (words : List ℕ) (twin : Word → Place) : Type 0 where
   pub generation : at l words (twin (Header 5)) ≡ g
-  pub header : (k : ℕ) → 6 ≤ k → k < 8 → at l words (twin (Header k)) ≡ 0
-  pub root : (k : ℕ) → 1 ≤ k → k < 8 → at l words (twin (Root k)) ≡ 0
+  pub spare : (w : Word) → IsSpare w → at l words (twin w) ≡ 0

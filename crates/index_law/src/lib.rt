@@ -7,6 +7,6 @@
 mod laws;
 
 pub use laws::{
-    action_law, allow_law, crash_law, evict_law, fresh_law, idle_law, join_law, names_law, rest_law,
-    round_law, start_law, step_law,
+    action_law, allow_law, crash_law, evict_law, fresh_law, idle_law, join_law, names_law,
+    rest_law, round_law, start_law, step_law,
 };
