@@ -1,11 +1,6 @@
 -- In the row of a fresh image nothing is in flight, and its node means the empty map.
-use Rattle.std.proofs.Common.{◌≡◌, ℕ, ◌<◌, ◌≤◌, ◌==◌, Bool, true, false, cond, List, slice_index, inl, inr, refl, sym, ◌∙◌, subst, arith}
-use Rattle.std.specs.FinMap.{empty, get-empty}
-use Rattle.std.specs.Ordering.{nat_cmp}
-use Rattle.std.specs.Cmp.Lexicographic.{slice_cmp}
+use Rattle.std.proofs.Common.{◌≡◌, ℕ, ◌<◌, ◌≤◌, ◌==◌, true, false, cond, slice_index, inl, inr, refl, sym, ◌∙◌, subst, arith}
 use Rattle.std.proofs.lemmas.Bool.{cases_eq}
-use Rattle.std.proofs.lemmas.Nat.{pow_pos}
-use Rattle.std.proofs.lemmas.Nat.Bits.{bit_at-zero}
 use Rattle.pm_words.specs.declared.layout.Layout.{Layout}
 use Rattle.pm_words.specs.Layouts.{IsLayout}
 use Rattle.pm_words.specs.Images.{fresh_words, fresh_word}
@@ -13,32 +8,12 @@ use Rattle.pm_words.specs.Places.{Word, Header, Root, Node, Line, Leaf, Cell, Ca
 use Rattle.pm_words.specs.Rows.{row_of}
 use Rattle.pm_words.proofs.Made.{fresh_at, fresh_image, row_of-at, row_of-at_volatile, row_of-row}
 use Rattle.version_lock.specs.Versions.{generation_of, IsFree}
-use Rattle.data_node.specs.Slots.{IsLive}
-use Rattle.data_node.specs.Spots.{Spot, IsLiveIn, Means, Finds, bitmap_offset}
 use Rattle.sound_image.specs.Rules.{IsSpare}
+use Rattle.data_node.proofs.SpotLemmas.{means_empty}
 use Rattle.call_stages.specs.Kinds.{HasWordAt, word_place}
 use Rattle.index_law.specs.Facts.{version_in, spot_in, durable_spot}
 use Rattle.index_law.specs.Laws.{FreshIsAtRest}
 use Rattle.index_law.proofs.Rows.{in_spot, in_spot-true, version_in-here, spot_in-here}
-
--- no slot is live where the bitmap is 0
-none_live : (s : Spot) → s bitmap_offset ≡ 0 → (slot : ℕ) → IsLiveIn s slot → ⊥
-none_live s none slot live =
-    let clear = bit_at-zero slot in
-    let set : IsLive 0 slot = subst (λ (b : ℕ). IsLive b slot) none live in
-    absurd (omega arith)
-
--- a node without a live slot means the empty map, on any range
-pub means_empty : (slots : ℕ) (range : List ℕ → Bool) (s : Spot) → s bitmap_offset ≡ 0 → Means slots range s empty
-means_empty slots range s none = record {
-  tidy = record {
-    bounded = let positive = pow_pos slots in omega (arith, none);
-    named = λ slot within live. absurd (none_live s none slot live);
-    printed = λ slot within live. absurd (none_live s none slot live);
-    apart = λ slot other within within' live live' same. absurd (none_live s none slot live);
-  };
-  agrees = λ name is inside. subst (Finds slots s name) (sym (get-empty (slice_cmp nat_cmp) name)) (λ slot within live same. none_live s none slot live);
-}
 
 -- each word of a node is 0
 fresh_zero : (l : Layout) (n offset : ℕ) → IsLayout l → HasWordAt l n offset → slice_index (row_of l (fresh_words l)) (word_place l n offset) ≡ 0

@@ -40,6 +40,6 @@ slots_map s zero = empty
 slots_map s (suc slot) =
     if bit_at (s bitmap_offset) slot == 1 then insert (slots_map s slot) (bytes_of (name_words s slot)) (value_in s slot) else slots_map s slot
 
--- The map that an image keeps, if it is sound.
+-- The map that an image keeps, if it is sound: node 0 has all its names.
 abbrev pub image_map : Layout → List ℕ → Map
 image_map l image = slots_map (image_spot l image 0) l.slots

@@ -1,7 +1,7 @@
 //! What a sound image of the index is, which map it keeps, and the program that finds where an image is not sound.
 //!
-//! An image is sound where it breaks none of the rules of `specs/Rules`. Whatever moment a crash comes at, it leaves a
-//! sound image; so one that breaks a rule was damaged otherwise, and is not opened.
+//! An image is sound where it breaks none of the rules of `specs/Rules`. They are of the header and of node 0 as yet, where
+//! all names are.
 #![tactic(auto)]
 
 mod broken;
