@@ -1,8 +1,8 @@
 -- The index as a map of names: its names counted, and its calls left.
-use Rattle.std.proofs.Common.{◌≡◌, ℕ, ◌+◌, ◌-◌, ◌<◌, ◌≤◌, ◌^◌, min, Bool, true, false, cond, List, [], length, inl, inr, refl, sym, ap, ◌∙◌, subst, arith}
-use Rattle.std.specs.Prelude.{Option, Some, None}
-use Rattle.std.specs.Option.{is_some, is_none}
-use Rattle.std.specs.FinMap.{insert, remove, len, empty, len-insert, len-remove, len-empty, empty_of_len, get-empty}
+use Rattle.std.proofs.Common.{◌≡◌, ℕ, ◌+◌, ◌-◌, ◌≤◌, Bool, true, false, cond, List, length, inl, inr, sym, ap, ◌∙◌, subst, arith}
+use Rattle.std.specs.Prelude.{Option}
+use Rattle.std.specs.Option.{is_some}
+use Rattle.std.specs.FinMap.{insert, remove, len, len-insert, len-remove, len-empty, empty_of_len, get-empty}
 use Rattle.std.proofs.lemmas.Bool.{cases_eq, false≢true}
 use Rattle.std.proofs.Math.Nat.{le-min}
 use Rattle.std.proofs.lemmas.Cmp.{nat_list_cmp_total}
@@ -43,6 +43,7 @@ some_name m name has =
       | inr other ↦ omega arith
     ]
 
+-- a count of names from which a name that is there can be taken
 pub told_name : (s : Index) (name : List ℕ) (names : ℕ) (old : Option ℕ) → IsCoreMap s names → old ≡ at (map_of_index s) name → is_some old ≡ true → 1 ≤ names
 told_name s name names old was told is = let one = some_name (map_of_index s) name (sym (ap is_some told) ∙ is) in let counted = was.counted in omega (arith, one, counted)
 
@@ -75,6 +76,7 @@ fresh_map l s s' fresh kept = record {
   counted = sym (ap (λ (v : Index). len (map_of_index v)) kept ∙ (λ k. len (after_all (map_of (fresh.base k)) (fresh.history k))) ∙ len-empty name_cmp ℕ);
 }
 
+-- it has a lock of its node left, and a number below 2^62 for its clock, for each of the calls
 pub fresh_calls : (l : Layout) (s s' : Index) (calls : ℕ) → IsLayout l → l.nodes ≡ 1 → IsFreshIndex l s → s' ≡ record s { spare = s'.spare } → calls ≤ s'.spare →
     calls ≤ LAST_COUNT → calls ≤ calls_left_of s'
 fresh_calls l s s' calls layout one fresh kept spare few =

@@ -78,15 +78,36 @@ fn placed(answer: Option<Once<Placed>>) -> Option<Placed> {
     }
 }
 
-/// The rest of a party's call. Where it is turned back it is made once more, alone.
-fn finish<L: Ledger>(
+/// Both calls in turns of so many steps, the second first, until both are answered; of the first the answer may be there
+/// already.
+fn take_turns<L: Ledger>(
+    core: &mut Core,
+    turn: u64,
+    early: Option<Once<Placed>>,
+    steps: &mut Steps<L>,
+) -> Result<(Option<Once<Placed>>, Option<Once<Placed>>), Fail> {
+    let mut first = early;
+    let mut second = None;
+    for _ in 0..MANY {
+        if second.is_none() {
+            second = run(core, 1, turn, steps)?;
+        }
+        if first.is_none() {
+            first = run(core, 0, turn, steps)?;
+        }
+    }
+    Ok((first, second))
+}
+
+/// Where a party's call was turned back it is made once more, alone.
+fn settled<L: Ledger>(
     core: &mut Core,
     party: u64,
     kind: u64,
+    answer: Option<Once<Placed>>,
     steps: &mut Steps<L>,
 ) -> Result<Placed, Fail> {
-    let first = placed(run(core, party, MANY, steps)?);
-    if let Some(placed) = first {
+    if let Some(placed) = placed(answer) {
         return Ok(placed);
     }
     begin(core, party, kind)?;
@@ -121,55 +142,69 @@ fn is_explained(
     one.old == old && two.old == plain(map, two_kind)
 }
 
-/// The first caller makes so many steps, then the second a whole call, then the first goes on. Tells whether the plain
-/// map gives their answers. Where `present`, the name has been put before.
+/// A schedule of two calls: their kinds, how many steps the first has made as the second begins, how many steps each then
+/// makes in turn, and whether the name has been put before.
+#[derive(Clone, Copy, PartialEq, Eq, Debug)]
+struct Schedule {
+    one: u64,
+    two: u64,
+    before: u64,
+    turn: u64,
+    present: bool,
+}
+
+impl Schedule {
+    /// The schedule of a case below 4860: each of put, get and delete against each, at each of 90 steps, with turns of one
+    /// step, of two, and of a whole call.
+    fn of(case: u64) -> Schedule {
+        Schedule {
+            one: case % 3,
+            two: case / 3 % 3,
+            before: case / 9 % 90,
+            turn: match case / 810 % 3 {
+                0 => 1,
+                1 => 2,
+                _ => MANY,
+            },
+            present: case >= 2430,
+        }
+    }
+}
+
+/// Whether the plain map gives the answers of a schedule.
 fn interleave<L: Ledger>(
     alloc: Global,
-    one_kind: u64,
-    two_kind: u64,
-    before: u64,
-    present: bool,
+    schedule: Schedule,
     steps: &mut Steps<L>,
 ) -> Result<bool, Fail> {
+    let Schedule { one, two, .. } = schedule;
     let mut core = Core::fresh(alloc, Layout::new(1, 4, 2)?)?;
     let mut map = PlainMap::new(alloc, 4)?;
-    if present {
+    if schedule.present {
         begin(&mut core, 0, 0)?;
         run(&mut core, 0, MANY, steps)?;
         plain(&mut map, 0);
     }
-    begin(&mut core, 0, one_kind)?;
-    let early = placed(run(&mut core, 0, before, steps)?);
-    begin(&mut core, 1, two_kind)?;
-    let met = placed(run(&mut core, 1, MANY, steps)?);
-    let one = match early {
-        Some(placed) => placed,
-        None => finish(&mut core, 0, one_kind, steps)?,
-    };
-    let two = match met {
-        Some(placed) => placed,
-        None => {
-            begin(&mut core, 1, two_kind)?;
-            finish(&mut core, 1, two_kind, steps)?
-        }
-    };
-    Ok(is_explained(&mut map, one, one_kind, two, two_kind))
+    begin(&mut core, 0, one)?;
+    let early = run(&mut core, 0, schedule.before, steps)?;
+    begin(&mut core, 1, two)?;
+    let (first, second) = take_turns(&mut core, schedule.turn, early, steps)?;
+    let first = settled(&mut core, 0, one, first, steps)?;
+    let second = settled(&mut core, 1, two, second, steps)?;
+    Ok(is_explained(&mut map, first, one, second, two))
 }
 
-/// The first case whose answers the plain map doesn't give: the kinds of both calls, and how many steps came before.
-fn first_unexplained<L: Ledger>(
-    alloc: Global,
-    blank: Blank,
-) -> Result<Option<(u64, u64, u64)>, Fail>
+/// The first schedule whose answers the plain map doesn't give.
+fn first_unexplained<L: Ledger>(alloc: Global, blank: Blank) -> Result<Option<Schedule>, Fail>
     requires name { blank.name ≡ L.name }
     requires parts { (blank.parts ≡ L.parts) × (0 < L.parts) }
 {
     let (book, share) = blank.open::<L>();
     let mut steps = Steps::new(book, share);
-    for case in 0..1620 {
-        let (one, two, before) = (case % 3, case / 3 % 3, case / 9 % 90);
-        if !interleave(alloc, one, two, before, case < 810, &mut steps)? {
-            return Ok(Some((one, two, before)));
+    for case in 0..4860 {
+        let schedule = Schedule::of(case);
+        if !interleave(alloc, schedule, &mut steps)? {
+            return Ok(Some(schedule));
         }
     }
     Ok(None)
