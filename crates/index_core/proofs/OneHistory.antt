@@ -214,7 +214,12 @@ module _ (first : Index) (begun : List BegunCall) (calls : List AnsweredCall) (s
   legal_history = record {
     base_is = k.base_is;
     answers = λ n c at. let told = k.told n c at in record { was_begun = k.was_begun n c at; answer = legal_answer n c c.answer at refl told.0; within = told.1 };
+    in_time = λ i j a b at_i at_j ended. apart a b a.answer b.answer (k.told i a at_i).0 (k.told j b at_j).0 ended;
     in_order = in_order;
+    in_flight = λ i entry machine there flies. record {
+      was_begun = (k.flying i entry machine there flies).2;
+      last = λ n a at caller. subst (IsEarlier a entry) flies (k.earlier n a i entry at there (caller ∙ (k.index.entries i entry there).caller));
+    };
     each_call = k.each_call;
     once = once_each;
     writes = k.writes;

@@ -121,17 +121,34 @@ abbrev pub interval_of : Op → Once Placed → Option Interval
 interval_of op (once.Done placed) = Some (interval_at op placed.place)
 interval_of op _ = None
 
--- A call that was answered before its caller began another: its index is smaller, and its interval ends before the other's
--- starts.
+-- The interval of the one ends before that of the other starts.
+abbrev pub TakesEffectBefore : AnsweredCall → AnsweredCall → Type 0
+TakesEffectBefore a b = IfSome (interval_of a.call.op a.answer) (λ first. IfSome (interval_of b.call.op b.answer) (λ second. first.end ≤ second.start))
+
+-- A call that was answered before another began takes effect before it. How long the history was tells when that was.
+abbrev pub KeepsTime : List AnsweredCall → Type 0
+KeepsTime calls = (i j : ℕ) (a b : AnsweredCall) → get_elem? calls i ≡ some a → get_elem? calls j ≡ some b → a.until ≤ b.call.since →
+    TakesEffectBefore a b
+
+-- A call that was answered before its caller began another.
 pub record Precedes (a b : AnsweredCall) : Type 0 where
   pub index : a.call.index < b.call.index
   pub ended : a.until ≤ b.call.since
-  pub in_order : IfSome (interval_of a.call.op a.answer) (λ first. IfSome (interval_of b.call.op b.answer) (λ second. first.end ≤ second.start))
+  pub in_order : TakesEffectBefore a b
 
 -- Of two calls of one caller the one that was answered first precedes the other.
 abbrev pub KeepsCallersOrder : List AnsweredCall → Type 0
 KeepsCallersOrder calls = (i j : ℕ) (a b : AnsweredCall) → get_elem? calls i ≡ some a → get_elem? calls j ≡ some b → i < j →
     a.call.caller ≡ b.call.caller → Precedes a b
+
+-- A call in flight was begun, and before that each answered call of its caller was answered.
+pub record IsLegalInFlight (begun : List BegunCall) (calls : List AnsweredCall) (c : BegunCall) : Type 0 where
+  pub was_begun : Contains begun c
+  pub last : (i : ℕ) (a : AnsweredCall) → get_elem? calls i ≡ some a → a.call.caller ≡ c.caller → (a.call.index < c.index) × (a.until ≤ c.since)
+
+abbrev pub AreLegalInFlight : List BegunCall → List AnsweredCall → List Entry → Type 0
+AreLegalInFlight begun calls entries = (i : ℕ) (entry : Entry) (machine : Running) → get_elem? entries i ≡ some entry →
+    entry.machine ≡ Some machine → IsLegalInFlight begun calls (flying_call entry machine)
 
 -- The call was answered, or is in flight.
 pub record IsAnswered (calls : List AnsweredCall) (c : BegunCall) : Type 0 where
@@ -185,7 +202,9 @@ EachWriteIsOfACall calls entries history = (place : ℕ) (write : Write) → sli
 pub record IsLegalHistory (base : Map) (begun : List BegunCall) (calls : List AnsweredCall) (s : Index) : Type 0 where
   pub base_is : map_of s.base ≡ base
   pub answers : (i : ℕ) (c : AnsweredCall) → get_elem? calls i ≡ some c → IsLegalCall base s.history begun c
+  pub in_time : KeepsTime calls
   pub in_order : KeepsCallersOrder calls
+  pub in_flight : AreLegalInFlight begun calls s.entries
   pub each_call : (c : BegunCall) → Contains begun c → IsAnswered calls c ⊎ IsFlying s.entries c
   pub once : EachWritesOnce s.history
   pub writes : EachWriteIsOfACall calls s.entries s.history
