@@ -118,7 +118,7 @@ begun s i (call.Put name value limit) = refl
 begun s i (call.Get name) = refl
 begun s i (call.Del name limit) = refl
 
-begins_limit : (s : Index) (i : ℕ) (c : CoreCall) → (running_call (machine_of (view_of s i) c)).limit ≡ limit_of c
+pub begins_limit : (s : Index) (i : ℕ) (c : CoreCall) → (running_call (machine_of (view_of s i) c)).limit ≡ limit_of c
 begins_limit s i (call.Put name value limit) = refl
 begins_limit s i (call.Get name) = refl
 begins_limit s i (call.Del name limit) = refl
@@ -176,11 +176,11 @@ set_twice [] i a b = refl
 set_twice (y ∷ ys) zero a b = refl
 set_twice (y ∷ ys) (suc i) a b = ap (λ zs. y ∷ zs) (set_twice ys i a b)
 
-go_of : (turn : Turn Running (Once Placed)) → stepped_of turn ≡ Going → (next : Running) × (turn ≡ Go next)
+pub go_of : (turn : Turn Running (Once Placed)) → stepped_of turn ≡ Going → (next : Running) × (turn ≡ Go next)
 go_of (Go next) is = (next, refl)
 go_of (Done answer) is = absurd (cc)
 
-done_of : (turn : Turn Running (Once Placed)) (answer : Once Placed) → stepped_of turn ≡ Answered (reply.Placed answer) → turn ≡ Done answer
+pub done_of : (turn : Turn Running (Once Placed)) (answer : Once Placed) → stepped_of turn ≡ Answered (reply.Placed answer) → turn ≡ Done answer
 done_of (Go next) answer is = absurd (cc)
 done_of (Done other) answer is = cc
 

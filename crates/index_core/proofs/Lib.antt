@@ -6,7 +6,8 @@ pub mod Fresh
 pub mod Phases
 pub mod Places
 pub mod Answering
-pub mod Scheduling
-pub mod OneHistory
 pub mod Lonely
 pub mod Alone
+pub mod Scheduling
+pub mod Beginning
+pub mod OneHistory

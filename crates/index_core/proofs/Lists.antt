@@ -1,7 +1,7 @@
 -- Lists of entries, read by their places.
 use Rattle.std.proofs.Common.{◌≡◌, ℕ, zero, suc, ◌+◌, ◌<◌, ◌⊎◌, inl, inr, ⊎_elim, true, false, is_some, List, [], ◌∷◌, ◌++◌, length, get_or, set, map, refl, sym, ap, ◌∙◌, arith}
 use Rattle.std.proofs.lemmas.List.{length-append}
-use Rattle.std.specs.Prelude.{Option, Some, None, slice_get}
+use Rattle.std.specs.Prelude.{Option, Some, None, Contains, slice_get, slice_index_or}
 use mathlib.Core.Option.{some, some-injective, some-ne-none}
 use lib.ListN.{get_elem?}
 use Rattle.index_core.specs.declared.entry.Entry.{Entry}
@@ -39,6 +39,28 @@ module _ {A : Type 0} where
   at_end [] a b (suc i) e = absurd (some-ne-none b (sym e))
   at_end (x ∷ xs) a b zero e = inl e
   at_end (x ∷ xs) a b (suc i) e = ⊎_elim (λ t. inl t) (λ t. inr (ap suc t.0, t.1)) (at_end xs a b i e)
+
+  pub end_there : (l : List A) (a : A) → get_elem? (l ++ a ∷ []) (length l) ≡ some a
+  end_there [] a = refl
+  end_there (x ∷ xs) a = end_there xs a
+
+  pub some_same : {a b : A} → Some a ≡ Some b → a ≡ b
+  some_same e = cc
+
+  -- what is read behind a list is in it or the last one
+  pub got_end : (l : List A) (a b : A) (i : ℕ) → slice_get (l ++ a ∷ []) i ≡ Some b → (slice_get l i ≡ Some b) ⊎ ((i ≡ length l) × (a ≡ b))
+  got_end [] a b zero e = inr (refl, some_same e)
+  got_end [] a b (suc i) e = absurd (let none : None ≡ Some b = e in cc)
+  got_end (x ∷ xs) a b zero e = inl e
+  got_end (x ∷ xs) a b (suc i) e = ⊎_elim (λ t. inl t) (λ t. inr (ap suc t.0, t.1)) (got_end xs a b i e)
+
+  -- the element of a list of one
+  pub sole : (a b : A) → Contains (a ∷ []) b → a ≡ b
+  sole a b has = at has.0 has.1 has.2
+    where
+      at : (n : ℕ) → n < 1 → slice_index_or (a ∷ []) n b ≡ b → a ≡ b
+      at zero less is = is
+      at (suc n) less is = absurd (omega arith)
 
 module _ {A B : Type 0} (f : A → B) where
   pub map_there : (l : List A) (i : ℕ) (a : A) → get_elem? l i ≡ some a → get_elem? (map f l) i ≡ some (f a)

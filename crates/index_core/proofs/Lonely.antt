@@ -2,7 +2,7 @@
 use Rattle.std.proofs.Common.{◌≡◌, ◌≢◌, ℕ, ◌+◌, ◌-◌, ◌<◌, ◌≤◌, ⊎_elim, Bool, true, false, cond, is_some, List, [], ◌++◌, length, slice_index, refl, sym, ap, ◌∙◌, subst, arith}
 use Rattle.std.specs.Prelude.{Option, Some, None, IfSome, IsSomeAnd, nat_le}
 use Rattle.std.specs.FinMap.{len, len-insert}
-use Rattle.std.proofs.lemmas.Bool.{cases_eq, le-leb, leb-true}
+use Rattle.std.proofs.lemmas.Bool.{cases_eq, le-leb}
 use Rattle.std.proofs.lemmas.Cmp.{nat_list_cmp_total}
 use Rattle.std.proofs.lemmas.List.{append-nil, set-get_or}
 use Rattle.std.proofs.lemmas.List.Sums.{fold-append}
@@ -35,6 +35,7 @@ use Rattle.index_core.specs.declared.entry.CoreCall.{CoreCall}
 use Rattle.index_core.specs.declared.entry.CoreCall.TheVariants as call
 use Rattle.index_core.specs.CoreCalls.{op_of, limit_of}
 use Rattle.index_core.specs.Lone.{placed_writes, whole_of}
+use Rattle.index_core.proofs.Places.{reached}
 use Rattle.index_core.proofs.Phases.{Phase, Begun, Seen, Locking, Over, Timed, Counted, Goes, refused, worn, saw, moved, locks, times, passes, spent, works, counts, reads, refuses, answers, IsPut, IsGet}
 
 -- a free word that is not worn leaves locks
@@ -58,11 +59,7 @@ locks_after v g w known unworn lock =
     let kept : kept_count (w + 1) g ≡ k + 1 = ap (λ (n : ℕ). kept_count n g) word ∙ kept_count-same (version_word g (k + 1)) g (generation_of-version_word g (k + 1) some_left) ∙ count_of-version_word g (k + 1) some_left in
     omega arith
 
--- a limit that the clock has reached, and one that it hasn't
-reached : (limit : Option ℕ) (clock : ℕ) → is_spent limit clock ≡ true → IsSomeAnd limit (λ most. most ≤ clock)
-reached None clock e = absurd (cc)
-reached (Some most) clock e = leb-true most clock e
-
+-- a limit that the clock hasn't reached
 unreached : (limit : Option ℕ) (clock : ℕ) → is_spent limit clock ≡ false → IsSomeAnd limit (λ most. most ≤ clock) → ⊥
 unreached None clock e is = is
 unreached (Some most) clock e is = let yes : nat_le most clock ≡ true = le-leb most clock is in let both : true ≡ false = sym yes ∙ e in cc

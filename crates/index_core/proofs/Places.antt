@@ -83,7 +83,7 @@ EndsWith limit asked phase (once.Done placed) = place_in phase ≡ place_for (ch
 EndsWith limit asked phase (once.Spent clock) = (place_in phase ≡ None) × (IsOverOnly limit phase → IsSomeAnd limit (λ most. most ≤ clock))
 EndsWith limit asked phase _ = place_in phase ≡ None
 
-reached : (limit : Option ℕ) (clock : ℕ) → is_spent limit clock ≡ true → IsSomeAnd limit (λ most. most ≤ clock)
+pub reached : (limit : Option ℕ) (clock : ℕ) → is_spent limit clock ≡ true → IsSomeAnd limit (λ most. most ≤ clock)
 reached None clock e = absurd (cc)
 reached (Some most) clock e = leb-true most clock e
 

@@ -1,6 +1,6 @@
 -- What holds of an index and of the calls that were answered, along a schedule.
-use Rattle.std.proofs.Common.{◌≡◌, ◌≢◌, ℕ, zero, suc, ◌+◌, ◌<◌, ◌≤◌, ◌⊎◌, inl, inr, ⊎_elim, List, [], ◌∷◌, ◌++◌, length, set, slice_set, refl, sym, ap, ◌∙◌, subst, arith}
-use Rattle.std.specs.Prelude.{Option, Some, None, IfSome, IsSomeAnd, slice_get}
+use Rattle.std.proofs.Common.{◌≡◌, ◌≢◌, ℕ, ◌+◌, ◌<◌, ◌≤◌, ◌⊎◌, inl, inr, ⊎_elim, List, [], ◌∷◌, ◌++◌, length, set, slice_set, refl, sym, ap, ◌∙◌, subst, arith}
+use Rattle.std.specs.Prelude.{Contains, Option, Some, None, IfSome, IsSomeAnd, slice_get}
 use Rattle.std.proofs.lemmas.Bool.{cases_eq}
 use Rattle.std.proofs.lemmas.List.{append-nil, length-append}
 use Rattle.std.proofs.lemmas.Option.{IfSome_then}
@@ -36,33 +36,47 @@ use Rattle.index_core.specs.declared.entry.Entry.{Entry}
 use Rattle.index_core.specs.Answers.{TookPlace, IsAnswerOf}
 use Rattle.index_core.specs.Entries.{entry_after, IsEntry}
 use Rattle.index_core.specs.Indexes.{Index, IsIndex, told, stepped_index, MakesCall}
-use Rattle.index_core.specs.Schedules.{AnsweredCall, answered_call, IsAnsweredWrite, IsWriteInFlight, EachWriteIsOfACall}
-use Rattle.index_core.proofs.Lists.{within, at_end}
+use Rattle.index_core.specs.Schedules.{BegunCall, AnsweredCall, flying_call, IsAnswered, IsFlying, IsAnsweredWrite, IsWriteInFlight, EachWriteIsOfACall}
+use Rattle.index_core.proofs.Lists.{within, at_end, end_there, some_same, got_end}
 use Rattle.index_core.proofs.Phases.{phase_of, phase_after, leads}
 use Rattle.index_core.proofs.Places.{place_in, place_is, place_for, IsOverOnly, Onward, EndsWith, onward, over_only, ends_with}
 
 -- a call that was answered comes before what its caller makes
 abbrev pub IsEarlier : AnsweredCall → Entry → Option Running → Type 0
-IsEarlier c entry None = c.index < entry.calls
-IsEarlier c entry (Some machine) = (c.index < entry.index) × (c.until ≤ entry.since)
+IsEarlier c entry None = c.call.index < entry.calls
+IsEarlier c entry (Some machine) = (c.call.index < entry.index) × (c.until ≤ entry.since)
 
 -- what an answer told of the history stays
-abbrev pub Told : Map → List Write → AnsweredCall → Once Placed → Type 0
-Told base history c (once.Done placed) =
-    TookPlace base history c.caller c.index c.since c.op placed × ((interval_at c.op placed.place).end ≤ c.until)
+abbrev pub Told : Map → List Write → BegunCall → ℕ → Once Placed → Type 0
+Told base history c until (once.Done placed) =
+    TookPlace base history c.caller c.index c.since c.op placed × ((interval_at c.op placed.place).end ≤ until)
     × IfSome (change_asked c.op) (λ change. slice_get history placed.place ≡ Some (record { caller = c.caller; index = c.index; change = change }))
-Told base history c (once.Spent clock) = IsSomeAnd c.limit (λ limit. limit ≤ clock) × (c.since ≤ clock) × (clock ≤ c.until)
-Told base history c _ = Unit {0}
+Told base history c until (once.Spent clock) = IsSomeAnd c.limit (λ limit. limit ≤ clock) × (c.since ≤ clock) × (clock ≤ until)
+Told base history c until _ = Unit {0}
 
-pub record Kept (base : Map) (calls : List AnsweredCall) (s : Index) : Type 0 where
+-- of the answered call
+abbrev pub Tells : Map → List Write → AnsweredCall → Type 0
+Tells base history c = Told base history c.call c.until c.answer × (c.until ≤ length history)
+
+-- no caller has begun more calls than these since the schedule began
+pub record CountsUpTo (first : Index) (begun : List BegunCall) (i : ℕ) (entry : Entry) : Type 0 where
+  pub was : Entry
+  pub there : get_elem? first.entries i ≡ some was
+  pub most : entry.calls ≤ was.calls + length begun
+
+pub record Kept (first : Index) (begun : List BegunCall) (calls : List AnsweredCall) (s : Index) : Type 0 where
   pub index : IsIndex s
-  pub base_is : map_of s.base ≡ base
-  pub told : (n : ℕ) (c : AnsweredCall) → get_elem? calls n ≡ some c → Told base s.history c c.answer × (c.until ≤ length s.history)
-  pub order : (i j : ℕ) (a b : AnsweredCall) → get_elem? calls i ≡ some a → get_elem? calls j ≡ some b → i < j → a.caller ≡ b.caller → (a.index < b.index) × (a.until ≤ b.since)
-  pub earlier : (n : ℕ) (c : AnsweredCall) (i : ℕ) (entry : Entry) → get_elem? calls n ≡ some c → get_elem? s.entries i ≡ some entry → c.caller ≡ i → IsEarlier c entry entry.machine
+  pub base_is : map_of s.base ≡ map_of first.base
+  pub told : (n : ℕ) (c : AnsweredCall) → get_elem? calls n ≡ some c → Tells (map_of first.base) s.history c
+  pub order : (i j : ℕ) (a b : AnsweredCall) → get_elem? calls i ≡ some a → get_elem? calls j ≡ some b → i < j → a.call.caller ≡ b.call.caller
+      → (a.call.index < b.call.index) × (a.until ≤ b.call.since)
+  pub earlier : (n : ℕ) (c : AnsweredCall) (i : ℕ) (entry : Entry) → get_elem? calls n ≡ some c → get_elem? s.entries i ≡ some entry → c.call.caller ≡ i → IsEarlier c entry entry.machine
   pub flying : (i : ℕ) (entry : Entry) (machine : Running) → get_elem? s.entries i ≡ some entry → entry.machine ≡ Some machine
-      → (entry.index < entry.calls) × IsOverOnly (running_call machine).limit (phase_of machine)
+      → (entry.index < entry.calls) × IsOverOnly (running_call machine).limit (phase_of machine) × Contains begun (flying_call entry machine)
   pub writes : EachWriteIsOfACall calls s.entries s.history
+  pub was_begun : (n : ℕ) (c : AnsweredCall) → get_elem? calls n ≡ some c → Contains begun c.call
+  pub each_call : (c : BegunCall) → Contains begun c → IsAnswered calls c ⊎ IsFlying s.entries c
+  pub counts : (i : ℕ) (entry : Entry) → get_elem? s.entries i ≡ some entry → CountsUpTo first begun i entry
 
 pub place_le_end : (o : Op) (place : ℕ) → place ≤ (interval_at o place).end
 place_le_end (op.Put _ _) place = omega arith
@@ -72,8 +86,8 @@ place_le_end (op.Del _) place = omega arith
 longer_write : (h more : List Write) (caller index : ℕ) (name : List ℕ) (place : ℕ) → HasWriteAt h caller index name place → HasWriteAt (h ++ more) caller index name place
 longer_write h more caller index name place is = record { change = is.change; about = is.about; stands = slice_get-longer h more place _ is.stands }
 
-longer_told : (base : Map) (h more : List Write) (c : AnsweredCall) (answer : Once Placed) → Told base h c answer → Told base (h ++ more) c answer
-longer_told base h more c (once.Done placed) is =
+longer_told : (base : Map) (h more : List Write) (c : BegunCall) (until : ℕ) (answer : Once Placed) → Told base h c until answer → Told base (h ++ more) c until answer
+longer_told base h more c until (once.Done placed) is =
     let took = is.0 in
     let least = place_le_end c.op placed.place in
     let longer = length-append h more in
@@ -87,33 +101,26 @@ longer_told base h more c (once.Done placed) is =
       is.1,
       IfSome_then (change_asked c.op) is.2 (λ change stands. slice_get-longer h more placed.place _ stands),
     )
-longer_told base h more c (once.Spent clock) is = is
-longer_told base h more c (once.Worn node word) is = tt
-longer_told base h more c (once.Again why) is = tt
+longer_told base h more c until (once.Spent clock) is = is
+longer_told base h more c until (once.Worn node word) is = tt
+longer_told base h more c until (once.Again why) is = tt
 
-pub longer_tells : (base : Map) (h more : List Write) (c : AnsweredCall) → Told base h c c.answer × (c.until ≤ length h) → Told base (h ++ more) c c.answer × (c.until ≤ length (h ++ more))
-longer_tells base h more c is = let longer = length-append h more in let within = is.1 in (longer_told base h more c c.answer is.0, omega arith)
-
-pub some_same : {A : Type 0} → {a b : A} → Some a ≡ Some b → a ≡ b
-some_same e = cc
+pub longer_tells : (base : Map) (h more : List Write) (c : AnsweredCall) → Tells base h c → Tells base (h ++ more) c
+longer_tells base h more c is = let longer = length-append h more in let within = is.1 in (longer_told base h more c.call c.until c.answer is.0, omega arith)
 
 -- an entry that stands elsewhere than the changed one
 pub else_there : (entries : List Entry) (i j : ℕ) (now entry : Entry) → j ≢ i → get_elem? entries j ≡ some entry → get_elem? (set entries i now) j ≡ some entry
 else_there entries i j now entry other there = set_else entries i j now other ∙ there
 
--- the last of a history
-got_end : (l : List Write) (a b : Write) (i : ℕ) → slice_get (l ++ a ∷ []) i ≡ Some b → (slice_get l i ≡ Some b) ⊎ ((i ≡ length l) × (a ≡ b))
-got_end [] a b zero e = inr (refl, some_same e)
-got_end [] a b (suc i) e = absurd (let none : None ≡ Some b = e in cc)
-got_end (x ∷ xs) a b zero e = inl e
-got_end (x ∷ xs) a b (suc i) e = ⊎_elim (λ t. inl t) (λ t. inr (ap suc t.0, t.1)) (got_end xs a b i e)
-
-end_there : {A : Type 0} → (l : List A) (a : A) → get_elem? (l ++ a ∷ []) (length l) ≡ some a
-end_there [] a = refl
-end_there (x ∷ xs) a = end_there xs a
+-- an entry with the same count
+pub counts_as : (first : Index) (begun : List BegunCall) (i p : ℕ) (was now : Entry) → p ≡ i → now.calls ≡ was.calls → CountsUpTo first begun i was → CountsUpTo first begun p now
+counts_as first begun i p was now same calls is = let most = is.most in record { was = is.was; there = ap (get_elem? first.entries) same ∙ is.there; most = omega arith }
 
 -- a party's call in flight
-module _ (base : Map) (calls : List AnsweredCall) (s : Index) (i : ℕ) (e : Entry) (m : Running) (k : Kept base calls s) (there : get_elem? s.entries i ≡ some e) (flies : e.machine ≡ Some m) where
+module _ (first : Index) (begun : List BegunCall) (calls : List AnsweredCall) (s : Index) (i : ℕ) (e : Entry) (m : Running) (k : Kept first begun calls s) (there : get_elem? s.entries i ≡ some e) (flies : e.machine ≡ Some m) where
+  abbrev base : Map
+  base = map_of first.base
+
   abbrev x : ℕ
   x = told s m
 
@@ -127,8 +134,8 @@ module _ (base : Map) (calls : List AnsweredCall) (s : Index) (i : ℕ) (e : Ent
   sound = subst (λ (o : Option Running). IfSome o (Sound s.layout s.generation)) flies own.machine
 
   -- whatever stands at this place is this call
-  same_machine : (entry : Entry) (machine : Running) → get_elem? s.entries i ≡ some entry → entry.machine ≡ Some machine → machine ≡ m
-  same_machine entry machine at flown =
+  machine_there : (entry : Entry) (machine : Running) → get_elem? s.entries i ≡ some entry → entry.machine ≡ Some machine → machine ≡ m
+  machine_there entry machine at flown =
       let same : entry ≡ e = some-injective _ _ (sym at ∙ there) in
       some_same (sym flown ∙ ap (λ (d : Entry). d.machine) same ∙ flies)
 
@@ -137,15 +144,23 @@ module _ (base : Map) (calls : List AnsweredCall) (s : Index) (i : ℕ) (e : Ent
   own_write place write stands caller index =
       ⊎_elim
       (λ (w : IsAnsweredWrite calls place write).
-      let before : (w.call.index < e.index) × (w.call.until ≤ e.since) = subst (IsEarlier w.call e) flies (k.earlier w.number w.call i e w.there there (sym w.caller ∙ caller ∙ own.caller)) in
+      let before : (w.answered.call.index < e.index) × (w.answered.until ≤ e.since) = subst (IsEarlier w.answered e) flies (k.earlier w.number w.answered i e w.there there (sym w.caller ∙ caller ∙ own.caller)) in
       let smaller = before.0 in
       let same = w.index in
       absurd (omega arith))
       (λ (w : IsWriteInFlight s.entries place write).
       let party : w.party ≡ i = sym (k.index.entries w.party w.entry w.there).caller ∙ sym w.caller ∙ caller ∙ own.caller in
-      let same = same_machine w.entry w.machine (subst (λ (j : ℕ). get_elem? s.entries j ≡ some w.entry) party w.there) w.flies in
+      let same = machine_there w.entry w.machine (subst (λ (j : ℕ). get_elem? s.entries j ≡ some w.entry) party w.there) w.flies in
       ap (λ (q : Running). change_asked (op_in q)) (sym same) ∙ w.change)
       (k.writes place write stands)
+
+  -- and so is a call that is in flight there
+  flying_here : (c : BegunCall) (f : IsFlying s.entries c) → f.party ≡ i → flying_call e m ≡ c
+  flying_here c f party =
+      let here = subst (λ (j : ℕ). get_elem? s.entries j ≡ some f.entry) party f.there in
+      let entry : f.entry ≡ e = some-injective _ _ (sym here ∙ there) in
+      let machine : f.machine ≡ m = machine_there f.entry f.machine here f.flies in
+      (λ t. flying_call (sym entry t) (sym machine t)) ∙ f.is
 
   -- it goes on
   module _ (next : Running) (is : running_turned m x ≡ Go next) (keeps_op : IsOfAfter (op_in m) (running_turned m x)) (keeps_call : MakesCall (running_call m) (running_turned m x)) (n : ℕ) where
@@ -158,10 +173,18 @@ module _ (base : Map) (calls : List AnsweredCall) (s : Index) (i : ℕ) (e : Ent
     on : Onward (running_call m).view.layout (phase_of m) (running_asks m) x (phase_of next) (counted (stage_of m))
     on = subst (λ (turn : Turn Running (Once Placed)). Onward (running_call m).view.layout (phase_of m) (running_asks m) x (phase_after turn) (counted (stage_of m))) is (onward (leads (op_in m) m x of) (ap reply_of is))
 
+    running_same : running_call next ≡ running_call m
+    running_same = subst (MakesCall (running_call m)) is keeps_call
+
+    same_call : flying_call e' next ≡ flying_call e m
+    same_call = λ t. record { caller = e.caller; index = e.index; op = op_same t; limit = (running_same t).limit; since = e.since }
+
+    call_on : Contains begun (flying_call e' next)
+    call_on = subst (Contains begun) (sym same_call) (k.flying i e m there flies).2
+
     over : IsOverOnly (running_call next).limit (phase_of next)
     over =
-        let call : running_call next ≡ running_call m = subst (MakesCall (running_call m)) is keeps_call in
-        subst (λ (c : Call). IsOverOnly c.limit (phase_of next)) (sym call)
+        subst (λ (c : Call). IsOverOnly c.limit (phase_of next)) (sym running_same)
         (subst (λ (turn : Turn Running (Once Placed)). IsOverOnly (running_call m).limit (phase_after turn)) is (over_only (leads (op_in m) m x of)))
 
     -- the place that it is told is the length of the history
@@ -176,7 +199,7 @@ module _ (base : Map) (calls : List AnsweredCall) (s : Index) (i : ℕ) (e : Ent
         (λ (party : w.party ≡ i).
         let here = subst (λ (j : ℕ). get_elem? s.entries j ≡ some w.entry) party w.there in
         let entry : w.entry ≡ e = some-injective _ _ (sym here ∙ there) in
-        let machine : w.machine ≡ m = same_machine w.entry w.machine here w.flies in
+        let machine : w.machine ≡ m = machine_there w.entry w.machine here w.flies in
         record {
           party = i;
           entry = e';
@@ -210,7 +233,7 @@ module _ (base : Map) (calls : List AnsweredCall) (s : Index) (i : ℕ) (e : Ent
         (λ (w : IsWriteInFlight s.entries place write). inr (
         let other : w.party ≢ i =
         (λ party.
-        let machine : w.machine ≡ m = same_machine w.entry w.machine (subst (λ (j : ℕ). get_elem? s.entries j ≡ some w.entry) party w.there) w.flies in
+        let machine : w.machine ≡ m = machine_there w.entry w.machine (subst (λ (j : ℕ). get_elem? s.entries j ≡ some w.entry) party w.there) w.flies in
         let both : None ≡ Some place = sym none ∙ sym (place_is m) ∙ ap (λ (q : Running). placed_in (stage_of q)) (sym machine) ∙ w.place in
         cc) in
         record {
@@ -253,7 +276,7 @@ module _ (base : Map) (calls : List AnsweredCall) (s : Index) (i : ℕ) (e : Ent
       spare = n;
     }
 
-    going : IsIndex going_index → Kept base calls going_index
+    going : IsIndex going_index → Kept first begun calls going_index
     going index = record {
       index = index;
       base_is = k.base_is;
@@ -261,20 +284,32 @@ module _ (base : Map) (calls : List AnsweredCall) (s : Index) (i : ℕ) (e : Ent
       order = k.order;
       earlier = λ j c p entry at at_p caller. ⊎_elim
           (λ (mine : (p ≡ i) × (e' ≡ entry)).
-          let before : (c.index < e.index) × (c.until ≤ e.since) = subst (IsEarlier c e) flies (k.earlier j c i e at there (caller ∙ mine.0)) in
+          let before : (c.call.index < e.index) × (c.until ≤ e.since) = subst (IsEarlier c e) flies (k.earlier j c i e at there (caller ∙ mine.0)) in
           subst (λ (d : Entry). IsEarlier c d d.machine) mine.1 before)
           (λ (other : (p ≢ i) × (get_elem? s.entries p ≡ some entry)). k.earlier j c p entry at other.1 caller)
           (at_set s.entries i p e' entry at_p);
       flying = λ p entry machine at_p flown. ⊎_elim
           (λ (mine : (p ≡ i) × (e' ≡ entry)).
           let machine_is : next ≡ machine = some_same (ap (λ (d : Entry). d.machine) mine.1 ∙ flown) in
-          subst (λ (q : Entry × Running). (q.0.index < q.0.calls) × IsOverOnly (running_call q.1).limit (phase_of q.1)) (λ t. (mine.1 t, machine_is t)) ((k.flying i e m there flies).0, over))
+          subst (λ (q : Entry × Running). (q.0.index < q.0.calls) × IsOverOnly (running_call q.1).limit (phase_of q.1) × Contains begun (flying_call q.0 q.1)) (λ t. (mine.1 t, machine_is t)) ((k.flying i e m there flies).0, over, call_on))
           (λ (other : (p ≢ i) × (get_elem? s.entries p ≡ some entry)). k.flying p entry machine other.1 flown)
           (at_set s.entries i p e' entry at_p);
       writes = writes_on (counted (stage_of m)) on (counts_own_change (op_in m) m of);
+      was_begun = k.was_begun;
+      each_call = λ c has. ⊎_elim
+          (λ (a : IsAnswered calls c). inl a)
+          (λ (f : IsFlying s.entries c). inr (⊎_elim
+          (λ (party : f.party ≡ i). record { party = i; entry = e'; machine = next; there = set_here s.entries i e' e there; flies = refl; is = same_call ∙ flying_here c f party })
+          (λ (other : f.party ≢ i). record { party = f.party; entry = f.entry; machine = f.machine; there = else_there s.entries i f.party e' f.entry other f.there; flies = f.flies; is = f.is })
+          (cases_eq f.party i)))
+          (k.each_call c has);
+      counts = λ p entry at_p. ⊎_elim
+          (λ (mine : (p ≡ i) × (e' ≡ entry)). counts_as first begun i p e entry mine.0 (ap (λ (d : Entry). d.calls) (sym mine.1)) (k.counts i e there))
+          (λ (other : (p ≢ i) × (get_elem? s.entries p ≡ some entry)). k.counts p entry other.1)
+          (at_set s.entries i p e' entry at_p);
     }
 
-    pub goes_on : IsIndex (stepped_index s i e m n) → Kept base calls (stepped_index s i e m n)
+    pub goes_on : IsIndex (stepped_index s i e m n) → Kept first begun calls (stepped_index s i e m n)
     goes_on index =
         let same : Path Index going_index (stepped_index s i e m n) = (λ t. record s {
           words = acted s.layout s.words (running_asks m);
@@ -282,7 +317,7 @@ module _ (base : Map) (calls : List AnsweredCall) (s : Index) (i : ℕ) (e : Ent
           history = s.history ++ written e.caller e.index (counted (stage_of m));
           spare = n;
         }) in
-        subst (Kept base calls) same (going (subst IsIndex (sym same) index))
+        subst (Kept first begun calls) same (going (subst IsIndex (sym same) index))
 
   -- it is answered
   module _ (answer : Once Placed) (is : running_turned m x ≡ Done answer) (n : ℕ) where
@@ -290,7 +325,7 @@ module _ (base : Map) (calls : List AnsweredCall) (s : Index) (i : ℕ) (e : Ent
     done = record e { machine = None }
 
     abbrev call : AnsweredCall
-    call = answered_call e m (length s.history) answer
+    call = record { call = flying_call e m; until = length s.history; answer = answer }
 
     ends : EndsWith (running_call m).limit (op_in m) (phase_of m) answer
     ends = (ends_with (leads (op_in m) m x of) answer (ap reply_of is)).0
@@ -299,7 +334,7 @@ module _ (base : Map) (calls : List AnsweredCall) (s : Index) (i : ℕ) (e : Ent
     unwritten : s.history ++ written e.caller e.index (counted (stage_of m)) ≡ s.history
     unwritten = ap (λ (o : Option Change). s.history ++ written e.caller e.index o) (ends_with (leads (op_in m) m x of) answer (ap reply_of is)).1 ∙ append-nil s.history
 
-    before_it : (j : ℕ) (c : AnsweredCall) → get_elem? calls j ≡ some c → c.caller ≡ e.caller → (c.index < e.index) × (c.until ≤ e.since)
+    before_it : (j : ℕ) (c : AnsweredCall) → get_elem? calls j ≡ some c → c.call.caller ≡ e.caller → (c.call.index < e.index) × (c.until ≤ e.since)
     before_it j c at caller = subst (IsEarlier c e) flies (k.earlier j c i e at there (caller ∙ own.caller))
 
     counted_on : e.index < e.calls
@@ -312,7 +347,7 @@ module _ (base : Map) (calls : List AnsweredCall) (s : Index) (i : ℕ) (e : Ent
         let changed : write.change ≡ change = some_same (sym (own_write place _ write.stands refl refl) ∙ sym same) in
         subst (λ (c : Change). slice_get s.history place ≡ Some (record { caller = e.caller; index = e.index; change = c })) changed write.stands
 
-    tells_it : (r : Once Placed) → EndsWith (running_call m).limit (op_in m) (phase_of m) r → IsAnswerOf base s.history e (op_in m) r → Told base s.history (answered_call e m (length s.history) r) r
+    tells_it : (r : Once Placed) → EndsWith (running_call m).limit (op_in m) (phase_of m) r → IsAnswerOf base s.history e (op_in m) r → Told base s.history (flying_call e m) (length s.history) r
     tells_it (once.Done placed) ending took = (took, took.within, own_change (change_asked (op_in m)) placed.place refl took.write)
     tells_it (once.Spent clock) ending times = (ending.1 (k.flying i e m there flies).1, times.0, times.1)
     tells_it (once.Worn node word) ending says = tt
@@ -333,9 +368,9 @@ module _ (base : Map) (calls : List AnsweredCall) (s : Index) (i : ℕ) (e : Ent
         ⊎_elim
         (λ (w : IsAnsweredWrite calls place write). inl (record {
           number = w.number;
-          call = w.call;
+          answered = w.answered;
           placed = w.placed;
-          there = at_longer calls (call ∷ []) w.number w.call w.there;
+          there = at_longer calls (call ∷ []) w.number w.answered w.there;
           answer = w.answer;
           place = w.place;
           caller = w.caller;
@@ -346,12 +381,12 @@ module _ (base : Map) (calls : List AnsweredCall) (s : Index) (i : ℕ) (e : Ent
         (λ (party : w.party ≡ i).
         let here = subst (λ (j : ℕ). get_elem? s.entries j ≡ some w.entry) party w.there in
         let entry : w.entry ≡ e = some-injective _ _ (sym here ∙ there) in
-        let machine : w.machine ≡ m = same_machine w.entry w.machine here w.flies in
+        let machine : w.machine ≡ m = machine_there w.entry w.machine here w.flies in
         let asks : change_asked (op_in m) ≡ Some write.change = ap (λ (q : Running). change_asked (op_in q)) (sym machine) ∙ w.change in
         let by = placed_by answer place write.change ends (ap (λ (q : Running). placed_in (stage_of q)) (sym machine) ∙ w.place) asks in
         inl (record {
           number = length calls;
-          call = call;
+          answered = call;
           placed = by.0;
           there = end_there calls call;
           answer = by.1;
@@ -377,12 +412,12 @@ module _ (base : Map) (calls : List AnsweredCall) (s : Index) (i : ℕ) (e : Ent
     abbrev done_index : Index
     done_index = record s { words = acted s.layout s.words (running_asks m); entries = slice_set s.entries i done; spare = n }
 
-    ordered : (p q : ℕ) (a b : AnsweredCall) → get_elem? (calls ++ call ∷ []) p ≡ some a → get_elem? (calls ++ call ∷ []) q ≡ some b → p < q → a.caller ≡ b.caller → (a.index < b.index) × (a.until ≤ b.since)
+    ordered : (p q : ℕ) (a b : AnsweredCall) → get_elem? (calls ++ call ∷ []) p ≡ some a → get_elem? (calls ++ call ∷ []) q ≡ some b → p < q → a.call.caller ≡ b.call.caller → (a.call.index < b.call.index) × (a.until ≤ b.call.since)
     ordered p q a b at_p at_q less caller =
         ⊎_elim
         (λ (first : get_elem? calls p ≡ some a). ⊎_elim
         (λ (second : get_elem? calls q ≡ some b). k.order p q a b first second less caller)
-        (λ (second : (q ≡ length calls) × (call ≡ b)). subst (λ (c : AnsweredCall). (a.index < c.index) × (a.until ≤ c.since)) second.1 (before_it p a first (caller ∙ ap (λ (c : AnsweredCall). c.caller) (sym second.1))))
+        (λ (second : (q ≡ length calls) × (call ≡ b)). subst (λ (c : AnsweredCall). (a.call.index < c.call.index) × (a.until ≤ c.call.since)) second.1 (before_it p a first (caller ∙ ap (λ (c : AnsweredCall). c.call.caller) (sym second.1))))
         (at_end calls call b q at_q))
         (λ (first : (p ≡ length calls) × (call ≡ a)). absurd (
         let last : q < length calls + 1 = subst (λ (len : ℕ). q < len) (length-append calls (call ∷ [])) (within (calls ++ call ∷ []) q b at_q) in
@@ -390,14 +425,14 @@ module _ (base : Map) (calls : List AnsweredCall) (s : Index) (i : ℕ) (e : Ent
         omega arith))
         (at_end calls call a p at_p)
 
-    answered : IsAnswerOf base s.history e (op_in m) answer → IsIndex done_index → Kept base (calls ++ call ∷ []) done_index
+    answered : IsAnswerOf base s.history e (op_in m) answer → IsIndex done_index → Kept first begun (calls ++ call ∷ []) done_index
     answered says index = record {
       index = index;
       base_is = k.base_is;
       told = λ j c at. ⊎_elim
           (λ (old : get_elem? calls j ≡ some c). k.told j c old)
           (λ (last : (j ≡ length calls) × (call ≡ c)).
-          subst (λ (d : AnsweredCall). Told base s.history d d.answer × (d.until ≤ length s.history)) last.1 (tells_it answer ends says, omega arith))
+          subst (Tells base s.history) last.1 (tells_it answer ends says, omega arith))
           (at_end calls call c j at);
       order = ordered;
       earlier = λ j c p entry at at_p caller. ⊎_elim
@@ -405,13 +440,13 @@ module _ (base : Map) (calls : List AnsweredCall) (s : Index) (i : ℕ) (e : Ent
           (λ (old : get_elem? calls j ≡ some c).
           let before = (before_it j c old (caller ∙ mine.0 ∙ sym own.caller)).0 in
           let more = counted_on in
-          let less : c.index < e.calls = omega arith in
+          let less : c.call.index < e.calls = omega arith in
           subst (λ (d : Entry). IsEarlier c d d.machine) mine.1 less)
           (λ (last : (j ≡ length calls) × (call ≡ c)). subst (λ (q : Entry × AnsweredCall). IsEarlier q.1 q.0 q.0.machine) (λ t. (mine.1 t, last.1 t)) counted_on)
           (at_end calls call c j at))
           (λ (other : (p ≢ i) × (get_elem? s.entries p ≡ some entry)). ⊎_elim
           (λ (old : get_elem? calls j ≡ some c). k.earlier j c p entry old other.1 caller)
-          (λ (last : (j ≡ length calls) × (call ≡ c)). absurd (other.0 (sym caller ∙ ap (λ (d : AnsweredCall). d.caller) (sym last.1) ∙ own.caller)))
+          (λ (last : (j ≡ length calls) × (call ≡ c)). absurd (other.0 (sym caller ∙ ap (λ (d : AnsweredCall). d.call.caller) (sym last.1) ∙ own.caller)))
           (at_end calls call c j at))
           (at_set s.entries i p done entry at_p);
       flying = λ p entry machine at_p flown. ⊎_elim
@@ -419,10 +454,25 @@ module _ (base : Map) (calls : List AnsweredCall) (s : Index) (i : ℕ) (e : Ent
           (λ (other : (p ≢ i) × (get_elem? s.entries p ≡ some entry)). k.flying p entry machine other.1 flown)
           (at_set s.entries i p done entry at_p);
       writes = writes_done;
+      was_begun = λ j c at. ⊎_elim
+          (λ (old : get_elem? calls j ≡ some c). k.was_begun j c old)
+          (λ (last : (j ≡ length calls) × (call ≡ c)). subst (λ (d : AnsweredCall). Contains begun d.call) last.1 (k.flying i e m there flies).2)
+          (at_end calls call c j at);
+      each_call = λ c has. ⊎_elim
+          (λ (a : IsAnswered calls c). inl (record { number = a.number; answered = a.answered; there = at_longer calls (call ∷ []) a.number a.answered a.there; is = a.is }))
+          (λ (f : IsFlying s.entries c). ⊎_elim
+          (λ (party : f.party ≡ i). inl (record { number = length calls; answered = call; there = end_there calls call; is = flying_here c f party }))
+          (λ (other : f.party ≢ i). inr (record { party = f.party; entry = f.entry; machine = f.machine; there = else_there s.entries i f.party done f.entry other f.there; flies = f.flies; is = f.is }))
+          (cases_eq f.party i))
+          (k.each_call c has);
+      counts = λ p entry at_p. ⊎_elim
+          (λ (mine : (p ≡ i) × (done ≡ entry)). counts_as first begun i p e entry mine.0 (ap (λ (d : Entry). d.calls) (sym mine.1)) (k.counts i e there))
+          (λ (other : (p ≢ i) × (get_elem? s.entries p ≡ some entry)). k.counts p entry other.1)
+          (at_set s.entries i p done entry at_p);
     }
 
     pub is_answered : IsAnswerOf (map_of (stepped_index s i e m n).base) (stepped_index s i e m n).history e (op_in m) answer → IsIndex (stepped_index s i e m n)
-        → Kept base (calls ++ answered_call e m (length (stepped_index s i e m n).history) answer ∷ []) (stepped_index s i e m n)
+        → Kept first begun (calls ++ record { call = flying_call e m; until = length (stepped_index s i e m n).history; answer = answer } ∷ []) (stepped_index s i e m n)
     is_answered says index =
         let same : Path Index done_index (stepped_index s i e m n) = (λ t. record s {
           words = acted s.layout s.words (running_asks m);
@@ -431,4 +481,4 @@ module _ (base : Map) (calls : List AnsweredCall) (s : Index) (i : ℕ) (e : Ent
           spare = n;
         }) in
         let says_now : IsAnswerOf base s.history e (op_in m) answer = subst (λ (q : Map × List Write). IsAnswerOf q.0 q.1 e (op_in m) answer) (λ t. (k.base_is t, unwritten t)) says in
-        subst (λ (v : Index). Kept base (calls ++ answered_call e m (length v.history) answer ∷ []) v) same (answered says_now (subst IsIndex (sym same) index))
+        subst (λ (v : Index). Kept first begun (calls ++ record { call = flying_call e m; until = length v.history; answer = answer } ∷ []) v) same (answered says_now (subst IsIndex (sym same) index))

@@ -1,8 +1,9 @@
 -- Schedules of the core, and what is legal of all that they answer.
-use Rattle.std.specs.Prelude.{◌≡◌, ℕ, ◌-◌, ◌^◌, ◌<◌, ◌≤◌, ◌⊎◌, List, [], ◌∷◌, ◌++◌, length, slice_get, Option, Some, None, IfSome, IsSomeAnd}
+use Rattle.std.specs.Prelude.{◌≡◌, ℕ, ◌+◌, ◌^◌, ◌<◌, ◌≤◌, ◌⊎◌, List, [], ◌∷◌, ◌++◌, length, slice_get, Option, Some, None, IfSome, IsSomeAnd, Contains}
 use mathlib.Core.Option.{some}
 use lib.ListN.{get_elem?}
 use Rattle.pm_words.specs.Places.{image_words}
+use Rattle.pm_words.specs.declared.again.Again.TheVariants as again
 use Rattle.cat_history.specs.Maps.{Map, map_of}
 use Rattle.cat_history.specs.Records.{Interval, interval_at}
 use Rattle.cat_history.specs.declared.op.Change.{Change}
@@ -20,47 +21,65 @@ use Rattle.index_core.specs.declared.entry.CoreCall.{CoreCall}
 use Rattle.index_core.specs.declared.entry.CoreReply.TheVariants as reply
 use Rattle.index_core.specs.declared.entry.Entry.{Entry}
 use Rattle.index_core.specs.declared.entry.Stepped.TheVariants.{Going, Answered}
+use Rattle.index_core.specs.declared.entry.Whole.{Whole}
+use Rattle.index_core.specs.declared.entry.Whole.TheVariants as whole
 use Rattle.index_core.specs.Answers.{TookPlace}
+use Rattle.index_core.specs.CoreCalls.{op_of, limit_of}
 use Rattle.index_core.specs.Indexes.{Index, IsIndex, IsInFlight, Starts, StepsTo}
 use Rattle.index_core.specs.Crashes.{evicted_index}
-use Rattle.index_core.specs.Lone.{IsQuiet}
+use Rattle.index_core.specs.Lone.{IsQuiet, RunsAlone}
 
--- A call that was answered.
-pub record AnsweredCall : Type 0 where
+-- A call that was begun.
+pub record BegunCall : Type 0 where
   pub caller : ℕ
   pub index : ℕ  -- how many calls its caller began before it
   pub op : Op
   pub limit : Option ℕ  -- the clock at which it is refused, if there is one
   pub since : ℕ  -- how long the history was as it began
+
+-- A call that was answered.
+pub record AnsweredCall : Type 0 where
+  pub call : BegunCall
   pub until : ℕ  -- how long the history was as it was answered
   pub answer : Once Placed
 
--- The party's call with its answer, which came as the history was so long.
-abbrev pub answered_call : Entry → Running → ℕ → Once Placed → AnsweredCall
-answered_call entry machine until answer = record {
-  caller = entry.caller;
-  index = entry.index;
-  op = op_in machine;
-  limit = (running_call machine).limit;
-  since = entry.since;
-  until = until;
-  answer = answer;
-}
+-- The call that the party begins as the history is so long.
+abbrev pub begun_call : Entry → ℕ → CoreCall → BegunCall
+begun_call entry since call = record { caller = entry.caller; index = entry.calls; op = op_of call; limit = limit_of call; since = since }
+
+-- The party's call in flight.
+abbrev pub flying_call : Entry → Running → BegunCall
+flying_call entry machine =
+    record { caller = entry.caller; index = entry.index; op = op_in machine; limit = (running_call machine).limit; since = entry.since }
+
+-- What a whole call that was alone is answered, as one try of it is: only a full node turns it back.
+abbrev pub once_of : Whole → Once Placed
+once_of (whole.Placed placed) = once.Done placed
+once_of whole.Full = once.Again again.NoFree
+once_of (whole.Spent clock) = once.Spent clock
+once_of (whole.Worn node word) = once.Worn node word
 
 -- A schedule of the core from this index to another: calls of the core one after another, each with what its contract
--- says. The list has the calls that were answered on the way, in the order of their answers.
-pub data Runs (first : Index) : List AnsweredCall → Index → Type 0 where
-  begins : Runs first [] first
-  starts : {calls : List AnsweredCall} {old new : Index} {party : ℕ} {call : CoreCall} → Runs first calls old → (IsInFlight old party → ⊥) →
-      Starts old party call new → IsIndex new → Runs first calls new
-  goes_on : {calls : List AnsweredCall} {old new : Index} {party : ℕ} → Runs first calls old → StepsTo old party new Going → IsIndex new →
-      Runs first calls new
-  answers : {calls : List AnsweredCall} {old new : Index} {party : ℕ} {answer : Once Placed} → Runs first calls old →
+-- says. The first list has the calls that were begun on the way, in their order, the second those that were answered, in
+-- the order of their answers.
+pub data Runs (first : Index) : List BegunCall → List AnsweredCall → Index → Type 0 where
+  begins : Runs first [] [] first
+  starts : {begun : List BegunCall} {calls : List AnsweredCall} {old new : Index} {party : ℕ} {call : CoreCall} → Runs first begun calls old →
+      (IsInFlight old party → ⊥) → (start : Starts old party call new) → IsIndex new →
+      Runs first (begun ++ begun_call start.entry (length old.history) call ∷ []) calls new
+  goes_on : {begun : List BegunCall} {calls : List AnsweredCall} {old new : Index} {party : ℕ} → Runs first begun calls old →
+      StepsTo old party new Going → IsIndex new → Runs first begun calls new
+  answers : {begun : List BegunCall} {calls : List AnsweredCall} {old new : Index} {party : ℕ} {answer : Once Placed} → Runs first begun calls old →
       (step : StepsTo old party new (Answered (reply.Placed answer))) → IsIndex new →
-      Runs first (calls ++ answered_call step.entry step.machine (length new.history) answer ∷ []) new
-  evicts : {calls : List AnsweredCall} {old new : Index} {word : ℕ} → Runs first calls old → word < image_words old.layout →
-      new ≡ evicted_index old word → IsIndex new → Runs first calls new
-  reserves : {calls : List AnsweredCall} {old new : Index} → Runs first calls old → new ≡ record old { spare = new.spare } → Runs first calls new
+      Runs first begun (calls ++ record { call = flying_call step.entry step.machine; until = length new.history; answer = answer } ∷ []) new
+  alone : {begun : List BegunCall} {calls : List AnsweredCall} {old new : Index} {caller : ℕ} {call : CoreCall} {result : Whole} →
+      Runs first begun calls old → IsQuiet old → (run : RunsAlone old caller call new result) → IsIndex new →
+      Runs first (begun ++ begun_call run.entry (length old.history) call ∷ [])
+      (calls ++ record { call = begun_call run.entry (length old.history) call; until = length new.history; answer = once_of result } ∷ []) new
+  evicts : {begun : List BegunCall} {calls : List AnsweredCall} {old new : Index} {word : ℕ} → Runs first begun calls old →
+      word < image_words old.layout → new ≡ evicted_index old word → IsIndex new → Runs first begun calls new
+  reserves : {begun : List BegunCall} {calls : List AnsweredCall} {old new : Index} → Runs first begun calls old →
+      new ≡ record old { spare = new.spare } → Runs first begun calls new
 
 -- No write of the history is of this caller's call of this index.
 abbrev pub StandsNowhere : List Write → ℕ → ℕ → Type 0
@@ -73,44 +92,78 @@ StandsAt history caller index place None = StandsNowhere history caller index
 StandsAt history caller index place (Some change) = slice_get history place ≡ Some (record { caller = caller; index = index; change = change })
 
 -- A call took place within its time, and with its own change.
-pub record IsPlacedCall (base : Map) (history : List Write) (c : AnsweredCall) (placed : Placed) : Type 0 where
+pub record IsPlacedCall (base : Map) (history : List Write) (c : BegunCall) (ends : ℕ) (placed : Placed) : Type 0 where
   pub took : TookPlace base history c.caller c.index c.since c.op placed
-  pub ended : (interval_at c.op placed.place).end ≤ c.until
+  pub ended : (interval_at c.op placed.place).end ≤ ends
   pub stands : StandsAt history c.caller c.index placed.place (change_asked c.op)
 
 -- A clock of the call's time had reached its limit, and it wrote nothing.
-pub record IsSpentCall (history : List Write) (c : AnsweredCall) (clock : ℕ) : Type 0 where
+pub record IsSpentCall (history : List Write) (c : BegunCall) (ends clock : ℕ) : Type 0 where
   pub reached : IsSomeAnd c.limit (λ limit. limit ≤ clock)
   pub later : c.since ≤ clock
-  pub ended : clock ≤ c.until
+  pub ended : clock ≤ ends
   pub nowhere : StandsNowhere history c.caller c.index
 
-abbrev pub IsLegalAnswer : Map → List Write → AnsweredCall → Once Placed → Type 0
-IsLegalAnswer base history c (once.Done placed) = IsPlacedCall base history c placed
-IsLegalAnswer base history c (once.Spent clock) = IsSpentCall history c clock
-IsLegalAnswer base history c (once.Worn node word) = StandsNowhere history c.caller c.index
-IsLegalAnswer base history c (once.Again why) = StandsNowhere history c.caller c.index
+abbrev pub IsLegalAnswer : Map → List Write → BegunCall → ℕ → Once Placed → Type 0
+IsLegalAnswer base history c until (once.Done placed) = IsPlacedCall base history c until placed
+IsLegalAnswer base history c until (once.Spent clock) = IsSpentCall history c until clock
+IsLegalAnswer base history c until (once.Worn node word) = StandsNowhere history c.caller c.index
+IsLegalAnswer base history c until (once.Again why) = StandsNowhere history c.caller c.index
 
-pub record IsLegalCall (base : Map) (history : List Write) (c : AnsweredCall) : Type 0 where
-  pub answer : IsLegalAnswer base history c c.answer
+-- A call that was begun is answered legally.
+pub record IsLegalCall (base : Map) (history : List Write) (begun : List BegunCall) (c : AnsweredCall) : Type 0 where
+  pub was_begun : Contains begun c.call
+  pub answer : IsLegalAnswer base history c.call c.until c.answer
   pub within : c.until ≤ length history
 
 -- The places between which a call took effect, if it did.
-abbrev pub interval_of : AnsweredCall → Once Placed → Option Interval
-interval_of c (once.Done placed) = Some (interval_at c.op placed.place)
-interval_of c _ = None
+abbrev pub interval_of : Op → Once Placed → Option Interval
+interval_of op (once.Done placed) = Some (interval_at op placed.place)
+interval_of op _ = None
 
--- A call that was answered before its caller began another: its index is smaller, and its interval ends before the other's
--- starts.
+-- The interval of the one ends before that of the other starts.
+abbrev pub TakesEffectBefore : AnsweredCall → AnsweredCall → Type 0
+TakesEffectBefore a b = IfSome (interval_of a.call.op a.answer) (λ first. IfSome (interval_of b.call.op b.answer) (λ second. first.end ≤ second.start))
+
+-- A call that was answered before another began takes effect before it. How long the history was tells when that was.
+abbrev pub KeepsTime : List AnsweredCall → Type 0
+KeepsTime calls = (i j : ℕ) (a b : AnsweredCall) → get_elem? calls i ≡ some a → get_elem? calls j ≡ some b → a.until ≤ b.call.since →
+    TakesEffectBefore a b
+
+-- A call that was answered before its caller began another.
 pub record Precedes (a b : AnsweredCall) : Type 0 where
-  pub index : a.index < b.index
-  pub ended : a.until ≤ b.since
-  pub in_order : IfSome (interval_of a a.answer) (λ first. IfSome (interval_of b b.answer) (λ second. first.end ≤ second.start))
+  pub index : a.call.index < b.call.index
+  pub ended : a.until ≤ b.call.since
+  pub in_order : TakesEffectBefore a b
 
 -- Of two calls of one caller the one that was answered first precedes the other.
 abbrev pub KeepsCallersOrder : List AnsweredCall → Type 0
-KeepsCallersOrder calls = (i j : ℕ) (a b : AnsweredCall) → get_elem? calls i ≡ some a → get_elem? calls j ≡ some b → i < j → a.caller ≡ b.caller →
-    Precedes a b
+KeepsCallersOrder calls = (i j : ℕ) (a b : AnsweredCall) → get_elem? calls i ≡ some a → get_elem? calls j ≡ some b → i < j →
+    a.call.caller ≡ b.call.caller → Precedes a b
+
+-- A call in flight was begun, and before that each answered call of its caller was answered.
+pub record IsLegalInFlight (begun : List BegunCall) (calls : List AnsweredCall) (c : BegunCall) : Type 0 where
+  pub was_begun : Contains begun c
+  pub last : (i : ℕ) (a : AnsweredCall) → get_elem? calls i ≡ some a → a.call.caller ≡ c.caller → (a.call.index < c.index) × (a.until ≤ c.since)
+
+abbrev pub AreLegalInFlight : List BegunCall → List AnsweredCall → List Entry → Type 0
+AreLegalInFlight begun calls entries = (i : ℕ) (entry : Entry) (machine : Running) → get_elem? entries i ≡ some entry →
+    entry.machine ≡ Some machine → IsLegalInFlight begun calls (flying_call entry machine)
+
+-- The call was answered, or is in flight.
+pub record IsAnswered (calls : List AnsweredCall) (c : BegunCall) : Type 0 where
+  pub number : ℕ
+  pub answered : AnsweredCall
+  pub there : get_elem? calls number ≡ some answered
+  pub is : answered.call ≡ c
+
+pub record IsFlying (entries : List Entry) (c : BegunCall) : Type 0 where
+  pub party : ℕ
+  pub entry : Entry
+  pub machine : Running
+  pub there : get_elem? entries party ≡ some entry
+  pub flies : entry.machine ≡ Some machine
+  pub is : flying_call entry machine ≡ c
 
 -- No two writes are of one call.
 abbrev pub EachWritesOnce : List Write → Type 0
@@ -120,14 +173,14 @@ EachWritesOnce history = (i j : ℕ) (v w : Write) → slice_get history i ≡ S
 -- The write, which stands at this place, is that of a call that was answered.
 pub record IsAnsweredWrite (calls : List AnsweredCall) (stands : ℕ) (write : Write) : Type 0 where
   pub number : ℕ
-  pub call : AnsweredCall
+  pub answered : AnsweredCall
   pub placed : Placed
-  pub there : get_elem? calls number ≡ some call
-  pub answer : call.answer ≡ once.Done placed
+  pub there : get_elem? calls number ≡ some answered
+  pub answer : answered.answer ≡ once.Done placed
   pub place : placed.place ≡ stands
-  pub caller : write.caller ≡ call.caller
-  pub index : write.index ≡ call.index
-  pub change : change_asked call.op ≡ Some write.change
+  pub caller : write.caller ≡ answered.call.caller
+  pub index : write.index ≡ answered.call.index
+  pub change : change_asked answered.call.op ≡ Some write.change
 
 -- Or that of a call in flight, which has this place.
 pub record IsWriteInFlight (entries : List Entry) (stands : ℕ) (write : Write) : Type 0 where
@@ -146,19 +199,22 @@ EachWriteIsOfACall calls entries history = (place : ℕ) (write : Write) → sli
     IsAnsweredWrite calls place write ⊎ IsWriteInFlight entries place write
 
 -- The history of the index is the one legal history of these calls, over this base.
-pub record IsLegalHistory (base : Map) (calls : List AnsweredCall) (s : Index) : Type 0 where
+pub record IsLegalHistory (base : Map) (begun : List BegunCall) (calls : List AnsweredCall) (s : Index) : Type 0 where
   pub base_is : map_of s.base ≡ base
-  pub answers : (i : ℕ) (c : AnsweredCall) → get_elem? calls i ≡ some c → IsLegalCall base s.history c
+  pub answers : (i : ℕ) (c : AnsweredCall) → get_elem? calls i ≡ some c → IsLegalCall base s.history begun c
+  pub in_time : KeepsTime calls
   pub in_order : KeepsCallersOrder calls
+  pub in_flight : AreLegalInFlight begun calls s.entries
+  pub each_call : (c : BegunCall) → Contains begun c → IsAnswered calls c ⊎ IsFlying s.entries c
   pub once : EachWritesOnce s.history
   pub writes : EachWriteIsOfACall calls s.entries s.history
 
--- No caller has begun as many calls as its count of 64 bits has numbers.
-abbrev pub AreCounted : Index → Type 0
-AreCounted s = (i : ℕ) (entry : Entry) → get_elem? s.entries i ≡ some entry → entry.calls < 2 ^ 64 - 1
+-- With the calls that are begun no caller comes to the end of its count, which has 64 bits.
+abbrev pub AreCounted : Index → List BegunCall → Type 0
+AreCounted first begun = (i : ℕ) (entry : Entry) → get_elem? first.entries i ≡ some entry → entry.calls + length begun < 2 ^ 64
 
 -- However the calls were scheduled from an index with no call in flight and no write, their answers are those of one legal
 -- history.
 abbrev pub OneLegalHistory : Type 0
-OneLegalHistory = (first last : Index) (calls : List AnsweredCall) → IsIndex first → IsQuiet first → first.history ≡ [] → Runs first calls last →
-    AreCounted last → IsLegalHistory (map_of first.base) calls last
+OneLegalHistory = (first last : Index) (begun : List BegunCall) (calls : List AnsweredCall) → IsIndex first → IsQuiet first → first.history ≡ [] →
+    Runs first begun calls last → AreCounted first begun → IsLegalHistory (map_of first.base) begun calls last

@@ -2,12 +2,18 @@
 
 ghost use Rattle.index_core.specs.Schedules.{OneLegalHistory};
 
-/// Begin with an index in which no call is in flight and nothing is written yet, and start calls, step them in any order,
-/// evict words and make room, as long as you like. Then all that was answered is one legal history: each put and delete
-/// that took place stands in the history once, at its place, with its change; each answer has the number that its name had
-/// at its place, which lies between the call's start and its answer; of one caller's calls the earlier takes effect first;
-/// a call that was refused or turned back stands nowhere; and each write is that of an answered call, or of one in flight
-/// that has its place. A caller has begun fewer than 2^64 - 1 calls.
+/// Begin with an index in which no call is in flight and nothing is written yet. Start calls, step them in any order, make
+/// whole calls while no other is in flight, evict words and make room, as long as you like. Then all the answers are those
+/// of one legal history:
+///
+/// - each call that was begun is answered once, or is in flight;
+/// - the old number of one that took place is that of its name in the map at its place, which lies between its start and its
+///   answer, and the history has its change there, if it makes one, and nothing else of it;
+/// - of one caller's calls the one that was answered first took effect first;
+/// - one that was refused or turned back stands nowhere in the history, and the clock that refused it had reached its limit;
+/// - each write of the history is that of an answered call at its place, or of a call in flight that has this place.
+///
+/// No caller makes 2^64 calls.
 pub fn one_history_law()
     ensures { OneLegalHistory }
 {}
