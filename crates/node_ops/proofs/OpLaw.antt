@@ -10,7 +10,7 @@ use Rattle.cat_history.specs.declared.op.Change.TheVariants as change
 use Rattle.data_node.specs.Bits.{lowest_clear}
 use Rattle.call_stages.specs.declared.once.Once.{Once}
 use Rattle.call_stages.specs.declared.once.Placed.{Placed}
-use Rattle.call_stages.specs.Stages.{Stage, Holds, counted, pending_in, placed_in}
+use Rattle.call_stages.specs.Stages.{Holds, counted, pending_in, placed_in}
 use Rattle.call_stages.specs.Kinds.{Told}
 use Rattle.node_ops.specs.declared.call.Call.{Call}
 use Rattle.node_ops.specs.declared.lookup.Found.{Found}
@@ -45,7 +45,7 @@ use Rattle.node_ops.specs.PutSteps.{IsPut, put_call, put_turned, put_looked, put
 use Rattle.node_ops.specs.DelSteps.{IsDel, del_call, del_turned, del_looked, del_hit, del_finished}
 use Rattle.node_ops.specs.RunningSteps.{running_call, running_asks, running_turned, wrapped, IsRunning}
 use Rattle.node_ops.specs.CallStages.{lookup_at_stage, finish_at_held, change_of, stage_of}
-use Rattle.node_ops.specs.Asked.{Gives, TakesOut, IsOf, IsOfAfter, IsAbout, op_of_finish, op_in, change_asked}
+use Rattle.node_ops.specs.Asked.{Gives, TakesOut, IsOf, IsOfAfter, IsAbout, op_of_finish, change_asked}
 use Rattle.node_ops.specs.Laws.{TurnsKeepOp, CountsOwnChange, HoldsOwnName, PendingIsOwnChange, OpIsTold}
 use Rattle.node_ops.proofs.CallSound.{Stays, get_stays, put_stays, del_stays}
 

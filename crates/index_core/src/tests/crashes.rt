@@ -221,7 +221,10 @@ fn a_crash_keeps_the_map_with_what_is_found(rt: HostRuntime) -> Result<(), Fail>
     };
     for (case, stored, drained) in [(put, 50, 54), (overwrite, 17, 25), (delete, 17, 21)] {
         let found = found_by_evictions::<Brand>(rt.alloc(), Blank::new(1), case)?;
-        assert_eq!(rt; found, [Some(drained), Some(stored), Some(drained), Some(stored)]);
+        assert_eq!(rt;
+            found,
+            [Some(drained), Some(stored), Some(drained), Some(stored)]
+        );
     }
     Ok(())
 }
