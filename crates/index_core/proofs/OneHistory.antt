@@ -24,10 +24,12 @@ use Rattle.index_core.specs.declared.entry.Entry.{Entry}
 use Rattle.index_core.specs.Answers.{IsAnswerOf}
 use Rattle.index_core.specs.Indexes.{Index, IsIndex, IsInFlight, told}
 use Rattle.index_core.specs.Lone.{IsQuiet, placed_writes, entry_done}
-use Rattle.index_core.specs.Schedules.{BegunCall, AnsweredCall, begun_call, flying_call, once_of, Runs, begins, starts, goes_on, answers, alone, evicts, reserves, StandsNowhere, StandsAt, IsLegalAnswer, interval_of, KeepsCallersOrder, EachWritesOnce, IsAnsweredWrite, IsWriteInFlight, IsLegalHistory, AreCounted, OneLegalHistory}
+use Rattle.index_core.specs.Schedules.{BegunCall, AnsweredCall, begun_call, flying_call, once_of, Runs, begins, starts, goes_on, answers, alone, evicts, reserves, StandsNowhere, StandsAt, IsLegalAnswer, interval_of, KeepsCallersOrder, EachWritesOnce, IsAnsweredWrite, IsWriteInFlight, IsLegalHistory, AreCounted, OneLegalHistory, FreshIndexBegins}
 use Rattle.index_core.proofs.Beginning.{kept_start, kept_alone}
 use Rattle.index_core.proofs.Scheduling.{IsEarlier, AnswerHolds, Kept, place_le_end, else_there}
-use Rattle.index_core.proofs.Lists.{some_same}
+use Rattle.index_core.specs.Entries.{idle_entry}
+use Rattle.index_core.proofs.Fresh.{fresh_quiet}
+use Rattle.index_core.proofs.Lists.{some_same, idle-each}
 use Rattle.index_core.proofs.Alone.{go_of, done_of}
 use Rattle.index_core.proofs.Scheduling as along
 use Rattle.index_core.proofs.Stepping.{respare}
@@ -227,3 +229,14 @@ module _ (first : Index) (begun : List BegunCall) (calls : List AnsweredCall) (s
 
 pub one_legal_history : OneLegalHistory
 one_legal_history first last begun calls index quiet fresh run few = legal_history first begun calls last (kept first index quiet fresh run few)
+
+pub fresh_begins : FreshIndexBegins
+fresh_begins l first fresh = (
+  fresh.index,
+  fresh_quiet l first fresh,
+  fresh.history,
+  λ begun few i entry there.
+      let same : entry ≡ idle_entry i = idle-each l.callers i entry (subst (λ (entries : List Entry). get_elem? entries i ≡ some entry) fresh.entries there) in
+      let none = ap (λ (d : Entry). d.calls) same in
+      omega arith,
+)
