@@ -37,7 +37,7 @@ use Rattle.index_core.proofs.Alone.{begins_limit}
 use Rattle.index_core.proofs.Lists.{within, at_end, end_there, some_same, got_end, sole}
 use Rattle.index_core.proofs.Phases.{phase_of}
 use Rattle.index_core.proofs.Places.{IsOverOnly}
-use Rattle.index_core.proofs.Scheduling.{IsEarlier, Told, Tells, CountsUpTo, Kept, longer_tells, else_there}
+use Rattle.index_core.proofs.Scheduling.{IsEarlier, AnswerHolds, CallHolds, CountsUpTo, Kept, longer_call, else_there}
 
 begins_over : (s : Index) (i : ℕ) (c : CoreCall) → IsOverOnly (running_call (machine_of (view_of s i) c)).limit (phase_of (machine_of (view_of s i) c))
 begins_over s i (call.Put name value limit) = tt
@@ -95,12 +95,12 @@ module _ (first : Index) (begun : List BegunCall) (calls : List AnsweredCall) (s
       kept_start index = record {
         index = index;
         base_is = k.base_is;
-        told = k.told;
+        holds = k.holds;
         order = k.order;
         earlier = λ j a p entry at at_p caller. ⊎_elim
             (λ (mine : (p ≡ i) × (now ≡ entry)).
             let before : a.call.index < e.calls = subst (IsEarlier a e) idle (k.earlier j a i e at there (caller ∙ mine.0)) in
-            subst (λ (d : Entry). IsEarlier a d d.machine) mine.1 (before, (k.told j a at).1))
+            subst (λ (d : Entry). IsEarlier a d d.machine) mine.1 (before, (k.holds j a at).1))
             (λ (other : (p ≢ i) × (get_elem? s.entries p ≡ some entry)). k.earlier j a p entry at other.1 caller)
             (at_set s.entries i p now entry at_p);
         flying = λ p entry machine at_p flown. ⊎_elim
@@ -205,7 +205,7 @@ module _ (first : Index) (begun : List BegunCall) (calls : List AnsweredCall) (s
             stands,
           )
 
-      tells : (r : Whole) → IsWhole s c r → Told base (s.history ++ placed_writes e.caller e.calls c r) b (length (s.history ++ placed_writes e.caller e.calls c r)) (once_of r)
+      tells : (r : Whole) → IsWhole s c r → AnswerHolds base (s.history ++ placed_writes e.caller e.calls c r) b (length (s.history ++ placed_writes e.caller e.calls c r)) (once_of r)
       tells (whole.Placed placed) why = let both = took (op_of c) placed why.3 why.4 in (both.0, both.0.within, both.1)
       tells whole.Full why = tt
       tells (whole.Spent clock) why =
@@ -245,7 +245,7 @@ module _ (first : Index) (begun : List BegunCall) (calls : List AnsweredCall) (s
           (λ (two : get_elem? calls q ≡ some v). k.order p q u v one two less caller)
           (λ (two : (q ≡ length calls) × (a ≡ v)).
           subst (λ (d : AnsweredCall). (u.call.index < d.call.index) × (u.until ≤ d.call.since)) two.1
-          (before_it p u one (caller ∙ ap (λ (d : AnsweredCall). d.call.caller) (sym two.1) ∙ caller_is), (k.told p u one).1))
+          (before_it p u one (caller ∙ ap (λ (d : AnsweredCall). d.call.caller) (sym two.1) ∙ caller_is), (k.holds p u one).1))
           (at_end calls a v q at_q))
           (λ (one : (p ≡ length calls) × (a ≡ u)). absurd (
           let last : q < length calls + 1 = subst (λ (len : ℕ). q < len) (length-append calls (a ∷ [])) (within (calls ++ a ∷ []) q v at_q) in
@@ -261,9 +261,9 @@ module _ (first : Index) (begun : List BegunCall) (calls : List AnsweredCall) (s
       kept_alone new index = record {
         index = index;
         base_is = k.base_is;
-        told = λ j d at. ⊎_elim
-            (λ (old : get_elem? calls j ≡ some d). longer_tells base s.history (placed_writes e.caller e.calls c result) d (k.told j d old))
-            (λ (last : (j ≡ length calls) × (a ≡ d)). subst (Tells base history) last.1 (tells result is, omega arith))
+        holds = λ j d at. ⊎_elim
+            (λ (old : get_elem? calls j ≡ some d). longer_call base s.history (placed_writes e.caller e.calls c result) d (k.holds j d old))
+            (λ (last : (j ≡ length calls) × (a ≡ d)). subst (CallHolds base history) last.1 (tells result is, omega arith))
             (at_end calls a d j at);
         order = ordered;
         earlier = λ j d p entry at at_p caller. ⊎_elim

@@ -24,10 +24,12 @@ use Rattle.index_core.specs.declared.entry.Entry.{Entry}
 use Rattle.index_core.specs.Answers.{IsAnswerOf}
 use Rattle.index_core.specs.Indexes.{Index, IsIndex, IsInFlight, told}
 use Rattle.index_core.specs.Lone.{IsQuiet, placed_writes, entry_done}
-use Rattle.index_core.specs.Schedules.{BegunCall, AnsweredCall, begun_call, flying_call, once_of, Runs, begins, starts, goes_on, answers, alone, evicts, reserves, StandsNowhere, StandsAt, IsLegalAnswer, interval_of, KeepsCallersOrder, EachWritesOnce, IsAnsweredWrite, IsWriteInFlight, IsLegalHistory, AreCounted, OneLegalHistory}
+use Rattle.index_core.specs.Schedules.{BegunCall, AnsweredCall, begun_call, flying_call, once_of, Runs, begins, starts, goes_on, answers, alone, evicts, reserves, StandsNowhere, StandsAt, IsLegalAnswer, interval_of, KeepsCallersOrder, EachWritesOnce, IsAnsweredWrite, IsWriteInFlight, IsLegalHistory, AreCounted, OneLegalHistory, FreshIndexBegins}
 use Rattle.index_core.proofs.Beginning.{kept_start, kept_alone}
-use Rattle.index_core.proofs.Scheduling.{IsEarlier, Told, Kept, place_le_end, else_there}
-use Rattle.index_core.proofs.Lists.{some_same}
+use Rattle.index_core.proofs.Scheduling.{IsEarlier, AnswerHolds, Kept, place_le_end, else_there}
+use Rattle.index_core.specs.Entries.{idle_entry}
+use Rattle.index_core.proofs.Fresh.{fresh_quiet}
+use Rattle.index_core.proofs.Lists.{some_same, idle-each}
 use Rattle.index_core.proofs.Alone.{go_of, done_of}
 use Rattle.index_core.proofs.Scheduling as along
 use Rattle.index_core.proofs.Stepping.{respare}
@@ -38,7 +40,7 @@ kept_as : (first : Index) (begun : List BegunCall) (calls : List AnsweredCall) (
 kept_as first begun calls s words spare k index = record {
   index = index;
   base_is = k.base_is;
-  told = k.told;
+  holds = k.holds;
   order = k.order;
   earlier = k.earlier;
   flying = k.flying;
@@ -53,7 +55,7 @@ kept_first : (s : Index) → IsIndex s → IsQuiet s → s.history ≡ [] → Ke
 kept_first s index quiet fresh = record {
   index = index;
   base_is = refl;
-  told = λ j c at. absurd (some-ne-none c (sym at));
+  holds = λ j c at. absurd (some-ne-none c (sym at));
   order = λ p q a b at_p at_q less caller. absurd (some-ne-none a (sym at_p));
   earlier = λ j c p entry at at_p caller. absurd (some-ne-none c (sym at));
   flying = λ p entry machine at_p flown. absurd (let both : None ≡ Some machine = sym (quiet p entry at_p) ∙ flown in cc);
@@ -156,35 +158,35 @@ module _ (first : Index) (begun : List BegunCall) (calls : List AnsweredCall) (s
       cc
   stands_at n c place (Some change) at asks stands = stands
 
-  legal_answer : (n : ℕ) (c : AnsweredCall) (r : Once Placed) → get_elem? calls n ≡ some c → c.answer ≡ r → Told base s.history c.call c.until r → IsLegalAnswer base s.history c.call c.until r
-  legal_answer n c (once.Done placed) at is told = record { took = told.0; ended = told.1; stands = stands_at n c placed.place (change_asked c.call.op) at refl told.2 }
-  legal_answer n c (once.Spent clock) at is told = record {
-    reached = told.0;
-    later = told.1;
-    ended = told.2;
+  legal_answer : (n : ℕ) (c : AnsweredCall) (r : Once Placed) → get_elem? calls n ≡ some c → c.answer ≡ r → AnswerHolds base s.history c.call c.until r → IsLegalAnswer base s.history c.call c.until r
+  legal_answer n c (once.Done placed) at is holds = record { took = holds.0; ended = holds.1; stands = stands_at n c placed.place (change_asked c.call.op) at refl holds.2 }
+  legal_answer n c (once.Spent clock) at is holds = record {
+    reached = holds.0;
+    later = holds.1;
+    ended = holds.2;
     nowhere = nowhere n c at (λ placed other. let both : once.Spent clock ≡ once.Done placed = sym is ∙ other in cc);
   }
-  legal_answer n c (once.Worn node word) at is told = nowhere n c at (λ placed other. let both : once.Worn node word ≡ once.Done placed = sym is ∙ other in cc)
-  legal_answer n c (once.Again why) at is told = nowhere n c at (λ placed other. let both : once.Again why ≡ once.Done placed = sym is ∙ other in cc)
+  legal_answer n c (once.Worn node word) at is holds = nowhere n c at (λ placed other. let both : once.Worn node word ≡ once.Done placed = sym is ∙ other in cc)
+  legal_answer n c (once.Again why) at is holds = nowhere n c at (λ placed other. let both : once.Again why ≡ once.Done placed = sym is ∙ other in cc)
 
-  apart : (a b : AnsweredCall) (r t : Once Placed) → Told base s.history a.call a.until r → Told base s.history b.call b.until t → a.until ≤ b.call.since
+  apart : (a b : AnsweredCall) (r t : Once Placed) → AnswerHolds base s.history a.call a.until r → AnswerHolds base s.history b.call b.until t → a.until ≤ b.call.since
       → IfSome (interval_of a.call.op r) (λ first. IfSome (interval_of b.call.op t) (λ second. first.end ≤ second.start))
-  apart a b (once.Done first) (once.Done second) told_a told_b ended =
-      let end = told_a.1 in
-      let later = told_b.0.later in
+  apart a b (once.Done first) (once.Done second) holds_a holds_b ended =
+      let end = holds_a.1 in
+      let later = holds_b.0.later in
       let start = start_is b.call.op second.place in
       omega arith
-  apart a b (once.Done first) (once.Spent clock) told_a told_b ended = tt
-  apart a b (once.Done first) (once.Worn node word) told_a told_b ended = tt
-  apart a b (once.Done first) (once.Again why) told_a told_b ended = tt
-  apart a b (once.Spent clock) t told_a told_b ended = tt
-  apart a b (once.Worn node word) t told_a told_b ended = tt
-  apart a b (once.Again why) t told_a told_b ended = tt
+  apart a b (once.Done first) (once.Spent clock) holds_a holds_b ended = tt
+  apart a b (once.Done first) (once.Worn node word) holds_a holds_b ended = tt
+  apart a b (once.Done first) (once.Again why) holds_a holds_b ended = tt
+  apart a b (once.Spent clock) t holds_a holds_b ended = tt
+  apart a b (once.Worn node word) t holds_a holds_b ended = tt
+  apart a b (once.Again why) t holds_a holds_b ended = tt
 
   in_order : KeepsCallersOrder calls
   in_order p q a b at_p at_q less caller =
       let is = k.order p q a b at_p at_q less caller in
-      record { index = is.0; ended = is.1; in_order = apart a b a.answer b.answer (k.told p a at_p).0 (k.told q b at_q).0 is.1 }
+      record { index = is.0; ended = is.1; in_order = apart a b a.answer b.answer (k.holds p a at_p).0 (k.holds q b at_q).0 is.1 }
 
   once_each : EachWritesOnce s.history
   once_each i j v w at_i at_j caller index =
@@ -213,8 +215,8 @@ module _ (first : Index) (begun : List BegunCall) (calls : List AnsweredCall) (s
   legal_history : IsLegalHistory base begun calls s
   legal_history = record {
     base_is = k.base_is;
-    answers = λ n c at. let told = k.told n c at in record { was_begun = k.was_begun n c at; answer = legal_answer n c c.answer at refl told.0; within = told.1 };
-    in_time = λ i j a b at_i at_j ended. apart a b a.answer b.answer (k.told i a at_i).0 (k.told j b at_j).0 ended;
+    answers = λ n c at. let holds = k.holds n c at in record { was_begun = k.was_begun n c at; answer = legal_answer n c c.answer at refl holds.0; within = holds.1 };
+    in_time = λ i j a b at_i at_j ended. apart a b a.answer b.answer (k.holds i a at_i).0 (k.holds j b at_j).0 ended;
     in_order = in_order;
     in_flight = λ i entry machine there flies. record {
       was_begun = (k.flying i entry machine there flies).2;
@@ -227,3 +229,14 @@ module _ (first : Index) (begun : List BegunCall) (calls : List AnsweredCall) (s
 
 pub one_legal_history : OneLegalHistory
 one_legal_history first last begun calls index quiet fresh run few = legal_history first begun calls last (kept first index quiet fresh run few)
+
+pub fresh_begins : FreshIndexBegins
+fresh_begins l first fresh = (
+  fresh.index,
+  fresh_quiet l first fresh,
+  fresh.history,
+  λ begun few i entry there.
+      let same : entry ≡ idle_entry i = idle-each l.callers i entry (subst (λ (entries : List Entry). get_elem? entries i ≡ some entry) fresh.entries there) in
+      let none = ap (λ (d : Entry). d.calls) same in
+      omega arith,
+)

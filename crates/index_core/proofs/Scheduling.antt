@@ -46,17 +46,17 @@ abbrev pub IsEarlier : AnsweredCall → Entry → Option Running → Type 0
 IsEarlier c entry None = c.call.index < entry.calls
 IsEarlier c entry (Some machine) = (c.call.index < entry.index) × (c.until ≤ entry.since)
 
--- what an answer told of the history stays
-abbrev pub Told : Map → List Write → BegunCall → ℕ → Once Placed → Type 0
-Told base history c until (once.Done placed) =
+-- what an answer says of the map and the history, which stays so as the history grows
+abbrev pub AnswerHolds : Map → List Write → BegunCall → ℕ → Once Placed → Type 0
+AnswerHolds base history c until (once.Done placed) =
     TookPlace base history c.caller c.index c.since c.op placed × ((interval_at c.op placed.place).end ≤ until)
     × IfSome (change_asked c.op) (λ change. slice_get history placed.place ≡ Some (record { caller = c.caller; index = c.index; change = change }))
-Told base history c until (once.Spent clock) = IsSomeAnd c.limit (λ limit. limit ≤ clock) × (c.since ≤ clock) × (clock ≤ until)
-Told base history c until _ = Unit {0}
+AnswerHolds base history c until (once.Spent clock) = IsSomeAnd c.limit (λ limit. limit ≤ clock) × (c.since ≤ clock) × (clock ≤ until)
+AnswerHolds base history c until _ = Unit {0}
 
--- of the answered call
-abbrev pub Tells : Map → List Write → AnsweredCall → Type 0
-Tells base history c = Told base history c.call c.until c.answer × (c.until ≤ length history)
+-- the same of an answered call
+abbrev pub CallHolds : Map → List Write → AnsweredCall → Type 0
+CallHolds base history c = AnswerHolds base history c.call c.until c.answer × (c.until ≤ length history)
 
 -- no caller has begun more calls than these since the schedule began
 pub record CountsUpTo (first : Index) (begun : List BegunCall) (i : ℕ) (entry : Entry) : Type 0 where
@@ -67,7 +67,7 @@ pub record CountsUpTo (first : Index) (begun : List BegunCall) (i : ℕ) (entry 
 pub record Kept (first : Index) (begun : List BegunCall) (calls : List AnsweredCall) (s : Index) : Type 0 where
   pub index : IsIndex s
   pub base_is : map_of s.base ≡ map_of first.base
-  pub told : (n : ℕ) (c : AnsweredCall) → get_elem? calls n ≡ some c → Tells (map_of first.base) s.history c
+  pub holds : (n : ℕ) (c : AnsweredCall) → get_elem? calls n ≡ some c → CallHolds (map_of first.base) s.history c
   pub order : (i j : ℕ) (a b : AnsweredCall) → get_elem? calls i ≡ some a → get_elem? calls j ≡ some b → i < j → a.call.caller ≡ b.call.caller
       → (a.call.index < b.call.index) × (a.until ≤ b.call.since)
   pub earlier : (n : ℕ) (c : AnsweredCall) (i : ℕ) (entry : Entry) → get_elem? calls n ≡ some c → get_elem? s.entries i ≡ some entry → c.call.caller ≡ i → IsEarlier c entry entry.machine
@@ -86,8 +86,8 @@ place_le_end (op.Del _) place = omega arith
 longer_write : (h more : List Write) (caller index : ℕ) (name : List ℕ) (place : ℕ) → HasWriteAt h caller index name place → HasWriteAt (h ++ more) caller index name place
 longer_write h more caller index name place is = record { change = is.change; about = is.about; stands = slice_get-longer h more place _ is.stands }
 
-longer_told : (base : Map) (h more : List Write) (c : BegunCall) (until : ℕ) (answer : Once Placed) → Told base h c until answer → Told base (h ++ more) c until answer
-longer_told base h more c until (once.Done placed) is =
+longer_holds : (base : Map) (h more : List Write) (c : BegunCall) (until : ℕ) (answer : Once Placed) → AnswerHolds base h c until answer → AnswerHolds base (h ++ more) c until answer
+longer_holds base h more c until (once.Done placed) is =
     let took = is.0 in
     let least = place_le_end c.op placed.place in
     let longer = length-append h more in
@@ -101,12 +101,12 @@ longer_told base h more c until (once.Done placed) is =
       is.1,
       IfSome_then (change_asked c.op) is.2 (λ change stands. slice_get-longer h more placed.place _ stands),
     )
-longer_told base h more c until (once.Spent clock) is = is
-longer_told base h more c until (once.Worn node word) is = tt
-longer_told base h more c until (once.Again why) is = tt
+longer_holds base h more c until (once.Spent clock) is = is
+longer_holds base h more c until (once.Worn node word) is = tt
+longer_holds base h more c until (once.Again why) is = tt
 
-pub longer_tells : (base : Map) (h more : List Write) (c : AnsweredCall) → Tells base h c → Tells base (h ++ more) c
-longer_tells base h more c is = let longer = length-append h more in let within = is.1 in (longer_told base h more c.call c.until c.answer is.0, omega arith)
+pub longer_call : (base : Map) (h more : List Write) (c : AnsweredCall) → CallHolds base h c → CallHolds base (h ++ more) c
+longer_call base h more c is = let longer = length-append h more in let within = is.1 in (longer_holds base h more c.call c.until c.answer is.0, omega arith)
 
 -- an entry that stands elsewhere than the changed one
 pub else_there : (entries : List Entry) (i j : ℕ) (now entry : Entry) → j ≢ i → get_elem? entries j ≡ some entry → get_elem? (set entries i now) j ≡ some entry
@@ -280,7 +280,7 @@ module _ (first : Index) (begun : List BegunCall) (calls : List AnsweredCall) (s
     going index = record {
       index = index;
       base_is = k.base_is;
-      told = λ j c at. longer_tells base s.history (written e.caller e.index (counted (stage_of m))) c (k.told j c at);
+      holds = λ j c at. longer_call base s.history (written e.caller e.index (counted (stage_of m))) c (k.holds j c at);
       order = k.order;
       earlier = λ j c p entry at at_p caller. ⊎_elim
           (λ (mine : (p ≡ i) × (e' ≡ entry)).
@@ -347,7 +347,7 @@ module _ (first : Index) (begun : List BegunCall) (calls : List AnsweredCall) (s
         let changed : write.change ≡ change = some_same (sym (own_write place _ write.stands refl refl) ∙ sym same) in
         subst (λ (c : Change). slice_get s.history place ≡ Some (record { caller = e.caller; index = e.index; change = c })) changed write.stands
 
-    tells_it : (r : Once Placed) → EndsWith (running_call m).limit (op_in m) (phase_of m) r → IsAnswerOf base s.history e (op_in m) r → Told base s.history (flying_call e m) (length s.history) r
+    tells_it : (r : Once Placed) → EndsWith (running_call m).limit (op_in m) (phase_of m) r → IsAnswerOf base s.history e (op_in m) r → AnswerHolds base s.history (flying_call e m) (length s.history) r
     tells_it (once.Done placed) ending took = (took, took.within, own_change (change_asked (op_in m)) placed.place refl took.write)
     tells_it (once.Spent clock) ending times = (ending.1 (k.flying i e m there flies).1, times.0, times.1)
     tells_it (once.Worn node word) ending says = tt
@@ -429,10 +429,10 @@ module _ (first : Index) (begun : List BegunCall) (calls : List AnsweredCall) (s
     answered says index = record {
       index = index;
       base_is = k.base_is;
-      told = λ j c at. ⊎_elim
-          (λ (old : get_elem? calls j ≡ some c). k.told j c old)
+      holds = λ j c at. ⊎_elim
+          (λ (old : get_elem? calls j ≡ some c). k.holds j c old)
           (λ (last : (j ≡ length calls) × (call ≡ c)).
-          subst (Tells base s.history) last.1 (tells_it answer ends says, omega arith))
+          subst (CallHolds base s.history) last.1 (tells_it answer ends says, omega arith))
           (at_end calls call c j at);
       order = ordered;
       earlier = λ j c p entry at at_p caller. ⊎_elim

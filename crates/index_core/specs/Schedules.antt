@@ -2,6 +2,7 @@
 use Rattle.std.specs.Prelude.{◌≡◌, ℕ, ◌+◌, ◌^◌, ◌<◌, ◌≤◌, ◌⊎◌, List, [], ◌∷◌, ◌++◌, length, slice_get, Option, Some, None, IfSome, IsSomeAnd, Contains}
 use mathlib.Core.Option.{some}
 use lib.ListN.{get_elem?}
+use Rattle.pm_words.specs.declared.layout.Layout.{Layout}
 use Rattle.pm_words.specs.Places.{image_words}
 use Rattle.pm_words.specs.declared.again.Again.TheVariants as again
 use Rattle.cat_history.specs.Maps.{Map, map_of}
@@ -27,6 +28,7 @@ use Rattle.index_core.specs.Answers.{TookPlace}
 use Rattle.index_core.specs.CoreCalls.{op_of, limit_of}
 use Rattle.index_core.specs.Indexes.{Index, IsIndex, IsInFlight, Starts, StepsTo}
 use Rattle.index_core.specs.Crashes.{evicted_index}
+use Rattle.index_core.specs.Fresh.{IsFreshIndex}
 use Rattle.index_core.specs.Lone.{IsQuiet, RunsAlone}
 
 -- A call that was begun.
@@ -218,3 +220,8 @@ AreCounted first begun = (i : ℕ) (entry : Entry) → get_elem? first.entries i
 abbrev pub OneLegalHistory : Type 0
 OneLegalHistory = (first last : Index) (begun : List BegunCall) (calls : List AnsweredCall) → IsIndex first → IsQuiet first → first.history ≡ [] →
     Runs first begun calls last → AreCounted first begun → IsLegalHistory (map_of first.base) begun calls last
+
+-- A fresh index is one that a schedule may begin with.
+abbrev pub FreshIndexBegins : Type 0
+FreshIndexBegins = (l : Layout) (first : Index) → IsFreshIndex l first →
+    IsIndex first × IsQuiet first × (first.history ≡ []) × ((begun : List BegunCall) → length begun < 2 ^ 64 → AreCounted first begun)

@@ -1,6 +1,6 @@
 //! The law of whole schedules.
 
-ghost use Rattle.index_core.specs.Schedules.{OneLegalHistory};
+ghost use Rattle.index_core.specs.Schedules.{OneLegalHistory, FreshIndexBegins};
 
 /// Begin with an index in which no call is in flight and nothing is written yet. Start calls, step them in any order, make
 /// whole calls while no other is in flight, evict words and make room, as long as you like. Then all the answers are those
@@ -13,7 +13,8 @@ ghost use Rattle.index_core.specs.Schedules.{OneLegalHistory};
 /// - one that was refused or turned back stands nowhere in the history, and the clock that refused it had reached its limit;
 /// - each write of the history is that of an answered call at its place, or of a call in flight that has this place.
 ///
-/// No caller makes 2^64 calls.
+/// No caller makes 2^64 calls. A fresh index is one to begin with.
 pub fn one_history_law()
-    ensures { OneLegalHistory }
+    ensures history { OneLegalHistory }
+    ensures fresh { FreshIndexBegins }
 {}
