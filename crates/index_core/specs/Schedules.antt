@@ -211,7 +211,7 @@ pub record IsLegalHistory (base : Map) (begun : List BegunCall) (calls : List An
   pub once : EachWritesOnce s.history
   pub writes : EachWriteIsOfACall calls s.entries s.history
 
--- With the calls that are begun no caller comes to the end of its count, which has 64 bits.
+-- Even if one caller began all these calls, its count, which has 64 bits, wouldn't come to its end.
 abbrev pub AreCounted : Index → List BegunCall → Type 0
 AreCounted first begun = (i : ℕ) (entry : Entry) → get_elem? first.entries i ≡ some entry → entry.calls + length begun < 2 ^ 64
 

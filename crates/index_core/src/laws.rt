@@ -13,7 +13,7 @@ ghost use Rattle.index_core.specs.Schedules.{OneLegalHistory, FreshIndexBegins};
 /// - one that was refused or turned back stands nowhere in the history, and the clock that refused it had reached its limit;
 /// - each write of the history is that of an answered call at its place, or of a call in flight that has this place.
 ///
-/// No caller makes 2^64 calls. A fresh index is one to begin with.
+/// Fewer than 2^64 calls are begun, with those that a caller began before. A fresh index is one to begin with.
 pub fn one_history_law()
     ensures history { OneLegalHistory }
     ensures fresh { FreshIndexBegins }
