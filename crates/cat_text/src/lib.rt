@@ -18,7 +18,7 @@ pub use outside::memory::{MemorySink, MemorySource};
 pub use outside::plan::FaultPlan;
 pub use outside::sink::{Sink, WriteFault, write_whole};
 pub use outside::source::{Failed, ReadFault, Source, read_whole};
-pub use outside::standard::{StandardInput, StandardOutput};
+pub use outside::streams::{ReadSource, WriteSink};
 pub use print::print_report;
 pub use read::read_script;
 pub use report::{Report, RoundReport};

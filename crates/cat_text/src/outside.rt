@@ -1,10 +1,11 @@
 //! Where bytes come from and where they go, as traits, so that a contract can name the bytes and a
 //! test can let any call fail.
 
+pub mod fault_count;
 pub mod memory;
 pub mod plan;
 pub mod sink;
 pub mod source;
-pub mod standard;
+pub mod streams;
 #[cfg(test)]
 mod tests;

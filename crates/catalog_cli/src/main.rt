@@ -9,7 +9,7 @@ mod status;
 #[cfg(test)]
 mod tests;
 
-use cat_text::{StandardInput, StandardOutput};
+use cat_text::{ReadSource, WriteSink};
 pub use catalog::catalog;
 pub use status::{Status, Verb};
 use std::process::ExitCode;
@@ -45,8 +45,8 @@ fn run(rt: &HostRuntime) -> Status {
         Some("--help") => shown(println!(rt; "{USAGE}\n{BUILT}")),
         Some("--version") => shown(println!(rt; "{VERSION}")),
         _ => {
-            let mut script = StandardInput::new(rt.stdin());
-            let mut out = StandardOutput::new(rt.stdout());
+            let mut script = ReadSource::new(rt.stdin());
+            let mut out = WriteSink::new(rt.stdout());
             catalog(rt.alloc(), &words, &mut script, &mut out)
         }
     }

@@ -4,8 +4,10 @@ use super::memory::{MemorySink, MemorySource};
 use super::plan::FaultPlan;
 use super::sink::{WriteFault, write_whole};
 use super::source::{ReadFault, Source, read_whole};
-use super::standard::{StandardInput, StandardOutput};
+use super::streams::{ReadSource, WriteSink};
 use std::alloc::{AllocError, Global};
+use std::io;
+use std::io::{ErrorKind, Read};
 use std::test::Fail;
 
 /// A source of these bytes that gives at most three a read, and fails at the listed reads.
@@ -73,9 +75,49 @@ fn short_writes_and_faults_of_a_sink(rt: HostRuntime) -> Result<(), Fail> {
 
 #[test]
 fn the_standard_streams(rt: HostRuntime) -> Result<(), Fail> {
-    let mut input = StandardInput::new(rt.stdin());
+    let mut input = ReadSource::new(rt.stdin());
     assert_eq!(rt; input.read(&mut []), Ok(0));
-    let mut output = StandardOutput::new(rt.stdout());
+    let mut output = WriteSink::new(rt.stdout());
     assert_eq!(rt; write_whole(&mut output, b"written\n"), Ok(()));
+    Ok(())
+}
+
+/// A reader that can only fail.
+#[derive(Drop)]
+struct Broken;
+
+impl Read for Broken {
+    fn read(&mut self, _buf: &mut [u8]) -> io::Result<usize> {
+        Err(io::Error::from(ErrorKind::BrokenPipe))
+    }
+}
+
+#[test]
+fn a_reader_that_ends_and_one_that_breaks(rt: HostRuntime) -> Result<(), Fail> {
+    let alloc = rt.alloc();
+    let mut whole = ReadSource::new(b"abcdefgh".as_slice());
+    let text = read_whole(alloc, &mut whole, 8)?;
+    assert_eq!(rt; text.as_slice(), b"abcdefgh".as_slice());
+    let mut broken = ReadSource::new(b"abcdefgh".as_slice().chain(Broken));
+    assert_eq!(rt;
+        read_whole(alloc, &mut broken, 100).err(),
+        Some(ReadFault::Failed)
+    );
+    Ok(())
+}
+
+#[test]
+fn a_writer_with_room_and_one_without(rt: HostRuntime) -> Result<(), Fail> {
+    let mut bytes = [b'.'; 10];
+    let mut roomy = WriteSink::new(bytes.as_mut_slice());
+    assert_eq!(rt; write_whole(&mut roomy, b"abcdefgh"), Ok(()));
+    assert_eq!(rt; &bytes, b"abcdefgh..");
+    let mut short = [b'.'; 4];
+    let mut full = WriteSink::new(short.as_mut_slice());
+    assert_eq!(rt;
+        write_whole(&mut full, b"abcdefgh"),
+        Err(WriteFault::Failed)
+    );
+    assert_eq!(rt; &short, b"abcd");
     Ok(())
 }
