@@ -15,7 +15,8 @@ use Rattle.call_stages.specs.declared.once.Once.TheVariants as once
 use Rattle.call_stages.specs.declared.once.Placed.{Placed}
 use Rattle.call_stages.specs.Stages.{Stage, Idle, Saw, Holds, placed_in}
 use Rattle.node_ops.specs.declared.running.Running.{Running}
-use Rattle.node_ops.specs.Asked.{IsOf, IsAbout, op_in, name_asked, change_asked}
+use Rattle.cat_history.specs.Records.{change_of}
+use Rattle.node_ops.specs.Asked.{IsOf, IsAbout, op_in, name_asked}
 use Rattle.node_ops.specs.RunningSteps.{running_call, running_turned}
 use Rattle.node_ops.specs.CallStages.{stage_of, reply_of}
 use Rattle.node_ops.proofs.OpLaw.{holds_own_name}
@@ -55,7 +56,7 @@ tells l g f caller index since name (Holds n w h) (once.Again why) legal about =
 inside : (history : List Write) (caller index : ℕ) (name : List ℕ) (place : ℕ) → HasWriteAt history caller index name place → place + 1 ≤ length history
 inside history caller index name place write = let within = slice_get_within history place _ write.stands in omega arith
 
-took_place : (f : Facts) (caller index since : ℕ) (asked : Op) (answer : Placed) → Tells f caller index since (name_asked asked) (place_for (change_asked asked) answer.place) (once.Done answer)
+took_place : (f : Facts) (caller index since : ℕ) (asked : Op) (answer : Placed) → Tells f caller index since (name_asked asked) (place_for (change_of asked) answer.place) (once.Done answer)
     → TookPlace f.base f.history caller index since asked answer
 took_place f caller index since (op.Get name) answer is = record { later = is.0; within = is.1; old = is.2; write = tt }
 took_place f caller index since (op.Put name value) answer is =

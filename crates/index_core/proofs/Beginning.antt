@@ -16,7 +16,8 @@ use Rattle.cat_history.specs.declared.op.Write.{Write}
 use Rattle.call_stages.specs.declared.once.Once.TheVariants as once
 use Rattle.call_stages.specs.declared.once.Placed.{Placed}
 use Rattle.node_ops.specs.declared.running.Running.{Running}
-use Rattle.node_ops.specs.Asked.{IsOf, name_asked, change_asked}
+use Rattle.cat_history.specs.Records.{change_of}
+use Rattle.node_ops.specs.Asked.{IsOf, name_asked}
 use Rattle.node_ops.specs.RunningSteps.{running_call}
 use Rattle.node_ops.proofs.OpLaw.{op_told}
 use Rattle.index_law.specs.Worlds.{written}
@@ -173,8 +174,8 @@ module _ (first : Index) (begun : List BegunCall) (calls : List AnsweredCall) (s
 
       -- it took place at the end of the history
       took : (o : Op) (placed : Placed) → placed.old ≡ at (map_of_index s) (name_asked o) → placed.place ≡ length s.history
-          → TookPlace base (s.history ++ written e.caller e.calls (change_asked o)) e.caller e.calls (length s.history) o placed
-          × IfSome (change_asked o) (λ c. slice_get (s.history ++ written e.caller e.calls (change_asked o)) placed.place ≡ Some (record { caller = e.caller; index = e.calls; change = c }))
+          → TookPlace base (s.history ++ written e.caller e.calls (change_of o)) e.caller e.calls (length s.history) o placed
+          × IfSome (change_of o) (λ c. slice_get (s.history ++ written e.caller e.calls (change_of o)) placed.place ≡ Some (record { caller = e.caller; index = e.calls; change = c }))
       took (op.Get name) placed old last =
           let long = length-append s.history [] in (
             record { later = omega arith; within = omega arith; old = old ∙ ap (λ (m : Map). at m name) (sym (map_is [] placed.place last)); write = tt },
@@ -216,11 +217,11 @@ module _ (first : Index) (begun : List BegunCall) (calls : List AnsweredCall) (s
 
       -- its write is the last
       last_write : (r : Whole) → IsWhole s c r → (place : ℕ) (write : Write) → slice_get (s.history ++ placed_writes e.caller e.calls c r) place ≡ Some write
-          → (slice_get s.history place ≡ Some write) ⊎ ((placed : Placed) × (once_of r ≡ once.Done placed) × (placed.place ≡ place) × (write.caller ≡ e.caller) × (write.index ≡ e.calls) × (change_asked (op_of c) ≡ Some write.change))
-      last_write (whole.Placed placed) why place write stands = at (change_asked (op_of c)) refl stands
+          → (slice_get s.history place ≡ Some write) ⊎ ((placed : Placed) × (once_of r ≡ once.Done placed) × (placed.place ≡ place) × (write.caller ≡ e.caller) × (write.index ≡ e.calls) × (change_of (op_of c) ≡ Some write.change))
+      last_write (whole.Placed placed) why place write stands = at (change_of (op_of c)) refl stands
         where
-          at : (o : Option Change) → change_asked (op_of c) ≡ o → slice_get (s.history ++ written e.caller e.calls o) place ≡ Some write
-              → (slice_get s.history place ≡ Some write) ⊎ ((q : Placed) × (once_of (whole.Placed placed) ≡ once.Done q) × (q.place ≡ place) × (write.caller ≡ e.caller) × (write.index ≡ e.calls) × (change_asked (op_of c) ≡ Some write.change))
+          at : (o : Option Change) → change_of (op_of c) ≡ o → slice_get (s.history ++ written e.caller e.calls o) place ≡ Some write
+              → (slice_get s.history place ≡ Some write) ⊎ ((q : Placed) × (once_of (whole.Placed placed) ≡ once.Done q) × (q.place ≡ place) × (write.caller ≡ e.caller) × (write.index ≡ e.calls) × (change_of (op_of c) ≡ Some write.change))
           at None asks stands = inl (subst (λ (h : List Write). slice_get h place ≡ Some write) (append-nil s.history) stands)
           at (Some change) asks stands =
               ⊎_elim

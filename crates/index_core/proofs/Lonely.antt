@@ -24,7 +24,8 @@ use Rattle.call_stages.specs.declared.once.Once.TheVariants as once
 use Rattle.call_stages.specs.declared.once.Placed.{Placed}
 use Rattle.call_stages.specs.Stages.{Held, Stage, Holds, counted}
 use Rattle.call_stages.specs.Kinds.{clock_place, version_place}
-use Rattle.node_ops.specs.Asked.{IsAbout, name_asked, change_asked}
+use Rattle.cat_history.specs.Records.{change_of}
+use Rattle.node_ops.specs.Asked.{IsAbout, name_asked}
 use Rattle.node_ops.specs.LookupSteps.{is_spent}
 use Rattle.index_law.specs.Facts.{Facts, facts_of, version_in}
 use Rattle.index_law.specs.Worlds.{written}
@@ -83,7 +84,7 @@ module _ (l : Layout) (g v0 : ℕ) (h0 : List Write) (i calls : ℕ) (c : CoreCa
     pub over : is_spent (limit_of c) loaded ≡ past
 
   pub record IsCounted (h : List Write) (w given : ℕ) : Type 0 where
-    pub longer : h ≡ h0 ++ written i calls (change_asked (op_of c))
+    pub longer : h ≡ h0 ++ written i calls (change_of (op_of c))
     pub unworn : IsWorn v0 g → ⊥
     pub lock : w ≡ locked_word g (kept_count v0 g)
     pub place : given ≡ length h0
@@ -142,7 +143,7 @@ module _ (l : Layout) (g v0 : ℕ) (h0 : List Write) (i calls : ℕ) (c : CoreCa
         record { locking = record { same = same_history n w held none is.locking.same; unworn = is.locking.unworn; lock = is.locking.lock }; clock = is.clock; over = is.over }
 
     pub goes_on : {phase : Phase} {stage : Stage} {a : Action} {x : ℕ} {next : Phase} {answer : Option (Once Placed)} → Goes l g 0 (limit_of c) (op_of c) phase stage a x next answer → answer ≡ None
-        → x ≡ got l words a → IfSome (counted stage) (λ change. change_asked (op_of c) ≡ Some change) → IsAt now h phase → IsAt (version_in l (acted l words a) 0) (written_of h stage) next
+        → x ≡ got l words a → IfSome (counted stage) (λ change. change_of (op_of c) ≡ Some change) → IsAt now h phase → IsAt (version_in l (acted l words a) 0) (written_of h stage) next
     goes_on refused go told own is = absurd (cc)
     goes_on worn go told own is = absurd (cc)
     goes_on (saw {x = x} {w = w} unworn lock) go told own is =
@@ -167,7 +168,7 @@ module _ (l : Layout) (g v0 : ℕ) (h0 : List Write) (i calls : ℕ) (c : CoreCa
     goes_on (spent none) go told own is = absurd (cc)
     goes_on (works {w = w} {c = clock} {h = held} none) go told own is = timed_on 0 w clock held false none is
     goes_on (counts {w = w} {c = clock} {x = x} {h = held} {change = change} write some_change) go told own is =
-        let own_change : change_asked (op_of c) ≡ Some change = subst (λ (o : Option Change). IfSome o (λ ch. change_asked (op_of c) ≡ Some ch)) some_change own in
+        let own_change : change_of (op_of c) ≡ Some change = subst (λ (o : Option Change). IfSome o (λ ch. change_of (op_of c) ≡ Some ch)) some_change own in
         record {
           longer = (λ k. is.locking.same k ++ written i calls (some_change k)) ∙ ap (λ (o : Option Change). h0 ++ written i calls o) (sym own_change);
           unworn = is.locking.unworn;
@@ -201,7 +202,7 @@ module _ (l : Layout) (g v0 : ℕ) (h0 : List Write) (i calls : ℕ) (c : CoreCa
       get_finds_room (call.Put _ _ _) get none = absurd get
       get_finds_room (call.Del _ _) get none = absurd get
 
-      get_writes_none : (d : CoreCall) → IsGet (op_of d) → written i calls (change_asked (op_of d)) ≡ []
+      get_writes_none : (d : CoreCall) → IsGet (op_of d) → written i calls (change_of (op_of d)) ≡ []
       get_writes_none (call.Get name) get = refl
       get_writes_none (call.Put _ _ _) get = absurd get
       get_writes_none (call.Del _ _) get = absurd get
@@ -212,9 +213,9 @@ module _ (l : Layout) (g v0 : ℕ) (h0 : List Write) (i calls : ℕ) (c : CoreCa
       put_has_none (call.Del _ _) put lacks full = absurd put
 
       -- a map that the node means has no more names than slots
-      has_room : (d : CoreCall) → len (after_all base (h0 ++ written i calls (change_asked (op_of d)))) ≤ l.slots → no_room m0 d → ⊥
+      has_room : (d : CoreCall) → len (after_all base (h0 ++ written i calls (change_of (op_of d)))) ≤ l.slots → no_room m0 d → ⊥
       has_room (call.Put name value limit) fits lacks =
-          let grown = ap len (fold-append (λ (n : Map) (w : Write). changed n w.change) base h0 (written i calls (change_asked (op_of (call.Put name value limit))))) in
+          let grown = ap len (fold-append (λ (n : Map) (w : Write). changed n w.change) base h0 (written i calls (change_of (op_of (call.Put name value limit))))) in
           let more = len-insert nat_list_cmp_total m0 name value ∙ ap (λ (o : Option ℕ). cond (is_some o) (len m0) (len m0 + 1)) lacks.0 in
           let full = lacks.1 in
           omega arith
@@ -278,15 +279,15 @@ module _ (l : Layout) (g v0 : ℕ) (h0 : List Write) (i calls : ℕ) (c : CoreCa
             );
           })
       ends (answers {w = w} {p = place} {h = held} {old = old} write none) answer go told about legal fits is =
-          let longer : written_of h (Holds 0 w held) ≡ h0 ++ written i calls (change_asked (op_of c)) = unwritten h i calls (counted (Holds 0 w held)) none ∙ is.longer in
+          let longer : written_of h (Holds 0 w held) ≡ h0 ++ written i calls (change_of (op_of c)) = unwritten h i calls (counted (Holds 0 w held)) none ∙ is.longer in
           subst (λ (r : Once Placed). Ends m0 (written_of h (Holds 0 w held)) (version_in l (acted l words (Store (version_place l 0) (w + 1))) 0) r) (answer_is go) (record {
             history = longer;
             locks = freed_locks w is.unworn is.lock;
             cause = (
               locks_there v0 g known is.unworn,
               unreached (limit_of c) (length h0) is.below,
-              has_room c (fits (after_all base (h0 ++ written i calls (change_asked (op_of c)))) (ap (after_all base) (sym longer))),
-              old_is (written i calls (change_asked (op_of c))) (name_asked (op_of c)) old place (written_of h (Holds 0 w held)) longer is.place (legal.old ∙ ap (at (after base (written_of h (Holds 0 w held)) place)) about),
+              has_room c (fits (after_all base (h0 ++ written i calls (change_of (op_of c)))) (ap (after_all base) (sym longer))),
+              old_is (written i calls (change_of (op_of c))) (name_asked (op_of c)) old place (written_of h (Holds 0 w held)) longer is.place (legal.old ∙ ap (at (after base (written_of h (Holds 0 w held)) place)) about),
               is.place,
             );
           })

@@ -7,7 +7,7 @@ use mathlib.Core.Option.{some, some-injective, some-ne-none}
 use lib.ListN.{get_elem?}
 use Rattle.pm_words.specs.Rows.{evicted}
 use Rattle.cat_history.specs.Maps.{Map, map_of}
-use Rattle.cat_history.specs.Records.{interval_at}
+use Rattle.cat_history.specs.Records.{interval_at, change_of}
 use Rattle.cat_history.specs.declared.op.Change.{Change}
 use Rattle.cat_history.specs.declared.op.Op.{Op}
 use Rattle.cat_history.specs.declared.op.Op.TheVariants as op
@@ -17,7 +17,7 @@ use Rattle.call_stages.specs.declared.once.Once.TheVariants as once
 use Rattle.call_stages.specs.declared.once.Placed.{Placed}
 use Rattle.call_stages.specs.Stages.{placed_in}
 use Rattle.node_ops.specs.declared.running.Running.{Running}
-use Rattle.node_ops.specs.Asked.{op_in, change_asked}
+use Rattle.node_ops.specs.Asked.{op_in}
 use Rattle.node_ops.specs.RunningSteps.{running_turned}
 use Rattle.node_ops.specs.CallStages.{stage_of}
 use Rattle.index_core.specs.declared.entry.Entry.{Entry}
@@ -133,12 +133,12 @@ module _ (first : Index) (begun : List BegunCall) (calls : List AnsweredCall) (s
 
   -- a write of an answered call is one that its answer tells
   of_answered : (n : ℕ) (c : AnsweredCall) → get_elem? calls n ≡ some c → (place : ℕ) (write : Write) → slice_get s.history place ≡ Some write → write.caller ≡ c.call.caller → write.index ≡ c.call.index
-      → (placed : Placed) × (c.answer ≡ once.Done placed) × (placed.place ≡ place) × (change_asked c.call.op ≡ Some write.change)
+      → (placed : Placed) × (c.answer ≡ once.Done placed) × (placed.place ≡ place) × (change_of c.call.op ≡ Some write.change)
   of_answered n c at place write stands caller index =
       ⊎_elim
       (λ (w : IsAnsweredWrite calls place write).
       let same : w.answered ≡ c = one_call w.number n w.answered c w.there at (sym w.caller ∙ caller) (sym w.index ∙ index) in
-      (w.placed, ap (λ (d : AnsweredCall). d.answer) (sym same) ∙ w.answer, w.place, ap (λ (d : AnsweredCall). change_asked d.call.op) (sym same) ∙ w.change))
+      (w.placed, ap (λ (d : AnsweredCall). d.answer) (sym same) ∙ w.answer, w.place, ap (λ (d : AnsweredCall). change_of d.call.op) (sym same) ∙ w.change))
       (λ (w : IsWriteInFlight s.entries place write).
       let party : c.call.caller ≡ w.party = sym caller ∙ w.caller ∙ (k.index.entries w.party w.entry w.there).caller in
       let before : (c.call.index < w.entry.index) × (c.until ≤ w.entry.since) = subst (IsEarlier c w.entry) w.flies (k.earlier n c w.party w.entry at w.there party) in
@@ -150,7 +150,7 @@ module _ (first : Index) (begun : List BegunCall) (calls : List AnsweredCall) (s
   nowhere : (n : ℕ) (c : AnsweredCall) → get_elem? calls n ≡ some c → ((placed : Placed) → c.answer ≡ once.Done placed → ⊥) → StandsNowhere s.history c.call.caller c.call.index
   nowhere n c at unplaced place write stands caller index = let is = of_answered n c at place write stands caller index in unplaced is.0 is.1
 
-  stands_at : (n : ℕ) (c : AnsweredCall) (place : ℕ) (o : Option Change) → get_elem? calls n ≡ some c → change_asked c.call.op ≡ o
+  stands_at : (n : ℕ) (c : AnsweredCall) (place : ℕ) (o : Option Change) → get_elem? calls n ≡ some c → change_of c.call.op ≡ o
       → IfSome o (λ change. slice_get s.history place ≡ Some (record { caller = c.call.caller; index = c.call.index; change = change })) → StandsAt s.history c.call.caller c.call.index place o
   stands_at n c place None at asks stands = λ other write there caller index.
       let is = of_answered n c at other write there caller index in
@@ -159,7 +159,7 @@ module _ (first : Index) (begun : List BegunCall) (calls : List AnsweredCall) (s
   stands_at n c place (Some change) at asks stands = stands
 
   legal_answer : (n : ℕ) (c : AnsweredCall) (r : Once Placed) → get_elem? calls n ≡ some c → c.answer ≡ r → AnswerHolds base s.history c.call c.until r → IsLegalAnswer base s.history c.call c.until r
-  legal_answer n c (once.Done placed) at is holds = record { took = holds.0; ended = holds.1; stands = stands_at n c placed.place (change_asked c.call.op) at refl holds.2 }
+  legal_answer n c (once.Done placed) at is holds = record { took = holds.0; ended = holds.1; stands = stands_at n c placed.place (change_of c.call.op) at refl holds.2 }
   legal_answer n c (once.Spent clock) at is holds = record {
     reached = holds.0;
     later = holds.1;

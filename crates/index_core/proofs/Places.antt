@@ -5,6 +5,7 @@ use Rattle.std.proofs.lemmas.Bool.{leb-true}
 use Rattle.pm_words.specs.declared.layout.Layout.{Layout}
 use Rattle.pm_words.specs.declared.action.Action.{Action}
 use Rattle.pm_words.specs.declared.action.Action.TheVariants.{Add}
+use Rattle.cat_history.specs.Records.{change_of}
 use Rattle.cat_history.specs.declared.op.Change.{Change}
 use Rattle.cat_history.specs.declared.op.Op.{Op}
 use Rattle.cat_history.specs.declared.op.Op.TheVariants as op
@@ -24,7 +25,6 @@ use Rattle.node_ops.specs.declared.put.Put.TheVariants as put
 use Rattle.node_ops.specs.declared.del.Del.TheVariants as del
 use Rattle.node_ops.specs.declared.running.Running.{Running}
 use Rattle.node_ops.specs.declared.running.Running.TheVariants.{Getting, Putting, Deleting}
-use Rattle.node_ops.specs.Asked.{change_asked}
 use Rattle.node_ops.specs.LookupSteps.{is_spent}
 use Rattle.node_ops.specs.CallStages.{stage_of, lookup_at_stage, finish_at_held}
 use Rattle.index_core.proofs.Phases.{Phase, Locking, Over, Timed, Counted, Goes, refused, worn, saw, moved, locks, times, passes, spent, works, counts, reads, refuses, answers, IsGet, IsWrite, lookup_phase, finish_phase, phase_of}
@@ -79,7 +79,7 @@ place_for (Some change) place = Some place
 
 -- how a call comes to its answer
 abbrev pub EndsWith : Option ℕ → Op → Phase → Once Placed → Type 0
-EndsWith limit asked phase (once.Done placed) = place_in phase ≡ place_for (change_asked asked) placed.place
+EndsWith limit asked phase (once.Done placed) = place_in phase ≡ place_for (change_of asked) placed.place
 EndsWith limit asked phase (once.Spent clock) = (place_in phase ≡ None) × (IsOverOnly limit phase → IsSomeAnd limit (λ most. most ≤ clock))
 EndsWith limit asked phase _ = place_in phase ≡ None
 
@@ -87,12 +87,12 @@ pub reached : (limit : Option ℕ) (clock : ℕ) → is_spent limit clock ≡ tr
 reached None clock e = absurd (cc)
 reached (Some most) clock e = leb-true most clock e
 
-get_changes : (asked : Op) → IsGet asked → change_asked asked ≡ None
+get_changes : (asked : Op) → IsGet asked → change_of asked ≡ None
 get_changes (op.Get name) is = refl
 get_changes (op.Put _ _) is = absurd is
 get_changes (op.Del _) is = absurd is
 
-write_place : (asked : Op) (place : ℕ) → IsWrite asked → Some place ≡ place_for (change_asked asked) place
+write_place : (asked : Op) (place : ℕ) → IsWrite asked → Some place ≡ place_for (change_of asked) place
 write_place (op.Get name) place is = absurd is
 write_place (op.Put _ _) place is = refl
 write_place (op.Del _) place is = refl

@@ -12,7 +12,7 @@ use Rattle.pm_words.specs.declared.machine.Turn.{Turn}
 use Rattle.pm_words.specs.declared.machine.Turn.TheVariants.{Go, Done}
 use Rattle.pm_words.specs.Rows.{acted, got}
 use Rattle.cat_history.specs.Maps.{Map, at, map_of}
-use Rattle.cat_history.specs.Records.{interval_at}
+use Rattle.cat_history.specs.Records.{interval_at, change_of}
 use Rattle.cat_history.specs.declared.op.Change.{Change}
 use Rattle.cat_history.specs.declared.op.Op.{Op}
 use Rattle.cat_history.specs.declared.op.Op.TheVariants as op
@@ -24,7 +24,7 @@ use Rattle.call_stages.specs.Kinds.{clock_place}
 use Rattle.call_stages.specs.Stages.{counted, placed_in}
 use Rattle.node_ops.specs.declared.call.Call.{Call}
 use Rattle.node_ops.specs.declared.running.Running.{Running}
-use Rattle.node_ops.specs.Asked.{IsOf, IsOfAfter, op_in, name_asked, change_asked}
+use Rattle.node_ops.specs.Asked.{IsOf, IsOfAfter, op_in, name_asked}
 use Rattle.node_ops.specs.RunningSteps.{running_call, running_asks, running_turned, Sound}
 use Rattle.node_ops.specs.CallStages.{stage_of, reply_of}
 use Rattle.node_ops.proofs.OpLaw.{counts_own_change, op_told}
@@ -50,7 +50,7 @@ IsEarlier c entry (Some machine) = (c.call.index < entry.index) × (c.until ≤ 
 abbrev pub AnswerHolds : Map → List Write → BegunCall → ℕ → Once Placed → Type 0
 AnswerHolds base history c until (once.Done placed) =
     TookPlace base history c.caller c.index c.since c.op placed × ((interval_at c.op placed.place).end ≤ until)
-    × IfSome (change_asked c.op) (λ change. slice_get history placed.place ≡ Some (record { caller = c.caller; index = c.index; change = change }))
+    × IfSome (change_of c.op) (λ change. slice_get history placed.place ≡ Some (record { caller = c.caller; index = c.index; change = change }))
 AnswerHolds base history c until (once.Spent clock) = IsSomeAnd c.limit (λ limit. limit ≤ clock) × (c.since ≤ clock) × (clock ≤ until)
 AnswerHolds base history c until _ = Unit {0}
 
@@ -96,10 +96,10 @@ longer_holds base h more c until (once.Done placed) is =
         later = took.later;
         within = omega arith;
         old = took.old ∙ ap (λ (m : Map). at m (name_asked c.op)) (sym (after-longer base h more placed.place (omega arith)));
-        write = IfSome_then (change_asked c.op) took.write (λ change write. longer_write h more c.caller c.index (name_asked c.op) placed.place write);
+        write = IfSome_then (change_of c.op) took.write (λ change write. longer_write h more c.caller c.index (name_asked c.op) placed.place write);
       },
       is.1,
-      IfSome_then (change_asked c.op) is.2 (λ change stands. slice_get-longer h more placed.place _ stands),
+      IfSome_then (change_of c.op) is.2 (λ change stands. slice_get-longer h more placed.place _ stands),
     )
 longer_holds base h more c until (once.Spent clock) is = is
 longer_holds base h more c until (once.Worn node word) is = tt
@@ -140,7 +140,7 @@ module _ (first : Index) (begun : List BegunCall) (calls : List AnsweredCall) (s
       some_same (sym flown ∙ ap (λ (d : Entry). d.machine) same ∙ flies)
 
   -- its own write stands where it has its place, and is of its op
-  own_write : (place : ℕ) (write : Write) → slice_get s.history place ≡ Some write → write.caller ≡ e.caller → write.index ≡ e.index → change_asked (op_in m) ≡ Some write.change
+  own_write : (place : ℕ) (write : Write) → slice_get s.history place ≡ Some write → write.caller ≡ e.caller → write.index ≡ e.index → change_of (op_in m) ≡ Some write.change
   own_write place write stands caller index =
       ⊎_elim
       (λ (w : IsAnsweredWrite calls place write).
@@ -151,7 +151,7 @@ module _ (first : Index) (begun : List BegunCall) (calls : List AnsweredCall) (s
       (λ (w : IsWriteInFlight s.entries place write).
       let party : w.party ≡ i = sym (k.index.entries w.party w.entry w.there).caller ∙ sym w.caller ∙ caller ∙ own.caller in
       let same = machine_there w.entry w.machine (subst (λ (j : ℕ). get_elem? s.entries j ≡ some w.entry) party w.there) w.flies in
-      ap (λ (q : Running). change_asked (op_in q)) (sym same) ∙ w.change)
+      ap (λ (q : Running). change_of (op_in q)) (sym same) ∙ w.change)
       (k.writes place write stands)
 
   -- and so is a call that is in flight there
@@ -209,7 +209,7 @@ module _ (first : Index) (begun : List BegunCall) (calls : List AnsweredCall) (s
           place = place_is next ∙ same ∙ sym (place_is m) ∙ ap (λ (q : Running). placed_in (stage_of q)) (sym machine) ∙ w.place;
           caller = w.caller ∙ ap (λ (d : Entry). d.caller) entry;
           index = w.index ∙ ap (λ (d : Entry). d.index) entry;
-          change = ap change_asked op_same ∙ ap (λ (q : Running). change_asked (op_in q)) (sym machine) ∙ w.change;
+          change = ap change_of op_same ∙ ap (λ (q : Running). change_of (op_in q)) (sym machine) ∙ w.change;
         })
         (λ (other : w.party ≢ i). record {
           party = w.party;
@@ -249,7 +249,7 @@ module _ (first : Index) (begun : List BegunCall) (calls : List AnsweredCall) (s
         }))
         (k.writes place write stands)
 
-    writes_on : (o : Option Change) → Onward (running_call m).view.layout (phase_of m) (running_asks m) x (phase_of next) o → IfSome o (λ change. change_asked (op_in m) ≡ Some change)
+    writes_on : (o : Option Change) → Onward (running_call m).view.layout (phase_of m) (running_asks m) x (phase_of next) o → IfSome o (λ change. change_of (op_in m) ≡ Some change)
         → EachWriteIsOfACall calls (set s.entries i e') (s.history ++ written e.caller e.index o)
     writes_on None goes own_change place write stands = still goes (subst (λ (h : List Write). slice_get h place ≡ Some write) (append-nil s.history) stands)
     writes_on (Some change) goes own_change place write stands =
@@ -264,7 +264,7 @@ module _ (first : Index) (begun : List BegunCall) (calls : List AnsweredCall) (s
           place = place_is next ∙ goes.2 ∙ ap Some (clock goes.0 ∙ sym last.0);
           caller = ap (λ (w : Write). w.caller) (sym last.1);
           index = ap (λ (w : Write). w.index) (sym last.1);
-          change = ap change_asked op_same ∙ own_change ∙ ap (λ (w : Write). Some w.change) last.1;
+          change = ap change_of op_same ∙ own_change ∙ ap (λ (w : Write). Some w.change) last.1;
         }))
         (got_end s.history (record { caller = e.caller; index = e.index; change = change }) write place stands)
 
@@ -340,7 +340,7 @@ module _ (first : Index) (begun : List BegunCall) (calls : List AnsweredCall) (s
     counted_on : e.index < e.calls
     counted_on = (k.flying i e m there flies).0
 
-    own_change : (o : Option Change) (place : ℕ) → o ≡ change_asked (op_in m) → IfSome o (λ change. HasWriteAt s.history e.caller e.index (name_asked (op_in m)) place)
+    own_change : (o : Option Change) (place : ℕ) → o ≡ change_of (op_in m) → IfSome o (λ change. HasWriteAt s.history e.caller e.index (name_asked (op_in m)) place)
         → IfSome o (λ change. slice_get s.history place ≡ Some (record { caller = e.caller; index = e.index; change = change }))
     own_change None place same write = tt
     own_change (Some change) place same write =
@@ -348,13 +348,13 @@ module _ (first : Index) (begun : List BegunCall) (calls : List AnsweredCall) (s
         subst (λ (c : Change). slice_get s.history place ≡ Some (record { caller = e.caller; index = e.index; change = c })) changed write.stands
 
     tells_it : (r : Once Placed) → EndsWith (running_call m).limit (op_in m) (phase_of m) r → IsAnswerOf base s.history e (op_in m) r → AnswerHolds base s.history (flying_call e m) (length s.history) r
-    tells_it (once.Done placed) ending took = (took, took.within, own_change (change_asked (op_in m)) placed.place refl took.write)
+    tells_it (once.Done placed) ending took = (took, took.within, own_change (change_of (op_in m)) placed.place refl took.write)
     tells_it (once.Spent clock) ending times = (ending.1 (k.flying i e m there flies).1, times.0, times.1)
     tells_it (once.Worn node word) ending says = tt
     tells_it (once.Again why) ending says = tt
 
     -- its place was the one that it is told
-    placed_by : (r : Once Placed) (place : ℕ) (change : Change) → EndsWith (running_call m).limit (op_in m) (phase_of m) r → placed_in (stage_of m) ≡ Some place → change_asked (op_in m) ≡ Some change
+    placed_by : (r : Once Placed) (place : ℕ) (change : Change) → EndsWith (running_call m).limit (op_in m) (phase_of m) r → placed_in (stage_of m) ≡ Some place → change_of (op_in m) ≡ Some change
         → (placed : Placed) × (r ≡ once.Done placed) × (placed.place ≡ place)
     placed_by (once.Done placed) place change ending stands asks =
         let both : Some placed.place ≡ Some place = ap (λ (o : Option Change). place_for o placed.place) (sym asks) ∙ sym ending ∙ sym (place_is m) ∙ stands in
@@ -382,7 +382,7 @@ module _ (first : Index) (begun : List BegunCall) (calls : List AnsweredCall) (s
         let here = subst (λ (j : ℕ). get_elem? s.entries j ≡ some w.entry) party w.there in
         let entry : w.entry ≡ e = some-injective _ _ (sym here ∙ there) in
         let machine : w.machine ≡ m = machine_there w.entry w.machine here w.flies in
-        let asks : change_asked (op_in m) ≡ Some write.change = ap (λ (q : Running). change_asked (op_in q)) (sym machine) ∙ w.change in
+        let asks : change_of (op_in m) ≡ Some write.change = ap (λ (q : Running). change_of (op_in q)) (sym machine) ∙ w.change in
         let by = placed_by answer place write.change ends (ap (λ (q : Running). placed_in (stage_of q)) (sym machine) ∙ w.place) asks in
         inl (record {
           number = length calls;

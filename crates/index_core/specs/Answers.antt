@@ -2,13 +2,13 @@
 use Rattle.std.specs.Prelude.{◌≡◌, ℕ, ◌≤◌, List, length, IfSome}
 use Rattle.cat_history.specs.Maps.{Map, at}
 use Rattle.cat_history.specs.Writes.{after}
-use Rattle.cat_history.specs.Records.{interval_at}
+use Rattle.cat_history.specs.Records.{interval_at, change_of}
 use Rattle.cat_history.specs.declared.op.Op.{Op}
 use Rattle.cat_history.specs.declared.op.Write.{Write}
 use Rattle.call_stages.specs.declared.once.Once.{Once}
 use Rattle.call_stages.specs.declared.once.Once.TheVariants as once
 use Rattle.call_stages.specs.declared.once.Placed.{Placed}
-use Rattle.node_ops.specs.Asked.{name_asked, change_asked}
+use Rattle.node_ops.specs.Asked.{name_asked}
 use Rattle.index_law.specs.Lawful.{HasWriteAt}
 use Rattle.index_core.specs.declared.entry.Entry.{Entry}
 use Rattle.index_core.specs.declared.entry.CoreReply.TheVariants as reply
@@ -21,7 +21,7 @@ pub record TookPlace (base : Map) (history : List Write) (caller index since : �
   pub later : since ≤ placed.place
   pub within : (interval_at op placed.place).end ≤ length history
   pub old : placed.old ≡ at (after base history placed.place) (name_asked op)
-  pub write : IfSome (change_asked op) (λ change. HasWriteAt history caller index (name_asked op) placed.place)
+  pub write : IfSome (change_of op) (λ change. HasWriteAt history caller index (name_asked op) placed.place)
 
 -- The answer of the party's call of this op. A clock that refused it is one of its time.
 abbrev pub IsAnswerOf : Map → List Write → Entry → Op → Once Placed → Type 0

@@ -12,7 +12,8 @@ use Rattle.cat_history.specs.declared.op.Op.TheVariants as op
 use Rattle.sound_image.specs.Sound.{IsSound, IsMapOf}
 use Rattle.call_stages.specs.Stages.{placed_in}
 use Rattle.node_ops.specs.declared.running.Running.{Running}
-use Rattle.node_ops.specs.Asked.{op_in, name_asked, change_asked}
+use Rattle.cat_history.specs.Records.{change_of}
+use Rattle.node_ops.specs.Asked.{op_in, name_asked}
 use Rattle.node_ops.specs.RunningSteps.{IsRunning, running_call}
 use Rattle.node_ops.specs.CallStages.{stage_of}
 use Rattle.index_core.specs.declared.entry.CoreCall.{CoreCall}
@@ -66,7 +67,7 @@ unplaced None (Some change) = change ∷ []
 
 abbrev pub cut_change : Option Running → List Change
 cut_change None = []
-cut_change (Some machine) = unplaced (placed_in (stage_of machine)) (change_asked (op_in machine))
+cut_change (Some machine) = unplaced (placed_in (stage_of machine)) (change_of (op_in machine))
 
 -- The changes of the writes in flight that have no place, in the order of their parties.
 abbrev pub cut_changes : List Entry → List Change

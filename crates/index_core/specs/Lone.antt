@@ -9,7 +9,8 @@ use Rattle.cat_history.specs.declared.op.Write.{Write}
 use Rattle.call_stages.specs.declared.once.Once.{Once}
 use Rattle.call_stages.specs.declared.once.Once.TheVariants as once
 use Rattle.call_stages.specs.declared.once.Placed.{Placed}
-use Rattle.node_ops.specs.Asked.{name_asked, change_asked}
+use Rattle.cat_history.specs.Records.{change_of}
+use Rattle.node_ops.specs.Asked.{name_asked}
 use Rattle.index_law.specs.Facts.{version_in}
 use Rattle.index_law.specs.Worlds.{written}
 use Rattle.index_core.specs.declared.entry.CoreCall.{CoreCall}
@@ -54,7 +55,7 @@ IsWhole s c (whole.Placed placed) =
 
 -- The write that it placed, if it is one and took place.
 abbrev pub placed_writes : ℕ → ℕ → CoreCall → Whole → List Write
-placed_writes caller index c (whole.Placed placed) = written caller index (change_asked (op_of c))
+placed_writes caller index c (whole.Placed placed) = written caller index (change_of (op_of c))
 placed_writes caller index c _ = []
 
 abbrev pub whole_of : Once Placed → Whole

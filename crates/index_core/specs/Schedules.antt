@@ -6,7 +6,7 @@ use Rattle.pm_words.specs.declared.layout.Layout.{Layout}
 use Rattle.pm_words.specs.Places.{image_words}
 use Rattle.pm_words.specs.declared.again.Again.TheVariants as again
 use Rattle.cat_history.specs.Maps.{Map, map_of}
-use Rattle.cat_history.specs.Records.{Interval, interval_at}
+use Rattle.cat_history.specs.Records.{Interval, interval_at, change_of}
 use Rattle.cat_history.specs.declared.op.Change.{Change}
 use Rattle.cat_history.specs.declared.op.Op.{Op}
 use Rattle.cat_history.specs.declared.op.Write.{Write}
@@ -15,7 +15,7 @@ use Rattle.call_stages.specs.declared.once.Once.TheVariants as once
 use Rattle.call_stages.specs.declared.once.Placed.{Placed}
 use Rattle.call_stages.specs.Stages.{placed_in}
 use Rattle.node_ops.specs.declared.running.Running.{Running}
-use Rattle.node_ops.specs.Asked.{op_in, change_asked}
+use Rattle.node_ops.specs.Asked.{op_in}
 use Rattle.node_ops.specs.RunningSteps.{running_call}
 use Rattle.node_ops.specs.CallStages.{stage_of}
 use Rattle.index_core.specs.declared.entry.CoreCall.{CoreCall}
@@ -97,7 +97,7 @@ StandsAt history caller index place (Some change) = slice_get history place ≡ 
 pub record IsPlacedCall (base : Map) (history : List Write) (c : BegunCall) (ends : ℕ) (placed : Placed) : Type 0 where
   pub took : TookPlace base history c.caller c.index c.since c.op placed
   pub ended : (interval_at c.op placed.place).end ≤ ends
-  pub stands : StandsAt history c.caller c.index placed.place (change_asked c.op)
+  pub stands : StandsAt history c.caller c.index placed.place (change_of c.op)
 
 -- A clock of the call's time had reached its limit, and it wrote nothing.
 pub record IsSpentCall (history : List Write) (c : BegunCall) (ends clock : ℕ) : Type 0 where
@@ -182,7 +182,7 @@ pub record IsAnsweredWrite (calls : List AnsweredCall) (stands : ℕ) (write : W
   pub place : placed.place ≡ stands
   pub caller : write.caller ≡ answered.call.caller
   pub index : write.index ≡ answered.call.index
-  pub change : change_asked answered.call.op ≡ Some write.change
+  pub change : change_of answered.call.op ≡ Some write.change
 
 -- Or that of a call in flight, which has this place.
 pub record IsWriteInFlight (entries : List Entry) (stands : ℕ) (write : Write) : Type 0 where
@@ -194,7 +194,7 @@ pub record IsWriteInFlight (entries : List Entry) (stands : ℕ) (write : Write)
   pub place : placed_in (stage_of machine) ≡ Some stands
   pub caller : write.caller ≡ entry.caller
   pub index : write.index ≡ entry.index
-  pub change : change_asked (op_in machine) ≡ Some write.change
+  pub change : change_of (op_in machine) ≡ Some write.change
 
 abbrev pub EachWriteIsOfACall : List AnsweredCall → List Entry → List Write → Type 0
 EachWriteIsOfACall calls entries history = (place : ℕ) (write : Write) → slice_get history place ≡ Some write →

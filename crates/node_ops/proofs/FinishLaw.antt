@@ -19,7 +19,7 @@ use Rattle.node_ops.specs.declared.finish.FinishAt.TheVariants as finish_at
 use Rattle.node_ops.specs.Calls.{IsCall, call_place, name_in}
 use Rattle.node_ops.specs.FenceSteps.{IsFence, IsFenceAt, fence_asks, fence_at_asks, fence_next, fence_at_next}
 use Rattle.node_ops.specs.FinishSteps.{IsFinish, IsFinishAt, finish_asks, finish_at_asks, finish_turned, finish_at_turned, finish_fenced}
-use Rattle.node_ops.specs.CallStages.{fencing, finish_stage, finish_at_held, changes, change_of}
+use Rattle.node_ops.specs.CallStages.{fencing, finish_stage, finish_at_held, changes, change_to}
 
 -- A fence that goes on has one word fewer to make durable. At its end only the other words may not be, and the call may
 -- be ready to count.
@@ -72,7 +72,7 @@ fence_leads call fence word held others x sound is waits = at fence.at is.value
 
 -- what is held while the bitmap's or the value's line is made durable
 abbrev stored : Finish → Held
-stored finish = changes finish.call finish.hold finish.old (change_of (name_in finish.call) finish.new) false
+stored finish = changes finish.call finish.hold finish.old (change_to (name_in finish.call) finish.new) false
 
 -- the kind of step of a turn
 abbrev pub Finishes : Call → Stage → Action → ℕ → Turn Finish (Once Placed) → Type 0

@@ -44,8 +44,9 @@ use Rattle.node_ops.specs.GetSteps.{IsGet, get_call, get_turned}
 use Rattle.node_ops.specs.PutSteps.{IsPut, put_call, put_turned, put_looked, put_into, put_full, put_filled, put_finished}
 use Rattle.node_ops.specs.DelSteps.{IsDel, del_call, del_turned, del_looked, del_hit, del_finished}
 use Rattle.node_ops.specs.RunningSteps.{running_call, running_asks, running_turned, wrapped, IsRunning}
-use Rattle.node_ops.specs.CallStages.{lookup_at_stage, finish_at_held, change_of, stage_of}
-use Rattle.node_ops.specs.Asked.{Gives, TakesOut, IsOf, IsOfAfter, IsAbout, op_of_finish, change_asked}
+use Rattle.node_ops.specs.CallStages.{lookup_at_stage, finish_at_held, change_to, stage_of}
+use Rattle.cat_history.specs.Records.{change_of}
+use Rattle.node_ops.specs.Asked.{Gives, TakesOut, IsOf, IsOfAfter, IsAbout, op_of_finish}
 use Rattle.node_ops.specs.Laws.{TurnsKeepOp, CountsOwnChange, HoldsOwnName, PendingIsOwnChange, OpIsTold}
 use Rattle.node_ops.proofs.CallSound.{Stays, get_stays, put_stays, del_stays}
 
@@ -196,7 +197,7 @@ lookup_about call (look.Value hold directory slot) = refl
 counts_nothing : (P : Change → Type 0) (o : Option Change) → o ≡ None → IfSome o P
 counts_nothing P o is = subst (λ (c : Option Change). IfSome c P) (sym is) tt
 
-finish_counts : (P : Change → Type 0) (finish : Finish) (at : FinishAt) → P (change_of (name_in finish.call) finish.new) → IfSome (counted (Holds finish.call.node finish.hold.locked (finish_at_held finish at))) P
+finish_counts : (P : Change → Type 0) (finish : Finish) (at : FinishAt) → P (change_to (name_in finish.call) finish.new) → IfSome (counted (Holds finish.call.node finish.hold.locked (finish_at_held finish at))) P
 finish_counts P finish (finish_at.Fence fence) holds = tt
 finish_counts P finish finish_at.Add holds = holds
 finish_counts P finish (finish_at.Unlock place) holds = tt
@@ -217,7 +218,7 @@ counts_own_change (op.Put name value) (Putting (put.Filling fill)) is = tt
 counts_own_change (op.Put name value) (Putting (put.Replacing call hold bitmap hit number)) is = tt
 counts_own_change (op.Put name value) (Putting (put.Finishing finish)) is =
     finish_counts (λ c. Some (change.Put name value) ≡ Some c) finish finish.at
-    (ap Some (sym (ap (λ (n : Option ℕ). change_of (name_in finish.call) n) is.1 ∙ ap (λ (n : List ℕ). change.Put n value) is.0)))
+    (ap Some (sym (ap (λ (n : Option ℕ). change_to (name_in finish.call) n) is.1 ∙ ap (λ (n : List ℕ). change.Put n value) is.0)))
 counts_own_change (op.Put name value) (Putting (put.Refusing call hold bitmap number)) is = tt
 counts_own_change (op.Put name value) (Deleting del) is = absurd is
 counts_own_change (op.Del name) (Getting get) is = absurd is
@@ -226,7 +227,7 @@ counts_own_change (op.Del name) (Deleting (del.Looking lookup)) is = counts_noth
 counts_own_change (op.Del name) (Deleting (del.Clearing call hold bitmap hit)) is = tt
 counts_own_change (op.Del name) (Deleting (del.Finishing finish)) is =
     finish_counts (λ c. Some (change.Del name) ≡ Some c) finish finish.at
-    (ap Some (sym (ap (λ (n : Option ℕ). change_of (name_in finish.call) n) is.1 ∙ ap (λ (n : List ℕ). change.Del n) is.0)))
+    (ap Some (sym (ap (λ (n : Option ℕ). change_to (name_in finish.call) n) is.1 ∙ ap (λ (n : List ℕ). change.Del n) is.0)))
 
 pub holds_own_name : HoldsOwnName
 holds_own_name (op.Get name) (Getting (get.Looking lookup)) is = subst (λ n. IsAbout n (lookup_at_stage lookup.call lookup.at)) is (lookup_about lookup.call lookup.at)
@@ -258,12 +259,12 @@ lookup_pends call (look.Prints hold bitmap prints k) = refl
 lookup_pends call (look.Name hold directory left slot k) = refl
 lookup_pends call (look.Value hold directory slot) = refl
 
-finish_pends : (P : Change → Type 0) (finish : Finish) (at : FinishAt) → P (change_of (name_in finish.call) finish.new) → IfSome (finish_at_held finish at).pending P
+finish_pends : (P : Change → Type 0) (finish : Finish) (at : FinishAt) → P (change_to (name_in finish.call) finish.new) → IfSome (finish_at_held finish at).pending P
 finish_pends P finish (finish_at.Fence fence) holds = holds
 finish_pends P finish finish_at.Add holds = holds
 finish_pends P finish (finish_at.Unlock place) holds = tt
 
-pub pending_is_own : (op : Op) (running : Running) → IsOf op running → IfSome (pending_in (stage_of running)) (λ change. change_asked op ≡ Some change)
+pub pending_is_own : (op : Op) (running : Running) → IsOf op running → IfSome (pending_in (stage_of running)) (λ change. change_of op ≡ Some change)
 pending_is_own (op.Get name) (Getting (get.Looking lookup)) is = counts_nothing _ _ (lookup_pends lookup.call lookup.at)
 pending_is_own (op.Get name) (Getting (get.Unlocking call hold old)) is = tt
 pending_is_own (op.Get name) (Putting put) is = absurd is
@@ -274,7 +275,7 @@ pending_is_own (op.Put name value) (Putting (put.Filling fill)) is = tt
 pending_is_own (op.Put name value) (Putting (put.Replacing call hold bitmap hit number)) is = tt
 pending_is_own (op.Put name value) (Putting (put.Finishing finish)) is =
     finish_pends (λ c. Some (change.Put name value) ≡ Some c) finish finish.at
-    (ap Some (sym (ap (λ (n : Option ℕ). change_of (name_in finish.call) n) is.1 ∙ ap (λ (n : List ℕ). change.Put n value) is.0)))
+    (ap Some (sym (ap (λ (n : Option ℕ). change_to (name_in finish.call) n) is.1 ∙ ap (λ (n : List ℕ). change.Put n value) is.0)))
 pending_is_own (op.Put name value) (Putting (put.Refusing call hold bitmap number)) is = tt
 pending_is_own (op.Put name value) (Deleting del) is = absurd is
 pending_is_own (op.Del name) (Getting get) is = absurd is
@@ -283,7 +284,7 @@ pending_is_own (op.Del name) (Deleting (del.Looking lookup)) is = counts_nothing
 pending_is_own (op.Del name) (Deleting (del.Clearing call hold bitmap hit)) is = tt
 pending_is_own (op.Del name) (Deleting (del.Finishing finish)) is =
     finish_pends (λ c. Some (change.Del name) ≡ Some c) finish finish.at
-    (ap Some (sym (ap (λ (n : Option ℕ). change_of (name_in finish.call) n) is.1 ∙ ap (λ (n : List ℕ). change.Del n) is.0)))
+    (ap Some (sym (ap (λ (n : Option ℕ). change_to (name_in finish.call) n) is.1 ∙ ap (λ (n : List ℕ). change.Del n) is.0)))
 
 finish_unplaced : (finish : Finish) (at : FinishAt) → IfSome (finish_at_held finish at).pending (λ c. (finish_at_held finish at).placed ≡ None)
 finish_unplaced finish (finish_at.Fence fence) = refl
@@ -305,7 +306,7 @@ pending_is_unplaced (Deleting (del.Finishing finish)) = finish_unplaced finish f
 
 pub pends_own_change : PendingIsOwnChange
 pends_own_change op running change is pending = (
-  subst (λ (o : Option Change). IfSome o (λ c. change_asked op ≡ Some c)) pending (pending_is_own op running is),
+  subst (λ (o : Option Change). IfSome o (λ c. change_of op ≡ Some c)) pending (pending_is_own op running is),
   subst (λ (o : Option Change). IfSome o (λ c. placed_in (stage_of running) ≡ None)) pending (pending_is_unplaced running),
 )
 

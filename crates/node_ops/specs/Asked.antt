@@ -4,8 +4,6 @@ use Rattle.pm_words.specs.declared.machine.Turn.{Turn}
 use Rattle.pm_words.specs.declared.machine.Turn.TheVariants.{Go, Done}
 use Rattle.cat_history.specs.declared.op.Op.{Op}
 use Rattle.cat_history.specs.declared.op.Op.TheVariants as op
-use Rattle.cat_history.specs.declared.op.Change.{Change}
-use Rattle.cat_history.specs.declared.op.Change.TheVariants as change
 use Rattle.call_stages.specs.declared.once.Once.{Once}
 use Rattle.call_stages.specs.declared.once.Placed.{Placed}
 use Rattle.call_stages.specs.Stages.{Stage, Idle, Saw, Holds}
@@ -26,12 +24,6 @@ abbrev pub name_asked : Op → List ℕ
 name_asked (op.Put name value) = name
 name_asked (op.Get name) = name
 name_asked (op.Del name) = name
-
--- the change that an op makes, if it makes one
-abbrev pub change_asked : Op → Option Change
-change_asked (op.Put name value) = Some (change.Put name value)
-change_asked (op.Get name) = None
-change_asked (op.Del name) = Some (change.Del name)
 
 -- the put gives this value
 abbrev pub Gives : ℕ → Put → Type 0

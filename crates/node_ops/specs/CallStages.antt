@@ -152,13 +152,13 @@ abbrev pub fill_stage : Fill → Stage
 fill_stage fill = Holds fill.call.node fill.hold.locked (fill_at_held fill fill.at)
 
 -- the change that a write makes: a put of this number, or a delete
-abbrev pub change_of : List ℕ → Option ℕ → Change
-change_of name (Some value) = change.Put name value
-change_of name None = change.Del name
+abbrev pub change_to : List ℕ → Option ℕ → Change
+change_to name (Some value) = change.Put name value
+change_to name None = change.Del name
 
 abbrev pub finish_at_held : Finish → FinishAt → Held
-finish_at_held finish (finish_at.Fence fence) = fencing (changes finish.call finish.hold finish.old (change_of (name_in finish.call) finish.new) false) fence []
-finish_at_held finish finish_at.Add = changes finish.call finish.hold finish.old (change_of (name_in finish.call) finish.new) true
+finish_at_held finish (finish_at.Fence fence) = fencing (changes finish.call finish.hold finish.old (change_to (name_in finish.call) finish.new) false) fence []
+finish_at_held finish finish_at.Add = changes finish.call finish.hold finish.old (change_to (name_in finish.call) finish.new) true
 finish_at_held finish (finish_at.Unlock place) = has_place finish.call finish.old place
 
 abbrev pub finish_stage : Finish → Stage

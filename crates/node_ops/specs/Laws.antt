@@ -7,7 +7,8 @@ use Rattle.call_stages.specs.Stages.{counted, pending_in, placed_in}
 use Rattle.call_stages.specs.Kinds.{Told, Step}
 use Rattle.node_ops.specs.declared.running.Running.{Running}
 use Rattle.node_ops.specs.RunningSteps.{running_asks, running_turned, Sound}
-use Rattle.node_ops.specs.Asked.{IsOf, IsOfAfter, IsAbout, op_in, name_asked, change_asked}
+use Rattle.cat_history.specs.Records.{change_of}
+use Rattle.node_ops.specs.Asked.{IsOf, IsOfAfter, IsAbout, op_in, name_asked}
 use Rattle.node_ops.specs.CallStages.{stage_of, stage_after, reply_of, SoundAfter}
 
 -- a turn is a step of a kind, with the answer of the turn
@@ -26,7 +27,7 @@ TurnsKeepOp = (l : Layout) (g : ℕ) (op : Op) (running : Running) (x : ℕ) →
 
 -- what a call of an op counts is the change of that op
 abbrev pub CountsOwnChange : Type 0
-CountsOwnChange = (op : Op) (running : Running) → IsOf op running → IfSome (counted (stage_of running)) (λ change. change_asked op ≡ Some change)
+CountsOwnChange = (op : Op) (running : Running) → IsOf op running → IfSome (counted (stage_of running)) (λ change. change_of op ≡ Some change)
 
 -- and what it holds is held for the op's name
 abbrev pub HoldsOwnName : Type 0
@@ -35,7 +36,7 @@ HoldsOwnName = (op : Op) (running : Running) → IsOf op running → IsAbout (na
 -- and what it has pending, which a crash may find in the node already, is the change of the op, which has no place yet
 abbrev pub PendingIsOwnChange : Type 0
 PendingIsOwnChange = (op : Op) (running : Running) (change : Change) → IsOf op running → pending_in (stage_of running) ≡ Some change →
-    (change_asked op ≡ Some change) × (placed_in (stage_of running) ≡ None)
+    (change_of op ≡ Some change) × (placed_in (stage_of running) ≡ None)
 
 -- a call is of no other op than the one that its machine tells
 abbrev pub OpIsTold : Type 0

@@ -75,7 +75,7 @@ impl Finish {
     ghost use Rattle.call_stages.specs.Stages.{counted, placed_in};
     ghost use Rattle.node_ops.specs.Calls.{IsCall, name_in};
     ghost use Rattle.node_ops.specs.FinishSteps.{IsFinish, finishes_on};
-    ghost use Rattle.node_ops.specs.CallStages.{change_of, finish_stage};
+    ghost use Rattle.node_ops.specs.CallStages.{change_to, finish_stage};
     ghost use Rattle.node_ops.specs.Asked.{op_of_finish};
 
     /// It goes on there.
@@ -88,7 +88,7 @@ impl Finish {
     /// The change that the write makes.
     fn change(&self) -> Change
         requires { IsCall self.now.call }
-        ensures { result ≡ change_of (name_in self.now.call) self.now.new }
+        ensures { result ≡ change_to (name_in self.now.call) self.now.new }
     {
         let name = self.call.name();
         match self.new {
