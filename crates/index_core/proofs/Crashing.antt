@@ -1,5 +1,5 @@
 -- What an eviction keeps, and what a crash leaves of a lawful index.
-use Rattle.std.proofs.Common.{◌≡◌, ℕ, zero, suc, ◌<◌, ⊎_elim, List, [], ◌∷◌, refl, sym, ap, ◌∙◌, subst, arith}
+use Rattle.std.proofs.Common.{◌≡◌, ℕ, zero, suc, ◌<◌, List, [], ◌∷◌, refl, sym, ap, ◌∙◌, subst, arith}
 use Rattle.std.specs.Prelude.{Option, Some, None, IfSome, Contains}
 use Rattle.std.proofs.lemmas.List.Elements.{Contains-append_left, Contains-append_right}
 use mathlib.Core.Option.{some, some-injective, some-ne-none}
@@ -7,10 +7,7 @@ use lib.ListN.{get_elem?}
 use Rattle.pm_words.specs.Images.{Row}
 use Rattle.pm_words.specs.Places.{image_words}
 use Rattle.pm_words.specs.Rows.{evicted, durable_row}
-use Rattle.cat_history.specs.Writes.{changed}
 use Rattle.cat_history.specs.declared.op.Change.{Change}
-use Rattle.cat_history.specs.CrashEnds.{IsCrashEnd}
-use Rattle.cat_history.proofs.CrashEndLemmas.{none_is_crash_end, one_is_crash_end}
 use Rattle.call_stages.specs.Stages.{Stage, Idle, Saw, Holds, pending_in, placed_in}
 use Rattle.node_ops.specs.declared.running.Running.{Running}
 use Rattle.node_ops.specs.Asked.{IsOf, IsAbout, op_in, name_asked}
@@ -25,7 +22,7 @@ use Rattle.index_law.proofs.Evictions.{evict_law}
 use Rattle.index_core.specs.declared.entry.Entry.{Entry}
 use Rattle.index_core.specs.Crashes.{IsCrash, AreRunning, evicted_index, unplaced, cut_change, cut_changes}
 use Rattle.index_core.specs.Entries.{machine_stage, party_of}
-use Rattle.index_core.specs.Indexes.{Index, IsIndex, world, map_of_index}
+use Rattle.index_core.specs.Indexes.{Index, IsIndex, world}
 use Rattle.index_core.proofs.Lists.{map_there, map_from}
 
 pub evict_keeps : (s : Index) (word : ℕ) → IsIndex s → word < image_words s.layout → IsIndex (evicted_index s word)
@@ -82,6 +79,13 @@ placed_stands s is i place entry machine there flies told =
         subst (λ (name : List ℕ). HasWriteAt s.history entry.caller entry.index name place) about
         (subst (λ (o : Option ℕ). IfSome o (IsPlaced s.history entry.caller entry.index entry.since h.name)) told sure.placed).write
 
+-- each pending change is among those that are cut off
+pending_there : (s : Index) → IsIndex s → (change : Change) → HasPending (world s).parties change → Contains (cut_changes s.entries) change
+pending_there s is change has =
+    let from = map_from party_of s.entries has.place has.party has.there in
+    cut_there s.entries has.place from.0 change from.1
+    (pending_cut from.0.machine change (is.entries has.place from.0 from.1).op (ap (λ (p : Party). pending_in p.stage) from.2 ∙ has.pending))
+
 pub crash_is : (s : Index) (image : Row) (cuts : List Entry) → IsIndex s → image ≡ record { layout = s.layout; words = durable_row s.layout s.words } → cuts ≡ s.entries → IsCrash s image cuts
 crash_is s image cuts is leaves cut_off =
     let law = crash_law (world s) is.lawful is.names in
@@ -91,14 +95,6 @@ crash_is s image cuts is leaves cut_off =
       sound = law.sound;
       end = law.end;
       keeps = law.keeps;
-      ends = ⊎_elim
-          (λ (same : law.end ≡ map_of_index s). subst (IsCrashEnd (map_of_index s) (cut_changes s.entries)) (sym same) (none_is_crash_end (map_of_index s) (cut_changes s.entries)))
-          (λ (more : (change : Change) × HasPending (world s).parties change × (law.end ≡ changed (map_of_index s) change)).
-          let has = more.1 in
-          let from = map_from party_of s.entries has.place has.party has.there in
-          let cut = pending_cut from.0.machine more.0 (is.entries has.place from.0 from.1).op (ap (λ (p : Party). pending_in p.stage) from.2 ∙ has.pending) in
-          subst (IsCrashEnd (map_of_index s) (cut_changes s.entries)) (sym more.2)
-          (one_is_crash_end (map_of_index s) (cut_changes s.entries) more.0 (cut_there s.entries has.place from.0 more.0 from.1 cut)))
-          law.left;
+      ends = law.ends (cut_changes s.entries) (pending_there s is);
       placed = placed_stands s is;
     }

@@ -12,6 +12,8 @@ use Rattle.cat_key.specs.Names.{IsName}
 use Rattle.cat_history.specs.Maps.{Map}
 use Rattle.cat_history.specs.Maps as maps
 use Rattle.cat_history.specs.Writes.{changed, name_of}
+use Rattle.cat_history.specs.CrashEnds.{IsCrashEnd}
+use Rattle.cat_history.proofs.CrashEndLemmas.{none_is_crash_end, one_is_crash_end}
 use Rattle.cat_history.specs.declared.op.Change.{Change}
 use Rattle.data_node.specs.Spots.{Spot, Means}
 use Rattle.sound_image.specs.Nodes.{image_spot}
@@ -118,4 +120,9 @@ crash_law w lawful names =
             left.left;
       };
       left = left.left;
+      ends = λ cuts among. ⊎_elim
+          (λ (same : left.end ≡ map_now (facts w)). subst (IsCrashEnd (map_now (facts w)) cuts) (sym same) (none_is_crash_end (map_now (facts w)) cuts))
+          (λ (more : (change : Change) × HasPending w.parties change × (left.end ≡ changed (map_now (facts w)) change)).
+          subst (IsCrashEnd (map_now (facts w)) cuts) (sym more.2) (one_is_crash_end (map_now (facts w)) cuts more.0 (among more.0 more.1)))
+          left.left;
     }

@@ -1,5 +1,5 @@
 -- The laws of a lawful index: which actions can be done, what a step and a start keep, and where it begins.
-use Rattle.std.specs.Prelude.{◌≡◌, ◌≢◌, ℕ, ◌+◌, ◌<◌, ◌≤◌, ◌^◌, ◌⊎◌, true, List, [], length, Option, Some, None, IfSome}
+use Rattle.std.specs.Prelude.{◌≡◌, ◌≢◌, ℕ, ◌+◌, ◌<◌, ◌≤◌, ◌^◌, ◌⊎◌, true, List, [], length, Option, Some, None, IfSome, Contains}
 use Rattle.std.specs.FinMap.{empty}
 use mathlib.Core.Option.{some}
 use lib.ListN.{get_elem?}
@@ -16,6 +16,7 @@ use Rattle.version_lock.specs.Versions.{IsFree, IsWorn, IsGeneration}
 use Rattle.cat_key.specs.Names.{IsName}
 use Rattle.cat_history.specs.Maps.{Map, at}
 use Rattle.cat_history.specs.Writes.{after, changed}
+use Rattle.cat_history.specs.CrashEnds.{IsCrashEnd}
 use Rattle.cat_history.specs.declared.op.Change.{Change}
 use Rattle.data_node.specs.Slots.{AreAllLive}
 use Rattle.data_node.specs.Spots.{Means, bitmap_offset}
@@ -158,6 +159,8 @@ pub record CrashLaw (w : World) : Type 0 where
   pub end : Map
   pub keeps : IsMapOf w.layout (durable_row w.layout w.words) end
   pub left : (end ≡ map_now (facts w)) ⊎ ((change : Change) × HasPending w.parties change × (end ≡ changed (map_now (facts w)) change))
+  -- so whatever changes the crash cut off, the pending ones among them, the map is the one after those that are found in it
+  pub ends : (cuts : List Change) → ((change : Change) → HasPending w.parties change → Contains cuts change) → IsCrashEnd (map_now (facts w)) cuts end
 
 -- At every moment a crash leaves that of a lawful index whose map has names alone.
 abbrev pub CrashLeavesSound : Type 0

@@ -38,6 +38,7 @@ pub fn evict_law()
 {}
 
 /// Whenever a crash comes, it leaves a sound image, which keeps the map, or the map with the change of one call in flight.
+/// So whatever changes it cut off, the map is the one after those of them that are found in it.
 pub fn crash_law()
     ensures { CrashLeavesSound }
 {}
