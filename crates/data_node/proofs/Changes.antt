@@ -13,7 +13,8 @@ use Rattle.cat_history.specs.Maps.{at, map_of}
 use Rattle.data_node.specs.declared.node.Entry.{Entry}
 use Rattle.data_node.specs.Slots.{IsLive, IsClear, prints_of, print_of}
 use Rattle.data_node.specs.Contents.{live_pairs, entry_at, name_at, Holds, IsTidy}
-use Rattle.data_node.proofs.Lookups.{same_or_other, held_or_missing, at-held, at-missing}
+use Rattle.data_node.proofs.SpotLemmas.{same_name}
+use Rattle.data_node.proofs.Lookups.{held_or_missing, at-held, at-missing}
 
 -- In the new slots this one has the name and the value, and every other name stands where it stood.
 pub record Puts (bitmap : ℕ) (entries : List Entry) (bitmap' : ℕ) (entries' : List Entry) (name : List ℕ) (value slot : ℕ) : Type 0 where
@@ -28,7 +29,7 @@ module _ (slots bitmap : ℕ) (prints : List ℕ) (entries : List Entry) (whole 
         → at (map_of (live_pairs bitmap' entries')) other ≡ cond (eq_by_cmp name_cmp other name) (Some value) (at (map_of (live_pairs bitmap entries)) other)
     at-puts name value slot puts other =
         let before = at (map_of (live_pairs bitmap entries)) other in
-        elim (same_or_other other name) [
+        elim (same_name other name) [
           | inl same ↦
               let here : Holds bitmap' entries' other slot = subst (λ n. Holds bitmap' entries' n slot) (sym same.0) puts.holds in
               at-held slots bitmap' prints' entries' other slot whole' tidy' here ∙ ap Some puts.value_is ∙ sym (ap (λ b. cond b (Some value) before) same.1)
@@ -260,7 +261,7 @@ module _ (slots bitmap : ℕ) (prints : List ℕ) (entries : List Entry) (whole 
   at-cleared : (other : List ℕ) → at (map_of (live_pairs bitmap' entries)) other ≡ cond (eq_by_cmp name_cmp other name) None (at (map_of (live_pairs bitmap entries)) other)
   at-cleared other =
       let before = at (map_of (live_pairs bitmap entries)) other in
-      elim (same_or_other other name) [
+      elim (same_name other name) [
         | inl same ↦
             at-missing bitmap' entries other (λ s now. gone s (subst (λ n. Holds bitmap' entries n s) same.0 now)) ∙ sym (ap (λ b. cond b None before) same.1)
         | inr apart ↦

@@ -1,10 +1,8 @@
 -- What the map of the pairs in live slots gives at a name.
 use Rattle.std.proofs.Common.{◌≡◌, ℕ, zero, suc, ◌+◌, ◌<◌, ◌≤◌, ◌⊎◌, true, false, cond, eqb, List, [], ◌∷◌, map, length, Option, Some, None, inl, inr, refl, sym, ap, subst, ◌∙◌, arith}
 use Rattle.std.specs.Int.{bit_at}
-use Rattle.std.specs.declared.cmp.Ordering.TheVariants.{Less, Equal, Greater}
-use Rattle.std.specs.Ordering.{eq_by_cmp, is_eq}
-use Rattle.std.specs.Cmp.{tied_itself}
-use Rattle.std.specs.FinMap.{find, get-from_entries, slice_cmp-IsAntisymmetric, nat_cmp-IsAntisymmetric}
+use Rattle.std.specs.Ordering.{eq_by_cmp}
+use Rattle.std.specs.FinMap.{find, get-from_entries}
 use Rattle.std.proofs.lemmas.Bool.{eqb-true, eqb-false}
 use Rattle.std.proofs.lemmas.Cmp.{nat_list_cmp_total}
 use Rattle.cat_key.specs.Names.{IsName, name_cmp, bytes_of, words_of, fingerprint_of}
@@ -15,15 +13,7 @@ use Rattle.cat_history.specs.PlainMaps.{NamesDiffer}
 use Rattle.data_node.specs.declared.node.Entry.{Entry}
 use Rattle.data_node.specs.Slots.{IsLive, IsCandidate}
 use Rattle.data_node.specs.Contents.{pair_of, pairs_from, live_pairs, entry_at, name_at, Holds, IsTidy}
-
--- two names are one or not, and their order tells
-pub same_or_other : (a b : List ℕ) → ((a ≡ b) × (eq_by_cmp name_cmp a b ≡ true)) ⊎ ((a ≡ b → ⊥) × (eq_by_cmp name_cmp a b ≡ false))
-same_or_other a b =
-    elim (name_cmp a b) as (λ r. name_cmp a b ≡ r → ((a ≡ b) × (is_eq r ≡ true)) ⊎ ((a ≡ b → ⊥) × (is_eq r ≡ false))) [
-      | Less ↦ λ is. inr ((λ e. let tied : name_cmp a b ≡ Equal = subst (λ x. name_cmp a x ≡ Equal) e (tied_itself nat_list_cmp_total a) in cc), refl)
-      | Equal ↦ λ is. inl (slice_cmp-IsAntisymmetric nat_cmp-IsAntisymmetric a b is, refl)
-      | Greater ↦ λ is. inr ((λ e. let tied : name_cmp a b ≡ Equal = subst (λ x. name_cmp a x ≡ Equal) e (tied_itself nat_list_cmp_total a) in cc), refl)
-    ] refl
+use Rattle.data_node.proofs.SpotLemmas.{same_name}
 
 -- the pairs as the map's entries
 abbrev keyed : List Pair → List (List ℕ × ℕ)
@@ -69,7 +59,7 @@ looked_live : (bitmap slot : ℕ) (entry : Entry) (later : List Entry) (name : L
     → Looked bitmap slot (entry ∷ later) name (cond (eq_by_cmp name_cmp name (bytes_of entry.name)) (Some entry.value) (looked_up bitmap (slot + 1) later name))
 looked_live bitmap slot entry later name live rest =
     let answer = looked_up bitmap (slot + 1) later name in
-    elim (same_or_other name (bytes_of entry.name)) [
+    elim (same_name name (bytes_of entry.name)) [
       | inl same ↦ inl (record {
         place = zero;
         within = omega arith;

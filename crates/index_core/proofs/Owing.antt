@@ -10,12 +10,9 @@ use Rattle.cat_history.specs.declared.op.Change.{Change}
 use Rattle.call_stages.specs.declared.once.Once.{Once}
 use Rattle.call_stages.specs.declared.once.Placed.{Placed}
 use Rattle.call_stages.specs.Stages.{counted}
-use Rattle.node_ops.specs.declared.call.Call.{Call}
 use Rattle.node_ops.specs.declared.lookup.Looked.{Looked}
 use Rattle.node_ops.specs.declared.lookup.Looked.TheVariants as looked
 use Rattle.node_ops.specs.declared.lookup.Lookup.{Lookup}
-use Rattle.node_ops.specs.declared.lookup.LookupAt.{LookupAt}
-use Rattle.node_ops.specs.declared.lookup.LookupAt.TheVariants as look
 use Rattle.node_ops.specs.declared.fence.Fence.{Fence}
 use Rattle.node_ops.specs.declared.finish.Finish.{Finish}
 use Rattle.node_ops.specs.declared.finish.FinishAt.{FinishAt}
@@ -35,7 +32,8 @@ use Rattle.node_ops.specs.GetSteps.{get_turned, get_looked}
 use Rattle.node_ops.specs.PutSteps.{put_finished}
 use Rattle.node_ops.specs.DelSteps.{del_finished}
 use Rattle.node_ops.specs.RunningSteps.{running_turned, wrapped}
-use Rattle.node_ops.specs.CallStages.{stage_of, lookup_at_stage, lookup_stage, finish_stage}
+use Rattle.node_ops.specs.CallStages.{stage_of, lookup_stage, finish_stage}
+use Rattle.node_ops.proofs.OpLaw.{lookup_counts}
 use Rattle.index_law.specs.Worlds.{written}
 use Rattle.index_core.specs.Entries.{owes, machine_owes, owed}
 
@@ -43,16 +41,6 @@ use Rattle.index_core.specs.Entries.{owes, machine_owes, owed}
 abbrev pub owes_after : Turn Running (Once Placed) → ℕ
 owes_after (Go running) = owes running
 owes_after (Done answer) = 0
-
-lookup_counts : (call : Call) (at : LookupAt) → counted (lookup_at_stage call at) ≡ None
-lookup_counts call look.Version = refl
-lookup_counts call (look.Lock version locked) = refl
-lookup_counts call (look.Clock locked) = refl
-lookup_counts call (look.Spent hold) = refl
-lookup_counts call (look.Bitmap hold) = refl
-lookup_counts call (look.Prints hold bitmap prints k) = refl
-lookup_counts call (look.Name hold directory left slot k) = refl
-lookup_counts call (look.Value hold directory slot) = refl
 
 abbrev pub many : Option Change → ℕ
 many None = 0

@@ -174,7 +174,7 @@ turns_keep_op l g op running x sound told is =
     own_keep op running x sound.here (subst (λ (k : Layout). Told k (running_call running).view.generation (running_asks running) x) (sym sound.layout) at_generation) is
 
 -- a look-up counts nothing, and holds its node for its call's name
-lookup_counts : (call : Call) (at : LookupAt) → counted (lookup_at_stage call at) ≡ None
+pub lookup_counts : (call : Call) (at : LookupAt) → counted (lookup_at_stage call at) ≡ None
 lookup_counts call look.Version = refl
 lookup_counts call (look.Lock version locked) = refl
 lookup_counts call (look.Clock locked) = refl
