@@ -1,9 +1,6 @@
 -- The index, called by one caller with no other call in flight, as a map of names.
 use Rattle.std.specs.Prelude.{◌≡◌, ℕ, ◌-◌, ◌^◌, min, length, IfSome}
-use Rattle.std.specs.FinMap.{insert, remove, len}
-use Rattle.cat_history.specs.Maps.{Map}
-use Rattle.cat_history.specs.declared.op.Op.{Op}
-use Rattle.cat_history.specs.declared.op.Op.TheVariants.{Put, Get, Del}
+use Rattle.std.specs.FinMap.{len}
 use Rattle.index_core.specs.declared.entry.CoreCall.{CoreCall}
 use Rattle.index_core.specs.CoreCalls.{limit_of}
 use Rattle.index_core.specs.Indexes.{Index, IsIndex, map_of_index}
@@ -17,12 +14,6 @@ calls_left_of s = min (locks_left s) (min s.spare (2 ^ 62 - length s.history))
 -- The call is refused at no clock below 2^62.
 abbrev pub IsUnlimited : CoreCall → Type 0
 IsUnlimited call = IfSome (limit_of call) (λ limit. limit ≡ 2 ^ 62)
-
--- The map after a call that took place.
-abbrev pub map_after : Map → Op → Map
-map_after m (Put name value) = insert m name value
-map_after m (Get name) = m
-map_after m (Del name) = remove m name
 
 -- Between two calls none is in flight, and the names are counted.
 pub record IsCoreMap (s : Index) (names : ℕ) : Type 0 where

@@ -3,13 +3,15 @@
 ghost use Rattle.std.specs.Prelude.{◌≡◌, ◌+◌, ◌<◌, ◌≤◌, ◌↔◌, IfOk, OnOk, OnErr, IsErr};
 ghost use Rattle.std.specs.FinMap.{empty};
 ghost use Rattle.cat_history.specs.Maps.{at};
+ghost use Rattle.cat_history.specs.Records.{change_of};
+ghost use Rattle.call_stages.specs.Stages.{pended};
 ghost use Rattle.pm_words.specs.Layouts.{IsLayout};
 ghost use Rattle.version_lock.specs.declared.TheConstants.{LAST_COUNT};
 ghost use Rattle.node_ops.specs.Asked.{name_asked};
 ghost use Rattle.index_core.specs.CoreCalls.{op_of};
 ghost use Rattle.index_core.specs.Indexes.{IsIndex, map_of_index};
 ghost use Rattle.index_core.specs.Lone.{IsQuiet, FindsNoRoom};
-ghost use Rattle.catalog_cli.specs.CoreMaps.{IsUnlimited, calls_left_of, map_after};
+ghost use Rattle.catalog_cli.specs.CoreMaps.{IsUnlimited, calls_left_of};
 
 use cat_history::{Full, NameMap, NoMemory};
 use cat_key::Name;
@@ -134,7 +136,7 @@ fn call_alone<L: Ledger>(
     requires unlimited { IsUnlimited call }
     requires calls_left { 0 < calls_left_of core.old }
     ensures old { IfOk result (λ old. old ≡ at (map_of_index core.old) (name_asked (op_of call))) }
-    ensures ok { OnOk result (map_of_index core.new ≡ map_after (map_of_index core.old) (op_of call)) }
+    ensures ok { OnOk result (map_of_index core.new ≡ pended (change_of (op_of call)) (map_of_index core.old)) }
     ensures full { IsErr result ↔ FindsNoRoom call core.old }
     ensures err { OnErr result (map_of_index core.new ≡ map_of_index core.old) }
     ensures layout { core.new.layout ≡ core.old.layout }

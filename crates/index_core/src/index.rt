@@ -130,7 +130,7 @@ impl Core {
         }
     }
 
-    /// Makes room for so many writes. On `NoMemory` nothing changes.
+    /// Makes room for so many writes, of which `spare` tells. Nothing else changes, on `NoMemory` either.
     pub fn reserve(&mut self, writes: u64) -> Result<(), NoMemory>
         ensures ok { OnOk result (writes ≤ self.new.spare) }
         ensures kept { self.new ≡ record self.old { spare = self.new.spare } }

@@ -24,7 +24,7 @@ use Rattle.index_law.specs.Facts.{Facts, map_now, range_of, durable_spot}
 use Rattle.index_law.specs.Twins.{BacksStage}
 use Rattle.index_law.specs.Worlds.{Party, World, facts}
 use Rattle.index_law.specs.Lawful.{HoldsNode, IsHeld, Sure, Lawful}
-use Rattle.index_law.specs.Laws.{IsLeftBy, HasPending, CrashLeavesSound}
+use Rattle.index_law.specs.Laws.{IsCrashMap, HasPending, CrashLeavesSound}
 use Rattle.index_law.proofs.Maps.{changed_names}
 use Rattle.index_law.proofs.Rows.{in_spot}
 
@@ -37,7 +37,7 @@ image_is l words n offset = ap (λ (x : ℕ). cond (in_spot l n offset) x 0) (du
 pub record Leaves (w : World) (n : ℕ) : Type 0 where
   pub end : Map
   pub means : Means w.layout.slots (range_of w.layout (facts w) n) (durable_spot w.layout w.words n) end
-  pub left : IsLeftBy w end
+  pub left : IsCrashMap w end
 
 module _ (w : World) (lawful : Lawful w) where
   abbrev f : Facts
@@ -53,7 +53,7 @@ module _ (w : World) (lawful : Lawful w) where
       (backed.mixes (durable_spot w.layout w.words m) (λ offset. inl refl))
     where
       here : (end : Map) → Means w.layout.slots (range_of w.layout f m) (durable_spot w.layout w.words m) end
-          → IsLeftBy w end → Leaves w n
+          → IsCrashMap w end → Leaves w n
       here end means left = record {
         end = end;
         means = subst (λ (k : ℕ). Means w.layout.slots (range_of w.layout f k) (durable_spot w.layout w.words k) end) holds means;

@@ -153,16 +153,16 @@ pub record HasPending (parties : List Party) (change : Change) : Type 0 where
   pub there : get_elem? parties place ≡ some party
   pub pending : pending_in party.stage ≡ Some change
 
--- The map is as it is, or that with the change that some call has pending.
-abbrev pub IsLeftBy : World → Map → Type 0
-IsLeftBy w end = (end ≡ map_now (facts w)) ⊎ ((change : Change) × HasPending w.parties change × (end ≡ changed (map_now (facts w)) change))
+-- A map that a crash may leave: the map as it is, or that with the change that some call has pending.
+abbrev pub IsCrashMap : World → Map → Type 0
+IsCrashMap w end = (end ≡ map_now (facts w)) ⊎ ((change : Change) × HasPending w.parties change × (end ≡ changed (map_now (facts w)) change))
 
 -- What a crash leaves: a sound image, which keeps the map as it is, or the map with the change that one call has pending.
 pub record CrashLaw (w : World) : Type 0 where
   pub sound : IsSound w.layout (durable_row w.layout w.words)
   pub end : Map
   pub keeps : IsMapOf w.layout (durable_row w.layout w.words) end
-  pub left : IsLeftBy w end
+  pub left : IsCrashMap w end
   -- so whatever changes the crash cut off, the pending ones among them, the map is the one after those that are found in it
   pub ends : (cuts : List Change) → ((change : Change) → HasPending w.parties change → Contains cuts change) → IsCrashEnd (map_now (facts w)) cuts end
 
