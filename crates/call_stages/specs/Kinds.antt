@@ -82,8 +82,8 @@ pub data Answers (l : Layout) (h : Held) : Once Placed → Type 0 where
   writes : {old : Option ℕ} {place : ℕ} → h.placed ≡ Some place → h.old ≡ Some old → Answers l h (once.Done (record { old = old; place = place; hops = 0 }))
   reads : {old : Option ℕ} {clock : ℕ} → h.placed ≡ None → h.time ≡ Some clock → h.old ≡ Some old →
       Answers l h (once.Done (record { old = old; place = clock; hops = 0 }))
-  is_spent : {clock : ℕ} → h.time ≡ Some clock → Answers l h (once.Spent clock)
-  has_no_room : h.placed ≡ None → h.old ≡ Some None → ((s : Spot) → IsTidy l.slots s → Knows h.name h.known s → AreAllLive (s bitmap_offset) l.slots) →
+  is_spent : {clock : ℕ} → h.placed ≡ None → h.time ≡ Some clock → Answers l h (once.Spent clock)
+  has_no_room : {clock : ℕ} → h.placed ≡ None → h.time ≡ Some clock → h.old ≡ Some None → ((s : Spot) → IsTidy l.slots s → Knows h.name h.known s → AreAllLive (s bitmap_offset) l.slots) →
       Answers l h (once.Again again.NoFree)
 
 -- From one stage to the next by an action that may change its word.

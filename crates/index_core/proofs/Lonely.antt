@@ -264,7 +264,7 @@ module _ (l : Layout) (g v0 : ℕ) (h0 : List Write) (i calls : ℕ) (c : CoreCa
             );
           })
       ends (refuses {w = w} {c = clock} {h = held} put none) answer go told about legal fits is =
-          let room : HasNoRoom l (facts_after (Store (version_place l 0) (w + 1)) (Holds 0 w held)) 0 held = legal.1 in
+          let room : HasNoRoom l (facts_after (Store (version_place l 0) (w + 1)) (Holds 0 w held)) since 0 held = legal.1 in
           let map_is : after_all base (written_of h (Holds 0 w held)) ≡ m0 = ap (after_all base) (same_history 0 w held none is.locking.same) in
           let least = full_has l.slots _ (after_all base (written_of h (Holds 0 w held))) room.means room.full in
           let most = fits (after_all base (written_of h (Holds 0 w held))) refl in

@@ -89,6 +89,8 @@ module _ (l : Layout) (g : ℕ) (f f' : Facts) (later : IsLater f f') where
           (λ hand is. (λ k. if hand.0 == 0 then steady.version k else steady.now k hand.0) ∙ is) knows.hand;
       means = means_kept l.slots h.pending knows.means;
       about = knows.about;
+      shown = knows.shown;
+      below = knows.below;
       time = if_some (IsTime (range_of l f n) f.base f.history since h.limit) (IsTime (range_of l f' n) f'.base f'.history since h.limit) h.time (time_kept since h.limit) knows.time;
       old = if_some (λ old. at (map_before f h.placed) h.name ≡ old) (λ old. at (map_before f' h.placed) h.name ≡ old) h.old
           (λ old was. old_kept caller index since h.name knows.inside h.placed knows.placed ∙ was) knows.old;

@@ -171,5 +171,5 @@ step_law w i p a x t r lawful there k told room =
         durable_front = closer_front l g w.words words closer lawful.front lawful.durable_front;
       };
       counts = step_counts k f given;
-      legal = subst (λ (φ : Facts). IsLegal l g φ p.caller p.index p.since p.stage r) (sym same) (legal f p.caller p.index p.since k given known);
+      legal = subst (λ (φ : Facts). IsLegal l g φ p.caller p.index p.since p.stage r) (sym same) (legal f p.caller p.index p.since lawful.one_node k given known);
     }

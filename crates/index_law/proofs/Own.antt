@@ -1,6 +1,6 @@
 -- What a party knows after its own step, and that its answer is legal.
-use Rattle.std.proofs.Common.{◌≡◌, ℕ, ◌≤◌, ◌⊎◌, inr, Bool, cond, List, [], ◌∷◌, ◌++◌, length, refl, sym, ap, ◌∙◌, subst, arith}
-use Rattle.std.specs.Prelude.{slice_get, Option, Some, None, IfSome}
+use Rattle.std.proofs.Common.{◌≡◌, ℕ, ◌<◌, ◌≤◌, ◌⊎◌, inr, Bool, cond, List, [], ◌∷◌, ◌++◌, length, refl, sym, ap, ◌∙◌, subst, arith}
+use Rattle.std.specs.Prelude.{◌==◌, true, slice_get, is_some, Option, Some, None, IfSome}
 use Rattle.std.specs.List.{AllByRecursion}
 use Rattle.std.proofs.lemmas.Bool.{eq-eqb}
 use Rattle.std.proofs.lemmas.List.{length-append}
@@ -11,6 +11,7 @@ use Rattle.cat_history.specs.Maps.{Map, at}
 use Rattle.cat_history.specs.Writes.{changed, name_of, after}
 use Rattle.cat_history.specs.declared.op.Change.{Change}
 use Rattle.cat_history.specs.declared.op.Write.{Write}
+use Rattle.data_node.proofs.CountLemmas.{full_has}
 use Rattle.data_node.specs.Spots.{Spot, Means, updated}
 use Rattle.call_stages.specs.declared.once.Once.{Once}
 use Rattle.call_stages.specs.declared.once.Placed.{Placed}
@@ -19,7 +20,7 @@ use Rattle.call_stages.specs.Kinds.{Look, turns_back, is_worn, sees, misses, tim
 use Rattle.index_law.specs.Facts.{Facts, map_now, range_of}
 use Rattle.index_law.specs.Lawful.{AreKnown, AreSettled, IsTime, HasWriteAt, IsPlaced, map_before, SureHolds, Sure}
 use Rattle.index_law.specs.Laws.{loads_clock, loads_word, exchanges, stores_word, drains_word, adds, frees, IsWithin, StepIsAllowed, IsLegalHeld, IsLegal}
-use Rattle.index_law.proofs.Maps.{after_all-push, after-longer, after-whole, slice_get-last}
+use Rattle.index_law.proofs.Maps.{after_all-push, after-longer, after-whole, slice_get-last, means_alike}
 use Rattle.index_law.proofs.Moves.{fact_after, Gave, Gives}
 use Rattle.index_law.proofs.Rows.{with_version, with_word}
 use Rattle.index_law.proofs.Versions.{own_lock}
@@ -59,6 +60,16 @@ durably h s knows = known_words h s h.known.seen knows.seen
 pub stored : (f : Facts) (n offset y : ℕ) → (with_word f n offset y).now n ≡ updated (f.now n) offset y
 stored f n offset y = ap (λ (b : Bool). cond b (updated (f.now n) offset y) (f.now n)) (eq-eqb n n refl)
 
+-- what holds anyway holds where something is there
+where_some : {A : Type 0} {P : Type 0} → (o : Option A) → P → IfSome o (λ a. P)
+where_some None holds = tt
+where_some (Some a) holds = holds
+
+-- a call whose clock is below the limit began below it
+begun_below : (limit : Option ℕ) (since clock : ℕ) → since ≤ clock → IfSome limit (λ most. clock < most) → IfSome limit (λ most. since < most)
+begun_below None since clock later below = tt
+begun_below (Some most) since clock later below = omega arith
+
 module _ {l : Layout} {g : ℕ} (f : Facts) (caller index since : ℕ) where
   -- what is known of a call with nothing pending
   pub clean_means : (n w : ℕ) (h : Held) → SureHolds l g f caller index since n w h → h.pending ≡ None → Means l.slots (range_of l f n) (f.now n) (map_now f)
@@ -82,7 +93,7 @@ module _ {l : Layout} {g : ℕ} (f : Facts) (caller index since : ℕ) where
       seen = omega (arith, e);
     }
     look_mine (misses other) e knows = tt
-    look_mine (times {n = n} {x = x} clean below) e knows = record {
+    look_mine (times {n = n} {x = x} {limit = limit} clean below) e knows = record {
       here = knows.here;
       stands = knows.stands;
       lock = knows.lock;
@@ -92,6 +103,8 @@ module _ {l : Layout} {g : ℕ} (f : Facts) (caller index since : ℕ) where
       hand = knows.hand;
       means = knows.means;
       about = knows.about;
+      shown = knows.shown;
+      below = begun_below limit since x (omega (arith, e)) below;
       time = record {
         later = omega (arith, e);
         within = omega (arith, e);
@@ -111,11 +124,13 @@ module _ {l : Layout} {g : ℕ} (f : Facts) (caller index since : ℕ) where
       hand = knows.hand;
       means = knows.means;
       about = knows.about;
+      shown = knows.shown;
+      below = knows.below;
       time = knows.time;
       old = knows.old;
       placed = knows.placed;
     }
-    look_mine (decides {n = n} {w = w} {h = h} {old = old} has positive clean durable about learnt decided) e knows =
+    look_mine (decides {n = n} {w = w} {h = h} {old = old} {pending = pending} has positive clean durable about learnt decided) e knows =
         let means = clean_means n w h knows clean.pending in
         let found = decided (range_of l f n) (f.now n) (map_now f) knows.inside knows.knows (sym e) means in
         record {
@@ -128,6 +143,8 @@ module _ {l : Layout} {g : ℕ} (f : Facts) (caller index since : ℕ) where
           hand = knows.hand;
           means = found.1;
           about = about;
+          shown = where_some pending (clean.placed, refl);
+          below = knows.below;
           time = knows.time;
           old = subst (λ (p : Option ℕ). at (map_before f p) h.name ≡ old) (sym clean.placed) found.0;
           placed = knows.placed;
@@ -142,6 +159,8 @@ module _ {l : Layout} {g : ℕ} (f : Facts) (caller index since : ℕ) where
       hand = sym e;
       means = knows.means;
       about = knows.about;
+      shown = knows.shown;
+      below = knows.below;
       time = knows.time;
       old = knows.old;
       placed = knows.placed;
@@ -161,6 +180,8 @@ module _ {l : Layout} {g : ℕ} (f : Facts) (caller index since : ℕ) where
         hand = tt;
         means = settled n knows.here (subst (λ (u : ℕ). IsFree u g) (sym (sym e ∙ same)) knows.free);
         about = tt;
+        shown = tt;
+        below = tt;
         time = tt;
         old = tt;
         placed = tt;
@@ -176,6 +197,8 @@ module _ {l : Layout} {g : ℕ} (f : Facts) (caller index since : ℕ) where
         means = subst (λ (s : Spot). Means l.slots (range_of l f n) s (pended h.pending (map_now f))) (sym (stored f n offset y))
             (means (range_of l f n) (f.now n) (pended h.pending (map_now f)) (durably h (f.now n) knows.knows) knows.means);
         about = knows.about;
+        shown = knows.shown;
+        below = knows.below;
         time = knows.time;
         old = knows.old;
         placed = knows.placed;
@@ -191,6 +214,8 @@ module _ {l : Layout} {g : ℕ} (f : Facts) (caller index since : ℕ) where
         means = subst (λ (s : Spot). Means l.slots (range_of l f n) s (changed (map_now f) c)) (sym (stored f n offset y))
             (means (range_of l f n) (f.now n) (map_now f) knows.inside knows.knows (old_is n w h None old knows clean.placed old_known) (clean_means n w h knows clean.pending));
         about = about;
+        shown = (clean.placed, ap is_some old_known);
+        below = knows.below;
         time = knows.time;
         old = knows.old;
         placed = knows.placed;
@@ -205,6 +230,8 @@ module _ {l : Layout} {g : ℕ} (f : Facts) (caller index since : ℕ) where
         hand = tt;
         means = knows.means;
         about = knows.about;
+        shown = knows.shown;
+        below = knows.below;
         time = knows.time;
         old = knows.old;
         placed = knows.placed;
@@ -223,6 +250,8 @@ module _ {l : Layout} {g : ℕ} (f : Facts) (caller index since : ℕ) where
             means = subst (Means l.slots (range_of l f n) (f.now n)) (sym (after_all-push f.base f.history write))
                 (subst (λ (p : Option Change). Means l.slots (range_of l f n) (f.now n) (pended p (map_now f))) pending knows.means);
             about = tt;
+            shown = tt;
+            below = knows.below;
             time = tt;
             old = old_then h.old (subst (λ (p : Option ℕ). IfSome h.old (λ old. at (map_before f p) h.name ≡ old)) unplaced knows.old) (ap (λ (m : Map). at m h.name) same);
             placed = record {
@@ -242,50 +271,67 @@ module _ {l : Layout} {g : ℕ} (f : Facts) (caller index since : ℕ) where
       mine (unlocks next pending durable unready answers) e knows = tt
 
   -- the answer of a call that gives its node back
-  answered : (n w freed : ℕ) (h : Held) (r : Once Placed) → h.pending ≡ None → Answers l h r → SureHolds l g f caller index since n w h → IsLegalHeld l (with_version f n freed) caller index since n h r
-  answered n w freed h r clean (writes {old = old} {place = place} placed old_known) knows =
+  answered : l.nodes ≡ 1 → (n w freed : ℕ) (h : Held) (r : Once Placed) → h.pending ≡ None → Answers l h r → SureHolds l g f caller index since n w h → IsLegalHeld l (with_version f n freed) caller index since n h r
+  answered one_node n w freed h r clean (writes {old = old} {place = place} placed old_known) knows =
       let told = subst (λ (p : Option ℕ). IfSome p (IsPlaced f.history caller index since h.name)) placed knows.placed in
       record {
         later = told.later;
         within = let within = told.within in omega arith;
+        below = knows.below;
         old = sym (old_is n w h (Some place) old knows placed old_known);
         write = subst (λ (p : Option ℕ). IfSome p (λ q. (place ≡ q) × HasWriteAt f.history caller index h.name q)) (sym placed) (refl, told.write);
       }
-  answered n w freed h r clean (reads {old = old} {clock = clock} unplaced time old_known) knows =
+  answered one_node n w freed h r clean (reads {old = old} {clock = clock} unplaced time old_known) knows =
       let told = subst (λ (c : Option ℕ). IfSome c (IsTime (range_of l f n) f.base f.history since h.limit)) time knows.time in
       record {
         later = told.later;
         within = told.within;
+        below = knows.below;
         old = sym (told.same h.name knows.inside ∙ old_is n w h None old knows unplaced old_known);
         write = subst (λ (p : Option ℕ). IfSome p (λ q. (clock ≡ q) × HasWriteAt f.history caller index h.name q)) (sym unplaced) tt;
       }
-  answered n w freed h r clean (is_spent time) knows =
+  answered one_node n w freed h r clean (is_spent unplaced time) knows =
       let told = subst (λ (c : Option ℕ). IfSome c (IsTime (range_of l f n) f.base f.history since h.limit)) time knows.time in
       record { later = told.later; within = told.within }
-  answered n w freed h r clean (has_no_room unplaced old_known full) knows = (
-    refl,
-    record {
-      inside = knows.inside;
-      lacks = old_is n w h None None knows unplaced old_known;
-      full = full (f.now n) knows.means.tidy knows.knows;
-      means = clean_means n w h knows clean;
-    },
-  )
+  answered one_node n w freed h r clean (has_no_room {clock = clock} unplaced time old_known full) knows =
+      let told = subst (λ (c : Option ℕ). IfSome c (IsTime (range_of l f n) f.base f.history since h.limit)) time knows.time in
+      let means = clean_means n w h knows clean in
+      let lacks = old_is n w h None None knows unplaced old_known in
+      let all_live = full (f.now n) means.tidy knows.knows in (
+        refl,
+        record {
+          inside = knows.inside;
+          lacks = lacks;
+          full = all_live;
+          means = means;
+          clock = clock;
+          later = told.later;
+          within = told.within;
+          lacked = told.same h.name knows.inside ∙ lacks;
+          many = full_has l.slots (f.now n) (after f.base f.history clock)
+              (subst (λ (range : List ℕ → Bool). Means l.slots range (f.now n) (after f.base f.history clock)) (in_all n knows.here)
+              (means_alike l.slots (range_of l f n) (f.now n) (map_now f) (after f.base f.history clock) told.same means)) all_live;
+        },
+      )
+    where
+      -- the one node has all names
+      in_all : (n : ℕ) → n < l.nodes → range_of l f n ≡ (λ name. true)
+      in_all n here = λ k name. (let first : (n == 0) ≡ true = eq-eqb n 0 (omega (arith, one_node)) in first) k
 
   -- an answer is legal
-  pub legal : {s : Stage} {a : Action} {x : ℕ} {t : Stage} {r : Option (Once Placed)} → (k : Step l g s a x t r) → Gives k f → Sure l g f caller index since s
+  pub legal : l.nodes ≡ 1 → {s : Stage} {a : Action} {x : ℕ} {t : Stage} {r : Option (Once Placed)} → (k : Step l g s a x t r) → Gives k f → Sure l g f caller index since s
       → IsLegal l g (fact_after k f caller index) caller index since s r
-  legal (looks (turns_back here busy)) e knows = (sym e, busy)
-  legal (looks (is_worn here free worn)) e knows = (sym e, free, worn)
-  legal (looks (sees here free unworn lock)) e knows = tt
-  legal (looks (misses other)) e knows = (sym e, other)
-  legal (looks (times clean below)) e knows = tt
-  legal (looks (learns has positive unready learnt)) e knows = tt
-  legal (looks (decides has positive clean durable about learnt decided)) e knows = tt
-  legal (looks (glances has unready)) e knows = tt
-  legal (locks same named) e knows = tt
-  legal (stores has positive small clean soils learnt means) e knows = tt
-  legal (commits has positive small clean durable soiled old about learnt means) e knows = tt
-  legal (drains has small unready hand cleans) e knows = tt
-  legal (counts durable ready pending unplaced) e knows = tt
-  legal (unlocks {n = n} {w = w} {f = freed} {h = h} {r = r} next pending durable unready answers) e knows = answered n w freed h r pending answers knows
+  legal one_node (looks (turns_back here busy)) e knows = (sym e, busy)
+  legal one_node (looks (is_worn here free worn)) e knows = (sym e, free, worn)
+  legal one_node (looks (sees here free unworn lock)) e knows = tt
+  legal one_node (looks (misses other)) e knows = (sym e, other)
+  legal one_node (looks (times clean below)) e knows = tt
+  legal one_node (looks (learns has positive unready learnt)) e knows = tt
+  legal one_node (looks (decides has positive clean durable about learnt decided)) e knows = tt
+  legal one_node (looks (glances has unready)) e knows = tt
+  legal one_node (locks same named) e knows = tt
+  legal one_node (stores has positive small clean soils learnt means) e knows = tt
+  legal one_node (commits has positive small clean durable soiled old about learnt means) e knows = tt
+  legal one_node (drains has small unready hand cleans) e knows = tt
+  legal one_node (counts durable ready pending unplaced) e knows = tt
+  legal one_node (unlocks {n = n} {w = w} {f = freed} {h = h} {r = r} next pending durable unready answers) e knows = answered one_node n w freed h r pending answers knows

@@ -1,5 +1,5 @@
 -- What holds of an index and the calls in flight between any two steps.
-use Rattle.std.specs.Prelude.{◌≡◌, ℕ, ◌<◌, ◌≤◌, ◌⊎◌, Bool, true, List, length, slice_index, slice_get, Option, Some, None, IfSome}
+use Rattle.std.specs.Prelude.{◌≡◌, ℕ, ◌<◌, ◌≤◌, ◌⊎◌, Bool, true, List, length, slice_index, slice_get, Option, Some, None, IfSome, IsSome}
 use mathlib.Core.Option.{some}
 use lib.ListN.{get_elem?}
 use Rattle.pm_words.specs.declared.layout.Layout.{Layout}
@@ -77,6 +77,8 @@ pub record SureHolds (l : Layout) (g : ℕ) (f : Facts) (caller index since n w 
   pub hand : IfSome h.hand (λ hand. cached_word f n hand.0 ≡ hand.1)
   pub means : Means l.slots (range_of l f n) (f.now n) (pended h.pending (map_now f))
   pub about : IfSome h.pending (λ c. name_of c ≡ h.name)
+  pub shown : IfSome h.pending (λ c. (h.placed ≡ None) × IsSome h.old)  -- what is pending has no place, and it is known what the name had
+  pub below : IfSome h.limit (λ most. since < most)  -- the history hadn't reached the limit as the call began
   pub time : IfSome h.time (IsTime (range_of l f n) f.base f.history since h.limit)
   pub old : IfSome h.old (λ old. at (map_before f h.placed) h.name ≡ old)
   pub placed : IfSome h.placed (IsPlaced f.history caller index since h.name)

@@ -1,6 +1,6 @@
 -- The laws of a lawful index: which actions can be done, what a step and a start keep, and where it begins.
 use Rattle.std.specs.Prelude.{◌≡◌, ◌≢◌, ℕ, ◌+◌, ◌<◌, ◌≤◌, ◌^◌, ◌⊎◌, true, List, [], length, Option, Some, None, IfSome, Contains}
-use Rattle.std.specs.FinMap.{empty}
+use Rattle.std.specs.FinMap.{empty, len}
 use mathlib.Core.Option.{some}
 use lib.ListN.{get_elem?}
 use Rattle.pm_words.specs.declared.layout.Layout.{Layout}
@@ -73,6 +73,7 @@ AllowedCanAct = (w : World) (i : ℕ) (p : Party) (action : Action) → Lawful w
 pub record IsLegalDone (f : Facts) (caller index since : ℕ) (h : Held) (answer : Placed) : Type 0 where
   pub later : since ≤ answer.place
   pub within : answer.place ≤ length f.history
+  pub below : IfSome h.limit (λ most. since < most)  -- if it has a limit, the history hadn't reached it as the call began
   pub old : answer.old ≡ at (after f.base f.history answer.place) h.name
   pub write : IfSome h.placed (λ place. (answer.place ≡ place) × HasWriteAt f.history caller index h.name place)
 
@@ -81,12 +82,19 @@ pub record IsLegalSpent (f : Facts) (since clock : ℕ) : Type 0 where
   pub later : since ≤ clock
   pub within : clock ≤ length f.history
 
--- The map lacks the name, and each slot of the node in which it belongs has a name of the map.
-pub record HasNoRoom (l : Layout) (f : Facts) (n : ℕ) (h : Held) : Type 0 where
+-- The map lacks the name, and each slot of the node in which it belongs has a name of the map. After as many writes as the
+-- clock says that the call loaded in its time, the map lacked the name as well, and had at least as many names as the node
+-- has slots.
+pub record HasNoRoom (l : Layout) (f : Facts) (since n : ℕ) (h : Held) : Type 0 where
   pub inside : range_of l f n h.name ≡ true
   pub lacks : at (map_now f) h.name ≡ None
   pub full : AreAllLive (f.now n bitmap_offset) l.slots
   pub means : Means l.slots (range_of l f n) (f.now n) (map_now f)
+  pub clock : ℕ
+  pub later : since ≤ clock
+  pub within : clock ≤ length f.history
+  pub lacked : at (after f.base f.history clock) h.name ≡ None
+  pub many : l.slots ≤ len (after f.base f.history clock)
 
 -- What the version word of a node is, where it turned a call back.
 abbrev pub IsCause : ℕ → Facts → Again → Type 0
@@ -106,7 +114,7 @@ abbrev pub IsLegalHeld : Layout → Facts → ℕ → ℕ → ℕ → ℕ → He
 IsLegalHeld l f caller index since n h (once.Done answer) = IsLegalDone f caller index since h answer
 IsLegalHeld l f caller index since n h (once.Spent clock) = IsLegalSpent f since clock
 IsLegalHeld l f caller index since n h (once.Worn node word) = ⊥
-IsLegalHeld l f caller index since n h (once.Again why) = (why ≡ again.NoFree) × HasNoRoom l f n h
+IsLegalHeld l f caller index since n h (once.Again why) = (why ≡ again.NoFree) × HasNoRoom l f since n h
 
 -- The answer, if there is one, of a call that was at this stage, the facts being those after its last step.
 abbrev pub IsLegal : Layout → ℕ → Facts → ℕ → ℕ → ℕ → Stage → Option (Once Placed) → Type 0

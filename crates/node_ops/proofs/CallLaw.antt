@@ -219,7 +219,7 @@ put_leads (put.Filling fill) x sound told = put_filled_leads fill.call sound.cal
 put_leads (put.Replacing call hold bitmap hit value) x sound told = replacing_leads call sound.call hold bitmap hit value x sound.hit sound.value
 put_leads (put.Finishing finish) x sound told = put_finished_leads finish.call sound.call _ _ x (finish_turned finish x) (finish_leads finish x sound)
 put_leads (put.Refusing call hold bitmap value) x sound told =
-    unlocks refl refl refl refl (has_no_room refl refl (λ s tidy known. subst (λ b. AreAllLive b call.view.layout.slots) (sym known.seen.0) sound.full))
+    unlocks refl refl refl refl (has_no_room refl refl refl (λ s tidy known. subst (λ b. AreAllLive b call.view.layout.slots) (sym known.seen.0) sound.full))
 
 del_leads : (del : Del) (x : ℕ) → IsDel del → Dels (del_call del) (del_stage del) (del_asks del) x (del_turned del x)
 del_leads (del.Looking lookup) x sound = del_looked_leads lookup.call sound.call _ _ x (lookup_turned lookup x) (lookup_leads lookup.call sound.call lookup.at x sound.here)

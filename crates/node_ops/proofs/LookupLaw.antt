@@ -281,7 +281,7 @@ module _ (call : Call) (sound : IsCall call) where
   lookup_leads look.Version x here = version_leads x
   lookup_leads (look.Lock version word) x here = lock_leads version word x
   lookup_leads (look.Clock word) x here = clock_leads word x
-  lookup_leads (look.Spent hold) x here = unlocks refl refl refl refl (is_spent refl)
+  lookup_leads (look.Spent hold) x here = unlocks refl refl refl refl (is_spent refl refl)
   lookup_leads (look.Bitmap hold) x here = looks (learns (has_word bitmap_offset (omega arith)) (omega arith) refl (λ s tidy known e. record { seen = (e, tt); left = tt }))
   lookup_leads (look.Prints hold bitmap prints k) x here = prints_leads hold bitmap prints k x here.1.prints here.2
   lookup_leads (look.Name hold directory left slot k) x here = name_leads hold directory left slot k x here.2 here.3
