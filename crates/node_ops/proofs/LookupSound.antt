@@ -133,10 +133,10 @@ module _ (call : Call) (sound : IsCall call) where
       ]
   lookup_at_stays (look.Clock word) x here told =
       let hold : Hold = record { locked = word; clock = x } in
-      elim (is_spent call.limit x) as (λ b. SoundLooked call (cond b (goes_to call (look.Spent hold)) (goes_to call (look.Bitmap hold)))) [
-        | true ↦ (record { call = sound; here = here }, refl)
-        | false ↦ (record { call = sound; here = here }, refl)
-      ]
+      elim (is_spent call.limit x) as (λ b. is_spent call.limit x ≡ b → SoundLooked call (cond b (goes_to call (look.Spent hold)) (goes_to call (look.Bitmap hold)))) [
+        | true ↦ λ e. (record { call = sound; here = (here, e) }, refl)
+        | false ↦ λ e. (record { call = sound; here = here }, refl)
+      ] refl
   lookup_at_stays (look.Spent hold) x here told = tt
   lookup_at_stays (look.Bitmap hold) x here told = (record { call = sound; here = (here, record { bitmap = told.fits; prints = refl }, omega arith) }, refl)
   lookup_at_stays (look.Prints hold bitmap prints k) x here told = prints_sound hold bitmap prints k x here.0 here.1

@@ -1,5 +1,5 @@
 -- Looking a name up under its node's lock, step by step.
-use Rattle.std.specs.Prelude.{◌≡◌, ℕ, ◌+◌, ◌-◌, ◌*◌, ◌%◌, ◌^◌, ◌<◌, ◌≤◌, ◌==◌, ◌&&◌, ◌||◌, Bool, false, nat_lt, nat_le, if◌then◌else◌, List, length, Option, Some, None, IfSome, slice_index, slice_set, replicate}
+use Rattle.std.specs.Prelude.{◌≡◌, ℕ, ◌+◌, ◌-◌, ◌*◌, ◌%◌, ◌^◌, ◌<◌, ◌≤◌, ◌==◌, ◌&&◌, ◌||◌, Bool, false, nat_lt, nat_le, if◌then◌else◌, List, length, Option, Some, None, IfSome, IsTrue, slice_index, slice_set, replicate}
 use Rattle.cat_key.specs.declared.TheConstants.{WORDS}
 use Rattle.pm_words.specs.declared.action.Action.{Action}
 use Rattle.pm_words.specs.declared.action.Action.TheVariants.{Load, Store, Exchange}
@@ -162,7 +162,7 @@ abbrev pub IsLookupAt : Call → LookupAt → Type 0
 IsLookupAt call at.Version = Unit {0}
 IsLookupAt call (at.Lock version locked) = IsLocking call.view.generation version locked
 IsLookupAt call (at.Clock locked) = IsLockWord locked
-IsLookupAt call (at.Spent hold) = IsLockWord hold.locked
+IsLookupAt call (at.Spent hold) = IsLockWord hold.locked × IsTrue (is_spent call.limit hold.clock)
 IsLookupAt call (at.Bitmap hold) = IsLockWord hold.locked
 IsLookupAt call (at.Prints hold bitmap prints k) = IsLockWord hold.locked × IsDirectory (record { bitmap = bitmap; prints = prints }) × (k < PRINT_WORDS)
 IsLookupAt call (at.Name hold directory left slot k) =
