@@ -6,3 +6,4 @@ pub mod BitLemmas
 pub mod SpotLemmas
 pub mod StoreLemmas
 pub mod CountLemmas
+pub mod NameCounts

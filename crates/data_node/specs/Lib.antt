@@ -3,3 +3,4 @@ pub mod Nodes
 pub mod Slots
 pub mod Bits
 pub mod Spots
+pub mod Weights

@@ -29,7 +29,7 @@ use Rattle.index_law.proofs.Maps.{changed_names}
 use Rattle.index_law.proofs.Rows.{in_spot}
 
 -- a node's words in the image are the durable ones
-image_is : (l : Layout) (words : List ℕ) (n offset : ℕ) → image_spot l (durable_row l words) n offset ≡ durable_spot l words n offset
+pub image_is : (l : Layout) (words : List ℕ) (n offset : ℕ) → image_spot l (durable_row l words) n offset ≡ durable_spot l words n offset
 unfolding image_spot durable_spot
 image_is l words n offset = ap (λ (x : ℕ). cond (in_spot l n offset) x 0) (durable_row-at l words (Node n offset))
 

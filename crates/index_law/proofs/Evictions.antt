@@ -7,7 +7,7 @@ use Rattle.pm_words.proofs.Apart.{words_within}
 use Rattle.pm_words.proofs.Kept.{evicted_row}
 use Rattle.call_stages.specs.Kinds.{HasWordAt, clock_place, word_place}
 use Rattle.index_law.specs.Facts.{Facts}
-use Rattle.index_law.specs.Worlds.{facts, evicted}
+use Rattle.index_law.specs.Worlds.{World, facts, evicted}
 use Rattle.index_law.specs.Twins.{AreDurable}
 use Rattle.index_law.specs.Lawful.{AreKnown, AreSure, AreSettled, AreFreeOrHeld, AreBacked}
 use Rattle.index_law.specs.Laws.{EvictKeeps}
@@ -18,12 +18,17 @@ use Rattle.index_law.proofs.Twins.{IsCloser, evict_closer, evict_cached, closer_
 before_durable : (l : Layout) (word n offset : ℕ) → HasWordAt l n offset → word_place l n offset ≢ durable_place l word
 before_durable l word n offset has same = let within = words_within l (Node n offset) has in absurd (omega arith)
 
+-- so the facts are the same
+pub evict_facts : (w : World) (word : ℕ) → facts (evicted w word) ≡ facts w
+evict_facts w word =
+    facts-apart w.layout w.words w.base w.history (durable_place w.layout word) (slice_index w.words (cached_place w.layout word)) (before_durable w.layout word)
+
 pub evict_law : EvictKeeps
 evict_law w word lawful within =
     let l = w.layout in
     let g = w.generation in
     let x : ℕ = slice_index w.words (cached_place l word) in
-    let same : facts (evicted w word) ≡ facts w = facts-apart l w.words w.base w.history (durable_place l word) x (before_durable l word) in
+    let same = evict_facts w word in
     let closer : IsCloser l w.words (evicted w word).words = evict_closer l w.words word lawful.row.whole within in
     record {
       one_node = lawful.one_node;

@@ -16,3 +16,4 @@ pub mod Backing
 pub mod Closer
 pub mod Evictions
 pub mod Crashes
+pub mod Weights

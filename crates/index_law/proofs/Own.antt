@@ -76,7 +76,7 @@ module _ {l : Layout} {g : ℕ} (f : Facts) (caller index since : ℕ) where
   clean_means n w h knows clean = subst (λ (p : Option Change). Means l.slots (range_of l f n) (f.now n) (pended p (map_now f))) clean knows.means
 
   -- what the name had in the map that the call took effect on
-  old_is : (n w : ℕ) (h : Held) (placed : Option ℕ) (old : Option ℕ) → SureHolds l g f caller index since n w h → h.placed ≡ placed → h.old ≡ Some old → at (map_before f placed) h.name ≡ old
+  pub old_is : (n w : ℕ) (h : Held) (placed : Option ℕ) (old : Option ℕ) → SureHolds l g f caller index since n w h → h.placed ≡ placed → h.old ≡ Some old → at (map_before f placed) h.name ≡ old
   old_is n w h placed old knows placed_is old_is' =
       subst (λ (p : Option ℕ). at (map_before f p) h.name ≡ old) placed_is (subst (λ (o : Option (Option ℕ)). IfSome o (λ was. at (map_before f h.placed) h.name ≡ was)) old_is' knows.old)
 

@@ -3,3 +3,4 @@ pub mod Worlds
 pub mod Twins
 pub mod Lawful
 pub mod Laws
+pub mod Weights

@@ -1,6 +1,7 @@
 //! The laws of a lawful index, each named by the contract of a function.
 
 ghost use Rattle.index_law.specs.Laws.{StepIsAllowed, AllowedMayName, AllowedCanAct, StepKeeps, StartKeeps, JoinKeeps, EvictKeeps, CrashLeavesSound, RestIsLawful, IdleIsAtRest, NextRoundIsAtRest, FreshIsAtRest};
+ghost use Rattle.index_law.specs.Weights.{StepWeighs, StartWeighs, JoinWeighs, EvictWeighs, IdleWeighs, CrashWeighs};
 
 /// A step, whatever number it is told, is by an action that its party may do.
 pub fn allow_law()
@@ -61,4 +62,27 @@ pub fn round_law()
 /// Nothing is in flight in the row of a fresh image.
 pub fn fresh_law()
     ensures { FreshIsAtRest }
+{}
+
+/// A step raises the weight, together with what deletes have lowered it by that aren't counted yet, by at most one, and only
+/// where a put adds a name.
+pub fn step_weighs()
+    ensures { StepWeighs }
+{}
+
+/// A start leaves that sum as it is, and so do a party that comes to the others and a word that becomes durable.
+pub fn start_weighs()
+    ensures start { StartWeighs }
+    ensures join { JoinWeighs }
+    ensures evict { EvictWeighs }
+{}
+
+/// Where all parties are idle the sum is the weight.
+pub fn idle_weighs()
+    ensures { IdleWeighs }
+{}
+
+/// Whenever a crash comes, the image that it leaves weighs no more than the sum.
+pub fn crash_weighs()
+    ensures { CrashWeighs }
 {}

@@ -3,3 +3,4 @@ pub mod Nodes
 pub mod Rules
 pub mod Sound
 pub mod Laws
+pub mod Weights

@@ -1,0 +1,95 @@
+-- What an index weighs, with the calls in flight, and how steps, starts and crashes change that.
+use Rattle.std.specs.Prelude.{◌≡◌, ℕ, ◌+◌, ◌≤◌, ◌/◌, ◌⊎◌, nat_le, if◌then◌else◌, List, [], ◌∷◌, Option, Some, None}
+use mathlib.Core.Option.{some}
+use lib.ListN.{get_elem?}
+use Rattle.pm_words.specs.declared.layout.Layout.{Layout}
+use Rattle.pm_words.specs.declared.action.Action.{Action}
+use Rattle.pm_words.specs.declared.action.Action.TheVariants.{Store}
+use Rattle.pm_words.specs.Rows.{got, durable_row}
+use Rattle.cat_history.specs.declared.op.Change.{Change}
+use Rattle.cat_history.specs.declared.op.Change.TheVariants.{Put, Del}
+use Rattle.data_node.specs.Weights.{names_in, node_weight}
+use Rattle.sound_image.specs.Weights.{image_weight}
+use Rattle.call_stages.specs.declared.once.Once.{Once}
+use Rattle.call_stages.specs.declared.once.Placed.{Placed}
+use Rattle.call_stages.specs.Stages.{Held, Stage, Idle, Saw, Holds}
+use Rattle.call_stages.specs.Kinds.{Step}
+use Rattle.index_law.specs.Facts.{Facts, range_of}
+use Rattle.index_law.specs.Worlds.{Party, World, facts, stepped, started, joined, evicted}
+use Rattle.index_law.specs.Lawful.{Lawful, Each}
+
+-- What the index weighs: its listed nodes together. As long as node 0 is the only one, that is what it weighs.
+abbrev pub index_weight : Layout → Facts → ℕ
+index_weight l f = node_weight l.slots (range_of l f 0) (f.now 0)
+
+-- One for a delete that has lowered the weight of its node and isn't counted in the history yet: its name was there, and
+-- so many names are left that the one taken away weighed. It goes by the slots, the names that the node has now, the
+-- change that is pending, and what its name had.
+abbrev pub lowered_by : ℕ → ℕ → Option Change → Option (Option ℕ) → ℕ
+lowered_by slots names (Some (Del name)) (Some (Some value)) = if nat_le (slots / 2) names then 1 else 0
+lowered_by slots names _ _ = 0
+
+-- By how much the call at this stage has lowered the weight so.
+abbrev pub lowered_in : Layout → Facts → Stage → ℕ
+lowered_in l f Idle = 0
+lowered_in l f (Saw n v w) = 0
+lowered_in l f (Holds n w h) = lowered_by l.slots (names_in l.slots (range_of l f n) (f.now n)) h.pending h.old
+
+-- By how much the calls of all the parties have.
+abbrev pub lowered_sum : Layout → Facts → List Party → ℕ
+lowered_sum l f [] = 0
+lowered_sum l f (p ∷ parties) = lowered_in l f p.stage + lowered_sum l f parties
+
+-- The weight of the index, with what deletes that aren't counted yet have lowered it by.
+abbrev pub weight_sum : World → ℕ
+weight_sum w = index_weight w.layout (facts w) + lowered_sum w.layout (facts w) w.parties
+
+-- The store by which a put adds a name: before it the call has neither a change in its node nor a place, and after it the
+-- node shows the put of a name that wasn't there.
+pub record AddsName (stage : Stage) (action : Action) (next : Stage) : Type 0 where
+  pub node : ℕ
+  pub lock : ℕ
+  pub before : Held
+  pub after : Held
+  pub was : stage ≡ Holds node lock before
+  pub is : next ≡ Holds node lock after
+  pub unshown : before.pending ≡ None
+  pub unplaced : before.placed ≡ None
+  pub new : after.old ≡ Some None
+  pub name : List ℕ
+  pub value : ℕ
+  pub shows : after.pending ≡ Some (Put name value)
+  pub place : ℕ
+  pub word : ℕ
+  pub stores : action ≡ Store place word
+
+-- The second number is no more than the first, or one more where there is a reason.
+abbrev pub RisesBy : Type 0 → ℕ → ℕ → Type 0
+RisesBy reason before after = (after ≤ before) ⊎ (reason × (after ≤ before + 1))
+
+-- A step raises the sum by at most one, and only where a put adds a name.
+abbrev pub StepWeighs : Type 0
+StepWeighs = (w : World) (i : ℕ) (p : Party) (action : Action) (x : ℕ) (next : Stage) (answer : Option (Once Placed)) → Lawful w →
+    get_elem? w.parties i ≡ some p → Step w.layout w.generation p.stage action x next answer → x ≡ got w.layout w.words action →
+    RisesBy (AddsName p.stage action next) (weight_sum w) (weight_sum (stepped w i p action next))
+
+-- A start leaves the sum as it is,
+abbrev pub StartWeighs : Type 0
+StartWeighs = (w : World) (i : ℕ) (p : Party) (index : ℕ) → get_elem? w.parties i ≡ some p → p.stage ≡ Idle →
+    weight_sum (started w i p index) ≡ weight_sum w
+
+-- and so do a party that comes to the others
+abbrev pub JoinWeighs : Type 0
+JoinWeighs = (w : World) (p : Party) → p.stage ≡ Idle → weight_sum (joined w p) ≡ weight_sum w
+
+-- and a word that becomes durable.
+abbrev pub EvictWeighs : Type 0
+EvictWeighs = (w : World) (word : ℕ) → weight_sum (evicted w word) ≡ weight_sum w
+
+-- Where all parties are idle the sum is the weight.
+abbrev pub IdleWeighs : Type 0
+IdleWeighs = (w : World) → Each (λ p. p.stage ≡ Idle) w.parties → weight_sum w ≡ index_weight w.layout (facts w)
+
+-- The image that a crash leaves weighs no more than the sum.
+abbrev pub CrashWeighs : Type 0
+CrashWeighs = (w : World) → Lawful w → image_weight w.layout (durable_row w.layout w.words) ≤ weight_sum w
