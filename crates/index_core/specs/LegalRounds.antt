@@ -13,7 +13,7 @@ use Rattle.index_core.specs.Indexes.{Index}
 use Rattle.index_core.specs.Lone.{IsQuiet}
 use Rattle.index_core.specs.Schedules.{BegunCall, AnsweredCall, IsLegalHistory}
 
--- The record of a call that took place as this.
+-- The record of a call that was answered with this old number and this place.
 abbrev pub placed_record : BegunCall → Placed → Record
 placed_record call placed = record { caller = call.caller; index = call.index; op = call.op; reply = Old placed.old placed.place }
 
