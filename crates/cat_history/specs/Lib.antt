@@ -5,3 +5,4 @@ pub mod Rounds
 pub mod LoneRounds
 pub mod PlainMaps
 pub mod CrashEnds
+pub mod Callers

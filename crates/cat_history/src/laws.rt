@@ -1,5 +1,6 @@
 //! Laws on the definitions of this crate, each named by the contract of a function.
 
+ghost use Rattle.cat_history.specs.Callers.{LateWritesAreFew};
 ghost use Rattle.cat_history.specs.CrashEnds.{OldOrCutIsCrashEnd, NoneOrOneIsCrashEnd};
 ghost use Rattle.cat_history.specs.LoneRounds.{LoneRoundsAreLegal};
 
@@ -12,4 +13,10 @@ pub fn lone_round_law()
 pub fn crash_end_law()
     ensures law { OldOrCutIsCrashEnd }
     ensures cases { NoneOrOneIsCrashEnd }
+{}
+
+/// Where no caller has two writes from the place before a limit on, the writes go past the limit by fewer places than
+/// there are callers.
+pub fn late_writes_law()
+    ensures { LateWritesAreFew }
 {}

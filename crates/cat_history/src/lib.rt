@@ -11,7 +11,7 @@ mod op;
 mod plain;
 mod record;
 
-pub use laws::{crash_end_law, lone_round_law};
+pub use laws::{crash_end_law, late_writes_law, lone_round_law};
 pub use listed::Listed;
 pub use map::{Full, NameMap};
 pub use op::{CallerOp, Change, Op, Write};

@@ -11,3 +11,4 @@ pub mod Alone
 pub mod Scheduling
 pub mod Beginning
 pub mod OneHistory
+pub mod LegalRounds

@@ -6,3 +6,4 @@ pub mod Fresh
 pub mod Lone
 pub mod Crashes
 pub mod Schedules
+pub mod LegalRounds

@@ -1,5 +1,6 @@
 //! The law of whole schedules.
 
+ghost use Rattle.index_core.specs.LegalRounds.{LegalHistoryIsLegalRound};
 ghost use Rattle.index_core.specs.Schedules.{OneLegalHistory, FreshIndexBegins};
 
 /// Begin with an index in which no call is in flight and nothing is written yet. Start calls, step them in any order, make
@@ -17,4 +18,10 @@ ghost use Rattle.index_core.specs.Schedules.{OneLegalHistory, FreshIndexBegins};
 pub fn one_history_law()
     ensures history { OneLegalHistory }
     ensures fresh { FreshIndexBegins }
+{}
+
+/// Once no call is in flight, the calls of such a history that took place are a legal round over its base: each write of
+/// the history is that of one of them, at its place.
+pub fn history_round_law()
+    ensures { LegalHistoryIsLegalRound }
 {}

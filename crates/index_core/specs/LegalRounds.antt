@@ -1,0 +1,35 @@
+-- The calls of a schedule that took place, as the records of a legal round.
+use Rattle.std.specs.Prelude.{List, Option, Some, None, map}
+use Rattle.std.specs.List.{filter_map}
+use Rattle.cat_history.specs.Maps.{Map}
+use Rattle.cat_history.specs.Records.{call_of}
+use Rattle.cat_history.specs.Rounds.{IsLegalRound}
+use Rattle.cat_history.specs.declared.record.Record.{Record}
+use Rattle.cat_history.specs.declared.record.Reply.TheVariants.{Old}
+use Rattle.call_stages.specs.declared.once.Once.{Once}
+use Rattle.call_stages.specs.declared.once.Once.TheVariants as once
+use Rattle.call_stages.specs.declared.once.Placed.{Placed}
+use Rattle.index_core.specs.Indexes.{Index}
+use Rattle.index_core.specs.Lone.{IsQuiet}
+use Rattle.index_core.specs.Schedules.{BegunCall, AnsweredCall, IsLegalHistory}
+
+-- The record of a call that was answered with this old number and this place.
+abbrev pub placed_record : BegunCall → Placed → Record
+placed_record call placed = record { caller = call.caller; index = call.index; op = call.op; reply = Old placed.old placed.place }
+
+-- The record of a call that took place; a call that was refused or turned back has none.
+abbrev pub record_told : BegunCall → Once Placed → Option Record
+record_told call (once.Done placed) = Some (placed_record call placed)
+record_told call _ = None
+
+abbrev pub record_of : AnsweredCall → Option Record
+record_of c = record_told c.call c.answer
+
+-- The records of the calls that took place, in the order of their answers.
+abbrev pub records_of : List AnsweredCall → List Record
+records_of calls = filter_map record_of calls
+
+-- Once no call is in flight, the calls that took place are a legal round, whose writes are the history.
+abbrev pub LegalHistoryIsLegalRound : Type 0
+LegalHistoryIsLegalRound = (base : Map) (begun : List BegunCall) (calls : List AnsweredCall) (s : Index) → IsLegalHistory base begun calls s → IsQuiet s →
+    IsLegalRound base (map call_of (records_of calls)) (records_of calls) s.history
