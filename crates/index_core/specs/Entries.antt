@@ -4,6 +4,7 @@ use Rattle.pm_words.specs.declared.layout.Layout.{Layout}
 use Rattle.pm_words.specs.declared.machine.Turn.{Turn}
 use Rattle.pm_words.specs.declared.machine.Turn.TheVariants.{Go, Done}
 use Rattle.call_stages.specs.declared.once.Once.{Once}
+use Rattle.call_stages.specs.declared.once.Once.TheVariants as once
 use Rattle.call_stages.specs.declared.once.Placed.{Placed}
 use Rattle.call_stages.specs.Stages.{Stage, Idle}
 use Rattle.node_ops.specs.declared.finish.FinishAt.{FinishAt}
@@ -34,22 +35,34 @@ party_of entry = record { caller = entry.caller; index = entry.index; since = en
 
 -- It has made no call.
 abbrev pub idle_entry : ℕ → Entry
-idle_entry caller = record { caller = caller; calls = 0; index = 0; since = 0; machine = None }
+idle_entry caller = record { caller = caller; index = 0; since = 0; machine = None }
 
 -- So many of them, each at the place of its number.
 abbrev pub idle_entries : ℕ → List Entry
 idle_entries zero = []
 idle_entries (suc callers) = idle_entries callers ++ idle_entry callers ∷ []
 
--- It begins this call.
+-- It begins this call, under the index that is its next.
 abbrev pub entry_with : Entry → ℕ → Running → Entry
-entry_with entry since machine =
-    record { caller = entry.caller; calls = min (entry.calls + 1) (2 ^ 64 - 1); index = entry.calls; since = since; machine = Some machine }
+entry_with entry since machine = record { caller = entry.caller; index = entry.index; since = since; machine = Some machine }
+
+-- One higher, as far as 64 bits go.
+abbrev pub next_index : ℕ → ℕ
+next_index index = min (index + 1) (2 ^ 64 - 1)
+
+-- The index of a party's next call, once its call of this index is answered: one that is turned back uses up none.
+abbrev pub index_after : ℕ → Once Placed → ℕ
+index_after index (once.Again why) = index
+index_after index _ = next_index index
+
+-- One call more of the party is counted.
+abbrev pub entry_counted : Entry → Entry
+entry_counted entry = record entry { index = next_index entry.index }
 
 -- After its call's turn.
 abbrev pub entry_after : Entry → Turn Running (Once Placed) → Entry
 entry_after entry (Go machine) = record entry { machine = Some machine }
-entry_after entry (Done answer) = record entry { machine = None }
+entry_after entry (Done answer) = record entry { index = index_after entry.index answer; machine = None }
 
 abbrev pub stepped_of : Turn Running (Once Placed) → Stepped
 stepped_of (Go machine) = Going

@@ -1,5 +1,5 @@
 -- A call that is made with no other in flight.
-use Rattle.std.specs.Prelude.{◌≡◌, ℕ, ◌+◌, ◌-◌, ◌≤◌, ◌^◌, min, List, [], ◌++◌, length, slice_set, None, IsSomeAnd}
+use Rattle.std.specs.Prelude.{◌≡◌, ℕ, ◌-◌, ◌≤◌, List, [], ◌++◌, length, slice_set, None, IsSomeAnd}
 use mathlib.Core.Option.{some}
 use lib.ListN.{get_elem?}
 use Rattle.version_lock.specs.declared.TheConstants.{LAST_COUNT}
@@ -21,6 +21,7 @@ use Rattle.index_core.specs.declared.entry.Entry.{Entry}
 use Rattle.index_core.specs.declared.entry.Whole.{Whole}
 use Rattle.index_core.specs.declared.entry.Whole.TheVariants as whole
 use Rattle.index_core.specs.CoreCalls.{op_of, limit_of}
+use Rattle.index_core.specs.Entries.{next_index, entry_counted}
 use Rattle.index_core.specs.Indexes.{Index, map_of_index}
 
 -- No call is in flight.
@@ -67,16 +68,22 @@ whole_of (once.Again why) = whole.Full
 abbrev pub whole_of_reply : CoreReply → Whole
 whole_of_reply (reply.Placed answer) = whole_of answer
 
--- The party once its call is answered.
+-- The party once its whole call is answered. It counts whatever it is answered.
 abbrev pub entry_done : Entry → ℕ → Entry
-entry_done entry since = record { caller = entry.caller; calls = min (entry.calls + 1) (2 ^ 64 - 1); index = entry.calls; since = since; machine = None }
+entry_done entry since = record { caller = entry.caller; index = next_index entry.index; since = since; machine = None }
+
+-- One call more of the party is counted, and nothing else changes.
+pub record CountsCall (old : Index) (party : ℕ) (new : Index) : Type 0 where
+  pub entry : Entry
+  pub there : get_elem? old.entries party ≡ some entry
+  pub is : new ≡ record old { entries = slice_set old.entries party (entry_counted entry) }
 
 -- What a whole call answers and leaves.
 pub record RunsAlone (old : Index) (caller : ℕ) (c : CoreCall) (new : Index) (result : Whole) : Type 0 where
   pub entry : Entry
   pub there : get_elem? old.entries caller ≡ some entry
   pub answer : IsWhole old c result
-  pub history : new.history ≡ old.history ++ placed_writes caller entry.calls c result
+  pub history : new.history ≡ old.history ++ placed_writes caller entry.index c result
   pub entries : new.entries ≡ slice_set old.entries caller (entry_done entry (length old.history))
   pub layout : new.layout ≡ old.layout
   pub generation : new.generation ≡ old.generation

@@ -26,6 +26,7 @@ use Rattle.index_core.specs.declared.entry.Whole.{Whole}
 use Rattle.index_core.specs.declared.entry.Whole.TheVariants as whole
 use Rattle.index_core.specs.Answers.{TookPlace}
 use Rattle.index_core.specs.CoreCalls.{op_of, limit_of}
+use Rattle.index_core.specs.Entries.{next_index, index_after}
 use Rattle.index_core.specs.Indexes.{Index, IsIndex, IsInFlight, Starts, StepsTo}
 use Rattle.index_core.specs.Crashes.{evicted_index}
 use Rattle.index_core.specs.Fresh.{IsFreshIndex}
@@ -34,7 +35,7 @@ use Rattle.index_core.specs.Lone.{IsQuiet, RunsAlone}
 -- A call that was begun.
 pub record BegunCall : Type 0 where
   pub caller : ℕ
-  pub index : ℕ  -- how many calls its caller began before it
+  pub index : ℕ  -- how many of its caller's calls before it were answered other than by being turned back
   pub op : Op
   pub limit : Option ℕ  -- the clock at which it is refused, if there is one
   pub since : ℕ  -- how long the history was as it began
@@ -44,10 +45,11 @@ pub record AnsweredCall : Type 0 where
   pub call : BegunCall
   pub until : ℕ  -- how long the history was as it was answered
   pub answer : Once Placed
+  pub next : ℕ  -- the index of its caller's next call
 
 -- The call that the party begins as the history is so long.
 abbrev pub begun_call : Entry → ℕ → CoreCall → BegunCall
-begun_call entry since call = record { caller = entry.caller; index = entry.calls; op = op_of call; limit = limit_of call; since = since }
+begun_call entry since call = record { caller = entry.caller; index = entry.index; op = op_of call; limit = limit_of call; since = since }
 
 -- The party's call in flight.
 abbrev pub flying_call : Entry → Running → BegunCall
@@ -63,7 +65,8 @@ once_of (whole.Worn node word) = once.Worn node word
 
 -- A schedule of the core from this index to another: calls of the core one after another, each with what its contract
 -- says. The first list has the calls that were begun on the way, in their order, the second those that were answered, in
--- the order of their answers.
+-- the order of their answers. One that a step turned back isn't counted for its caller's next index; a whole call is counted
+-- whatever it is answered.
 pub data Runs (first : Index) : List BegunCall → List AnsweredCall → Index → Type 0 where
   begins : Runs first [] [] first
   starts : {begun : List BegunCall} {calls : List AnsweredCall} {old new : Index} {party : ℕ} {call : CoreCall} → Runs first begun calls old →
@@ -73,11 +76,12 @@ pub data Runs (first : Index) : List BegunCall → List AnsweredCall → Index �
       StepsTo old party new Going → IsIndex new → Runs first begun calls new
   answers : {begun : List BegunCall} {calls : List AnsweredCall} {old new : Index} {party : ℕ} {answer : Once Placed} → Runs first begun calls old →
       (step : StepsTo old party new (Answered (reply.Placed answer))) → IsIndex new →
-      Runs first begun (calls ++ record { call = flying_call step.entry step.machine; until = length new.history; answer = answer } ∷ []) new
+      Runs first begun
+      (calls ++ record { call = flying_call step.entry step.machine; until = length new.history; answer = answer; next = index_after step.entry.index answer } ∷ []) new
   alone : {begun : List BegunCall} {calls : List AnsweredCall} {old new : Index} {caller : ℕ} {call : CoreCall} {result : Whole} →
       Runs first begun calls old → IsQuiet old → (run : RunsAlone old caller call new result) → IsIndex new →
       Runs first (begun ++ begun_call run.entry (length old.history) call ∷ [])
-      (calls ++ record { call = begun_call run.entry (length old.history) call; until = length new.history; answer = once_of result } ∷ []) new
+      (calls ++ record { call = begun_call run.entry (length old.history) call; until = length new.history; answer = once_of result; next = next_index run.entry.index } ∷ []) new
   evicts : {begun : List BegunCall} {calls : List AnsweredCall} {old new : Index} {word : ℕ} → Runs first begun calls old →
       word < image_words old.layout → new ≡ evicted_index old word → IsIndex new → Runs first begun calls new
   reserves : {begun : List BegunCall} {calls : List AnsweredCall} {old new : Index} → Runs first begun calls old →
@@ -106,17 +110,28 @@ pub record IsSpentCall (history : List Write) (c : BegunCall) (ends clock : ℕ)
   pub ended : clock ≤ ends
   pub nowhere : StandsNowhere history c.caller c.index
 
+-- No write of its caller was placed in the call's time.
+abbrev pub WroteNothing : List Write → BegunCall → ℕ → Type 0
+WroteNothing history c until =
+    (place : ℕ) (write : Write) → slice_get history place ≡ Some write → write.caller ≡ c.caller → c.since ≤ place → place < until → ⊥
+
 abbrev pub IsLegalAnswer : Map → List Write → BegunCall → ℕ → Once Placed → Type 0
 IsLegalAnswer base history c until (once.Done placed) = IsPlacedCall base history c until placed
 IsLegalAnswer base history c until (once.Spent clock) = IsSpentCall history c until clock
 IsLegalAnswer base history c until (once.Worn node word) = StandsNowhere history c.caller c.index
-IsLegalAnswer base history c until (once.Again why) = StandsNowhere history c.caller c.index
+IsLegalAnswer base history c until (once.Again why) = WroteNothing history c until
+
+-- The index of its caller's next call is one higher; where a call was turned back, it may be the same.
+abbrev pub IsNext : ℕ → ℕ → Once Placed → Type 0
+IsNext index next (once.Again why) = (next ≡ index) ⊎ (next ≡ index + 1)
+IsNext index next _ = next ≡ index + 1
 
 -- A call that was begun is answered legally.
 pub record IsLegalCall (base : Map) (history : List Write) (begun : List BegunCall) (c : AnsweredCall) : Type 0 where
   pub was_begun : Contains begun c.call
   pub answer : IsLegalAnswer base history c.call c.until c.answer
   pub within : c.until ≤ length history
+  pub next : IsNext c.call.index c.next c.answer
 
 -- The places between which a call took effect, if it did.
 abbrev pub interval_of : Op → Once Placed → Option Interval
@@ -134,7 +149,7 @@ KeepsTime calls = (i j : ℕ) (a b : AnsweredCall) → get_elem? calls i ≡ som
 
 -- A call that was answered before its caller began another.
 pub record Precedes (a b : AnsweredCall) : Type 0 where
-  pub index : a.call.index < b.call.index
+  pub index : a.next ≤ b.call.index
   pub ended : a.until ≤ b.call.since
   pub in_order : TakesEffectBefore a b
 
@@ -146,7 +161,7 @@ KeepsCallersOrder calls = (i j : ℕ) (a b : AnsweredCall) → get_elem? calls i
 -- A call in flight was begun, and before that each answered call of its caller was answered.
 pub record IsLegalInFlight (begun : List BegunCall) (calls : List AnsweredCall) (c : BegunCall) : Type 0 where
   pub was_begun : Contains begun c
-  pub last : (i : ℕ) (a : AnsweredCall) → get_elem? calls i ≡ some a → a.call.caller ≡ c.caller → (a.call.index < c.index) × (a.until ≤ c.since)
+  pub last : (i : ℕ) (a : AnsweredCall) → get_elem? calls i ≡ some a → a.call.caller ≡ c.caller → (a.next ≤ c.index) × (a.until ≤ c.since)
 
 abbrev pub AreLegalInFlight : List BegunCall → List AnsweredCall → List Entry → Type 0
 AreLegalInFlight begun calls entries = (i : ℕ) (entry : Entry) (machine : Running) → get_elem? entries i ≡ some entry →
@@ -211,9 +226,9 @@ pub record IsLegalHistory (base : Map) (begun : List BegunCall) (calls : List An
   pub once : EachWritesOnce s.history
   pub writes : EachWriteIsOfACall calls s.entries s.history
 
--- Even if one caller began all these calls, its count, which has 64 bits, wouldn't come to its end.
+-- Even if one caller began all these calls, its index, which has 64 bits, wouldn't come to its end.
 abbrev pub AreCounted : Index → List BegunCall → Type 0
-AreCounted first begun = (i : ℕ) (entry : Entry) → get_elem? first.entries i ≡ some entry → entry.calls + length begun < 2 ^ 64
+AreCounted first begun = (i : ℕ) (entry : Entry) → get_elem? first.entries i ≡ some entry → entry.index + length begun < 2 ^ 64
 
 -- However the calls were scheduled from an index with no call in flight and no write, their answers are those of one legal
 -- history.

@@ -20,11 +20,10 @@ pub enum CoreCall {
 pub struct Entry {
     /// The party's number.
     pub caller: u64,
-    /// How many calls it has begun.
-    pub calls: u64,
-    /// The index of its call in flight, or of its last one, among its calls.
+    /// The index of its call in flight, or else of its next one: how many of its calls were answered other than by being
+    /// turned back.
     pub index: u64,
-    /// How long the history was as that call began.
+    /// How long the history was as its call in flight, or else its last one, began.
     pub since: u64,
     /// The machine that makes its call in flight.
     pub machine: Option<Running>,
@@ -80,7 +79,7 @@ impl Whole {
 
 impl Entry {
     ghost use Rattle.std.specs.Prelude.{◌≡◌};
-    ghost use Rattle.index_core.specs.Entries.{idle_entry, entry_with, entry_after, stepped_of};
+    ghost use Rattle.index_core.specs.Entries.{idle_entry, entry_with, entry_after, entry_counted, index_after, stepped_of};
 
     /// A party that has made no call.
     pub(crate) fn idle(caller: u64) -> Entry
@@ -88,7 +87,6 @@ impl Entry {
     {
         Entry {
             caller,
-            calls: 0,
             index: 0,
             since: 0,
             machine: None,
@@ -100,10 +98,28 @@ impl Entry {
         ensures { result ≡ entry_with self since machine }
     {
         Entry {
-            calls: self.calls.saturating_add(1),
-            index: self.calls,
             since,
             machine: Some(machine),
+            ..self
+        }
+    }
+
+    /// The index of its next call: one that is turned back uses up none.
+    fn index_after(self, answer: Once<Placed>) -> u64
+        ensures { result ≡ index_after self.index answer }
+    {
+        match answer {
+            Once::Again(_) => self.index,
+            _ => self.index.saturating_add(1),
+        }
+    }
+
+    /// The party with one call counted more.
+    pub(crate) fn counted(self) -> Entry
+        ensures { result ≡ entry_counted self }
+    {
+        Entry {
+            index: self.index.saturating_add(1),
             ..self
         }
     }
@@ -123,6 +139,7 @@ impl Entry {
             ),
             Turn::Done(answer) => (
                 Entry {
+                    index: self.index_after(answer),
                     machine: None,
                     ..self
                 },

@@ -6,7 +6,7 @@ ghost use Rattle.index_core.specs.Indexes.{IsInFlight, IsIndex, Starts, StepsTo}
 ghost use Rattle.index_core.specs.Fresh.{IsFreshIndex};
 ghost use Rattle.pm_words.specs.Places.{image_words};
 ghost use Rattle.index_core.specs.Crashes.{IsCrash, evicted_index};
-ghost use Rattle.index_core.specs.Lone.{IsQuiet, RunsAlone, locks_left};
+ghost use Rattle.index_core.specs.Lone.{CountsCall, IsQuiet, RunsAlone, locks_left};
 
 use crate::crash::{Crashed, Cuts};
 use crate::entry::{CoreCall, Entry, InFlight, Stepped, Whole, idle_entries};
@@ -164,9 +164,26 @@ impl Core {
         };
         'steps: loop {
             if let Stepped::Answered(reply) = self.step(caller, steps) {
-                return Whole::of(reply);
+                let whole = Whole::of(reply);
+                if let Whole::Full = whole {
+                    self.count_call(caller);
+                }
+                return whole;
             }
         }
+    }
+
+    /// Counts a whole call of the party that was turned back by a full node: to its caller it was answered.
+    fn count_call(&mut self, party: u64)
+        requires party { party < self.old.layout.callers }
+        requires quiet { IsQuiet self.old }
+        ensures counts { CountsCall self.old party self.new }
+        ensures spare { self.new.spare ≡ self.old.spare }
+        ensures index { IsIndex self.new }
+    {
+        let at = party as usize;
+        let entry = self.entries[at];
+        self.entries[at] = entry.counted();
     }
 
     /// The writes placed since the base, each at its place.

@@ -10,10 +10,12 @@ ghost use Rattle.index_core.specs.Schedules.{OneLegalHistory, FreshIndexBegins};
 /// - the old number of one that took place is that of its name in the map at its place, which lies between its start and its
 ///   answer, and the history has its change there, if it makes one, and nothing else of it;
 /// - of one caller's calls the one that was answered first took effect first;
-/// - one that was refused or turned back stands nowhere in the history, and the clock that refused it had reached its limit;
+/// - one that was refused stands nowhere in the history, and the clock that refused it had reached its limit;
+/// - while one was made that was turned back, its caller wrote nothing, and the caller's next call has the same index; each
+///   other answer, and each whole call's, makes it one higher;
 /// - each write of the history is that of an answered call at its place, or of a call in flight that has this place.
 ///
-/// Fewer than 2^64 calls are begun, with those that a caller began before. A fresh index is one to begin with.
+/// Fewer than 2^64 calls are begun, with those of a caller that counted before. A fresh index is one to begin with.
 pub fn one_history_law()
     ensures history { OneLegalHistory }
     ensures fresh { FreshIndexBegins }
