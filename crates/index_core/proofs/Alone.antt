@@ -1,5 +1,5 @@
 -- The run of a call that is alone.
-use Rattle.std.proofs.Common.{◌≡◌, ◌≢◌, ℕ, suc, ◌+◌, ◌-◌, ◌<◌, ◌≤◌, ⊎_elim, List, ◌++◌, length, set, slice_set, zero, [], ◌∷◌, refl, sym, ap, ◌∙◌, subst, arith}
+use Rattle.std.proofs.Common.{◌≡◌, ◌≢◌, ℕ, suc, ◌+◌, ◌-◌, ◌<◌, ◌≤◌, ⊎_elim, List, ◌++◌, length, set, slice_set, refl, sym, ap, ◌∙◌, subst, arith}
 use Rattle.std.specs.Prelude.{Option, Some, None}
 use Rattle.std.specs.FinMap.{len}
 use mathlib.Core.Option.{some, none, some-injective}
@@ -48,14 +48,15 @@ use Rattle.index_core.specs.declared.entry.Entry.{Entry}
 use Rattle.index_core.specs.declared.entry.CoreCall.{CoreCall}
 use Rattle.index_core.specs.declared.entry.CoreCall.TheVariants as call
 use Rattle.index_core.specs.declared.entry.CoreReply.{CoreReply}
+use Rattle.index_core.specs.declared.entry.Whole.TheVariants as whole
 use Rattle.index_core.specs.declared.entry.CoreReply.TheVariants as reply
 use Rattle.index_core.specs.declared.entry.Stepped.{Stepped}
 use Rattle.index_core.specs.declared.entry.Stepped.TheVariants.{Going, Answered}
 use Rattle.index_core.specs.CoreCalls.{machine_of, op_of, limit_of, writes_of}
-use Rattle.index_core.specs.Entries.{machine_stage, party_of, entry_with, entry_after, stepped_of}
+use Rattle.index_core.specs.Entries.{machine_stage, party_of, entry_with, entry_after, entry_counted, stepped_of}
 use Rattle.index_core.specs.Indexes.{Index, world, map_of_index, IsIndex, IsInFlight, view_of, Starts, started_index, told, stepped_index, MakesCall, StepsTo}
-use Rattle.index_core.specs.Lone.{IsQuiet, FindsNoRoom, version_word_of, locks_left, IsWhole, RunsAlone, whole_of, whole_of_reply, entry_done}
-use Rattle.index_core.proofs.Lists.{map_from}
+use Rattle.index_core.specs.Lone.{IsQuiet, FindsNoRoom, version_word_of, locks_left, IsWhole, RunsAlone, CountsCall, whole_of, whole_of_reply, entry_done}
+use Rattle.index_core.proofs.Lists.{map_from, set_twice}
 use Rattle.index_core.proofs.Stepping.{machine_idle}
 use Rattle.index_core.proofs.Phases.{Phase, Begun, phase_of, phase_after, Goes, leads}
 use Rattle.index_core.proofs.Lonely.{IsAt, goes_on, no_room, Cause, Ends, ends}
@@ -99,7 +100,7 @@ pub record Lone (s0 s : Index) (i : ℕ) (c : CoreCall) : Type 0 where
   pub base : s.base ≡ s0.base
   pub of : IsOf (op_of c) machine
   pub limit : (running_call machine).limit ≡ limit_of c
-  pub at : IsAt s.layout s.generation (version_word_of s0) s0.history i entry.calls c (version_word_of s) s.history (phase_of machine)
+  pub at : IsAt s.layout s.generation (version_word_of s0) s0.history i entry.index c (version_word_of s) s.history (phase_of machine)
   pub known : generation_of (version_word_of s0) ≤ s.generation
   pub free : IsFree (version_word_of s0) s.generation
   pub index : IsIndex s
@@ -159,7 +160,7 @@ lone_start s0 s i c quiet t spare is =
       base = refl;
       of = t.of;
       limit = begins_limit s0 i c;
-      at = subst (IsAt s0.layout s0.generation (version_word_of s0) s0.history i t.entry.calls c (version_word_of s0) s0.history) (sym (begun s0 i c)) (refl, refl);
+      at = subst (IsAt s0.layout s0.generation (version_word_of s0) s0.history i t.entry.index c (version_word_of s0) s0.history) (sym (begun s0 i c)) (refl, refl);
       known = rest.versions 0 (one_node (started_index s0 i t.entry c s.spare) is');
       free = rest.free 0 (one_node (started_index s0 i t.entry c s.spare) is');
       index = is';
@@ -171,11 +172,6 @@ lone_start s0 s i c quiet t spare is =
     few_writes (call.Get name) = omega arith
     few_writes (call.Del name limit) = omega arith
 
-set_twice : {A : Type 0} → (l : List A) (i : ℕ) (a b : A) → set (set l i a) i b ≡ set l i b
-set_twice [] i a b = refl
-set_twice (y ∷ ys) zero a b = refl
-set_twice (y ∷ ys) (suc i) a b = ap (λ zs. y ∷ zs) (set_twice ys i a b)
-
 pub go_of : (turn : Turn Running (Once Placed)) → stepped_of turn ≡ Going → (next : Running) × (turn ≡ Go next)
 go_of (Go next) is = (next, refl)
 go_of (Done answer) is = absurd (cc)
@@ -184,21 +180,21 @@ pub done_of : (turn : Turn Running (Once Placed)) (answer : Once Placed) → ste
 done_of (Go next) answer is = absurd (cc)
 done_of (Done other) answer is = cc
 
-room_is : (s : Index) (i calls : ℕ) (c : CoreCall) → no_room s.layout s.generation (version_word_of s) s.history i calls c (map_of_index s) c → FindsNoRoom c s
-room_is s i calls (call.Put name value limit) is = is
-room_is s i calls (call.Get name) is = is
-room_is s i calls (call.Del name limit) is = is
+room_is : (s : Index) (i index : ℕ) (c : CoreCall) → no_room s.layout s.generation (version_word_of s) s.history i index c (map_of_index s) c → FindsNoRoom c s
+room_is s i index (call.Put name value limit) is = is
+room_is s i index (call.Get name) is = is
+room_is s i index (call.Del name limit) is = is
 
-room_was : (s : Index) (i calls : ℕ) (c : CoreCall) → FindsNoRoom c s → no_room s.layout s.generation (version_word_of s) s.history i calls c (map_of_index s) c
-room_was s i calls (call.Put name value limit) is = is
-room_was s i calls (call.Get name) is = is
-room_was s i calls (call.Del name limit) is = is
+room_was : (s : Index) (i index : ℕ) (c : CoreCall) → FindsNoRoom c s → no_room s.layout s.generation (version_word_of s) s.history i index c (map_of_index s) c
+room_was s i index (call.Put name value limit) is = is
+room_was s i index (call.Get name) is = is
+room_was s i index (call.Del name limit) is = is
 
-cause_whole : (s : Index) (i calls : ℕ) (c : CoreCall) (answer : Once Placed) → Cause s.layout s.generation (version_word_of s) s.history i calls c (map_of_index s) answer → IsWhole s c (whole_of answer)
-cause_whole s i calls c (once.Worn node word) is = is
-cause_whole s i calls c (once.Spent clock) is = is
-cause_whole s i calls c (once.Again why) is = (is.0, is.1, room_is s i calls c is.2)
-cause_whole s i calls c (once.Done placed) is = (is.0, is.1, (λ none. is.2 (room_was s i calls c none)), is.3, is.4)
+cause_whole : (s : Index) (i index : ℕ) (c : CoreCall) (answer : Once Placed) → Cause s.layout s.generation (version_word_of s) s.history i index c (map_of_index s) answer → IsWhole s c (whole_of answer)
+cause_whole s i index c (once.Worn node word) is = is
+cause_whole s i index c (once.Spent clock) is = is
+cause_whole s i index c (once.Again why) is = (is.0, is.1, room_is s i index c is.2)
+cause_whole s i index c (once.Done placed) is = (is.0, is.1, (λ none. is.2 (room_was s i index c none)), is.3, is.4)
 
 pub lone_flies : (s0 s : Index) (i : ℕ) (c : CoreCall) → Lone s0 s i c → IsInFlight s i
 lone_flies s0 s i c o =
@@ -256,8 +252,8 @@ module _ (s0 s s' : Index) (i : ℕ) (c : CoreCall) (result : Stepped) (o : Lone
   caller_is = (o.index.entries i e at_i).caller
 
   -- the history after the step
-  history_is : s'.history ≡ s.history ++ written i o.entry.calls (counted (stage_of o.machine))
-  history_is = ap (λ (v : Index). v.history) own.is ∙ ap (λ (j : ℕ). s.history ++ written j o.entry.calls (counted (stage_of o.machine))) caller_is
+  history_is : s'.history ≡ s.history ++ written i o.entry.index (counted (stage_of o.machine))
+  history_is = ap (λ (v : Index). v.history) own.is ∙ ap (λ (j : ℕ). s.history ++ written j o.entry.index (counted (stage_of o.machine))) caller_is
 
   version_is : version_word_of s' ≡ version_in s.layout (acted s.layout s.words (running_asks o.machine)) 0
   version_is = ap version_word_of own.is
@@ -270,9 +266,9 @@ module _ (s0 s s' : Index) (i : ℕ) (c : CoreCall) (result : Stepped) (o : Lone
   lone_goes going =
       let go = go_of (running_turned o.machine x) (sym own.comes_to ∙ going) in
       let next = go.0 in
-      let calls = o.entry.calls in
-      let on : IsAt s.layout s.generation (version_word_of s0) s0.history i calls c (version_in s.layout (acted s.layout s.words (running_asks o.machine)) 0) (s.history ++ written i calls (counted (stage_of o.machine))) (phase_after (running_turned o.machine x)) =
-      goes_on s.layout s.generation (version_word_of s0) s0.history i calls c s.words s.history (one_node s o.index) o.index.lawful.clock turn_goes (ap reply_of go.1) refl (counts_own_change (op_of c) o.machine o.of) o.at in
+      let index = o.entry.index in
+      let on : IsAt s.layout s.generation (version_word_of s0) s0.history i index c (version_in s.layout (acted s.layout s.words (running_asks o.machine)) 0) (s.history ++ written i index (counted (stage_of o.machine))) (phase_after (running_turned o.machine x)) =
+      goes_on s.layout s.generation (version_word_of s0) s0.history i index c s.words s.history (one_node s o.index) o.index.lawful.clock turn_goes (ap reply_of go.1) refl (counts_own_change (op_of c) o.machine o.of) o.at in
       let entries = entries_are (Go next) go.1 in
       let there = ap (λ (l : List Entry). get_elem? l i) entries ∙ set_here s0.entries i (entry_with o.entry (length s0.history) next) o.entry o.there in
       let less : running_left next < running_left o.machine = subst (GoesBelow running_left (running_left o.machine)) go.1 own.fewer in
@@ -292,7 +288,7 @@ module _ (s0 s s' : Index) (i : ℕ) (c : CoreCall) (result : Stepped) (o : Lone
           base = ap (λ (v : Index). v.base) own.is ∙ o.base;
           of = subst (IsOfAfter (op_of c)) go.1 (own.keeps_op (op_of c) o.of);
           limit = ap (λ (d : Call). d.limit) (subst (MakesCall (running_call o.machine)) go.1 own.keeps_call) ∙ o.limit;
-          at = subst (λ (q : (Layout × ℕ) × ((ℕ × List Write) × Phase)). IsAt q.0.0 q.0.1 (version_word_of s0) s0.history i calls c q.1.0.0 q.1.0.1 q.1.1)
+          at = subst (λ (q : (Layout × ℕ) × ((ℕ × List Write) × Phase)). IsAt q.0.0 q.0.1 (version_word_of s0) s0.history i index c q.1.0.0 q.1.0.1 q.1.1)
               (λ k. ((sym layout k, sym generation k), ((sym version_is k, sym history_is k), phase_after (go.1 k)))) on;
           known = subst (λ (n : ℕ). generation_of (version_word_of s0) ≤ n) (sym generation) o.known;
           free = subst (IsFree (version_word_of s0)) (sym generation) o.free;
@@ -310,42 +306,72 @@ module _ (s0 s s' : Index) (i : ℕ) (c : CoreCall) (result : Stepped) (o : Lone
       let done = done_of (running_turned o.machine x) answer (sym own.comes_to ∙ answered) in
       let entries = entries_are (Done answer) done in
       ⊎_elim
-      (λ (mine : (j ≡ i) × (entry_done o.entry (length s0.history) ≡ entry)). ap (λ (d : Entry). d.machine) (sym mine.1))
+      (λ (mine : (j ≡ i) × (entry_after e (Done answer) ≡ entry)). ap (λ (d : Entry). d.machine) (sym mine.1))
       (λ (other : (j ≢ i) × (get_elem? s0.entries j ≡ some entry)). o.quiet j entry other.1)
-      (at_set s0.entries i j (entry_done o.entry (length s0.history)) entry (ap (λ (l : List Entry). get_elem? l j) (sym entries) ∙ at))
+      (at_set s0.entries i j (entry_after e (Done answer)) entry (ap (λ (l : List Entry). get_elem? l j) (sym entries) ∙ at))
 
   lone_ends : (answer : Once Placed) → result ≡ Answered (reply.Placed answer)
-      → Ends s0.layout s0.generation (version_word_of s0) s0.history i o.entry.calls c (map_of_index s0) s'.history (version_word_of s') answer
+      → Ends s0.layout s0.generation (version_word_of s0) s0.history i o.entry.index c (map_of_index s0) s'.history (version_word_of s') answer
   lone_ends answer answered =
-      let calls = o.entry.calls in
+      let index = o.entry.index in
       let done = done_of (running_turned o.machine x) answer (sym own.comes_to ∙ answered) in
       let few : len (map_of_index s') ≤ s'.layout.slots = names_in_slots s' is' (lone_quiet answer answered) in
-      let map_is : map_of_index s' ≡ after_all (map_of s.base) (s.history ++ written i calls (counted (stage_of o.machine))) = (λ k. after_all (map_of ((own.is k).base)) (history_is k)) in
+      let map_is : map_of_index s' ≡ after_all (map_of s.base) (s.history ++ written i index (counted (stage_of o.machine))) = (λ k. after_all (map_of ((own.is k).base)) (history_is k)) in
       let slots : s'.layout.slots ≡ s.layout.slots = ap (λ (v : Index). v.layout.slots) own.is in
-      let fits : (m : Map) → m ≡ after_all (map_of s.base) (s.history ++ written i calls (counted (stage_of o.machine))) → len m ≤ s.layout.slots =
+      let fits : (m : Map) → m ≡ after_all (map_of s.base) (s.history ++ written i index (counted (stage_of o.machine))) → len m ≤ s.layout.slots =
       (λ m same. let alike : len m ≡ len (map_of_index s') = ap len (same ∙ sym map_is) in omega (arith, few, slots, alike)) in
-      let legal_here = subst (λ (v : Index). IsLegal v.layout v.generation (facts (world v)) o.entry.caller calls (length s0.history) (stage_of o.machine) (reply_of (running_turned o.machine x))) own.is own.legal in
-      let legal = subst (λ (j : ℕ). IsLegal s.layout s.generation (facts_of s.layout (acted s.layout s.words (running_asks o.machine)) (map_of s.base) (s.history ++ written j calls (counted (stage_of o.machine)))) j calls (length s0.history) (stage_of o.machine) (reply_of (running_turned o.machine x))) caller_is legal_here in
-      let end : Ends s.layout s.generation (version_word_of s0) s0.history i calls c (after_all (map_of s.base) s0.history) (s.history ++ written i calls (counted (stage_of o.machine))) (version_in s.layout (acted s.layout s.words (running_asks o.machine)) 0) answer =
-      ends s.layout s.generation (version_word_of s0) s0.history i calls c s.words s.history (one_node s o.index) o.index.lawful.clock (map_of s.base) (length s0.history) o.known o.free o.index.lawful.row.whole
+      let legal_here = subst (λ (v : Index). IsLegal v.layout v.generation (facts (world v)) o.entry.caller index (length s0.history) (stage_of o.machine) (reply_of (running_turned o.machine x))) own.is own.legal in
+      let legal = subst (λ (j : ℕ). IsLegal s.layout s.generation (facts_of s.layout (acted s.layout s.words (running_asks o.machine)) (map_of s.base) (s.history ++ written j index (counted (stage_of o.machine)))) j index (length s0.history) (stage_of o.machine) (reply_of (running_turned o.machine x))) caller_is legal_here in
+      let end : Ends s.layout s.generation (version_word_of s0) s0.history i index c (after_all (map_of s.base) s0.history) (s.history ++ written i index (counted (stage_of o.machine))) (version_in s.layout (acted s.layout s.words (running_asks o.machine)) 0) answer =
+      ends s.layout s.generation (version_word_of s0) s0.history i index c s.words s.history (one_node s o.index) o.index.lawful.clock (map_of s.base) (length s0.history) o.known o.free o.index.lawful.row.whole
       turn_goes answer (ap reply_of done) refl (holds_own_name (op_of c) o.machine o.of) legal fits o.at in
-      subst (λ (q : (Layout × (ℕ × List Pair)) × (List Write × ℕ)). Ends q.0.0 q.0.1.0 (version_word_of s0) s0.history i calls c (after_all (map_of q.0.1.1) s0.history) q.1.0 q.1.1 answer)
+      subst (λ (q : (Layout × (ℕ × List Pair)) × (List Write × ℕ)). Ends q.0.0 q.0.1.0 (version_word_of s0) s0.history i index c (after_all (map_of q.0.1.1) s0.history) q.1.0 q.1.1 answer)
       (λ k. ((o.layout k, (o.generation k, o.base k)), (sym history_is k, sym version_is k))) end
 
-  lone_runs : (answer : Once Placed) → result ≡ Answered (reply.Placed answer) → RunsAlone s0 i c s' (whole_of answer)
-  lone_runs answer answered =
+  -- where its party is as a whole call leaves it
+  lone_leaves : (answer : Once Placed) → result ≡ Answered (reply.Placed answer) → (entries : List Entry) → entries ≡ slice_set s0.entries i (entry_done o.entry (length s0.history))
+      → RunsAlone s0 i c (record s' { entries = entries }) (whole_of answer)
+  lone_leaves answer answered entries are =
       let end = lone_ends answer answered in
-      let done = done_of (running_turned o.machine x) answer (sym own.comes_to ∙ answered) in
       record {
         entry = o.entry;
         there = o.there;
-        answer = cause_whole s0 i o.entry.calls c answer end.cause;
+        answer = cause_whole s0 i o.entry.index c answer end.cause;
         history = end.history;
-        entries = entries_are (Done answer) done;
+        entries = are;
         layout = ap (λ (v : Index). v.layout) own.is ∙ o.layout;
         generation = ap (λ (v : Index). v.generation) own.is ∙ o.generation;
         base = ap (λ (v : Index). v.base) own.is ∙ o.base;
       }
+
+  -- the step itself counts the call unless it was turned back
+  step_counts : (answer : Once Placed) → (whole_of answer ≡ whole.Full → ⊥) → entry_after e (Done answer) ≡ entry_done o.entry (length s0.history)
+  step_counts (once.Done placed) other = refl
+  step_counts (once.Spent clock) other = refl
+  step_counts (once.Worn node word) other = refl
+  step_counts (once.Again why) other = absurd (other refl)
+
+  lone_runs : (answer : Once Placed) → result ≡ Answered (reply.Placed answer) → (whole_of answer ≡ whole.Full → ⊥) → RunsAlone s0 i c s' (whole_of answer)
+  lone_runs answer answered other =
+      let done = done_of (running_turned o.machine x) answer (sym own.comes_to ∙ answered) in
+      lone_leaves answer answered s'.entries (entries_are (Done answer) done ∙ ap (slice_set s0.entries i) (step_counts answer other))
+
+  -- and one that was turned back is counted then
+  full_counts : (answer : Once Placed) → whole_of answer ≡ whole.Full → entry_counted (entry_after e (Done answer)) ≡ entry_done o.entry (length s0.history)
+  full_counts (once.Done placed) full = absurd cc
+  full_counts (once.Spent clock) full = absurd cc
+  full_counts (once.Worn node word) full = absurd cc
+  full_counts (once.Again why) full = refl
+
+  full_runs : (answer : Once Placed) → result ≡ Answered (reply.Placed answer) → whole_of answer ≡ whole.Full → (new : Index) → CountsCall s' i new → RunsAlone s0 i c new (whole_of answer)
+  full_runs answer answered full new t =
+      let done = done_of (running_turned o.machine x) answer (sym own.comes_to ∙ answered) in
+      let entries = entries_are (Done answer) done in
+      let here = ap (λ (l : List Entry). get_elem? l i) entries ∙ set_here s0.entries i (entry_after e (Done answer)) o.entry o.there in
+      let entry : t.entry ≡ entry_after e (Done answer) = some-injective _ _ (sym t.there ∙ here) in
+      subst (λ (v : Index). RunsAlone s0 i c v (whole_of answer)) (sym t.is)
+      (lone_leaves answer answered (slice_set s'.entries i (entry_counted t.entry))
+      ((λ k. set (entries k) i (entry_counted (entry k))) ∙ set_twice s0.entries i (entry_after e (Done answer)) (entry_counted (entry_after e (Done answer))) ∙ ap (slice_set s0.entries i) (full_counts answer full)))
 
   lone_locks : (answer : Once Placed) → result ≡ Answered (reply.Placed answer) → locks_left s0 ≤ locks_left s' + 1
   lone_locks answer answered =
@@ -354,11 +380,21 @@ module _ (s0 s s' : Index) (i : ℕ) (c : CoreCall) (result : Stepped) (o : Lone
       subst (λ (g : ℕ). locks_left s0 ≤ (LAST_COUNT - kept_count (version_word_of s') g) + 1) (sym generation) end.locks
 
   -- the same of the answer as a step tells it
-  pub reply_runs : (r : CoreReply) → result ≡ Answered r → RunsAlone s0 i c s' (whole_of_reply r)
-  reply_runs (reply.Placed answer) answered = lone_runs answer answered
+  pub reply_runs : (r : CoreReply) → result ≡ Answered r → (whole_of_reply r ≡ whole.Full → ⊥) → RunsAlone s0 i c s' (whole_of_reply r)
+  reply_runs (reply.Placed answer) answered other = lone_runs answer answered other
+
+  pub reply_full_runs : (r : CoreReply) → result ≡ Answered r → whole_of_reply r ≡ whole.Full → (new : Index) → CountsCall s' i new → RunsAlone s0 i c new (whole_of_reply r)
+  reply_full_runs (reply.Placed answer) answered full new t = full_runs answer answered full new t
 
   pub reply_quiet : (r : CoreReply) → result ≡ Answered r → IsQuiet s'
   reply_quiet (reply.Placed answer) answered = lone_quiet answer answered
 
   pub reply_locks : (r : CoreReply) → result ≡ Answered r → locks_left s0 ≤ locks_left s' + 1
   reply_locks (reply.Placed answer) answered = lone_locks answer answered
+
+-- to count a call of a quiet index is no call in flight
+pub count_quiet : (s : Index) (i : ℕ) (new : Index) → IsQuiet s → CountsCall s i new → IsQuiet new
+count_quiet s i new quiet t = subst IsQuiet (sym t.is) (λ j entry at. ⊎_elim
+    (λ (mine : (j ≡ i) × (entry_counted t.entry ≡ entry)). ap (λ (d : Entry). d.machine) (sym mine.1) ∙ quiet i t.entry t.there)
+    (λ (other : (j ≢ i) × (get_elem? s.entries j ≡ some entry)). quiet j entry other.1)
+    (at_set s.entries i j (entry_counted t.entry) entry at))

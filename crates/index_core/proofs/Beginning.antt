@@ -1,6 +1,6 @@
 -- What holds along a schedule stays with a start, and with a whole call that is alone.
-use Rattle.std.proofs.Common.{◌≡◌, ◌≢◌, ℕ, ◌+◌, ◌-◌, ◌<◌, ◌≤◌, ◌^◌, ◌⊎◌, inl, inr, ⊎_elim, List, [], ◌∷◌, ◌++◌, length, set, slice_set, refl, sym, ap, ◌∙◌, subst, arith}
-use Rattle.std.specs.Prelude.{Option, Some, None, IfSome, IsSomeAnd, Contains, slice_get, min}
+use Rattle.std.proofs.Common.{◌≡◌, ◌≢◌, ℕ, ◌+◌, ◌<◌, ◌≤◌, ◌⊎◌, inl, inr, ⊎_elim, List, [], ◌∷◌, ◌++◌, length, set, slice_set, refl, sym, ap, ◌∙◌, subst, arith}
+use Rattle.std.specs.Prelude.{Option, Some, None, IfSome, IsSomeAnd, Contains, slice_get}
 use Rattle.std.proofs.lemmas.List.{append-nil, length-append}
 use Rattle.std.proofs.lemmas.List.Elements.{Contains-push, Contains-append_left, Contains-append_cases}
 use Rattle.std.proofs.Math.Nat.{min-eq_left}
@@ -30,15 +30,15 @@ use Rattle.index_core.specs.declared.entry.Whole.{Whole}
 use Rattle.index_core.specs.declared.entry.Whole.TheVariants as whole
 use Rattle.index_core.specs.Answers.{TookPlace}
 use Rattle.index_core.specs.CoreCalls.{machine_of, op_of, limit_of}
-use Rattle.index_core.specs.Entries.{entry_with}
+use Rattle.index_core.specs.Entries.{entry_with, next_index}
 use Rattle.index_core.specs.Indexes.{Index, IsIndex, map_of_index, view_of, started_index}
 use Rattle.index_core.specs.Lone.{IsQuiet, IsWhole, placed_writes, entry_done}
-use Rattle.index_core.specs.Schedules.{BegunCall, AnsweredCall, begun_call, flying_call, once_of, IsAnswered, IsFlying, IsAnsweredWrite, IsWriteInFlight, AreCounted}
+use Rattle.index_core.specs.Schedules.{BegunCall, AnsweredCall, begun_call, flying_call, once_of, IsNext, IsAnswered, IsFlying, IsAnsweredWrite, IsWriteInFlight, AreCounted}
 use Rattle.index_core.proofs.Alone.{begins_limit}
 use Rattle.index_core.proofs.Lists.{within, at_end, end_there, some_same, got_end, sole}
 use Rattle.index_core.proofs.Phases.{phase_of}
 use Rattle.index_core.proofs.Places.{IsOverOnly}
-use Rattle.index_core.proofs.Scheduling.{IsEarlier, AnswerHolds, CallHolds, CountsUpTo, Kept, longer_call, else_there}
+use Rattle.index_core.proofs.Scheduling.{IsEarlier, AnswerHolds, CallHolds, in_flight, CountsUpTo, Kept, longer_call, else_there}
 
 begins_over : (s : Index) (i : ℕ) (c : CoreCall) → IsOverOnly (running_call (machine_of (view_of s i) c)).limit (phase_of (machine_of (view_of s i) c))
 begins_over s i (call.Put name value limit) = tt
@@ -57,8 +57,8 @@ module _ (first : Index) (begun : List BegunCall) (calls : List AnsweredCall) (s
     longer : length more ≡ length begun + 1
     longer = length-append begun (b ∷ [])
 
-    -- its count isn't at the end
-    went_up : min (e.calls + 1) (2 ^ 64 - 1) ≡ e.calls + 1
+    -- its index isn't at the end
+    went_up : next_index e.index ≡ e.index + 1
     went_up =
         let counts = k.counts i e there in
         let most = counts.most in
@@ -66,16 +66,14 @@ module _ (first : Index) (begun : List BegunCall) (calls : List AnsweredCall) (s
         let long = longer in
         min-eq_left (omega arith)
 
-    counts_more : (now : Entry) → now.calls ≡ min (e.calls + 1) (2 ^ 64 - 1) → (p : ℕ) (entry : Entry) → get_elem? (set s.entries i now) p ≡ some entry → CountsUpTo first more p entry
-    counts_more now calls_is p entry at_p =
+    counts_more : (now : Entry) → now.index + in_flight now.machine ≤ e.index + 1 → (p : ℕ) (entry : Entry) → get_elem? (set s.entries i now) p ≡ some entry → CountsUpTo first more p entry
+    counts_more now one_more p entry at_p =
         let long = longer in
         ⊎_elim
         (λ (mine : (p ≡ i) × (now ≡ entry)).
         let counts = k.counts i e there in
         let most = counts.most in
-        let up = went_up in
-        let same = ap (λ (d : Entry). d.calls) (sym mine.1) ∙ calls_is in
-        record { was = counts.was; there = ap (get_elem? first.entries) mine.0 ∙ counts.there; most = omega arith })
+        subst (CountsUpTo first more p) mine.1 (record { was = counts.was; there = ap (get_elem? first.entries) mine.0 ∙ counts.there; most = omega arith }))
         (λ (other : (p ≢ i) × (get_elem? s.entries p ≡ some entry)).
         let counts = k.counts p entry other.1 in
         let most = counts.most in
@@ -90,7 +88,7 @@ module _ (first : Index) (begun : List BegunCall) (calls : List AnsweredCall) (s
       now = entry_with e (length s.history) m
 
       now_flies : flying_call now m ≡ b
-      now_flies = λ t. record { caller = e.caller; index = e.calls; op = op_told (op_of c) m of t; limit = begins_limit s i c t; since = length s.history }
+      now_flies = λ t. record { caller = e.caller; index = e.index; op = op_told (op_of c) m of t; limit = begins_limit s i c t; since = length s.history }
 
       pub kept_start : IsIndex (started_index s i e c n) → Kept first more calls (started_index s i e c n)
       kept_start index = record {
@@ -100,20 +98,18 @@ module _ (first : Index) (begun : List BegunCall) (calls : List AnsweredCall) (s
         order = k.order;
         earlier = λ j a p entry at at_p caller. ⊎_elim
             (λ (mine : (p ≡ i) × (now ≡ entry)).
-            let before : a.call.index < e.calls = subst (IsEarlier a e) idle (k.earlier j a i e at there (caller ∙ mine.0)) in
+            let before : a.next ≤ e.index = subst (IsEarlier a e) idle (k.earlier j a i e at there (caller ∙ mine.0)) in
             subst (λ (d : Entry). IsEarlier a d d.machine) mine.1 (before, (k.holds j a at).1))
             (λ (other : (p ≢ i) × (get_elem? s.entries p ≡ some entry)). k.earlier j a p entry at other.1 caller)
             (at_set s.entries i p now entry at_p);
         flying = λ p entry machine at_p flown. ⊎_elim
             (λ (mine : (p ≡ i) × (now ≡ entry)).
             let machine_is : m ≡ machine = some_same (ap (λ (d : Entry). d.machine) mine.1 ∙ flown) in
-            let up = went_up in
-            let less : e.calls < now.calls = omega arith in
-            subst (λ (q : Entry × Running). (q.0.index < q.0.calls) × IsOverOnly (running_call q.1).limit (phase_of q.1) × Contains more (flying_call q.0 q.1)) (λ t. (mine.1 t, machine_is t))
-            (less, begins_over s i c, subst (Contains more) (sym now_flies) (Contains-push begun b)))
+            subst (λ (q : Entry × Running). IsOverOnly (running_call q.1).limit (phase_of q.1) × Contains more (flying_call q.0 q.1)) (λ t. (mine.1 t, machine_is t))
+            (begins_over s i c, subst (Contains more) (sym now_flies) (Contains-push begun b)))
             (λ (other : (p ≢ i) × (get_elem? s.entries p ≡ some entry)).
             let was = k.flying p entry machine other.1 flown in
-            (was.0, was.1, Contains-append_left begun (b ∷ []) (flying_call entry machine) was.2))
+            (was.0, Contains-append_left begun (b ∷ []) (flying_call entry machine) was.1))
             (at_set s.entries i p now entry at_p);
         writes = λ place write stands. ⊎_elim
             (λ (w : IsAnsweredWrite calls place write). inl w)
@@ -130,6 +126,7 @@ module _ (first : Index) (begun : List BegunCall) (calls : List AnsweredCall) (s
             }))
             (k.writes place write stands);
         was_begun = λ j a at. Contains-append_left begun (b ∷ []) a.call (k.was_begun j a at);
+        next = k.next;
         each_call = λ a has. ⊎_elim
             (λ (old : Contains begun a). ⊎_elim
             (λ (w : IsAnswered calls a). inl w)
@@ -144,7 +141,7 @@ module _ (first : Index) (begun : List BegunCall) (calls : List AnsweredCall) (s
             (k.each_call a old))
             (λ (last : Contains (b ∷ []) a). inr (record { party = i; entry = now; machine = m; there = set_here s.entries i now e there; flies = refl; is = now_flies ∙ sole b a last }))
             (Contains-append_cases begun (b ∷ []) a has);
-        counts = counts_more now refl;
+        counts = counts_more now (omega arith);
       }
         where
           -- no call is in flight there
@@ -160,10 +157,10 @@ module _ (first : Index) (begun : List BegunCall) (calls : List AnsweredCall) (s
       base = map_of first.base
 
       abbrev history : List Write
-      history = s.history ++ placed_writes e.caller e.calls c result
+      history = s.history ++ placed_writes e.caller e.index c result
 
       abbrev a : AnsweredCall
-      a = record { call = b; until = length history; answer = once_of result }
+      a = record { call = b; until = length history; answer = once_of result; next = next_index e.index }
 
       abbrev done : Entry
       done = entry_done e (length s.history)
@@ -174,15 +171,15 @@ module _ (first : Index) (begun : List BegunCall) (calls : List AnsweredCall) (s
 
       -- it took place at the end of the history
       took : (o : Op) (placed : Placed) → placed.old ≡ at (map_of_index s) (name_asked o) → placed.place ≡ length s.history
-          → TookPlace base (s.history ++ written e.caller e.calls (change_of o)) e.caller e.calls (length s.history) o placed
-          × IfSome (change_of o) (λ c. slice_get (s.history ++ written e.caller e.calls (change_of o)) placed.place ≡ Some (record { caller = e.caller; index = e.calls; change = c }))
+          → TookPlace base (s.history ++ written e.caller e.index (change_of o)) e.caller e.index (length s.history) o placed
+          × IfSome (change_of o) (λ c. slice_get (s.history ++ written e.caller e.index (change_of o)) placed.place ≡ Some (record { caller = e.caller; index = e.index; change = c }))
       took (op.Get name) placed old last =
           let long = length-append s.history [] in (
             record { later = omega arith; within = omega arith; old = old ∙ ap (λ (m : Map). at m name) (sym (map_is [] placed.place last)); write = tt },
             tt,
           )
       took (op.Put name value) placed old last =
-          let w : Write = record { caller = e.caller; index = e.calls; change = change.Put name value } in
+          let w : Write = record { caller = e.caller; index = e.index; change = change.Put name value } in
           let long = length-append s.history (w ∷ []) in
           let stands : slice_get (s.history ++ w ∷ []) placed.place ≡ Some w = ap (slice_get (s.history ++ w ∷ [])) last ∙ slice_get-last s.history w in (
             record {
@@ -194,7 +191,7 @@ module _ (first : Index) (begun : List BegunCall) (calls : List AnsweredCall) (s
             stands,
           )
       took (op.Del name) placed old last =
-          let w : Write = record { caller = e.caller; index = e.calls; change = change.Del name } in
+          let w : Write = record { caller = e.caller; index = e.index; change = change.Del name } in
           let long = length-append s.history (w ∷ []) in
           let stands : slice_get (s.history ++ w ∷ []) placed.place ≡ Some w = ap (slice_get (s.history ++ w ∷ [])) last ∙ slice_get-last s.history w in (
             record {
@@ -206,7 +203,7 @@ module _ (first : Index) (begun : List BegunCall) (calls : List AnsweredCall) (s
             stands,
           )
 
-      tells : (r : Whole) → IsWhole s c r → AnswerHolds base (s.history ++ placed_writes e.caller e.calls c r) b (length (s.history ++ placed_writes e.caller e.calls c r)) (once_of r)
+      tells : (r : Whole) → IsWhole s c r → AnswerHolds base (s.history ++ placed_writes e.caller e.index c r) b (length (s.history ++ placed_writes e.caller e.index c r)) (once_of r)
       tells (whole.Placed placed) why = let both = took (op_of c) placed why.3 why.4 in (both.0, both.0.within, both.1)
       tells whole.Full why = tt
       tells (whole.Spent clock) why =
@@ -216,36 +213,43 @@ module _ (first : Index) (begun : List BegunCall) (calls : List AnsweredCall) (s
       tells (whole.Worn node word) why = tt
 
       -- its write is the last
-      last_write : (r : Whole) → IsWhole s c r → (place : ℕ) (write : Write) → slice_get (s.history ++ placed_writes e.caller e.calls c r) place ≡ Some write
-          → (slice_get s.history place ≡ Some write) ⊎ ((placed : Placed) × (once_of r ≡ once.Done placed) × (placed.place ≡ place) × (write.caller ≡ e.caller) × (write.index ≡ e.calls) × (change_of (op_of c) ≡ Some write.change))
+      last_write : (r : Whole) → IsWhole s c r → (place : ℕ) (write : Write) → slice_get (s.history ++ placed_writes e.caller e.index c r) place ≡ Some write
+          → (slice_get s.history place ≡ Some write) ⊎ ((placed : Placed) × (once_of r ≡ once.Done placed) × (placed.place ≡ place) × (write.caller ≡ e.caller) × (write.index ≡ e.index) × (change_of (op_of c) ≡ Some write.change))
       last_write (whole.Placed placed) why place write stands = at (change_of (op_of c)) refl stands
         where
-          at : (o : Option Change) → change_of (op_of c) ≡ o → slice_get (s.history ++ written e.caller e.calls o) place ≡ Some write
-              → (slice_get s.history place ≡ Some write) ⊎ ((q : Placed) × (once_of (whole.Placed placed) ≡ once.Done q) × (q.place ≡ place) × (write.caller ≡ e.caller) × (write.index ≡ e.calls) × (change_of (op_of c) ≡ Some write.change))
+          at : (o : Option Change) → change_of (op_of c) ≡ o → slice_get (s.history ++ written e.caller e.index o) place ≡ Some write
+              → (slice_get s.history place ≡ Some write) ⊎ ((q : Placed) × (once_of (whole.Placed placed) ≡ once.Done q) × (q.place ≡ place) × (write.caller ≡ e.caller) × (write.index ≡ e.index) × (change_of (op_of c) ≡ Some write.change))
           at None asks stands = inl (subst (λ (h : List Write). slice_get h place ≡ Some write) (append-nil s.history) stands)
           at (Some change) asks stands =
               ⊎_elim
               (λ (before : slice_get s.history place ≡ Some write). inl before)
-              (λ (last : (place ≡ length s.history) × (record { caller = e.caller; index = e.calls; change = change } ≡ write)).
+              (λ (last : (place ≡ length s.history) × (record { caller = e.caller; index = e.index; change = change } ≡ write)).
               inr (placed, refl, why.4 ∙ sym last.0, ap (λ (w : Write). w.caller) (sym last.1), ap (λ (w : Write). w.index) (sym last.1), asks ∙ ap (λ (w : Write). Some w.change) last.1))
-              (got_end s.history (record { caller = e.caller; index = e.calls; change = change }) write place stands)
+              (got_end s.history (record { caller = e.caller; index = e.index; change = change }) write place stands)
       last_write whole.Full why place write stands = inl (subst (λ (h : List Write). slice_get h place ≡ Some write) (append-nil s.history) stands)
       last_write (whole.Spent clock) why place write stands = inl (subst (λ (h : List Write). slice_get h place ≡ Some write) (append-nil s.history) stands)
       last_write (whole.Worn node word) why place write stands = inl (subst (λ (h : List Write). slice_get h place ≡ Some write) (append-nil s.history) stands)
 
-      before_it : (j : ℕ) (d : AnsweredCall) → get_elem? calls j ≡ some d → d.call.caller ≡ i → d.call.index < e.calls
+      -- it counts whatever it is answered
+      next_alone : (r : Whole) → IsNext e.index (next_index e.index) (once_of r)
+      next_alone (whole.Placed placed) = went_up
+      next_alone whole.Full = inr went_up
+      next_alone (whole.Spent clock) = went_up
+      next_alone (whole.Worn node word) = went_up
+
+      before_it : (j : ℕ) (d : AnsweredCall) → get_elem? calls j ≡ some d → d.call.caller ≡ i → d.next ≤ e.index
       before_it j d at caller = subst (IsEarlier d e) idle (k.earlier j d i e at there caller)
 
       caller_is : e.caller ≡ i
       caller_is = (k.index.entries i e there).caller
 
-      ordered : (p q : ℕ) (u v : AnsweredCall) → get_elem? (calls ++ a ∷ []) p ≡ some u → get_elem? (calls ++ a ∷ []) q ≡ some v → p < q → u.call.caller ≡ v.call.caller → (u.call.index < v.call.index) × (u.until ≤ v.call.since)
+      ordered : (p q : ℕ) (u v : AnsweredCall) → get_elem? (calls ++ a ∷ []) p ≡ some u → get_elem? (calls ++ a ∷ []) q ≡ some v → p < q → u.call.caller ≡ v.call.caller → (u.next ≤ v.call.index) × (u.until ≤ v.call.since)
       ordered p q u v at_p at_q less caller =
           ⊎_elim
           (λ (one : get_elem? calls p ≡ some u). ⊎_elim
           (λ (two : get_elem? calls q ≡ some v). k.order p q u v one two less caller)
           (λ (two : (q ≡ length calls) × (a ≡ v)).
-          subst (λ (d : AnsweredCall). (u.call.index < d.call.index) × (u.until ≤ d.call.since)) two.1
+          subst (λ (d : AnsweredCall). (u.next ≤ d.call.index) × (u.until ≤ d.call.since)) two.1
           (before_it p u one (caller ∙ ap (λ (d : AnsweredCall). d.call.caller) (sym two.1) ∙ caller_is), (k.holds p u one).1))
           (at_end calls a v q at_q))
           (λ (one : (p ≡ length calls) × (a ≡ u)). absurd (
@@ -263,7 +267,7 @@ module _ (first : Index) (begun : List BegunCall) (calls : List AnsweredCall) (s
         index = index;
         base_is = k.base_is;
         holds = λ j d at. ⊎_elim
-            (λ (old : get_elem? calls j ≡ some d). longer_call base s.history (placed_writes e.caller e.calls c result) d (k.holds j d old))
+            (λ (old : get_elem? calls j ≡ some d). longer_call base s.history (placed_writes e.caller e.index c result) d (k.holds j d old))
             (λ (last : (j ≡ length calls) × (a ≡ d)). subst (CallHolds base history) last.1 (tells result is, omega arith))
             (at_end calls a d j at);
         order = ordered;
@@ -271,10 +275,10 @@ module _ (first : Index) (begun : List BegunCall) (calls : List AnsweredCall) (s
             (λ (mine : (p ≡ i) × (done ≡ entry)). let up = went_up in ⊎_elim
             (λ (old : get_elem? calls j ≡ some d).
             let before = before_it j d old (caller ∙ mine.0) in
-            let less : d.call.index < done.calls = omega arith in
+            let less : d.next ≤ done.index = omega arith in
             subst (λ (q : Entry). IsEarlier d q q.machine) mine.1 less)
             (λ (last : (j ≡ length calls) × (a ≡ d)).
-            let less : e.calls < done.calls = omega arith in
+            let less : a.next ≤ done.index = omega arith in
             subst (λ (q : Entry × AnsweredCall). IsEarlier q.1 q.0 q.0.machine) (λ t. (mine.1 t, last.1 t)) less)
             (at_end calls a d j at))
             (λ (other : (p ≢ i) × (get_elem? s.entries p ≡ some entry)). ⊎_elim
@@ -317,6 +321,10 @@ module _ (first : Index) (begun : List BegunCall) (calls : List AnsweredCall) (s
             (λ (old : get_elem? calls j ≡ some d). Contains-append_left begun (b ∷ []) d.call (k.was_begun j d old))
             (λ (last : (j ≡ length calls) × (a ≡ d)). subst (λ (q : AnsweredCall). Contains more q.call) last.1 (Contains-push begun b))
             (at_end calls a d j at);
+        next = λ j d at. ⊎_elim
+            (λ (old : get_elem? calls j ≡ some d). k.next j d old)
+            (λ (last : (j ≡ length calls) × (a ≡ d)). subst (λ (q : AnsweredCall). IsNext q.call.index q.next q.answer) last.1 (next_alone result))
+            (at_end calls a d j at);
         each_call = λ d has. inl (⊎_elim
             (λ (old : Contains begun d). ⊎_elim
             (λ (w : IsAnswered calls d). record { number = w.number; answered = w.answered; there = at_longer calls (a ∷ []) w.number w.answered w.there; is = w.is })
@@ -324,7 +332,7 @@ module _ (first : Index) (begun : List BegunCall) (calls : List AnsweredCall) (s
             (k.each_call d old))
             (λ (last : Contains (b ∷ []) d). record { number = length calls; answered = a; there = end_there calls a; is = sole b d last })
             (Contains-append_cases begun (b ∷ []) d has));
-        counts = counts_more done refl;
+        counts = counts_more done (let up = went_up in omega arith);
       }
         where
           none_flies : (p : ℕ) (entry : Entry) (machine : Running) → get_elem? s.entries p ≡ some entry → entry.machine ≡ Some machine → ⊥

@@ -1,5 +1,5 @@
 -- What an eviction keeps, and what a crash leaves of a lawful index.
-use Rattle.std.proofs.Common.{◌≡◌, ℕ, zero, suc, ◌<◌, List, [], ◌∷◌, refl, sym, ap, ◌∙◌, subst, arith}
+use Rattle.std.proofs.Common.{◌≡◌, ℕ, zero, suc, ◌<◌, ◌≤◌, List, [], ◌∷◌, refl, sym, ap, ◌∙◌, subst, arith}
 use Rattle.std.specs.Prelude.{Option, Some, None, IfSome, Contains}
 use Rattle.std.proofs.lemmas.List.Elements.{Contains-append_left, Contains-append_right}
 use mathlib.Core.Option.{some, some-injective, some-ne-none}
@@ -15,7 +15,7 @@ use Rattle.node_ops.specs.RunningSteps.{IsRunning, Sound}
 use Rattle.node_ops.specs.CallStages.{stage_of}
 use Rattle.node_ops.proofs.OpLaw.{pends_own_change, holds_own_name}
 use Rattle.index_law.specs.Worlds.{Party, facts}
-use Rattle.index_law.specs.Lawful.{Sure, IsPlaced, HasWriteAt}
+use Rattle.index_law.specs.Lawful.{Sure, IsPlaced}
 use Rattle.index_law.specs.Laws.{HasPending}
 use Rattle.index_law.proofs.Crashes.{crash_law}
 use Rattle.index_law.proofs.Evictions.{evict_law}
@@ -64,20 +64,24 @@ pending_cut (Some machine) change of told =
     let own = pends_own_change (op_in machine) machine change of told in
     (λ k. unplaced (own.1 k) (own.0 k))
 
--- a call that has its place stands there
-placed_stands : (s : Index) → IsIndex s → (i place : ℕ) (entry : Entry) (machine : Running) → get_elem? s.entries i ≡ some entry → entry.machine ≡ Some machine
-    → placed_in (stage_of machine) ≡ Some place → HasWriteAt s.history entry.caller entry.index (name_asked (op_in machine)) place
-placed_stands s is i place entry machine there flies told =
+-- a call that has its place stands there, and got it after its start
+placed_since : (s : Index) → IsIndex s → (i place : ℕ) (entry : Entry) (machine : Running) → get_elem? s.entries i ≡ some entry → entry.machine ≡ Some machine
+    → placed_in (stage_of machine) ≡ Some place → IsPlaced s.history entry.caller entry.index entry.since (name_asked (op_in machine)) place
+placed_since s is i place entry machine there flies told =
     at (stage_of machine) (subst (Sure s.layout s.generation (facts (world s)) entry.caller entry.index entry.since) (ap machine_stage flies) (is.lawful.sure i (party_of entry) (map_there party_of s.entries i entry there)))
     (holds_own_name (op_in machine) machine (subst (λ (o : Option Running). IfSome o (λ m. IsOf (op_in m) m)) flies (is.entries i entry there).op)) told
   where
     at : (stage : Stage) → Sure s.layout s.generation (facts (world s)) entry.caller entry.index entry.since stage → IsAbout (name_asked (op_in machine)) stage → placed_in stage ≡ Some place
-        → HasWriteAt s.history entry.caller entry.index (name_asked (op_in machine)) place
+        → IsPlaced s.history entry.caller entry.index entry.since (name_asked (op_in machine)) place
     at Idle sure about told = absurd cc
     at (Saw n v w) sure about told = absurd cc
     at (Holds n w h) sure about told =
-        subst (λ (name : List ℕ). HasWriteAt s.history entry.caller entry.index name place) about
-        (subst (λ (o : Option ℕ). IfSome o (IsPlaced s.history entry.caller entry.index entry.since h.name)) told sure.placed).write
+        subst (λ (name : List ℕ). IsPlaced s.history entry.caller entry.index entry.since name place) about
+        (subst (λ (o : Option ℕ). IfSome o (IsPlaced s.history entry.caller entry.index entry.since h.name)) told sure.placed)
+
+pub placed_later : (s : Index) → IsIndex s → (i place : ℕ) (entry : Entry) (machine : Running) → get_elem? s.entries i ≡ some entry → entry.machine ≡ Some machine
+    → placed_in (stage_of machine) ≡ Some place → entry.since ≤ place
+placed_later s is i place entry machine there flies told = (placed_since s is i place entry machine there flies told).later
 
 -- each pending change is among those that are cut off
 pending_there : (s : Index) → IsIndex s → (change : Change) → HasPending (world s).parties change → Contains (cut_changes s.entries) change
@@ -96,5 +100,5 @@ crash_is s image cuts is leaves cut_off =
       end = law.end;
       keeps = law.keeps;
       ends = law.ends (cut_changes s.entries) (pending_there s is);
-      placed = placed_stands s is;
+      placed = λ i place entry machine there flies told. (placed_since s is i place entry machine there flies told).write;
     }

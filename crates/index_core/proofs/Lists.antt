@@ -62,6 +62,12 @@ module _ {A : Type 0} where
       at zero less is = is
       at (suc n) less is = absurd (omega arith)
 
+  -- what is put there last stays
+  pub set_twice : (l : List A) (i : ℕ) (a b : A) → set (set l i a) i b ≡ set l i b
+  set_twice [] i a b = refl
+  set_twice (x ∷ xs) zero a b = refl
+  set_twice (x ∷ xs) (suc i) a b = ap (λ ys. x ∷ ys) (set_twice xs i a b)
+
 module _ {A B : Type 0} (f : A → B) where
   pub map_there : (l : List A) (i : ℕ) (a : A) → get_elem? l i ≡ some a → get_elem? (map f l) i ≡ some (f a)
   map_there [] i a e = absurd (some-ne-none a (sym e))

@@ -68,10 +68,10 @@ unreached (Some most) clock e is = let yes : nat_le most clock ≡ true = le-leb
 answer_is : {r s : Once Placed} → Some r ≡ Some s → r ≡ s
 answer_is e = cc
 
-unwritten : (h : List Write) (i calls : ℕ) (o : Option Change) → o ≡ None → h ++ written i calls o ≡ h
-unwritten h i calls o none = ap (λ (p : Option Change). h ++ written i calls p) none ∙ append-nil h
+unwritten : (h : List Write) (i index : ℕ) (o : Option Change) → o ≡ None → h ++ written i index o ≡ h
+unwritten h i index o none = ap (λ (p : Option Change). h ++ written i index p) none ∙ append-nil h
 
-module _ (l : Layout) (g v0 : ℕ) (h0 : List Write) (i calls : ℕ) (c : CoreCall) where
+module _ (l : Layout) (g v0 : ℕ) (h0 : List Write) (i index : ℕ) (c : CoreCall) where
   -- the lock was taken of the word at the start, and the history is as it was
   pub record IsLocking (h : List Write) (w : ℕ) : Type 0 where
     pub same : h ≡ h0
@@ -84,7 +84,7 @@ module _ (l : Layout) (g v0 : ℕ) (h0 : List Write) (i calls : ℕ) (c : CoreCa
     pub over : is_spent (limit_of c) loaded ≡ past
 
   pub record IsCounted (h : List Write) (w given : ℕ) : Type 0 where
-    pub longer : h ≡ h0 ++ written i calls (change_of (op_of c))
+    pub longer : h ≡ h0 ++ written i index (change_of (op_of c))
     pub unworn : IsWorn v0 g → ⊥
     pub lock : w ≡ locked_word g (kept_count v0 g)
     pub place : given ≡ length h0
@@ -118,12 +118,12 @@ module _ (l : Layout) (g v0 : ℕ) (h0 : List Write) (i calls : ℕ) (c : CoreCa
 
   -- what an answer says of the index before the call, and of the history and the version word after it
   pub record Ends (m : Map) (h' : List Write) (v' : ℕ) (answer : Once Placed) : Type 0 where
-    pub history : h' ≡ h0 ++ placed_writes i calls c (whole_of answer)
+    pub history : h' ≡ h0 ++ placed_writes i index c (whole_of answer)
     pub locks : LAST_COUNT - kept_count v0 g ≤ (LAST_COUNT - kept_count v' g) + 1
     pub cause : Cause m answer
 
   abbrev written_of : List Write → Stage → List Write
-  written_of h stage = h ++ written i calls (counted stage)
+  written_of h stage = h ++ written i index (counted stage)
 
   module _ (words : List ℕ) (h : List Write) (one : 0 < l.nodes) (clock_is : slice_index words (clock_place l) ≡ length h) where
     abbrev now : ℕ
@@ -136,7 +136,7 @@ module _ (l : Layout) (g v0 : ℕ) (h0 : List Write) (i calls : ℕ) (c : CoreCa
     kept_words = ap (λ (ws : List ℕ). version_in l ws 0) (sym (set-get_or words (version_place l 0) 0))
 
     same_history : (n w : ℕ) (held : Held) → counted (Holds n w held) ≡ None → h ≡ h0 → written_of h (Holds n w held) ≡ h0
-    same_history n w held none same = unwritten h i calls (counted (Holds n w held)) none ∙ same
+    same_history n w held none same = unwritten h i index (counted (Holds n w held)) none ∙ same
 
     timed_on : (n w clock : ℕ) (held : Held) (over : Bool) → counted (Holds n w held) ≡ None → IsTimed h w clock over → IsTimed (written_of h (Holds n w held)) w clock over
     timed_on n w clock held over none is =
@@ -170,7 +170,7 @@ module _ (l : Layout) (g v0 : ℕ) (h0 : List Write) (i calls : ℕ) (c : CoreCa
     goes_on (counts {w = w} {c = clock} {x = x} {h = held} {change = change} write some_change) go told own is =
         let own_change : change_of (op_of c) ≡ Some change = subst (λ (o : Option Change). IfSome o (λ ch. change_of (op_of c) ≡ Some ch)) some_change own in
         record {
-          longer = (λ k. is.locking.same k ++ written i calls (some_change k)) ∙ ap (λ (o : Option Change). h0 ++ written i calls o) (sym own_change);
+          longer = (λ k. is.locking.same k ++ written i index (some_change k)) ∙ ap (λ (o : Option Change). h0 ++ written i index o) (sym own_change);
           unworn = is.locking.unworn;
           lock = is.locking.lock;
           place = told ∙ clock_is ∙ ap length is.locking.same;
@@ -202,7 +202,7 @@ module _ (l : Layout) (g v0 : ℕ) (h0 : List Write) (i calls : ℕ) (c : CoreCa
       get_finds_room (call.Put _ _ _) get none = absurd get
       get_finds_room (call.Del _ _) get none = absurd get
 
-      get_writes_none : (d : CoreCall) → IsGet (op_of d) → written i calls (change_of (op_of d)) ≡ []
+      get_writes_none : (d : CoreCall) → IsGet (op_of d) → written i index (change_of (op_of d)) ≡ []
       get_writes_none (call.Get name) get = refl
       get_writes_none (call.Put _ _ _) get = absurd get
       get_writes_none (call.Del _ _) get = absurd get
@@ -213,9 +213,9 @@ module _ (l : Layout) (g v0 : ℕ) (h0 : List Write) (i calls : ℕ) (c : CoreCa
       put_has_none (call.Del _ _) put lacks full = absurd put
 
       -- a map that the node means has no more names than slots
-      has_room : (d : CoreCall) → len (after_all base (h0 ++ written i calls (change_of (op_of d)))) ≤ l.slots → no_room m0 d → ⊥
+      has_room : (d : CoreCall) → len (after_all base (h0 ++ written i index (change_of (op_of d)))) ≤ l.slots → no_room m0 d → ⊥
       has_room (call.Put name value limit) fits lacks =
-          let grown = ap len (fold-append (λ (n : Map) (w : Write). changed n w.change) base h0 (written i calls (change_of (op_of (call.Put name value limit))))) in
+          let grown = ap len (fold-append (λ (n : Map) (w : Write). changed n w.change) base h0 (written i index (change_of (op_of (call.Put name value limit))))) in
           let more = len-insert nat_list_cmp_total m0 name value ∙ ap (λ (o : Option ℕ). cond (is_some o) (len m0) (len m0 + 1)) lacks.0 in
           let full = lacks.1 in
           omega arith
@@ -227,7 +227,7 @@ module _ (l : Layout) (g v0 : ℕ) (h0 : List Write) (i calls : ℕ) (c : CoreCa
           is ∙ (λ k. at (after base (same k) (place_is k)) name) ∙ ap (λ (m : Map). at m name) (after-longer base h0 more (length h0) (omega arith) ∙ after-whole base h0 (length h0) refl)
 
       pub ends : {phase : Phase} {stage : Stage} {a : Action} {x : ℕ} {next : Phase} {reply : Option (Once Placed)} → Goes l g 0 (limit_of c) (op_of c) phase stage a x next reply → (answer : Once Placed) → reply ≡ Some answer
-          → x ≡ got l words a → IsAbout (name_asked (op_of c)) stage → IsLegal l g (facts_after a stage) i calls since stage reply
+          → x ≡ got l words a → IsAbout (name_asked (op_of c)) stage → IsLegal l g (facts_after a stage) i index since stage reply
           → ((m : Map) → m ≡ after_all base (written_of h stage) → len m ≤ l.slots)
           → IsAt now h phase → Ends m0 (written_of h stage) (version_in l (acted l words a) 0) answer
       ends (refused {x = x}) answer go told about legal fits is = absurd (legal.1 (subst (λ (n : ℕ). IsFree n g) (sym (loaded x told ∙ is.1)) free))
@@ -279,15 +279,15 @@ module _ (l : Layout) (g v0 : ℕ) (h0 : List Write) (i calls : ℕ) (c : CoreCa
             );
           })
       ends (answers {w = w} {p = place} {h = held} {old = old} write none) answer go told about legal fits is =
-          let longer : written_of h (Holds 0 w held) ≡ h0 ++ written i calls (change_of (op_of c)) = unwritten h i calls (counted (Holds 0 w held)) none ∙ is.longer in
+          let longer : written_of h (Holds 0 w held) ≡ h0 ++ written i index (change_of (op_of c)) = unwritten h i index (counted (Holds 0 w held)) none ∙ is.longer in
           subst (λ (r : Once Placed). Ends m0 (written_of h (Holds 0 w held)) (version_in l (acted l words (Store (version_place l 0) (w + 1))) 0) r) (answer_is go) (record {
             history = longer;
             locks = freed_locks w is.unworn is.lock;
             cause = (
               locks_there v0 g known is.unworn,
               unreached (limit_of c) (length h0) is.below,
-              has_room c (fits (after_all base (h0 ++ written i calls (change_of (op_of c)))) (ap (after_all base) (sym longer))),
-              old_is (written i calls (change_of (op_of c))) (name_asked (op_of c)) old place (written_of h (Holds 0 w held)) longer is.place (legal.old ∙ ap (at (after base (written_of h (Holds 0 w held)) place)) about),
+              has_room c (fits (after_all base (h0 ++ written i index (change_of (op_of c)))) (ap (after_all base) (sym longer))),
+              old_is (written i index (change_of (op_of c))) (name_asked (op_of c)) old place (written_of h (Holds 0 w held)) longer is.place (legal.old ∙ ap (at (after base (written_of h (Holds 0 w held)) place)) about),
               is.place,
             );
           })

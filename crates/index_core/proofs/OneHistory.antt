@@ -1,5 +1,5 @@
 -- What a schedule answers is one legal history.
-use Rattle.std.proofs.Common.{◌≡◌, ℕ, ◌<◌, ◌≤◌, ◌⊎◌, ⊎_elim, List, [], ◌∷◌, ◌++◌, length, set, refl, sym, ap, ◌∙◌, subst, arith}
+use Rattle.std.proofs.Common.{◌≡◌, ℕ, ◌+◌, ◌<◌, ◌≤◌, ◌⊎◌, ⊎_elim, List, [], ◌∷◌, ◌++◌, length, set, refl, sym, ap, ◌∙◌, subst, arith}
 use Rattle.std.specs.Prelude.{Option, Some, None, IfSome, slice_get}
 use Rattle.std.proofs.lemmas.List.{length-append}
 use Rattle.std.proofs.lemmas.Bool.{cases_order}
@@ -24,10 +24,11 @@ use Rattle.index_core.specs.declared.entry.Entry.{Entry}
 use Rattle.index_core.specs.Answers.{IsAnswerOf}
 use Rattle.index_core.specs.Indexes.{Index, IsIndex, IsInFlight, told}
 use Rattle.index_core.specs.Lone.{IsQuiet, placed_writes, entry_done}
-use Rattle.index_core.specs.Schedules.{BegunCall, AnsweredCall, begun_call, flying_call, once_of, Runs, begins, starts, goes_on, answers, alone, evicts, reserves, StandsNowhere, StandsAt, IsLegalAnswer, interval_of, KeepsCallersOrder, EachWritesOnce, IsAnsweredWrite, IsWriteInFlight, IsLegalHistory, AreCounted, OneLegalHistory, FreshIndexBegins}
+use Rattle.index_core.specs.Schedules.{BegunCall, AnsweredCall, begun_call, flying_call, once_of, Runs, begins, starts, goes_on, answers, alone, evicts, reserves, StandsNowhere, StandsAt, WroteNothing, IsLegalAnswer, IsNext, interval_of, KeepsCallersOrder, EachWritesOnce, IsAnsweredWrite, IsWriteInFlight, IsLegalHistory, AreCounted, OneLegalHistory, FreshIndexBegins}
+use Rattle.index_core.proofs.Crashing.{placed_later}
 use Rattle.index_core.proofs.Beginning.{kept_start, kept_alone}
-use Rattle.index_core.proofs.Scheduling.{IsEarlier, AnswerHolds, Kept, place_le_end, else_there}
-use Rattle.index_core.specs.Entries.{idle_entry}
+use Rattle.index_core.proofs.Scheduling.{IsEarlier, AnswerHolds, in_flight, Kept, place_le_end, else_there, took_one}
+use Rattle.index_core.specs.Entries.{idle_entry, next_index, index_after}
 use Rattle.index_core.proofs.Fresh.{fresh_quiet}
 use Rattle.index_core.proofs.Lists.{some_same, idle-each}
 use Rattle.index_core.proofs.Alone.{go_of, done_of}
@@ -46,6 +47,7 @@ kept_as first begun calls s words spare k index = record {
   flying = k.flying;
   writes = k.writes;
   was_begun = k.was_begun;
+  next = k.next;
   each_call = k.each_call;
   counts = k.counts;
 }
@@ -61,8 +63,9 @@ kept_first s index quiet fresh = record {
   flying = λ p entry machine at_p flown. absurd (let both : None ≡ Some machine = sym (quiet p entry at_p) ∙ flown in cc);
   writes = λ place write stands. absurd (let both : None ≡ Some write = subst (λ (h : List Write). slice_get h place ≡ Some write) fresh stands in cc);
   was_begun = λ j c at. absurd (some-ne-none c (sym at));
+  next = λ j c at. absurd (some-ne-none c (sym at));
   each_call = λ c has. absurd (let none = has.1 in omega arith);
-  counts = λ p entry at_p. record { was = entry; there = at_p; most = omega arith };
+  counts = λ p entry at_p. record { was = entry; there = at_p; most = let idle = ap in_flight (quiet p entry at_p) in omega arith };
 }
 
 -- fewer calls are counted too
@@ -92,23 +95,29 @@ kept first index quiet fresh (goes_on {begun = begun} {calls = calls} {old = old
 kept first index quiet fresh (answers {begun = begun} {calls = calls} {old = old} {new = new} {party = party} {answer = answer} run t is) few =
     let k = kept first index quiet fresh run few in
     let done = done_of (running_turned t.machine (told old t.machine)) answer (sym t.comes_to) in
-    subst (λ (v : Index). Kept first begun (calls ++ record { call = flying_call t.entry t.machine; until = length v.history; answer = answer } ∷ []) v) (sym t.is)
-    (along.is_answered first begun calls old party t.entry t.machine k t.there t.flies answer done new.spare
+    subst (λ (v : Index). Kept first begun (calls ++ record { call = flying_call t.entry t.machine; until = length v.history; answer = answer; next = index_after t.entry.index answer } ∷ []) v) (sym t.is)
+    (along.is_answered first begun calls old party t.entry t.machine k t.there t.flies answer done new.spare few
     (subst (λ (v : Index). IsAnswerOf (map_of v.base) v.history t.entry (op_in t.machine) answer) t.is t.answer) (subst IsIndex t.is is))
 kept first index quiet fresh (alone {begun = begun} {calls = calls} {old = old} {new = new} {caller = party} {call = c} {result = result} run still r is) few =
     let b = begun_call r.entry (length old.history) c in
     let k = kept first index quiet fresh run (fewer first begun (b ∷ []) few) in
     let caller_is : r.entry.caller ≡ party = (k.index.entries party r.entry r.there).caller in
-    let history : new.history ≡ old.history ++ placed_writes r.entry.caller r.entry.calls c result = r.history ∙ ap (λ (j : ℕ). old.history ++ placed_writes j r.entry.calls c result) (sym caller_is) in
-    let same : Path Index new (record new { entries = set old.entries party (entry_done r.entry (length old.history)); base = old.base; history = old.history ++ placed_writes r.entry.caller r.entry.calls c result }) =
+    let history : new.history ≡ old.history ++ placed_writes r.entry.caller r.entry.index c result = r.history ∙ ap (λ (j : ℕ). old.history ++ placed_writes j r.entry.index c result) (sym caller_is) in
+    let same : Path Index new (record new { entries = set old.entries party (entry_done r.entry (length old.history)); base = old.base; history = old.history ++ placed_writes r.entry.caller r.entry.index c result }) =
     (λ t. record new { entries = r.entries t; base = r.base t; history = history t }) in
-    subst (λ (v : Index). Kept first (begun ++ b ∷ []) (calls ++ record { call = b; until = length v.history; answer = once_of result } ∷ []) v) (sym same)
+    subst (λ (v : Index). Kept first (begun ++ b ∷ []) (calls ++ record { call = b; until = length v.history; answer = once_of result; next = next_index r.entry.index } ∷ []) v) (sym same)
     (kept_alone first begun calls old party r.entry c k r.there (still party r.entry r.there) few result still r.answer new (subst IsIndex same is))
 kept first index quiet fresh (evicts {begun = begun} {calls = calls} {old = old} {new = new} {word = word} run within e is) few =
     subst (Kept first begun calls) (sym e) (kept_as first begun calls old (evicted old.layout old.words word) old.spare (kept first index quiet fresh run few) (subst IsIndex e is))
 kept first index quiet fresh (reserves {begun = begun} {calls = calls} {old = old} {new = new} run e) few =
     let k = kept first index quiet fresh run few in
     subst (Kept first begun calls) (sym e) (kept_as first begun calls old old.words new.spare k (respare old new.spare k.index))
+
+-- where an interval ends, if it is of a write
+write_end : (o : Op) (place : ℕ) (change : Change) → change_of o ≡ Some change → place < (interval_at o place).end
+write_end (op.Put _ _) place change asks = omega arith
+write_end (op.Get _) place change asks = absurd cc
+write_end (op.Del _) place change asks = omega arith
 
 -- where an interval starts
 start_is : (o : Op) (place : ℕ) → (interval_at o place).start ≡ place
@@ -120,9 +129,10 @@ module _ (first : Index) (begun : List BegunCall) (calls : List AnsweredCall) (s
   abbrev base : Map
   base = map_of first.base
 
-  -- two calls of one caller with one index are one
-  one_call : (p q : ℕ) (a b : AnsweredCall) → get_elem? calls p ≡ some a → get_elem? calls q ≡ some b → a.call.caller ≡ b.call.caller → a.call.index ≡ b.call.index → a ≡ b
-  one_call p q a b at_p at_q caller index =
+  -- two calls of one caller with one index are one, if both count
+  one_call : (p q : ℕ) (a b : AnsweredCall) → get_elem? calls p ≡ some a → get_elem? calls q ≡ some b → a.call.index < a.next → b.call.index < b.next → a.call.caller ≡ b.call.caller
+      → a.call.index ≡ b.call.index → a ≡ b
+  one_call p q a b at_p at_q up_a up_b caller index =
       ⊎_elim
       (λ (same : p ≡ q). some-injective _ _ (sym at_p ∙ ap (get_elem? calls) same ∙ at_q))
       (λ (apart : (p < q) ⊎ (q < p)). absurd (⊎_elim
@@ -131,43 +141,76 @@ module _ (first : Index) (begun : List BegunCall) (calls : List AnsweredCall) (s
       apart))
       (cases_order p q)
 
-  -- a write of an answered call is one that its answer tells
-  of_answered : (n : ℕ) (c : AnsweredCall) → get_elem? calls n ≡ some c → (place : ℕ) (write : Write) → slice_get s.history place ≡ Some write → write.caller ≡ c.call.caller → write.index ≡ c.call.index
+  -- a write of an answered call that counts is one that its answer tells
+  of_answered : (n : ℕ) (c : AnsweredCall) → get_elem? calls n ≡ some c → c.call.index < c.next → (place : ℕ) (write : Write) → slice_get s.history place ≡ Some write → write.caller ≡ c.call.caller → write.index ≡ c.call.index
       → (placed : Placed) × (c.answer ≡ once.Done placed) × (placed.place ≡ place) × (change_of c.call.op ≡ Some write.change)
-  of_answered n c at place write stands caller index =
+  of_answered n c at up place write stands caller index =
       ⊎_elim
       (λ (w : IsAnsweredWrite calls place write).
-      let same : w.answered ≡ c = one_call w.number n w.answered c w.there at (sym w.caller ∙ caller) (sym w.index ∙ index) in
+      let one = took_one w.answered w.placed (k.next w.number w.answered w.there) w.answer in
+      let same : w.answered ≡ c = one_call w.number n w.answered c w.there at one up (sym w.caller ∙ caller) (sym w.index ∙ index) in
       (w.placed, ap (λ (d : AnsweredCall). d.answer) (sym same) ∙ w.answer, w.place, ap (λ (d : AnsweredCall). change_of d.call.op) (sym same) ∙ w.change))
       (λ (w : IsWriteInFlight s.entries place write).
       let party : c.call.caller ≡ w.party = sym caller ∙ w.caller ∙ (k.index.entries w.party w.entry w.there).caller in
-      let before : (c.call.index < w.entry.index) × (c.until ≤ w.entry.since) = subst (IsEarlier c w.entry) w.flies (k.earlier n c w.party w.entry at w.there party) in
+      let before : (c.next ≤ w.entry.index) × (c.until ≤ w.entry.since) = subst (IsEarlier c w.entry) w.flies (k.earlier n c w.party w.entry at w.there party) in
       let less = before.0 in
       let same = w.index in
       absurd (omega arith))
       (k.writes place write stands)
 
-  nowhere : (n : ℕ) (c : AnsweredCall) → get_elem? calls n ≡ some c → ((placed : Placed) → c.answer ≡ once.Done placed → ⊥) → StandsNowhere s.history c.call.caller c.call.index
-  nowhere n c at unplaced place write stands caller index = let is = of_answered n c at place write stands caller index in unplaced is.0 is.1
+  nowhere : (n : ℕ) (c : AnsweredCall) → get_elem? calls n ≡ some c → c.call.index < c.next → ((placed : Placed) → c.answer ≡ once.Done placed → ⊥) → StandsNowhere s.history c.call.caller c.call.index
+  nowhere n c at up unplaced place write stands caller index = let is = of_answered n c at up place write stands caller index in unplaced is.0 is.1
 
-  stands_at : (n : ℕ) (c : AnsweredCall) (place : ℕ) (o : Option Change) → get_elem? calls n ≡ some c → change_of c.call.op ≡ o
+  -- while a call was made that didn't take place, its caller wrote nothing
+  wrote_nothing : (n : ℕ) (c : AnsweredCall) → get_elem? calls n ≡ some c → ((placed : Placed) → c.answer ≡ once.Done placed → ⊥) → WroteNothing s.history c.call c.until
+  wrote_nothing n c at unplaced place write stands caller later sooner =
+      ⊎_elim
+      (λ (w : IsAnsweredWrite calls place write).
+      let d = w.answered in
+      let holds : AnswerHolds base s.history d.call d.until (once.Done w.placed) = subst (AnswerHolds base s.history d.call d.until) w.answer (k.holds w.number d w.there).0 in
+      let end = write_end d.call.op w.placed.place write.change w.change in
+      let ended = holds.1 in
+      let began = holds.0.later in
+      let same = w.place in
+      ⊎_elim
+      (λ (one : w.number ≡ n).
+      let is : d ≡ c = some-injective _ _ (sym w.there ∙ ap (get_elem? calls) one ∙ at) in
+      unplaced w.placed (ap (λ (a : AnsweredCall). a.answer) (sym is) ∙ w.answer))
+      (λ (apart : (w.number < n) ⊎ (n < w.number)). ⊎_elim
+      (λ (less : w.number < n). let before = (k.order w.number n d c w.there at less (sym w.caller ∙ caller)).1 in absurd (omega arith))
+      (λ (more : n < w.number). let before = (k.order n w.number c d at w.there more (sym caller ∙ w.caller)).1 in absurd (omega arith))
+      apart)
+      (cases_order w.number n))
+      (λ (w : IsWriteInFlight s.entries place write).
+      let party : c.call.caller ≡ w.party = sym caller ∙ w.caller ∙ (k.index.entries w.party w.entry w.there).caller in
+      let before : (c.next ≤ w.entry.index) × (c.until ≤ w.entry.since) = subst (IsEarlier c w.entry) w.flies (k.earlier n c w.party w.entry at w.there party) in
+      let began = placed_later s k.index w.party place w.entry w.machine w.there w.flies w.place in
+      let ended = before.1 in
+      omega arith)
+      (k.writes place write stands)
+
+  stands_at : (n : ℕ) (c : AnsweredCall) (place : ℕ) (o : Option Change) → get_elem? calls n ≡ some c → c.call.index < c.next → change_of c.call.op ≡ o
       → IfSome o (λ change. slice_get s.history place ≡ Some (record { caller = c.call.caller; index = c.call.index; change = change })) → StandsAt s.history c.call.caller c.call.index place o
-  stands_at n c place None at asks stands = λ other write there caller index.
-      let is = of_answered n c at other write there caller index in
+  stands_at n c place None at up asks stands = λ other write there caller index.
+      let is = of_answered n c at up other write there caller index in
       let both : None ≡ Some write.change = sym asks ∙ is.3 in
       cc
-  stands_at n c place (Some change) at asks stands = stands
+  stands_at n c place (Some change) at up asks stands = stands
+
+  -- it counts unless it was turned back
+  raised : (n : ℕ) (c : AnsweredCall) (r : Once Placed) → get_elem? calls n ≡ some c → c.answer ≡ r → (IsNext c.call.index c.next r → c.next ≡ c.call.index + 1) → c.call.index < c.next
+  raised n c r at is counts = let up = counts (subst (IsNext c.call.index c.next) is (k.next n c at)) in omega arith
 
   legal_answer : (n : ℕ) (c : AnsweredCall) (r : Once Placed) → get_elem? calls n ≡ some c → c.answer ≡ r → AnswerHolds base s.history c.call c.until r → IsLegalAnswer base s.history c.call c.until r
-  legal_answer n c (once.Done placed) at is holds = record { took = holds.0; ended = holds.1; stands = stands_at n c placed.place (change_of c.call.op) at refl holds.2 }
+  legal_answer n c (once.Done placed) at is holds = record { took = holds.0; ended = holds.1; stands = stands_at n c placed.place (change_of c.call.op) at (raised n c (once.Done placed) at is (λ up. up)) refl holds.2 }
   legal_answer n c (once.Spent clock) at is holds = record {
     reached = holds.0;
     later = holds.1;
     ended = holds.2;
-    nowhere = nowhere n c at (λ placed other. let both : once.Spent clock ≡ once.Done placed = sym is ∙ other in cc);
+    nowhere = nowhere n c at (raised n c (once.Spent clock) at is (λ up. up)) (λ placed other. let both : once.Spent clock ≡ once.Done placed = sym is ∙ other in cc);
   }
-  legal_answer n c (once.Worn node word) at is holds = nowhere n c at (λ placed other. let both : once.Worn node word ≡ once.Done placed = sym is ∙ other in cc)
-  legal_answer n c (once.Again why) at is holds = nowhere n c at (λ placed other. let both : once.Again why ≡ once.Done placed = sym is ∙ other in cc)
+  legal_answer n c (once.Worn node word) at is holds = nowhere n c at (raised n c (once.Worn node word) at is (λ up. up)) (λ placed other. let both : once.Worn node word ≡ once.Done placed = sym is ∙ other in cc)
+  legal_answer n c (once.Again why) at is holds = wrote_nothing n c at (λ placed other. let both : once.Again why ≡ once.Done placed = sym is ∙ other in cc)
 
   apart : (a b : AnsweredCall) (r t : Once Placed) → AnswerHolds base s.history a.call a.until r → AnswerHolds base s.history b.call b.until t → a.until ≤ b.call.since
       → IfSome (interval_of a.call.op r) (λ first. IfSome (interval_of b.call.op t) (λ second. first.end ≤ second.start))
@@ -192,12 +235,12 @@ module _ (first : Index) (begun : List BegunCall) (calls : List AnsweredCall) (s
   once_each i j v w at_i at_j caller index =
       ⊎_elim
       (λ (one : IsAnsweredWrite calls i v).
-      let is = of_answered one.number one.answered one.there j w at_j (sym caller ∙ one.caller) (sym index ∙ one.index) in
+      let is = of_answered one.number one.answered one.there (took_one one.answered one.placed (k.next one.number one.answered one.there) one.answer) j w at_j (sym caller ∙ one.caller) (sym index ∙ one.index) in
       let same : one.placed ≡ is.0 = (let both : once.Done one.placed ≡ once.Done is.0 = sym one.answer ∙ is.1 in done_same both) in
       sym one.place ∙ ap (λ (p : Placed). p.place) same ∙ is.2)
       (λ (one : IsWriteInFlight s.entries i v). ⊎_elim
       (λ (two : IsAnsweredWrite calls j w).
-      let is = of_answered two.number two.answered two.there i v at_i (caller ∙ two.caller) (index ∙ two.index) in
+      let is = of_answered two.number two.answered two.there (took_one two.answered two.placed (k.next two.number two.answered two.there) two.answer) i v at_i (caller ∙ two.caller) (index ∙ two.index) in
       let same : two.placed ≡ is.0 = (let both : once.Done two.placed ≡ once.Done is.0 = sym two.answer ∙ is.1 in done_same both) in
       sym (sym two.place ∙ ap (λ (p : Placed). p.place) same ∙ is.2))
       (λ (two : IsWriteInFlight s.entries j w).
@@ -215,11 +258,11 @@ module _ (first : Index) (begun : List BegunCall) (calls : List AnsweredCall) (s
   legal_history : IsLegalHistory base begun calls s
   legal_history = record {
     base_is = k.base_is;
-    answers = λ n c at. let holds = k.holds n c at in record { was_begun = k.was_begun n c at; answer = legal_answer n c c.answer at refl holds.0; within = holds.1 };
+    answers = λ n c at. let holds = k.holds n c at in record { was_begun = k.was_begun n c at; answer = legal_answer n c c.answer at refl holds.0; within = holds.1; next = k.next n c at };
     in_time = λ i j a b at_i at_j ended. apart a b a.answer b.answer (k.holds i a at_i).0 (k.holds j b at_j).0 ended;
     in_order = in_order;
     in_flight = λ i entry machine there flies. record {
-      was_begun = (k.flying i entry machine there flies).2;
+      was_begun = (k.flying i entry machine there flies).1;
       last = λ n a at caller. subst (IsEarlier a entry) flies (k.earlier n a i entry at there (caller ∙ (k.index.entries i entry there).caller));
     };
     each_call = k.each_call;
@@ -237,6 +280,6 @@ fresh_begins l first fresh = (
   fresh.history,
   λ begun few i entry there.
       let same : entry ≡ idle_entry i = idle-each l.callers i entry (subst (λ (entries : List Entry). get_elem? entries i ≡ some entry) fresh.entries there) in
-      let none = ap (λ (d : Entry). d.calls) same in
+      let none = ap (λ (d : Entry). d.index) same in
       omega arith,
 )

@@ -4,6 +4,7 @@ use Rattle.std.specs.Prelude.{Contains, Option, Some, None, IfSome, IsSomeAnd, s
 use Rattle.std.proofs.lemmas.Bool.{cases_eq}
 use Rattle.std.proofs.lemmas.List.{append-nil, length-append}
 use Rattle.std.proofs.lemmas.Option.{IfSome_then}
+use Rattle.std.proofs.Math.Nat.{min-eq_left}
 use mathlib.Core.Option.{some, some-injective}
 use lib.ListN.{get_elem?}
 use Rattle.pm_words.specs.declared.layout.Layout.{Layout}
@@ -34,17 +35,17 @@ use Rattle.index_law.proofs.Maps.{after-longer, slice_get-longer}
 use Rattle.index_law.proofs.Parties.{at_set, at_longer, set_here, set_else}
 use Rattle.index_core.specs.declared.entry.Entry.{Entry}
 use Rattle.index_core.specs.Answers.{TookPlace, IsAnswerOf}
-use Rattle.index_core.specs.Entries.{entry_after, IsEntry}
+use Rattle.index_core.specs.Entries.{entry_after, next_index, index_after, IsEntry}
 use Rattle.index_core.specs.Indexes.{Index, IsIndex, told, stepped_index, MakesCall}
-use Rattle.index_core.specs.Schedules.{BegunCall, AnsweredCall, flying_call, IsAnswered, IsFlying, IsAnsweredWrite, IsWriteInFlight, EachWriteIsOfACall}
+use Rattle.index_core.specs.Schedules.{BegunCall, AnsweredCall, flying_call, IsNext, IsAnswered, IsFlying, IsAnsweredWrite, IsWriteInFlight, EachWriteIsOfACall, AreCounted}
 use Rattle.index_core.proofs.Lists.{within, at_end, end_there, some_same, got_end}
 use Rattle.index_core.proofs.Phases.{phase_of, phase_after, leads}
 use Rattle.index_core.proofs.Places.{place_in, place_is, place_for, IsOverOnly, Onward, EndsWith, onward, over_only, ends_with}
 
 -- a call that was answered comes before what its caller makes
 abbrev pub IsEarlier : AnsweredCall → Entry → Option Running → Type 0
-IsEarlier c entry None = c.call.index < entry.calls
-IsEarlier c entry (Some machine) = (c.call.index < entry.index) × (c.until ≤ entry.since)
+IsEarlier c entry None = c.next ≤ entry.index
+IsEarlier c entry (Some machine) = (c.next ≤ entry.index) × (c.until ≤ entry.since)
 
 -- what an answer says of the map and the history, which stays so as the history grows
 abbrev pub AnswerHolds : Map → List Write → BegunCall → ℕ → Once Placed → Type 0
@@ -58,23 +59,29 @@ AnswerHolds base history c until _ = Unit {0}
 abbrev pub CallHolds : Map → List Write → AnsweredCall → Type 0
 CallHolds base history c = AnswerHolds base history c.call c.until c.answer × (c.until ≤ length history)
 
--- no caller has begun more calls than these since the schedule began
+-- how many calls a caller has in flight
+abbrev pub in_flight : Option Running → ℕ
+in_flight None = 0
+in_flight (Some machine) = 1
+
+-- no caller has begun more calls that count than these since the schedule began
 pub record CountsUpTo (first : Index) (begun : List BegunCall) (i : ℕ) (entry : Entry) : Type 0 where
   pub was : Entry
   pub there : get_elem? first.entries i ≡ some was
-  pub most : entry.calls ≤ was.calls + length begun
+  pub most : entry.index + in_flight entry.machine ≤ was.index + length begun
 
 pub record Kept (first : Index) (begun : List BegunCall) (calls : List AnsweredCall) (s : Index) : Type 0 where
   pub index : IsIndex s
   pub base_is : map_of s.base ≡ map_of first.base
   pub holds : (n : ℕ) (c : AnsweredCall) → get_elem? calls n ≡ some c → CallHolds (map_of first.base) s.history c
   pub order : (i j : ℕ) (a b : AnsweredCall) → get_elem? calls i ≡ some a → get_elem? calls j ≡ some b → i < j → a.call.caller ≡ b.call.caller
-      → (a.call.index < b.call.index) × (a.until ≤ b.call.since)
+      → (a.next ≤ b.call.index) × (a.until ≤ b.call.since)
   pub earlier : (n : ℕ) (c : AnsweredCall) (i : ℕ) (entry : Entry) → get_elem? calls n ≡ some c → get_elem? s.entries i ≡ some entry → c.call.caller ≡ i → IsEarlier c entry entry.machine
   pub flying : (i : ℕ) (entry : Entry) (machine : Running) → get_elem? s.entries i ≡ some entry → entry.machine ≡ Some machine
-      → (entry.index < entry.calls) × IsOverOnly (running_call machine).limit (phase_of machine) × Contains begun (flying_call entry machine)
+      → IsOverOnly (running_call machine).limit (phase_of machine) × Contains begun (flying_call entry machine)
   pub writes : EachWriteIsOfACall calls s.entries s.history
   pub was_begun : (n : ℕ) (c : AnsweredCall) → get_elem? calls n ≡ some c → Contains begun c.call
+  pub next : (n : ℕ) (c : AnsweredCall) → get_elem? calls n ≡ some c → IsNext c.call.index c.next c.answer
   pub each_call : (c : BegunCall) → Contains begun c → IsAnswered calls c ⊎ IsFlying s.entries c
   pub counts : (i : ℕ) (entry : Entry) → get_elem? s.entries i ≡ some entry → CountsUpTo first begun i entry
 
@@ -112,9 +119,27 @@ longer_call base h more c is = let longer = length-append h more in let within =
 pub else_there : (entries : List Entry) (i j : ℕ) (now entry : Entry) → j ≢ i → get_elem? entries j ≡ some entry → get_elem? (set entries i now) j ≡ some entry
 else_there entries i j now entry other there = set_else entries i j now other ∙ there
 
--- an entry with the same count
-pub counts_as : (first : Index) (begun : List BegunCall) (i p : ℕ) (was now : Entry) → p ≡ i → now.calls ≡ was.calls → CountsUpTo first begun i was → CountsUpTo first begun p now
-counts_as first begun i p was now same calls is = let most = is.most in record { was = is.was; there = ap (get_elem? first.entries) same ∙ is.there; most = omega arith }
+-- an entry that counts no more calls
+pub counts_as : (first : Index) (begun : List BegunCall) (i p : ℕ) (was now : Entry) → p ≡ i → now.index + in_flight now.machine ≤ was.index + in_flight was.machine → CountsUpTo first begun i was
+    → CountsUpTo first begun p now
+counts_as first begun i p was now same fewer is = let most = is.most in record { was = is.was; there = ap (get_elem? first.entries) same ∙ is.there; most = omega arith }
+
+-- what an answer makes of an index that can be raised
+pub next_is : (index : ℕ) (answer : Once Placed) → next_index index ≡ index + 1 → IsNext index (index_after index answer) answer
+next_is index (once.Done placed) up = up
+next_is index (once.Spent clock) up = up
+next_is index (once.Worn node word) up = up
+next_is index (once.Again why) up = inl refl
+
+pub next_near : (index next : ℕ) (answer : Once Placed) → IsNext index next answer → (index ≤ next) × (next ≤ index + 1)
+next_near index next (once.Done placed) is = (omega arith, omega arith)
+next_near index next (once.Spent clock) is = (omega arith, omega arith)
+next_near index next (once.Worn node word) is = (omega arith, omega arith)
+next_near index next (once.Again why) is = ⊎_elim (λ (same : next ≡ index). (omega arith, omega arith)) (λ (up : next ≡ index + 1). (omega arith, omega arith)) is
+
+-- a call that took place has raised it
+pub took_one : (c : AnsweredCall) (placed : Placed) → IsNext c.call.index c.next c.answer → c.answer ≡ once.Done placed → c.call.index < c.next
+took_one c placed is answer = let up : c.next ≡ c.call.index + 1 = subst (IsNext c.call.index c.next) answer is in omega arith
 
 -- a party's call in flight
 module _ (first : Index) (begun : List BegunCall) (calls : List AnsweredCall) (s : Index) (i : ℕ) (e : Entry) (m : Running) (k : Kept first begun calls s) (there : get_elem? s.entries i ≡ some e) (flies : e.machine ≡ Some m) where
@@ -144,8 +169,9 @@ module _ (first : Index) (begun : List BegunCall) (calls : List AnsweredCall) (s
   own_write place write stands caller index =
       ⊎_elim
       (λ (w : IsAnsweredWrite calls place write).
-      let before : (w.answered.call.index < e.index) × (w.answered.until ≤ e.since) = subst (IsEarlier w.answered e) flies (k.earlier w.number w.answered i e w.there there (sym w.caller ∙ caller ∙ own.caller)) in
+      let before : (w.answered.next ≤ e.index) × (w.answered.until ≤ e.since) = subst (IsEarlier w.answered e) flies (k.earlier w.number w.answered i e w.there there (sym w.caller ∙ caller ∙ own.caller)) in
       let smaller = before.0 in
+      let up = took_one w.answered w.placed (k.next w.number w.answered w.there) w.answer in
       let same = w.index in
       absurd (omega arith))
       (λ (w : IsWriteInFlight s.entries place write).
@@ -161,6 +187,9 @@ module _ (first : Index) (begun : List BegunCall) (calls : List AnsweredCall) (s
       let entry : f.entry ≡ e = some-injective _ _ (sym here ∙ there) in
       let machine : f.machine ≡ m = machine_there f.entry f.machine here f.flies in
       (λ t. flying_call (sym entry t) (sym machine t)) ∙ f.is
+
+  one_flies : in_flight e.machine ≡ 1
+  one_flies = ap in_flight flies
 
   -- it goes on
   module _ (next : Running) (is : running_turned m x ≡ Go next) (keeps_op : IsOfAfter (op_in m) (running_turned m x)) (keeps_call : MakesCall (running_call m) (running_turned m x)) (n : ℕ) where
@@ -180,7 +209,7 @@ module _ (first : Index) (begun : List BegunCall) (calls : List AnsweredCall) (s
     same_call = λ t. record { caller = e.caller; index = e.index; op = op_same t; limit = (running_same t).limit; since = e.since }
 
     call_on : Contains begun (flying_call e' next)
-    call_on = subst (Contains begun) (sym same_call) (k.flying i e m there flies).2
+    call_on = subst (Contains begun) (sym same_call) (k.flying i e m there flies).1
 
     over : IsOverOnly (running_call next).limit (phase_of next)
     over =
@@ -284,18 +313,19 @@ module _ (first : Index) (begun : List BegunCall) (calls : List AnsweredCall) (s
       order = k.order;
       earlier = λ j c p entry at at_p caller. ⊎_elim
           (λ (mine : (p ≡ i) × (e' ≡ entry)).
-          let before : (c.call.index < e.index) × (c.until ≤ e.since) = subst (IsEarlier c e) flies (k.earlier j c i e at there (caller ∙ mine.0)) in
+          let before : (c.next ≤ e.index) × (c.until ≤ e.since) = subst (IsEarlier c e) flies (k.earlier j c i e at there (caller ∙ mine.0)) in
           subst (λ (d : Entry). IsEarlier c d d.machine) mine.1 before)
           (λ (other : (p ≢ i) × (get_elem? s.entries p ≡ some entry)). k.earlier j c p entry at other.1 caller)
           (at_set s.entries i p e' entry at_p);
       flying = λ p entry machine at_p flown. ⊎_elim
           (λ (mine : (p ≡ i) × (e' ≡ entry)).
           let machine_is : next ≡ machine = some_same (ap (λ (d : Entry). d.machine) mine.1 ∙ flown) in
-          subst (λ (q : Entry × Running). (q.0.index < q.0.calls) × IsOverOnly (running_call q.1).limit (phase_of q.1) × Contains begun (flying_call q.0 q.1)) (λ t. (mine.1 t, machine_is t)) ((k.flying i e m there flies).0, over, call_on))
+          subst (λ (q : Entry × Running). IsOverOnly (running_call q.1).limit (phase_of q.1) × Contains begun (flying_call q.0 q.1)) (λ t. (mine.1 t, machine_is t)) (over, call_on))
           (λ (other : (p ≢ i) × (get_elem? s.entries p ≡ some entry)). k.flying p entry machine other.1 flown)
           (at_set s.entries i p e' entry at_p);
       writes = writes_on (counted (stage_of m)) on (counts_own_change (op_in m) m of);
       was_begun = k.was_begun;
+      next = k.next;
       each_call = λ c has. ⊎_elim
           (λ (a : IsAnswered calls c). inl a)
           (λ (f : IsFlying s.entries c). inr (⊎_elim
@@ -304,7 +334,8 @@ module _ (first : Index) (begun : List BegunCall) (calls : List AnsweredCall) (s
           (cases_eq f.party i)))
           (k.each_call c has);
       counts = λ p entry at_p. ⊎_elim
-          (λ (mine : (p ≡ i) × (e' ≡ entry)). counts_as first begun i p e entry mine.0 (ap (λ (d : Entry). d.calls) (sym mine.1)) (k.counts i e there))
+          (λ (mine : (p ≡ i) × (e' ≡ entry)).
+          subst (CountsUpTo first begun p) mine.1 (counts_as first begun i p e e' mine.0 (let one = one_flies in omega arith) (k.counts i e there)))
           (λ (other : (p ≢ i) × (get_elem? s.entries p ≡ some entry)). k.counts p entry other.1)
           (at_set s.entries i p e' entry at_p);
     }
@@ -320,12 +351,21 @@ module _ (first : Index) (begun : List BegunCall) (calls : List AnsweredCall) (s
         subst (Kept first begun calls) same (going (subst IsIndex (sym same) index))
 
   -- it is answered
-  module _ (answer : Once Placed) (is : running_turned m x ≡ Done answer) (n : ℕ) where
+  module _ (answer : Once Placed) (is : running_turned m x ≡ Done answer) (n : ℕ) (few : AreCounted first begun) where
     abbrev done : Entry
-    done = record e { machine = None }
+    done = record e { index = index_after e.index answer; machine = None }
 
     abbrev call : AnsweredCall
-    call = record { call = flying_call e m; until = length s.history; answer = answer }
+    call = record { call = flying_call e m; until = length s.history; answer = answer; next = index_after e.index answer }
+
+    -- its index isn't at the end
+    next_here : IsNext e.index (index_after e.index answer) answer
+    next_here =
+        let counts = k.counts i e there in
+        let most = counts.most in
+        let one = one_flies in
+        let below = few i counts.was counts.there in
+        next_is e.index answer (min-eq_left (omega arith))
 
     ends : EndsWith (running_call m).limit (op_in m) (phase_of m) answer
     ends = (ends_with (leads (op_in m) m x of) answer (ap reply_of is)).0
@@ -334,11 +374,8 @@ module _ (first : Index) (begun : List BegunCall) (calls : List AnsweredCall) (s
     unwritten : s.history ++ written e.caller e.index (counted (stage_of m)) ≡ s.history
     unwritten = ap (λ (o : Option Change). s.history ++ written e.caller e.index o) (ends_with (leads (op_in m) m x of) answer (ap reply_of is)).1 ∙ append-nil s.history
 
-    before_it : (j : ℕ) (c : AnsweredCall) → get_elem? calls j ≡ some c → c.call.caller ≡ e.caller → (c.call.index < e.index) × (c.until ≤ e.since)
+    before_it : (j : ℕ) (c : AnsweredCall) → get_elem? calls j ≡ some c → c.call.caller ≡ e.caller → (c.next ≤ e.index) × (c.until ≤ e.since)
     before_it j c at caller = subst (IsEarlier c e) flies (k.earlier j c i e at there (caller ∙ own.caller))
-
-    counted_on : e.index < e.calls
-    counted_on = (k.flying i e m there flies).0
 
     own_change : (o : Option Change) (place : ℕ) → o ≡ change_of (op_in m) → IfSome o (λ change. HasWriteAt s.history e.caller e.index (name_asked (op_in m)) place)
         → IfSome o (λ change. slice_get s.history place ≡ Some (record { caller = e.caller; index = e.index; change = change }))
@@ -349,7 +386,7 @@ module _ (first : Index) (begun : List BegunCall) (calls : List AnsweredCall) (s
 
     tells_it : (r : Once Placed) → EndsWith (running_call m).limit (op_in m) (phase_of m) r → IsAnswerOf base s.history e (op_in m) r → AnswerHolds base s.history (flying_call e m) (length s.history) r
     tells_it (once.Done placed) ending took = (took, took.within, own_change (change_of (op_in m)) placed.place refl took.write)
-    tells_it (once.Spent clock) ending times = (ending.1 (k.flying i e m there flies).1, times.0, times.1)
+    tells_it (once.Spent clock) ending times = (ending.1 (k.flying i e m there flies).0, times.0, times.1)
     tells_it (once.Worn node word) ending says = tt
     tells_it (once.Again why) ending says = tt
 
@@ -412,12 +449,12 @@ module _ (first : Index) (begun : List BegunCall) (calls : List AnsweredCall) (s
     abbrev done_index : Index
     done_index = record s { words = acted s.layout s.words (running_asks m); entries = slice_set s.entries i done; spare = n }
 
-    ordered : (p q : ℕ) (a b : AnsweredCall) → get_elem? (calls ++ call ∷ []) p ≡ some a → get_elem? (calls ++ call ∷ []) q ≡ some b → p < q → a.call.caller ≡ b.call.caller → (a.call.index < b.call.index) × (a.until ≤ b.call.since)
+    ordered : (p q : ℕ) (a b : AnsweredCall) → get_elem? (calls ++ call ∷ []) p ≡ some a → get_elem? (calls ++ call ∷ []) q ≡ some b → p < q → a.call.caller ≡ b.call.caller → (a.next ≤ b.call.index) × (a.until ≤ b.call.since)
     ordered p q a b at_p at_q less caller =
         ⊎_elim
         (λ (first : get_elem? calls p ≡ some a). ⊎_elim
         (λ (second : get_elem? calls q ≡ some b). k.order p q a b first second less caller)
-        (λ (second : (q ≡ length calls) × (call ≡ b)). subst (λ (c : AnsweredCall). (a.call.index < c.call.index) × (a.until ≤ c.call.since)) second.1 (before_it p a first (caller ∙ ap (λ (c : AnsweredCall). c.call.caller) (sym second.1))))
+        (λ (second : (q ≡ length calls) × (call ≡ b)). subst (λ (c : AnsweredCall). (a.next ≤ c.call.index) × (a.until ≤ c.call.since)) second.1 (before_it p a first (caller ∙ ap (λ (c : AnsweredCall). c.call.caller) (sym second.1))))
         (at_end calls call b q at_q))
         (λ (first : (p ≡ length calls) × (call ≡ a)). absurd (
         let last : q < length calls + 1 = subst (λ (len : ℕ). q < len) (length-append calls (call ∷ [])) (within (calls ++ call ∷ []) q b at_q) in
@@ -439,10 +476,10 @@ module _ (first : Index) (begun : List BegunCall) (calls : List AnsweredCall) (s
           (λ (mine : (p ≡ i) × (done ≡ entry)). ⊎_elim
           (λ (old : get_elem? calls j ≡ some c).
           let before = (before_it j c old (caller ∙ mine.0 ∙ sym own.caller)).0 in
-          let more = counted_on in
-          let less : c.call.index < e.calls = omega arith in
+          let more = (next_near e.index done.index answer next_here).0 in
+          let less : c.next ≤ done.index = omega arith in
           subst (λ (d : Entry). IsEarlier c d d.machine) mine.1 less)
-          (λ (last : (j ≡ length calls) × (call ≡ c)). subst (λ (q : Entry × AnsweredCall). IsEarlier q.1 q.0 q.0.machine) (λ t. (mine.1 t, last.1 t)) counted_on)
+          (λ (last : (j ≡ length calls) × (call ≡ c)). subst (λ (q : Entry × AnsweredCall). IsEarlier q.1 q.0 q.0.machine) (λ t. (mine.1 t, last.1 t)) (let here : call.next ≤ done.index = omega arith in here))
           (at_end calls call c j at))
           (λ (other : (p ≢ i) × (get_elem? s.entries p ≡ some entry)). ⊎_elim
           (λ (old : get_elem? calls j ≡ some c). k.earlier j c p entry old other.1 caller)
@@ -456,7 +493,11 @@ module _ (first : Index) (begun : List BegunCall) (calls : List AnsweredCall) (s
       writes = writes_done;
       was_begun = λ j c at. ⊎_elim
           (λ (old : get_elem? calls j ≡ some c). k.was_begun j c old)
-          (λ (last : (j ≡ length calls) × (call ≡ c)). subst (λ (d : AnsweredCall). Contains begun d.call) last.1 (k.flying i e m there flies).2)
+          (λ (last : (j ≡ length calls) × (call ≡ c)). subst (λ (d : AnsweredCall). Contains begun d.call) last.1 (k.flying i e m there flies).1)
+          (at_end calls call c j at);
+      next = λ j c at. ⊎_elim
+          (λ (old : get_elem? calls j ≡ some c). k.next j c old)
+          (λ (last : (j ≡ length calls) × (call ≡ c)). subst (λ (d : AnsweredCall). IsNext d.call.index d.next d.answer) last.1 next_here)
           (at_end calls call c j at);
       each_call = λ c has. ⊎_elim
           (λ (a : IsAnswered calls c). inl (record { number = a.number; answered = a.answered; there = at_longer calls (call ∷ []) a.number a.answered a.there; is = a.is }))
@@ -466,13 +507,16 @@ module _ (first : Index) (begun : List BegunCall) (calls : List AnsweredCall) (s
           (cases_eq f.party i))
           (k.each_call c has);
       counts = λ p entry at_p. ⊎_elim
-          (λ (mine : (p ≡ i) × (done ≡ entry)). counts_as first begun i p e entry mine.0 (ap (λ (d : Entry). d.calls) (sym mine.1)) (k.counts i e there))
+          (λ (mine : (p ≡ i) × (done ≡ entry)).
+          let near = (next_near e.index done.index answer next_here).1 in
+          let one = one_flies in
+          subst (CountsUpTo first begun p) mine.1 (counts_as first begun i p e done mine.0 (omega arith) (k.counts i e there)))
           (λ (other : (p ≢ i) × (get_elem? s.entries p ≡ some entry)). k.counts p entry other.1)
           (at_set s.entries i p done entry at_p);
     }
 
     pub is_answered : IsAnswerOf (map_of (stepped_index s i e m n).base) (stepped_index s i e m n).history e (op_in m) answer → IsIndex (stepped_index s i e m n)
-        → Kept first begun (calls ++ record { call = flying_call e m; until = length (stepped_index s i e m n).history; answer = answer } ∷ []) (stepped_index s i e m n)
+        → Kept first begun (calls ++ record { call = flying_call e m; until = length (stepped_index s i e m n).history; answer = answer; next = index_after e.index answer } ∷ []) (stepped_index s i e m n)
     is_answered says index =
         let same : Path Index done_index (stepped_index s i e m n) = (λ t. record s {
           words = acted s.layout s.words (running_asks m);
@@ -481,4 +525,4 @@ module _ (first : Index) (begun : List BegunCall) (calls : List AnsweredCall) (s
           spare = n;
         }) in
         let says_now : IsAnswerOf base s.history e (op_in m) answer = subst (λ (q : Map × List Write). IsAnswerOf q.0 q.1 e (op_in m) answer) (λ t. (k.base_is t, unwritten t)) says in
-        subst (λ (v : Index). Kept first begun (calls ++ record { call = flying_call e m; until = length v.history; answer = answer } ∷ []) v) same (answered says_now (subst IsIndex (sym same) index))
+        subst (λ (v : Index). Kept first begun (calls ++ record { call = flying_call e m; until = length v.history; answer = answer; next = index_after e.index answer } ∷ []) v) same (answered says_now (subst IsIndex (sym same) index))

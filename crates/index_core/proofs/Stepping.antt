@@ -7,6 +7,7 @@ use mathlib.Core.Option.{some}
 use lib.ListN.{get_elem?, length-set}
 use Rattle.cat_key.specs.Names.{IsName}
 use Rattle.pm_words.specs.declared.layout.Layout.{Layout}
+use Rattle.pm_words.specs.declared.action.Action.{Action}
 use Rattle.pm_words.specs.declared.machine.Turn.{Turn}
 use Rattle.pm_words.specs.declared.machine.Turn.TheVariants.{Go, Done}
 use Rattle.pm_words.specs.Images.{Row}
@@ -43,15 +44,15 @@ use Rattle.index_law.proofs.Actions.{action_law, zero_told}
 use Rattle.index_law.proofs.Own.{allow_law, sure_within}
 use Rattle.index_law.proofs.Law.{step_law}
 use Rattle.index_law.proofs.Maps.{changed_names}
-use Rattle.index_law.proofs.Starts.{start_law}
-use Rattle.index_law.proofs.Parties.{at_set}
+use Rattle.index_law.proofs.Starts.{start_law, swap_law}
+use Rattle.index_law.proofs.Parties.{at_set, set_here}
 use Rattle.index_core.specs.declared.entry.Entry.{Entry}
 use Rattle.index_core.specs.declared.entry.CoreCall.{CoreCall}
 use Rattle.index_core.specs.declared.entry.CoreCall.TheVariants as call
 use Rattle.index_core.specs.CoreCalls.{machine_of, writes_of}
-use Rattle.index_core.specs.Entries.{machine_stage, party_of, entry_with, entry_after, machine_owes, owes, owed, IsEntry}
+use Rattle.index_core.specs.Entries.{machine_stage, party_of, entry_with, entry_after, entry_counted, machine_owes, owes, owed, IsEntry}
 use Rattle.index_core.specs.Indexes.{Index, world, IsIndex, view_of, started_index, told, stepped_index, MakesCall}
-use Rattle.index_core.proofs.Lists.{map_there, map_set, owed-set}
+use Rattle.index_core.proofs.Lists.{map_there, map_set, owed-set, set_twice}
 use Rattle.index_core.proofs.Owing.{owes_after, pays, many, written-length}
 
 -- what is counted is of a name
@@ -85,9 +86,19 @@ pub record StepFacts (s : Index) (party : ℕ) (entry : Entry) (machine : Runnin
   pub kept : (spare : ℕ) → IsIndex (stepped_index s party entry machine spare)
   pub legal : (spare : ℕ) → IsLegal s.layout s.generation (facts (world (stepped_index s party entry machine spare))) entry.caller entry.index entry.since (stage_of machine) (reply_of (running_turned machine (told s machine)))
 
-after_party : (entry : Entry) (turn : Turn Running (Once Placed)) → moved_on (party_of entry) (stage_after turn) ≡ party_of (entry_after entry turn)
-after_party entry (Go machine) = refl
-after_party entry (Done answer) = refl
+-- the world with the party as its call's turn leaves it: one whose call is answered is idle, and may have another index
+abbrev world_after : World → ℕ → Entry → Action → Turn Running (Once Placed) → World
+world_after w i entry a turn = record (stepped w i (party_of entry) a (stage_after turn)) { parties = set w.parties i (party_of (entry_after entry turn)) }
+
+lawful_after : (w : World) (i : ℕ) (entry : Entry) (a : Action) (turn : Turn Running (Once Placed)) → get_elem? w.parties i ≡ some (party_of entry)
+    → Lawful (stepped w i (party_of entry) a (stage_after turn)) → Lawful (world_after w i entry a turn)
+lawful_after w i entry a (Go machine) there lawful = lawful
+lawful_after w i entry a (Done answer) there lawful =
+    let p = moved_on (party_of entry) Idle in
+    let q = party_of (entry_after entry (Done answer)) in
+    let v = stepped w i (party_of entry) a Idle in
+    let here = set_here w.parties i p (party_of entry) there in
+    subst (λ (parties : List Party). Lawful (record v { parties = parties })) (set_twice w.parties i p q) (swap_law v i p q lawful here refl refl (lawful.begun i p here))
 
 after_entry : (l : Layout) (g i : ℕ) (entry : Entry) (op : Op) (turn : Turn Running (Once Placed)) → entry.caller ≡ i → SoundAfter l g turn → IsOfAfter op turn → IsEntry l g i (entry_after entry turn)
 after_entry l g i entry op (Go machine) same sound of = record { caller = same; machine = sound; op = subst (λ (o : Op). IsOf o machine) (sym (op_told op machine of)) of }
@@ -133,9 +144,9 @@ step_facts s i entry machine is there flies room =
     let step = turns_are_steps l g machine x sound act.told in
     let law : StepLaw w i p a x (stage_after turn) (reply_of turn) =
     step_law w i p a x (stage_after turn) (reply_of turn) is.lawful there' (subst (λ (u : Stage). Step l g u a x (stage_after turn) (reply_of turn)) (sym stage) step) refl room in
-    let parties : slice_set (map party_of s.entries) i (moved_on p (stage_after turn)) ≡ map party_of (slice_set s.entries i (entry_after entry turn)) =
-    ap (λ (q : Party). set (map party_of s.entries) i q) (after_party entry turn) ∙ sym (map_set party_of s.entries i (entry_after entry turn)) in
-    let same : Path World (stepped w i p a (stage_after turn)) (world (stepped_index s i entry machine 0)) =
+    let parties : slice_set (map party_of s.entries) i (party_of (entry_after entry turn)) ≡ map party_of (slice_set s.entries i (entry_after entry turn)) =
+    sym (map_set party_of s.entries i (entry_after entry turn)) in
+    let same : Path World (world_after w i entry a turn) (world (stepped_index s i entry machine 0)) =
     (λ k. record { layout = l; generation = g; words = acted l s.words a; parties = parties k; base = map_of s.base; history = s.history ++ written entry.caller entry.index (counted (stage k)) }) in
     let own_told = subst (λ (v : Layout × ℕ). Told v.0 v.1 a x) (λ k. (sym sound.layout k, sym sound.generation k)) act.told in
     record {
@@ -145,7 +156,7 @@ step_facts s i entry machine is there flies room =
       keeps_op = λ asked of. turns_keep_op l g asked machine x sound act.told of;
       keeps_call = keeps_call machine x (sound.here, own_told);
       kept = λ spare. record {
-        lawful = subst Lawful same law.kept;
+        lawful = subst Lawful same (lawful_after w i entry a turn there' law.kept);
         callers = length-set s.entries i (entry_after entry turn) ∙ is.callers;
         entries = set_entries l g s.entries i (entry_after entry turn) is.entries (after_entry l g i entry (op_in machine) turn own.caller (turns_stay_sound l g machine x sound act.told)
             (turns_keep_op l g (op_in machine) machine x sound act.told (subst (λ (o : Option Running). IfSome o (λ m. IsOf (op_in m) m)) flies own.op)));
@@ -198,9 +209,9 @@ start_keeps s i entry c spare is there idle here =
     let m = machine_of (view_of s i) c in
     let now = entry_with entry (length s.history) m in
     let there' = map_there party_of s.entries i entry there in
-    let lawful = start_law (world s) i (party_of entry) entry.calls is.lawful there' (ap machine_stage idle) in
-    let parties : slice_set (map party_of s.entries) i (record { caller = entry.caller; index = entry.calls; since = length s.history; stage = Idle }) ≡ map party_of (slice_set s.entries i now) =
-    ap (λ (u : Stage). set (map party_of s.entries) i (record { caller = entry.caller; index = entry.calls; since = length s.history; stage = u })) (sym (machine_idle s i c)) ∙ sym (map_set party_of s.entries i now) in
+    let lawful = start_law (world s) i (party_of entry) entry.index is.lawful there' (ap machine_stage idle) in
+    let parties : slice_set (map party_of s.entries) i (record { caller = entry.caller; index = entry.index; since = length s.history; stage = Idle }) ≡ map party_of (slice_set s.entries i now) =
+    ap (λ (u : Stage). set (map party_of s.entries) i (record { caller = entry.caller; index = entry.index; since = length s.history; stage = u })) (sym (machine_idle s i c)) ∙ sym (map_set party_of s.entries i now) in
     record {
       lawful = subst (λ (parties : List Party). Lawful (record { layout = s.layout; generation = s.generation; words = s.words; parties = parties; base = map_of s.base; history = s.history })) parties lawful;
       callers = length-set s.entries i now ∙ is.callers;
@@ -215,6 +226,26 @@ start_owes s i entry c there idle =
     let was : machine_owes entry.machine ≡ 0 = ap machine_owes idle in
     let now = machine_writes s i c in
     omega arith
+
+-- an idle party's index may be counted up
+pub count_keeps : (s : Index) (i : ℕ) (entry : Entry) (spare : ℕ) → IsIndex s → get_elem? s.entries i ≡ some entry → entry.machine ≡ None
+    → IsIndex (record s { entries = set s.entries i (entry_counted entry); spare = spare })
+count_keeps s i entry spare is there idle =
+    let p = party_of entry in
+    let now = entry_counted entry in
+    let there' = map_there party_of s.entries i entry there in
+    let own = is.entries i entry there in
+    let lawful = swap_law (world s) i p (party_of now) is.lawful there' (ap machine_stage idle) (ap machine_stage idle) (is.lawful.begun i p there') in
+    record {
+      lawful = subst (λ (parties : List Party). Lawful (record (world s) { parties = parties })) (sym (map_set party_of s.entries i now)) lawful;
+      callers = length-set s.entries i now ∙ is.callers;
+      entries = set_entries s.layout s.generation s.entries i now is.entries (record { caller = own.caller; machine = own.machine; op = own.op });
+      names = is.names;
+    }
+
+-- and owes what it owed
+pub count_owes : (s : Index) (i : ℕ) (entry : Entry) → get_elem? s.entries i ≡ some entry → owed (set s.entries i (entry_counted entry)) ≡ owed s.entries
+count_owes s i entry there = let moved = owed-set s.entries i entry (entry_counted entry) there in omega arith
 
 -- how much room is told of an index is none of its laws
 pub respare : (s : Index) (spare : ℕ) → IsIndex s → IsIndex (record s { spare = spare })
