@@ -59,6 +59,7 @@ use Rattle.index_core.specs.Lone.{IsQuiet, FindsNoRoom, version_word_of, locks_l
 use Rattle.index_core.proofs.Lists.{map_from, set_twice}
 use Rattle.index_core.proofs.Stepping.{machine_idle}
 use Rattle.index_core.proofs.Phases.{Phase, Begun, phase_of, phase_after, Goes, leads}
+use Rattle.index_core.proofs.Weighing.{MeansMap, alone_weighs}
 use Rattle.index_core.proofs.Lonely.{IsAt, goes_on, no_room, Cause, Ends, ends}
 
 get_fits : (g : Get) → IsGet g → IsCall (get_call g)
@@ -83,7 +84,7 @@ call_fits (Putting p) is = put_fits p is
 call_fits (Deleting d) is = del_fits d is
 
 -- with no call in flight all parties are idle
-quiet_parties : (s : Index) → IsQuiet s → Each (λ p. p.stage ≡ Idle) (world s).parties
+pub quiet_parties : (s : Index) → IsQuiet s → Each (λ p. p.stage ≡ Idle) (world s).parties
 quiet_parties s quiet i p at =
     let from = map_from party_of s.entries i p at in
     subst (λ (q : Party). q.stage ≡ Idle) from.2 (ap machine_stage (quiet i from.0 from.1))
@@ -104,6 +105,7 @@ pub record Lone (s0 s : Index) (i : ℕ) (c : CoreCall) : Type 0 where
   pub known : generation_of (version_word_of s0) ≤ s.generation
   pub free : IsFree (version_word_of s0) s.generation
   pub index : IsIndex s
+  pub means : MeansMap s0
   pub spare : s0.spare ≤ s.spare + 1
 
 -- how many actions it has left
@@ -137,11 +139,14 @@ started_parties s0 i e c n quiet there j p at =
 one_node : (s : Index) → IsIndex s → 0 < s.layout.nodes
 one_node s is = let one = is.lawful.one_node in omega arith
 
+-- with no call in flight node 0 means the map
+pub rests : (s : Index) → IsIndex s → IsQuiet s → MeansMap s
+rests s is quiet = (idle_law (world s) is.lawful (quiet_parties s quiet)).means 0 (one_node s is)
+
 -- with no call in flight, the map has no more names than its node has slots
 pub names_in_slots : (s : Index) → IsIndex s → IsQuiet s → len (map_of_index s) ≤ s.layout.slots
 names_in_slots s is quiet =
-    let rest = idle_law (world s) is.lawful (quiet_parties s quiet) in
-    names_fit s.layout.slots _ (map_of_index s) (rest.means 0 (one_node s is)) is.names
+    names_fit s.layout.slots _ (map_of_index s) (rests s is quiet) is.names
 
 pub lone_start : (s0 s : Index) (i : ℕ) (c : CoreCall) → IsQuiet s0 → Starts s0 i c s → s.spare + writes_of c ≡ s0.spare → IsIndex s → Lone s0 s i c
 lone_start s0 s i c quiet t spare is =
@@ -164,6 +169,7 @@ lone_start s0 s i c quiet t spare is =
       known = rest.versions 0 (one_node (started_index s0 i t.entry c s.spare) is');
       free = rest.free 0 (one_node (started_index s0 i t.entry c s.spare) is');
       index = is';
+      means = rest.means 0 (one_node (started_index s0 i t.entry c s.spare) is');
       spare = same_spare;
     })
   where
@@ -293,6 +299,7 @@ module _ (s0 s s' : Index) (i : ℕ) (c : CoreCall) (result : Stepped) (o : Lone
           known = subst (λ (n : ℕ). generation_of (version_word_of s0) ≤ n) (sym generation) o.known;
           free = subst (IsFree (version_word_of s0)) (sym generation) o.free;
           index = is';
+          means = o.means;
           spare = omega arith;
         },
         omega (arith, less, was, now),
@@ -342,6 +349,8 @@ module _ (s0 s s' : Index) (i : ℕ) (c : CoreCall) (result : Stepped) (o : Lone
         layout = ap (λ (v : Index). v.layout) own.is ∙ o.layout;
         generation = ap (λ (v : Index). v.generation) own.is ∙ o.generation;
         base = ap (λ (v : Index). v.base) own.is ∙ o.base;
+        weighs = alone_weighs s0 s' c i o.entry.index o.means (rests s' is' (lone_quiet answer answered)) is'.names (ap (λ (v : Index). v.layout) own.is ∙ o.layout) (ap (λ (v : Index). v.base) own.is ∙ o.base)
+            (whole_of answer) (cause_whole s0 i o.entry.index c answer end.cause) end.history;
       }
 
   -- the step itself counts the call unless it was turned back

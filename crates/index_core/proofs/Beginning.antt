@@ -4,8 +4,11 @@ use Rattle.std.specs.Prelude.{Option, Some, None, IfSome, IsSomeAnd, Contains, s
 use Rattle.std.proofs.lemmas.List.{append-nil, length-append}
 use Rattle.std.proofs.lemmas.List.Elements.{Contains-push, Contains-append_left, Contains-append_cases}
 use Rattle.std.proofs.Math.Nat.{min-eq_left}
+use Rattle.std.proofs.lemmas.Bool.{cases_lt}
+use Rattle.std.specs.FinMap.{len}
 use mathlib.Core.Option.{some, some-injective}
 use lib.ListN.{get_elem?}
+use Rattle.pm_words.specs.declared.layout.Layout.{Layout}
 use Rattle.cat_history.specs.Maps.{Map, at, map_of}
 use Rattle.cat_history.specs.Writes.{after, after_all}
 use Rattle.cat_history.specs.declared.op.Change.{Change}
@@ -18,7 +21,6 @@ use Rattle.call_stages.specs.declared.once.Placed.{Placed}
 use Rattle.node_ops.specs.declared.running.Running.{Running}
 use Rattle.cat_history.specs.Records.{change_of}
 use Rattle.node_ops.specs.Asked.{IsOf, name_asked}
-use Rattle.node_ops.specs.RunningSteps.{running_call}
 use Rattle.node_ops.proofs.OpLaw.{op_told}
 use Rattle.index_law.specs.Worlds.{written}
 use Rattle.index_law.proofs.Maps.{after-longer, after-whole, slice_get-last}
@@ -28,22 +30,23 @@ use Rattle.index_core.specs.declared.entry.CoreCall.TheVariants as call
 use Rattle.index_core.specs.declared.entry.Entry.{Entry}
 use Rattle.index_core.specs.declared.entry.Whole.{Whole}
 use Rattle.index_core.specs.declared.entry.Whole.TheVariants as whole
-use Rattle.index_core.specs.Answers.{TookPlace}
+use Rattle.index_core.specs.Answers.{TookPlace, IsPut, FoundNoRoom}
 use Rattle.index_core.specs.CoreCalls.{machine_of, op_of, limit_of}
 use Rattle.index_core.specs.Entries.{entry_with, next_index}
 use Rattle.index_core.specs.Indexes.{Index, IsIndex, map_of_index, view_of, started_index}
-use Rattle.index_core.specs.Lone.{IsQuiet, IsWhole, placed_writes, entry_done}
+use Rattle.index_core.specs.Lone.{IsQuiet, FindsNoRoom, IsWhole, placed_writes, entry_done}
 use Rattle.index_core.specs.Schedules.{BegunCall, AnsweredCall, begun_call, flying_call, once_of, IsNext, IsAnswered, IsFlying, IsAnsweredWrite, IsWriteInFlight, AreCounted}
 use Rattle.index_core.proofs.Alone.{begins_limit}
 use Rattle.index_core.proofs.Lists.{within, at_end, end_there, some_same, got_end, sole}
-use Rattle.index_core.proofs.Phases.{phase_of}
-use Rattle.index_core.proofs.Places.{IsOverOnly}
 use Rattle.index_core.proofs.Scheduling.{IsEarlier, AnswerHolds, CallHolds, in_flight, CountsUpTo, Kept, longer_call, else_there}
 
-begins_over : (s : Index) (i : ℕ) (c : CoreCall) → IsOverOnly (running_call (machine_of (view_of s i) c)).limit (phase_of (machine_of (view_of s i) c))
-begins_over s i (call.Put name value limit) = tt
-begins_over s i (call.Get name) = tt
-begins_over s i (call.Del name limit) = tt
+-- a limit that isn't reached is above
+below_limit : (limit : Option ℕ) (count : ℕ) → (IsSomeAnd limit (λ most. most ≤ count) → ⊥) → IfSome limit (λ most. count < most)
+below_limit None count none = tt
+below_limit (Some most) count none = elim (cases_lt count most) [
+  | inl below ↦ below
+  | inr above ↦ absurd (none above)
+]
 
 -- one call more of a party that is idle
 module _ (first : Index) (begun : List BegunCall) (calls : List AnsweredCall) (s : Index) (i : ℕ) (e : Entry) (c : CoreCall) (k : Kept first begun calls s) (there : get_elem? s.entries i ≡ some e) (idle : e.machine ≡ None) where
@@ -93,6 +96,7 @@ module _ (first : Index) (begun : List BegunCall) (calls : List AnsweredCall) (s
       pub kept_start : IsIndex (started_index s i e c n) → Kept first more calls (started_index s i e c n)
       kept_start index = record {
         index = index;
+        layout_is = k.layout_is;
         base_is = k.base_is;
         holds = k.holds;
         order = k.order;
@@ -105,11 +109,8 @@ module _ (first : Index) (begun : List BegunCall) (calls : List AnsweredCall) (s
         flying = λ p entry machine at_p flown. ⊎_elim
             (λ (mine : (p ≡ i) × (now ≡ entry)).
             let machine_is : m ≡ machine = some_same (ap (λ (d : Entry). d.machine) mine.1 ∙ flown) in
-            subst (λ (q : Entry × Running). IsOverOnly (running_call q.1).limit (phase_of q.1) × Contains more (flying_call q.0 q.1)) (λ t. (mine.1 t, machine_is t))
-            (begins_over s i c, subst (Contains more) (sym now_flies) (Contains-push begun b)))
-            (λ (other : (p ≢ i) × (get_elem? s.entries p ≡ some entry)).
-            let was = k.flying p entry machine other.1 flown in
-            (was.0, Contains-append_left begun (b ∷ []) (flying_call entry machine) was.1))
+            subst (λ (q : Entry × Running). Contains more (flying_call q.0 q.1)) (λ t. (mine.1 t, machine_is t)) (subst (Contains more) (sym now_flies) (Contains-push begun b)))
+            (λ (other : (p ≢ i) × (get_elem? s.entries p ≡ some entry)). Contains-append_left begun (b ∷ []) (flying_call entry machine) (k.flying p entry machine other.1 flown))
             (at_set s.entries i p now entry at_p);
         writes = λ place write stands. ⊎_elim
             (λ (w : IsAnsweredWrite calls place write). inl w)
@@ -170,46 +171,66 @@ module _ (first : Index) (begun : List BegunCall) (calls : List AnsweredCall) (s
           after-longer base s.history h place (omega arith) ∙ after-whole base s.history place last ∙ ap (λ (m : Map). after_all m s.history) (sym k.base_is)
 
       -- it took place at the end of the history
-      took : (o : Op) (placed : Placed) → placed.old ≡ at (map_of_index s) (name_asked o) → placed.place ≡ length s.history
-          → TookPlace base (s.history ++ written e.caller e.index (change_of o)) e.caller e.index (length s.history) o placed
+      took : (o : Op) (placed : Placed) → IfSome (limit_of c) (λ most. length s.history < most) → placed.old ≡ at (map_of_index s) (name_asked o) → placed.place ≡ length s.history
+          → TookPlace base (s.history ++ written e.caller e.index (change_of o)) e.caller e.index (length s.history) o (limit_of c) placed
           × IfSome (change_of o) (λ c. slice_get (s.history ++ written e.caller e.index (change_of o)) placed.place ≡ Some (record { caller = e.caller; index = e.index; change = c }))
-      took (op.Get name) placed old last =
+      took (op.Get name) placed below old last =
           let long = length-append s.history [] in (
-            record { later = omega arith; within = omega arith; old = old ∙ ap (λ (m : Map). at m name) (sym (map_is [] placed.place last)); write = tt },
+            record { later = omega arith; within = omega arith; below = below; old = old ∙ ap (λ (m : Map). at m name) (sym (map_is [] placed.place last)); write = tt },
             tt,
           )
-      took (op.Put name value) placed old last =
+      took (op.Put name value) placed below old last =
           let w : Write = record { caller = e.caller; index = e.index; change = change.Put name value } in
           let long = length-append s.history (w ∷ []) in
           let stands : slice_get (s.history ++ w ∷ []) placed.place ≡ Some w = ap (slice_get (s.history ++ w ∷ [])) last ∙ slice_get-last s.history w in (
             record {
               later = omega arith;
               within = omega arith;
+              below = below;
               old = old ∙ ap (λ (m : Map). at m name) (sym (map_is (w ∷ []) placed.place last));
               write = record { change = w.change; about = refl; stands = stands };
             },
             stands,
           )
-      took (op.Del name) placed old last =
+      took (op.Del name) placed below old last =
           let w : Write = record { caller = e.caller; index = e.index; change = change.Del name } in
           let long = length-append s.history (w ∷ []) in
           let stands : slice_get (s.history ++ w ∷ []) placed.place ≡ Some w = ap (slice_get (s.history ++ w ∷ [])) last ∙ slice_get-last s.history w in (
             record {
               later = omega arith;
               within = omega arith;
+              below = below;
               old = old ∙ ap (λ (m : Map). at m name) (sym (map_is (w ∷ []) placed.place last));
               write = record { change = w.change; about = refl; stands = stands };
             },
             stands,
           )
 
-      tells : (r : Whole) → IsWhole s c r → AnswerHolds base (s.history ++ placed_writes e.caller e.index c r) b (length (s.history ++ placed_writes e.caller e.index c r)) (once_of r)
-      tells (whole.Placed placed) why = let both = took (op_of c) placed why.3 why.4 in (both.0, both.0.within, both.1)
-      tells whole.Full why = tt
+      -- a put that found no room found none at the end of the history
+      lacked_room : (d : CoreCall) → FindsNoRoom d s → IsPut (op_of d) × FoundNoRoom first.layout.slots base (s.history ++ []) (length s.history) (length (s.history ++ [])) (name_asked (op_of d))
+      lacked_room (call.Put name value limit) none =
+          let same : after base (s.history ++ []) (length s.history) ≡ map_of_index s = map_is [] (length s.history) refl in
+          let long = length-append s.history [] in (
+            tt,
+            record {
+              clock = length s.history;
+              later = omega arith;
+              within = omega arith;
+              lacked = ap (λ (m : Map). at m name) same ∙ none.0;
+              many = let full : len (after base (s.history ++ []) (length s.history)) ≡ first.layout.slots = ap len same ∙ none.1 ∙ ap (λ (l : Layout). l.slots) k.layout_is in omega arith;
+            },
+          )
+      lacked_room (call.Get name) none = absurd none
+      lacked_room (call.Del name limit) none = absurd none
+
+      tells : (r : Whole) → IsWhole s c r
+          → AnswerHolds first.layout.slots base (s.history ++ placed_writes e.caller e.index c r) b (length (s.history ++ placed_writes e.caller e.index c r)) (once_of r)
+      tells (whole.Placed placed) why = let both = took (op_of c) placed (below_limit (limit_of c) (length s.history) why.1) why.3 why.4 in (both.0, both.0.within, both.1)
+      tells whole.Full why = λ full. lacked_room c why.2
       tells (whole.Spent clock) why =
           let last = why.2 in
           let long = length-append s.history [] in
-          (subst (λ (n : ℕ). IsSomeAnd (limit_of c) (λ limit. limit ≤ n)) (sym why.2) why.1, omega arith, omega arith)
+          record { reached = subst (λ (n : ℕ). IsSomeAnd (limit_of c) (λ limit. limit ≤ n)) (sym why.2) why.1; later = omega arith; within = omega arith }
       tells (whole.Worn node word) why = tt
 
       -- its write is the last
@@ -262,13 +283,14 @@ module _ (first : Index) (begun : List BegunCall) (calls : List AnsweredCall) (s
       abbrev after_it : Index → Index
       after_it new = record new { entries = slice_set s.entries i done; base = s.base; history = history }
 
-      pub kept_alone : (new : Index) → IsIndex (after_it new) → Kept first more (calls ++ a ∷ []) (after_it new)
-      kept_alone new index = record {
+      pub kept_alone : (new : Index) → new.layout ≡ s.layout → IsIndex (after_it new) → Kept first more (calls ++ a ∷ []) (after_it new)
+      kept_alone new layout index = record {
         index = index;
+        layout_is = layout ∙ k.layout_is;
         base_is = k.base_is;
         holds = λ j d at. ⊎_elim
-            (λ (old : get_elem? calls j ≡ some d). longer_call base s.history (placed_writes e.caller e.index c result) d (k.holds j d old))
-            (λ (last : (j ≡ length calls) × (a ≡ d)). subst (CallHolds base history) last.1 (tells result is, omega arith))
+            (λ (old : get_elem? calls j ≡ some d). longer_call first.layout.slots base s.history (placed_writes e.caller e.index c result) d (k.holds j d old))
+            (λ (last : (j ≡ length calls) × (a ≡ d)). subst (CallHolds first.layout.slots base history) last.1 (tells result is, omega arith))
             (at_end calls a d j at);
         order = ordered;
         earlier = λ j d p entry at at_p caller. ⊎_elim

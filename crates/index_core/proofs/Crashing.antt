@@ -19,6 +19,7 @@ use Rattle.index_law.specs.Lawful.{Sure, IsPlaced}
 use Rattle.index_law.specs.Laws.{HasPending}
 use Rattle.index_law.proofs.Crashes.{crash_law}
 use Rattle.index_law.proofs.Evictions.{evict_law}
+use Rattle.index_law.proofs.Weights.{crash_weighs}
 use Rattle.index_core.specs.declared.entry.Entry.{Entry}
 use Rattle.index_core.specs.Crashes.{IsCrash, AreRunning, evicted_index, unplaced, cut_change, cut_changes}
 use Rattle.index_core.specs.Entries.{machine_stage, party_of}
@@ -97,6 +98,7 @@ crash_is s image cuts is leaves cut_off =
       leaves = leaves;
       cut_off = cut_off;
       sound = law.sound;
+      weighs = crash_weighs (world s) is.lawful;
       end = law.end;
       keeps = law.keeps;
       ends = law.ends (cut_changes s.entries) (pending_there s is);

@@ -7,8 +7,12 @@ pub mod Phases
 pub mod Places
 pub mod Answering
 pub mod Lonely
+pub mod Weighing
 pub mod Alone
 pub mod Scheduling
 pub mod Beginning
+pub mod Limits
 pub mod OneHistory
 pub mod LegalRounds
+pub mod Shown
+pub mod WeightLaw

@@ -37,7 +37,8 @@ use Rattle.index_core.specs.declared.entry.CoreCall.TheVariants as call
 use Rattle.index_core.specs.CoreCalls.{op_of, limit_of}
 use Rattle.index_core.specs.Lone.{placed_writes, whole_of}
 use Rattle.index_core.proofs.Places.{reached}
-use Rattle.index_core.proofs.Phases.{Phase, Begun, Seen, Locking, Over, Timed, Counted, Goes, refused, worn, saw, moved, locks, times, passes, spent, works, counts, reads, refuses, answers, IsPut, IsGet}
+use Rattle.index_core.proofs.Phases.{Phase, Begun, Seen, Locking, Over, Timed, Counted, Goes, refused, worn, saw, moved, locks, times, passes, spent, works, counts, reads, refuses, answers, IsGet}
+use Rattle.index_core.specs.Answers.{IsPut}
 
 -- a free word that is not worn leaves locks
 locks_there : (v g : ℕ) → generation_of v ≤ g → (IsWorn v g → ⊥) → LAST_COUNT - kept_count v g ≡ 0 → ⊥

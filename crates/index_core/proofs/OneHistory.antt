@@ -5,6 +5,7 @@ use Rattle.std.proofs.lemmas.List.{length-append}
 use Rattle.std.proofs.lemmas.Bool.{cases_order}
 use mathlib.Core.Option.{some, some-injective, some-ne-none}
 use lib.ListN.{get_elem?}
+use Rattle.pm_words.specs.declared.layout.Layout.{Layout}
 use Rattle.pm_words.specs.Rows.{evicted}
 use Rattle.cat_history.specs.Maps.{Map, map_of}
 use Rattle.cat_history.specs.Records.{interval_at, change_of}
@@ -18,7 +19,7 @@ use Rattle.call_stages.specs.declared.once.Placed.{Placed}
 use Rattle.call_stages.specs.Stages.{placed_in}
 use Rattle.node_ops.specs.declared.running.Running.{Running}
 use Rattle.node_ops.specs.Asked.{op_in}
-use Rattle.node_ops.specs.RunningSteps.{running_turned}
+use Rattle.node_ops.specs.RunningSteps.{running_call, running_turned}
 use Rattle.node_ops.specs.CallStages.{stage_of}
 use Rattle.index_core.specs.declared.entry.Entry.{Entry}
 use Rattle.index_core.specs.Answers.{IsAnswerOf}
@@ -26,6 +27,7 @@ use Rattle.index_core.specs.Indexes.{Index, IsIndex, IsInFlight, told}
 use Rattle.index_core.specs.Lone.{IsQuiet, placed_writes, entry_done}
 use Rattle.index_core.specs.Schedules.{BegunCall, AnsweredCall, begun_call, flying_call, once_of, Runs, begins, starts, goes_on, answers, alone, evicts, reserves, StandsNowhere, StandsAt, WroteNothing, IsLegalAnswer, IsNext, interval_of, KeepsCallersOrder, EachWritesOnce, IsAnsweredWrite, IsWriteInFlight, IsLegalHistory, AreCounted, OneLegalHistory, FreshIndexBegins}
 use Rattle.index_core.proofs.Crashing.{placed_later}
+use Rattle.index_core.proofs.Limits.{write_end, places_keep_limit}
 use Rattle.index_core.proofs.Beginning.{kept_start, kept_alone}
 use Rattle.index_core.proofs.Scheduling.{IsEarlier, AnswerHolds, in_flight, Kept, place_le_end, else_there, took_one}
 use Rattle.index_core.specs.Entries.{idle_entry, next_index, index_after}
@@ -40,6 +42,7 @@ kept_as : (first : Index) (begun : List BegunCall) (calls : List AnsweredCall) (
     → Kept first begun calls (record s { words = words; spare = spare })
 kept_as first begun calls s words spare k index = record {
   index = index;
+  layout_is = k.layout_is;
   base_is = k.base_is;
   holds = k.holds;
   order = k.order;
@@ -56,6 +59,7 @@ kept_as first begun calls s words spare k index = record {
 kept_first : (s : Index) → IsIndex s → IsQuiet s → s.history ≡ [] → Kept s [] [] s
 kept_first s index quiet fresh = record {
   index = index;
+  layout_is = refl;
   base_is = refl;
   holds = λ j c at. absurd (some-ne-none c (sym at));
   order = λ p q a b at_p at_q less caller. absurd (some-ne-none a (sym at_p));
@@ -72,7 +76,7 @@ kept_first s index quiet fresh = record {
 fewer : (first : Index) (begun more : List BegunCall) → AreCounted first (begun ++ more) → AreCounted first begun
 fewer first begun more few i entry there = let all = few i entry there in let long = length-append begun more in omega arith
 
-none_flies : (s : Index) (party : ℕ) (e : Entry) → (IsInFlight s party → ⊥) → get_elem? s.entries party ≡ some e → e.machine ≡ None
+pub none_flies : (s : Index) (party : ℕ) (e : Entry) → (IsInFlight s party → ⊥) → get_elem? s.entries party ≡ some e → e.machine ≡ None
 none_flies s party e none there = at e.machine refl
   where
     at : (o : Option Running) → e.machine ≡ o → e.machine ≡ None
@@ -97,7 +101,7 @@ kept first index quiet fresh (answers {begun = begun} {calls = calls} {old = old
     let done = done_of (running_turned t.machine (told old t.machine)) answer (sym t.comes_to) in
     subst (λ (v : Index). Kept first begun (calls ++ record { call = flying_call t.entry t.machine; until = length v.history; answer = answer; next = index_after t.entry.index answer } ∷ []) v) (sym t.is)
     (along.is_answered first begun calls old party t.entry t.machine k t.there t.flies answer done new.spare few
-    (subst (λ (v : Index). IsAnswerOf (map_of v.base) v.history t.entry (op_in t.machine) answer) t.is t.answer) (subst IsIndex t.is is))
+    (subst (λ (v : Index). IsAnswerOf v.layout.slots (map_of v.base) v.history t.entry (op_in t.machine) (running_call t.machine).limit answer) t.is t.answer) (subst IsIndex t.is is))
 kept first index quiet fresh (alone {begun = begun} {calls = calls} {old = old} {new = new} {caller = party} {call = c} {result = result} run still r is) few =
     let b = begun_call r.entry (length old.history) c in
     let k = kept first index quiet fresh run (fewer first begun (b ∷ []) few) in
@@ -106,18 +110,12 @@ kept first index quiet fresh (alone {begun = begun} {calls = calls} {old = old} 
     let same : Path Index new (record new { entries = set old.entries party (entry_done r.entry (length old.history)); base = old.base; history = old.history ++ placed_writes r.entry.caller r.entry.index c result }) =
     (λ t. record new { entries = r.entries t; base = r.base t; history = history t }) in
     subst (λ (v : Index). Kept first (begun ++ b ∷ []) (calls ++ record { call = b; until = length v.history; answer = once_of result; next = next_index r.entry.index } ∷ []) v) (sym same)
-    (kept_alone first begun calls old party r.entry c k r.there (still party r.entry r.there) few result still r.answer new (subst IsIndex same is))
+    (kept_alone first begun calls old party r.entry c k r.there (still party r.entry r.there) few result still r.answer new r.layout (subst IsIndex same is))
 kept first index quiet fresh (evicts {begun = begun} {calls = calls} {old = old} {new = new} {word = word} run within e is) few =
     subst (Kept first begun calls) (sym e) (kept_as first begun calls old (evicted old.layout old.words word) old.spare (kept first index quiet fresh run few) (subst IsIndex e is))
 kept first index quiet fresh (reserves {begun = begun} {calls = calls} {old = old} {new = new} run e) few =
     let k = kept first index quiet fresh run few in
     subst (Kept first begun calls) (sym e) (kept_as first begun calls old old.words new.spare k (respare old new.spare k.index))
-
--- where an interval ends, if it is of a write
-write_end : (o : Op) (place : ℕ) (change : Change) → change_of o ≡ Some change → place < (interval_at o place).end
-write_end (op.Put _ _) place change asks = omega arith
-write_end (op.Get _) place change asks = absurd cc
-write_end (op.Del _) place change asks = omega arith
 
 -- where an interval starts
 start_is : (o : Op) (place : ℕ) → (interval_at o place).start ≡ place
@@ -128,6 +126,9 @@ start_is (op.Del _) place = refl
 module _ (first : Index) (begun : List BegunCall) (calls : List AnsweredCall) (s : Index) (k : Kept first begun calls s) where
   abbrev base : Map
   base = map_of first.base
+
+  abbrev slots : ℕ
+  slots = first.layout.slots
 
   -- two calls of one caller with one index are one, if both count
   one_call : (p q : ℕ) (a b : AnsweredCall) → get_elem? calls p ≡ some a → get_elem? calls q ≡ some b → a.call.index < a.next → b.call.index < b.next → a.call.caller ≡ b.call.caller
@@ -167,7 +168,7 @@ module _ (first : Index) (begun : List BegunCall) (calls : List AnsweredCall) (s
       ⊎_elim
       (λ (w : IsAnsweredWrite calls place write).
       let d = w.answered in
-      let holds : AnswerHolds base s.history d.call d.until (once.Done w.placed) = subst (AnswerHolds base s.history d.call d.until) w.answer (k.holds w.number d w.there).0 in
+      let holds : AnswerHolds slots base s.history d.call d.until (once.Done w.placed) = subst (AnswerHolds slots base s.history d.call d.until) w.answer (k.holds w.number d w.there).0 in
       let end = write_end d.call.op w.placed.place write.change w.change in
       let ended = holds.1 in
       let began = holds.0.later in
@@ -201,18 +202,17 @@ module _ (first : Index) (begun : List BegunCall) (calls : List AnsweredCall) (s
   raised : (n : ℕ) (c : AnsweredCall) (r : Once Placed) → get_elem? calls n ≡ some c → c.answer ≡ r → (IsNext c.call.index c.next r → c.next ≡ c.call.index + 1) → c.call.index < c.next
   raised n c r at is counts = let up = counts (subst (IsNext c.call.index c.next) is (k.next n c at)) in omega arith
 
-  legal_answer : (n : ℕ) (c : AnsweredCall) (r : Once Placed) → get_elem? calls n ≡ some c → c.answer ≡ r → AnswerHolds base s.history c.call c.until r → IsLegalAnswer base s.history c.call c.until r
+  legal_answer : (n : ℕ) (c : AnsweredCall) (r : Once Placed) → get_elem? calls n ≡ some c → c.answer ≡ r → AnswerHolds slots base s.history c.call c.until r → IsLegalAnswer slots base s.history c.call c.until r
   legal_answer n c (once.Done placed) at is holds = record { took = holds.0; ended = holds.1; stands = stands_at n c placed.place (change_of c.call.op) at (raised n c (once.Done placed) at is (λ up. up)) refl holds.2 }
   legal_answer n c (once.Spent clock) at is holds = record {
-    reached = holds.0;
-    later = holds.1;
-    ended = holds.2;
+    reached = holds;
     nowhere = nowhere n c at (raised n c (once.Spent clock) at is (λ up. up)) (λ placed other. let both : once.Spent clock ≡ once.Done placed = sym is ∙ other in cc);
   }
   legal_answer n c (once.Worn node word) at is holds = nowhere n c at (raised n c (once.Worn node word) at is (λ up. up)) (λ placed other. let both : once.Worn node word ≡ once.Done placed = sym is ∙ other in cc)
-  legal_answer n c (once.Again why) at is holds = wrote_nothing n c at (λ placed other. let both : once.Again why ≡ once.Done placed = sym is ∙ other in cc)
+  legal_answer n c (once.Again why) at is holds =
+      record { wrote_nothing = wrote_nothing n c at (λ placed other. let both : once.Again why ≡ once.Done placed = sym is ∙ other in cc); room = holds }
 
-  apart : (a b : AnsweredCall) (r t : Once Placed) → AnswerHolds base s.history a.call a.until r → AnswerHolds base s.history b.call b.until t → a.until ≤ b.call.since
+  apart : (a b : AnsweredCall) (r t : Once Placed) → AnswerHolds slots base s.history a.call a.until r → AnswerHolds slots base s.history b.call b.until t → a.until ≤ b.call.since
       → IfSome (interval_of a.call.op r) (λ first. IfSome (interval_of b.call.op t) (λ second. first.end ≤ second.start))
   apart a b (once.Done first) (once.Done second) holds_a holds_b ended =
       let end = holds_a.1 in
@@ -258,16 +258,24 @@ module _ (first : Index) (begun : List BegunCall) (calls : List AnsweredCall) (s
   legal_history : IsLegalHistory base begun calls s
   legal_history = record {
     base_is = k.base_is;
-    answers = λ n c at. let holds = k.holds n c at in record { was_begun = k.was_begun n c at; answer = legal_answer n c c.answer at refl holds.0; within = holds.1; next = k.next n c at };
+    answers = λ n c at.
+        let holds = k.holds n c at in
+        record {
+          was_begun = k.was_begun n c at;
+          answer = subst (λ (l : Layout). IsLegalAnswer l.slots base s.history c.call c.until c.answer) (sym k.layout_is) (legal_answer n c c.answer at refl holds.0);
+          within = holds.1;
+          next = k.next n c at;
+        };
     in_time = λ i j a b at_i at_j ended. apart a b a.answer b.answer (k.holds i a at_i).0 (k.holds j b at_j).0 ended;
     in_order = in_order;
     in_flight = λ i entry machine there flies. record {
-      was_begun = (k.flying i entry machine there flies).1;
+      was_begun = k.flying i entry machine there flies;
       last = λ n a at caller. subst (IsEarlier a entry) flies (k.earlier n a i entry at there (caller ∙ (k.index.entries i entry there).caller));
     };
     each_call = k.each_call;
     once = once_each;
     writes = k.writes;
+    places = λ limit carry. places_keep_limit first begun calls s k limit carry;
   }
 
 pub one_legal_history : OneLegalHistory

@@ -51,6 +51,7 @@ use Rattle.node_ops.specs.DelSteps.{del_turned, del_looked, del_hit, del_finishe
 use Rattle.node_ops.specs.RunningSteps.{running_call, running_asks, running_turned, wrapped}
 use Rattle.node_ops.specs.CallStages.{stage_of, lookup_at_stage, lookup_stage, reply_of}
 use Rattle.node_ops.proofs.LookupLaw.{fresh_word}
+use Rattle.index_core.specs.Answers.{IsPut}
 
 pub data Phase : Type 0 where
   Begun : Phase
@@ -107,10 +108,6 @@ phase_of (Deleting del) = del_phase del
 abbrev pub phase_after : Turn Running (Once Placed) → Phase
 phase_after (Go running) = phase_of running
 phase_after (Done answer) = Begun
-
-abbrev pub IsPut : Op → Type 0
-IsPut (op.Put name value) = Unit {0}
-IsPut _ = ⊥
 
 abbrev pub IsGet : Op → Type 0
 IsGet (op.Get name) = Unit {0}

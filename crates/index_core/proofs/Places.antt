@@ -5,6 +5,7 @@ use Rattle.std.proofs.lemmas.Bool.{leb-true}
 use Rattle.pm_words.specs.declared.layout.Layout.{Layout}
 use Rattle.pm_words.specs.declared.action.Action.{Action}
 use Rattle.pm_words.specs.declared.action.Action.TheVariants.{Add}
+use Rattle.pm_words.specs.declared.again.Again.TheVariants.{NoFree}
 use Rattle.cat_history.specs.Records.{change_of}
 use Rattle.cat_history.specs.declared.op.Change.{Change}
 use Rattle.cat_history.specs.declared.op.Op.{Op}
@@ -12,7 +13,7 @@ use Rattle.cat_history.specs.declared.op.Op.TheVariants as op
 use Rattle.call_stages.specs.declared.once.Once.{Once}
 use Rattle.call_stages.specs.declared.once.Once.TheVariants as once
 use Rattle.call_stages.specs.declared.once.Placed.{Placed}
-use Rattle.call_stages.specs.Stages.{Stage, counted, placed_in}
+use Rattle.call_stages.specs.Stages.{Stage, Holds, counted, placed_in}
 use Rattle.call_stages.specs.Kinds.{clock_place}
 use Rattle.node_ops.specs.declared.call.Call.{Call}
 use Rattle.node_ops.specs.declared.lookup.LookupAt.{LookupAt}
@@ -25,8 +26,10 @@ use Rattle.node_ops.specs.declared.put.Put.TheVariants as put
 use Rattle.node_ops.specs.declared.del.Del.TheVariants as del
 use Rattle.node_ops.specs.declared.running.Running.{Running}
 use Rattle.node_ops.specs.declared.running.Running.TheVariants.{Getting, Putting, Deleting}
-use Rattle.node_ops.specs.LookupSteps.{is_spent}
+use Rattle.node_ops.specs.LookupSteps.{is_spent, IsLookupAt}
+use Rattle.node_ops.specs.RunningSteps.{running_call, IsRunning}
 use Rattle.node_ops.specs.CallStages.{stage_of, lookup_at_stage, finish_at_held}
+use Rattle.index_core.specs.Answers.{IsPut}
 use Rattle.index_core.proofs.Phases.{Phase, Locking, Over, Timed, Counted, Goes, refused, worn, saw, moved, locks, times, passes, spent, works, counts, reads, refuses, answers, IsGet, IsWrite, lookup_phase, finish_phase, phase_of}
 
 -- the place that a call has in this phase
@@ -67,6 +70,77 @@ abbrev pub IsOverOnly : Option ℕ → Phase → Type 0
 IsOverOnly limit (Over w clock) = IsSomeAnd limit (λ most. most ≤ clock)
 IsOverOnly limit _ = Unit {0}
 
+-- it is below its limit, if it has one, by the clock that it loaded
+abbrev pub IsBelow : Phase → Type 0
+IsBelow (Timed w clock) = Unit {0}
+IsBelow (Counted w place) = Unit {0}
+IsBelow _ = ⊥
+
+-- the limit that a stage knows of
+abbrev pub limit_in : Stage → Option ℕ
+limit_in (Holds n w h) = h.limit
+limit_in _ = None
+
+lookup_limit : (call : Call) (at : LookupAt) → IsBelow (lookup_phase at) → limit_in (lookup_at_stage call at) ≡ call.limit
+lookup_limit call look.Version below = absurd below
+lookup_limit call (look.Lock version locked) below = absurd below
+lookup_limit call (look.Clock locked) below = absurd below
+lookup_limit call (look.Spent hold) below = absurd below
+lookup_limit call (look.Bitmap hold) below = refl
+lookup_limit call (look.Prints hold bitmap prints k) below = refl
+lookup_limit call (look.Name hold directory left slot k) below = refl
+lookup_limit call (look.Value hold directory slot) below = refl
+
+finish_limit : (finish : Finish) (at : FinishAt) → (finish_at_held finish at).limit ≡ finish.call.limit
+finish_limit finish (finish_at.Fence fence) = refl
+finish_limit finish finish_at.Add = refl
+finish_limit finish (finish_at.Unlock place) = refl
+
+-- there it is the call's
+pub limit_is : (running : Running) → IsBelow (phase_of running) → limit_in (stage_of running) ≡ (running_call running).limit
+limit_is (Getting (get.Looking lookup)) below = lookup_limit lookup.call lookup.at below
+limit_is (Getting (get.Unlocking call hold old)) below = refl
+limit_is (Putting (put.Looking lookup number)) below = lookup_limit lookup.call lookup.at below
+limit_is (Putting (put.Filling fill)) below = refl
+limit_is (Putting (put.Replacing call hold bitmap hit number)) below = refl
+limit_is (Putting (put.Finishing finish)) below = finish_limit finish finish.at
+limit_is (Putting (put.Refusing call hold bitmap number)) below = refl
+limit_is (Deleting (del.Looking lookup)) below = lookup_limit lookup.call lookup.at below
+limit_is (Deleting (del.Clearing call hold bitmap hit)) below = refl
+limit_is (Deleting (del.Finishing finish)) below = finish_limit finish finish.at
+
+pub reached : (limit : Option ℕ) (clock : ℕ) → is_spent limit clock ≡ true → IsSomeAnd limit (λ most. most ≤ clock)
+reached None clock e = absurd (cc)
+reached (Some most) clock e = leb-true most clock e
+
+lookup_over : (call : Call) (at : LookupAt) → IsLookupAt call at → IsOverOnly call.limit (lookup_phase at)
+lookup_over call look.Version here = tt
+lookup_over call (look.Lock version locked) here = tt
+lookup_over call (look.Clock locked) here = tt
+lookup_over call (look.Spent hold) here = reached call.limit hold.clock here.1
+lookup_over call (look.Bitmap hold) here = tt
+lookup_over call (look.Prints hold bitmap prints k) here = tt
+lookup_over call (look.Name hold directory left slot k) here = tt
+lookup_over call (look.Value hold directory slot) here = tt
+
+finish_over : (limit : Option ℕ) (finish : Finish) (at : FinishAt) → IsOverOnly limit (finish_phase finish.hold at)
+finish_over limit finish (finish_at.Fence fence) = tt
+finish_over limit finish finish_at.Add = tt
+finish_over limit finish (finish_at.Unlock place) = tt
+
+-- a sound call that is over its limit has loaded a clock that reached it
+pub is_over : (running : Running) → IsRunning running → IsOverOnly (running_call running).limit (phase_of running)
+is_over (Getting (get.Looking lookup)) is = lookup_over lookup.call lookup.at is.here
+is_over (Getting (get.Unlocking call hold old)) is = tt
+is_over (Putting (put.Looking lookup number)) is = lookup_over lookup.call lookup.at is.0.here
+is_over (Putting (put.Filling fill)) is = tt
+is_over (Putting (put.Replacing call hold bitmap hit number)) is = tt
+is_over (Putting (put.Finishing finish)) is = finish_over finish.call.limit finish finish.at
+is_over (Putting (put.Refusing call hold bitmap number)) is = tt
+is_over (Deleting (del.Looking lookup)) is = lookup_over lookup.call lookup.at is.here
+is_over (Deleting (del.Clearing call hold bitmap hit)) is = tt
+is_over (Deleting (del.Finishing finish)) is = finish_over finish.call.limit finish finish.at
+
 -- a call that goes on keeps its place, or has none and takes the one that it is told with its change
 abbrev pub Onward : Layout → Phase → Action → ℕ → Phase → Option Change → Type 0
 Onward l phase a x next None = place_in next ≡ place_in phase
@@ -79,13 +153,10 @@ place_for (Some change) place = Some place
 
 -- how a call comes to its answer
 abbrev pub EndsWith : Option ℕ → Op → Phase → Once Placed → Type 0
-EndsWith limit asked phase (once.Done placed) = place_in phase ≡ place_for (change_of asked) placed.place
+EndsWith limit asked phase (once.Done placed) = (place_in phase ≡ place_for (change_of asked) placed.place) × IsBelow phase
 EndsWith limit asked phase (once.Spent clock) = (place_in phase ≡ None) × (IsOverOnly limit phase → IsSomeAnd limit (λ most. most ≤ clock))
-EndsWith limit asked phase _ = place_in phase ≡ None
-
-pub reached : (limit : Option ℕ) (clock : ℕ) → is_spent limit clock ≡ true → IsSomeAnd limit (λ most. most ≤ clock)
-reached None clock e = absurd (cc)
-reached (Some most) clock e = leb-true most clock e
+EndsWith limit asked phase (once.Worn node word) = place_in phase ≡ None
+EndsWith limit asked phase (once.Again why) = (place_in phase ≡ None) × (why ≡ NoFree → IsPut asked)
 
 get_changes : (asked : Op) → IsGet asked → change_of asked ≡ None
 get_changes (op.Get name) is = refl
@@ -114,36 +185,21 @@ module _ {l : Layout} {g n : ℕ} {limit : Option ℕ} {asked : Op} where
   onward (refuses put none) go = absurd (cc)
   onward (answers write none) go = absurd (cc)
 
-  pub over_only : {phase : Phase} {stage : Stage} {a : Action} {x : ℕ} {next : Phase} {answer : Option (Once Placed)} → Goes l g n limit asked phase stage a x next answer → IsOverOnly limit next
-  over_only refused = tt
-  over_only worn = tt
-  over_only (saw unworn lock) = tt
-  over_only moved = tt
-  over_only locks = tt
-  over_only (times none below) = tt
-  over_only (passes {x = x} none past) = reached limit x past
-  over_only (spent none) = tt
-  over_only (works none) = tt
-  over_only (counts write some_change) = tt
-  over_only (reads get none) = tt
-  over_only (refuses put none) = tt
-  over_only (answers write none) = tt
-
   replies : {phase : Phase} {stage : Stage} {a : Action} {x : ℕ} {next : Phase} {reply : Option (Once Placed)} → Goes l g n limit asked phase stage a x next reply
       → IfSome reply (λ answer. EndsWith limit asked phase answer × (counted stage ≡ None))
-  replies refused = (refl, refl)
+  replies refused = ((refl, λ e. absurd (cc)), refl)
   replies worn = (refl, refl)
   replies (saw unworn lock) = tt
-  replies moved = (refl, refl)
+  replies moved = ((refl, λ e. absurd (cc)), refl)
   replies locks = tt
   replies (times none below) = tt
   replies (passes none past) = tt
   replies (spent none) = ((refl, λ over. over), none)
   replies (works none) = tt
   replies (counts write some_change) = tt
-  replies (reads {c = clock} get none) = (ap (λ (o : Option Change). place_for o clock) (sym (get_changes asked get)), none)
-  replies (refuses put none) = (refl, none)
-  replies (answers {p = place} write none) = (write_place asked place write, none)
+  replies (reads {c = clock} get none) = ((ap (λ (o : Option Change). place_for o clock) (sym (get_changes asked get)), tt), none)
+  replies (refuses put none) = ((refl, λ e. put), none)
+  replies (answers {p = place} write none) = ((write_place asked place write, tt), none)
 
   pub ends_with : {phase : Phase} {stage : Stage} {a : Action} {x : ℕ} {next : Phase} {reply : Option (Once Placed)} → Goes l g n limit asked phase stage a x next reply → (answer : Once Placed) → reply ≡ Some answer
       → EndsWith limit asked phase answer × (counted stage ≡ None)

@@ -1,18 +1,21 @@
 -- What holds of an index and of the calls that were answered, along a schedule.
 use Rattle.std.proofs.Common.{◌≡◌, ◌≢◌, ℕ, ◌+◌, ◌<◌, ◌≤◌, ◌⊎◌, inl, inr, ⊎_elim, List, [], ◌∷◌, ◌++◌, length, set, slice_set, refl, sym, ap, ◌∙◌, subst, arith}
-use Rattle.std.specs.Prelude.{Contains, Option, Some, None, IfSome, IsSomeAnd, slice_get}
+use Rattle.std.specs.Prelude.{Contains, Option, Some, None, IfSome, slice_get}
 use Rattle.std.proofs.lemmas.Bool.{cases_eq}
 use Rattle.std.proofs.lemmas.List.{append-nil, length-append}
 use Rattle.std.proofs.lemmas.Option.{IfSome_then}
 use Rattle.std.proofs.Math.Nat.{min-eq_left}
+use Rattle.std.specs.FinMap.{len}
 use mathlib.Core.Option.{some, some-injective}
 use lib.ListN.{get_elem?}
 use Rattle.pm_words.specs.declared.layout.Layout.{Layout}
+use Rattle.pm_words.specs.declared.again.Again.TheVariants.{NoFree}
 use Rattle.pm_words.specs.declared.action.Action.TheVariants.{Add}
 use Rattle.pm_words.specs.declared.machine.Turn.{Turn}
 use Rattle.pm_words.specs.declared.machine.Turn.TheVariants.{Go, Done}
 use Rattle.pm_words.specs.Rows.{acted, got}
 use Rattle.cat_history.specs.Maps.{Map, at, map_of}
+use Rattle.cat_history.specs.Writes.{after}
 use Rattle.cat_history.specs.Records.{interval_at, change_of}
 use Rattle.cat_history.specs.declared.op.Change.{Change}
 use Rattle.cat_history.specs.declared.op.Op.{Op}
@@ -34,13 +37,13 @@ use Rattle.index_law.specs.Lawful.{HasWriteAt}
 use Rattle.index_law.proofs.Maps.{after-longer, slice_get-longer}
 use Rattle.index_law.proofs.Parties.{at_set, at_longer, set_here, set_else}
 use Rattle.index_core.specs.declared.entry.Entry.{Entry}
-use Rattle.index_core.specs.Answers.{TookPlace, IsAnswerOf}
+use Rattle.index_core.specs.Answers.{TookPlace, WasReached, IsPut, FoundNoRoom, IsAnswerOf}
 use Rattle.index_core.specs.Entries.{entry_after, next_index, index_after, IsEntry}
 use Rattle.index_core.specs.Indexes.{Index, IsIndex, told, stepped_index, MakesCall}
 use Rattle.index_core.specs.Schedules.{BegunCall, AnsweredCall, flying_call, IsNext, IsAnswered, IsFlying, IsAnsweredWrite, IsWriteInFlight, EachWriteIsOfACall, AreCounted}
 use Rattle.index_core.proofs.Lists.{within, at_end, end_there, some_same, got_end}
 use Rattle.index_core.proofs.Phases.{phase_of, phase_after, leads}
-use Rattle.index_core.proofs.Places.{place_in, place_is, place_for, IsOverOnly, Onward, EndsWith, onward, over_only, ends_with}
+use Rattle.index_core.proofs.Places.{place_in, place_is, place_for, Onward, EndsWith, onward, ends_with}
 
 -- a call that was answered comes before what its caller makes
 abbrev pub IsEarlier : AnsweredCall → Entry → Option Running → Type 0
@@ -48,16 +51,17 @@ IsEarlier c entry None = c.next ≤ entry.index
 IsEarlier c entry (Some machine) = (c.next ≤ entry.index) × (c.until ≤ entry.since)
 
 -- what an answer says of the map and the history, which stays so as the history grows
-abbrev pub AnswerHolds : Map → List Write → BegunCall → ℕ → Once Placed → Type 0
-AnswerHolds base history c until (once.Done placed) =
-    TookPlace base history c.caller c.index c.since c.op placed × ((interval_at c.op placed.place).end ≤ until)
+abbrev pub AnswerHolds : ℕ → Map → List Write → BegunCall → ℕ → Once Placed → Type 0
+AnswerHolds slots base history c until (once.Done placed) =
+    TookPlace base history c.caller c.index c.since c.op c.limit placed × ((interval_at c.op placed.place).end ≤ until)
     × IfSome (change_of c.op) (λ change. slice_get history placed.place ≡ Some (record { caller = c.caller; index = c.index; change = change }))
-AnswerHolds base history c until (once.Spent clock) = IsSomeAnd c.limit (λ limit. limit ≤ clock) × (c.since ≤ clock) × (clock ≤ until)
-AnswerHolds base history c until _ = Unit {0}
+AnswerHolds slots base history c until (once.Spent clock) = WasReached c.since until c.limit clock
+AnswerHolds slots base history c until (once.Worn node word) = Unit {0}
+AnswerHolds slots base history c until (once.Again why) = why ≡ NoFree → IsPut c.op × FoundNoRoom slots base history c.since until (name_asked c.op)
 
 -- the same of an answered call
-abbrev pub CallHolds : Map → List Write → AnsweredCall → Type 0
-CallHolds base history c = AnswerHolds base history c.call c.until c.answer × (c.until ≤ length history)
+abbrev pub CallHolds : ℕ → Map → List Write → AnsweredCall → Type 0
+CallHolds slots base history c = AnswerHolds slots base history c.call c.until c.answer × (c.until ≤ length history)
 
 -- how many calls a caller has in flight
 abbrev pub in_flight : Option Running → ℕ
@@ -72,13 +76,14 @@ pub record CountsUpTo (first : Index) (begun : List BegunCall) (i : ℕ) (entry 
 
 pub record Kept (first : Index) (begun : List BegunCall) (calls : List AnsweredCall) (s : Index) : Type 0 where
   pub index : IsIndex s
+  pub layout_is : s.layout ≡ first.layout
   pub base_is : map_of s.base ≡ map_of first.base
-  pub holds : (n : ℕ) (c : AnsweredCall) → get_elem? calls n ≡ some c → CallHolds (map_of first.base) s.history c
+  pub holds : (n : ℕ) (c : AnsweredCall) → get_elem? calls n ≡ some c → CallHolds first.layout.slots (map_of first.base) s.history c
   pub order : (i j : ℕ) (a b : AnsweredCall) → get_elem? calls i ≡ some a → get_elem? calls j ≡ some b → i < j → a.call.caller ≡ b.call.caller
       → (a.next ≤ b.call.index) × (a.until ≤ b.call.since)
   pub earlier : (n : ℕ) (c : AnsweredCall) (i : ℕ) (entry : Entry) → get_elem? calls n ≡ some c → get_elem? s.entries i ≡ some entry → c.call.caller ≡ i → IsEarlier c entry entry.machine
   pub flying : (i : ℕ) (entry : Entry) (machine : Running) → get_elem? s.entries i ≡ some entry → entry.machine ≡ Some machine
-      → IsOverOnly (running_call machine).limit (phase_of machine) × Contains begun (flying_call entry machine)
+      → Contains begun (flying_call entry machine)
   pub writes : EachWriteIsOfACall calls s.entries s.history
   pub was_begun : (n : ℕ) (c : AnsweredCall) → get_elem? calls n ≡ some c → Contains begun c.call
   pub next : (n : ℕ) (c : AnsweredCall) → get_elem? calls n ≡ some c → IsNext c.call.index c.next c.answer
@@ -93,8 +98,20 @@ place_le_end (op.Del _) place = omega arith
 longer_write : (h more : List Write) (caller index : ℕ) (name : List ℕ) (place : ℕ) → HasWriteAt h caller index name place → HasWriteAt (h ++ more) caller index name place
 longer_write h more caller index name place is = record { change = is.change; about = is.about; stands = slice_get-longer h more place _ is.stands }
 
-longer_holds : (base : Map) (h more : List Write) (c : BegunCall) (until : ℕ) (answer : Once Placed) → AnswerHolds base h c until answer → AnswerHolds base (h ++ more) c until answer
-longer_holds base h more c until (once.Done placed) is =
+longer_room : (slots : ℕ) (base : Map) (h more : List Write) (since until : ℕ) (name : List ℕ) → FoundNoRoom slots base h since until name → until ≤ length h → FoundNoRoom slots base (h ++ more) since until name
+longer_room slots base h more since until name is ended =
+    let within = is.within in
+    let same : after base (h ++ more) is.clock ≡ after base h is.clock = after-longer base h more is.clock (omega arith) in
+    record {
+      clock = is.clock;
+      later = is.later;
+      within = is.within;
+      lacked = ap (λ (m : Map). at m name) same ∙ is.lacked;
+      many = subst (λ (m : Map). slots ≤ len m) (sym same) is.many;
+    }
+
+longer_holds : (slots : ℕ) (base : Map) (h more : List Write) (c : BegunCall) (until : ℕ) (answer : Once Placed) → AnswerHolds slots base h c until answer → until ≤ length h → AnswerHolds slots base (h ++ more) c until answer
+longer_holds slots base h more c until (once.Done placed) is ended =
     let took = is.0 in
     let least = place_le_end c.op placed.place in
     let longer = length-append h more in
@@ -102,18 +119,19 @@ longer_holds base h more c until (once.Done placed) is =
       record {
         later = took.later;
         within = omega arith;
+        below = took.below;
         old = took.old ∙ ap (λ (m : Map). at m (name_asked c.op)) (sym (after-longer base h more placed.place (omega arith)));
         write = IfSome_then (change_of c.op) took.write (λ change write. longer_write h more c.caller c.index (name_asked c.op) placed.place write);
       },
       is.1,
       IfSome_then (change_of c.op) is.2 (λ change stands. slice_get-longer h more placed.place _ stands),
     )
-longer_holds base h more c until (once.Spent clock) is = is
-longer_holds base h more c until (once.Worn node word) is = tt
-longer_holds base h more c until (once.Again why) is = tt
+longer_holds slots base h more c until (once.Spent clock) is ended = is
+longer_holds slots base h more c until (once.Worn node word) is ended = tt
+longer_holds slots base h more c until (once.Again why) is ended = λ full. ((is full).0, longer_room slots base h more c.since until (name_asked c.op) (is full).1 ended)
 
-pub longer_call : (base : Map) (h more : List Write) (c : AnsweredCall) → CallHolds base h c → CallHolds base (h ++ more) c
-longer_call base h more c is = let longer = length-append h more in let within = is.1 in (longer_holds base h more c.call c.until c.answer is.0, omega arith)
+pub longer_call : (slots : ℕ) (base : Map) (h more : List Write) (c : AnsweredCall) → CallHolds slots base h c → CallHolds slots base (h ++ more) c
+longer_call slots base h more c is = let longer = length-append h more in let within = is.1 in (longer_holds slots base h more c.call c.until c.answer is.0 is.1, omega arith)
 
 -- an entry that stands elsewhere than the changed one
 pub else_there : (entries : List Entry) (i j : ℕ) (now entry : Entry) → j ≢ i → get_elem? entries j ≡ some entry → get_elem? (set entries i now) j ≡ some entry
@@ -209,12 +227,7 @@ module _ (first : Index) (begun : List BegunCall) (calls : List AnsweredCall) (s
     same_call = λ t. record { caller = e.caller; index = e.index; op = op_same t; limit = (running_same t).limit; since = e.since }
 
     call_on : Contains begun (flying_call e' next)
-    call_on = subst (Contains begun) (sym same_call) (k.flying i e m there flies).1
-
-    over : IsOverOnly (running_call next).limit (phase_of next)
-    over =
-        subst (λ (c : Call). IsOverOnly c.limit (phase_of next)) (sym running_same)
-        (subst (λ (turn : Turn Running (Once Placed)). IsOverOnly (running_call m).limit (phase_after turn)) is (over_only (leads (op_in m) m x of)))
+    call_on = subst (Contains begun) (sym same_call) (k.flying i e m there flies)
 
     -- the place that it is told is the length of the history
     clock : running_asks m ≡ Add (clock_place (running_call m).view.layout) → x ≡ length s.history
@@ -309,7 +322,8 @@ module _ (first : Index) (begun : List BegunCall) (calls : List AnsweredCall) (s
     going index = record {
       index = index;
       base_is = k.base_is;
-      holds = λ j c at. longer_call base s.history (written e.caller e.index (counted (stage_of m))) c (k.holds j c at);
+      layout_is = k.layout_is;
+      holds = λ j c at. longer_call first.layout.slots base s.history (written e.caller e.index (counted (stage_of m))) c (k.holds j c at);
       order = k.order;
       earlier = λ j c p entry at at_p caller. ⊎_elim
           (λ (mine : (p ≡ i) × (e' ≡ entry)).
@@ -320,7 +334,7 @@ module _ (first : Index) (begun : List BegunCall) (calls : List AnsweredCall) (s
       flying = λ p entry machine at_p flown. ⊎_elim
           (λ (mine : (p ≡ i) × (e' ≡ entry)).
           let machine_is : next ≡ machine = some_same (ap (λ (d : Entry). d.machine) mine.1 ∙ flown) in
-          subst (λ (q : Entry × Running). IsOverOnly (running_call q.1).limit (phase_of q.1) × Contains begun (flying_call q.0 q.1)) (λ t. (mine.1 t, machine_is t)) (over, call_on))
+          subst (λ (q : Entry × Running). Contains begun (flying_call q.0 q.1)) (λ t. (mine.1 t, machine_is t)) call_on)
           (λ (other : (p ≢ i) × (get_elem? s.entries p ≡ some entry)). k.flying p entry machine other.1 flown)
           (at_set s.entries i p e' entry at_p);
       writes = writes_on (counted (stage_of m)) on (counts_own_change (op_in m) m of);
@@ -384,21 +398,21 @@ module _ (first : Index) (begun : List BegunCall) (calls : List AnsweredCall) (s
         let changed : write.change ≡ change = some_same (sym (own_write place _ write.stands refl refl) ∙ sym same) in
         subst (λ (c : Change). slice_get s.history place ≡ Some (record { caller = e.caller; index = e.index; change = c })) changed write.stands
 
-    tells_it : (r : Once Placed) → EndsWith (running_call m).limit (op_in m) (phase_of m) r → IsAnswerOf base s.history e (op_in m) r → AnswerHolds base s.history (flying_call e m) (length s.history) r
-    tells_it (once.Done placed) ending took = (took, took.within, own_change (change_of (op_in m)) placed.place refl took.write)
-    tells_it (once.Spent clock) ending times = (ending.1 (k.flying i e m there flies).0, times.0, times.1)
-    tells_it (once.Worn node word) ending says = tt
-    tells_it (once.Again why) ending says = tt
+    tells_it : (r : Once Placed) → IsAnswerOf first.layout.slots base s.history e (op_in m) (running_call m).limit r → AnswerHolds first.layout.slots base s.history (flying_call e m) (length s.history) r
+    tells_it (once.Done placed) took = (took, took.within, own_change (change_of (op_in m)) placed.place refl took.write)
+    tells_it (once.Spent clock) says = says
+    tells_it (once.Worn node word) says = tt
+    tells_it (once.Again why) says = says
 
     -- its place was the one that it is told
     placed_by : (r : Once Placed) (place : ℕ) (change : Change) → EndsWith (running_call m).limit (op_in m) (phase_of m) r → placed_in (stage_of m) ≡ Some place → change_of (op_in m) ≡ Some change
         → (placed : Placed) × (r ≡ once.Done placed) × (placed.place ≡ place)
     placed_by (once.Done placed) place change ending stands asks =
-        let both : Some placed.place ≡ Some place = ap (λ (o : Option Change). place_for o placed.place) (sym asks) ∙ sym ending ∙ sym (place_is m) ∙ stands in
+        let both : Some placed.place ≡ Some place = ap (λ (o : Option Change). place_for o placed.place) (sym asks) ∙ sym ending.0 ∙ sym (place_is m) ∙ stands in
         (placed, refl, some_same both)
     placed_by (once.Spent clock) place change ending stands asks = absurd (let both : None ≡ Some place = sym ending.0 ∙ sym (place_is m) ∙ stands in cc)
     placed_by (once.Worn node word) place change ending stands asks = absurd (let both : None ≡ Some place = sym ending ∙ sym (place_is m) ∙ stands in cc)
-    placed_by (once.Again why) place change ending stands asks = absurd (let both : None ≡ Some place = sym ending ∙ sym (place_is m) ∙ stands in cc)
+    placed_by (once.Again why) place change ending stands asks = absurd (let both : None ≡ Some place = sym ending.0 ∙ sym (place_is m) ∙ stands in cc)
 
     writes_done : EachWriteIsOfACall (calls ++ call ∷ []) (set s.entries i done) s.history
     writes_done place write stands =
@@ -462,14 +476,15 @@ module _ (first : Index) (begun : List BegunCall) (calls : List AnsweredCall) (s
         omega arith))
         (at_end calls call a p at_p)
 
-    answered : IsAnswerOf base s.history e (op_in m) answer → IsIndex done_index → Kept first begun (calls ++ call ∷ []) done_index
+    answered : IsAnswerOf first.layout.slots base s.history e (op_in m) (running_call m).limit answer → IsIndex done_index → Kept first begun (calls ++ call ∷ []) done_index
     answered says index = record {
       index = index;
+      layout_is = k.layout_is;
       base_is = k.base_is;
       holds = λ j c at. ⊎_elim
           (λ (old : get_elem? calls j ≡ some c). k.holds j c old)
           (λ (last : (j ≡ length calls) × (call ≡ c)).
-          subst (CallHolds base s.history) last.1 (tells_it answer ends says, omega arith))
+          subst (CallHolds first.layout.slots base s.history) last.1 (tells_it answer says, omega arith))
           (at_end calls call c j at);
       order = ordered;
       earlier = λ j c p entry at at_p caller. ⊎_elim
@@ -493,7 +508,7 @@ module _ (first : Index) (begun : List BegunCall) (calls : List AnsweredCall) (s
       writes = writes_done;
       was_begun = λ j c at. ⊎_elim
           (λ (old : get_elem? calls j ≡ some c). k.was_begun j c old)
-          (λ (last : (j ≡ length calls) × (call ≡ c)). subst (λ (d : AnsweredCall). Contains begun d.call) last.1 (k.flying i e m there flies).1)
+          (λ (last : (j ≡ length calls) × (call ≡ c)). subst (λ (d : AnsweredCall). Contains begun d.call) last.1 (k.flying i e m there flies))
           (at_end calls call c j at);
       next = λ j c at. ⊎_elim
           (λ (old : get_elem? calls j ≡ some c). k.next j c old)
@@ -515,7 +530,7 @@ module _ (first : Index) (begun : List BegunCall) (calls : List AnsweredCall) (s
           (at_set s.entries i p done entry at_p);
     }
 
-    pub is_answered : IsAnswerOf (map_of (stepped_index s i e m n).base) (stepped_index s i e m n).history e (op_in m) answer → IsIndex (stepped_index s i e m n)
+    pub is_answered : IsAnswerOf s.layout.slots (map_of (stepped_index s i e m n).base) (stepped_index s i e m n).history e (op_in m) (running_call m).limit answer → IsIndex (stepped_index s i e m n)
         → Kept first begun (calls ++ record { call = flying_call e m; until = length (stepped_index s i e m n).history; answer = answer; next = index_after e.index answer } ∷ []) (stepped_index s i e m n)
     is_answered says index =
         let same : Path Index done_index (stepped_index s i e m n) = (λ t. record s {
@@ -524,5 +539,6 @@ module _ (first : Index) (begun : List BegunCall) (calls : List AnsweredCall) (s
           history = sym unwritten t;
           spare = n;
         }) in
-        let says_now : IsAnswerOf base s.history e (op_in m) answer = subst (λ (q : Map × List Write). IsAnswerOf q.0 q.1 e (op_in m) answer) (λ t. (k.base_is t, unwritten t)) says in
+        let says_now : IsAnswerOf first.layout.slots base s.history e (op_in m) (running_call m).limit answer =
+        subst (λ (q : ℕ × (Map × List Write)). IsAnswerOf q.0 q.1.0 q.1.1 e (op_in m) (running_call m).limit answer) (λ t. ((k.layout_is t).slots, (k.base_is t, unwritten t))) says in
         subst (λ (v : Index). Kept first begun (calls ++ record { call = flying_call e m; until = length v.history; answer = answer; next = index_after e.index answer } ∷ []) v) same (answered says_now (subst IsIndex (sym same) index))

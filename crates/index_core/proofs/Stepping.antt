@@ -44,6 +44,8 @@ use Rattle.index_law.proofs.Actions.{action_law, zero_told}
 use Rattle.index_law.proofs.Own.{allow_law, sure_within}
 use Rattle.index_law.proofs.Law.{step_law}
 use Rattle.index_law.proofs.Maps.{changed_names}
+use Rattle.index_law.specs.Weights.{AddsName, RisesBy, weight_sum}
+use Rattle.index_law.proofs.Weights.{step_weighs, swap_weighs}
 use Rattle.index_law.proofs.Starts.{start_law, swap_law}
 use Rattle.index_law.proofs.Parties.{at_set, set_here}
 use Rattle.index_core.specs.declared.entry.Entry.{Entry}
@@ -83,7 +85,9 @@ pub record StepFacts (s : Index) (party : ℕ) (entry : Entry) (machine : Runnin
   pub takes : running_takes machine (told s machine)
   pub keeps_op : (asked : Op) → IsOf asked machine → IsOfAfter asked (running_turned machine (told s machine))
   pub keeps_call : MakesCall (running_call machine) (running_turned machine (told s machine))
+  pub is_step : Step s.layout s.generation (stage_of machine) (running_asks machine) (told s machine) (stage_after (running_turned machine (told s machine))) (reply_of (running_turned machine (told s machine)))
   pub kept : (spare : ℕ) → IsIndex (stepped_index s party entry machine spare)
+  pub weighs : (spare : ℕ) → RisesBy (AddsName (stage_of machine) (running_asks machine) (stage_after (running_turned machine (told s machine)))) (weight_sum (world s)) (weight_sum (world (stepped_index s party entry machine spare)))
   pub legal : (spare : ℕ) → IsLegal s.layout s.generation (facts (world (stepped_index s party entry machine spare))) entry.caller entry.index entry.since (stage_of machine) (reply_of (running_turned machine (told s machine)))
 
 -- the world with the party as its call's turn leaves it: one whose call is answered is idle, and may have another index
@@ -99,6 +103,17 @@ lawful_after w i entry a (Done answer) there lawful =
     let v = stepped w i (party_of entry) a Idle in
     let here = set_here w.parties i p (party_of entry) there in
     subst (λ (parties : List Party). Lawful (record v { parties = parties })) (set_twice w.parties i p q) (swap_law v i p q lawful here refl refl (lawful.begun i p here))
+
+-- an idle party weighs nothing, whatever its index
+weighs_after : (w : World) (i : ℕ) (entry : Entry) (a : Action) (turn : Turn Running (Once Placed)) → get_elem? w.parties i ≡ some (party_of entry)
+    → weight_sum (stepped w i (party_of entry) a (stage_after turn)) ≡ weight_sum (world_after w i entry a turn)
+weighs_after w i entry a (Go machine) there = refl
+weighs_after w i entry a (Done answer) there =
+    let p = moved_on (party_of entry) Idle in
+    let q = party_of (entry_after entry (Done answer)) in
+    let v = stepped w i (party_of entry) a Idle in
+    let same = swap_weighs v i p q (set_here w.parties i p (party_of entry) there) refl refl in
+    sym same ∙ ap (λ (parties : List Party). weight_sum (record v { parties = parties })) (set_twice w.parties i p q)
 
 after_entry : (l : Layout) (g i : ℕ) (entry : Entry) (op : Op) (turn : Turn Running (Once Placed)) → entry.caller ≡ i → SoundAfter l g turn → IsOfAfter op turn → IsEntry l g i (entry_after entry turn)
 after_entry l g i entry op (Go machine) same sound of = record { caller = same; machine = sound; op = subst (λ (o : Op). IsOf o machine) (sym (op_told op machine of)) of }
@@ -155,6 +170,10 @@ step_facts s i entry machine is there flies room =
       takes = (sound.here, own_told);
       keeps_op = λ asked of. turns_keep_op l g asked machine x sound act.told of;
       keeps_call = keeps_call machine x (sound.here, own_told);
+      is_step = step;
+      weighs = λ spare. subst (λ (q : Stage × ℕ). RisesBy (AddsName q.0 a (stage_after turn)) (weight_sum w) q.1)
+          (λ k. (stage k, (weighs_after w i entry a turn there' ∙ ap weight_sum same) k))
+          (step_weighs w i p a x (stage_after turn) (reply_of turn) is.lawful there' (subst (λ (u : Stage). Step l g u a x (stage_after turn) (reply_of turn)) (sym stage) step) refl);
       kept = λ spare. record {
         lawful = subst Lawful same (lawful_after w i entry a turn there' law.kept);
         callers = length-set s.entries i (entry_after entry turn) ∙ is.callers;

@@ -1,5 +1,5 @@
 -- What an eviction makes of the index, and what a crash leaves of it.
-use Rattle.std.specs.Prelude.{◌≡◌, ℕ, ◌^◌, List, [], ◌∷◌, ◌++◌, Option, Some, None, IfSome, slice_get}
+use Rattle.std.specs.Prelude.{◌≡◌, ℕ, ◌≤◌, ◌^◌, List, [], ◌∷◌, ◌++◌, Option, Some, None, IfSome, slice_get}
 use mathlib.Core.Option.{some}
 use lib.ListN.{get_elem?}
 use Rattle.pm_words.specs.Images.{Row}
@@ -21,7 +21,9 @@ use Rattle.index_core.specs.declared.entry.CoreCall.TheVariants as call
 use Rattle.index_core.specs.declared.entry.Entry.{Entry}
 use Rattle.index_core.specs.declared.crash.CutCall.{CutCall}
 use Rattle.index_law.specs.Lawful.{HasWriteAt}
-use Rattle.index_core.specs.Indexes.{Index, map_of_index}
+use Rattle.index_core.specs.Indexes.{Index, map_of_index, world}
+use Rattle.index_core.specs.Weights.{crash_weight}
+use Rattle.index_law.specs.Weights.{weight_sum}
 
 -- The index once an image word is durable.
 abbrev pub evicted_index : Index → ℕ → Index
@@ -79,6 +81,7 @@ pub record IsCrash (s : Index) (image : Row) (cuts : List Entry) : Type 0 where
   pub leaves : image ≡ record { layout = s.layout; words = durable_row s.layout s.words }
   pub cut_off : cuts ≡ s.entries
   pub sound : IsSound s.layout (durable_row s.layout s.words)
+  pub weighs : crash_weight s ≤ weight_sum (world s)  -- it weighs no more than the index, with what deletes that aren't counted yet have lowered it by
   -- the map that the image keeps is the one after the whole history and after those of the unplaced writes that are found in it
   pub end : Map
   pub keeps : IsMapOf s.layout (durable_row s.layout s.words) end

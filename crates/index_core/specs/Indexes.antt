@@ -10,6 +10,7 @@ use Rattle.cat_history.specs.Maps.{Map, at, map_of}
 use Rattle.cat_history.specs.Writes.{after_all}
 use Rattle.cat_history.specs.declared.op.Write.{Write}
 use Rattle.call_stages.specs.Stages.{counted}
+use Rattle.call_stages.specs.Kinds.{Step}
 use Rattle.node_ops.specs.declared.call.View.{View}
 use Rattle.node_ops.specs.declared.running.Running.{Running}
 use Rattle.pm_words.specs.declared.machine.Turn.{Turn}
@@ -21,10 +22,11 @@ use Rattle.cat_history.specs.declared.op.Op.{Op}
 use Rattle.node_ops.specs.declared.call.Call.{Call}
 use Rattle.node_ops.specs.Asked.{IsOf, IsOfAfter, op_in}
 use Rattle.node_ops.specs.RunningSteps.{running_asks, running_turned, running_call, running_left}
-use Rattle.node_ops.specs.CallStages.{stage_of, reply_of}
+use Rattle.node_ops.specs.CallStages.{stage_of, stage_after, reply_of}
 use Rattle.index_law.specs.Worlds.{World, facts, written}
 use Rattle.index_law.specs.Lawful.{Lawful}
 use Rattle.index_law.specs.Laws.{IsLegal}
+use Rattle.index_law.specs.Weights.{AddsName, RisesBy, weight_sum}
 use Rattle.index_core.specs.declared.entry.CoreCall.{CoreCall}
 use Rattle.index_core.specs.declared.entry.Entry.{Entry}
 use Rattle.index_core.specs.declared.entry.Stepped.{Stepped}
@@ -106,9 +108,14 @@ pub record StepsTo (old : Index) (party : ℕ) (new : Index) (result : Stepped) 
   -- it goes on with the call of the same op, name and limit
   pub keeps_op : (asked : Op) → IsOf asked machine → IsOfAfter asked (running_turned machine (told old machine))
   pub keeps_call : MakesCall (running_call machine) (running_turned machine (told old machine))
+  -- it is a step of one of the kinds
+  pub kind : Step old.layout old.generation (stage_of machine) (running_asks machine) (told old machine) (stage_after (running_turned machine (told old machine))) (reply_of (running_turned machine (told old machine)))
   -- and has fewer actions left
   pub fewer : GoesBelow running_left (running_left machine) (running_turned machine (told old machine))
-  -- an answer is the map's, and a write that took place stands in the history
-  pub answer : SaysOf (map_of new.base) new.history entry (op_in machine) result
-  -- and is legal after the step in the words of stages
+  -- an answer is the map's, a write that took place stands in the history, and a refusal has its cause
+  pub answer : SaysOf new.layout.slots (map_of new.base) new.history entry (op_in machine) (running_call machine).limit result
+  -- the index, with what deletes that aren't counted yet have lowered it by, weighs one more at most, and that only where a put
+  -- adds a name
+  pub weighs : RisesBy (AddsName (stage_of machine) (running_asks machine) (stage_after (running_turned machine (told old machine)))) (weight_sum (world old)) (weight_sum (world new))
+  -- an answer is legal after the step in the words of stages, too
   pub legal : IsLegal new.layout new.generation (facts (world new)) entry.caller entry.index entry.since (stage_of machine) (reply_of (running_turned machine (told old machine)))

@@ -7,3 +7,5 @@ pub mod Lone
 pub mod Crashes
 pub mod Schedules
 pub mod LegalRounds
+pub mod Weights
+pub mod WeightBounds

@@ -1,5 +1,5 @@
 -- A call that is made with no other in flight.
-use Rattle.std.specs.Prelude.{◌≡◌, ℕ, ◌-◌, ◌≤◌, List, [], ◌++◌, length, slice_set, None, IsSomeAnd}
+use Rattle.std.specs.Prelude.{◌≡◌, ℕ, ◌+◌, ◌-◌, ◌≤◌, List, [], ◌++◌, length, slice_set, None, IsSomeAnd}
 use mathlib.Core.Option.{some}
 use lib.ListN.{get_elem?}
 use Rattle.version_lock.specs.declared.TheConstants.{LAST_COUNT}
@@ -23,6 +23,7 @@ use Rattle.index_core.specs.declared.entry.Whole.TheVariants as whole
 use Rattle.index_core.specs.CoreCalls.{op_of, limit_of}
 use Rattle.index_core.specs.Entries.{next_index, entry_counted}
 use Rattle.index_core.specs.Indexes.{Index, map_of_index}
+use Rattle.index_core.specs.Weights.{weight_of, added_whole}
 
 -- No call is in flight.
 abbrev pub IsQuiet : Index → Type 0
@@ -88,3 +89,4 @@ pub record RunsAlone (old : Index) (caller : ℕ) (c : CoreCall) (new : Index) (
   pub layout : new.layout ≡ old.layout
   pub generation : new.generation ≡ old.generation
   pub base : new.base ≡ old.base
+  pub weighs : weight_of new ≤ weight_of old + added_whole (op_of c) result  -- it weighs one more at most, and that only where it adds a name

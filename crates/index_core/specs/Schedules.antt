@@ -1,10 +1,12 @@
 -- Schedules of the core, and what is legal of all that they answer.
-use Rattle.std.specs.Prelude.{◌≡◌, ℕ, ◌+◌, ◌^◌, ◌<◌, ◌≤◌, ◌⊎◌, List, [], ◌∷◌, ◌++◌, length, slice_get, Option, Some, None, IfSome, IsSomeAnd, Contains}
+use Rattle.std.specs.Prelude.{◌≡◌, ℕ, ◌+◌, ◌^◌, ◌<◌, ◌≤◌, ◌⊎◌, List, [], ◌∷◌, ◌++◌, length, slice_get, Option, Some, None, IfSome, All, Contains, map}
 use mathlib.Core.Option.{some}
 use lib.ListN.{get_elem?}
 use Rattle.pm_words.specs.declared.layout.Layout.{Layout}
 use Rattle.pm_words.specs.Places.{image_words}
+use Rattle.pm_words.specs.declared.again.Again.{Again}
 use Rattle.pm_words.specs.declared.again.Again.TheVariants as again
+use Rattle.cat_history.specs.Callers.{PlacesKeepLimit}
 use Rattle.cat_history.specs.Maps.{Map, map_of}
 use Rattle.cat_history.specs.Records.{Interval, interval_at, change_of}
 use Rattle.cat_history.specs.declared.op.Change.{Change}
@@ -15,7 +17,7 @@ use Rattle.call_stages.specs.declared.once.Once.TheVariants as once
 use Rattle.call_stages.specs.declared.once.Placed.{Placed}
 use Rattle.call_stages.specs.Stages.{placed_in}
 use Rattle.node_ops.specs.declared.running.Running.{Running}
-use Rattle.node_ops.specs.Asked.{op_in}
+use Rattle.node_ops.specs.Asked.{op_in, name_asked}
 use Rattle.node_ops.specs.RunningSteps.{running_call}
 use Rattle.node_ops.specs.CallStages.{stage_of}
 use Rattle.index_core.specs.declared.entry.CoreCall.{CoreCall}
@@ -24,7 +26,7 @@ use Rattle.index_core.specs.declared.entry.Entry.{Entry}
 use Rattle.index_core.specs.declared.entry.Stepped.TheVariants.{Going, Answered}
 use Rattle.index_core.specs.declared.entry.Whole.{Whole}
 use Rattle.index_core.specs.declared.entry.Whole.TheVariants as whole
-use Rattle.index_core.specs.Answers.{TookPlace}
+use Rattle.index_core.specs.Answers.{TookPlace, WasReached, IsPut, FoundNoRoom}
 use Rattle.index_core.specs.CoreCalls.{op_of, limit_of}
 use Rattle.index_core.specs.Entries.{next_index, index_after}
 use Rattle.index_core.specs.Indexes.{Index, IsIndex, IsInFlight, Starts, StepsTo}
@@ -99,15 +101,13 @@ StandsAt history caller index place (Some change) = slice_get history place ≡ 
 
 -- A call took place within its time, and with its own change.
 pub record IsPlacedCall (base : Map) (history : List Write) (c : BegunCall) (ends : ℕ) (placed : Placed) : Type 0 where
-  pub took : TookPlace base history c.caller c.index c.since c.op placed
+  pub took : TookPlace base history c.caller c.index c.since c.op c.limit placed
   pub ended : (interval_at c.op placed.place).end ≤ ends
   pub stands : StandsAt history c.caller c.index placed.place (change_of c.op)
 
--- A clock of the call's time had reached its limit, and it wrote nothing.
+-- A clock of the call's time had reached its limit, and it stands nowhere.
 pub record IsSpentCall (history : List Write) (c : BegunCall) (ends clock : ℕ) : Type 0 where
-  pub reached : IsSomeAnd c.limit (λ limit. limit ≤ clock)
-  pub later : c.since ≤ clock
-  pub ended : clock ≤ ends
+  pub reached : WasReached c.since ends c.limit clock
   pub nowhere : StandsNowhere history c.caller c.index
 
 -- No write of its caller was placed in the call's time.
@@ -115,11 +115,18 @@ abbrev pub WroteNothing : List Write → BegunCall → ℕ → Type 0
 WroteNothing history c until =
     (place : ℕ) (write : Write) → slice_get history place ≡ Some write → write.caller ≡ c.caller → c.since ≤ place → place < until → ⊥
 
-abbrev pub IsLegalAnswer : Map → List Write → BegunCall → ℕ → Once Placed → Type 0
-IsLegalAnswer base history c until (once.Done placed) = IsPlacedCall base history c until placed
-IsLegalAnswer base history c until (once.Spent clock) = IsSpentCall history c until clock
-IsLegalAnswer base history c until (once.Worn node word) = StandsNowhere history c.caller c.index
-IsLegalAnswer base history c until (once.Again why) = WroteNothing history c until
+-- A call was turned back: its caller wrote nothing in its time. For want of room that is only a put, whose name the map
+-- lacked in its time while it had as many names as a node has slots.
+pub record IsTurnedBack (slots : ℕ) (base : Map) (history : List Write) (c : BegunCall) (ends : ℕ) (why : Again) : Type 0 where
+  pub wrote_nothing : WroteNothing history c ends
+  pub room : why ≡ again.NoFree → IsPut c.op × FoundNoRoom slots base history c.since ends (name_asked c.op)
+
+-- The answer of a call that ended as the history was so long, on nodes of so many slots.
+abbrev pub IsLegalAnswer : ℕ → Map → List Write → BegunCall → ℕ → Once Placed → Type 0
+IsLegalAnswer slots base history c until (once.Done placed) = IsPlacedCall base history c until placed
+IsLegalAnswer slots base history c until (once.Spent clock) = IsSpentCall history c until clock
+IsLegalAnswer slots base history c until (once.Worn node word) = StandsNowhere history c.caller c.index
+IsLegalAnswer slots base history c until (once.Again why) = IsTurnedBack slots base history c until why
 
 -- The index of its caller's next call is one higher; where a call was turned back, it may be the same.
 abbrev pub IsNext : ℕ → ℕ → Once Placed → Type 0
@@ -127,9 +134,9 @@ IsNext index next (once.Again why) = (next ≡ index) ⊎ (next ≡ index + 1)
 IsNext index next _ = next ≡ index + 1
 
 -- A call that was begun is answered legally.
-pub record IsLegalCall (base : Map) (history : List Write) (begun : List BegunCall) (c : AnsweredCall) : Type 0 where
+pub record IsLegalCall (slots : ℕ) (base : Map) (history : List Write) (begun : List BegunCall) (c : AnsweredCall) : Type 0 where
   pub was_begun : Contains begun c.call
-  pub answer : IsLegalAnswer base history c.call c.until c.answer
+  pub answer : IsLegalAnswer slots base history c.call c.until c.answer
   pub within : c.until ≤ length history
   pub next : IsNext c.call.index c.next c.answer
 
@@ -215,16 +222,26 @@ abbrev pub EachWriteIsOfACall : List AnsweredCall → List Entry → List Write 
 EachWriteIsOfACall calls entries history = (place : ℕ) (write : Write) → slice_get history place ≡ Some write →
     IsAnsweredWrite calls place write ⊎ IsWriteInFlight entries place write
 
+-- The callers of these calls.
+abbrev pub callers_of : List BegunCall → List ℕ
+callers_of begun = map (λ c. c.caller) begun
+
+-- The puts and deletes among the calls all have this limit.
+abbrev pub CarryLimit : ℕ → List BegunCall → Type 0
+CarryLimit limit begun = All (λ c. IfSome (change_of c.op) (λ change. c.limit ≡ Some limit)) begun
+
 -- The history of the index is the one legal history of these calls, over this base.
 pub record IsLegalHistory (base : Map) (begun : List BegunCall) (calls : List AnsweredCall) (s : Index) : Type 0 where
   pub base_is : map_of s.base ≡ base
-  pub answers : (i : ℕ) (c : AnsweredCall) → get_elem? calls i ≡ some c → IsLegalCall base s.history begun c
+  pub answers : (i : ℕ) (c : AnsweredCall) → get_elem? calls i ≡ some c → IsLegalCall s.layout.slots base s.history begun c
   pub in_time : KeepsTime calls
   pub in_order : KeepsCallersOrder calls
   pub in_flight : AreLegalInFlight begun calls s.entries
   pub each_call : (c : BegunCall) → Contains begun c → IsAnswered calls c ⊎ IsFlying s.entries c
   pub once : EachWritesOnce s.history
   pub writes : EachWriteIsOfACall calls s.entries s.history
+  -- under one limit, each place of a write is below it plus the number of callers that have calls, minus one
+  pub places : (limit : ℕ) → CarryLimit limit begun → PlacesKeepLimit limit (callers_of begun) s.history
 
 -- Even if one caller began all these calls, its index, which has 64 bits, wouldn't come to its end.
 abbrev pub AreCounted : Index → List BegunCall → Type 0

@@ -1,6 +1,7 @@
 //! The law of whole schedules.
 
 ghost use Rattle.index_core.specs.LegalRounds.{LegalHistoryIsLegalRound};
+ghost use Rattle.index_core.specs.WeightBounds.{WeightIsBounded};
 ghost use Rattle.index_core.specs.Schedules.{OneLegalHistory, FreshIndexBegins};
 
 /// Begin with an index in which no call is in flight and nothing is written yet. Start calls, step them in any order, make
@@ -26,4 +27,10 @@ pub fn one_history_law()
 /// the history is that of one of them, at its place.
 pub fn history_round_law()
     ensures { LegalHistoryIsLegalRound }
+{}
+
+/// Along such a schedule the index never weighs more than as it began and the puts since then that were answered that their
+/// name had no number, or that aren't answered; and neither does the image that a crash leaves.
+pub fn weight_law()
+    ensures { WeightIsBounded }
 {}

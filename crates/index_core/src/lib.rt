@@ -13,7 +13,7 @@ mod laws;
 pub use crash::{Crashed, CutCall, Cuts};
 pub use entry::{CoreCall, CoreReply, Entry, InFlight, Stepped, Whole};
 pub use index::Core;
-pub use laws::{history_round_law, one_history_law};
+pub use laws::{history_round_law, one_history_law, weight_law};
 
 #[cfg(test)]
 mod tests;

@@ -22,7 +22,7 @@ use Rattle.call_stages.specs.declared.once.Placed.{Placed}
 use Rattle.call_stages.specs.Stages.{Held, Stage, Idle, Saw, Holds, pended}
 use Rattle.call_stages.specs.Kinds.{Look, turns_back, is_worn, sees, misses, times, learns, decides, glances, Step, looks, locks, stores, commits, drains, counts, unlocks, word_place}
 use Rattle.index_law.specs.Facts.{Facts, map_now, range_of, durable_spot}
-use Rattle.index_law.specs.Worlds.{Party, facts, moved_on}
+use Rattle.index_law.specs.Worlds.{Party, World, facts, moved_on}
 use Rattle.index_law.specs.Lawful.{Each, HoldsNode, IsHeld, SureHolds, Sure, map_before}
 use Rattle.index_law.specs.Twins.{BacksStage}
 use Rattle.index_law.specs.Weights.{index_weight, lowered_by, lowered_in, lowered_sum, weight_sum, AddsName, RisesBy, StepWeighs, StartWeighs, JoinWeighs, EvictWeighs, IdleWeighs, CrashWeighs}
@@ -212,12 +212,16 @@ step_weighs w i p a x t r lawful there k told =
 idle_lowers : (l : Layout) (f : Facts) (p : Party) → p.stage ≡ Idle → lowered_in l f p.stage ≡ 0
 idle_lowers l f p idle = ap (lowered_in l f) idle
 
-pub start_weighs : StartWeighs
-start_weighs w i p index there idle =
-    let began : Party = record { caller = p.caller; index = index; since = length w.history; stage = Idle } in
-    let sums = sum_set w.layout (facts w) (facts w) w.parties i p began there (λ j d other at. refl) in
+-- a party that relies on nothing in the place of one that did so neither adds anything nor takes it away
+pub swap_weighs : (w : World) (i : ℕ) (p q : Party) → get_elem? w.parties i ≡ some p → p.stage ≡ Idle → q.stage ≡ Idle → weight_sum (record w { parties = set w.parties i q }) ≡ weight_sum w
+swap_weighs w i p q there idle idle' =
+    let sums = sum_set w.layout (facts w) (facts w) w.parties i p q there (λ j d other at. refl) in
     let none = idle_lowers w.layout (facts w) p idle in
+    let none' = idle_lowers w.layout (facts w) q idle' in
     omega arith
+
+pub start_weighs : StartWeighs
+start_weighs w i p index there idle = swap_weighs w i p (record { caller = p.caller; index = index; since = length w.history; stage = Idle }) there idle refl
 
 sum_more : (l : Layout) (f : Facts) (parties : List Party) (p : Party) → p.stage ≡ Idle → lowered_sum l f (parties ++ p ∷ []) ≡ lowered_sum l f parties
 sum_more l f [] p idle = let none = idle_lowers l f p idle in omega arith

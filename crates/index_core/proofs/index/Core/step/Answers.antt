@@ -13,10 +13,12 @@ use Rattle.pm_words.specs.Rows.{acted, got, CanAct}
 use Rattle.cat_history.specs.declared.op.Change.{Change}
 use Rattle.call_stages.specs.Stages.{counted}
 use Rattle.node_ops.specs.declared.running.Running.{Running}
-use Rattle.node_ops.specs.CallStages.{stage_of, reply_of}
-use Rattle.node_ops.specs.RunningSteps.{running_call, running_left, running_asks, running_turned, running_takes, IsRunning}
+use Rattle.call_stages.specs.Kinds.{Step}
+use Rattle.node_ops.specs.CallStages.{stage_of, stage_after, reply_of}
+use Rattle.node_ops.specs.RunningSteps.{running_call, running_left, running_asks, running_turned, running_takes, IsRunning, Sound}
 use Rattle.index_law.specs.Worlds.{facts, written}
 use Rattle.index_law.specs.Laws.{IsLegal}
+use Rattle.index_law.specs.Weights.{AddsName, RisesBy, weight_sum}
 use Rattle.index_core.specs.declared.entry.Entry.{Entry}
 use Rattle.index_core.specs.declared.entry.Stepped.{Stepped}
 use Rattle.index_core.specs.Answers.{SaysOf}
@@ -172,6 +174,7 @@ returns-clause-stepped g c =
     let turn = c.resume.ensures.turned ∙ (λ k. running_turned (same_m k) (c.act-got.ensures.got k)) ∙ ap (λ (a : Action). running_turned m (got s.layout s.words a)) (c.action-action.ensures ∙ ap running_asks same_m) in
     let n : ℕ = c.count.new.history.cap - (c.count.new.history.len + owed (slice_set s.entries i c.after-stepped.result.0)) in
     let of = subst (λ (o : Option Running). IfSome o (λ q. IsOf (op_in q) q)) flies.flies (c.self.invariant.0.entries i e there).op in
+    let sound = subst (λ (o : Option Running). IfSome o (Sound s.layout s.generation)) flies.flies (c.self.invariant.0.entries i e there).machine in
     let new : Index = record { layout = c.act-got.new.self.layout; generation = s.generation; words = c.act-got.new.self.words; entries = slice_set s.entries i c.after-stepped.result.0; base = s.base; history = c.count.new.history.items; spare = n } in
     record {
       entry = e;
@@ -182,11 +185,14 @@ returns-clause-stepped g c =
       comes_to = c.after-stepped.ensures.stepped ∙ ap stepped_of turn ∙ ap (λ (v : Index). stepped_of (running_turned m (told v m))) c.self.view_is;
       keeps_op = subst (λ (v : Index). (asked : Op) → IsOf asked m → IsOfAfter asked (running_turned m (told v m))) c.self.view_is facts_here.keeps_op;
       keeps_call = subst (λ (v : Index). MakesCall (running_call m) (running_turned m (told v m))) c.self.view_is facts_here.keeps_call;
+      kind = subst (λ (v : Index). Step v.layout v.generation (stage_of m) (running_asks m) (told v m) (stage_after (running_turned m (told v m))) (reply_of (running_turned m (told v m)))) c.self.view_is facts_here.is_step;
       fewer = subst (λ (v : Index). GoesBelow running_left (running_left m) (running_turned m (told v m))) c.self.view_is
           (subst (λ (q : Running × Turn Running (Once Placed)). GoesBelow running_left (running_left q.0) q.1) (λ k. (same_m k, turn k)) c.resume.ensures.fewer);
-      answer = subst (λ (r : Stepped). SaysOf (map_of new.base) new.history e (op_in m) r) (sym (c.after-stepped.ensures.stepped ∙ ap stepped_of turn))
-          (subst (λ (v : Index). SaysOf (map_of v.base) v.history e (op_in m) (stepped_of (running_turned m (told s m)))) (sym (same n))
-          (says_of s.layout s.generation (facts (world (stepped_index s i e m n))) e m (told s m) of (facts_here.legal n)));
+      answer = subst (λ (r : Stepped). SaysOf new.layout.slots (map_of new.base) new.history e (op_in m) (running_call m).limit r) (sym (c.after-stepped.ensures.stepped ∙ ap stepped_of turn))
+          (subst (λ (v : Index). SaysOf v.layout.slots (map_of v.base) v.history e (op_in m) (running_call m).limit (stepped_of (running_turned m (told s m)))) (sym (same n))
+          (says_of s.layout s.generation (facts (world (stepped_index s i e m n))) e m (told s m) of sound.here (facts_here.legal n)));
+      weighs = subst (λ (q : Index × Index). RisesBy (AddsName (stage_of m) (running_asks m) (stage_after (running_turned m (told q.0 m)))) (weight_sum (world q.0)) (weight_sum (world q.1)))
+          (λ k. (c.self.view_is k, sym (same n) k)) (facts_here.weighs n);
       legal = subst (λ (v : Index). IsLegal new.layout new.generation (facts (world new)) e.caller e.index e.since (stage_of m) (reply_of (running_turned m (told v m)))) c.self.view_is
           (subst (λ (v : Index). IsLegal v.layout v.generation (facts (world v)) e.caller e.index e.since (stage_of m) (reply_of (running_turned m (told s m)))) (sym (same n)) (facts_here.legal n));
     }

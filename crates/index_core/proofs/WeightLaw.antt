@@ -1,0 +1,289 @@
+-- What an index weighs along a schedule.
+use Rattle.std.proofs.Common.{◌≡◌, ◌≢◌, ℕ, zero, suc, ◌+◌, ◌≤◌, ◌⊎◌, inl, inr, ⊎_elim, List, [], ◌∷◌, ◌++◌, length, set, refl, sym, ap, ◌∙◌, subst, arith}
+use Rattle.std.specs.Prelude.{Option, Some, None, IfSome}
+use Rattle.std.specs.List.{sum_by}
+use Rattle.std.proofs.lemmas.List.Sums.{sum_by-cons, sum_by_push}
+use mathlib.Core.Option.{some, some-injective, some-ne-none}
+use lib.ListN.{get_elem?}
+use Rattle.pm_words.specs.declared.machine.Turn.{Turn}
+use Rattle.pm_words.specs.declared.machine.Turn.TheVariants.{Go, Done}
+use Rattle.cat_history.specs.Records.{change_of}
+use Rattle.cat_history.specs.declared.op.Change.{Change}
+use Rattle.cat_history.specs.declared.op.Change.TheVariants as change
+use Rattle.cat_history.specs.declared.op.Op.{Op}
+use Rattle.cat_history.specs.declared.op.Op.TheVariants as op
+use Rattle.call_stages.specs.declared.once.Once.{Once}
+use Rattle.call_stages.specs.declared.once.Once.TheVariants as once
+use Rattle.call_stages.specs.declared.once.Placed.{Placed}
+use Rattle.call_stages.specs.Stages.{Stage, Idle, Holds, pending_in}
+use Rattle.node_ops.specs.declared.running.Running.{Running}
+use Rattle.node_ops.specs.Asked.{IsOf, IsOfAfter, op_in}
+use Rattle.node_ops.specs.RunningSteps.{running_asks, running_turned}
+use Rattle.node_ops.specs.CallStages.{stage_of, stage_after, reply_of}
+use Rattle.node_ops.proofs.OpLaw.{op_told, pends_own_change}
+use Rattle.index_law.specs.Worlds.{Party}
+use Rattle.index_law.specs.Weights.{AddsName, RisesBy, weight_sum}
+use Rattle.index_law.proofs.Weights.{swap_weighs, evict_weighs, idle_weighs, crash_weighs}
+use Rattle.index_core.specs.declared.entry.CoreCall.{CoreCall}
+use Rattle.index_core.specs.declared.entry.Entry.{Entry}
+use Rattle.index_core.specs.declared.entry.Whole.{Whole}
+use Rattle.index_core.specs.declared.entry.Whole.TheVariants as whole
+use Rattle.index_core.specs.CoreCalls.{op_of, machine_of}
+use Rattle.index_core.specs.Entries.{machine_stage, party_of, entry_with, entry_after, index_after, next_index}
+use Rattle.index_core.specs.Indexes.{Index, IsIndex, world, view_of, told, stepped_index, StepsTo}
+use Rattle.index_core.specs.Lone.{IsQuiet, entry_done}
+use Rattle.index_core.specs.Schedules.{BegunCall, AnsweredCall, begun_call, flying_call, once_of, Runs, begins, starts, goes_on, answers, alone, evicts, reserves}
+use Rattle.index_core.specs.Weights.{weight_of, put_count, added_if, added_by, added_whole, put_in}
+use Rattle.index_core.specs.WeightBounds.{names_added, puts_in_flight, WeightIsBounded}
+use Rattle.index_core.proofs.Alone.{go_of, done_of, quiet_parties}
+use Rattle.index_core.proofs.Lists.{map_there, map_set}
+use Rattle.index_core.proofs.OneHistory.{none_flies}
+use Rattle.index_core.proofs.Shown.{shows, new_if, told_new, shows_few, step_shows, adds_shows}
+use Rattle.index_core.proofs.Stepping.{machine_idle, respare}
+use Rattle.index_law.proofs.Parties.{at_set}
+
+-- sums of which one part is another
+sum_set : {A : Type 0} (f : A → ℕ) (l : List A) (i : ℕ) (was now : A) → get_elem? l i ≡ some was → sum_by f (set l i now) + f was ≡ sum_by f l + f now
+sum_set f [] i was now there = absurd (some-ne-none was (sym there))
+sum_set f (x ∷ xs) zero was now there =
+    let first : f x ≡ f was = ap f (some-injective x was there) in
+    let before = sum_by-cons f x xs in
+    let after = sum_by-cons f now xs in
+    omega arith
+sum_set f (x ∷ xs) (suc i) was now there =
+    let rest = sum_set f xs i was now there in
+    let before = sum_by-cons f x xs in
+    let after = sum_by-cons f x (set xs i now) in
+    omega arith
+
+-- and sums of greater parts
+sum_more : {A : Type 0} (f g : A → ℕ) → ((a : A) → f a ≤ g a) → (l : List A) → sum_by f l ≤ sum_by g l
+sum_more f g more [] = omega arith
+sum_more f g more (x ∷ xs) =
+    let first = more x in
+    let rest = sum_more f g more xs in
+    let fewer = sum_by-cons f x xs in
+    let most = sum_by-cons g x xs in
+    omega arith
+
+-- one for a put that shows a name that wasn't there, or has counted it
+abbrev showing_of : Op → ℕ → ℕ
+showing_of (op.Put name value) shown = shown
+showing_of (op.Get name) shown = 0
+showing_of (op.Del name) shown = 0
+
+abbrev showing : Option Running → ℕ
+showing None = 0
+showing (Some machine) = showing_of (op_in machine) (shows (stage_of machine))
+
+abbrev showing_sum : List Entry → ℕ
+showing_sum entries = sum_by (λ entry. showing entry.machine) entries
+
+showing_up : (asked : Op) (few many : ℕ) → few ≤ many → showing_of asked few ≤ showing_of asked many
+showing_up (op.Put name value) few many more = more
+showing_up (op.Get name) few many more = omega arith
+showing_up (op.Del name) few many more = omega arith
+
+showing_none : (asked : Op) → showing_of asked 0 ≡ 0
+showing_none (op.Put name value) = refl
+showing_none (op.Get name) = refl
+showing_none (op.Del name) = refl
+
+-- only a put has a put pending
+showing_put : (asked : Op) (name : List ℕ) (value shown : ℕ) → change_of asked ≡ Some (change.Put name value) → showing_of asked shown ≡ shown
+showing_put (op.Put key number) name value shown is = refl
+showing_put (op.Get key) name value shown is = absurd cc
+showing_put (op.Del key) name value shown is = absurd cc
+
+-- what an answer tells of such a put
+told_added : (asked : Op) (answer : Once Placed) → showing_of asked (told_new (Some answer)) ≡ added_by asked answer
+told_added (op.Put name value) (once.Done placed) = at placed.old
+  where
+    at : (old : Option ℕ) → new_if old ≡ added_if (op.Put name value) old
+    at None = refl
+    at (Some old) = refl
+told_added (op.Put name value) (once.Spent clock) = refl
+told_added (op.Put name value) (once.Worn node word) = refl
+told_added (op.Put name value) (once.Again why) = refl
+told_added (op.Get name) (once.Done placed) = at placed.old
+  where
+    at : (old : Option ℕ) → 0 ≡ added_if (op.Get name) old
+    at None = refl
+    at (Some old) = refl
+told_added (op.Get name) (once.Spent clock) = refl
+told_added (op.Get name) (once.Worn node word) = refl
+told_added (op.Get name) (once.Again why) = refl
+told_added (op.Del name) (once.Done placed) = at placed.old
+  where
+    at : (old : Option ℕ) → 0 ≡ added_if (op.Del name) old
+    at None = refl
+    at (Some old) = refl
+told_added (op.Del name) (once.Spent clock) = refl
+told_added (op.Del name) (once.Worn node word) = refl
+told_added (op.Del name) (once.Again why) = refl
+
+showing_puts : (entry : Entry) → showing entry.machine ≤ put_in entry.machine
+showing_puts entry = at entry.machine
+  where
+    by_op : (asked : Op) (shown : ℕ) → shown ≤ 1 → showing_of asked shown ≤ put_count asked
+    by_op (op.Put name value) shown few = few
+    by_op (op.Get name) shown few = omega arith
+    by_op (op.Del name) shown few = omega arith
+
+    at : (machine : Option Running) → showing machine ≤ put_in machine
+    at None = omega arith
+    at (Some machine) = by_op (op_in machine) (shows (stage_of machine)) (shows_few (stage_of machine))
+
+-- a store that adds a name leads to a put that shows it, from one that didn't
+adds_put : (m next : Running) → IsOf (op_in next) next → op_in next ≡ op_in m → AddsName (stage_of m) (running_asks m) (stage_of next) → (showing (Some m) ≡ 0) × (showing (Some next) ≡ 1)
+adds_put m next of same adds =
+    let shown = adds_shows (stage_of m) (running_asks m) (stage_of next) adds in
+    let pending : pending_in (stage_of next) ≡ Some (change.Put adds.name adds.value) = ap pending_in adds.is ∙ adds.shows in
+    let own = pends_own_change (op_in next) next (change.Put adds.name adds.value) of pending in (
+      ap (showing_of (op_in m)) shown.0 ∙ showing_none (op_in m),
+      showing_put (op_in next) adds.name adds.value (shows (stage_of next)) own.0 ∙ shown.1,
+    )
+
+-- who is idle adds no name
+idle_adds : (s : Stage) (m : Running) → AddsName s (running_asks m) Idle → ⊥
+idle_adds s m adds = let both : Idle ≡ Holds adds.node adds.lock adds.after = adds.is in absurd cc
+
+abbrev bound : Index → List AnsweredCall → Index → ℕ
+bound first calls s = weight_of first + (names_added calls + showing_sum s.entries)
+
+-- along a schedule the sum stays within the bound
+record Weighs (first : Index) (calls : List AnsweredCall) (s : Index) : Type 0 where
+  pub index : IsIndex s
+  pub sum : weight_sum (world s) ≤ bound first calls s
+
+same_added : (asked : Op) (result : Whole) → added_by asked (once_of result) ≡ added_whole asked result
+same_added asked (whole.Placed placed) = refl
+same_added asked whole.Full = refl
+same_added asked (whole.Spent clock) = refl
+same_added asked (whole.Worn node word) = refl
+
+-- with no call in flight the sum is the weight
+quiet_sum : (s : Index) → IsQuiet s → weight_sum (world s) ≡ weight_of s
+quiet_sum s quiet = idle_weighs (world s) (quiet_parties s quiet)
+
+quiet_shows : (entries : List Entry) → ((i : ℕ) (entry : Entry) → get_elem? entries i ≡ some entry → entry.machine ≡ None) → showing_sum entries ≡ 0
+quiet_shows [] quiet = refl
+quiet_shows (entry ∷ entries) quiet =
+    let first : showing entry.machine ≡ 0 = ap showing (quiet 0 entry refl) in
+    let rest = quiet_shows entries (λ i e at. quiet (suc i) e at) in
+    let whole = sum_by-cons (λ (e : Entry). showing e.machine) entry entries in
+    omega arith
+
+-- a call that begins shows nothing
+start_weighs : (s : Index) (i : ℕ) (entry : Entry) (c : CoreCall) → get_elem? s.entries i ≡ some entry → entry.machine ≡ None
+    → (weight_sum (world (record s { entries = set s.entries i (entry_with entry (length s.history) (machine_of (view_of s i) c)) })) ≡ weight_sum (world s))
+    × (showing_sum (set s.entries i (entry_with entry (length s.history) (machine_of (view_of s i) c))) ≡ showing_sum s.entries)
+start_weighs s i entry c there idle =
+    let m = machine_of (view_of s i) c in
+    let now = entry_with entry (length s.history) m in
+    let w = world s in
+    let sums = sum_set (λ (e : Entry). showing e.machine) s.entries i entry now there in
+    let was : showing entry.machine ≡ 0 = ap showing idle in
+    let begins : showing (Some m) ≡ 0 = ap (λ (u : Stage). showing_of (op_in m) (shows u)) (machine_idle s i c) ∙ showing_none (op_in m) in (
+      ap (λ (parties : List Party). weight_sum (record w { parties = parties })) (map_set party_of s.entries i now)
+          ∙ swap_weighs w i (party_of entry) (party_of now) (map_there party_of s.entries i entry there) (ap machine_stage idle) (machine_idle s i c),
+      omega arith,
+    )
+
+module _ (first : Index) (quiet : IsQuiet first) (index : IsIndex first) where
+  weighs : {begun : List BegunCall} {calls : List AnsweredCall} {s : Index} → Runs first begun calls s → Weighs first calls s
+  weighs begins = record { index = index; sum = let same = quiet_sum first quiet in omega arith }
+  weighs (starts {calls = calls} {old = old} {new = new} {party = party} {call = c} run none t is) =
+      let before = weighs run in
+      let sum = before.sum in
+      let same = start_weighs old party t.entry c t.there (none_flies old party t.entry none t.there) in
+      let now : weight_sum (world new) ≡ weight_sum (world old) = ap (λ (v : Index). weight_sum (world v)) t.is ∙ same.0 in
+      let shown : showing_sum new.entries ≡ showing_sum old.entries = ap (λ (v : Index). showing_sum v.entries) t.is ∙ same.1 in
+      record { index = is; sum = omega arith }
+  weighs (goes_on {calls = calls} {old = old} {new = new} {party = party} run t is) =
+      let before = weighs run in
+      let sum = before.sum in
+      let m = t.machine in
+      let go = go_of (running_turned m (told old m)) (sym t.comes_to) in
+      let next = go.0 in
+      let of : IsOf (op_in m) m = subst (λ (o : Option Running). IfSome o (λ q. IsOf (op_in q) q)) t.flies (before.index.entries party t.entry t.there).op in
+      let of_next : IsOf (op_in m) next = subst (IsOfAfter (op_in m)) go.1 (t.keeps_op (op_in m) of) in
+      let same_op : op_in next ≡ op_in m = op_told (op_in m) next of_next in
+      let entry' : Entry = record t.entry { machine = Some next } in
+      let entries : new.entries ≡ set old.entries party entry' = ap (λ (v : Index). v.entries) t.is ∙ ap (λ (turn : Turn Running (Once Placed)). set old.entries party (entry_after t.entry turn)) go.1 in
+      let sums = sum_set (λ (e : Entry). showing e.machine) old.entries party t.entry entry' t.there in
+      let was : showing t.entry.machine ≡ showing (Some m) = ap showing t.flies in
+      let now : showing_sum new.entries ≡ showing_sum (set old.entries party entry') = ap showing_sum entries in
+      let more : shows (stage_of m) ≤ shows (stage_of next) + 0 = subst (λ (turn : Turn Running (Once Placed)). shows (stage_of m) ≤ shows (stage_after turn) + told_new (reply_of turn)) go.1 (step_shows t.kind) in
+      let up : showing (Some m) ≤ showing (Some next) =
+      subst (λ (asked : Op). showing_of (op_in m) (shows (stage_of m)) ≤ showing_of asked (shows (stage_of next))) (sym same_op) (showing_up (op_in m) (shows (stage_of m)) (shows (stage_of next)) (omega arith)) in
+      record {
+        index = is;
+        sum = ⊎_elim
+            (λ (less : weight_sum (world new) ≤ weight_sum (world old)). omega arith)
+            (λ (adds : AddsName (stage_of m) (running_asks m) (stage_after (running_turned m (told old m))) × (weight_sum (world new) ≤ weight_sum (world old) + 1)).
+            let one = adds_put m next (subst (λ (asked : Op). IsOf asked next) (sym same_op) of_next) same_op (subst (λ (turn : Turn Running (Once Placed)). AddsName (stage_of m) (running_asks m) (stage_after turn)) go.1 adds.0) in
+            let zero_before = one.0 in
+            let one_after = one.1 in
+            let most = adds.1 in
+            omega arith)
+            t.weighs;
+      }
+  weighs (answers {calls = calls} {old = old} {new = new} {party = party} {answer = answer} run t is) =
+      let before = weighs run in
+      let sum = before.sum in
+      let m = t.machine in
+      let done = done_of (running_turned m (told old m)) answer (sym t.comes_to) in
+      let entries = ap (λ (v : Index). v.entries) t.is in
+      let entry' = entry_after t.entry (Done answer) in
+      let now : showing_sum new.entries ≡ showing_sum (set old.entries party entry') = ap showing_sum (entries ∙ ap (λ (turn : Turn Running (Once Placed)). set old.entries party (entry_after t.entry turn)) done) in
+      let sums = sum_set (λ (e : Entry). showing e.machine) old.entries party t.entry entry' t.there in
+      let was : showing t.entry.machine ≡ showing (Some m) = ap showing t.flies in
+      let told_it : shows (stage_of m) ≤ 0 + told_new (Some answer) = subst (λ (turn : Turn Running (Once Placed)). shows (stage_of m) ≤ shows (stage_after turn) + told_new (reply_of turn)) done (step_shows t.kind) in
+      let up : showing (Some m) ≤ showing_of (op_in m) (told_new (Some answer)) = showing_up (op_in m) (shows (stage_of m)) (told_new (Some answer)) (omega arith) in
+      let added = told_added (op_in m) answer in
+      let call : AnsweredCall = record { call = flying_call t.entry m; until = length new.history; answer = answer; next = index_after t.entry.index answer } in
+      let longer = sum_by_push (λ (d : AnsweredCall). added_by d.call.op d.answer) calls call in
+      record {
+        index = is;
+        sum = ⊎_elim
+            (λ (less : weight_sum (world new) ≤ weight_sum (world old)). omega arith)
+            (λ (adds : AddsName (stage_of m) (running_asks m) (stage_after (running_turned m (told old m))) × (weight_sum (world new) ≤ weight_sum (world old) + 1)).
+            absurd (idle_adds (stage_of m) m (subst (λ (turn : Turn Running (Once Placed)). AddsName (stage_of m) (running_asks m) (stage_after turn)) done adds.0)))
+            t.weighs;
+      }
+  weighs (alone {calls = calls} {old = old} {new = new} {caller = caller} {call = c} {result = result} run still r is) =
+      let before = weighs run in
+      let sum = before.sum in
+      let quiet_new : IsQuiet new = (λ i entry at.
+      ⊎_elim
+      (λ (mine : (i ≡ caller) × (entry_done r.entry (length old.history) ≡ entry)). ap (λ (e : Entry). e.machine) (sym mine.1))
+      (λ (other : (i ≢ caller) × (get_elem? old.entries i ≡ some entry)). still i entry other.1)
+      (at_set old.entries caller i (entry_done r.entry (length old.history)) entry (ap (λ (l : List Entry). get_elem? l i) (sym r.entries) ∙ at))) in
+      let more : weight_sum (world new) ≤ weight_sum (world old) + added_whole (op_of c) result =
+      subst (λ (q : ℕ × ℕ). q.0 ≤ q.1 + added_whole (op_of c) result) (λ k. (sym (quiet_sum new quiet_new) k, sym (quiet_sum old still) k)) r.weighs in
+      let none = quiet_shows old.entries still in
+      let same = same_added (op_of c) result in
+      let call : AnsweredCall = record { call = begun_call r.entry (length old.history) c; until = length new.history; answer = once_of result; next = next_index r.entry.index } in
+      let longer = sum_by_push (λ (d : AnsweredCall). added_by d.call.op d.answer) calls call in
+      record { index = is; sum = omega arith }
+  weighs (evicts {calls = calls} {old = old} {new = new} {word = word} run within e is) =
+      let before = weighs run in
+      let sum = before.sum in
+      let same : weight_sum (world new) ≡ weight_sum (world old) = ap (λ (v : Index). weight_sum (world v)) e ∙ evict_weighs (world old) word in
+      let shown : showing_sum new.entries ≡ showing_sum old.entries = ap (λ (v : Index). showing_sum v.entries) e in
+      record { index = is; sum = omega arith }
+  weighs (reserves {calls = calls} {old = old} {new = new} run e) =
+      let before = weighs run in
+      record {
+        index = subst IsIndex (sym e) (respare old new.spare before.index);
+        sum = subst (λ (v : Index). weight_sum (world v) ≤ bound first calls v) (sym e) before.sum;
+      }
+
+pub weight_is_bounded : WeightIsBounded
+weight_is_bounded first last begun calls index quiet run =
+    let after = weighs first quiet index run in
+    let sum = after.sum in
+    let puts : showing_sum last.entries ≤ puts_in_flight last.entries = sum_more (λ (e : Entry). showing e.machine) (λ (e : Entry). put_in e.machine) showing_puts last.entries in
+    let image = crash_weighs (world last) after.index.lawful in
+    record { core = omega arith; image = omega arith }
