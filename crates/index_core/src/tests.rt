@@ -13,6 +13,7 @@ use std::test::Fail;
 
 mod crashes;
 mod events;
+mod indexes;
 
 /// No call has as many steps.
 const MANY: u64 = 1000;
