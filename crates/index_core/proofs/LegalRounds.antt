@@ -182,7 +182,7 @@ answer-of base history (op.Del name) placed is = is
 
 module _ (base : Map) (begun : List BegunCall) (calls : List AnsweredCall) (s : Index) (legal : IsLegalHistory base begun calls s) where
   placed-legal : (i : ℕ) (c : AnsweredCall) (placed : Placed) → get_elem? calls i ≡ some c → c.answer ≡ once.Done placed → IsPlacedCall base s.history c.call c.until placed
-  placed-legal i c placed there is = subst (IsLegalAnswer s.layout.slots base s.history c.call c.until) is (legal.answers i c there).answer
+  placed-legal i c placed there is = subst (IsLegalAnswer s.layout.slots base s.history c.call c.until c.next) is (legal.answers i c there).answer
 
   -- of two calls of one caller, the first of which took place, the later one's index is higher
   rises : (i j : ℕ) (a b : AnsweredCall) (placed : Placed) → get_elem? calls i ≡ some a → get_elem? calls j ≡ some b → i < j → a.call.caller ≡ b.call.caller →

@@ -202,7 +202,7 @@ module _ (first : Index) (begun : List BegunCall) (calls : List AnsweredCall) (s
   raised : (n : ℕ) (c : AnsweredCall) (r : Once Placed) → get_elem? calls n ≡ some c → c.answer ≡ r → (IsNext c.call.index c.next r → c.next ≡ c.call.index + 1) → c.call.index < c.next
   raised n c r at is counts = let up = counts (subst (IsNext c.call.index c.next) is (k.next n c at)) in omega arith
 
-  legal_answer : (n : ℕ) (c : AnsweredCall) (r : Once Placed) → get_elem? calls n ≡ some c → c.answer ≡ r → AnswerHolds slots base s.history c.call c.until r → IsLegalAnswer slots base s.history c.call c.until r
+  legal_answer : (n : ℕ) (c : AnsweredCall) (r : Once Placed) → get_elem? calls n ≡ some c → c.answer ≡ r → AnswerHolds slots base s.history c.call c.until r → IsLegalAnswer slots base s.history c.call c.until c.next r
   legal_answer n c (once.Done placed) at is holds = record { took = holds.0; ended = holds.1; stands = stands_at n c placed.place (change_of c.call.op) at (raised n c (once.Done placed) at is (λ up. up)) refl holds.2 }
   legal_answer n c (once.Spent clock) at is holds = record {
     reached = holds;
@@ -210,7 +210,8 @@ module _ (first : Index) (begun : List BegunCall) (calls : List AnsweredCall) (s
   }
   legal_answer n c (once.Worn node word) at is holds = nowhere n c at (raised n c (once.Worn node word) at is (λ up. up)) (λ placed other. let both : once.Worn node word ≡ once.Done placed = sym is ∙ other in cc)
   legal_answer n c (once.Again why) at is holds =
-      record { wrote_nothing = wrote_nothing n c at (λ placed other. let both : once.Again why ≡ once.Done placed = sym is ∙ other in cc); room = holds }
+      let unplaced : (placed : Placed) → c.answer ≡ once.Done placed → ⊥ = (λ placed other. let both : once.Again why ≡ once.Done placed = sym is ∙ other in cc) in
+      record { wrote_nothing = wrote_nothing n c at unplaced; nowhere = λ up. nowhere n c at up unplaced; room = holds }
 
   apart : (a b : AnsweredCall) (r t : Once Placed) → AnswerHolds slots base s.history a.call a.until r → AnswerHolds slots base s.history b.call b.until t → a.until ≤ b.call.since
       → IfSome (interval_of a.call.op r) (λ first. IfSome (interval_of b.call.op t) (λ second. first.end ≤ second.start))
@@ -262,7 +263,7 @@ module _ (first : Index) (begun : List BegunCall) (calls : List AnsweredCall) (s
         let holds = k.holds n c at in
         record {
           was_begun = k.was_begun n c at;
-          answer = subst (λ (l : Layout). IsLegalAnswer l.slots base s.history c.call c.until c.answer) (sym k.layout_is) (legal_answer n c c.answer at refl holds.0);
+          answer = subst (λ (l : Layout). IsLegalAnswer l.slots base s.history c.call c.until c.next c.answer) (sym k.layout_is) (legal_answer n c c.answer at refl holds.0);
           within = holds.1;
           next = k.next n c at;
         };

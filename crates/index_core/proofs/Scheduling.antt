@@ -26,7 +26,6 @@ use Rattle.call_stages.specs.declared.once.Once.TheVariants as once
 use Rattle.call_stages.specs.declared.once.Placed.{Placed}
 use Rattle.call_stages.specs.Kinds.{clock_place}
 use Rattle.call_stages.specs.Stages.{counted, placed_in}
-use Rattle.node_ops.specs.declared.call.Call.{Call}
 use Rattle.node_ops.specs.declared.running.Running.{Running}
 use Rattle.node_ops.specs.Asked.{IsOf, IsOfAfter, op_in, name_asked}
 use Rattle.node_ops.specs.RunningSteps.{running_call, running_asks, running_turned, Sound}

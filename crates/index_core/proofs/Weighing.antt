@@ -1,5 +1,5 @@
 -- What an index weighs after a whole call, and along a schedule.
-use Rattle.std.proofs.Common.{◌≡◌, ℕ, ◌+◌, ◌-◌, ◌<◌, ◌≤◌, ◌/◌, true, List, [], ◌∷◌, ◌++◌, length, refl, sym, ap, ◌∙◌, subst, arith}
+use Rattle.std.proofs.Common.{◌≡◌, ℕ, ◌+◌, ◌-◌, ◌≤◌, ◌/◌, List, [], ◌++◌, refl, sym, ap, ◌∙◌, subst, arith}
 use Rattle.std.specs.Prelude.{◌≢◌, ◌==◌, Bool, Option, Some, None}
 use Rattle.std.proofs.lemmas.List.{append-nil}
 use Rattle.cat_key.specs.Names.{IsName}
@@ -16,7 +16,6 @@ use Rattle.cat_history.proofs.ChangeLemmas.{at-changed_other, changed_found}
 use Rattle.data_node.specs.Spots.{Spot, Means}
 use Rattle.data_node.specs.Weights.{names_in}
 use Rattle.data_node.proofs.NameCounts.{HasIn, names_within, same_names, put_adds_one, put_over_keeps_names}
-use Rattle.call_stages.specs.declared.once.Placed.{Placed}
 use Rattle.call_stages.specs.Stages.{pended}
 use Rattle.index_law.specs.Worlds.{facts, written}
 use Rattle.index_law.proofs.Maps.{after_all-push}

@@ -1,14 +1,13 @@
 -- What an index weighs along a schedule.
-use Rattle.std.proofs.Common.{◌≡◌, ◌≢◌, ℕ, zero, suc, ◌+◌, ◌≤◌, ◌⊎◌, inl, inr, ⊎_elim, List, [], ◌∷◌, ◌++◌, length, set, refl, sym, ap, ◌∙◌, subst, arith}
+use Rattle.std.proofs.Common.{◌≡◌, ◌≢◌, ℕ, zero, suc, ◌+◌, ◌≤◌, ⊎_elim, List, [], ◌∷◌, length, set, refl, sym, ap, ◌∙◌, subst, arith}
 use Rattle.std.specs.Prelude.{Option, Some, None, IfSome}
 use Rattle.std.specs.List.{sum_by}
 use Rattle.std.proofs.lemmas.List.Sums.{sum_by-cons, sum_by_push}
 use mathlib.Core.Option.{some, some-injective, some-ne-none}
 use lib.ListN.{get_elem?}
 use Rattle.pm_words.specs.declared.machine.Turn.{Turn}
-use Rattle.pm_words.specs.declared.machine.Turn.TheVariants.{Go, Done}
+use Rattle.pm_words.specs.declared.machine.Turn.TheVariants.{Done}
 use Rattle.cat_history.specs.Records.{change_of}
-use Rattle.cat_history.specs.declared.op.Change.{Change}
 use Rattle.cat_history.specs.declared.op.Change.TheVariants as change
 use Rattle.cat_history.specs.declared.op.Op.{Op}
 use Rattle.cat_history.specs.declared.op.Op.TheVariants as op
@@ -22,7 +21,7 @@ use Rattle.node_ops.specs.RunningSteps.{running_asks, running_turned}
 use Rattle.node_ops.specs.CallStages.{stage_of, stage_after, reply_of}
 use Rattle.node_ops.proofs.OpLaw.{op_told, pends_own_change}
 use Rattle.index_law.specs.Worlds.{Party}
-use Rattle.index_law.specs.Weights.{AddsName, RisesBy, weight_sum}
+use Rattle.index_law.specs.Weights.{AddsName, weight_sum}
 use Rattle.index_law.proofs.Weights.{swap_weighs, evict_weighs, idle_weighs, crash_weighs}
 use Rattle.index_core.specs.declared.entry.CoreCall.{CoreCall}
 use Rattle.index_core.specs.declared.entry.Entry.{Entry}
@@ -30,7 +29,7 @@ use Rattle.index_core.specs.declared.entry.Whole.{Whole}
 use Rattle.index_core.specs.declared.entry.Whole.TheVariants as whole
 use Rattle.index_core.specs.CoreCalls.{op_of, machine_of}
 use Rattle.index_core.specs.Entries.{machine_stage, party_of, entry_with, entry_after, index_after, next_index}
-use Rattle.index_core.specs.Indexes.{Index, IsIndex, world, view_of, told, stepped_index, StepsTo}
+use Rattle.index_core.specs.Indexes.{Index, IsIndex, world, view_of, told}
 use Rattle.index_core.specs.Lone.{IsQuiet, entry_done}
 use Rattle.index_core.specs.Schedules.{BegunCall, AnsweredCall, begun_call, flying_call, once_of, Runs, begins, starts, goes_on, answers, alone, evicts, reserves}
 use Rattle.index_core.specs.Weights.{weight_of, put_count, added_if, added_by, added_whole, put_in}

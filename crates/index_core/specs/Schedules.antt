@@ -115,18 +115,20 @@ abbrev pub WroteNothing : List Write → BegunCall → ℕ → Type 0
 WroteNothing history c until =
     (place : ℕ) (write : Write) → slice_get history place ≡ Some write → write.caller ≡ c.caller → c.since ≤ place → place < until → ⊥
 
--- A call was turned back: its caller wrote nothing in its time. For want of room that is only a put, whose name the map
--- lacked in its time while it had as many names as a node has slots.
-pub record IsTurnedBack (slots : ℕ) (base : Map) (history : List Write) (c : BegunCall) (ends : ℕ) (why : Again) : Type 0 where
+-- A call was turned back: its caller wrote nothing in its time, and where it counts all the same, it stands nowhere. For want
+-- of room that is only a put, whose name the map lacked in its time while it had as many names as a node has slots.
+pub record IsTurnedBack (slots : ℕ) (base : Map) (history : List Write) (c : BegunCall) (ends next : ℕ) (why : Again) : Type 0 where
   pub wrote_nothing : WroteNothing history c ends
+  pub nowhere : c.index < next → StandsNowhere history c.caller c.index
   pub room : why ≡ again.NoFree → IsPut c.op × FoundNoRoom slots base history c.since ends (name_asked c.op)
 
--- The answer of a call that ended as the history was so long, on nodes of so many slots.
-abbrev pub IsLegalAnswer : ℕ → Map → List Write → BegunCall → ℕ → Once Placed → Type 0
-IsLegalAnswer slots base history c until (once.Done placed) = IsPlacedCall base history c until placed
-IsLegalAnswer slots base history c until (once.Spent clock) = IsSpentCall history c until clock
-IsLegalAnswer slots base history c until (once.Worn node word) = StandsNowhere history c.caller c.index
-IsLegalAnswer slots base history c until (once.Again why) = IsTurnedBack slots base history c until why
+-- The answer of a call that ended as the history was so long, and left its caller this index for the next, on nodes of so
+-- many slots.
+abbrev pub IsLegalAnswer : ℕ → Map → List Write → BegunCall → ℕ → ℕ → Once Placed → Type 0
+IsLegalAnswer slots base history c until next (once.Done placed) = IsPlacedCall base history c until placed
+IsLegalAnswer slots base history c until next (once.Spent clock) = IsSpentCall history c until clock
+IsLegalAnswer slots base history c until next (once.Worn node word) = StandsNowhere history c.caller c.index
+IsLegalAnswer slots base history c until next (once.Again why) = IsTurnedBack slots base history c until next why
 
 -- The index of its caller's next call is one higher; where a call was turned back, it may be the same.
 abbrev pub IsNext : ℕ → ℕ → Once Placed → Type 0
@@ -136,7 +138,7 @@ IsNext index next _ = next ≡ index + 1
 -- A call that was begun is answered legally.
 pub record IsLegalCall (slots : ℕ) (base : Map) (history : List Write) (begun : List BegunCall) (c : AnsweredCall) : Type 0 where
   pub was_begun : Contains begun c.call
-  pub answer : IsLegalAnswer slots base history c.call c.until c.answer
+  pub answer : IsLegalAnswer slots base history c.call c.until c.next c.answer
   pub within : c.until ≤ length history
   pub next : IsNext c.call.index c.next c.answer
 

@@ -13,7 +13,7 @@ use Rattle.index_law.specs.Facts.{Facts, facts_of}
 -- One that makes calls, one after another.
 pub record Party : Type 0 where
   pub caller : ℕ  -- its number
-  pub index : ℕ  -- how many calls it made before this one
+  pub index : ℕ  -- the index of this call among its calls
   pub since : ℕ  -- how long the history was as this call began
   pub stage : Stage  -- what this call relies on
 
