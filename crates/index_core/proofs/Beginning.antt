@@ -35,8 +35,9 @@ use Rattle.index_core.specs.CoreCalls.{machine_of, op_of, limit_of}
 use Rattle.index_core.specs.Entries.{entry_with, next_index}
 use Rattle.index_core.specs.Indexes.{Index, IsIndex, map_of_index, view_of, started_index}
 use Rattle.index_core.specs.Lone.{IsQuiet, FindsNoRoom, IsWhole, placed_writes, entry_done}
-use Rattle.index_core.specs.Schedules.{BegunCall, AnsweredCall, begun_call, flying_call, once_of, IsNext, IsAnswered, IsFlying, IsAnsweredWrite, IsWriteInFlight, AreCounted}
+use Rattle.index_core.specs.Schedules.{BegunCall, AnsweredCall, begun_call, flying_call, once_of, IsNext, flying_in, IsAnsweredWrite, IsWriteInFlight, AreCounted}
 use Rattle.index_core.proofs.Alone.{begins_limit}
+use Rattle.index_core.proofs.Flights.{each_starts, each_alone}
 use Rattle.index_core.proofs.Lists.{within, at_end, end_there, some_same, got_end, sole}
 use Rattle.index_core.proofs.Scheduling.{IsEarlier, AnswerHolds, CallHolds, in_flight, CountsUpTo, Kept, longer_call, else_there}
 
@@ -128,20 +129,7 @@ module _ (first : Index) (begun : List BegunCall) (calls : List AnsweredCall) (s
             (k.writes place write stands);
         was_begun = λ j a at. Contains-append_left begun (b ∷ []) a.call (k.was_begun j a at);
         next = k.next;
-        each_call = λ a has. ⊎_elim
-            (λ (old : Contains begun a). ⊎_elim
-            (λ (w : IsAnswered calls a). inl w)
-            (λ (f : IsFlying s.entries a). inr (record {
-              party = f.party;
-              entry = f.entry;
-              machine = f.machine;
-              there = else_there s.entries i f.party now f.entry (elsewhere f.party f.entry f.machine f.there f.flies) f.there;
-              flies = f.flies;
-              is = f.is;
-            }))
-            (k.each_call a old))
-            (λ (last : Contains (b ∷ []) a). inr (record { party = i; entry = now; machine = m; there = set_here s.entries i now e there; flies = refl; is = now_flies ∙ sole b a last }))
-            (Contains-append_cases begun (b ∷ []) a has);
+        each_call = each_starts begun calls s.entries k.each_call i e now there b (ap (flying_in e) idle) (ap (λ (c : BegunCall). c ∷ []) now_flies);
         counts = counts_more now (omega arith);
       }
         where
@@ -347,13 +335,7 @@ module _ (first : Index) (begun : List BegunCall) (calls : List AnsweredCall) (s
             (λ (old : get_elem? calls j ≡ some d). k.next j d old)
             (λ (last : (j ≡ length calls) × (a ≡ d)). subst (λ (q : AnsweredCall). IsNext q.call.index q.next q.answer) last.1 (next_alone result))
             (at_end calls a d j at);
-        each_call = λ d has. inl (⊎_elim
-            (λ (old : Contains begun d). ⊎_elim
-            (λ (w : IsAnswered calls d). record { number = w.number; answered = w.answered; there = at_longer calls (a ∷ []) w.number w.answered w.there; is = w.is })
-            (λ (f : IsFlying s.entries d). absurd (none_flies f.party f.entry f.machine f.there f.flies))
-            (k.each_call d old))
-            (λ (last : Contains (b ∷ []) d). record { number = length calls; answered = a; there = end_there calls a; is = sole b d last })
-            (Contains-append_cases begun (b ∷ []) d has));
+        each_call = each_alone begun calls s.entries k.each_call i e done there a (ap (flying_in e) idle) refl;
         counts = counts_more done (let up = went_up in omega arith);
       }
         where

@@ -9,6 +9,7 @@ pub mod Answering
 pub mod Lonely
 pub mod Weighing
 pub mod Alone
+pub mod Flights
 pub mod Scheduling
 pub mod Beginning
 pub mod Limits

@@ -1,8 +1,10 @@
 -- What a schedule answers is one legal history.
-use Rattle.std.proofs.Common.{◌≡◌, ℕ, ◌+◌, ◌<◌, ◌≤◌, ◌⊎◌, ⊎_elim, List, [], ◌∷◌, ◌++◌, length, set, refl, sym, ap, ◌∙◌, subst, arith}
+use Rattle.std.proofs.Common.{◌≡◌, ℕ, suc, ◌+◌, ◌<◌, ◌≤◌, ◌⊎◌, ⊎_elim, List, [], ◌∷◌, ◌++◌, length, set, refl, sym, ap, ◌∙◌, subst, arith}
 use Rattle.std.specs.Prelude.{Option, Some, None, IfSome, slice_get}
 use Rattle.std.proofs.lemmas.List.{length-append}
 use Rattle.std.proofs.lemmas.Bool.{cases_order}
+use Rattle.std.specs.List.Sorted.{IsPermutation}
+use Rattle.std.proofs.lemmas.List.Sorted.{IsPermutation-refl}
 use mathlib.Core.Option.{some, some-injective, some-ne-none}
 use lib.ListN.{get_elem?}
 use Rattle.pm_words.specs.declared.layout.Layout.{Layout}
@@ -25,7 +27,7 @@ use Rattle.index_core.specs.declared.entry.Entry.{Entry}
 use Rattle.index_core.specs.Answers.{IsAnswerOf}
 use Rattle.index_core.specs.Indexes.{Index, IsIndex, IsInFlight, told}
 use Rattle.index_core.specs.Lone.{IsQuiet, placed_writes, entry_done}
-use Rattle.index_core.specs.Schedules.{BegunCall, AnsweredCall, begun_call, flying_call, once_of, Runs, begins, starts, goes_on, answers, alone, evicts, reserves, StandsNowhere, StandsAt, WroteNothing, IsLegalAnswer, IsNext, interval_of, KeepsCallersOrder, EachWritesOnce, IsAnsweredWrite, IsWriteInFlight, IsLegalHistory, AreCounted, OneLegalHistory, FreshIndexBegins}
+use Rattle.index_core.specs.Schedules.{BegunCall, AnsweredCall, begun_call, flying_call, once_of, Runs, begins, starts, goes_on, answers, alone, evicts, reserves, StandsNowhere, StandsAt, WroteNothing, IsLegalAnswer, IsNext, interval_of, KeepsCallersOrder, EachWritesOnce, IsAnsweredWrite, IsWriteInFlight, IsLegalHistory, AreCounted, OneLegalHistory, FreshIndexBegins, flying_in, calls_in_flight}
 use Rattle.index_core.proofs.Crashing.{placed_later}
 use Rattle.index_core.proofs.Limits.{write_end, places_keep_limit}
 use Rattle.index_core.proofs.Beginning.{kept_start, kept_alone}
@@ -55,6 +57,10 @@ kept_as first begun calls s words spare k index = record {
   counts = k.counts;
 }
 
+no_flights : (entries : List Entry) → ((i : ℕ) (entry : Entry) → get_elem? entries i ≡ some entry → entry.machine ≡ None) → calls_in_flight entries ≡ []
+no_flights [] quiet = refl
+no_flights (entry ∷ entries) quiet = (λ t. flying_in entry (quiet 0 entry refl t) ++ no_flights entries (λ i e at. quiet (suc i) e at) t)
+
 -- as a schedule begins
 kept_first : (s : Index) → IsIndex s → IsQuiet s → s.history ≡ [] → Kept s [] [] s
 kept_first s index quiet fresh = record {
@@ -68,7 +74,7 @@ kept_first s index quiet fresh = record {
   writes = λ place write stands. absurd (let both : None ≡ Some write = subst (λ (h : List Write). slice_get h place ≡ Some write) fresh stands in cc);
   was_begun = λ j c at. absurd (some-ne-none c (sym at));
   next = λ j c at. absurd (some-ne-none c (sym at));
-  each_call = λ c has. absurd (let none = has.1 in omega arith);
+  each_call = subst (IsPermutation []) (sym (no_flights s.entries quiet)) (IsPermutation-refl []);
   counts = λ p entry at_p. record { was = entry; there = at_p; most = let idle = ap in_flight (quiet p entry at_p) in omega arith };
 }
 
@@ -259,21 +265,18 @@ module _ (first : Index) (begun : List BegunCall) (calls : List AnsweredCall) (s
   legal_history : IsLegalHistory base begun calls s
   legal_history = record {
     base_is = k.base_is;
+    each_call = k.each_call;
     answers = λ n c at.
         let holds = k.holds n c at in
         record {
-          was_begun = k.was_begun n c at;
           answer = subst (λ (l : Layout). IsLegalAnswer l.slots base s.history c.call c.until c.next c.answer) (sym k.layout_is) (legal_answer n c c.answer at refl holds.0);
           within = holds.1;
           next = k.next n c at;
         };
     in_time = λ i j a b at_i at_j ended. apart a b a.answer b.answer (k.holds i a at_i).0 (k.holds j b at_j).0 ended;
     in_order = in_order;
-    in_flight = λ i entry machine there flies. record {
-      was_begun = k.flying i entry machine there flies;
-      last = λ n a at caller. subst (IsEarlier a entry) flies (k.earlier n a i entry at there (caller ∙ (k.index.entries i entry there).caller));
-    };
-    each_call = k.each_call;
+    in_flight = λ i entry machine there flies n a at caller.
+        subst (IsEarlier a entry) flies (k.earlier n a i entry at there (caller ∙ (k.index.entries i entry there).caller));
     once = once_each;
     writes = k.writes;
     places = λ limit carry. places_keep_limit first begun calls s k limit carry;

@@ -39,7 +39,8 @@ use Rattle.index_core.specs.declared.entry.Entry.{Entry}
 use Rattle.index_core.specs.Answers.{TookPlace, WasReached, IsPut, FoundNoRoom, IsAnswerOf}
 use Rattle.index_core.specs.Entries.{entry_after, next_index, index_after, IsEntry}
 use Rattle.index_core.specs.Indexes.{Index, IsIndex, told, stepped_index, MakesCall}
-use Rattle.index_core.specs.Schedules.{BegunCall, AnsweredCall, flying_call, IsNext, IsAnswered, IsFlying, IsAnsweredWrite, IsWriteInFlight, EachWriteIsOfACall, AreCounted}
+use Rattle.index_core.specs.Schedules.{BegunCall, AnsweredCall, flying_call, IsNext, flying_in, EachIsAnsweredOrFlies, IsAnsweredWrite, IsWriteInFlight, EachWriteIsOfACall, AreCounted}
+use Rattle.index_core.proofs.Flights.{each_goes_on, each_ends}
 use Rattle.index_core.proofs.Lists.{within, at_end, end_there, some_same, got_end}
 use Rattle.index_core.proofs.Phases.{phase_of, phase_after, leads}
 use Rattle.index_core.proofs.Places.{place_in, place_is, place_for, Onward, EndsWith, onward, ends_with}
@@ -86,7 +87,7 @@ pub record Kept (first : Index) (begun : List BegunCall) (calls : List AnsweredC
   pub writes : EachWriteIsOfACall calls s.entries s.history
   pub was_begun : (n : ℕ) (c : AnsweredCall) → get_elem? calls n ≡ some c → Contains begun c.call
   pub next : (n : ℕ) (c : AnsweredCall) → get_elem? calls n ≡ some c → IsNext c.call.index c.next c.answer
-  pub each_call : (c : BegunCall) → Contains begun c → IsAnswered calls c ⊎ IsFlying s.entries c
+  pub each_call : EachIsAnsweredOrFlies begun calls s.entries
   pub counts : (i : ℕ) (entry : Entry) → get_elem? s.entries i ≡ some entry → CountsUpTo first begun i entry
 
 pub place_le_end : (o : Op) (place : ℕ) → place ≤ (interval_at o place).end
@@ -196,14 +197,6 @@ module _ (first : Index) (begun : List BegunCall) (calls : List AnsweredCall) (s
       let same = machine_there w.entry w.machine (subst (λ (j : ℕ). get_elem? s.entries j ≡ some w.entry) party w.there) w.flies in
       ap (λ (q : Running). change_of (op_in q)) (sym same) ∙ w.change)
       (k.writes place write stands)
-
-  -- and so is a call that is in flight there
-  flying_here : (c : BegunCall) (f : IsFlying s.entries c) → f.party ≡ i → flying_call e m ≡ c
-  flying_here c f party =
-      let here = subst (λ (j : ℕ). get_elem? s.entries j ≡ some f.entry) party f.there in
-      let entry : f.entry ≡ e = some-injective _ _ (sym here ∙ there) in
-      let machine : f.machine ≡ m = machine_there f.entry f.machine here f.flies in
-      (λ t. flying_call (sym entry t) (sym machine t)) ∙ f.is
 
   one_flies : in_flight e.machine ≡ 1
   one_flies = ap in_flight flies
@@ -339,13 +332,7 @@ module _ (first : Index) (begun : List BegunCall) (calls : List AnsweredCall) (s
       writes = writes_on (counted (stage_of m)) on (counts_own_change (op_in m) m of);
       was_begun = k.was_begun;
       next = k.next;
-      each_call = λ c has. ⊎_elim
-          (λ (a : IsAnswered calls c). inl a)
-          (λ (f : IsFlying s.entries c). inr (⊎_elim
-          (λ (party : f.party ≡ i). record { party = i; entry = e'; machine = next; there = set_here s.entries i e' e there; flies = refl; is = same_call ∙ flying_here c f party })
-          (λ (other : f.party ≢ i). record { party = f.party; entry = f.entry; machine = f.machine; there = else_there s.entries i f.party e' f.entry other f.there; flies = f.flies; is = f.is })
-          (cases_eq f.party i)))
-          (k.each_call c has);
+      each_call = each_goes_on begun calls s.entries k.each_call i e e' there (ap (λ (c : BegunCall). c ∷ []) same_call ∙ sym (ap (flying_in e) flies));
       counts = λ p entry at_p. ⊎_elim
           (λ (mine : (p ≡ i) × (e' ≡ entry)).
           subst (CountsUpTo first begun p) mine.1 (counts_as first begun i p e e' mine.0 (let one = one_flies in omega arith) (k.counts i e there)))
@@ -513,13 +500,7 @@ module _ (first : Index) (begun : List BegunCall) (calls : List AnsweredCall) (s
           (λ (old : get_elem? calls j ≡ some c). k.next j c old)
           (λ (last : (j ≡ length calls) × (call ≡ c)). subst (λ (d : AnsweredCall). IsNext d.call.index d.next d.answer) last.1 next_here)
           (at_end calls call c j at);
-      each_call = λ c has. ⊎_elim
-          (λ (a : IsAnswered calls c). inl (record { number = a.number; answered = a.answered; there = at_longer calls (call ∷ []) a.number a.answered a.there; is = a.is }))
-          (λ (f : IsFlying s.entries c). ⊎_elim
-          (λ (party : f.party ≡ i). inl (record { number = length calls; answered = call; there = end_there calls call; is = flying_here c f party }))
-          (λ (other : f.party ≢ i). inr (record { party = f.party; entry = f.entry; machine = f.machine; there = else_there s.entries i f.party done f.entry other f.there; flies = f.flies; is = f.is }))
-          (cases_eq f.party i))
-          (k.each_call c has);
+      each_call = each_ends begun calls s.entries k.each_call i e done there call (ap (flying_in e) flies) refl;
       counts = λ p entry at_p. ⊎_elim
           (λ (mine : (p ≡ i) × (done ≡ entry)).
           let near = (next_near e.index done.index answer next_here).1 in

@@ -1,5 +1,6 @@
 -- Schedules of the core, and what is legal of all that they answer.
-use Rattle.std.specs.Prelude.{◌≡◌, ℕ, ◌+◌, ◌^◌, ◌<◌, ◌≤◌, ◌⊎◌, List, [], ◌∷◌, ◌++◌, length, slice_get, Option, Some, None, IfSome, All, Contains, map}
+use Rattle.std.specs.Prelude.{◌≡◌, ℕ, ◌+◌, ◌^◌, ◌<◌, ◌≤◌, ◌⊎◌, List, [], ◌∷◌, ◌++◌, length, slice_get, Option, Some, None, IfSome, All, map}
+use Rattle.std.specs.List.Sorted.{IsPermutation}
 use mathlib.Core.Option.{some}
 use lib.ListN.{get_elem?}
 use Rattle.pm_words.specs.declared.layout.Layout.{Layout}
@@ -135,9 +136,8 @@ abbrev pub IsNext : ℕ → ℕ → Once Placed → Type 0
 IsNext index next (once.Again why) = (next ≡ index) ⊎ (next ≡ index + 1)
 IsNext index next _ = next ≡ index + 1
 
--- A call that was begun is answered legally.
-pub record IsLegalCall (slots : ℕ) (base : Map) (history : List Write) (begun : List BegunCall) (c : AnsweredCall) : Type 0 where
-  pub was_begun : Contains begun c.call
+-- A call is answered legally.
+pub record IsLegalCall (slots : ℕ) (base : Map) (history : List Write) (c : AnsweredCall) : Type 0 where
   pub answer : IsLegalAnswer slots base history c.call c.until c.next c.answer
   pub within : c.until ≤ length history
   pub next : IsNext c.call.index c.next c.answer
@@ -167,29 +167,26 @@ abbrev pub KeepsCallersOrder : List AnsweredCall → Type 0
 KeepsCallersOrder calls = (i j : ℕ) (a b : AnsweredCall) → get_elem? calls i ≡ some a → get_elem? calls j ≡ some b → i < j →
     a.call.caller ≡ b.call.caller → Precedes a b
 
--- A call in flight was begun, and before that each answered call of its caller was answered.
-pub record IsLegalInFlight (begun : List BegunCall) (calls : List AnsweredCall) (c : BegunCall) : Type 0 where
-  pub was_begun : Contains begun c
-  pub last : (i : ℕ) (a : AnsweredCall) → get_elem? calls i ≡ some a → a.call.caller ≡ c.caller → (a.next ≤ c.index) × (a.until ≤ c.since)
+-- Each answered call of its caller was answered before the call in flight began.
+abbrev pub ComesLast : List AnsweredCall → BegunCall → Type 0
+ComesLast calls c = (i : ℕ) (a : AnsweredCall) → get_elem? calls i ≡ some a → a.call.caller ≡ c.caller → (a.next ≤ c.index) × (a.until ≤ c.since)
 
-abbrev pub AreLegalInFlight : List BegunCall → List AnsweredCall → List Entry → Type 0
-AreLegalInFlight begun calls entries = (i : ℕ) (entry : Entry) (machine : Running) → get_elem? entries i ≡ some entry →
-    entry.machine ≡ Some machine → IsLegalInFlight begun calls (flying_call entry machine)
+abbrev pub AreLegalInFlight : List AnsweredCall → List Entry → Type 0
+AreLegalInFlight calls entries = (i : ℕ) (entry : Entry) (machine : Running) → get_elem? entries i ≡ some entry → entry.machine ≡ Some machine →
+    ComesLast calls (flying_call entry machine)
 
--- The call was answered, or is in flight.
-pub record IsAnswered (calls : List AnsweredCall) (c : BegunCall) : Type 0 where
-  pub number : ℕ
-  pub answered : AnsweredCall
-  pub there : get_elem? calls number ≡ some answered
-  pub is : answered.call ≡ c
+-- The calls in flight, by party.
+abbrev pub flying_in : Entry → Option Running → List BegunCall
+flying_in entry None = []
+flying_in entry (Some machine) = flying_call entry machine ∷ []
 
-pub record IsFlying (entries : List Entry) (c : BegunCall) : Type 0 where
-  pub party : ℕ
-  pub entry : Entry
-  pub machine : Running
-  pub there : get_elem? entries party ≡ some entry
-  pub flies : entry.machine ≡ Some machine
-  pub is : flying_call entry machine ≡ c
+abbrev pub calls_in_flight : List Entry → List BegunCall
+calls_in_flight [] = []
+calls_in_flight (entry ∷ entries) = flying_in entry entry.machine ++ calls_in_flight entries
+
+-- The calls that were begun are those that were answered and those in flight, each as often.
+abbrev pub EachIsAnsweredOrFlies : List BegunCall → List AnsweredCall → List Entry → Type 0
+EachIsAnsweredOrFlies begun calls entries = IsPermutation begun (map (λ c. c.call) calls ++ calls_in_flight entries)
 
 -- No two writes are of one call.
 abbrev pub EachWritesOnce : List Write → Type 0
@@ -235,11 +232,11 @@ CarryLimit limit begun = All (λ c. IfSome (change_of c.op) (λ change. c.limit 
 -- The history of the index is the one legal history of these calls, over this base.
 pub record IsLegalHistory (base : Map) (begun : List BegunCall) (calls : List AnsweredCall) (s : Index) : Type 0 where
   pub base_is : map_of s.base ≡ base
-  pub answers : (i : ℕ) (c : AnsweredCall) → get_elem? calls i ≡ some c → IsLegalCall s.layout.slots base s.history begun c
+  pub each_call : EachIsAnsweredOrFlies begun calls s.entries
+  pub answers : (i : ℕ) (c : AnsweredCall) → get_elem? calls i ≡ some c → IsLegalCall s.layout.slots base s.history c
   pub in_time : KeepsTime calls
   pub in_order : KeepsCallersOrder calls
-  pub in_flight : AreLegalInFlight begun calls s.entries
-  pub each_call : (c : BegunCall) → Contains begun c → IsAnswered calls c ⊎ IsFlying s.entries c
+  pub in_flight : AreLegalInFlight calls s.entries
   pub once : EachWritesOnce s.history
   pub writes : EachWriteIsOfACall calls s.entries s.history
   -- under one limit, each place of a write is below it plus the number of callers that have calls, minus one

@@ -1,0 +1,79 @@
+-- Each call that was begun is answered or in flight, as often as it was begun: that stays along a schedule.
+use Rattle.std.proofs.Common.{◌≡◌, ℕ, zero, suc, List, [], ◌∷◌, ◌++◌, set, refl, sym, ap, ◌∙◌, subst, append_assoc}
+use Rattle.std.specs.Prelude.{Option, Some, None, map}
+use Rattle.std.specs.List.Sorted.{IsPermutation}
+use Rattle.std.proofs.lemmas.List.{map-append}
+use Rattle.std.proofs.lemmas.List.Sorted.{IsPermutation-append, IsPermutation-append_comm, IsPermutation-append_left, IsPermutation-append_right, IsPermutation-refl, IsPermutation-sym, IsPermutation-trans}
+use mathlib.Core.Option.{some, some-injective, some-ne-none}
+use lib.ListN.{get_elem?}
+use Rattle.index_core.specs.declared.entry.Entry.{Entry}
+use Rattle.index_core.specs.Schedules.{BegunCall, AnsweredCall, flying_in, calls_in_flight, EachIsAnsweredOrFlies}
+
+-- the first of three parts goes behind the second
+swap_parts : {A : Type 0} (xs ys zs : List A) → IsPermutation (xs ++ (ys ++ zs)) (ys ++ (xs ++ zs))
+swap_parts {A = A} xs ys zs =
+    subst (λ (l : List A). IsPermutation l (ys ++ (xs ++ zs))) (append_assoc xs ys zs)
+    (subst (IsPermutation ((xs ++ ys) ++ zs)) (append_assoc ys xs zs) (IsPermutation-append_left zs (xs ++ ys) (ys ++ xs) (IsPermutation-append_comm xs ys)))
+
+abbrev flight : Entry → List BegunCall
+flight entry = flying_in entry entry.machine
+
+-- one party's call in flight in the place of another
+flights_set : (l : List Entry) (i : ℕ) (was now : Entry) → get_elem? l i ≡ some was → IsPermutation (flight was ++ calls_in_flight (set l i now)) (flight now ++ calls_in_flight l)
+flights_set [] i was now there = absurd (some-ne-none was (sym there))
+flights_set (x ∷ xs) zero was now there =
+    subst (λ (e : Entry). IsPermutation (flight was ++ (flight now ++ calls_in_flight xs)) (flight now ++ (flight e ++ calls_in_flight xs))) (sym (some-injective x was there))
+    (swap_parts (flight was) (flight now) (calls_in_flight xs))
+flights_set (x ∷ xs) (suc i) was now there =
+    IsPermutation-trans _ (flight x ++ (flight was ++ calls_in_flight (set xs i now))) _ (swap_parts (flight was) (flight x) (calls_in_flight (set xs i now)))
+    (IsPermutation-trans _ (flight x ++ (flight now ++ calls_in_flight xs)) _
+    (IsPermutation-append_right (flight x) (flight was ++ calls_in_flight (set xs i now)) (flight now ++ calls_in_flight xs) (flights_set xs i was now there))
+    (swap_parts (flight x) (flight now) (calls_in_flight xs)))
+
+-- a party whose call goes on has the same in flight
+flights_same : (l : List Entry) (i : ℕ) (was now : Entry) → get_elem? l i ≡ some was → flight now ≡ flight was → calls_in_flight (set l i now) ≡ calls_in_flight l
+flights_same [] i was now there same = refl
+flights_same (x ∷ xs) zero was now there same = ap (λ (l : List BegunCall). l ++ calls_in_flight xs) (same ∙ ap flight (sym (some-injective x was there)))
+flights_same (x ∷ xs) (suc i) was now there same = ap (λ (l : List BegunCall). flight x ++ l) (flights_same xs i was now there same)
+
+module _ (begun : List BegunCall) (calls : List AnsweredCall) (entries : List Entry) (each : EachIsAnsweredOrFlies begun calls entries) (i : ℕ) (was now : Entry) (there : get_elem? entries i ≡ some was) where
+  abbrev answered : List BegunCall
+  answered = map (λ (c : AnsweredCall). c.call) calls
+
+  -- the call goes on
+  pub each_goes_on : flight now ≡ flight was → EachIsAnsweredOrFlies begun calls (set entries i now)
+  each_goes_on same = subst (λ (l : List BegunCall). IsPermutation begun (answered ++ l)) (sym (flights_same entries i was now there same)) each
+
+  -- one call more is begun, and is in flight
+  module _ (b : BegunCall) where
+    one_more : IsPermutation (begun ++ b ∷ []) (answered ++ ((b ∷ []) ++ calls_in_flight entries))
+    one_more =
+        IsPermutation-trans _ ((answered ++ calls_in_flight entries) ++ b ∷ []) _ (IsPermutation-append_left (b ∷ []) begun (answered ++ calls_in_flight entries) each)
+        (subst (λ (l : List BegunCall). IsPermutation l (answered ++ ((b ∷ []) ++ calls_in_flight entries))) (sym (append_assoc answered (calls_in_flight entries) (b ∷ [])))
+        (IsPermutation-append_right answered (calls_in_flight entries ++ b ∷ []) ((b ∷ []) ++ calls_in_flight entries) (IsPermutation-append_comm (calls_in_flight entries) (b ∷ []))))
+
+    pub each_starts : flight was ≡ [] → flight now ≡ b ∷ [] → EachIsAnsweredOrFlies (begun ++ b ∷ []) calls (set entries i now)
+    each_starts idle flies =
+        let moved : IsPermutation (calls_in_flight (set entries i now)) ((b ∷ []) ++ calls_in_flight entries) =
+        subst (λ (q : List BegunCall × List BegunCall). IsPermutation (q.0 ++ calls_in_flight (set entries i now)) (q.1 ++ calls_in_flight entries)) (λ k. (idle k, flies k)) (flights_set entries i was now there) in
+        IsPermutation-trans _ _ _ one_more
+        (IsPermutation-append_right answered _ _ (IsPermutation-sym (calls_in_flight (set entries i now)) ((b ∷ []) ++ calls_in_flight entries) moved))
+
+  -- the call is answered
+  module _ (c : AnsweredCall) where
+    answered_more : (l : List BegunCall) → map (λ (d : AnsweredCall). d.call) (calls ++ c ∷ []) ++ l ≡ answered ++ ((c.call ∷ []) ++ l)
+    answered_more l = ap (λ (m : List BegunCall). m ++ l) (map-append (λ (d : AnsweredCall). d.call) calls (c ∷ [])) ∙ append_assoc answered (c.call ∷ []) l
+
+    pub each_ends : flight was ≡ c.call ∷ [] → flight now ≡ [] → EachIsAnsweredOrFlies begun (calls ++ c ∷ []) (set entries i now)
+    each_ends flew idle =
+        let moved : IsPermutation ((c.call ∷ []) ++ calls_in_flight (set entries i now)) (calls_in_flight entries) =
+        subst (λ (q : List BegunCall × List BegunCall). IsPermutation (q.0 ++ calls_in_flight (set entries i now)) (q.1 ++ calls_in_flight entries)) (λ k. (flew k, idle k)) (flights_set entries i was now there) in
+        subst (IsPermutation begun) (sym (answered_more (calls_in_flight (set entries i now))))
+        (IsPermutation-trans _ _ _ each
+        (IsPermutation-append_right answered _ _ (IsPermutation-sym ((c.call ∷ []) ++ calls_in_flight (set entries i now)) (calls_in_flight entries) moved)))
+
+    -- a whole call is begun and answered
+    pub each_alone : flight was ≡ [] → flight now ≡ [] → EachIsAnsweredOrFlies (begun ++ c.call ∷ []) (calls ++ c ∷ []) (set entries i now)
+    each_alone idle idle' =
+        subst (IsPermutation (begun ++ c.call ∷ [])) (sym (answered_more (calls_in_flight (set entries i now))))
+        (subst (λ (l : List BegunCall). IsPermutation (begun ++ c.call ∷ []) (answered ++ ((c.call ∷ []) ++ l))) (sym (flights_same entries i was now there (idle' ∙ sym idle))) (one_more c.call))
