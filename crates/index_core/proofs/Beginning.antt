@@ -1,8 +1,7 @@
 -- What holds along a schedule stays with a start, and with a whole call that is alone.
 use Rattle.std.proofs.Common.{◌≡◌, ◌≢◌, ℕ, ◌+◌, ◌<◌, ◌≤◌, ◌⊎◌, inl, inr, ⊎_elim, List, [], ◌∷◌, ◌++◌, length, set, slice_set, refl, sym, ap, ◌∙◌, subst, arith}
-use Rattle.std.specs.Prelude.{Option, Some, None, IfSome, IsSomeAnd, Contains, slice_get}
+use Rattle.std.specs.Prelude.{Option, Some, None, IfSome, IsSomeAnd, slice_get}
 use Rattle.std.proofs.lemmas.List.{append-nil, length-append}
-use Rattle.std.proofs.lemmas.List.Elements.{Contains-push, Contains-append_left, Contains-append_cases}
 use Rattle.std.proofs.Math.Nat.{min-eq_left}
 use Rattle.std.proofs.lemmas.Bool.{cases_lt}
 use Rattle.std.specs.FinMap.{len}
@@ -24,7 +23,7 @@ use Rattle.node_ops.specs.Asked.{IsOf, name_asked}
 use Rattle.node_ops.proofs.OpLaw.{op_told}
 use Rattle.index_law.specs.Worlds.{written}
 use Rattle.index_law.proofs.Maps.{after-longer, after-whole, slice_get-last}
-use Rattle.index_law.proofs.Parties.{at_set, at_longer, set_here}
+use Rattle.index_law.proofs.Parties.{at_set, at_longer}
 use Rattle.index_core.specs.declared.entry.CoreCall.{CoreCall}
 use Rattle.index_core.specs.declared.entry.CoreCall.TheVariants as call
 use Rattle.index_core.specs.declared.entry.Entry.{Entry}
@@ -38,7 +37,7 @@ use Rattle.index_core.specs.Lone.{IsQuiet, FindsNoRoom, IsWhole, placed_writes, 
 use Rattle.index_core.specs.Schedules.{BegunCall, AnsweredCall, begun_call, flying_call, once_of, IsNext, flying_in, IsAnsweredWrite, IsWriteInFlight, AreCounted}
 use Rattle.index_core.proofs.Alone.{begins_limit}
 use Rattle.index_core.proofs.Flights.{each_starts, each_alone}
-use Rattle.index_core.proofs.Lists.{within, at_end, end_there, some_same, got_end, sole}
+use Rattle.index_core.proofs.Lists.{within, at_end, end_there, got_end}
 use Rattle.index_core.proofs.Scheduling.{IsEarlier, AnswerHolds, CallHolds, in_flight, CountsUpTo, Kept, longer_call, else_there}
 
 -- a limit that isn't reached is above
@@ -107,12 +106,6 @@ module _ (first : Index) (begun : List BegunCall) (calls : List AnsweredCall) (s
             subst (λ (d : Entry). IsEarlier a d d.machine) mine.1 (before, (k.holds j a at).1))
             (λ (other : (p ≢ i) × (get_elem? s.entries p ≡ some entry)). k.earlier j a p entry at other.1 caller)
             (at_set s.entries i p now entry at_p);
-        flying = λ p entry machine at_p flown. ⊎_elim
-            (λ (mine : (p ≡ i) × (now ≡ entry)).
-            let machine_is : m ≡ machine = some_same (ap (λ (d : Entry). d.machine) mine.1 ∙ flown) in
-            subst (λ (q : Entry × Running). Contains more (flying_call q.0 q.1)) (λ t. (mine.1 t, machine_is t)) (subst (Contains more) (sym now_flies) (Contains-push begun b)))
-            (λ (other : (p ≢ i) × (get_elem? s.entries p ≡ some entry)). Contains-append_left begun (b ∷ []) (flying_call entry machine) (k.flying p entry machine other.1 flown))
-            (at_set s.entries i p now entry at_p);
         writes = λ place write stands. ⊎_elim
             (λ (w : IsAnsweredWrite calls place write). inl w)
             (λ (w : IsWriteInFlight s.entries place write). inr (record {
@@ -127,7 +120,6 @@ module _ (first : Index) (begun : List BegunCall) (calls : List AnsweredCall) (s
               change = w.change;
             }))
             (k.writes place write stands);
-        was_begun = λ j a at. Contains-append_left begun (b ∷ []) a.call (k.was_begun j a at);
         next = k.next;
         each_call = each_starts begun calls s.entries k.each_call i e now there b (ap (flying_in e) idle) (ap (λ (c : BegunCall). c ∷ []) now_flies);
         counts = counts_more now (omega arith);
@@ -296,10 +288,6 @@ module _ (first : Index) (begun : List BegunCall) (calls : List AnsweredCall) (s
             (λ (last : (j ≡ length calls) × (a ≡ d)). absurd (other.0 (sym caller ∙ ap (λ (q : AnsweredCall). q.call.caller) (sym last.1) ∙ caller_is)))
             (at_end calls a d j at))
             (at_set s.entries i p done entry at_p);
-        flying = λ p entry machine at_p flown. absurd (⊎_elim
-            (λ (mine : (p ≡ i) × (done ≡ entry)). let both : None ≡ Some machine = ap (λ (d : Entry). d.machine) mine.1 ∙ flown in cc)
-            (λ (other : (p ≢ i) × (get_elem? s.entries p ≡ some entry)). none_flies p entry machine other.1 flown)
-            (at_set s.entries i p done entry at_p));
         writes = λ place write stands. inl (⊎_elim
             (λ (before : slice_get s.history place ≡ Some write). ⊎_elim
             (λ (w : IsAnsweredWrite calls place write). record {
@@ -327,10 +315,6 @@ module _ (first : Index) (begun : List BegunCall) (calls : List AnsweredCall) (s
               change = last.5;
             })
             (last_write result is place write stands));
-        was_begun = λ j d at. ⊎_elim
-            (λ (old : get_elem? calls j ≡ some d). Contains-append_left begun (b ∷ []) d.call (k.was_begun j d old))
-            (λ (last : (j ≡ length calls) × (a ≡ d)). subst (λ (q : AnsweredCall). Contains more q.call) last.1 (Contains-push begun b))
-            (at_end calls a d j at);
         next = λ j d at. ⊎_elim
             (λ (old : get_elem? calls j ≡ some d). k.next j d old)
             (λ (last : (j ≡ length calls) × (a ≡ d)). subst (λ (q : AnsweredCall). IsNext q.call.index q.next q.answer) last.1 (next_alone result))

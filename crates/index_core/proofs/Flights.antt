@@ -1,13 +1,15 @@
 -- Each call that was begun is answered or in flight, as often as it was begun: that stays along a schedule.
-use Rattle.std.proofs.Common.{◌≡◌, ℕ, zero, suc, List, [], ◌∷◌, ◌++◌, set, refl, sym, ap, ◌∙◌, subst, append_assoc}
-use Rattle.std.specs.Prelude.{Option, Some, None, map}
+use Rattle.std.proofs.Common.{◌≡◌, ℕ, zero, suc, List, [], ◌∷◌, ◌++◌, set, refl, sym, ap, ◌∙◌, subst, append_assoc, arith}
+use Rattle.std.specs.Prelude.{Contains, Option, Some, map}
 use Rattle.std.specs.List.Sorted.{IsPermutation}
 use Rattle.std.proofs.lemmas.List.{map-append}
-use Rattle.std.proofs.lemmas.List.Sorted.{IsPermutation-append, IsPermutation-append_comm, IsPermutation-append_left, IsPermutation-append_right, IsPermutation-refl, IsPermutation-sym, IsPermutation-trans}
+use Rattle.std.proofs.lemmas.List.Elements.{Contains-append_left, Contains-append_right}
+use Rattle.std.proofs.lemmas.List.Sorted.{Contains-permutation, IsPermutation-append_comm, IsPermutation-append_left, IsPermutation-append_right, IsPermutation-sym, IsPermutation-trans}
 use mathlib.Core.Option.{some, some-injective, some-ne-none}
 use lib.ListN.{get_elem?}
 use Rattle.index_core.specs.declared.entry.Entry.{Entry}
-use Rattle.index_core.specs.Schedules.{BegunCall, AnsweredCall, flying_in, calls_in_flight, EachIsAnsweredOrFlies}
+use Rattle.node_ops.specs.declared.running.Running.{Running}
+use Rattle.index_core.specs.Schedules.{BegunCall, AnsweredCall, flying_call, flying_in, calls_in_flight, EachIsAnsweredOrFlies}
 
 -- the first of three parts goes behind the second
 swap_parts : {A : Type 0} (xs ys zs : List A) → IsPermutation (xs ++ (ys ++ zs)) (ys ++ (xs ++ zs))
@@ -77,3 +79,31 @@ module _ (begun : List BegunCall) (calls : List AnsweredCall) (entries : List En
     each_alone idle idle' =
         subst (IsPermutation (begun ++ c.call ∷ [])) (sym (answered_more (calls_in_flight (set entries i now))))
         (subst (λ (l : List BegunCall). IsPermutation (begun ++ c.call ∷ []) (answered ++ ((c.call ∷ []) ++ l))) (sym (flights_same entries i was now there (idle' ∙ sym idle))) (one_more c.call))
+
+module _ (begun : List BegunCall) (calls : List AnsweredCall) (entries : List Entry) (each : EachIsAnsweredOrFlies begun calls entries) where
+  -- a call that was answered was begun
+  pub answered_begun : (n : ℕ) (c : AnsweredCall) → get_elem? calls n ≡ some c → Contains begun c.call
+  answered_begun n c there =
+      Contains-permutation (map (λ (d : AnsweredCall). d.call) calls ++ calls_in_flight entries) begun c.call (IsPermutation-sym begun _ each)
+      (Contains-append_left (map (λ (d : AnsweredCall). d.call) calls) (calls_in_flight entries) c.call (at calls n there))
+    where
+      at : (l : List AnsweredCall) (n : ℕ) → get_elem? l n ≡ some c → Contains (map (λ (d : AnsweredCall). d.call) l) c.call
+      at [] n there = absurd (some-ne-none c (sym there))
+      at (d ∷ l) zero there = (0, omega arith, ap (λ (e : AnsweredCall). e.call) (some-injective d c there))
+      at (d ∷ l) (suc n) there = Contains-append_right (d.call ∷ []) (map (λ (e : AnsweredCall). e.call) l) c.call (at l n there)
+
+  -- and so was one that is in flight
+  pub flying_begun : (i : ℕ) (entry : Entry) (machine : Running) → get_elem? entries i ≡ some entry → entry.machine ≡ Some machine → Contains begun (flying_call entry machine)
+  flying_begun i entry machine there flies =
+      let c = flying_call entry machine in
+      Contains-permutation (map (λ (d : AnsweredCall). d.call) calls ++ calls_in_flight entries) begun c (IsPermutation-sym begun _ each)
+      (Contains-append_right (map (λ (d : AnsweredCall). d.call) calls) (calls_in_flight entries) c (at entries i there))
+    where
+      own : Contains (flight entry) (flying_call entry machine)
+      own = subst (λ (o : Option Running). Contains (flying_in entry o) (flying_call entry machine)) (sym flies) (0, omega arith, refl)
+
+      at : (l : List Entry) (i : ℕ) → get_elem? l i ≡ some entry → Contains (calls_in_flight l) (flying_call entry machine)
+      at [] i there = absurd (some-ne-none entry (sym there))
+      at (e ∷ l) zero there =
+          Contains-append_left (flight e) (calls_in_flight l) (flying_call entry machine) (subst (λ (d : Entry). Contains (flight d) (flying_call entry machine)) (sym (some-injective e entry there)) own)
+      at (e ∷ l) (suc i) there = Contains-append_right (flight e) (calls_in_flight l) (flying_call entry machine) (at l i there)

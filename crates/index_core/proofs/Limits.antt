@@ -27,6 +27,7 @@ use Rattle.index_core.specs.Entries.{machine_stage, party_of}
 use Rattle.index_core.specs.Indexes.{Index, IsIndex, world}
 use Rattle.index_core.specs.Schedules.{BegunCall, AnsweredCall, flying_call, IsAnsweredWrite, IsWriteInFlight, CarryLimit, callers_of}
 use Rattle.index_core.proofs.Crashing.{placed_later}
+use Rattle.index_core.proofs.Flights.{answered_begun, flying_begun}
 use Rattle.index_core.proofs.Lists.{map_there, some_same}
 use Rattle.index_core.proofs.Phases.{Phase, Begun, Seen, Locking, Over, Timed, Counted, phase_of}
 use Rattle.index_core.proofs.Places.{place_in, place_is, IsBelow, limit_in, limit_is}
@@ -89,14 +90,14 @@ module _ (first : Index) (begun : List BegunCall) (calls : List AnsweredCall) (s
       let ended = holds.1 in
       let began = holds.0.later in
       let same = w.place in
-      let below : a.call.since < limit = subst (λ (o : Option ℕ). IfSome o (λ most. a.call.since < most)) (own_limit a.call write.change (k.was_begun w.number a w.there) w.change) holds.0.below in
+      let below : a.call.since < limit = subst (λ (o : Option ℕ). IfSome o (λ most. a.call.since < most)) (own_limit a.call write.change (answered_begun begun calls s.entries k.each_call w.number a w.there) w.change) holds.0.below in
       (below, omega arith, omega arith)
 
   -- and so did one in flight that has its place
   flown_below : (place : ℕ) (write : Write) (w : IsWriteInFlight s.entries place write) → (w.entry.since < limit) × (w.entry.since ≤ place)
   flown_below place write w =
       let c = flying_call w.entry w.machine in (
-        subst (λ (o : Option ℕ). IfSome o (λ most. w.entry.since < most)) (own_limit c write.change (k.flying w.party w.entry w.machine w.there w.flies) w.change)
+        subst (λ (o : Option ℕ). IfSome o (λ most. w.entry.since < most)) (own_limit c write.change (flying_begun begun calls s.entries k.each_call w.party w.entry w.machine w.there w.flies) w.change)
             (began_below s k.index w.party place w.entry w.machine w.there w.flies w.place),
         placed_later s k.index w.party place w.entry w.machine w.there w.flies w.place,
       )
@@ -107,10 +108,10 @@ module _ (first : Index) (begun : List BegunCall) (calls : List AnsweredCall) (s
       ⊎_elim
       (λ (w : IsAnsweredWrite calls place write).
       let below = (answered_below place write w).0 in
-      (subst (Contains (callers_of begun)) (sym w.caller) (caller_there begun w.answered.call (k.was_begun w.number w.answered w.there)), omega arith))
+      (subst (Contains (callers_of begun)) (sym w.caller) (caller_there begun w.answered.call (answered_begun begun calls s.entries k.each_call w.number w.answered w.there)), omega arith))
       (λ (w : IsWriteInFlight s.entries place write).
       let below = (flown_below place write w).0 in
-      (subst (Contains (callers_of begun)) (sym w.caller) (caller_there begun (flying_call w.entry w.machine) (k.flying w.party w.entry w.machine w.there w.flies)), omega arith))
+      (subst (Contains (callers_of begun)) (sym w.caller) (caller_there begun (flying_call w.entry w.machine) (flying_begun begun calls s.entries k.each_call w.party w.entry w.machine w.there w.flies)), omega arith))
       (k.writes place write stands)
 
   -- where the limit was all but reached, a caller writes once

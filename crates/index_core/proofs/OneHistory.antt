@@ -49,9 +49,7 @@ kept_as first begun calls s words spare k index = record {
   holds = k.holds;
   order = k.order;
   earlier = k.earlier;
-  flying = k.flying;
   writes = k.writes;
-  was_begun = k.was_begun;
   next = k.next;
   each_call = k.each_call;
   counts = k.counts;
@@ -70,9 +68,7 @@ kept_first s index quiet fresh = record {
   holds = λ j c at. absurd (some-ne-none c (sym at));
   order = λ p q a b at_p at_q less caller. absurd (some-ne-none a (sym at_p));
   earlier = λ j c p entry at at_p caller. absurd (some-ne-none c (sym at));
-  flying = λ p entry machine at_p flown. absurd (let both : None ≡ Some machine = sym (quiet p entry at_p) ∙ flown in cc);
   writes = λ place write stands. absurd (let both : None ≡ Some write = subst (λ (h : List Write). slice_get h place ≡ Some write) fresh stands in cc);
-  was_begun = λ j c at. absurd (some-ne-none c (sym at));
   next = λ j c at. absurd (some-ne-none c (sym at));
   each_call = subst (IsPermutation []) (sym (no_flights s.entries quiet)) (IsPermutation-refl []);
   counts = λ p entry at_p. record { was = entry; there = at_p; most = let idle = ap in_flight (quiet p entry at_p) in omega arith };

@@ -1,6 +1,6 @@
 -- What holds of an index and of the calls that were answered, along a schedule.
 use Rattle.std.proofs.Common.{◌≡◌, ◌≢◌, ℕ, ◌+◌, ◌<◌, ◌≤◌, ◌⊎◌, inl, inr, ⊎_elim, List, [], ◌∷◌, ◌++◌, length, set, slice_set, refl, sym, ap, ◌∙◌, subst, arith}
-use Rattle.std.specs.Prelude.{Contains, Option, Some, None, IfSome, slice_get}
+use Rattle.std.specs.Prelude.{Option, Some, None, IfSome, slice_get}
 use Rattle.std.proofs.lemmas.Bool.{cases_eq}
 use Rattle.std.proofs.lemmas.List.{append-nil, length-append}
 use Rattle.std.proofs.lemmas.Option.{IfSome_then}
@@ -82,10 +82,7 @@ pub record Kept (first : Index) (begun : List BegunCall) (calls : List AnsweredC
   pub order : (i j : ℕ) (a b : AnsweredCall) → get_elem? calls i ≡ some a → get_elem? calls j ≡ some b → i < j → a.call.caller ≡ b.call.caller
       → (a.next ≤ b.call.index) × (a.until ≤ b.call.since)
   pub earlier : (n : ℕ) (c : AnsweredCall) (i : ℕ) (entry : Entry) → get_elem? calls n ≡ some c → get_elem? s.entries i ≡ some entry → c.call.caller ≡ i → IsEarlier c entry entry.machine
-  pub flying : (i : ℕ) (entry : Entry) (machine : Running) → get_elem? s.entries i ≡ some entry → entry.machine ≡ Some machine
-      → Contains begun (flying_call entry machine)
   pub writes : EachWriteIsOfACall calls s.entries s.history
-  pub was_begun : (n : ℕ) (c : AnsweredCall) → get_elem? calls n ≡ some c → Contains begun c.call
   pub next : (n : ℕ) (c : AnsweredCall) → get_elem? calls n ≡ some c → IsNext c.call.index c.next c.answer
   pub each_call : EachIsAnsweredOrFlies begun calls s.entries
   pub counts : (i : ℕ) (entry : Entry) → get_elem? s.entries i ≡ some entry → CountsUpTo first begun i entry
@@ -218,9 +215,6 @@ module _ (first : Index) (begun : List BegunCall) (calls : List AnsweredCall) (s
     same_call : flying_call e' next ≡ flying_call e m
     same_call = λ t. record { caller = e.caller; index = e.index; op = op_same t; limit = (running_same t).limit; since = e.since }
 
-    call_on : Contains begun (flying_call e' next)
-    call_on = subst (Contains begun) (sym same_call) (k.flying i e m there flies)
-
     -- the place that it is told is the length of the history
     clock : running_asks m ≡ Add (clock_place (running_call m).view.layout) → x ≡ length s.history
     clock adds = ap (got s.layout s.words) (adds ∙ ap (λ (l : Layout). Add (clock_place l)) sound.layout) ∙ k.index.lawful.clock
@@ -323,14 +317,7 @@ module _ (first : Index) (begun : List BegunCall) (calls : List AnsweredCall) (s
           subst (λ (d : Entry). IsEarlier c d d.machine) mine.1 before)
           (λ (other : (p ≢ i) × (get_elem? s.entries p ≡ some entry)). k.earlier j c p entry at other.1 caller)
           (at_set s.entries i p e' entry at_p);
-      flying = λ p entry machine at_p flown. ⊎_elim
-          (λ (mine : (p ≡ i) × (e' ≡ entry)).
-          let machine_is : next ≡ machine = some_same (ap (λ (d : Entry). d.machine) mine.1 ∙ flown) in
-          subst (λ (q : Entry × Running). Contains begun (flying_call q.0 q.1)) (λ t. (mine.1 t, machine_is t)) call_on)
-          (λ (other : (p ≢ i) × (get_elem? s.entries p ≡ some entry)). k.flying p entry machine other.1 flown)
-          (at_set s.entries i p e' entry at_p);
       writes = writes_on (counted (stage_of m)) on (counts_own_change (op_in m) m of);
-      was_begun = k.was_begun;
       next = k.next;
       each_call = each_goes_on begun calls s.entries k.each_call i e e' there (ap (λ (c : BegunCall). c ∷ []) same_call ∙ sym (ap (flying_in e) flies));
       counts = λ p entry at_p. ⊎_elim
@@ -487,15 +474,7 @@ module _ (first : Index) (begun : List BegunCall) (calls : List AnsweredCall) (s
           (λ (last : (j ≡ length calls) × (call ≡ c)). absurd (other.0 (sym caller ∙ ap (λ (d : AnsweredCall). d.call.caller) (sym last.1) ∙ own.caller)))
           (at_end calls call c j at))
           (at_set s.entries i p done entry at_p);
-      flying = λ p entry machine at_p flown. ⊎_elim
-          (λ (mine : (p ≡ i) × (done ≡ entry)). absurd (let both : None ≡ Some machine = ap (λ (d : Entry). d.machine) mine.1 ∙ flown in cc))
-          (λ (other : (p ≢ i) × (get_elem? s.entries p ≡ some entry)). k.flying p entry machine other.1 flown)
-          (at_set s.entries i p done entry at_p);
       writes = writes_done;
-      was_begun = λ j c at. ⊎_elim
-          (λ (old : get_elem? calls j ≡ some c). k.was_begun j c old)
-          (λ (last : (j ≡ length calls) × (call ≡ c)). subst (λ (d : AnsweredCall). Contains begun d.call) last.1 (k.flying i e m there flies))
-          (at_end calls call c j at);
       next = λ j c at. ⊎_elim
           (λ (old : get_elem? calls j ≡ some c). k.next j c old)
           (λ (last : (j ≡ length calls) × (call ≡ c)). subst (λ (d : AnsweredCall). IsNext d.call.index d.next d.answer) last.1 next_here)
