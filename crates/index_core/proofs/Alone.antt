@@ -1,5 +1,5 @@
 -- The run of a call that is alone.
-use Rattle.std.proofs.Common.{◌≡◌, ◌≢◌, ℕ, suc, ◌+◌, ◌-◌, ◌<◌, ◌≤◌, ⊎_elim, List, ◌++◌, length, set, slice_set, refl, sym, ap, ◌∙◌, subst, arith}
+use Rattle.std.proofs.Common.{◌≡◌, ◌≢◌, ℕ, suc, ◌+◌, ◌-◌, ◌<◌, ◌≤◌, ⊎_elim, List, [], ◌∷◌, ◌++◌, length, set, slice_set, refl, sym, ap, ◌∙◌, subst, arith}
 use Rattle.std.specs.Prelude.{Option, Some, None}
 use Rattle.std.specs.FinMap.{len}
 use mathlib.Core.Option.{some, none, some-injective}
@@ -53,11 +53,11 @@ use Rattle.index_core.specs.declared.entry.CoreReply.TheVariants as reply
 use Rattle.index_core.specs.declared.entry.Stepped.{Stepped}
 use Rattle.index_core.specs.declared.entry.Stepped.TheVariants.{Going, Answered}
 use Rattle.index_core.specs.CoreCalls.{machine_of, op_of, limit_of, writes_of}
-use Rattle.index_core.specs.Entries.{machine_stage, party_of, entry_with, entry_after, entry_counted, stepped_of}
-use Rattle.index_core.specs.Indexes.{Index, world, map_of_index, IsIndex, IsInFlight, view_of, Starts, started_index, told, stepped_index, MakesCall, StepsTo}
+use Rattle.index_core.specs.Entries.{machine_stage, party_of, entry_with, entry_after, entry_counted, stepped_of, machine_owes, owed}
+use Rattle.index_core.specs.Indexes.{Index, room_of, world, map_of_index, IsIndex, IsInFlight, view_of, Starts, started_index, told, stepped_index, MakesCall, StepsTo}
 use Rattle.index_core.specs.Lone.{IsQuiet, FindsNoRoom, version_word_of, locks_left, IsWhole, RunsAlone, CountsCall, whole_of, whole_of_reply, entry_done}
-use Rattle.index_core.proofs.Lists.{map_from, set_twice}
-use Rattle.index_core.proofs.Stepping.{machine_idle}
+use Rattle.index_core.proofs.Lists.{map_from, set_twice, owed-set}
+use Rattle.index_core.proofs.Stepping.{machine_idle, machine_writes}
 use Rattle.index_core.proofs.Phases.{Phase, Begun, phase_of, phase_after, Goes, leads}
 use Rattle.index_core.proofs.Weighing.{MeansMap, alone_weighs}
 use Rattle.index_core.proofs.Lonely.{IsAt, goes_on, no_room, Cause, Ends, ends}
@@ -106,7 +106,7 @@ pub record Lone (s0 s : Index) (i : ℕ) (c : CoreCall) : Type 0 where
   pub free : IsFree (version_word_of s0) s.generation
   pub index : IsIndex s
   pub means : MeansMap s0
-  pub spare : s0.spare ≤ s.spare + 1
+  pub room : length s0.history + s0.spare ≤ room_of s
 
 -- how many actions it has left
 abbrev pub left_of : Option Running → ℕ
@@ -152,8 +152,11 @@ pub lone_start : (s0 s : Index) (i : ℕ) (c : CoreCall) → IsQuiet s0 → Star
 lone_start s0 s i c quiet t spare is =
     let is' : IsIndex (started_index s0 i t.entry c s.spare) = subst IsIndex t.is is in
     let rest = idle_law (world (started_index s0 i t.entry c s.spare)) is'.lawful (started_parties s0 i t.entry c s.spare quiet t.there) in
-    let few = few_writes c in
-    let same_spare : s0.spare ≤ s.spare + 1 = omega arith in
+    let now = entry_with t.entry (length s0.history) (machine_of (view_of s0 i) c) in
+    let owing = owed-set s0.entries i t.entry now t.there in
+    let none : machine_owes t.entry.machine ≡ 0 = ap machine_owes (quiet i t.entry t.there) in
+    let own = machine_writes s0 i c in
+    let room : length s0.history + s0.spare ≤ length s0.history + (owed (set s0.entries i now) + s.spare) = omega arith in
     subst (λ (v : Index). Lone s0 v i c) (sym t.is) (record {
       entry = t.entry;
       machine = machine_of (view_of s0 i) c;
@@ -170,13 +173,8 @@ lone_start s0 s i c quiet t spare is =
       free = rest.free 0 (one_node (started_index s0 i t.entry c s.spare) is');
       index = is';
       means = rest.means 0 (one_node (started_index s0 i t.entry c s.spare) is');
-      spare = same_spare;
+      room = room;
     })
-  where
-    few_writes : (c : CoreCall) → writes_of c ≤ 1
-    few_writes (call.Put name value limit) = omega arith
-    few_writes (call.Get name) = omega arith
-    few_writes (call.Del name limit) = omega arith
 
 pub go_of : (turn : Turn Running (Once Placed)) → stepped_of turn ≡ Going → (next : Running) × (turn ≡ Go next)
 go_of (Go next) is = (next, refl)
@@ -227,7 +225,7 @@ own_step s s' i e m result there flies t =
     some_of_same : {a b : Running} → Some a ≡ Some b → a ≡ b
     some_of_same e = cc
 
-module _ (s0 s s' : Index) (i : ℕ) (c : CoreCall) (result : Stepped) (o : Lone s0 s i c) (t : StepsTo s i s' result) (is' : IsIndex s') (room : s.spare ≤ s'.spare) where
+module _ (s0 s s' : Index) (i : ℕ) (c : CoreCall) (result : Stepped) (o : Lone s0 s i c) (t : StepsTo s i s' result) (is' : IsIndex s') (room : room_of s ≤ room_of s') where
   abbrev e : Entry
   e = entry_with o.entry (length s0.history) o.machine
 
@@ -282,7 +280,7 @@ module _ (s0 s s' : Index) (i : ℕ) (c : CoreCall) (result : Stepped) (o : Lone
       let now : left_at s' i ≡ suc (running_left next) = ap left_in there in
       let generation = ap (λ (v : Index). v.generation) own.is in
       let layout = ap (λ (v : Index). v.layout) own.is in
-      let spare = o.spare in (
+      let before = o.room in (
         record {
           entry = o.entry;
           machine = next;
@@ -300,7 +298,7 @@ module _ (s0 s s' : Index) (i : ℕ) (c : CoreCall) (result : Stepped) (o : Lone
           free = subst (IsFree (version_word_of s0)) (sym generation) o.free;
           index = is';
           means = o.means;
-          spare = omega arith;
+          room = omega arith;
         },
         omega (arith, less, was, now),
       )
@@ -407,3 +405,18 @@ count_quiet s i new quiet t = subst IsQuiet (sym t.is) (λ j entry at. ⊎_elim
     (λ (mine : (j ≡ i) × (entry_counted t.entry ≡ entry)). ap (λ (d : Entry). d.machine) (sym mine.1) ∙ quiet i t.entry t.there)
     (λ (other : (j ≢ i) × (get_elem? s.entries j ≡ some entry)). quiet j entry other.1)
     (at_set s.entries i j (entry_counted t.entry) entry at))
+
+-- with no call in flight nothing is owed
+quiet_owes : (entries : List Entry) → ((i : ℕ) (entry : Entry) → get_elem? entries i ≡ some entry → entry.machine ≡ None) → owed entries ≡ 0
+quiet_owes [] quiet = refl
+quiet_owes (entry ∷ entries) quiet =
+    let first : machine_owes entry.machine ≡ 0 = ap machine_owes (quiet 0 entry refl) in
+    let rest = quiet_owes entries (λ i e at. quiet (suc i) e at) in
+    omega arith
+
+-- what a whole call leaves spare
+pub spare_left : (s0 s s' : Index) (i : ℕ) (c : CoreCall) → Lone s0 s i c → room_of s ≤ room_of s' → IsQuiet s' → s0.spare + length s0.history ≤ s'.spare + length s'.history
+spare_left s0 s s' i c o room quiet =
+    let before = o.room in
+    let none = quiet_owes s'.entries quiet in
+    omega arith

@@ -217,7 +217,7 @@ machine_op s party (call.Put name value limit) = (refl, refl)
 machine_op s party (call.Get name) = refl
 machine_op s party (call.Del name limit) = (refl, tt)
 
-machine_writes : (s : Index) (party : ℕ) (c : CoreCall) → owes (machine_of (view_of s party) c) ≡ writes_of c
+pub machine_writes : (s : Index) (party : ℕ) (c : CoreCall) → owes (machine_of (view_of s party) c) ≡ writes_of c
 machine_writes s party (call.Put name value limit) = refl
 machine_writes s party (call.Get name) = refl
 machine_writes s party (call.Del name limit) = refl

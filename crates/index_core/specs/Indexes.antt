@@ -1,5 +1,5 @@
 -- The index as contracts see it.
-use Rattle.std.specs.Prelude.{◌≡◌, ℕ, List, ◌++◌, length, map, slice_set, Some}
+use Rattle.std.specs.Prelude.{◌≡◌, ℕ, ◌+◌, ◌≤◌, List, ◌++◌, length, map, slice_set, Some}
 use mathlib.Core.Option.{some}
 use lib.ListN.{get_elem?}
 use Rattle.cat_key.specs.Names.{IsName}
@@ -32,7 +32,7 @@ use Rattle.index_core.specs.declared.entry.Entry.{Entry}
 use Rattle.index_core.specs.declared.entry.Stepped.{Stepped}
 use Rattle.index_core.specs.Answers.{SaysOf}
 use Rattle.index_core.specs.CoreCalls.{machine_of, op_of}
-use Rattle.index_core.specs.Entries.{party_of, entry_with, entry_after, stepped_of, IsEntry}
+use Rattle.index_core.specs.Entries.{party_of, entry_with, entry_after, stepped_of, IsEntry, owed}
 
 pub record Index : Type 0 where
   pub layout : Layout
@@ -91,6 +91,15 @@ stepped_index s party entry machine spare = record s {
   history = s.history ++ written entry.caller entry.index (counted (stage_of machine));
   spare = spare;
 }
+
+-- All the room for writes: of those that are written, of those that the calls in flight may still place, and what is spare.
+abbrev pub room_of : Index → ℕ
+room_of s = length s.history + (owed s.entries + s.spare)
+
+-- No room is lost. So a put or delete that is answered without a place gives its one back.
+pub record KeepsRoom (old new : Index) : Type 0 where
+  pub spare : old.spare ≤ new.spare
+  pub all : room_of old ≤ room_of new
 
 -- What goes on makes this call.
 abbrev pub MakesCall : Call → Turn Running (Once Placed) → Type 0

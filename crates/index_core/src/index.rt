@@ -2,7 +2,7 @@ ghost use Rattle.std.specs.Prelude.{◌≡◌, ℕ, ◌+◌, ◌-◌, ◌<◌, �
 ghost use Rattle.pm_words.specs.Layouts.{IsLayout};
 ghost use Rattle.index_law.specs.Worlds.{written};
 ghost use Rattle.index_core.specs.CoreCalls.{LimitFits, writes_of};
-ghost use Rattle.index_core.specs.Indexes.{IsInFlight, IsIndex, Starts, StepsTo};
+ghost use Rattle.index_core.specs.Indexes.{IsInFlight, IsIndex, KeepsRoom, Starts, StepsTo};
 ghost use Rattle.index_core.specs.Fresh.{IsFreshIndex};
 ghost use Rattle.pm_words.specs.Places.{image_words};
 ghost use Rattle.index_core.specs.Crashes.{IsCrash, evicted_index};
@@ -92,7 +92,7 @@ impl Core {
     pub fn step<L: Ledger>(&mut self, party: u64, steps: &mut Steps<L>) -> Stepped
         requires flies { IsInFlight self.old party }
         ensures stepped { StepsTo self.old party self.new result }
-        ensures spare { self.old.spare ≤ self.new.spare }
+        ensures spare { KeepsRoom self.old self.new }
         ensures tick { steps.new ≡ steps.old + 1 }
         ensures index { IsIndex self.new }
     {
@@ -155,7 +155,7 @@ impl Core {
         requires quiet { IsQuiet self.old }
         ensures runs { RunsAlone self.old caller call self.new result }
         ensures quiet { IsQuiet self.new }
-        ensures spare { self.old.spare ≤ self.new.spare + 1 }
+        ensures spare { self.old.spare + length self.old.history ≤ self.new.spare + length self.new.history }
         ensures locks { locks_left self.old ≤ locks_left self.new + 1 }
         ensures index { IsIndex self.new }
     {

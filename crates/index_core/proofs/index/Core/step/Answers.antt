@@ -216,8 +216,13 @@ returns-clause-spare g c =
     (c.act-got.ensures.row ∙ ap (λ (a : Action). record { layout = s.layout; words = acted s.layout s.words a }) c.action-action.ensures) (c.act-got.ensures.got ∙ ap (got s.layout s.words) c.action-action.ensures) c.resume.ensures.turned c.after-stepped.ensures.entry items in
     let roomy = step_room s i e m c.count.new.history.items _ _ _ _ _ there flies.flies (ap (λ (v : Index). v.history) (same 0)) (ap (λ (v : Index). v.entries) (same 0)) c.self.inside.history.ok.0 c.count.new.history.ok.0 c.count.ensures.room c.self.invariant.1 in
     let was = ap (λ (v : Index). v.spare) c.self.view_is in
+    let written = ap (λ (v : Index). length v.history) c.self.view_is in
+    let owing = ap (λ (v : Index). owed v.entries) c.self.view_is in
+    let here = roomy.0 in
     let fewer = roomy.1 in
-    omega arith
+    let before = c.self.invariant.1 in
+    let larger = c.count.ensures.room in
+    record { spare = omega arith; all = omega (arith, c.self.inside.history.ok.0, c.count.new.history.ok.0) }
 
 pub returns-clause-index : goal.returns-clause-index
 returns-clause-index g c =
