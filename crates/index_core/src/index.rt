@@ -88,7 +88,8 @@ impl Core {
     }
 
     /// One action of the party's call, which is in flight. Where it is answered, the number is that of its name in the map
-    /// at its place, which lies in the call's time, and a put or delete that took place stands there in the history.
+    /// at its place, which lies in the call's time, and a put or delete that took place stands there in the history; a call
+    /// that didn't take place is told why, and gives the room for its write back.
     pub fn step<L: Ledger>(&mut self, party: u64, steps: &mut Steps<L>) -> Stepped
         requires flies { IsInFlight self.old party }
         ensures stepped { StepsTo self.old party self.new result }
@@ -142,7 +143,8 @@ impl Core {
     }
 
     /// A whole call of a caller, with no other in flight. Its answer is told by its cause: the locks of the node are used
-    /// up, else the clock has reached the limit, else there is no room for a new name, else it takes place.
+    /// up, else the clock has reached the limit, else there is no room for a new name, else it takes place. Of `spare` it
+    /// takes one for a write that it places, and none otherwise.
     pub fn run_alone<L: Ledger>(
         &mut self,
         caller: u64,

@@ -1,4 +1,4 @@
-//! The law of whole schedules.
+//! The laws of whole schedules.
 
 ghost use Rattle.index_core.specs.LegalRounds.{LegalHistoryIsLegalRound};
 ghost use Rattle.index_core.specs.WeightBounds.{WeightIsBounded};
@@ -12,10 +12,13 @@ ghost use Rattle.index_core.specs.Schedules.{OneLegalHistory, FreshIndexBegins};
 /// - the old number of one that took place is that of its name in the map at its place, which lies between its start and its
 ///   answer, and the history has its change there, if it makes one, and nothing else of it;
 /// - of one caller's calls the one that was answered first took effect first;
-/// - one that was refused stands nowhere in the history, and the clock that refused it had reached its limit;
+/// - one that was refused stands nowhere in the history, and the clock that refused it had reached its limit in its time;
 /// - while one was made that was turned back, its caller wrote nothing, and the caller's next call has the same index; each
-///   other answer, and each whole call's, makes it one higher;
-/// - each write of the history is that of an answered call at its place, or of a call in flight that has this place.
+///   other answer, and each whole call's, makes it one higher. For want of room only a put is turned back, whose name the map
+///   lacked in its time while it had as many names as the node has slots;
+/// - each write of the history is that of an answered call at its place, or of a call in flight that has this place;
+/// - where all puts and deletes have one limit, each place of a write is below it plus the number of callers that have calls,
+///   minus one.
 ///
 /// Fewer than 2^64 calls are begun, with those of a caller that counted before. A fresh index is one to begin with.
 pub fn one_history_law()
