@@ -32,6 +32,7 @@ evict_keeps s word is within = record {
   callers = is.callers;
   entries = is.entries;
   names = is.names;
+  ordered = is.ordered;
 }
 
 -- the index with this row

@@ -1,6 +1,6 @@
 -- A fresh index is lawful.
 use Rattle.std.proofs.Common.{◌≡◌, ℕ, ◌-◌, ◌≤◌, List, [], map, refl, sym, ap, ◌∙◌, subst, arith}
-use Rattle.std.specs.Prelude.{None}
+use Rattle.std.specs.Prelude.{Some, None}
 use Rattle.std.specs.FinMap.{get-empty}
 use mathlib.Core.Option.{some}
 use lib.ListN.{get_elem?}
@@ -44,6 +44,7 @@ fresh_is l layout one =
       callers = idle-length l.callers;
       entries = λ i entry at. subst (IsEntry l 1 i) (sym (idle-each l.callers i entry at)) (record { caller = refl; machine = tt; op = tt });
       names = λ name value e. absurd (let none : at (map_of []) name ≡ None = get-empty name_cmp name in let both = sym none ∙ e in cc);
+      ordered = λ i place entry machine write at flies stands caller. absurd (let none : None ≡ Some write = stands in cc);
     }
 
 -- no call is in flight there

@@ -1,10 +1,12 @@
 pub mod Lists
 pub mod Owing
-pub mod Stepping
-pub mod Crashing
-pub mod Fresh
 pub mod Phases
 pub mod Places
+pub mod Ordering
+pub mod Stepping
+pub mod Reading
+pub mod Crashing
+pub mod Fresh
 pub mod Answering
 pub mod Lonely
 pub mod Weighing

@@ -55,6 +55,7 @@ use Rattle.index_core.specs.CoreCalls.{machine_of, writes_of}
 use Rattle.index_core.specs.Entries.{machine_stage, party_of, entry_with, entry_after, entry_counted, machine_owes, owes, owed, IsEntry}
 use Rattle.index_core.specs.Indexes.{Index, world, IsIndex, view_of, started_index, told, stepped_index, MakesCall}
 use Rattle.index_core.proofs.Lists.{map_there, map_set, owed-set, set_twice}
+use Rattle.index_core.proofs.Ordering.{start_ordered, count_ordered, step_ordered}
 use Rattle.index_core.proofs.Owing.{owes_after, pays, many, written-length}
 
 -- what is counted is of a name
@@ -180,6 +181,7 @@ step_facts s i entry machine is there flies room =
         entries = set_entries l g s.entries i (entry_after entry turn) is.entries (after_entry l g i entry (op_in machine) turn own.caller (turns_stay_sound l g machine x sound act.told)
             (turns_keep_op l g (op_in machine) machine x sound act.told (subst (λ (o : Option Running). IfSome o (λ m. IsOf (op_in m) m)) flies own.op)));
         names = longer_names (map_of s.base) s.history entry.caller entry.index (counted (stage_of machine)) is.names (counted_named l g (facts w) entry.caller entry.index entry.since (stage_of machine) known);
+        ordered = step_ordered s i entry machine is.entries is.ordered is.lawful.clock there flies;
       };
       legal = λ spare. subst (λ (u : World). IsLegal l g (facts u) entry.caller entry.index entry.since (stage_of machine) (reply_of turn)) same
           (subst (λ (u : Stage). IsLegal l g (facts (stepped w i p a (stage_after turn))) entry.caller entry.index entry.since u (reply_of turn)) stage law.legal);
@@ -236,6 +238,7 @@ start_keeps s i entry c spare is there idle here =
       callers = length-set s.entries i now ∙ is.callers;
       entries = set_entries s.layout s.generation s.entries i now is.entries (record { caller = (is.entries i entry there).caller; machine = machine_begins s i c here; op = machine_op s i c });
       names = is.names;
+      ordered = start_ordered s.entries s.history i entry m is.ordered;
     }
 
 pub start_owes : (s : Index) (party : ℕ) (entry : Entry) (c : CoreCall) → get_elem? s.entries party ≡ some entry → entry.machine ≡ None
@@ -260,6 +263,7 @@ count_keeps s i entry spare is there idle =
       callers = length-set s.entries i now ∙ is.callers;
       entries = set_entries s.layout s.generation s.entries i now is.entries (record { caller = own.caller; machine = own.machine; op = own.op });
       names = is.names;
+      ordered = count_ordered s.entries s.history i entry idle is.ordered;
     }
 
 -- and owes what it owed
@@ -268,7 +272,7 @@ count_owes s i entry there = let moved = owed-set s.entries i entry (entry_count
 
 -- how much room is told of an index is none of its laws
 pub respare : (s : Index) (spare : ℕ) → IsIndex s → IsIndex (record s { spare = spare })
-respare s spare is = record { lawful = is.lawful; callers = is.callers; entries = is.entries; names = is.names }
+respare s spare is = record { lawful = is.lawful; callers = is.callers; entries = is.entries; names = is.names; ordered = is.ordered }
 
 -- the index that a step leaves, at values that are equal to its own
 pub step_at : (s : Index) (i : ℕ) (e r e' : Entry) (m m' : Running) (row : Row) (got' : ℕ) (turn : Turn Running (Once Placed)) (history : List Write) (spare : ℕ)

@@ -1,5 +1,5 @@
 -- The index as contracts see it.
-use Rattle.std.specs.Prelude.{◌≡◌, ℕ, ◌+◌, ◌≤◌, List, ◌++◌, length, map, slice_set, Some}
+use Rattle.std.specs.Prelude.{◌≡◌, ℕ, ◌+◌, ◌<◌, ◌≤◌, ◌⊎◌, List, ◌++◌, length, map, slice_get, slice_set, Some}
 use mathlib.Core.Option.{some}
 use lib.ListN.{get_elem?}
 use Rattle.cat_key.specs.Names.{IsName}
@@ -9,7 +9,7 @@ use Rattle.pm_words.specs.Rows.{acted, got}
 use Rattle.cat_history.specs.Maps.{Map, at, map_of}
 use Rattle.cat_history.specs.Writes.{after_all}
 use Rattle.cat_history.specs.declared.op.Write.{Write}
-use Rattle.call_stages.specs.Stages.{counted}
+use Rattle.call_stages.specs.Stages.{counted, placed_in}
 use Rattle.call_stages.specs.Kinds.{Step}
 use Rattle.node_ops.specs.declared.call.View.{View}
 use Rattle.node_ops.specs.declared.running.Running.{Running}
@@ -51,12 +51,20 @@ world s = record { layout = s.layout; generation = s.generation; words = s.words
 abbrev pub map_of_index : Index → Map
 map_of_index s = after_all (map_of s.base) s.history
 
--- The index is lawful, and each caller's machine makes its call.
+-- Of a party whose call is in flight, each write that stands in the history was placed before that call began, or is the
+-- call's own.
+abbrev pub AreOrdered : List Entry → List Write → Type 0
+AreOrdered entries history = (i place : ℕ) (entry : Entry) (machine : Running) (write : Write) → get_elem? entries i ≡ some entry →
+    entry.machine ≡ Some machine → slice_get history place ≡ Some write → write.caller ≡ entry.caller →
+    (place < entry.since) ⊎ (placed_in (stage_of machine) ≡ Some place)
+
+-- The index is lawful, each caller's machine makes its call, and a caller's writes come in order.
 pub record IsIndex (s : Index) : Type 0 where
   pub lawful : Lawful (world s)
   pub callers : length s.entries ≡ s.layout.callers
   pub entries : (i : ℕ) (entry : Entry) → get_elem? s.entries i ≡ some entry → IsEntry s.layout s.generation i entry
   pub names : (name : List ℕ) (value : ℕ) → at (map_of_index s) name ≡ Some value → IsName name
+  pub ordered : AreOrdered s.entries s.history
 
 -- The party's call, and the party that makes it.
 pub record IsInFlight (s : Index) (party : ℕ) : Type 0 where

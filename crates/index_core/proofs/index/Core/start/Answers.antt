@@ -4,13 +4,13 @@ use mathlib.Core.Option.{some-injective}
 use lib.ListN.{get_elem?}
 use Rattle.pm_words.specs.declared.layout.Layout.{Layout}
 use Rattle.node_ops.specs.Asked.{IsOf}
-use Rattle.node_ops.specs.RunningSteps.{IsRunning}
 use Rattle.index_core.specs.declared.entry.Entry.{Entry}
 use Rattle.index_core.specs.CoreCalls.{op_of, machine_of}
 use Rattle.index_core.specs.Entries.{owed}
 use Rattle.index_core.specs.Indexes.{Index, IsIndex, IsInFlight, view_of, started_index}
 use Rattle.index_core.proofs.Lists.{there_is, read_is, none_of, some_of}
-use Rattle.index_core.proofs.Stepping.{start_keeps, start_owes, start_at, respare}
+use Rattle.index_core.proofs.Reading.{begins}
+use Rattle.index_core.proofs.Stepping.{respare}
 use Rattle.index_core.proofs.index.Core.start.Goals as goal
 
 pub index-requires : goal.index-requires
@@ -58,22 +58,16 @@ invariant_of-self c =
     let i = c.args.party in
     let callers = ap (λ (v : Index). v.layout.callers) c.self.view_is in
     let lt = c.requires.party in
-    let here = there_is s.entries i (omega (arith, c.self.invariant.0.callers, callers, lt)) in
-    let e = here.0 in
-    let there = here.1 in
-    let read = read_is s.entries i e c.index.result.now there c.index.ensures in
-    let idle = sym (ap (λ (d : Entry). d.machine) read) ∙ none_of c.index.result.now.machine (sym c.is_some.ensures ∙ c.if-is_some.false) in
     let made : c.machine-machine.result ≡ machine_of (view_of s i) c.args.call =
     c.machine-machine.ensures.machine ∙ ap (λ (l : Layout). machine_of (record { layout = l; generation = s.generation; caller = i }) c.args.call) c.layout.ensures.layout in
-    let running = subst IsRunning made c.machine-machine.ensures.sound in
-    let same = λ (spare : ℕ). start_at s i e c.index.result.now c.begins.result c.args.call c.machine-machine.result c.len-since.result spare read (c.len-since.ensures ∙ c.self.inside.history.ok.0) made c.begins.ensures in
-    let kept = λ (spare : ℕ). start_keeps s i e c.args.call spare c.self.invariant.0 there idle running in
-    let owing = ap (λ (v : Index). owed v.entries) (same 0) ∙ start_owes s i e c.args.call there idle in
+    let begun = begins s i c.index.result.now c.begins.result c.args.call c.machine-machine.result c.len-since.result c.self.invariant.0 (omega (arith, c.self.invariant.0.callers, callers, lt)) c.index.ensures
+    (none_of c.index.result.now.machine (sym c.is_some.ensures ∙ c.if-is_some.false)) made c.machine-machine.ensures.sound (c.len-since.ensures ∙ c.self.inside.history.ok.0) c.begins.ensures in
+    let owing = begun.owing in
     let was = ap (λ (v : Index). v.spare) c.self.view_is in
     let room = c.self.invariant.1 in
     let wanted = c.requires.spare in
     let n : ℕ = c.self.inside.history.cap - (c.self.inside.history.len + owed (slice_set s.entries i c.begins.result)) in
-    (subst IsIndex (sym (same 0)) (kept 0), omega arith)
+    (subst IsIndex (sym (begun.same 0)) (begun.kept 0), omega arith)
 
 pub returns-clause-in_flight : goal.returns-clause-in_flight
 returns-clause-in_flight c =
@@ -81,25 +75,19 @@ returns-clause-in_flight c =
     let i = c.args.party in
     let callers = ap (λ (v : Index). v.layout.callers) c.self.view_is in
     let lt = c.requires.party in
-    let here = there_is s.entries i (omega (arith, c.self.invariant.0.callers, callers, lt)) in
-    let e = here.0 in
-    let there = here.1 in
-    let read = read_is s.entries i e c.index.result.now there c.index.ensures in
-    let idle = sym (ap (λ (d : Entry). d.machine) read) ∙ none_of c.index.result.now.machine (sym c.is_some.ensures ∙ c.if-is_some.false) in
     let made : c.machine-machine.result ≡ machine_of (view_of s i) c.args.call =
     c.machine-machine.ensures.machine ∙ ap (λ (l : Layout). machine_of (record { layout = l; generation = s.generation; caller = i }) c.args.call) c.layout.ensures.layout in
-    let running = subst IsRunning made c.machine-machine.ensures.sound in
-    let same = λ (spare : ℕ). start_at s i e c.index.result.now c.begins.result c.args.call c.machine-machine.result c.len-since.result spare read (c.len-since.ensures ∙ c.self.inside.history.ok.0) made c.begins.ensures in
-    let kept = λ (spare : ℕ). start_keeps s i e c.args.call spare c.self.invariant.0 there idle running in
-    let owing = ap (λ (v : Index). owed v.entries) (same 0) ∙ start_owes s i e c.args.call there idle in
+    let begun = begins s i c.index.result.now c.begins.result c.args.call c.machine-machine.result c.len-since.result c.self.invariant.0 (omega (arith, c.self.invariant.0.callers, callers, lt)) c.index.ensures
+    (none_of c.index.result.now.machine (sym c.is_some.ensures ∙ c.if-is_some.false)) made c.machine-machine.ensures.sound (c.len-since.ensures ∙ c.self.inside.history.ok.0) c.begins.ensures in
+    let owing = begun.owing in
     let was = ap (λ (v : Index). v.spare) c.self.view_is in
     let room = c.self.invariant.1 in
     let wanted = c.requires.spare in
     let n : ℕ = c.self.inside.history.cap - (c.self.inside.history.len + owed (slice_set s.entries i c.begins.result)) in (
       λ (e : _). absurd (cc),
       λ (f : IsInFlight _ i).
-          let here = some-injective _ _ (sym there ∙ ap (λ (v : Index). get_elem? v.entries i) c.self.view_is ∙ f.there) in
-          let both = sym idle ∙ ap (λ (d : Entry). d.machine) here ∙ f.flies in
+          let here = some-injective _ _ (sym begun.there ∙ ap (λ (v : Index). get_elem? v.entries i) c.self.view_is ∙ f.there) in
+          let both = sym begun.idle ∙ ap (λ (d : Entry). d.machine) here ∙ f.flies in
           absurd (cc),
     )
 
@@ -109,25 +97,19 @@ returns-clause-started c =
     let i = c.args.party in
     let callers = ap (λ (v : Index). v.layout.callers) c.self.view_is in
     let lt = c.requires.party in
-    let here = there_is s.entries i (omega (arith, c.self.invariant.0.callers, callers, lt)) in
-    let e = here.0 in
-    let there = here.1 in
-    let read = read_is s.entries i e c.index.result.now there c.index.ensures in
-    let idle = sym (ap (λ (d : Entry). d.machine) read) ∙ none_of c.index.result.now.machine (sym c.is_some.ensures ∙ c.if-is_some.false) in
     let made : c.machine-machine.result ≡ machine_of (view_of s i) c.args.call =
     c.machine-machine.ensures.machine ∙ ap (λ (l : Layout). machine_of (record { layout = l; generation = s.generation; caller = i }) c.args.call) c.layout.ensures.layout in
-    let running = subst IsRunning made c.machine-machine.ensures.sound in
-    let same = λ (spare : ℕ). start_at s i e c.index.result.now c.begins.result c.args.call c.machine-machine.result c.len-since.result spare read (c.len-since.ensures ∙ c.self.inside.history.ok.0) made c.begins.ensures in
-    let kept = λ (spare : ℕ). start_keeps s i e c.args.call spare c.self.invariant.0 there idle running in
-    let owing = ap (λ (v : Index). owed v.entries) (same 0) ∙ start_owes s i e c.args.call there idle in
+    let begun = begins s i c.index.result.now c.begins.result c.args.call c.machine-machine.result c.len-since.result c.self.invariant.0 (omega (arith, c.self.invariant.0.callers, callers, lt)) c.index.ensures
+    (none_of c.index.result.now.machine (sym c.is_some.ensures ∙ c.if-is_some.false)) made c.machine-machine.ensures.sound (c.len-since.ensures ∙ c.self.inside.history.ok.0) c.begins.ensures in
+    let owing = begun.owing in
     let was = ap (λ (v : Index). v.spare) c.self.view_is in
     let room = c.self.invariant.1 in
     let wanted = c.requires.spare in
     let n : ℕ = c.self.inside.history.cap - (c.self.inside.history.len + owed (slice_set s.entries i c.begins.result)) in
     record {
-      entry = e;
-      there = sym (ap (λ (v : Index). get_elem? v.entries i) c.self.view_is) ∙ there;
-      is = same n ∙ ap (λ (v : Index). started_index v i e c.args.call n) c.self.view_is;
+      entry = begun.entry;
+      there = sym (ap (λ (v : Index). get_elem? v.entries i) c.self.view_is) ∙ begun.there;
+      is = begun.same n ∙ ap (λ (v : Index). started_index v i begun.entry c.args.call n) c.self.view_is;
       of = subst (IsOf (op_of c.args.call)) (made ∙ ap (λ (v : Index). machine_of (view_of v i) c.args.call) c.self.view_is) c.machine-machine.ensures.op;
     }
 
@@ -137,17 +119,11 @@ returns-clause-spare c =
     let i = c.args.party in
     let callers = ap (λ (v : Index). v.layout.callers) c.self.view_is in
     let lt = c.requires.party in
-    let here = there_is s.entries i (omega (arith, c.self.invariant.0.callers, callers, lt)) in
-    let e = here.0 in
-    let there = here.1 in
-    let read = read_is s.entries i e c.index.result.now there c.index.ensures in
-    let idle = sym (ap (λ (d : Entry). d.machine) read) ∙ none_of c.index.result.now.machine (sym c.is_some.ensures ∙ c.if-is_some.false) in
     let made : c.machine-machine.result ≡ machine_of (view_of s i) c.args.call =
     c.machine-machine.ensures.machine ∙ ap (λ (l : Layout). machine_of (record { layout = l; generation = s.generation; caller = i }) c.args.call) c.layout.ensures.layout in
-    let running = subst IsRunning made c.machine-machine.ensures.sound in
-    let same = λ (spare : ℕ). start_at s i e c.index.result.now c.begins.result c.args.call c.machine-machine.result c.len-since.result spare read (c.len-since.ensures ∙ c.self.inside.history.ok.0) made c.begins.ensures in
-    let kept = λ (spare : ℕ). start_keeps s i e c.args.call spare c.self.invariant.0 there idle running in
-    let owing = ap (λ (v : Index). owed v.entries) (same 0) ∙ start_owes s i e c.args.call there idle in
+    let begun = begins s i c.index.result.now c.begins.result c.args.call c.machine-machine.result c.len-since.result c.self.invariant.0 (omega (arith, c.self.invariant.0.callers, callers, lt)) c.index.ensures
+    (none_of c.index.result.now.machine (sym c.is_some.ensures ∙ c.if-is_some.false)) made c.machine-machine.ensures.sound (c.len-since.ensures ∙ c.self.inside.history.ok.0) c.begins.ensures in
+    let owing = begun.owing in
     let was = ap (λ (v : Index). v.spare) c.self.view_is in
     let room = c.self.invariant.1 in
     let wanted = c.requires.spare in
@@ -160,19 +136,13 @@ returns-clause-index c =
     let i = c.args.party in
     let callers = ap (λ (v : Index). v.layout.callers) c.self.view_is in
     let lt = c.requires.party in
-    let here = there_is s.entries i (omega (arith, c.self.invariant.0.callers, callers, lt)) in
-    let e = here.0 in
-    let there = here.1 in
-    let read = read_is s.entries i e c.index.result.now there c.index.ensures in
-    let idle = sym (ap (λ (d : Entry). d.machine) read) ∙ none_of c.index.result.now.machine (sym c.is_some.ensures ∙ c.if-is_some.false) in
     let made : c.machine-machine.result ≡ machine_of (view_of s i) c.args.call =
     c.machine-machine.ensures.machine ∙ ap (λ (l : Layout). machine_of (record { layout = l; generation = s.generation; caller = i }) c.args.call) c.layout.ensures.layout in
-    let running = subst IsRunning made c.machine-machine.ensures.sound in
-    let same = λ (spare : ℕ). start_at s i e c.index.result.now c.begins.result c.args.call c.machine-machine.result c.len-since.result spare read (c.len-since.ensures ∙ c.self.inside.history.ok.0) made c.begins.ensures in
-    let kept = λ (spare : ℕ). start_keeps s i e c.args.call spare c.self.invariant.0 there idle running in
-    let owing = ap (λ (v : Index). owed v.entries) (same 0) ∙ start_owes s i e c.args.call there idle in
+    let begun = begins s i c.index.result.now c.begins.result c.args.call c.machine-machine.result c.len-since.result c.self.invariant.0 (omega (arith, c.self.invariant.0.callers, callers, lt)) c.index.ensures
+    (none_of c.index.result.now.machine (sym c.is_some.ensures ∙ c.if-is_some.false)) made c.machine-machine.ensures.sound (c.len-since.ensures ∙ c.self.inside.history.ok.0) c.begins.ensures in
+    let owing = begun.owing in
     let was = ap (λ (v : Index). v.spare) c.self.view_is in
     let room = c.self.invariant.1 in
     let wanted = c.requires.spare in
     let n : ℕ = c.self.inside.history.cap - (c.self.inside.history.len + owed (slice_set s.entries i c.begins.result)) in
-    subst IsIndex (sym (same n)) (kept n)
+    subst IsIndex (sym (begun.same n)) (begun.kept n)

@@ -1,7 +1,6 @@
-use Rattle.std.proofs.Common.{◌≡◌, ℕ, ◌+◌, ◌<◌, ◌^◌, ◌++◌, length, arith, ap, sym, ◌∙◌, subst}
-use Rattle.std.specs.Prelude.{Option, IfSome, ◌-◌, slice_set}
+use Rattle.std.proofs.Common.{◌≡◌, ℕ, ◌+◌, length, arith, ap, sym, ◌∙◌, subst}
+use Rattle.std.specs.Prelude.{◌-◌, slice_set}
 use lib.ListN.{get_elem?}
-use Rattle.pm_words.specs.declared.action.Action.{Action}
 use Rattle.pm_words.specs.declared.machine.Turn.{Turn}
 use Rattle.pm_words.specs.Turns.{GoesBelow}
 use Rattle.call_stages.specs.declared.once.Once.{Once}
@@ -9,14 +8,13 @@ use Rattle.call_stages.specs.declared.once.Placed.{Placed}
 use Rattle.cat_history.specs.Maps.{map_of}
 use Rattle.cat_history.specs.declared.op.Op.{Op}
 use Rattle.node_ops.specs.Asked.{IsOf, IsOfAfter, op_in}
-use Rattle.pm_words.specs.Rows.{acted, got, CanAct}
-use Rattle.cat_history.specs.declared.op.Change.{Change}
+use Rattle.pm_words.specs.Rows.{got, CanAct}
 use Rattle.call_stages.specs.Stages.{counted}
 use Rattle.node_ops.specs.declared.running.Running.{Running}
 use Rattle.call_stages.specs.Kinds.{Step}
 use Rattle.node_ops.specs.CallStages.{stage_of, stage_after, reply_of}
-use Rattle.node_ops.specs.RunningSteps.{running_call, running_left, running_asks, running_turned, running_takes, IsRunning, Sound}
-use Rattle.index_law.specs.Worlds.{facts, written}
+use Rattle.node_ops.specs.RunningSteps.{running_call, running_left, running_asks, running_turned, running_takes, IsRunning}
+use Rattle.index_law.specs.Worlds.{facts}
 use Rattle.index_law.specs.Laws.{IsLegal}
 use Rattle.index_law.specs.Weights.{AddsName, RisesBy, weight_sum}
 use Rattle.index_core.specs.declared.entry.Entry.{Entry}
@@ -26,7 +24,8 @@ use Rattle.index_core.specs.Entries.{stepped_of, owed}
 use Rattle.index_core.specs.Indexes.{Index, IsIndex, world, told, stepped_index, MakesCall}
 use Rattle.index_core.proofs.Answering.{says_of}
 use Rattle.index_core.proofs.Lists.{within, read_is}
-use Rattle.index_core.proofs.Stepping.{step_facts, step_at, same_machine, step_room, count_room}
+use Rattle.index_core.proofs.Reading.{reads, leaves}
+use Rattle.index_core.proofs.Stepping.{count_room}
 use Rattle.index_core.proofs.index.Core.step.Goals as goal
 
 pub index-entry-requires : goal.index-entry-requires
@@ -63,14 +62,10 @@ action-action-requires g c =
     let i = c.args.party in
     let flies = c.requires.flies in
     let e = flies.entry in
-    let there = ap (λ (v : Index). get_elem? v.entries i) c.self.view_is ∙ flies.there in
-    let read = read_is s.entries i e c.index-entry.result.now there c.index-entry.ensures in
     let m = flies.machine in
-    let same_m = same_machine c.index-entry.result.now e c.in-Some.machine m read c.in-Some.is flies.flies in
     let small = c.self.inside.history.small in
-    let room : length s.history < 2 ^ 63 = omega (arith, c.self.inside.history.ok.0, c.self.inside.history.ok.1, small) in
-    let facts_here = step_facts s i e m c.self.invariant.0 there flies.flies room in
-    subst IsRunning (sym same_m) facts_here.fits
+    let at = reads s c.args.self.now i flies c.index-entry.result.now c.in-Some.machine (ap (λ (v : Index). v.entries) c.self.view_is) c.self.invariant.0 (omega (arith, c.self.inside.history.ok.0, c.self.inside.history.ok.1, small)) c.index-entry.ensures c.in-Some.is in
+    subst IsRunning (sym at.same) at.facts.fits
 
 pub counts-counts-requires : goal.counts-counts-requires
 counts-counts-requires g c =
@@ -78,14 +73,10 @@ counts-counts-requires g c =
     let i = c.args.party in
     let flies = c.requires.flies in
     let e = flies.entry in
-    let there = ap (λ (v : Index). get_elem? v.entries i) c.self.view_is ∙ flies.there in
-    let read = read_is s.entries i e c.index-entry.result.now there c.index-entry.ensures in
     let m = flies.machine in
-    let same_m = same_machine c.index-entry.result.now e c.in-Some.machine m read c.in-Some.is flies.flies in
     let small = c.self.inside.history.small in
-    let room : length s.history < 2 ^ 63 = omega (arith, c.self.inside.history.ok.0, c.self.inside.history.ok.1, small) in
-    let facts_here = step_facts s i e m c.self.invariant.0 there flies.flies room in
-    subst IsRunning (sym same_m) facts_here.fits
+    let at = reads s c.args.self.now i flies c.index-entry.result.now c.in-Some.machine (ap (λ (v : Index). v.entries) c.self.view_is) c.self.invariant.0 (omega (arith, c.self.inside.history.ok.0, c.self.inside.history.ok.1, small)) c.index-entry.ensures c.in-Some.is in
+    subst IsRunning (sym at.same) at.facts.fits
 
 pub act-got-requires : goal.act-got-requires
 act-got-requires g c =
@@ -93,14 +84,10 @@ act-got-requires g c =
     let i = c.args.party in
     let flies = c.requires.flies in
     let e = flies.entry in
-    let there = ap (λ (v : Index). get_elem? v.entries i) c.self.view_is ∙ flies.there in
-    let read = read_is s.entries i e c.index-entry.result.now there c.index-entry.ensures in
     let m = flies.machine in
-    let same_m = same_machine c.index-entry.result.now e c.in-Some.machine m read c.in-Some.is flies.flies in
     let small = c.self.inside.history.small in
-    let room : length s.history < 2 ^ 63 = omega (arith, c.self.inside.history.ok.0, c.self.inside.history.ok.1, small) in
-    let facts_here = step_facts s i e m c.self.invariant.0 there flies.flies room in
-    subst (CanAct s.layout s.words) (sym (c.action-action.ensures ∙ ap running_asks same_m)) facts_here.can
+    let at = reads s c.args.self.now i flies c.index-entry.result.now c.in-Some.machine (ap (λ (v : Index). v.entries) c.self.view_is) c.self.invariant.0 (omega (arith, c.self.inside.history.ok.0, c.self.inside.history.ok.1, small)) c.index-entry.ensures c.in-Some.is in
+    subst (CanAct s.layout s.words) (sym (c.action-action.ensures ∙ ap running_asks at.same)) at.facts.can
 
 pub count-requires : goal.count-requires
 count-requires g c =
@@ -108,14 +95,10 @@ count-requires g c =
     let i = c.args.party in
     let flies = c.requires.flies in
     let e = flies.entry in
-    let there = ap (λ (v : Index). get_elem? v.entries i) c.self.view_is ∙ flies.there in
-    let read = read_is s.entries i e c.index-entry.result.now there c.index-entry.ensures in
     let m = flies.machine in
-    let same_m = same_machine c.index-entry.result.now e c.in-Some.machine m read c.in-Some.is flies.flies in
     let small = c.self.inside.history.small in
-    let room : length s.history < 2 ^ 63 = omega (arith, c.self.inside.history.ok.0, c.self.inside.history.ok.1, small) in
-    let facts_here = step_facts s i e m c.self.invariant.0 there flies.flies room in
-    count_room s i e c.index-entry.result.now m c.counts-counts.result _ _ there flies.flies read (c.counts-counts.ensures ∙ ap (λ (n : Running). counted (stage_of n)) same_m) c.self.invariant.1
+    let at = reads s c.args.self.now i flies c.index-entry.result.now c.in-Some.machine (ap (λ (v : Index). v.entries) c.self.view_is) c.self.invariant.0 (omega (arith, c.self.inside.history.ok.0, c.self.inside.history.ok.1, small)) c.index-entry.ensures c.in-Some.is in
+    count_room s i e c.index-entry.result.now m c.counts-counts.result _ _ at.there flies.flies at.read (c.counts-counts.ensures ∙ ap (λ (n : Running). counted (stage_of n)) at.same) c.self.invariant.1
 
 pub resume-requires : goal.resume-requires
 resume-requires g c =
@@ -123,15 +106,11 @@ resume-requires g c =
     let i = c.args.party in
     let flies = c.requires.flies in
     let e = flies.entry in
-    let there = ap (λ (v : Index). get_elem? v.entries i) c.self.view_is ∙ flies.there in
-    let read = read_is s.entries i e c.index-entry.result.now there c.index-entry.ensures in
     let m = flies.machine in
-    let same_m = same_machine c.index-entry.result.now e c.in-Some.machine m read c.in-Some.is flies.flies in
     let small = c.self.inside.history.small in
-    let room : length s.history < 2 ^ 63 = omega (arith, c.self.inside.history.ok.0, c.self.inside.history.ok.1, small) in
-    let facts_here = step_facts s i e m c.self.invariant.0 there flies.flies room in
-    let given : c.act-got.result ≡ told s m = c.act-got.ensures.got ∙ ap (got s.layout s.words) (c.action-action.ensures ∙ ap running_asks same_m) in
-    subst (λ (x : Running × ℕ). running_takes x.0 x.1) (λ k. (sym same_m k, sym given k)) facts_here.takes
+    let at = reads s c.args.self.now i flies c.index-entry.result.now c.in-Some.machine (ap (λ (v : Index). v.entries) c.self.view_is) c.self.invariant.0 (omega (arith, c.self.inside.history.ok.0, c.self.inside.history.ok.1, small)) c.index-entry.ensures c.in-Some.is in
+    let given : c.act-got.result ≡ told s m = c.act-got.ensures.got ∙ ap (got s.layout s.words) (c.action-action.ensures ∙ ap running_asks at.same) in
+    subst (λ (x : Running × ℕ). running_takes x.0 x.1) (λ k. (sym at.same k, sym given k)) at.facts.takes
 
 pub invariant_of-self : goal.invariant_of-self
 invariant_of-self g c =
@@ -139,19 +118,13 @@ invariant_of-self g c =
     let i = c.args.party in
     let flies = c.requires.flies in
     let e = flies.entry in
-    let there = ap (λ (v : Index). get_elem? v.entries i) c.self.view_is ∙ flies.there in
-    let read = read_is s.entries i e c.index-entry.result.now there c.index-entry.ensures in
     let m = flies.machine in
-    let same_m = same_machine c.index-entry.result.now e c.in-Some.machine m read c.in-Some.is flies.flies in
     let small = c.self.inside.history.small in
-    let room : length s.history < 2 ^ 63 = omega (arith, c.self.inside.history.ok.0, c.self.inside.history.ok.1, small) in
-    let facts_here = step_facts s i e m c.self.invariant.0 there flies.flies room in
-    let counts = c.counts-counts.ensures ∙ ap (λ (n : Running). counted (stage_of n)) same_m in
-    let items = c.count.ensures.items ∙ ap (λ (o : Option Change). s.history ++ written c.index-entry.result.now.caller c.index-entry.result.now.index o) c.counts-counts.ensures in
-    let same = λ (spare : ℕ). step_at s i e c.index-entry.result.now c.after-stepped.result.0 m c.in-Some.machine c.act-got.new.self c.act-got.result c.resume.result c.count.new.history.items spare read same_m
-    (c.act-got.ensures.row ∙ ap (λ (a : Action). record { layout = s.layout; words = acted s.layout s.words a }) c.action-action.ensures) (c.act-got.ensures.got ∙ ap (got s.layout s.words) c.action-action.ensures) c.resume.ensures.turned c.after-stepped.ensures.entry items in
-    let roomy = step_room s i e m c.count.new.history.items _ _ _ _ _ there flies.flies (ap (λ (v : Index). v.history) (same 0)) (ap (λ (v : Index). v.entries) (same 0)) c.self.inside.history.ok.0 c.count.new.history.ok.0 c.count.ensures.room c.self.invariant.1 in
-    (subst IsIndex (sym (same 0)) (facts_here.kept 0), roomy.0)
+    let at = reads s c.args.self.now i flies c.index-entry.result.now c.in-Some.machine (ap (λ (v : Index). v.entries) c.self.view_is) c.self.invariant.0 (omega (arith, c.self.inside.history.ok.0, c.self.inside.history.ok.1, small)) c.index-entry.ensures c.in-Some.is in
+    let left = leaves s i e c.index-entry.result.now m c.in-Some.machine at flies.flies c.action-action.result c.act-got.new.self c.act-got.result c.resume.result c.after-stepped.result.0 c.counts-counts.result
+    c.count.new.history.items c.self.inside.history.len c.self.inside.history.cap c.count.new.history.len c.count.new.history.cap c.action-action.ensures c.act-got.ensures.row c.act-got.ensures.got c.resume.ensures.turned
+    c.after-stepped.ensures.entry c.counts-counts.ensures c.count.ensures.items c.self.inside.history.ok.0 c.count.new.history.ok.0 c.count.ensures.room c.self.invariant.1 in
+    (subst IsIndex (sym (left.same 0)) (at.facts.kept 0), left.room)
 
 pub returns-clause-stepped : goal.returns-clause-stepped
 returns-clause-stepped g c =
@@ -159,42 +132,33 @@ returns-clause-stepped g c =
     let i = c.args.party in
     let flies = c.requires.flies in
     let e = flies.entry in
-    let there = ap (λ (v : Index). get_elem? v.entries i) c.self.view_is ∙ flies.there in
-    let read = read_is s.entries i e c.index-entry.result.now there c.index-entry.ensures in
     let m = flies.machine in
-    let same_m = same_machine c.index-entry.result.now e c.in-Some.machine m read c.in-Some.is flies.flies in
     let small = c.self.inside.history.small in
-    let room : length s.history < 2 ^ 63 = omega (arith, c.self.inside.history.ok.0, c.self.inside.history.ok.1, small) in
-    let facts_here = step_facts s i e m c.self.invariant.0 there flies.flies room in
-    let counts = c.counts-counts.ensures ∙ ap (λ (n : Running). counted (stage_of n)) same_m in
-    let items = c.count.ensures.items ∙ ap (λ (o : Option Change). s.history ++ written c.index-entry.result.now.caller c.index-entry.result.now.index o) c.counts-counts.ensures in
-    let same = λ (spare : ℕ). step_at s i e c.index-entry.result.now c.after-stepped.result.0 m c.in-Some.machine c.act-got.new.self c.act-got.result c.resume.result c.count.new.history.items spare read same_m
-    (c.act-got.ensures.row ∙ ap (λ (a : Action). record { layout = s.layout; words = acted s.layout s.words a }) c.action-action.ensures) (c.act-got.ensures.got ∙ ap (got s.layout s.words) c.action-action.ensures) c.resume.ensures.turned c.after-stepped.ensures.entry items in
-    let roomy = step_room s i e m c.count.new.history.items _ _ _ _ _ there flies.flies (ap (λ (v : Index). v.history) (same 0)) (ap (λ (v : Index). v.entries) (same 0)) c.self.inside.history.ok.0 c.count.new.history.ok.0 c.count.ensures.room c.self.invariant.1 in
-    let turn = c.resume.ensures.turned ∙ (λ k. running_turned (same_m k) (c.act-got.ensures.got k)) ∙ ap (λ (a : Action). running_turned m (got s.layout s.words a)) (c.action-action.ensures ∙ ap running_asks same_m) in
+    let at = reads s c.args.self.now i flies c.index-entry.result.now c.in-Some.machine (ap (λ (v : Index). v.entries) c.self.view_is) c.self.invariant.0 (omega (arith, c.self.inside.history.ok.0, c.self.inside.history.ok.1, small)) c.index-entry.ensures c.in-Some.is in
+    let left = leaves s i e c.index-entry.result.now m c.in-Some.machine at flies.flies c.action-action.result c.act-got.new.self c.act-got.result c.resume.result c.after-stepped.result.0 c.counts-counts.result
+    c.count.new.history.items c.self.inside.history.len c.self.inside.history.cap c.count.new.history.len c.count.new.history.cap c.action-action.ensures c.act-got.ensures.row c.act-got.ensures.got c.resume.ensures.turned
+    c.after-stepped.ensures.entry c.counts-counts.ensures c.count.ensures.items c.self.inside.history.ok.0 c.count.new.history.ok.0 c.count.ensures.room c.self.invariant.1 in
     let n : ℕ = c.count.new.history.cap - (c.count.new.history.len + owed (slice_set s.entries i c.after-stepped.result.0)) in
-    let of = subst (λ (o : Option Running). IfSome o (λ q. IsOf (op_in q) q)) flies.flies (c.self.invariant.0.entries i e there).op in
-    let sound = subst (λ (o : Option Running). IfSome o (Sound s.layout s.generation)) flies.flies (c.self.invariant.0.entries i e there).machine in
     let new : Index = record { layout = c.act-got.new.self.layout; generation = s.generation; words = c.act-got.new.self.words; entries = slice_set s.entries i c.after-stepped.result.0; base = s.base; history = c.count.new.history.items; spare = n } in
     record {
       entry = e;
       machine = m;
       there = flies.there;
       flies = flies.flies;
-      is = same n ∙ ap (λ (v : Index). stepped_index v i e m n) c.self.view_is;
-      comes_to = c.after-stepped.ensures.stepped ∙ ap stepped_of turn ∙ ap (λ (v : Index). stepped_of (running_turned m (told v m))) c.self.view_is;
-      keeps_op = subst (λ (v : Index). (asked : Op) → IsOf asked m → IsOfAfter asked (running_turned m (told v m))) c.self.view_is facts_here.keeps_op;
-      keeps_call = subst (λ (v : Index). MakesCall (running_call m) (running_turned m (told v m))) c.self.view_is facts_here.keeps_call;
-      kind = subst (λ (v : Index). Step v.layout v.generation (stage_of m) (running_asks m) (told v m) (stage_after (running_turned m (told v m))) (reply_of (running_turned m (told v m)))) c.self.view_is facts_here.is_step;
+      is = left.same n ∙ ap (λ (v : Index). stepped_index v i e m n) c.self.view_is;
+      comes_to = c.after-stepped.ensures.stepped ∙ ap stepped_of left.turned ∙ ap (λ (v : Index). stepped_of (running_turned m (told v m))) c.self.view_is;
+      keeps_op = subst (λ (v : Index). (asked : Op) → IsOf asked m → IsOfAfter asked (running_turned m (told v m))) c.self.view_is at.facts.keeps_op;
+      keeps_call = subst (λ (v : Index). MakesCall (running_call m) (running_turned m (told v m))) c.self.view_is at.facts.keeps_call;
+      kind = subst (λ (v : Index). Step v.layout v.generation (stage_of m) (running_asks m) (told v m) (stage_after (running_turned m (told v m))) (reply_of (running_turned m (told v m)))) c.self.view_is at.facts.is_step;
       fewer = subst (λ (v : Index). GoesBelow running_left (running_left m) (running_turned m (told v m))) c.self.view_is
-          (subst (λ (q : Running × Turn Running (Once Placed)). GoesBelow running_left (running_left q.0) q.1) (λ k. (same_m k, turn k)) c.resume.ensures.fewer);
-      answer = subst (λ (r : Stepped). SaysOf new.layout.slots (map_of new.base) new.history e (op_in m) (running_call m).limit r) (sym (c.after-stepped.ensures.stepped ∙ ap stepped_of turn))
-          (subst (λ (v : Index). SaysOf v.layout.slots (map_of v.base) v.history e (op_in m) (running_call m).limit (stepped_of (running_turned m (told s m)))) (sym (same n))
-          (says_of s.layout s.generation (facts (world (stepped_index s i e m n))) e m (told s m) of sound.here (facts_here.legal n)));
+          (subst (λ (q : Running × Turn Running (Once Placed)). GoesBelow running_left (running_left q.0) q.1) (λ k. (at.same k, left.turned k)) c.resume.ensures.fewer);
+      answer = subst (λ (r : Stepped). SaysOf new.layout.slots (map_of new.base) new.history e (op_in m) (running_call m).limit r) (sym (c.after-stepped.ensures.stepped ∙ ap stepped_of left.turned))
+          (subst (λ (v : Index). SaysOf v.layout.slots (map_of v.base) v.history e (op_in m) (running_call m).limit (stepped_of (running_turned m (told s m)))) (sym (left.same n))
+          (says_of s.layout s.generation (facts (world (stepped_index s i e m n))) e m (told s m) at.of at.sound.here (at.facts.legal n)));
       weighs = subst (λ (q : Index × Index). RisesBy (AddsName (stage_of m) (running_asks m) (stage_after (running_turned m (told q.0 m)))) (weight_sum (world q.0)) (weight_sum (world q.1)))
-          (λ k. (c.self.view_is k, sym (same n) k)) (facts_here.weighs n);
+          (λ k. (c.self.view_is k, sym (left.same n) k)) (at.facts.weighs n);
       legal = subst (λ (v : Index). IsLegal new.layout new.generation (facts (world new)) e.caller e.index e.since (stage_of m) (reply_of (running_turned m (told v m)))) c.self.view_is
-          (subst (λ (v : Index). IsLegal v.layout v.generation (facts (world v)) e.caller e.index e.since (stage_of m) (reply_of (running_turned m (told s m)))) (sym (same n)) (facts_here.legal n));
+          (subst (λ (v : Index). IsLegal v.layout v.generation (facts (world v)) e.caller e.index e.since (stage_of m) (reply_of (running_turned m (told s m)))) (sym (left.same n)) (at.facts.legal n));
     }
 
 pub returns-clause-spare : goal.returns-clause-spare
@@ -203,23 +167,17 @@ returns-clause-spare g c =
     let i = c.args.party in
     let flies = c.requires.flies in
     let e = flies.entry in
-    let there = ap (λ (v : Index). get_elem? v.entries i) c.self.view_is ∙ flies.there in
-    let read = read_is s.entries i e c.index-entry.result.now there c.index-entry.ensures in
     let m = flies.machine in
-    let same_m = same_machine c.index-entry.result.now e c.in-Some.machine m read c.in-Some.is flies.flies in
     let small = c.self.inside.history.small in
-    let room : length s.history < 2 ^ 63 = omega (arith, c.self.inside.history.ok.0, c.self.inside.history.ok.1, small) in
-    let facts_here = step_facts s i e m c.self.invariant.0 there flies.flies room in
-    let counts = c.counts-counts.ensures ∙ ap (λ (n : Running). counted (stage_of n)) same_m in
-    let items = c.count.ensures.items ∙ ap (λ (o : Option Change). s.history ++ written c.index-entry.result.now.caller c.index-entry.result.now.index o) c.counts-counts.ensures in
-    let same = λ (spare : ℕ). step_at s i e c.index-entry.result.now c.after-stepped.result.0 m c.in-Some.machine c.act-got.new.self c.act-got.result c.resume.result c.count.new.history.items spare read same_m
-    (c.act-got.ensures.row ∙ ap (λ (a : Action). record { layout = s.layout; words = acted s.layout s.words a }) c.action-action.ensures) (c.act-got.ensures.got ∙ ap (got s.layout s.words) c.action-action.ensures) c.resume.ensures.turned c.after-stepped.ensures.entry items in
-    let roomy = step_room s i e m c.count.new.history.items _ _ _ _ _ there flies.flies (ap (λ (v : Index). v.history) (same 0)) (ap (λ (v : Index). v.entries) (same 0)) c.self.inside.history.ok.0 c.count.new.history.ok.0 c.count.ensures.room c.self.invariant.1 in
+    let at = reads s c.args.self.now i flies c.index-entry.result.now c.in-Some.machine (ap (λ (v : Index). v.entries) c.self.view_is) c.self.invariant.0 (omega (arith, c.self.inside.history.ok.0, c.self.inside.history.ok.1, small)) c.index-entry.ensures c.in-Some.is in
+    let left = leaves s i e c.index-entry.result.now m c.in-Some.machine at flies.flies c.action-action.result c.act-got.new.self c.act-got.result c.resume.result c.after-stepped.result.0 c.counts-counts.result
+    c.count.new.history.items c.self.inside.history.len c.self.inside.history.cap c.count.new.history.len c.count.new.history.cap c.action-action.ensures c.act-got.ensures.row c.act-got.ensures.got c.resume.ensures.turned
+    c.after-stepped.ensures.entry c.counts-counts.ensures c.count.ensures.items c.self.inside.history.ok.0 c.count.new.history.ok.0 c.count.ensures.room c.self.invariant.1 in
     let was = ap (λ (v : Index). v.spare) c.self.view_is in
     let written = ap (λ (v : Index). length v.history) c.self.view_is in
     let owing = ap (λ (v : Index). owed v.entries) c.self.view_is in
-    let here = roomy.0 in
-    let fewer = roomy.1 in
+    let here = left.room in
+    let fewer = left.spare in
     let before = c.self.invariant.1 in
     let larger = c.count.ensures.room in
     record { spare = omega arith; all = omega (arith, c.self.inside.history.ok.0, c.count.new.history.ok.0) }
@@ -230,16 +188,10 @@ returns-clause-index g c =
     let i = c.args.party in
     let flies = c.requires.flies in
     let e = flies.entry in
-    let there = ap (λ (v : Index). get_elem? v.entries i) c.self.view_is ∙ flies.there in
-    let read = read_is s.entries i e c.index-entry.result.now there c.index-entry.ensures in
     let m = flies.machine in
-    let same_m = same_machine c.index-entry.result.now e c.in-Some.machine m read c.in-Some.is flies.flies in
     let small = c.self.inside.history.small in
-    let room : length s.history < 2 ^ 63 = omega (arith, c.self.inside.history.ok.0, c.self.inside.history.ok.1, small) in
-    let facts_here = step_facts s i e m c.self.invariant.0 there flies.flies room in
-    let counts = c.counts-counts.ensures ∙ ap (λ (n : Running). counted (stage_of n)) same_m in
-    let items = c.count.ensures.items ∙ ap (λ (o : Option Change). s.history ++ written c.index-entry.result.now.caller c.index-entry.result.now.index o) c.counts-counts.ensures in
-    let same = λ (spare : ℕ). step_at s i e c.index-entry.result.now c.after-stepped.result.0 m c.in-Some.machine c.act-got.new.self c.act-got.result c.resume.result c.count.new.history.items spare read same_m
-    (c.act-got.ensures.row ∙ ap (λ (a : Action). record { layout = s.layout; words = acted s.layout s.words a }) c.action-action.ensures) (c.act-got.ensures.got ∙ ap (got s.layout s.words) c.action-action.ensures) c.resume.ensures.turned c.after-stepped.ensures.entry items in
-    let roomy = step_room s i e m c.count.new.history.items _ _ _ _ _ there flies.flies (ap (λ (v : Index). v.history) (same 0)) (ap (λ (v : Index). v.entries) (same 0)) c.self.inside.history.ok.0 c.count.new.history.ok.0 c.count.ensures.room c.self.invariant.1 in
-    subst IsIndex (sym (same _)) (facts_here.kept _)
+    let at = reads s c.args.self.now i flies c.index-entry.result.now c.in-Some.machine (ap (λ (v : Index). v.entries) c.self.view_is) c.self.invariant.0 (omega (arith, c.self.inside.history.ok.0, c.self.inside.history.ok.1, small)) c.index-entry.ensures c.in-Some.is in
+    let left = leaves s i e c.index-entry.result.now m c.in-Some.machine at flies.flies c.action-action.result c.act-got.new.self c.act-got.result c.resume.result c.after-stepped.result.0 c.counts-counts.result
+    c.count.new.history.items c.self.inside.history.len c.self.inside.history.cap c.count.new.history.len c.count.new.history.cap c.action-action.ensures c.act-got.ensures.row c.act-got.ensures.got c.resume.ensures.turned
+    c.after-stepped.ensures.entry c.counts-counts.ensures c.count.ensures.items c.self.inside.history.ok.0 c.count.new.history.ok.0 c.count.ensures.room c.self.invariant.1 in
+    subst IsIndex (sym (left.same _)) (at.facts.kept _)

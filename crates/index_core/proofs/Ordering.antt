@@ -1,0 +1,118 @@
+-- A party's earlier writes were placed before its call in flight began.
+use Rattle.std.proofs.Common.{◌≡◌, ◌≢◌, ℕ, ◌<◌, ◌⊎◌, inl, inr, ⊎_elim, List, ◌++◌, length, set, sym, ap, ◌∙◌, subst}
+use Rattle.std.specs.Prelude.{Option, Some, None, IfSome, slice_get}
+use Rattle.std.proofs.lemmas.List.{append-nil}
+use Rattle.std.proofs.lemmas.Option.{slice_get_within}
+use mathlib.Core.Option.{some}
+use lib.ListN.{get_elem?}
+use Rattle.pm_words.specs.declared.layout.Layout.{Layout}
+use Rattle.pm_words.specs.declared.action.Action.TheVariants.{Add}
+use Rattle.pm_words.specs.declared.machine.Turn.{Turn}
+use Rattle.pm_words.specs.declared.machine.Turn.TheVariants.{Go, Done}
+use Rattle.pm_words.specs.Rows.{got}
+use Rattle.cat_history.specs.declared.op.Change.{Change}
+use Rattle.cat_history.specs.declared.op.Write.{Write}
+use Rattle.call_stages.specs.declared.once.Once.{Once}
+use Rattle.call_stages.specs.declared.once.Placed.{Placed}
+use Rattle.call_stages.specs.Kinds.{clock_place}
+use Rattle.call_stages.specs.Stages.{counted, placed_in}
+use Rattle.node_ops.specs.declared.running.Running.{Running}
+use Rattle.node_ops.specs.Asked.{IsOf, op_in}
+use Rattle.node_ops.specs.RunningSteps.{running_call, running_asks, running_turned, Sound}
+use Rattle.node_ops.specs.CallStages.{stage_of, reply_of}
+use Rattle.index_law.specs.Worlds.{written}
+use Rattle.index_law.specs.Lawful.{ClockCounts}
+use Rattle.index_law.proofs.Parties.{at_set}
+use Rattle.index_core.specs.declared.entry.Entry.{Entry}
+use Rattle.index_core.specs.Entries.{entry_with, entry_after, entry_counted, IsEntry}
+use Rattle.index_core.specs.Indexes.{Index, AreOrdered, told}
+use Rattle.index_core.proofs.Lists.{some_same, got_end}
+use Rattle.index_core.proofs.Phases.{phase_of, phase_after, leads}
+use Rattle.index_core.proofs.Places.{place_is, Onward, onward}
+
+-- a call that begins comes behind all writes
+pub start_ordered : (entries : List Entry) (history : List Write) (i : ℕ) (e : Entry) (machine : Running) → AreOrdered entries history → AreOrdered (set entries i (entry_with e (length history) machine)) history
+start_ordered entries history i e machine ordered j place entry m write at flies stands caller =
+    let now = entry_with e (length history) machine in
+    ⊎_elim
+    (λ (mine : (j ≡ i) × (now ≡ entry)). inl (subst (λ (d : Entry). place < d.since) mine.1 (slice_get_within history place write stands)))
+    (λ (other : (j ≢ i) × (get_elem? entries j ≡ some entry)). ordered j place entry m write other.1 flies stands caller)
+    (at_set entries i j now entry at)
+
+-- a party that is idle may have another index
+pub count_ordered : (entries : List Entry) (history : List Write) (i : ℕ) (e : Entry) → e.machine ≡ None → AreOrdered entries history → AreOrdered (set entries i (entry_counted e)) history
+count_ordered entries history i e idle ordered j place entry m write at flies stands caller =
+    ⊎_elim
+    (λ (mine : (j ≡ i) × (entry_counted e ≡ entry)). absurd (let both : None ≡ Some m = sym idle ∙ ap (λ (d : Entry). d.machine) mine.1 ∙ flies in cc))
+    (λ (other : (j ≢ i) × (get_elem? entries j ≡ some entry)). ordered j place entry m write other.1 flies stands caller)
+    (at_set entries i j (entry_counted e) entry at)
+
+module _ (s : Index) (i : ℕ) (e : Entry) (m : Running) (all : (j : ℕ) (entry : Entry) → get_elem? s.entries j ≡ some entry → IsEntry s.layout s.generation j entry) (ordered : AreOrdered s.entries s.history)
+    (clock : ClockCounts s.layout s.words s.history) (there : get_elem? s.entries i ≡ some e) (flies : e.machine ≡ Some m) where
+  of : IsOf (op_in m) m
+  of = subst (λ (o : Option Running). IfSome o (λ q. IsOf (op_in q) q)) flies (all i e there).op
+
+  sound : Sound s.layout s.generation m
+  sound = subst (λ (o : Option Running). IfSome o (Sound s.layout s.generation)) flies (all i e there).machine
+
+  -- a write after the step is an earlier one, or the party's own at the end
+  earlier_or_own : (o : Option Change) (place : ℕ) (write : Write) → slice_get (s.history ++ written e.caller e.index o) place ≡ Some write → (slice_get s.history place ≡ Some write) ⊎ (write.caller ≡ e.caller)
+  earlier_or_own None place write stands = inl (subst (λ (h : List Write). slice_get h place ≡ Some write) (append-nil s.history) stands)
+  earlier_or_own (Some change) place write stands =
+      ⊎_elim
+      (λ (before : slice_get s.history place ≡ Some write). inl before)
+      (λ (last : (place ≡ length s.history) × (record { caller = e.caller; index = e.index; change = change } ≡ write)). inr (ap (λ (w : Write). w.caller) (sym last.1)))
+      (got_end s.history (record { caller = e.caller; index = e.index; change = change }) write place stands)
+
+  -- another party's call sees no new write of its own
+  theirs : (j place : ℕ) (entry : Entry) (machine : Running) (write : Write) → j ≢ i → get_elem? s.entries j ≡ some entry → entry.machine ≡ Some machine
+      → slice_get (s.history ++ written e.caller e.index (counted (stage_of m))) place ≡ Some write → write.caller ≡ entry.caller → (place < entry.since) ⊎ (placed_in (stage_of machine) ≡ Some place)
+  theirs j place entry machine write other at flown stands caller =
+      ⊎_elim
+      (λ (before : slice_get s.history place ≡ Some write). ordered j place entry machine write at flown before caller)
+      (λ (own : write.caller ≡ e.caller). absurd (other (sym (all j entry at).caller ∙ sym caller ∙ own ∙ (all i e there).caller)))
+      (earlier_or_own (counted (stage_of m)) place write stands)
+
+  -- the party's own call has the place of the write that its step counts
+  module _ (next : Running) (is : running_turned m (told s m) ≡ Go next) where
+    on : Onward (running_call m).view.layout (phase_of m) (running_asks m) (told s m) (phase_of next) (counted (stage_of m))
+    on = subst (λ (turn : Turn Running (Once Placed)). Onward (running_call m).view.layout (phase_of m) (running_asks m) (told s m) (phase_after turn) (counted (stage_of m))) is (onward (leads (op_in m) m (told s m) of) (ap reply_of is))
+
+    -- the place that it is told is the length of the history
+    told_length : running_asks m ≡ Add (clock_place (running_call m).view.layout) → told s m ≡ length s.history
+    told_length adds = ap (got s.layout s.words) (adds ∙ ap (λ (l : Layout). Add (clock_place l)) sound.layout) ∙ clock
+
+    mine : (o : Option Change) → Onward (running_call m).view.layout (phase_of m) (running_asks m) (told s m) (phase_of next) o → (place : ℕ) (write : Write) → slice_get (s.history ++ written e.caller e.index o) place ≡ Some write
+        → write.caller ≡ e.caller → (place < e.since) ⊎ (placed_in (stage_of next) ≡ Some place)
+    mine None same place write stands caller =
+        ⊎_elim
+        (λ (before : place < e.since). inl before)
+        (λ (own : placed_in (stage_of m) ≡ Some place). inr (place_is next ∙ same ∙ sym (place_is m) ∙ own))
+        (ordered i place e m write there flies (subst (λ (h : List Write). slice_get h place ≡ Some write) (append-nil s.history) stands) caller)
+    mine (Some change) goes place write stands caller =
+        ⊎_elim
+        (λ (old : slice_get s.history place ≡ Some write). ⊎_elim
+        (λ (before : place < e.since). inl before)
+        (λ (own : placed_in (stage_of m) ≡ Some place). absurd (let both : None ≡ Some place = sym goes.1 ∙ sym (place_is m) ∙ own in cc))
+        (ordered i place e m write there flies old caller))
+        (λ (last : (place ≡ length s.history) × (record { caller = e.caller; index = e.index; change = change } ≡ write)). inr (place_is next ∙ goes.2 ∙ ap Some (told_length goes.0 ∙ sym last.0)))
+        (got_end s.history (record { caller = e.caller; index = e.index; change = change }) write place stands)
+
+  after_turn : (turn : Turn Running (Once Placed)) → running_turned m (told s m) ≡ turn → AreOrdered (set s.entries i (entry_after e turn)) (s.history ++ written e.caller e.index (counted (stage_of m)))
+  after_turn (Done answer) is j place entry machine write at flown stands caller =
+      ⊎_elim
+      (λ (mine : (j ≡ i) × (entry_after e (Done answer) ≡ entry)). absurd (let both : None ≡ Some machine = ap (λ (d : Entry). d.machine) mine.1 ∙ flown in cc))
+      (λ (other : (j ≢ i) × (get_elem? s.entries j ≡ some entry)). theirs j place entry machine write other.0 other.1 flown stands caller)
+      (at_set s.entries i j (entry_after e (Done answer)) entry at)
+  after_turn (Go next) is j place entry machine write at flown stands caller =
+      ⊎_elim
+      (λ (same : (j ≡ i) × (entry_after e (Go next) ≡ entry)).
+      let machine_is : next ≡ machine = some_same (ap (λ (d : Entry). d.machine) same.1 ∙ flown) in
+      let by : write.caller ≡ e.caller = caller ∙ ap (λ (d : Entry). d.caller) (sym same.1) in
+      subst (λ (q : Entry × Running). (place < q.0.since) ⊎ (placed_in (stage_of q.1) ≡ Some place)) (λ k. (same.1 k, machine_is k)) (mine next is (counted (stage_of m)) (on next is) place write stands by))
+      (λ (other : (j ≢ i) × (get_elem? s.entries j ≡ some entry)). theirs j place entry machine write other.0 other.1 flown stands caller)
+      (at_set s.entries i j (entry_after e (Go next)) entry at)
+
+  -- a step keeps the order
+  pub step_ordered : AreOrdered (set s.entries i (entry_after e (running_turned m (told s m)))) (s.history ++ written e.caller e.index (counted (stage_of m)))
+  step_ordered = after_turn (running_turned m (told s m)) (λ k. running_turned m (told s m))
