@@ -14,8 +14,8 @@ ghost use Rattle.index_core.specs.Schedules.{OneLegalHistory, FreshIndexBegins};
 /// - of one caller's calls the one that was answered first took effect first;
 /// - one that was refused stands nowhere in the history, and the clock that refused it had reached its limit in its time;
 /// - while one was made that was turned back, its caller wrote nothing, and its answer may leave the caller's index as it was;
-///   each other answer makes it one higher, and no later call of the caller has a lower one. For want of room only a put is turned back, whose name the map
-///   lacked in its time while it had as many names as the node has slots;
+///   each other answer makes it one higher, and no later call of the caller has a lower one. For want of room only a put is
+///   turned back, whose name the map lacked in its time while it had as many names as the node has slots;
 /// - each write of the history is that of an answered call at its place, or of a call in flight that has this place;
 /// - where all puts and deletes have one limit, each place of a write is below it plus the number of callers that have calls,
 ///   minus one.
