@@ -3,3 +3,4 @@ mod NumberLemmas
 mod CallLemmas
 pub mod ScriptLaws
 pub mod OutsideLemmas
+pub mod ShelfLemmas

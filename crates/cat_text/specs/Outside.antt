@@ -8,7 +8,8 @@ ConsumesAtMost most old new = (taken : List ℕ) × Consumes old new taken × (l
 
 -- `count` bytes went from the front of those that were left to the end of the text
 abbrev pub Moves : Option (List ℕ) → Option (List ℕ) → List ℕ → List ℕ → ℕ → Type 0
-Moves old new before after count = (taken : List ℕ) × Consumes old new taken × (after ≡ before ++ taken) × (length taken ≡ count)
+Moves old new before after count = (taken : List ℕ) × Consumes old new taken × (after ≡ before ++ taken) ×
+    (length taken ≡ count)
 
 -- the text's first bytes were appended, and at least its last one was not
 abbrev pub AppendsPart : Option (List ℕ) → Option (List ℕ) → List ℕ → Type 0

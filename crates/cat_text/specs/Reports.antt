@@ -32,7 +32,8 @@ end_word true = codes "crash"
 
 -- The last line of a round: how many writes have a place, and how many names there are then.
 abbrev pub last_line : RoundReport → List ℕ
-last_line round = end_word round.crashed ++ codes " " ++ decimal round.writes ++ codes " names " ++ decimal round.names ++ codes "\n"
+last_line round = end_word round.crashed ++ codes " " ++ decimal round.writes ++ codes " names " ++ decimal
+    round.names ++ codes "\n"
 
 abbrev pub round_text : RoundReport → List ℕ
 round_text round = flat_map record_line round.records ++ last_line round

@@ -6,7 +6,7 @@ use Rattle.cat_text.specs.declared.script.ScriptFault.{ScriptFault}
 use Rattle.cat_text.specs.declared.script.ScriptFault.TheVariants.{Bytes, Line, NoMemory}
 
 -- What is told of a fault.
-abbrev pub text_of : ScriptFault → List ℕ
-text_of Bytes = codes "script: more than " ++ (decimal MOST_BYTES ++ codes " bytes")
-text_of (Line line) = codes "script: line " ++ (decimal line ++ codes " is no call")
-text_of NoMemory = codes "out of memory"
+abbrev pub script_fault_text : ScriptFault → List ℕ
+script_fault_text Bytes = codes "script: more than " ++ (decimal MOST_BYTES ++ codes " bytes")
+script_fault_text (Line line) = codes "script: line " ++ (decimal line ++ codes " is no call")
+script_fault_text NoMemory = codes "out of memory"

@@ -12,7 +12,8 @@ use Rattle.cat_text.specs.declared.script.RoundPlan.{RoundPlan}
 -- last one counts where it isn't empty.
 abbrev pub lines_after : List ℕ → List ℕ → List (List ℕ)
 lines_after line [] = if length line == 0 then [] else line ∷ []
-lines_after line (byte ∷ bytes) = if byte == 10 then line ∷ lines_after [] bytes else lines_after (line ++ byte ∷ []) bytes
+lines_after line (byte ∷ bytes) =
+    if byte == 10 then line ∷ lines_after [] bytes else lines_after (line ++ byte ∷ []) bytes
 
 abbrev pub lines_of : List ℕ → List (List ℕ)
 lines_of bytes = lines_after [] bytes
@@ -26,7 +27,8 @@ pub record IsNumber (text : List ℕ) (n : ℕ) : Type 0 where
 
 -- A line that asks this: its words with one space between them.
 abbrev pub AsksFor : List ℕ → Op → Type 0
-AsksFor line (Put name value) = IsName name × ((number : List ℕ) × IsNumber number value × (line ≡ codes "0 put " ++ name ++ codes " " ++ number))
+AsksFor line (Put name value) = IsName name × ((number : List ℕ) × IsNumber number value ×
+    (line ≡ codes "0 put " ++ name ++ codes " " ++ number))
 AsksFor line (Get name) = IsName name × (line ≡ codes "0 get " ++ name)
 AsksFor line (Del name) = ⊥
 
@@ -36,7 +38,8 @@ IsCallLine line asked = (asked.caller ≡ 0) × AsksFor line asked.op
 
 -- The bytes are a script of these rounds: one, with a call for each line.
 abbrev pub IsScript : List ℕ → List RoundPlan → Type 0
-IsScript bytes rounds = (asked : List CallerOp) × (rounds ≡ record { ops = asked } ∷ []) × AllZip IsCallLine (lines_of bytes) asked
+IsScript bytes rounds = (asked : List CallerOp) × (rounds ≡ record { ops = asked } ∷ []) ×
+    AllZip IsCallLine (lines_of bytes) asked
 
 -- A line that asks something.
 abbrev pub IsAnyCallLine : List ℕ → Type 0
@@ -62,7 +65,8 @@ IsOneScriptAtMost = (bytes : List ℕ) (a b : List RoundPlan) → IsScript bytes
 
 -- A text with a line that is no call line is no script.
 abbrev pub FaultIsNoScript : Type 0
-FaultIsNoScript = (bytes : List ℕ) (number : ℕ) (rounds : List RoundPlan) → IsFirstFault bytes number → ¬ IsScript bytes rounds
+FaultIsNoScript = (bytes : List ℕ) (number : ℕ) (rounds : List RoundPlan) → IsFirstFault bytes number →
+    ¬ IsScript bytes rounds
 
 -- The first line that is no call line has one number.
 abbrev pub FaultIsOneLine : Type 0

@@ -1,7 +1,7 @@
 //! The texts of the program: scripts, reports, and the traits of the outside from which they come and to which they go.
 #![tactic(auto)]
 
-mod laws;
+pub mod laws;
 mod line;
 mod number;
 mod outside;
@@ -11,11 +11,14 @@ mod report;
 mod script;
 #[cfg(test)]
 mod tests;
+mod word_line;
 
-pub use laws::script_law;
 pub use number::read_number;
+pub use outside::file_shelf::FileShelf;
 pub use outside::memory::{MemorySink, MemorySource};
+pub use outside::memory_shelf::MemoryShelf;
 pub use outside::plan::FaultPlan;
+pub use outside::shelf::{LoadFault, SaveFault, Shelf};
 pub use outside::sink::{Sink, WriteFault, write_whole};
 pub use outside::source::{Failed, ReadFault, Source, read_whole};
 pub use outside::streams::{ReadSource, WriteSink};
@@ -25,3 +28,4 @@ pub use report::{Report, RoundReport};
 pub use script::{MOST_BYTES, Ops, RoundPlan, Script, ScriptFault};
 /// There was no memory.
 pub use std::alloc::AllocError as NoMemory;
+pub use word_line::add_word;

@@ -2,8 +2,11 @@
 //! test can let any call fail.
 
 pub mod fault_count;
+pub mod file_shelf;
 pub mod memory;
+pub mod memory_shelf;
 pub mod plan;
+pub mod shelf;
 pub mod sink;
 pub mod source;
 pub mod streams;

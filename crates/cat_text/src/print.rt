@@ -1,7 +1,8 @@
 //! Printing reports. Each function `add_..` adds the text of one part at the end of the text so far.
 
 ghost use Rattle.std.specs.Prelude.{◌≡◌, ◌++◌, decimal, flat_map, IfOk, OnOk};
-ghost use Rattle.cat_text.specs.Reports.{last_line, end_word, old_text, op_text, record_line, reply_text, report_text, round_text};
+ghost use Rattle.cat_text.specs.Reports.{last_line, end_word, old_text, op_text, record_line, reply_text, report_text};
+ghost use Rattle.cat_text.specs.Reports.{round_text};
 
 use crate::NoMemory;
 use crate::report::{Report, RoundReport};
@@ -123,7 +124,7 @@ fn add_name(text: &mut Vec<u8>, name: &Name) -> Result<(), NoMemory>
     Ok(())
 }
 
-fn add_number(text: &mut Vec<u8>, number: u64) -> Result<(), NoMemory>
+pub(crate) fn add_number(text: &mut Vec<u8>, number: u64) -> Result<(), NoMemory>
     ensures { OnOk result (text.new.items ≡ text.old.items ++ decimal number) }
 {
     text.extend_from_slice(Buffer::new().format(number).as_bytes())

@@ -1,7 +1,7 @@
 //! Scripts: what lines ask, round by round, and what is wrong with a text that is no script.
 
 ghost use Rattle.std.specs.Prelude.{Some};
-ghost use Rattle.cat_text.specs.ScriptFaults.{text_of};
+ghost use Rattle.cat_text.specs.ScriptFaults.{script_fault_text};
 
 use cat_history::{CallerOp, Listed};
 use std::fmt;
@@ -33,7 +33,7 @@ pub enum ScriptFault {
 }
 
 impl fmt::Display for ScriptFault {
-    ghost output = { λ fault. Some (text_of fault) };
+    ghost output = { λ fault. Some (script_fault_text fault) };
 
     fn fmt<W: fmt::Write>(&self, f: &mut fmt::Formatter<W>) -> fmt::Result {
         match self {

@@ -1,9 +1,9 @@
--- Words, and places, that are in range have one number only if they are one.
+-- Words, and addresses, that are in range have one number only if they are one.
 use Rattle.std.proofs.Common.{◌≡◌, ◌≢◌, ℕ, zero, suc, ◌+◌, ◌-◌, ◌*◌, ◌<◌, List, length, slice_index, slice_set, sym, ap, ◌∙◌, subst, arith}
 use Rattle.std.proofs.lemmas.List.{get_or-set_same, get_or-set_other}
 use Rattle.std.proofs.lemmas.Nat.{mul-add-lt, same_from_place}
 use Rattle.pm_words.specs.declared.layout.Layout.{Layout}
-use Rattle.pm_words.specs.Places.{Word, Header, Root, Node, Line, Leaf, Cell, Place, Clock, Updater, Volatile, Mark, Cached, Durable, node_words, slot_offset, leaf_count, kind_words, image_parts, image_words, part_of_word, behind_part, word_number, HasWord, row_parts, row_words, part_of_place, behind_start, place_number, HasPlace, at, word_at}
+use Rattle.pm_words.specs.Locations.{Word, Header, Root, Node, Line, Leaf, Cell, Location, Clock, Updater, Volatile, Mark, Cached, Durable, node_words, slot_offset, leaf_count, kind_words, image_parts, image_words, part_of_word, behind_part, word_number, HasWord, row_parts, row_words, part_of_address, behind_start, address_of, HasLocation, at, word_at}
 use Rattle.pm_words.proofs.Parts.{part_tells, part_within}
 
 cell_fits : (l : Layout) (kind k o : ℕ) → HasWord l (Cell kind k o) →
@@ -58,48 +58,48 @@ words_apart l v w has has' e =
     let told = part_tells (image_parts l) (part_of_word v) (part_of_word w) (behind_part l v) (behind_part l w) (word_fits l v has) (word_fits l w has') e in
     same_word l v w has has' told.0 told.1
 
-mark_fits : (l : Layout) (kind k : ℕ) → HasPlace l (Mark kind k) → (kind - 1) * leaf_count l + k < leaf_count l * 5
+mark_fits : (l : Layout) (kind k : ℕ) → HasLocation l (Mark kind k) → (kind - 1) * leaf_count l + k < leaf_count l * 5
 mark_fits l kind k has = mul-add-lt (kind - 1) (leaf_count l) k 5 (omega (arith, has.0, has.1)) has.2
 
-pub place_fits : (l : Layout) (p : Place) → HasPlace l p → behind_start l p < slice_index (row_parts l) (part_of_place p)
-place_fits l Clock has = let fits : 0 < 8 = omega arith in fits
-place_fits l Updater has = let fits : 1 < 8 = omega arith in fits
-place_fits l (Volatile n o) has = mul-add-lt n 16 o l.nodes has.0 has.1
-place_fits l (Mark kind k) has = mark_fits l kind k has
-place_fits l (Cached w) has = words_within l w has
-place_fits l (Durable w) has = words_within l w has
+pub address_fits : (l : Layout) (p : Location) → HasLocation l p → behind_start l p < slice_index (row_parts l) (part_of_address p)
+address_fits l Clock has = let fits : 0 < 8 = omega arith in fits
+address_fits l Updater has = let fits : 1 < 8 = omega arith in fits
+address_fits l (Volatile n o) has = mul-add-lt n 16 o l.nodes has.0 has.1
+address_fits l (Mark kind k) has = mark_fits l kind k has
+address_fits l (Cached w) has = words_within l w has
+address_fits l (Durable w) has = words_within l w has
 
-pub places_within : (l : Layout) (p : Place) → HasPlace l p → place_number l p < row_words l
-places_within l p has = part_within (row_parts l) (part_of_place p) (behind_start l p) (place_fits l p has)
+pub addresses_within : (l : Layout) (p : Location) → HasLocation l p → address_of l p < row_words l
+addresses_within l p has = part_within (row_parts l) (part_of_address p) (behind_start l p) (address_fits l p has)
 
-same_place : (l : Layout) (p q : Place) → HasPlace l p → HasPlace l q → part_of_place p ≡ part_of_place q →
+same_address : (l : Layout) (p q : Location) → HasLocation l p → HasLocation l q → part_of_address p ≡ part_of_address q →
     behind_start l p ≡ behind_start l q → p ≡ q
-same_place l Clock Clock has has' part e = λ x. Clock
-same_place l Updater Updater has has' part e = λ x. Updater
-same_place l (Volatile n o) (Volatile m i) has has' part e =
+same_address l Clock Clock has has' part e = λ x. Clock
+same_address l Updater Updater has has' part e = λ x. Updater
+same_address l (Volatile n o) (Volatile m i) has has' part e =
     let parts = same_from_place n o m i 16 has.1 has'.1 e in λ x. Volatile (parts.0 x) (parts.1 x)
-same_place l (Mark kind k) (Mark kind' k') has has' part e =
+same_address l (Mark kind k) (Mark kind' k') has has' part e =
     let parts = same_from_place (kind - 1) k (kind' - 1) k' (leaf_count l) has.2 has'.2 e in
     let kinds : kind ≡ kind' = omega (arith, parts.0, has.0, has'.0) in
     λ x. Mark (kinds x) (parts.1 x)
-same_place l (Cached v) (Cached w) has has' part e = ap Cached (words_apart l v w has has' e)
-same_place l (Durable v) (Durable w) has has' part e = ap Durable (words_apart l v w has has' e)
-same_place l p q has has' part e = absurd (omega arith)
+same_address l (Cached v) (Cached w) has has' part e = ap Cached (words_apart l v w has has' e)
+same_address l (Durable v) (Durable w) has has' part e = ap Durable (words_apart l v w has has' e)
+same_address l p q has has' part e = absurd (omega arith)
 
-pub places_apart : (l : Layout) (p q : Place) → HasPlace l p → HasPlace l q → place_number l p ≡ place_number l q → p ≡ q
-places_apart l p q has has' e =
-    let told = part_tells (row_parts l) (part_of_place p) (part_of_place q) (behind_start l p) (behind_start l q) (place_fits l p has) (place_fits l q has') e in
-    same_place l p q has has' told.0 told.1
+pub addresses_apart : (l : Layout) (p q : Location) → HasLocation l p → HasLocation l q → address_of l p ≡ address_of l q → p ≡ q
+addresses_apart l p q has has' e =
+    let told = part_tells (row_parts l) (part_of_address p) (part_of_address q) (behind_start l p) (behind_start l q) (address_fits l p has) (address_fits l q has') e in
+    same_address l p q has has' told.0 told.1
 
--- a store at one place leaves the word at any other
-pub at-set_other : (l : Layout) (words : List ℕ) (p q : Place) (word : ℕ) → HasPlace l p → HasPlace l q → q ≢ p →
-    at l (slice_set words (place_number l p) word) q ≡ at l words q
-at-set_other l words p q word has has' other = get_or-set_other words (place_number l p) (place_number l q) word 0 (λ e. other (places_apart l q p has' has e))
+-- a store at one address leaves the word at any other
+pub at-set_other : (l : Layout) (words : List ℕ) (p q : Location) (word : ℕ) → HasLocation l p → HasLocation l q → q ≢ p →
+    at l (slice_set words (address_of l p) word) q ≡ at l words q
+at-set_other l words p q word has has' other = get_or-set_other words (address_of l p) (address_of l q) word 0 (λ e. other (addresses_apart l q p has' has e))
 
--- a place has the word that was stored there
-pub at-set_same : (l : Layout) (words : List ℕ) (p : Place) (word : ℕ) → length words ≡ row_words l → HasPlace l p →
-    at l (slice_set words (place_number l p) word) p ≡ word
-at-set_same l words p word whole has = get_or-set_same words (place_number l p) word 0 (let within = places_within l p has in omega arith)
+-- a address has the word that was stored there
+pub at-set_same : (l : Layout) (words : List ℕ) (p : Location) (word : ℕ) → length words ≡ row_words l → HasLocation l p →
+    at l (slice_set words (address_of l p) word) p ≡ word
+at-set_same l words p word whole has = get_or-set_same words (address_of l p) word 0 (let within = addresses_within l p has in omega arith)
 
 -- likewise for the words of an image
 pub word_at-set_other : (l : Layout) (words : List ℕ) (v w : Word) (word : ℕ) → HasWord l v → HasWord l w → w ≢ v →

@@ -2,3 +2,4 @@ pub mod Apart
 pub mod Kept
 pub mod Made
 pub mod Parts
+pub mod Spelled

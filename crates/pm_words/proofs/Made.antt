@@ -6,11 +6,11 @@ use Rattle.std.specs.Int.{w64, from_le_bytes}
 use Rattle.std.specs.Prelude.{codes}
 use Rattle.pm_words.specs.declared.layout.Layout.{Layout}
 use Rattle.pm_words.specs.Layouts.{IsLayout}
-use Rattle.pm_words.specs.Places.{Place, HasPlace, IsVolatile, place_number, row_parts, part_of_place, behind_start, Word, Header, Root, Node, Line, Leaf, Cell, Cached, Durable, HasWord, image_parts, part_of_word, behind_part, image_words, row_words, volatile_words, word_number, word_at, cached_place, durable_place, at}
+use Rattle.pm_words.specs.Locations.{Location, HasLocation, IsVolatile, address_of, row_parts, part_of_address, behind_start, Word, Header, Root, Node, Line, Leaf, Cell, Cached, Durable, HasWord, image_parts, part_of_word, behind_part, image_words, row_words, volatile_words, word_number, word_at, cached_address, durable_address, at}
 use Rattle.pm_words.specs.Images.{IsImage, header, fresh_words, fresh_word}
 use Rattle.pm_words.specs.Rows.{IsRow, durable_row, row_of}
 use Rattle.pm_words.proofs.Parts.{earlier}
-use Rattle.pm_words.proofs.Apart.{place_fits, words_within, word_at-set_other, word_at-set_same}
+use Rattle.pm_words.proofs.Apart.{address_fits, words_within, word_at-set_other, word_at-set_same}
 
 length-zeros : (n : ℕ) → length (replicate {A = ℕ} n 0) ≡ n
 length-zeros n = length-replicate {A = ℕ} n 0
@@ -52,7 +52,7 @@ bare_fits l layout (suc (suc (suc (suc (suc zero))))) = lit< tt
 bare_fits l layout (suc (suc (suc (suc (suc (suc k)))))) = let none = zeros_are (image_words l - 6) k in omega arith
 
 -- a header word stands at its number
-header_at : (l : Layout) (words : List ℕ) (k : ℕ) → word_at l words (Header k) ≡ slice_index words k
+pub header_at : (l : Layout) (words : List ℕ) (k : ℕ) → word_at l words (Header k) ≡ slice_index words k
 header_at l words k = ap (slice_index words) (let same : 0 + k ≡ k = omega arith in same)
 
 six_words : (l : Layout) → 6 ≤ image_words l
@@ -85,17 +85,17 @@ fresh_at l (Cell kind k o) has = zero_at l (Cell kind k o) has (omega arith) (λ
 
 pub fresh_image : (l : Layout) → IsLayout l → IsImage l (fresh_words l)
 fresh_image l layout =
-    let place = word_number l (Leaf 0 3) in
-    let inside : place < length (bare l) = let within = words_within l (Leaf 0 3) (leaf_has l) in let size = length-bare l in
+    let address = word_number l (Leaf 0 3) in
+    let inside : address < length (bare l) = let within = words_within l (Leaf 0 3) (leaf_has l) in let size = length-bare l in
     omega arith in
     record {
       layout = layout;
-      whole = length-set (bare l) place 1 ∙ length-bare l;
+      whole = length-set (bare l) address 1 ∙ length-bare l;
       header_stands = λ k lt. fresh_at l (Header k) (omega arith) ∙ get_or_append_left (header l) (1 ∷ []) 0 k lt;
       fits = λ k. ⊎_elim
-          (λ (same : k ≡ place). subst (λ (n : ℕ). slice_index (fresh_words l) n < 2 ^ 64) (sym same) (let stored = get_or-set_same (bare l) place 1 0 inside in omega arith))
-          (λ (other : k ≡ place → ⊥). let kept = get_or-set_other (bare l) place k 1 0 other in let before = bare_fits l layout k in omega arith)
-          (cases_eq k place);
+          (λ (same : k ≡ address). subst (λ (n : ℕ). slice_index (fresh_words l) n < 2 ^ 64) (sym same) (let stored = get_or-set_same (bare l) address 1 0 inside in omega arith))
+          (λ (other : k ≡ address → ⊥). let kept = get_or-set_other (bare l) address k 1 0 other in let before = bare_fits l layout k in omega arith)
+          (cases_eq k address);
     }
 
 -- what the stores of the code make of a row of zeros
@@ -127,54 +127,54 @@ length-row_of l image whole =
     let c = length-append (zeros ++ image) image in
     omega arith
 
-row_of-volatile : (l : Layout) (image : List ℕ) (place : ℕ) → place < volatile_words l → slice_index (row_of l image) place ≡ 0
-row_of-volatile l image place lt =
+row_of-volatile : (l : Layout) (image : List ℕ) (address : ℕ) → address < volatile_words l → slice_index (row_of l image) address ≡ 0
+row_of-volatile l image address lt =
     let zeros : List ℕ = replicate (volatile_words l) 0 in
     let a = length-zeros (volatile_words l) in
     let b = length-append zeros image in
-    get_or_append_left (zeros ++ image) image 0 place (omega arith) ∙ get_or_append_left zeros image 0 place (omega arith) ∙
-    zeros_are (volatile_words l) place
+    get_or_append_left (zeros ++ image) image 0 address (omega arith) ∙ get_or_append_left zeros image 0 address (omega arith) ∙
+    zeros_are (volatile_words l) address
 
 row_of-cached : (l : Layout) (image : List ℕ) (word : ℕ) → length image ≡ image_words l → word < image_words l →
-    slice_index (row_of l image) (cached_place l word) ≡ slice_index image word
+    slice_index (row_of l image) (cached_address l word) ≡ slice_index image word
 row_of-cached l image word whole lt =
     let zeros : List ℕ = replicate (volatile_words l) 0 in
     let a = length-zeros (volatile_words l) in
     let b = length-append zeros image in
-    let there : cached_place l word ≡ length zeros + word = omega arith in
-    get_or_append_left (zeros ++ image) image 0 (cached_place l word) (omega arith) ∙ ap (slice_index (zeros ++ image)) there ∙
+    let there : cached_address l word ≡ length zeros + word = omega arith in
+    get_or_append_left (zeros ++ image) image 0 (cached_address l word) (omega arith) ∙ ap (slice_index (zeros ++ image)) there ∙
     get_or-append-add zeros image word 0
 
 row_of-durable : (l : Layout) (image : List ℕ) (word : ℕ) → length image ≡ image_words l →
-    slice_index (row_of l image) (durable_place l word) ≡ slice_index image word
+    slice_index (row_of l image) (durable_address l word) ≡ slice_index image word
 row_of-durable l image word whole =
     let zeros : List ℕ = replicate (volatile_words l) 0 in
     let a = length-zeros (volatile_words l) in
     let b = length-append zeros image in
-    let there : durable_place l word ≡ length (zeros ++ image) + word = omega arith in
+    let there : durable_address l word ≡ length (zeros ++ image) + word = omega arith in
     ap (slice_index (row_of l image)) there ∙ get_or-append-add (zeros ++ image) image word 0
 
-row_of-fits : (l : Layout) (image : List ℕ) → IsImage l image → (place : ℕ) → slice_index (row_of l image) place < 2 ^ 64
-row_of-fits l image is place = ⊎_elim
-    (λ (lt : place < volatile_words l). let none = row_of-volatile l image place lt in omega arith)
-    (λ (ge : volatile_words l ≤ place). ⊎_elim
-    (λ (lt : place < durable_place l 0).
-    let word : ℕ = place - volatile_words l in
-    let there : cached_place l word ≡ place = omega arith in
+row_of-fits : (l : Layout) (image : List ℕ) → IsImage l image → (address : ℕ) → slice_index (row_of l image) address < 2 ^ 64
+row_of-fits l image is address = ⊎_elim
+    (λ (lt : address < volatile_words l). let none = row_of-volatile l image address lt in omega arith)
+    (λ (ge : volatile_words l ≤ address). ⊎_elim
+    (λ (lt : address < durable_address l 0).
+    let word : ℕ = address - volatile_words l in
+    let there : cached_address l word ≡ address = omega arith in
     let twin = ap (slice_index (row_of l image)) (sym there) ∙ row_of-cached l image word is.whole (omega arith) in
     let small = is.fits word in omega arith)
-    (λ (ge : durable_place l 0 ≤ place).
-    let word : ℕ = place - durable_place l 0 in
-    let there : durable_place l word ≡ place = omega arith in
+    (λ (ge : durable_address l 0 ≤ address).
+    let word : ℕ = address - durable_address l 0 in
+    let there : durable_address l word ≡ address = omega arith in
     let twin = ap (slice_index (row_of l image)) (sym there) ∙ row_of-durable l image word is.whole in
     let small = is.fits word in omega arith)
-    (cases_lt place (durable_place l 0)))
-    (cases_lt place (volatile_words l))
+    (cases_lt address (durable_address l 0)))
+    (cases_lt address (volatile_words l))
 
 -- a volatile word of a new row is 0
-pub row_of-at_volatile : (l : Layout) (image : List ℕ) (p : Place) → HasPlace l p → IsVolatile p → at l (row_of l image) p ≡ 0
+pub row_of-at_volatile : (l : Layout) (image : List ℕ) (p : Location) → HasLocation l p → IsVolatile p → at l (row_of l image) p ≡ 0
 row_of-at_volatile l image p has volatile =
-    row_of-volatile l image (place_number l p) (let before = earlier (row_parts l) (part_of_place p) 3 (behind_start l p) 0 (place_fits l p has) volatile in omega arith)
+    row_of-volatile l image (address_of l p) (let before = earlier (row_parts l) (part_of_address p) 3 (behind_start l p) 0 (address_fits l p has) volatile in omega arith)
 
 pub row_of-row : (l : Layout) (image : List ℕ) → IsImage l image → IsRow l (row_of l image)
 row_of-row l image is = record {
@@ -193,15 +193,15 @@ row_of-at l image w is has = (row_of-cached l image (word_number l w) is.whole (
 -- a crash leaves the durable twin of each word
 pub durable_row-at : (l : Layout) (words : List ℕ) (w : Word) → word_at l (durable_row l words) w ≡ at l words (Durable w)
 durable_row-at l words w =
-    get_or-drop (durable_place l 0) words (word_number l w) 0 ∙
-    ap (slice_index words) (let same : durable_place l 0 + word_number l w ≡ durable_place l (word_number l w) = omega arith in same)
+    get_or-drop (durable_address l 0) words (word_number l w) 0 ∙
+    ap (slice_index words) (let same : durable_address l 0 + word_number l w ≡ durable_address l (word_number l w) = omega arith in same)
 
 pub durable_row-image : (l : Layout) (words : List ℕ) → IsRow l words → IsImage l (durable_row l words)
 durable_row-image l words row = record {
   layout = row.layout;
-  whole = let size = length-drop (durable_place l 0) words in let whole = row.whole in omega arith;
+  whole = let size = length-drop (durable_address l 0) words in let whole = row.whole in omega arith;
   header_stands = λ k lt. durable_row-at l words (Header k) ∙ row.durable k lt;
-  fits = λ k. let word = get_or-drop (durable_place l 0) words k 0 in let small = row.fits (durable_place l 0 + k) in omega arith;
+  fits = λ k. let word = get_or-drop (durable_address l 0) words k 0 in let small = row.fits (durable_address l 0 + k) in omega arith;
 }
 
 pub row_of-row_by : (l m : Layout) (image words zeros front : List ℕ) (volatile : ℕ) → IsImage l image → m ≡ l →

@@ -3,7 +3,7 @@ use Rattle.std.proofs.Common.{◌≡◌, ℕ, ◌+◌, ◌<◌, ◌≤◌, ⊎_e
 use Rattle.std.proofs.lemmas.Bool.{cases_lt}
 use Rattle.std.proofs.lemmas.List.{take-take, get_or-take, get_or_past}
 use Rattle.std.proofs.lemmas.List.Sums.{sum_by_more_le}
-use Rattle.pm_words.specs.Places.{start_of}
+use Rattle.pm_words.specs.Locations.{start_of}
 
 -- only a part of the list has room
 inside : (sizes : List ℕ) (k o : ℕ) → o < slice_index sizes k → k < length sizes
@@ -23,7 +23,7 @@ earlier sizes j k o p fits lt =
     let size = get_or-take k sizes j 0 lt in
     omega arith
 
--- the part and the place in it are told by the number
+-- the part and the address in it are told by the number
 pub part_tells : (sizes : List ℕ) (j k o p : ℕ) → o < slice_index sizes j → p < slice_index sizes k →
     start_of sizes j + o ≡ start_of sizes k + p → (j ≡ k) × (o ≡ p)
 part_tells sizes j k o p o_fits p_fits e = ⊎_elim

@@ -1,9 +1,10 @@
 -- Images: the header, which words make an image, and the fresh one.
-use Rattle.std.specs.Prelude.{◌≡◌, ℕ, zero, suc, ◌-◌, ◌^◌, ◌<◌, List, [], ◌∷◌, ◌++◌, length, replicate, slice_index, slice_set, codes}
+use Rattle.std.specs.Prelude.{◌≡◌, ℕ, zero, suc, ◌-◌, ◌^◌, ◌<◌, List, [], ◌∷◌, ◌++◌, length, replicate, slice_index}
+use Rattle.std.specs.Prelude.{slice_set, codes}
 use Rattle.std.specs.Int.{w64, from_le_bytes}
 use Rattle.pm_words.specs.declared.layout.Layout.{Layout}
 use Rattle.pm_words.specs.Layouts.{IsLayout}
-use Rattle.pm_words.specs.Places.{Word, Header, Root, Node, Line, Leaf, Cell, image_words, word_number, word_at}
+use Rattle.pm_words.specs.Locations.{Word, Header, Root, Node, Line, Leaf, Cell, image_words, word_number, word_at}
 
 -- a row of words, and the layout that tells which word stands where
 pub record Row : Type 0 where

@@ -1,6 +1,7 @@
+pub mod Bytes
 pub mod Images
 pub mod Laws
 pub mod Layouts
-pub mod Places
+pub mod Locations
 pub mod Rows
 pub mod Turns

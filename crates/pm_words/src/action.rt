@@ -1,14 +1,14 @@
-/// One action on one word. A place is a number in the row of the volatile words, the cached and the durable twins.
+/// One action on one word. A address is a number in the row of the volatile words, the cached and the durable twins.
 #[derive(Clone, Copy, PartialEq, Eq, Debug)]
 pub enum Action {
     Load(u64),
-    /// The place and the new word.
+    /// The address and the new word.
     Store(u64, u64),
-    /// The place, the word that must stand there and the new one.
+    /// The address, the word that must stand there and the new one.
     Exchange(u64, u64, u64),
-    /// Adds one to the word at the place.
+    /// Adds one to the word at the address.
     Add(u64),
-    /// The place of a cached twin, and the value for its durable twin.
+    /// The address of a cached twin, and the value for its durable twin.
     Drain(u64, u64),
 }
 

@@ -1,6 +1,6 @@
 ghost use Rattle.std.specs.Prelude.{◌≡◌, ◌<◌, IfOk, slice_index};
 ghost use Rattle.pm_words.specs.Layouts.{IsLayout};
-ghost use Rattle.pm_words.specs.Places.{image_words};
+ghost use Rattle.pm_words.specs.Locations.{image_words};
 ghost use Rattle.pm_words.specs.Images.{IsImage, fresh_words};
 
 use crate::NoMemory;
@@ -9,8 +9,11 @@ use crate::offsets::{header, leaf};
 use std::alloc::Global;
 use std::marker::Model;
 
+/// The text that begins each image, as the bytes of word 0.
+pub(crate) const MAGIC: &[u8; 8] = b"PACCAT01";
+
 /// The format of the images that are made and read.
-const FORMAT: u64 = 1;
+pub(crate) const FORMAT: u64 = 1;
 
 /// The generation of a fresh image.
 const FIRST_GENERATION: u64 = 1;
@@ -39,7 +42,7 @@ impl Image {
         ensures { IfOk result (λ i. i ≡ record { layout = layout; words = fresh_words layout }) }
     {
         let mut words = vec![in alloc; 0u64; layout.image_words() as usize]?;
-        words[header::MAGIC as usize] = u64::from_le_bytes(*b"PACCAT01");
+        words[header::MAGIC as usize] = u64::from_le_bytes(*MAGIC);
         words[header::FORMAT as usize] = FORMAT;
         words[header::NODES as usize] = layout.nodes();
         words[header::SLOTS as usize] = layout.slots();

@@ -1,6 +1,10 @@
-//! Laws of the places, the rows and the images, for the proofs of crates above. The functions do nothing: each names what
-//! is proved, so that it can't go unproved.
-ghost use Rattle.pm_words.specs.Laws.{WordsWithin, WordsApart, PlacesWithin, PlacesApart, SlotsWithin, SlotsApart, StoreStands, StoreLeaves, DrainsTwin, NamesCached, OutsideHeader, DrainsFreely, ActKeepsRow, EvictionKeepsRow, CrashLeavesImage, CrashLeavesDurable, ImageMakesRow, TwinsAreImage, VolatileIsZero, FreshIsImage, FreshByName};
+//! Laws of the addresses, the rows and the images, for the proofs of crates above. The functions do nothing: each names
+//! what is proved, so that it can't go unproved.
+ghost use Rattle.pm_words.specs.Laws.{WordsWithin, WordsApart, AddressesWithin, AddressesApart, SlotsWithin};
+ghost use Rattle.pm_words.specs.Laws.{SlotsApart, StoreStands, StoreLeaves, DrainsTwin, NamesCached, OutsideHeader};
+ghost use Rattle.pm_words.specs.Laws.{DrainsFreely, ActKeepsRow, EvictionKeepsRow, CrashLeavesImage};
+ghost use Rattle.pm_words.specs.Laws.{CrashLeavesDurable, ImageMakesRow, TwinsAreImage, VolatileIsZero, FreshIsImage};
+ghost use Rattle.pm_words.specs.Laws.{FreshByName};
 
 /// Named words are within an image, and no two have one number.
 pub fn words_apart()
@@ -8,10 +12,10 @@ pub fn words_apart()
     ensures apart { WordsApart }
 {}
 
-/// Named places are within a row, and no two have one number.
-pub fn places_apart()
-    ensures within { PlacesWithin }
-    ensures apart { PlacesApart }
+/// Named addresses are within a row, and no two have one number.
+pub fn addresses_apart()
+    ensures within { AddressesWithin }
+    ensures apart { AddressesApart }
 {}
 
 /// The words of slots are within a node, and no two have one offset.
@@ -20,7 +24,7 @@ pub fn slots_apart()
     ensures apart { SlotsApart }
 {}
 
-/// A store changes the word at its own place alone.
+/// A store changes the word at its own address alone.
 pub fn stores_apart()
     ensures stands { StoreStands }
     ensures leaves { StoreLeaves }
@@ -32,7 +36,7 @@ pub fn drains_twin()
     ensures cached { NamesCached }
 {}
 
-/// Which places may be stored into and drained whatever the header is.
+/// Which addresses may be stored into and drained whatever the header is.
 pub fn outside_header()
     ensures stores { OutsideHeader }
     ensures drains { DrainsFreely }

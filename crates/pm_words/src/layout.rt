@@ -1,6 +1,9 @@
 ghost use Rattle.std.specs.Prelude.{◌≡◌, ◌+◌, ◌<◌, ◌≤◌, ◌↔◌, IsOk, IfOk, IsErrOf};
 ghost use Rattle.pm_words.specs.Layouts.{IsNodeCount, IsSlotCount, IsCallerCount, IsLayout};
-ghost use Rattle.pm_words.specs.Places.{image_parts, start_of, image_words, volatile_words, row_words, node_words, leaf_count, kind_words, word_number, place_number, cached_place, durable_place, HasWord, HasPlace, Node, Line, Leaf, Cell, Volatile, Mark};
+ghost use Rattle.pm_words.specs.Locations.{image_parts, start_of, image_words, volatile_words, row_words, node_words};
+ghost use Rattle.pm_words.specs.Locations.{leaf_count, kind_words, word_number, address_of, cached_address};
+ghost use Rattle.pm_words.specs.Locations.{durable_address, HasWord, HasLocation, Node, Line, Leaf, Cell, Volatile};
+ghost use Rattle.pm_words.specs.Locations.{Mark};
 
 use crate::{KEY, LINE, LINES};
 
@@ -18,8 +21,8 @@ pub struct LayoutFault {
     pub field: Field,
 }
 
-/// How many nodes, slots a node and callers a catalogue has. It tells where each word stands: an image word by its
-/// number in the image, a place by its number in the row of the volatile words, the cached and the durable twins.
+/// How many nodes, slots of a node and callers a catalogue has. Tells where each word stands: the number of a word in
+/// the image, and its address in the row, which has the volatile words, then the cached twins, then the durable ones.
 #[derive(Clone, Copy, PartialEq, Eq, Debug)]
 pub struct Layout {
     nodes: u64,
@@ -36,7 +39,8 @@ impl Layout {
 
         // The first number out of its range is named.
         ensures bad_nodes { IsErrOf result (record { field = Field.Nodes }) ↔ ¬ IsNodeCount nodes }
-        ensures bad_slots { IsErrOf result (record { field = Field.Slots }) ↔ (IsNodeCount nodes × ¬ IsSlotCount slots) }
+        ensures bad_slots { IsErrOf result (record { field = Field.Slots }) ↔ (IsNodeCount nodes ×
+            ¬ IsSlotCount slots) }
         ensures bad_callers { IsErrOf result (record { field = Field.Callers })
             ↔ (IsNodeCount nodes × IsSlotCount slots × ¬ IsCallerCount callers) }
     {
@@ -92,21 +96,21 @@ impl Layout {
         self.leaves_start() + 392 * self.leaf_count()
     }
 
-    /// The place of an image word's cached twin.
+    /// The address of an image word's cached twin.
     pub fn cached(&self, word: u64) -> u64
         requires layout { IsLayout self.now }
         requires range { word < image_words self.now }
-        ensures place { result ≡ cached_place self.now word }
+        ensures address { result ≡ cached_address self.now word }
         ensures within { result < row_words self.now }
     {
         self.volatile_words() + word
     }
 
-    /// The place of an image word's durable twin.
+    /// The address of an image word's durable twin.
     pub fn durable(&self, word: u64) -> u64
         requires layout { IsLayout self.now }
         requires range { word < image_words self.now }
-        ensures place { result ≡ durable_place self.now word }
+        ensures address { result ≡ durable_address self.now word }
         ensures within { result < row_words self.now }
     {
         self.volatile_words() + self.image_words() + word
@@ -152,21 +156,21 @@ impl Layout {
         self.cells_start(kind) + number * kind_words(kind) + offset
     }
 
-    /// The place of a node's volatile word.
+    /// The address of a node's volatile word.
     pub fn node_volatile(&self, node: u64, offset: u64) -> u64
         requires layout { IsLayout self.now }
-        requires range { HasPlace self.now (Volatile node offset) }
-        ensures place { result ≡ place_number self.now (Volatile node offset) }
+        requires range { HasLocation self.now (Volatile node offset) }
+        ensures address { result ≡ address_of self.now (Volatile node offset) }
         ensures within { result < row_words self.now }
     {
         8 + node * 16 + offset
     }
 
-    /// The place of the mark of a leaf (kind 1) or of a cell (kinds 2 to 5).
+    /// The address of the mark of a leaf (kind 1) or of a cell (kinds 2 to 5).
     pub fn mark(&self, kind: u64, number: u64) -> u64
         requires layout { IsLayout self.now }
-        requires range { HasPlace self.now (Mark kind number) }
-        ensures place { result ≡ place_number self.now (Mark kind number) }
+        requires range { HasLocation self.now (Mark kind number) }
+        ensures address { result ≡ address_of self.now (Mark kind number) }
         ensures within { result < row_words self.now }
     {
         8 + 16 * self.nodes + (kind - 1) * self.leaf_count() + number

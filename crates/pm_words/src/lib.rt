@@ -1,9 +1,10 @@
-//! The words of a catalogue in simulated persistent memory: which word stands at which place, what one action does to
+//! The words of a catalogue in simulated persistent memory: which word stands at which address, what one action does to
 //! the rows of words, and what a crash leaves of them.
 #![tactic(auto)]
 
 mod action;
 mod again;
+mod bytes;
 mod image;
 pub mod laws;
 mod layout;
@@ -14,6 +15,7 @@ mod steps;
 
 pub use action::Action;
 pub use again::Again;
+pub use bytes::ImageFault;
 pub use image::Image;
 pub use layout::{Field, Layout, LayoutFault};
 pub use machine::{Machine, Turn};

@@ -1,7 +1,8 @@
 ghost use Rattle.std.specs.Prelude.{◌≡◌, ◌+◌, ◌<◌, IfOk};
 ghost use Rattle.pm_words.specs.Layouts.{IsLayout};
-ghost use Rattle.pm_words.specs.Places.{image_words, row_words};
-ghost use Rattle.pm_words.specs.Rows.{IsRow, MayName, CanAct, place_of, acted, got, evicted, durable_row, row_of};
+ghost use Rattle.pm_words.specs.Locations.{image_words, row_words};
+ghost use Rattle.pm_words.specs.Rows.{IsRow, MayName, CanAct, action_address, acted, got, evicted, durable_row, row_of};
+ghost use Rattle.pm_words.specs.declared.action.Action.TheVariants.{Store};
 
 use crate::NoMemory;
 use crate::action::Action;
@@ -13,7 +14,7 @@ use std::marker::Model;
 use std::sync::ledger::Ledger;
 
 /// The rows of words in simulated persistent memory: the volatile words, then the cached twins of the image words, then
-/// their durable twins. A place is a number in this order.
+/// their durable twins. A address is a number in this order.
 #[derive(Drop)]
 pub struct Memory {
     layout: Layout,
@@ -43,6 +44,22 @@ impl Memory {
         Ok(Memory { layout, words })
     }
 
+    /// The memory with these words: as many as the layout has, with its header in both twins.
+    pub fn of_words(layout: Layout, words: Vec<u64>) -> Memory
+        requires { IsRow layout words.items }
+        ensures { result ≡ record { layout = layout; words = words.items } }
+    {
+        Memory { layout, words }
+    }
+
+    /// Its words, by their numbers.
+    pub fn words(&self) -> &[u64]
+        ensures words { result.now ≡ self.now.words }
+        ensures row { IsRow self.now.layout self.now.words }
+    {
+        self.words.as_slice()
+    }
+
     /// The layout of its image.
     pub fn layout(&self) -> Layout
         ensures layout { result ≡ self.now.layout }
@@ -51,8 +68,8 @@ impl Memory {
         self.layout
     }
 
-    /// Does one action, and gives its number: the word loaded, the word found by an exchange, the word before an add, and
-    /// 0 for a store or a drain.
+    /// Does one action, and gives its number: the word loaded, the word found by an exchange, the word before an add,
+    /// and 0 for a store or a drain.
     pub fn act<L: Ledger>(&mut self, action: Action, steps: &mut Steps<L>) -> u64
         requires { CanAct self.old.layout self.old.words action }
         ensures row { self.new ≡ record self.old { words = acted self.old.layout self.old.words action } }
@@ -60,10 +77,18 @@ impl Memory {
         ensures tick { steps.new ≡ steps.old + 1 }
     {
         steps.tick();
-        let place = place_of(&self.layout, action) as usize;
-        let found = self.words[place];
-        self.words[place] = action.word_after(found);
+        let address = action_address(&self.layout, action) as usize;
+        let found = self.words[address];
+        self.words[address] = action.word_after(found);
         action.given(found)
+    }
+
+    /// Stores a word, and counts it as no step: for whoever makes the rows ready before any call runs.
+    pub fn store(&mut self, address: u64, word: u64)
+        requires { CanAct self.old.layout self.old.words (Store address word) }
+        ensures { self.new ≡ record self.old { words = acted self.old.layout self.old.words (Store address word) } }
+    {
+        self.words[address as usize] = word;
     }
 
     /// Copies the cached twin of an image word to its durable twin.
@@ -85,18 +110,18 @@ impl Memory {
     }
 }
 
-/// The place of the word that an action reads or writes: of a drain the durable twin.
-fn place_of(layout: &Layout, action: Action) -> u64
+/// The address of the word that an action reads or writes: of a drain the durable twin.
+fn action_address(layout: &Layout, action: Action) -> u64
     requires layout { IsLayout layout.now }
     requires names { MayName layout.now action }
-    ensures place { result ≡ place_of layout.now action }
+    ensures address { result ≡ action_address layout.now action }
     ensures within { result < row_words layout.now }
 {
     match action {
-        Action::Load(place)
-        | Action::Store(place, _)
-        | Action::Exchange(place, _, _)
-        | Action::Add(place) => place,
-        Action::Drain(place, _) => place + layout.image_words(),
+        Action::Load(address)
+        | Action::Store(address, _)
+        | Action::Exchange(address, _, _)
+        | Action::Add(address) => address,
+        Action::Drain(address, _) => address + layout.image_words(),
     }
 }

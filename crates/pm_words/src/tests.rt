@@ -1,5 +1,7 @@
 ghost use Rattle.std.specs.Prelude.{◌≡◌, ◌≢◌, ℕ, ◌<◌, ◌≤◌};
-ghost use Rattle.pm_words.specs.Places.{image_words, HasWord, Node, Cached, at};
+ghost use Rattle.pm_words.specs.Locations.{image_words, HasWord, Node, Cached, at};
+
+mod stores;
 
 use crate::offsets::{header, leaf, node, volatile};
 use crate::{Action, Field, Image, Layout, LayoutFault, Memory, Steps};
@@ -33,7 +35,7 @@ fn words_of_a_small_layout(rt: HostRuntime) -> Result<(), Fail> {
         (small.mark(5, 5), 69, "last mark"),
         (small.cached(0), 70, "first cached twin"),
         (small.durable(0), 2566, "first durable twin"),
-        (small.durable(2495), 5061, "last place"),
+        (small.durable(2495), 5061, "last address"),
     ];
     for (number, want, what) in found {
         assert_eq!(rt; number, want, "{what}");
@@ -90,16 +92,16 @@ fn load<L: Ledger>(memory: &mut Memory, word: u64, steps: &mut Steps<L>) -> u64
     requires { word < image_words memory.old.layout }
     ensures { memory.new.layout ≡ memory.old.layout }
 {
-    let place = memory.layout().cached(word);
-    memory.act(Action::Load(place), steps)
+    let address = memory.layout().cached(word);
+    memory.act(Action::Load(address), steps)
 }
 
 fn store<L: Ledger>(memory: &mut Memory, word: u64, value: u64, steps: &mut Steps<L>) -> u64
     requires { (8 ≤ word) × (word < image_words memory.old.layout) }
     ensures { memory.new.layout ≡ memory.old.layout }
 {
-    let place = memory.layout().cached(word);
-    memory.act(Action::Store(place, value), steps)
+    let address = memory.layout().cached(word);
+    memory.act(Action::Store(address, value), steps)
 }
 
 fn exchange<L: Ledger>(
@@ -112,8 +114,8 @@ fn exchange<L: Ledger>(
     requires { (8 ≤ word) × (word < image_words memory.old.layout) }
     ensures { memory.new.layout ≡ memory.old.layout }
 {
-    let place = memory.layout().cached(word);
-    memory.act(Action::Exchange(place, old, new), steps)
+    let address = memory.layout().cached(word);
+    memory.act(Action::Exchange(address, old, new), steps)
 }
 
 /// One is added only to a word below 2^63.
@@ -121,10 +123,10 @@ fn add<L: Ledger>(memory: &mut Memory, word: u64, steps: &mut Steps<L>) -> Optio
     requires { (8 ≤ word) × (word < image_words memory.old.layout) }
     ensures { memory.new.layout ≡ memory.old.layout }
 {
-    let place = memory.layout().cached(word);
-    let found = memory.act(Action::Load(place), steps);
+    let address = memory.layout().cached(word);
+    let found = memory.act(Action::Load(address), steps);
     if found < 1 << 63 {
-        return Some(memory.act(Action::Add(place), steps));
+        return Some(memory.act(Action::Add(address), steps));
     }
     None
 }
@@ -133,11 +135,12 @@ fn drain<L: Ledger>(memory: &mut Memory, word: u64, value: u64, steps: &mut Step
     requires { (8 ≤ word) × (word < image_words memory.old.layout) }
     ensures { memory.new.layout ≡ memory.old.layout }
 {
-    let place = memory.layout().cached(word);
-    memory.act(Action::Drain(place, value), steps)
+    let address = memory.layout().cached(word);
+    memory.act(Action::Drain(address, value), steps)
 }
 
-/// A store into one node's bitmap leaves each word of another node: told by the names of the places, with no arithmetic.
+/// A store into one node's bitmap leaves each word of another node: told by the names of the addresses, with no
+/// arithmetic.
 fn store_bitmap<L: Ledger>(memory: &mut Memory, node: u64, bitmap: u64, steps: &mut Steps<L>)
     requires { node < memory.old.layout.nodes }
     ensures stored { at memory.new.layout memory.new.words (Cached (Node node 1)) ≡ bitmap }
@@ -145,8 +148,8 @@ fn store_bitmap<L: Ledger>(memory: &mut Memory, node: u64, bitmap: u64, steps: &
         → at memory.new.layout memory.new.words (Cached (Node n o)) ≡ at memory.old.layout memory.old.words (Cached (Node n o)) }
 {
     let layout = memory.layout();
-    let place = layout.cached(layout.node_word(node, node::BITMAP));
-    memory.act(Action::Store(place, bitmap), steps);
+    let address = layout.cached(layout.node_word(node, node::BITMAP));
+    memory.act(Action::Store(address, bitmap), steps);
 }
 
 /// What one action after another gives on a fresh memory, and the image after a crash.

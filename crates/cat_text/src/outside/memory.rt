@@ -1,5 +1,6 @@
 //! A source and a sink in memory, whose calls fail by a plan and move at most so many bytes.
-ghost use Rattle.std.specs.Prelude.{◌≡◌, ◌≢◌, ◌+◌, ◌<◌, ◌≤◌, ◌↔◌, ◌++◌, [], Some, length, take, drop, min, vec_len, IfOk, IsErr, OnOk, OnErr};
+ghost use Rattle.std.specs.Prelude.{◌≡◌, ◌≢◌, ◌+◌, ◌<◌, ◌≤◌, ◌↔◌, ◌++◌, [], Some, length, take, drop, min, vec_len};
+ghost use Rattle.std.specs.Prelude.{IfOk, IsErr, OnOk, OnErr};
 ghost use Rattle.cat_text.specs.OutsideMemory.{Feed, Store, IsNextToFail, after_call, after_fault};
 
 use super::plan::FaultPlan;
@@ -61,7 +62,8 @@ impl Source for MemorySource {
 
     fn read(&mut self, into: &mut [u8]) -> Result<usize, Failed>
         ensures fails { IsErr result ↔ IsNextToFail self.old.plan }
-        ensures count { IfOk result (λ taken. taken ≡ min (min (length into.old) self.old.largest) (length self.old.left)) }
+        ensures count { IfOk result (λ taken. taken ≡ min (min (length into.old) self.old.largest)
+            (length self.old.left)) }
         ensures within { IfOk result (λ taken. taken ≤ length into.new) }
         ensures takes { IfOk result (λ taken. self.old.left ≡ take taken into.new ++ self.new.left) }
         ensures ends { IfOk result (λ taken. taken ≡ 0 → 0 < length into.new → self.new.left ≡ []) }

@@ -1,5 +1,6 @@
 //! A source of bytes, and the loop that reads one to its end.
-ghost use Rattle.std.specs.Prelude.{◌≡◌, ◌≢◌, ℕ, ◌+◌, ◌<◌, ◌≤◌, Option, List, [], length, take, vec_len, IfOk, OnOk, OnErr, IfSome};
+ghost use Rattle.std.specs.Prelude.{◌≡◌, ◌≢◌, ℕ, ◌+◌, ◌<◌, ◌≤◌, Option, List, [], length, take, vec_len, IfOk, OnOk};
+ghost use Rattle.std.specs.Prelude.{OnErr, IfSome};
 ghost use Rattle.std.specs.Io.KnownBytes.{Consumes, Keeps, IsAtEnd};
 ghost use Rattle.cat_text.specs.Outside.{ConsumesAtMost, Moves};
 ghost use Rattle.cat_text.specs.declared.outside.source.ReadFault.TheVariants.{Failed as ReadFailed, NoMemory};
