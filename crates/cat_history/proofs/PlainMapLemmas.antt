@@ -58,19 +58,19 @@ len-map_of (p ∷ ps) differ =
 abbrev pub HasName : List Pair → ℕ → List ℕ → Type 0
 HasName ps i n = (d : Pair) → (get_or ps i d).name ≡ n
 
-pub at-place : (ps : List Pair) (i : ℕ) (n : List ℕ) (d : Pair) → NamesDiffer ps → i < length ps → HasName ps i n →
+pub at-position : (ps : List Pair) (i : ℕ) (n : List ℕ) (d : Pair) → NamesDiffer ps → i < length ps → HasName ps i n →
     at (map_of ps) n ≡ Some (get_or ps i d).value
-at-place [] i n d differ within named = absurd (omega (arith, within))
-at-place (p ∷ ps) zero n d differ within named =
+at-position [] i n d differ within named = absurd (omega (arith, within))
+at-position (p ∷ ps) zero n d differ within named =
     at-cons p ps n ∙ ap (λ b. cond b (Some p.value) (at (map_of ps) n)) ((same-Decides n p.name).1 (sym (named d)))
-at-place (p ∷ ps) (suc i) n d differ within named =
-    let later : at (map_of ps) n ≡ Some (get_or ps i d).value = at-place ps i n d differ.1 (omega (arith, within)) named in
+at-position (p ∷ ps) (suc i) n d differ within named =
+    let later : at (map_of ps) n ≡ Some (get_or ps i d).value = at-position ps i n d differ.1 (omega (arith, within)) named in
     at-other p ps n (λ e. some≢none (get_or ps i d).value (sym later ∙ ap (at (map_of ps)) e ∙ differ.0)) ∙ later
 
 -- a pair's name is no later one's
 apart : (p : Pair) (ps : List Pair) (i : ℕ) (n : List ℕ) → NamesDiffer (p ∷ ps) → i < length ps → HasName ps i n → p.name ≢ n
 apart p ps i n differ within named e =
-    some≢none (get_or ps i p).value (sym (at-place ps i n p differ.1 within named) ∙ ap (at (map_of ps)) (sym e) ∙ differ.0)
+    some≢none (get_or ps i p).value (sym (at-position ps i n p differ.1 within named) ∙ ap (at (map_of ps)) (sym e) ∙ differ.0)
 
 -- what changes at one name behind a pair changes there with it
 at-cons_changed : (p : Pair) (before after : List Pair) (n : List ℕ) (w : Option ℕ) (q : List ℕ) → p.name ≢ n →

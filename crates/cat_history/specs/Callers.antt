@@ -11,10 +11,11 @@ callers_among callers = distinct_count nat_eq callers
 abbrev pub PlacesKeepLimit : ℕ → List ℕ → List Write → Type 0
 PlacesKeepLimit limit callers writes = (place : ℕ) → place < length writes → place + 1 < limit + callers_among callers
 
--- Each write was begun while the limit was not yet reached, and one caller's writes follow one another: so from the place
--- before the limit on, no caller has two.
+-- Each write was begun while the limit was not yet reached, and one caller's writes follow one another: so from the
+-- place before the limit on, no caller has two.
 abbrev pub LateWritesAreFew : Type 0
 LateWritesAreFew = (limit : ℕ) (callers : List ℕ) (writes : List Write) → (0 < length writes → 0 < limit) →
     ((place : ℕ) (write : Write) → slice_get writes place ≡ Some write → Contains callers write.caller) →
-    ((p q : ℕ) (v w : Write) → slice_get writes p ≡ Some v → slice_get writes q ≡ Some w → p < q → limit ≤ p + 1 → v.caller ≢ w.caller) →
+    ((p q : ℕ) (v w : Write) → slice_get writes p ≡ Some v → slice_get writes q ≡ Some w → p < q → limit ≤ p + 1 →
+    v.caller ≢ w.caller) →
     PlacesKeepLimit limit callers writes

@@ -49,7 +49,8 @@ PutsWithoutRoom room m (Del name) = ⊥
 -- A call is answered full exactly where it is a put of a name that the map lacks while it has as many names as there
 -- is room for.
 abbrev pub IsFullExactly : ℕ → Map → List Record → Type 0
-IsFullExactly room base records = HoldsAlong (λ m place r. (r.reply ≡ Full) ↔ PutsWithoutRoom room m r.op) base 0 records
+IsFullExactly room base records =
+    HoldsAlong (λ m place r. (r.reply ≡ Full) ↔ PutsWithoutRoom room m r.op) base 0 records
 
 -- Whoever alone has calls, and however they are full: a round whose calls are answered at once is legal.
 abbrev pub LoneRoundsAreLegal : Type 0

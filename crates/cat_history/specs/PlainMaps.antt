@@ -13,7 +13,10 @@ pub record RoomyMap : Type 0 where
 -- It is stored as the pair of its fields.
 abbrev pub roomy_map_code : Coded RoomyMap
 roomy_map_code =
-    code_by (Map × ℕ) (coded× (map.code (coded_list coded_ℕ) coded_ℕ) coded_ℕ) (λ m. (m.contents, m.room)) (λ p. record { contents = p.0; room = p.1 }) (λ _. refl)
+    code_by (Map × ℕ) (coded× (map.code (coded_list coded_ℕ) coded_ℕ) coded_ℕ) (λ m. (
+      m.contents,
+      m.room,
+    )) (λ p. record { contents = p.0; room = p.1 }) (λ _. refl)
 
 -- No name stands twice: none stands again behind its pair.
 abbrev pub NamesDiffer : List Pair → Type 0

@@ -32,7 +32,8 @@ IsAnswer base writes (Del name) Full = ⊥
 
 -- Of two records of one caller, the earlier call ends before the later one starts.
 abbrev pub KeepsCallersOrder : List Record → Type 0
-KeepsCallersOrder records = (r s : Record) → Contains records r → Contains records s → r.caller ≡ s.caller → r.index < s.index →
+KeepsCallersOrder records = (r s : Record) → Contains records r → Contains records s → r.caller ≡ s.caller →
+    r.index < s.index →
     IfSome (interval r) (λ first. IfSome (interval s) (λ second. first.end ≤ second.start))
 
 -- A legal round from a base map: each call has its record, each write its place, each reply is that of the map at

@@ -9,14 +9,16 @@ pub fn lone_round_law()
     ensures { LoneRoundsAreLegal }
 {}
 
-/// A map that has under each name what it had, or what a change that was cut off leaves, is one that a crash may leave.
+/// What a crash may leave of a map. Let some changes be cut off, of different names or not. If another map has under
+/// each name what the map had, or what one of these changes leaves there, then it is the map after those of them, in
+/// their order, that are found in it.
 pub fn crash_end_law()
     ensures law { OldOrCutIsCrashEnd }
     ensures cases { NoneOrOneIsCrashEnd }
 {}
 
-/// Where no caller has two writes from the place before a limit on, the writes go past the limit by fewer places than
-/// there are callers.
+/// How far writes go past a limit. If no caller has two writes from the place `limit - 1` on, then each place of a write
+/// is below `limit` plus the number of callers, minus one.
 pub fn late_writes_law()
     ensures { LateWritesAreFew }
 {}

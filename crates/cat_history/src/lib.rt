@@ -4,14 +4,13 @@
 //! of, and the plain map that serves as the slow program of the definitions.
 #![tactic(auto)]
 
-mod laws;
+pub mod laws;
 mod listed;
 mod map;
 mod op;
 mod plain;
 mod record;
 
-pub use laws::{crash_end_law, late_writes_law, lone_round_law};
 pub use listed::Listed;
 pub use map::{Full, NameMap};
 pub use op::{CallerOp, Change, Op, Write};

@@ -24,7 +24,8 @@ pub trait NameMap {
     /// How many more calls can be made of it. A look-up, a put and a removal use up one at most.
     ghost calls_left: { Self → ℕ };
 
-    /// The number of a name; None where the map lacks it. The look-up may change how the map is kept, not what it holds.
+    /// The number of a name; None where the map lacks it. The look-up may change how the map is kept, not what it
+    /// holds.
     fn get(&mut self, name: &Name) -> Option<u64>
         requires { 0 < calls_left self.old }
         ensures number { result ≡ at (contents self.old) name.now }

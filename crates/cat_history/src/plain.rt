@@ -59,13 +59,13 @@ impl NameMap for PlainMap {
     ghost calls_left = { λ _. 2 ^ 64 };
 
     fn get(&mut self, name: &Name) -> Option<u64> {
-        let place = place_of(&self.pairs, name)?;
-        Some(self.pairs[place].value)
+        let position = position_of(&self.pairs, name)?;
+        Some(self.pairs[position].value)
     }
 
     fn put(&mut self, name: &Name, value: u64) -> Result<Option<u64>, Full> {
-        if let Some(place) = place_of(&self.pairs, name) {
-            let old = mem::replace(&mut self.pairs[place].value, value);
+        if let Some(position) = position_of(&self.pairs, name) {
+            let old = mem::replace(&mut self.pairs[position].value, value);
             return Ok(Some(old));
         }
         if self.pairs.len() == self.room {
@@ -77,8 +77,8 @@ impl NameMap for PlainMap {
     }
 
     fn del(&mut self, name: &Name) -> Option<u64> {
-        let place = place_of(&self.pairs, name)?;
-        Some(self.pairs.remove(place).value)
+        let position = position_of(&self.pairs, name)?;
+        Some(self.pairs.remove(position).value)
     }
 
     fn len(&self) -> u64 {
@@ -86,10 +86,10 @@ impl NameMap for PlainMap {
     }
 }
 
-/// The place of the pair with this name.
-fn place_of(pairs: &[Pair], name: &Name) -> Option<usize>
-    ensures within { IfSome result (λ place. place < length pairs.now) }
-    ensures named { IfSome result (λ place. (d : Pair) → (slice_index_or pairs.now place d).name ≡ name.now) }
+/// The position of the pair with this name.
+fn position_of(pairs: &[Pair], name: &Name) -> Option<usize>
+    ensures within { IfSome result (λ position. position < length pairs.now) }
+    ensures named { IfSome result (λ position. (d : Pair) → (slice_index_or pairs.now position d).name ≡ name.now) }
     ensures none { IfNone result (All (λ pair. pair.name ≢ name.now) pairs.now) }
 {
     pairs.iter().position(|pair| pair.name == *name)

@@ -1,5 +1,6 @@
 -- What a name is, the order of names, the words in which a name is kept, and its fingerprint.
-use Rattle.std.specs.Prelude.{◌≡◌, ℕ, zero, suc, ◌+◌, ◌*◌, ◌%◌, ◌≤◌, ◌==◌, not, List, [], ◌∷◌, length, take, drop, All, Some, slice_get, take_while}
+use Rattle.std.specs.Prelude.{◌≡◌, ℕ, zero, suc, ◌+◌, ◌*◌, ◌%◌, ◌≤◌, ◌==◌, not, List, [], ◌∷◌, length, take, drop, All}
+use Rattle.std.specs.Prelude.{Some, slice_get, take_while}
 use Rattle.std.specs.Int.{w64, from_be_bytes, to_be_bytes}
 use Rattle.std.specs.List.{flat_map}
 use Rattle.std.specs.Ordering.{nat_cmp}

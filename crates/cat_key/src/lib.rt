@@ -4,9 +4,11 @@
 //! as three words, the bytes big-endian and padded with zeros, so that comparing words compares names.
 #![tactic(auto)]
 
-ghost use Rattle.std.specs.Prelude.{◌≡◌, ℕ, ◌*◌, ◌<◌, ◌≤◌, ◌↔◌, List, [], length, IsOk, IfOk, IsErrOf, IsSome, IsNone, IfSome, Some, All, slice_index};
-ghost use Rattle.cat_key.specs.Faults.{text_of, bad_byte_text};
-ghost use Rattle.cat_key.specs.Names.{IsName, IsNameByte, IsFirstBad, AreNameWords, name_cmp, words_of, all_bytes, before_zero, fingerprint_of, WordsKeepOrder, WordsTellNames};
+ghost use Rattle.std.specs.Prelude.{◌≡◌, ℕ, ◌*◌, ◌<◌, ◌≤◌, ◌↔◌, List, [], length, IsOk, IfOk, IsErrOf, IsSome, IsNone};
+ghost use Rattle.std.specs.Prelude.{IfSome, Some, All, slice_index};
+ghost use Rattle.cat_key.specs.Faults.{name_fault_text, bad_byte_text};
+ghost use Rattle.cat_key.specs.Names.{IsName, IsNameByte, IsFirstBad, AreNameWords, name_cmp, words_of, all_bytes};
+ghost use Rattle.cat_key.specs.Names.{before_zero, fingerprint_of, WordsKeepOrder, WordsTellNames};
 ghost use Rattle.std.proofs.Common.{ap, refl, sym};
 ghost use Rattle.std.proofs.lemmas.Cmp.{nat_list_eq_equiv, nat_list_cmp_total};
 ghost use Rattle.std.specs.Cmp.{partial_equiv_from_equiv};
@@ -40,7 +42,7 @@ pub enum NameFault {
 impl Error for NameFault {}
 
 impl fmt::Display for NameFault {
-    ghost output = { λ fault. Some (text_of fault) };
+    ghost output = { λ fault. Some (name_fault_text fault) };
 
     fn fmt<W: fmt::Write>(&self, f: &mut fmt::Formatter<W>) -> fmt::Result {
         match self {

@@ -1,13 +1,13 @@
 -- The index, called by one caller with no other call in flight, as a map of names.
 use Rattle.std.specs.Prelude.{◌≡◌, ℕ, ◌-◌, ◌^◌, min, length, IfSome}
 use Rattle.std.specs.FinMap.{len}
-use Rattle.index_core.specs.declared.entry.CoreCall.{CoreCall}
+use Rattle.index_core.specs.declared.party.CoreCall.{CoreCall}
 use Rattle.index_core.specs.CoreCalls.{limit_of}
 use Rattle.index_core.specs.Indexes.{Index, IsIndex, map_of_index}
 use Rattle.index_core.specs.Lone.{IsQuiet, locks_left}
 
--- How many more calls it can have: each takes one lock of the node at most, places one write at most, and finds the clock
--- below 2^62.
+-- How many more calls it can have: each takes one lock of one node at most, places one write at most, and finds the
+-- clock below 2^62.
 abbrev pub calls_left_of : Index → ℕ
 calls_left_of s = min (locks_left s) (min s.spare (2 ^ 62 - length s.history))
 
@@ -19,4 +19,5 @@ IsUnlimited call = IfSome (limit_of call) (λ limit. limit ≡ 2 ^ 62)
 pub record IsCoreMap (s : Index) (names : ℕ) : Type 0 where
   pub index : IsIndex s
   pub quiet : IsQuiet s
+  pub one_node : s.layout.nodes ≡ 1  -- no node is split yet, and no more are asked for
   pub counted : names ≡ len (map_of_index s)

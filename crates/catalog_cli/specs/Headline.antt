@@ -6,6 +6,7 @@ use Rattle.cat_history.specs.Maps.{Map}
 use Rattle.cat_history.specs.Writes.{after_all}
 use Rattle.cat_history.specs.declared.op.Write.{Write}
 use Rattle.cat_text.specs.Scripts.{IsNumber, IsScript}
+use Rattle.cat_text.specs.declared.script.TheConstants.{MOST_BYTES}
 use Rattle.cat_text.specs.Reports.{report_text}
 use Rattle.cat_text.specs.declared.report.RoundReport.{RoundReport}
 use Rattle.cat_text.specs.declared.script.RoundPlan.{RoundPlan}
@@ -15,7 +16,8 @@ use Rattle.catalog_cli.specs.Rounds.{IsPlayedRound}
 use Rattle.cat_text.specs.declared.script.ScriptFault.TheVariants.{Bytes}
 use Rattle.catalog_cli.specs.declared.status.Verb.TheVariants.{Play, Line}
 use Rattle.catalog_cli.specs.declared.status.Status.{Status}
-use Rattle.catalog_cli.specs.declared.status.Status.TheVariants.{Done, Script, Read, Write as WriteFailed, NoMemory, NotBuilt}
+use Rattle.catalog_cli.specs.declared.status.Status.TheVariants.{Done, Script, Read, Write as WriteFailed, NoMemory}
+use Rattle.catalog_cli.specs.declared.status.Status.TheVariants.{NotBuilt}
 
 -- The words of a command that is built: `play`, and then the numbers of a layout with one node, written as in scripts.
 pub record IsPlayCommand (words : List (List ℕ)) (layout : Layout) : Type 0 where
@@ -33,20 +35,22 @@ pub record IsPlayCommand (words : List (List ℕ)) (layout : Layout) : Type 0 wh
 abbrev pub AreBytesLeft : Option (List ℕ) → List ℕ → Type 0
 AreBytesLeft left bytes = IfSome left (λ told. told ≡ bytes)
 
--- Each round of the plan is played and reported, the first on the base and each later one on the map that the one before
--- it left.
+-- Each round of the plan is played and reported, the first on the base and each later one on the map that the one
+-- before it left.
 abbrev pub ArePlayedRounds : ℕ → Map → List RoundPlan → List RoundReport → Type 0
 ArePlayedRounds room base [] [] = Unit {0}
 ArePlayedRounds room base [] (report ∷ reports) = ⊥
 ArePlayedRounds room base (plan ∷ plans) [] = ⊥
 ArePlayedRounds room base (plan ∷ plans) (report ∷ reports) =
-    (writes : List Write) × IsPlayedRound room base plan report writes × ArePlayedRounds room (after_all base writes) plans reports
+    (writes : List Write) × IsPlayedRound room base plan report writes ×
+    ArePlayedRounds room (after_all base writes) plans reports
 
 -- The text is the report of legal rounds that the bytes, read as a script, ask for, from an empty catalogue with room
 -- for so many names.
 pub record IsReportOf (room : ℕ) (bytes text : List ℕ) : Type 0 where
   pub plans : List RoundPlan
   pub reports : List RoundReport
+  pub short : length bytes ≤ MOST_BYTES
   pub script : IsScript bytes plans
   pub played : ArePlayedRounds room empty plans reports
   pub told : text ≡ report_text reports
@@ -64,6 +68,7 @@ pub record ReportsPart (room : ℕ) (left written written' : Option (List ℕ)) 
   pub bytes : List ℕ
   pub text : List ℕ
   pub count : ℕ
+  pub short : count < length text
   pub source : AreBytesLeft left bytes
   pub report : IsReportOf room bytes text
   pub sink : Appends written written' (take count text)
@@ -86,11 +91,11 @@ pub record HasForeignLine (most : ℕ) (left : Option (List ℕ)) : Type 0 where
   pub refused : (plans : List RoundPlan) → ¬ (IsScript bytes plans)
 
 -- Why there is no report: the cause of each status.
-abbrev pub IsRefusal : ℕ → Status → Option (List ℕ) → ℕ → ℕ → Type 0
-IsRefusal most Done left faults faults' = ⊥
-IsRefusal most WriteFailed left faults faults' = ⊥
-IsRefusal most NoMemory left faults faults' = Unit {0}
-IsRefusal most Read left faults faults' = faults < faults'
-IsRefusal most (Script fault) left faults faults' = (fault ≡ Bytes) × IfSome left (λ bytes. most < length bytes)
-IsRefusal most (NotBuilt Play) left faults faults' = ⊥
-IsRefusal most (NotBuilt Line) left faults faults' = HasForeignLine most left
+abbrev pub IsCauseOf : ℕ → Status → Option (List ℕ) → ℕ → ℕ → Type 0
+IsCauseOf most Done left faults faults' = ⊥
+IsCauseOf most WriteFailed left faults faults' = ⊥
+IsCauseOf most NoMemory left faults faults' = Unit {0}
+IsCauseOf most Read left faults faults' = faults < faults'
+IsCauseOf most (Script fault) left faults faults' = (fault ≡ Bytes) × IfSome left (λ bytes. most < length bytes)
+IsCauseOf most (NotBuilt Play) left faults faults' = ⊥
+IsCauseOf most (NotBuilt Line) left faults faults' = HasForeignLine most left

@@ -20,4 +20,9 @@ calls_in plans = sum_by (λ plan. length plan.ops) plans
 -- The map is what a call left that was answered so, whoever made it.
 abbrev pub IsLeftBy : Map → Op → Reply → Map → Type 0
 IsLeftBy base op reply end =
-    (caller index : ℕ) → end ≡ after_all base (write_of (record { caller = caller; index = index; op = op; reply = reply }))
+    (caller index : ℕ) → end ≡ after_all base (write_of (record {
+      caller = caller;
+      index = index;
+      op = op;
+      reply = reply;
+    }))

@@ -12,7 +12,8 @@ use Rattle.cat_text.specs.declared.script.RoundPlan.{RoundPlan}
 
 -- A legal round of the plan's calls from the base map, reported: its records in the order of the script, `full` exactly
 -- where a name finds no room, and at its end the number of placed writes and of names.
-pub record IsPlayedRound (room : ℕ) (base : Map) (plan : RoundPlan) (report : RoundReport) (writes : List Write) : Type 0 where
+pub record IsPlayedRound (room : ℕ) (base : Map) (plan : RoundPlan) (report : RoundReport) (writes : List Write) : Type
+    0 where
   pub legal : IsLegalRound base (numbered plan.ops) report.records writes
   pub in_script_order : map call_of report.records ≡ numbered plan.ops
   pub full : IsFullExactly room base report.records

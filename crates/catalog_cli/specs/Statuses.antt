@@ -1,6 +1,6 @@
 -- Statuses: their exit codes, what is told of them, and which of them the faults below come to.
 use Rattle.std.specs.Prelude.{ℕ, List, ◌++◌, codes}
-use Rattle.cat_text.specs.ScriptFaults.{text_of as script_text}
+use Rattle.cat_text.specs.ScriptFaults.{script_fault_text}
 use Rattle.cat_text.specs.declared.outside.source.ReadFault.{ReadFault}
 use Rattle.cat_text.specs.declared.outside.source.ReadFault.TheVariants as read
 use Rattle.cat_text.specs.declared.script.ScriptFault.{ScriptFault}
@@ -25,13 +25,13 @@ verb_text Play = codes "play"
 verb_text Line = codes "line"
 
 -- What is told of a status.
-abbrev pub text_of : Status → List ℕ
-text_of Done = codes "done"
-text_of (Script fault) = script_text fault
-text_of Read = codes "script: cannot read"
-text_of Write = codes "report: cannot write"
-text_of NoMemory = codes "out of memory"
-text_of (NotBuilt verb) = codes "not built: " ++ verb_text verb
+abbrev pub status_text : Status → List ℕ
+status_text Done = codes "done"
+status_text (Script fault) = script_fault_text fault
+status_text Read = codes "script: cannot read"
+status_text Write = codes "report: cannot write"
+status_text NoMemory = codes "out of memory"
+status_text (NotBuilt verb) = codes "not built: " ++ verb_text verb
 
 -- What a source comes to that was not read whole.
 abbrev pub status_of_read : ReadFault → Status

@@ -1,13 +1,16 @@
 //! The top call: from the words of a command and the bytes of a script to the bytes of a report.
 
-ghost use Rattle.std.specs.Prelude.{◌≡◌, ◌<◌, ◌≤◌, ◌↔◌, ℕ, List, [], Some, IfOk, IfErr, OnOk, IfSome, IsNone, length, map};
+ghost use Rattle.std.specs.Prelude.{◌≡◌, ◌+◌, ◌<◌, ◌≤◌, ◌↔◌, ℕ, List, [], Some, Err, IfOk, IfErr, OnOk, IfSome, IsNone};
+ghost use Rattle.std.specs.Prelude.{length, map};
 ghost use Rattle.std.specs.FinMap.{empty};
 ghost use Rattle.std.specs.Io.KnownBytes.{Keeps};
 ghost use Rattle.std.specs.String.{string_bytes};
+ghost use Rattle.cat_text.specs.Outside.{ConsumesAtMost};
 ghost use Rattle.cat_text.specs.Scripts.{IsScript};
 ghost use Rattle.pm_words.specs.Layouts.{IsLayout};
 ghost use Rattle.pm_words.specs.declared.layout.Layout.{Layout};
-ghost use Rattle.catalog_cli.specs.Headline.{IsPlayCommand, AreBytesLeft, ArePlayedRounds, IsReportOf, LeavesSink, HasForeignLine, IsRefusal};
+ghost use Rattle.catalog_cli.specs.Headline.{IsPlayCommand, AreBytesLeft, ArePlayedRounds, IsReportOf, LeavesSink};
+ghost use Rattle.catalog_cli.specs.Headline.{HasForeignLine, IsCauseOf};
 
 use crate::play::play;
 use crate::status::{Status, Verb};
@@ -37,12 +40,17 @@ pub fn catalog<S: Source, K: Sink>(
     // Each other status has its cause.
     ensures no_command { result ≡ Status.NotBuilt Verb.Play ↔
         ((layout : Layout) → ¬ IsPlayCommand (map string_bytes words.now) layout) }
-    ensures nothing_read { result ≡ Status.NotBuilt Verb.Play → Keeps (S.left script.old) (S.left script.new) }
-    ensures nothing_written { result ≡ Status.NotBuilt Verb.Play → Keeps (K.written out.old) (K.written out.new) }
+    ensures nothing_read { result ≡ Status.NotBuilt Verb.Play → script.new ≡ script.old }
+    ensures nothing_written { result ≡ Status.NotBuilt Verb.Play → out.new ≡ out.old }
     ensures foreign_line { result ≡ Status.NotBuilt Verb.Line → HasForeignLine MOST_BYTES (S.left script.old) }
+    ensures read_before_foreign_line { result ≡ Status.NotBuilt Verb.Line →
+        IfSome (S.left script.old) (λ _. S.left script.new ≡ Some []) }
     ensures too_long { (fault : _) → result ≡ Status.Script fault →
         (fault ≡ ScriptFault.Bytes) × IfSome (S.left script.old) (λ bytes. MOST_BYTES < length bytes) }
     ensures cannot_read { result ≡ Status.Read → S.faults script.old < S.faults script.new }
+    ensures takes { ConsumesAtMost (MOST_BYTES + 1) (S.left script.old) (S.left script.new) }
+    ensures source_never_falls { S.faults script.old ≤ S.faults script.new }
+    ensures sink_never_falls { K.faults out.old ≤ K.faults out.new }
     ensures cannot_write { result ≡ Status.Write → K.faults out.old < K.faults out.new }
 {
     let Some(layout) = asked_layout(words) else {
@@ -83,9 +91,15 @@ fn asked_layout(words: &[String]) -> Option<Layout>
 fn report_of<S: Source>(alloc: Global, layout: &Layout, script: &mut S) -> Result<Vec<u8>, Status>
     requires layout { IsLayout layout.now }
     requires one_node { layout.now.nodes ≡ 1 }
-    ensures report { IfOk result (λ text. (bytes : List ℕ) × AreBytesLeft (S.left script.old) bytes × IsReportOf layout.now.slots bytes text.items) }
+    ensures report { IfOk result (λ text. (bytes : List ℕ) × AreBytesLeft (S.left script.old) bytes ×
+        IsReportOf layout.now.slots bytes text.items) }
     ensures read_to_end { OnOk result (IfSome (S.left script.old) (λ _. S.left script.new ≡ Some [])) }
-    ensures refusal { IfErr result (λ status. IsRefusal MOST_BYTES status (S.left script.old) (S.faults script.old) (S.faults script.new)) }
+    ensures read_before_foreign_line { result ≡ Err (Status.NotBuilt Verb.Line) →
+        IfSome (S.left script.old) (λ _. S.left script.new ≡ Some []) }
+    ensures takes { ConsumesAtMost (MOST_BYTES + 1) (S.left script.old) (S.left script.new) }
+    ensures never_falls { S.faults script.old ≤ S.faults script.new }
+    ensures refusal { IfErr result (λ status. IsCauseOf MOST_BYTES status (S.left script.old) (S.faults script.old)
+        (S.faults script.new)) }
 {
     let bytes = read_whole(alloc, script, MOST_BYTES)?;
     let plans = read_script(alloc, &bytes)?;

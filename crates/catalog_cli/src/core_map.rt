@@ -124,8 +124,8 @@ impl<L: Ledger> NameMap for CoreMap<L> {
     }
 }
 
-/// A whole call on an index that has calls left, with no other in flight. `Full` comes exactly where a put finds no room;
-/// else the answer is the number that the name had.
+/// A whole call on an index that has calls left, with no other in flight. `Full` comes exactly where a put finds no
+/// room; else the answer is the number that the name had.
 fn call_alone<L: Ledger>(
     core: &mut Core,
     call: CoreCall,

@@ -47,7 +47,7 @@ pub fn run_lone_round<M: NameMap>(
             writes += 1;
         }
         // There is memory for a record of each call.
-        records.push(record).unwrap();
+        records.push_reserved(record);
     }
     Ok(RoundReport {
         records: Listed::of(records),

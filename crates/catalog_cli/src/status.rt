@@ -1,7 +1,7 @@
 //! How a run of the program ends.
 
 ghost use Rattle.std.specs.Prelude.{◌≡◌, Some};
-ghost use Rattle.catalog_cli.specs.Statuses.{code_of, text_of, verb_text};
+ghost use Rattle.catalog_cli.specs.Statuses.{code_of, status_text, verb_text};
 
 use cat_text::{NoMemory, ReadFault, ScriptFault};
 use std::fmt;
@@ -101,7 +101,7 @@ impl From<NoMemory> for Status {
 }
 
 impl fmt::Display for Status {
-    ghost output = { λ status. Some (text_of status) };
+    ghost output = { λ status. Some (status_text status) };
 
     fn fmt<W: fmt::Write>(&self, f: &mut fmt::Formatter<W>) -> fmt::Result {
         match self {

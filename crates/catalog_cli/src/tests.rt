@@ -8,7 +8,6 @@ use crate::round::run_lone_round;
 use cat_history::{CallerOp, Listed, NameMap, Op, PlainMap};
 use cat_key::Name;
 use cat_text::{FaultPlan, MemorySink, MemorySource, Report, RoundPlan, ScriptFault, print_report};
-use data_node::Node;
 use pm_words::{Layout, Steps};
 use std::alloc::{AllocError, Global};
 use std::marker::Brand;
@@ -308,15 +307,12 @@ fn report_on_core<L: Ledger>(alloc: Global, plan: &RoundPlan, blank: Blank) -> R
 }
 
 #[test]
-fn the_core_and_a_node_answer_as_the_plain_map(rt: HostRuntime) -> Result<(), Fail> {
+fn the_core_answers_as_the_plain_map(rt: HostRuntime) -> Result<(), Fail> {
     for seed in 1u32..=20 {
         let plan = drawn_plan(rt.alloc(), seed)?;
         let mut plain = PlainMap::new(rt.alloc(), 64)?;
-        let mut node = Node::new(64);
         let wanted = report_on(rt.alloc(), &mut plain, &plan)?;
-        let on_node = report_on(rt.alloc(), &mut node, &plan)?;
         let on_core = report_on_core::<Brand>(rt.alloc(), &plan, Blank::new(1))?;
-        assert_eq!(rt; on_node.as_slice(), wanted.as_slice(), "node, seed {seed}");
         assert_eq!(rt; on_core.as_slice(), wanted.as_slice(), "core, seed {seed}");
     }
     Ok(())

@@ -128,8 +128,8 @@ candidate_bits_below bitmap prints print (suc slot) within =
     ]
 
 -- bytes of which one is changed to a byte are bytes
-bytes_below : (bytes : List ℕ) → AllByRecursion (λ b. b < 256) bytes → (place byte : ℕ) → byte < 256 → (i : ℕ) → get_or (set bytes place byte) i 0 < 256
-bytes_below [] below place byte small i = omega arith
+bytes_below : (bytes : List ℕ) → AllByRecursion (λ b. b < 256) bytes → (position byte : ℕ) → byte < 256 → (i : ℕ) → get_or (set bytes position byte) i 0 < 256
+bytes_below [] below position byte small i = omega arith
 bytes_below (b ∷ bytes) below zero byte small zero = small
 bytes_below (b ∷ bytes) below zero byte small (suc i) = bytes_kept bytes below.1 i
   where
@@ -137,8 +137,8 @@ bytes_below (b ∷ bytes) below zero byte small (suc i) = bytes_kept bytes below
     bytes_kept [] below i = omega arith
     bytes_kept (b ∷ bytes) below zero = below.0
     bytes_kept (b ∷ bytes) below (suc i) = bytes_kept bytes below.1 i
-bytes_below (b ∷ bytes) below (suc place) byte small zero = below.0
-bytes_below (b ∷ bytes) below (suc place) byte small (suc i) = bytes_below bytes below.1 place byte small i
+bytes_below (b ∷ bytes) below (suc position) byte small zero = below.0
+bytes_below (b ∷ bytes) below (suc position) byte small (suc i) = bytes_below bytes below.1 position byte small i
 
 -- eight bytes make a word
 word_below : (bytes : List ℕ) → ((i : ℕ) → get_or bytes i 0 < 256) → from_le_bytes w64 bytes < 2 ^ 64

@@ -8,9 +8,9 @@ use Rattle.std.proofs.lemmas.Nat.Bits.{bit_at-trailing_ones, bit_at_ones, bit_at
 use Rattle.data_node.specs.Slots.{IsLive, IsClear, AreAllLive, IsLowestClear, IsCandidate, print_of}
 
 -- what the count of trailing ones says: the slots below it are live, and it is itself clear if it is a slot
-record IsFirstClear (bitmap place : ℕ) : Type 0 where
-  pub clear : place < 64 → IsClear bitmap place
-  pub below : AreAllLive bitmap place
+record IsFirstClear (bitmap position : ℕ) : Type 0 where
+  pub clear : position < 64 → IsClear bitmap position
+  pub below : AreAllLive bitmap position
 
 -- a full bitmap ends in 64 ones
 ones_of_full : trailing_ones w64 (2 ^ 64 - 1) ≡ 64
@@ -34,7 +34,7 @@ lowest_clear bitmap slots slot fits is within limit =
     record { within = within; clear = found.clear (omega arith); below = found.below }
 
 pub all_live : (bitmap slots slot : ℕ) → bitmap < 2 ^ 64 → slot ≡ trailing_ones w64 bitmap → slots ≤ slot → AreAllLive bitmap slots
-all_live bitmap slots place fits is within slot h =
+all_live bitmap slots position fits is within slot h =
     let found = subst (λ n. IsFirstClear bitmap n) (sym is) (first_clear bitmap fits) in found.below slot (omega arith)
 
 -- a clear slot is not live

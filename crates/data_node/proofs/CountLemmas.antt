@@ -1,5 +1,5 @@
 -- How many names a map has that a node means: no more than the node has slots, and as many where all its slots are live.
-use Rattle.std.proofs.Common.{◌≡◌, ℕ, zero, suc, ◌+◌, ◌-◌, ◌<◌, ◌≤◌, true, false, cond, List, Some, None, is_some, inl, inr, refl, sym, subst, ap, ◌∙◌, arith}
+use Rattle.std.proofs.Common.{◌≡◌, ℕ, zero, suc, ◌+◌, ◌-◌, ◌<◌, ◌≤◌, Bool, true, false, cond, List, Some, None, is_some, inl, inr, refl, sym, subst, ap, ◌∙◌, arith}
 use Rattle.std.specs.FinMap.{empty, remove, len, get-remove, get-empty, len-remove, len-empty, empty_of_len, same_map, slice_cmp-IsAntisymmetric, nat_cmp-IsAntisymmetric}
 use Rattle.std.proofs.lemmas.Bool.{cases_eq}
 use Rattle.std.proofs.lemmas.Cmp.{nat_list_cmp_total}
@@ -8,6 +8,7 @@ use Rattle.cat_key.proofs.Packing.{bytes_of-words_of}
 use Rattle.cat_history.specs.Maps.{Map, at}
 use Rattle.data_node.specs.Slots.{AreAllLive}
 use Rattle.data_node.specs.Spots.{Spot, bitmap_offset, name_words, Finds, Means}
+use Rattle.data_node.specs.Lists.{StaysIn}
 use Rattle.data_node.proofs.SpotLemmas.{same_name}
 
 -- The name stands in one of the first so many slots.
@@ -18,14 +19,14 @@ record Stands (s : Spot) (count : ℕ) (name : List ℕ) : Type 0 where
   pub same : name_words s slot ≡ words_of name
 
 -- a map without a name
-at_removed : (m : Map) (name other : List ℕ) → (other ≡ name → ⊥) → at (remove m name) other ≡ at m other
+pub at_removed : (m : Map) (name other : List ℕ) → (other ≡ name → ⊥) → at (remove m name) other ≡ at m other
 at_removed m name other apart =
     elim (same_name other name) [
       | inl same ↦ absurd (apart same.0)
       | inr different ↦ get-remove nat_list_cmp_total m name other ∙ ap (λ b. cond b None (at m other)) different.1
     ]
 
-not_removed : (m : Map) (name other : List ℕ) (value : ℕ) → at (remove m name) other ≡ Some value → (other ≡ name → ⊥) × (at m other ≡ Some value)
+pub not_removed : (m : Map) (name other : List ℕ) (value : ℕ) → at (remove m name) other ≡ Some value → (other ≡ name → ⊥) × (at m other ≡ Some value)
 not_removed m name other value is =
     elim (same_name other name) [
       | inl same ↦
@@ -35,7 +36,7 @@ not_removed m name other value is =
     ]
 
 -- to take a name out takes away at most one
-len_removed : (m : Map) (name : List ℕ) → len m ≤ len (remove m name) + 1
+pub len_removed : (m : Map) (name : List ℕ) → len m ≤ len (remove m name) + 1
 len_removed m name =
     let is = len-remove nat_list_cmp_total m name in
     elim (is_some (at m name)) as (λ b. len (remove m name) ≡ cond b (len m - 1) (len m) → len m ≤ len (remove m name) + 1) [
@@ -43,7 +44,7 @@ len_removed m name =
       | false ↦ λ e. omega arith
     ] is
 
-nothing_stands : (m : Map) → ((name : List ℕ) (value : ℕ) → at m name ≡ Some value → ⊥) → len m ≡ 0
+pub nothing_stands : (m : Map) → ((name : List ℕ) (value : ℕ) → at m name ≡ Some value → ⊥) → len m ≡ 0
 nothing_stands m none =
     let is_empty : m ≡ empty = same_map nat_list_cmp_total (slice_cmp-IsAntisymmetric nat_cmp-IsAntisymmetric) m empty (λ name.
     elim (at m name) as (λ o. at m name ≡ o → at m name ≡ at empty name) [
@@ -106,6 +107,28 @@ full_has slots s m means full =
     elim (at m named.0) as (λ o. at m named.0 ≡ o → is_some (at m (bytes_of (name_words s slot))) ≡ true) [
       | Some value ↦ λ e. ap (λ n. is_some (at m n)) text ∙ ap is_some e
       | None ↦ λ e. absurd (subst (Finds slots s named.0) e (means.agrees named.0 named.1 refl) slot within (full slot within) (sym named.2))
+    ] refl)
+    (λ slot other within other_within e.
+    let a = means.tidy.named slot within (full slot within) in
+    let b = means.tidy.named other other_within (full other other_within) in
+    let same : a.0 ≡ b.0 = sym (ap bytes_of (sym a.2) ∙ bytes_of-words_of a.0 a.1) ∙ e ∙ ap bytes_of (sym b.2) ∙ bytes_of-words_of b.0 b.1 in
+    means.tidy.apart slot other within other_within (full slot within) (full other other_within) (sym a.2 ∙ ap words_of same ∙ b.2))
+
+-- and so does one that means it on a range, and whose live slots have no name out of that
+pub full_has_in : (slots : ℕ) (range : List ℕ → Bool) (s : Spot) (m : Map) → Means slots range s m → StaysIn slots range s → AreAllLive (s bitmap_offset) slots → slots ≤ len m
+full_has_in slots range s m means stays full =
+    has_count s slots m
+    (λ slot within.
+    let named = means.tidy.named slot within (full slot within) in
+    let text : bytes_of (name_words s slot) ≡ named.0 = ap bytes_of (sym named.2) ∙ bytes_of-words_of named.0 named.1 in
+    elim (range named.0) as (λ b. range named.0 ≡ b → is_some (at m (bytes_of (name_words s slot))) ≡ true) [
+      | true ↦ λ inside.
+          elim (at m named.0) as (λ o. at m named.0 ≡ o → is_some (at m (bytes_of (name_words s slot))) ≡ true) [
+            | Some value ↦ λ e. ap (λ n. is_some (at m n)) text ∙ ap is_some e
+            | None ↦ λ e. absurd (subst (Finds slots s named.0) e (means.agrees named.0 named.1 inside) slot within (full slot within) (sym named.2))
+          ] refl
+      | false ↦ λ outside.
+          absurd (stays named.0 named.1 outside slot within (full slot within) (sym named.2))
     ] refl)
     (λ slot other within other_within e.
     let a = means.tidy.named slot within (full slot within) in

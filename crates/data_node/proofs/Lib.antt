@@ -1,9 +1,10 @@
 pub mod Bitmaps
-pub mod Changes
-pub mod Counts
-pub mod Lookups
 pub mod BitLemmas
 pub mod SpotLemmas
 pub mod StoreLemmas
 pub mod CountLemmas
 pub mod NameCounts
+pub mod RangeNames
+pub mod ListLemmas
+pub mod KeyLemmas
+pub mod PositionLemmas

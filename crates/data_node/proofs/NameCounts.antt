@@ -14,11 +14,11 @@ use Rattle.data_node.specs.Weights.{has_name_in, names_in}
 use Rattle.data_node.proofs.SpotLemmas.{same_name, at_found, remove_absent}
 
 -- One where the test holds.
-abbrev one_if : Bool → ℕ
+abbrev pub one_if : Bool → ℕ
 one_if b = cond b 1 0
 
 -- How many of the first so many numbers a test takes.
-abbrev tally : ℕ → (ℕ → Bool) → ℕ
+abbrev pub tally : ℕ → (ℕ → Bool) → ℕ
 tally zero p = 0
 tally (suc i) p = one_if (p i) + tally i p
 
@@ -58,7 +58,7 @@ tally_without (suc n) j p below is =
     ]
 
 -- Where each number that the one test takes has a number that the other takes, of its own, the other takes as many at least.
-tally_fits : (n k : ℕ) (p q : ℕ → Bool) (R : ℕ → ℕ → Type 0)
+pub tally_fits : (n k : ℕ) (p q : ℕ → Bool) (R : ℕ → ℕ → Type 0)
     → ((i : ℕ) → i < n → p i ≡ true → (j : ℕ) × (j < k) × (q j ≡ true) × R i j)
     → ((i other j : ℕ) → i < n → other < n → p i ≡ true → p other ≡ true → R i j → R other j → i ≡ other) → tally n p ≤ tally k q
 tally_fits zero k p q R goes alone = omega arith
@@ -79,7 +79,7 @@ tally_fits (suc n) k p q R goes alone =
           omega arith
     ] refl
 
-names_tally : (n : ℕ) (range : List ℕ → Bool) (s : Spot) → names_in n range s ≡ tally n (has_name_in range s)
+pub names_tally : (n : ℕ) (range : List ℕ → Bool) (s : Spot) → names_in n range s ≡ tally n (has_name_in range s)
 names_tally zero range s = refl
 names_tally (suc n) range s = ap (λ k. one_if (has_name_in range s n) + k) (names_tally n range s)
 
@@ -112,17 +112,17 @@ pub record HasIn (range : List ℕ → Bool) (m : Map) (name : List ℕ) : Type 
   pub has : at m name ≡ Some value
 
 module _ (slots : ℕ) (range : List ℕ → Bool) (s : Spot) (m : Map) (means : Means slots range s m) where
-  slot_has : (slot : ℕ) → slot < slots → has_name_in range s slot ≡ true → (name : List ℕ) × HasIn range m name × (name_words s slot ≡ words_of name)
+  pub slot_has : (slot : ℕ) → slot < slots → has_name_in range s slot ≡ true → (name : List ℕ) × HasIn range m name × (name_words s slot ≡ words_of name)
   slot_has slot within is =
       let h = has_name slots range s slot means.tidy within is in
       (h.name, record { is_name = h.is_name; inside = h.inside; value = value_in s slot; has = at_found slots range s m h.name slot h.is_name h.inside means h.live h.same }, h.same)
 
-  has_slot : (name : List ℕ) → HasIn range m name → (slot : ℕ) × (slot < slots) × (has_name_in range s slot ≡ true) × (name_words s slot ≡ words_of name)
+  pub has_slot : (name : List ℕ) → HasIn range m name → (slot : ℕ) × (slot < slots) × (has_name_in range s slot ≡ true) × (name_words s slot ≡ words_of name)
   has_slot name h =
       let found = subst (Finds slots s name) h.has (means.agrees name h.is_name h.inside) in
       (found.0, found.1, name_counts range s found.0 name h.is_name h.inside found.2 found.3, found.3)
 
-  slots_apart : (slot other : ℕ) → slot < slots → other < slots → has_name_in range s slot ≡ true → has_name_in range s other ≡ true → name_words s slot ≡ name_words s other → slot ≡ other
+  pub slots_apart : (slot other : ℕ) → slot < slots → other < slots → has_name_in range s slot ≡ true → has_name_in range s other ≡ true → name_words s slot ≡ name_words s other → slot ≡ other
   slots_apart slot other within other_within is other_is same =
       means.tidy.apart slot other within other_within (has_name slots range s slot means.tidy within is).live (has_name slots range s other means.tidy other_within other_is).live same
 

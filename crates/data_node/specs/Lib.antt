@@ -1,6 +1,7 @@
-pub mod Contents
-pub mod Nodes
 pub mod Slots
 pub mod Bits
 pub mod Spots
+pub mod Lists
 pub mod Weights
+pub mod RangeNames
+pub mod Orders

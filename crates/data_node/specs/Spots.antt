@@ -1,5 +1,6 @@
 -- A node in a row of words: what its words say, each by its offset from the node's start.
-use Rattle.std.specs.Prelude.{◌≡◌, ◌≢◌, ℕ, ◌+◌, ◌*◌, ◌/◌, ◌%◌, ◌<◌, ◌^◌, ◌==◌, Bool, true, if◌then◌else◌, List, [], ◌∷◌, slice_index, Option, Some, None}
+use Rattle.std.specs.Prelude.{◌≡◌, ◌≢◌, ℕ, ◌+◌, ◌*◌, ◌/◌, ◌%◌, ◌<◌, ◌^◌, ◌==◌, Bool, true, if◌then◌else◌, List, [], ◌∷◌}
+use Rattle.std.specs.Prelude.{slice_index, Option, Some, None}
 use Rattle.cat_key.specs.Names.{IsName, AreNameWords, words_of, bytes_of, fingerprint_of}
 use Rattle.cat_history.specs.Maps.{Map, at}
 use Rattle.data_node.specs.Slots.{IsLive, prints_of}
@@ -47,7 +48,8 @@ Finds slots s name None = (slot : ℕ) → slot < slots → IsLiveIn s slot → 
 pub record IsTidy (slots : ℕ) (s : Spot) : Type 0 where
   pub bounded : s bitmap_offset < 2 ^ slots
   pub named : (slot : ℕ) → slot < slots → IsLiveIn s slot → AreNameWords (name_words s slot)
-  pub printed : (slot : ℕ) → slot < slots → IsLiveIn s slot → print_in_spot s slot ≡ fingerprint_of (bytes_of (name_words s slot))
+  pub printed : (slot : ℕ) → slot < slots → IsLiveIn s slot →
+      print_in_spot s slot ≡ fingerprint_of (bytes_of (name_words s slot))
   pub apart : (slot other : ℕ) → slot < slots → other < slots → IsLiveIn s slot → IsLiveIn s other →
       name_words s slot ≡ name_words s other → slot ≡ other
 

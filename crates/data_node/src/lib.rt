@@ -5,11 +5,16 @@
 #![tactic(auto)]
 
 mod bits;
-mod node;
+mod keys;
+pub mod laws;
+mod order;
 mod slots;
+mod split;
 
 pub use bits::{lowest_live, with_live, without_live};
-pub use node::Node;
+pub use keys::is_below;
+pub use order::{Halves, Order, sort_order};
 pub use slots::{
     MAX_SLOTS, PRINT_WORDS, candidates, clear_slot, is_live, print_at, print_in, with_print,
 };
+pub use split::halves;

@@ -1,6 +1,7 @@
 //! Bitmaps of live slots, and the words with the slots' fingerprints.
 
-ghost use Rattle.std.specs.Prelude.{◌≡◌, ◌≢◌, ◌⊎◌, ℕ, ◌%◌, ◌<◌, ◌≤◌, ◌↔◌, IsTrue, IsNone, Some, IfSome, slice_index, slice_set};
+ghost use Rattle.std.specs.Prelude.{◌≡◌, ◌≢◌, ◌⊎◌, ℕ, ◌%◌, ◌<◌, ◌≤◌, ◌↔◌, IsTrue, IsNone, Some, IfSome, slice_index};
+ghost use Rattle.std.specs.Prelude.{slice_set};
 ghost use Rattle.std.specs.Int.{bit_at};
 ghost use Rattle.data_node.specs.Bits.{lowest_clear, printed, candidate_bits};
 ghost use Rattle.data_node.specs.Slots.{AreAllLive, IsLive, IsLowestClear, IsCandidate, prints_of, print_of};

@@ -1,9 +1,9 @@
 -- What a legal answer says, in the words of the op that it answers.
-use Rattle.std.proofs.Common.{◌≡◌, ℕ, ◌+◌, ◌<◌, ◌≤◌, List, length, refl, ap, ◌∙◌, subst, arith}
-use Rattle.std.specs.Prelude.{Option, Some, IfSome}
+use Rattle.std.proofs.Common.{◌≡◌, ◌⊎◌, ℕ, ◌+◌, ◌<◌, ◌≤◌, List, length, refl, sym, ap, ⊎_elim, ◌∙◌, subst, arith}
+use Rattle.std.specs.Prelude.{Option, Some, None, IfSome}
 use Rattle.std.proofs.lemmas.Option.{slice_get_within}
 use Rattle.pm_words.specs.declared.again.Again.{Again}
-use Rattle.pm_words.specs.declared.again.Again.TheVariants.{NoFree}
+use Rattle.pm_words.specs.declared.again.Again.TheVariants.{NoFree, NeedsSplit}
 use Rattle.pm_words.specs.declared.layout.Layout.{Layout}
 use Rattle.pm_words.specs.declared.machine.Turn.{Turn}
 use Rattle.pm_words.specs.declared.machine.Turn.TheVariants.{Go, Done}
@@ -15,7 +15,8 @@ use Rattle.cat_history.specs.declared.op.Write.{Write}
 use Rattle.call_stages.specs.declared.once.Once.{Once}
 use Rattle.call_stages.specs.declared.once.Once.TheVariants as once
 use Rattle.call_stages.specs.declared.once.Placed.{Placed}
-use Rattle.call_stages.specs.Stages.{Stage, Idle, Saw, Holds, placed_in}
+use Rattle.call_stages.specs.Kinds.{IsRefusal}
+use Rattle.call_stages.specs.Stages.{Stage, Idle, Saw, Wears, Holds, Eyes, Splits, Leaves, Meets, Joins, placed_in}
 use Rattle.node_ops.specs.declared.running.Running.{Running}
 use Rattle.cat_history.specs.Records.{change_of}
 use Rattle.node_ops.specs.Asked.{IsOf, IsAbout, op_in, name_asked}
@@ -25,11 +26,11 @@ use Rattle.node_ops.proofs.OpLaw.{holds_own_name}
 use Rattle.index_law.specs.Facts.{Facts}
 use Rattle.index_law.specs.Lawful.{HasWriteAt}
 use Rattle.index_law.specs.Laws.{HasNoRoom, IsCause, IsLegal}
-use Rattle.index_core.specs.declared.entry.Entry.{Entry}
-use Rattle.index_core.specs.Entries.{stepped_of}
+use Rattle.index_core.specs.declared.party.PartyState.{PartyState}
+use Rattle.index_core.specs.PartyStates.{stepped_of}
 use Rattle.index_core.specs.Answers.{TookPlace, FoundNoRoom, IsAnswerOf, SaysOf}
-use Rattle.index_core.proofs.Phases.{phase_of, leads}
-use Rattle.index_core.proofs.Places.{place_is, place_for, limit_in, limit_is, is_over, EndsWith, ends_with}
+use Rattle.node_ops.specs.Endings.{place_for, limit_in}
+use Rattle.index_core.proofs.Endings.{EndsWith, ends_with}
 
 -- what a legal answer says of a call that has this place and began below this limit
 abbrev Tells : ℕ → Facts → ℕ → ℕ → ℕ → List ℕ → Option ℕ → Option ℕ → Once Placed → Type 0
@@ -51,17 +52,32 @@ tells l g f caller index since name Idle (once.Done answer) legal about = absurd
 tells l g f caller index since name Idle (once.Spent clock) legal about = absurd legal
 tells l g f caller index since name Idle (once.Worn node word) legal about = tt
 tells l g f caller index since name Idle (once.Again why) legal about = λ is. absurd (unheld g f why legal is)
-tells l g f caller index since name (Saw n v w) (once.Done answer) legal about = absurd legal
-tells l g f caller index since name (Saw n v w) (once.Spent clock) legal about = absurd legal
-tells l g f caller index since name (Saw n v w) (once.Worn node word) legal about = tt
-tells l g f caller index since name (Saw n v w) (once.Again why) legal about = λ is. absurd (unheld g f why legal is)
+tells l g f caller index since name (Saw n v w k) (once.Done answer) legal about = absurd legal
+tells l g f caller index since name (Saw n v w k) (once.Spent clock) legal about = absurd legal
+tells l g f caller index since name (Saw n v w k) (once.Worn node word) legal about = tt
+tells l g f caller index since name (Saw n v w k) (once.Again why) legal about = λ is. absurd (unheld g f why legal is)
+tells l g f caller index since name (Wears n v) (once.Done answer) legal about = absurd legal
+tells l g f caller index since name (Wears n v) (once.Spent clock) legal about = absurd legal
+tells l g f caller index since name (Wears n v) (once.Worn node word) legal about = tt
+tells l g f caller index since name (Wears n v) (once.Again why) legal about = λ is. absurd (unheld g f why legal is)
+tells l g f caller index since name (Eyes n w h m v u free) answer legal about = absurd legal
+tells l g f caller index since name (Splits left fresh phase) answer legal about = absurd legal
+tells l g f caller index since name (Meets n w h right) answer legal about = absurd legal
+tells l g f caller index since name (Joins h left right pace) answer legal about = absurd legal
+tells l g f caller index since name (Leaves left) (once.Done answer) legal about = absurd cc
+tells l g f caller index since name (Leaves left) (once.Spent clock) legal about = absurd cc
+tells l g f caller index since name (Leaves left) (once.Worn node word) legal about = tt
+tells l g f caller index since name (Leaves left) (once.Again why) legal about = λ is. absurd (let both : once.Again NoFree ≡ once.Again (NeedsSplit left.node) = ap (λ (w : Again). once.Again w) (sym is) ∙ legal in cc)
 tells l g f caller index since name (Holds n w h) (once.Done answer) legal about =
     subst (λ (own : List ℕ). Tells l.slots f caller index since own h.limit h.placed (once.Done answer)) about (legal.later, legal.within, legal.old, legal.write, legal.below)
 tells l g f caller index since name (Holds n w h) (once.Spent clock) legal about = (legal.later, legal.within)
 tells l g f caller index since name (Holds n w h) (once.Worn node word) legal about = tt
 tells l g f caller index since name (Holds n w h) (once.Again why) legal about = λ is.
-    let room : HasNoRoom l f since n h = legal.1 in
+    let room : HasNoRoom l f since n h = no_room legal is in
     subst (FoundNoRoom l.slots f.base f.history since (length f.history)) about (record { clock = room.clock; later = room.later; within = room.within; lacked = room.lacked; many = room.many })
+  where
+    no_room : (h.placed ≡ None) × (((why ≡ NoFree) × HasNoRoom l f since n h) ⊎ IsRefusal why) → why ≡ NoFree → HasNoRoom l f since n h
+    no_room both is = ⊎_elim (λ (full : (why ≡ NoFree) × HasNoRoom l f since n h). full.1) (λ (other : IsRefusal why). absurd (subst IsRefusal is other)) both.1
 
 inside : (history : List Write) (caller index : ℕ) (name : List ℕ) (place : ℕ) → HasWriteAt history caller index name place → place + 1 ≤ length history
 inside history caller index name place write = let within = slice_get_within history place _ write.stands in omega arith
@@ -74,25 +90,25 @@ took_place slots f caller index since (op.Put name value) limit answer is =
 took_place slots f caller index since (op.Del name) limit answer is =
     record { later = is.0; within = inside f.history caller index name answer.place is.3.1; below = is.4; old = is.2; write = is.3.1 }
 
-answer_of : (l : Layout) (g : ℕ) (f : Facts) (e : Entry) (m : Running) (answer : Once Placed) → IsOf (op_in m) m → IsRunning m → EndsWith (running_call m).limit (op_in m) (phase_of m) answer
+answer_of : (l : Layout) (g : ℕ) (f : Facts) (e : PartyState) (m : Running) (answer : Once Placed) → IsOf (op_in m) m → IsRunning m → EndsWith m answer
     → IsLegal l g f e.caller e.index e.since (stage_of m) (Some answer) → IsAnswerOf l.slots f.base f.history e (op_in m) (running_call m).limit answer
 answer_of l g f e m (once.Done placed) of sound ends legal =
     took_place l.slots f e.caller e.index e.since (op_in m) (running_call m).limit placed
-    (subst (λ (p : Option ℕ × Option ℕ). Tells l.slots f e.caller e.index e.since (name_asked (op_in m)) p.0 p.1 (once.Done placed)) (λ k. (limit_is m ends.1 k, (place_is m ∙ ends.0) k))
+    (subst (λ (p : Option ℕ × Option ℕ). Tells l.slots f e.caller e.index e.since (name_asked (op_in m)) p.0 p.1 (once.Done placed)) (λ k. (ends.1 k, ends.0 k))
     (tells l g f e.caller e.index e.since (name_asked (op_in m)) (stage_of m) (once.Done placed) legal (holds_own_name (op_in m) m of)))
 answer_of l g f e m (once.Spent clock) of sound ends legal =
     let told = tells l g f e.caller e.index e.since (name_asked (op_in m)) (stage_of m) (once.Spent clock) legal (holds_own_name (op_in m) m of) in
-    record { reached = ends.1 (is_over m sound); later = told.0; within = told.1 }
+    record { reached = ends.1; later = told.0; within = told.1 }
 answer_of l g f e m (once.Worn node word) of sound ends legal = tt
 answer_of l g f e m (once.Again why) of sound ends legal = λ is.
     (ends.1 is, tells l g f e.caller e.index e.since (name_asked (op_in m)) (stage_of m) (once.Again why) legal (holds_own_name (op_in m) m of) is)
 
 -- what a step of a call comes to, where an answer is legal
-pub says_of : (l : Layout) (g : ℕ) (f : Facts) (e : Entry) (m : Running) (x : ℕ) → IsOf (op_in m) m → IsRunning m → IsLegal l g f e.caller e.index e.since (stage_of m) (reply_of (running_turned m x))
+pub says_of : (l : Layout) (g : ℕ) (f : Facts) (e : PartyState) (m : Running) (x : ℕ) → IsOf (op_in m) m → IsRunning m → IsLegal l g f e.caller e.index e.since (stage_of m) (reply_of (running_turned m x))
     → SaysOf l.slots f.base f.history e (op_in m) (running_call m).limit (stepped_of (running_turned m x))
 says_of l g f e m x of sound legal = at (running_turned m x) refl legal
   where
     at : (turn : Turn Running (Once Placed)) → running_turned m x ≡ turn → IsLegal l g f e.caller e.index e.since (stage_of m) (reply_of turn)
         → SaysOf l.slots f.base f.history e (op_in m) (running_call m).limit (stepped_of turn)
     at (Go next) is legal = tt
-    at (Done answer) is legal = answer_of l g f e m answer of sound (ends_with (leads (op_in m) m x of) answer (ap reply_of is)).0 legal
+    at (Done answer) is legal = answer_of l g f e m answer of sound (ends_with m x answer sound is) legal

@@ -1,5 +1,5 @@
 -- What holds along a schedule stays with a start, and with a whole call that is alone.
-use Rattle.std.proofs.Common.{◌≡◌, ◌≢◌, ℕ, ◌+◌, ◌<◌, ◌≤◌, ◌⊎◌, inl, inr, ⊎_elim, List, [], ◌∷◌, ◌++◌, length, set, slice_set, refl, sym, ap, ◌∙◌, subst, arith}
+use Rattle.std.proofs.Common.{◌≡◌, ◌==◌, ◌≢◌, ℕ, ◌+◌, ◌<◌, ◌≤◌, ◌⊎◌, inl, inr, ⊎_elim, List, [], ◌∷◌, ◌++◌, length, set, slice_set, refl, sym, ap, ◌∙◌, subst, arith}
 use Rattle.std.specs.Prelude.{Option, Some, None, IfSome, IsSomeAnd, slice_get}
 use Rattle.std.proofs.lemmas.List.{append-nil, length-append}
 use Rattle.std.proofs.Math.Nat.{min-eq_left}
@@ -21,19 +21,23 @@ use Rattle.node_ops.specs.declared.running.Running.{Running}
 use Rattle.cat_history.specs.Records.{change_of}
 use Rattle.node_ops.specs.Asked.{IsOf, name_asked}
 use Rattle.node_ops.proofs.OpLaw.{op_told}
+use Rattle.node_ops.specs.Endings.{IsPutOp}
+use Rattle.std.specs.FinMap.{keys}
+use Rattle.shapes.proofs.Shapes.{len-keys}
+use Rattle.shapes.proofs.NameLists.{filter-short}
 use Rattle.index_law.specs.Worlds.{written}
 use Rattle.index_law.proofs.Maps.{after-longer, after-whole, slice_get-last}
 use Rattle.index_law.proofs.Parties.{at_set, at_longer}
-use Rattle.index_core.specs.declared.entry.CoreCall.{CoreCall}
-use Rattle.index_core.specs.declared.entry.CoreCall.TheVariants as call
-use Rattle.index_core.specs.declared.entry.Entry.{Entry}
-use Rattle.index_core.specs.declared.entry.Whole.{Whole}
-use Rattle.index_core.specs.declared.entry.Whole.TheVariants as whole
-use Rattle.index_core.specs.Answers.{TookPlace, IsPut, FoundNoRoom}
+use Rattle.index_core.specs.declared.party.CoreCall.{CoreCall}
+use Rattle.index_core.specs.declared.party.CoreCall.TheVariants as call
+use Rattle.index_core.specs.declared.party.PartyState.{PartyState}
+use Rattle.index_core.specs.declared.party.Whole.{Whole}
+use Rattle.index_core.specs.declared.party.Whole.TheVariants as whole
+use Rattle.index_core.specs.Answers.{TookPlace, FoundNoRoom}
 use Rattle.index_core.specs.CoreCalls.{machine_of, op_of, limit_of}
-use Rattle.index_core.specs.Entries.{entry_with, next_index}
+use Rattle.index_core.specs.PartyStates.{state_with, next_index}
 use Rattle.index_core.specs.Indexes.{Index, IsIndex, map_of_index, view_of, started_index}
-use Rattle.index_core.specs.Lone.{IsQuiet, FindsNoRoom, IsWhole, placed_writes, entry_done}
+use Rattle.index_core.specs.Lone.{IsQuiet, FindsNoRoom, names_beside, node_for, IsWholeAnswer, alone_writes, state_done}
 use Rattle.index_core.specs.Schedules.{BegunCall, AnsweredCall, begun_call, flying_call, once_of, IsNext, flying_in, IsAnsweredWrite, IsWriteInFlight, AreCounted}
 use Rattle.index_core.proofs.Alone.{begins_limit}
 use Rattle.index_core.proofs.Flights.{each_starts, each_alone}
@@ -49,7 +53,7 @@ below_limit (Some most) count none = elim (cases_lt count most) [
 ]
 
 -- one call more of a party that is idle
-module _ (first : Index) (begun : List BegunCall) (calls : List AnsweredCall) (s : Index) (i : ℕ) (e : Entry) (c : CoreCall) (k : Kept first begun calls s) (there : get_elem? s.entries i ≡ some e) (idle : e.machine ≡ None) where
+module _ (first : Index) (begun : List BegunCall) (calls : List AnsweredCall) (s : Index) (i : ℕ) (e : PartyState) (c : CoreCall) (k : Kept first begun calls s) (there : get_elem? s.states i ≡ some e) (idle : e.machine ≡ None) where
   abbrev b : BegunCall
   b = begun_call e (length s.history) c
 
@@ -69,26 +73,26 @@ module _ (first : Index) (begun : List BegunCall) (calls : List AnsweredCall) (s
         let long = longer in
         min-eq_left (omega arith)
 
-    counts_more : (now : Entry) → now.index + in_flight now.machine ≤ e.index + 1 → (p : ℕ) (entry : Entry) → get_elem? (set s.entries i now) p ≡ some entry → CountsUpTo first more p entry
-    counts_more now one_more p entry at_p =
+    counts_more : (now : PartyState) → now.index + in_flight now.machine ≤ e.index + 1 → (p : ℕ) (state : PartyState) → get_elem? (set s.states i now) p ≡ some state → CountsUpTo first more p state
+    counts_more now one_more p state at_p =
         let long = longer in
         ⊎_elim
-        (λ (mine : (p ≡ i) × (now ≡ entry)).
+        (λ (mine : (p ≡ i) × (now ≡ state)).
         let counts = k.counts i e there in
         let most = counts.most in
-        subst (CountsUpTo first more p) mine.1 (record { was = counts.was; there = ap (get_elem? first.entries) mine.0 ∙ counts.there; most = omega arith }))
-        (λ (other : (p ≢ i) × (get_elem? s.entries p ≡ some entry)).
-        let counts = k.counts p entry other.1 in
+        subst (CountsUpTo first more p) mine.1 (record { was = counts.was; there = ap (get_elem? first.states) mine.0 ∙ counts.there; most = omega arith }))
+        (λ (other : (p ≢ i) × (get_elem? s.states p ≡ some state)).
+        let counts = k.counts p state other.1 in
         let most = counts.most in
         record { was = counts.was; there = counts.there; most = omega arith })
-        (at_set s.entries i p now entry at_p)
+        (at_set s.states i p now state at_p)
 
     module _ (n : ℕ) (of : IsOf (op_of c) (machine_of (view_of s i) c)) where
       abbrev m : Running
       m = machine_of (view_of s i) c
 
-      abbrev now : Entry
-      now = entry_with e (length s.history) m
+      abbrev now : PartyState
+      now = state_with e (length s.history) m
 
       now_flies : flying_call now m ≡ b
       now_flies = λ t. record { caller = e.caller; index = e.index; op = op_told (op_of c) m of t; limit = begins_limit s i c t; since = length s.history }
@@ -100,19 +104,19 @@ module _ (first : Index) (begun : List BegunCall) (calls : List AnsweredCall) (s
         base_is = k.base_is;
         holds = k.holds;
         order = k.order;
-        earlier = λ j a p entry at at_p caller. ⊎_elim
-            (λ (mine : (p ≡ i) × (now ≡ entry)).
+        earlier = λ j a p state at at_p caller. ⊎_elim
+            (λ (mine : (p ≡ i) × (now ≡ state)).
             let before : a.next ≤ e.index = subst (IsEarlier a e) idle (k.earlier j a i e at there (caller ∙ mine.0)) in
-            subst (λ (d : Entry). IsEarlier a d d.machine) mine.1 (before, (k.holds j a at).1))
-            (λ (other : (p ≢ i) × (get_elem? s.entries p ≡ some entry)). k.earlier j a p entry at other.1 caller)
-            (at_set s.entries i p now entry at_p);
+            subst (λ (d : PartyState). IsEarlier a d d.machine) mine.1 (before, (k.holds j a at).1))
+            (λ (other : (p ≢ i) × (get_elem? s.states p ≡ some state)). k.earlier j a p state at other.1 caller)
+            (at_set s.states i p now state at_p);
         writes = λ place write stands. ⊎_elim
             (λ (w : IsAnsweredWrite calls place write). inl w)
-            (λ (w : IsWriteInFlight s.entries place write). inr (record {
+            (λ (w : IsWriteInFlight s.states place write). inr (record {
               party = w.party;
-              entry = w.entry;
+              state = w.state;
               machine = w.machine;
-              there = else_there s.entries i w.party now w.entry (elsewhere w.party w.entry w.machine w.there w.flies) w.there;
+              there = else_there s.states i w.party now w.state (elsewhere w.party w.state w.machine w.there w.flies) w.there;
               flies = w.flies;
               place = w.place;
               caller = w.caller;
@@ -121,30 +125,30 @@ module _ (first : Index) (begun : List BegunCall) (calls : List AnsweredCall) (s
             }))
             (k.writes place write stands);
         next = k.next;
-        each_call = each_starts begun calls s.entries k.each_call i e now there b (ap (flying_in e) idle) (ap (λ (c : BegunCall). c ∷ []) now_flies);
+        each_call = each_starts begun calls s.states k.each_call i e now there b (ap (flying_in e) idle) (ap (λ (c : BegunCall). c ∷ []) now_flies);
         counts = counts_more now (omega arith);
       }
         where
           -- no call is in flight there
-          elsewhere : (p : ℕ) (entry : Entry) (machine : Running) → get_elem? s.entries p ≡ some entry → entry.machine ≡ Some machine → p ≢ i
-          elsewhere p entry machine at flown same =
-              let here : entry ≡ e = some-injective _ _ (sym (subst (λ (j : ℕ). get_elem? s.entries j ≡ some entry) same at) ∙ there) in
-              let both : None ≡ Some machine = sym idle ∙ ap (λ (d : Entry). d.machine) (sym here) ∙ flown in
+          elsewhere : (p : ℕ) (state : PartyState) (machine : Running) → get_elem? s.states p ≡ some state → state.machine ≡ Some machine → p ≢ i
+          elsewhere p state machine at flown same =
+              let here : state ≡ e = some-injective _ _ (sym (subst (λ (j : ℕ). get_elem? s.states j ≡ some state) same at) ∙ there) in
+              let both : None ≡ Some machine = sym idle ∙ ap (λ (d : PartyState). d.machine) (sym here) ∙ flown in
               cc
 
     -- a whole call
-    module _ (result : Whole) (quiet : IsQuiet s) (is : IsWhole s c result) where
+    module _ (result : Whole) (quiet : IsQuiet s) (is : IsWholeAnswer s c result) where
       abbrev base : Map
       base = map_of first.base
 
       abbrev history : List Write
-      history = s.history ++ placed_writes e.caller e.index c result
+      history = s.history ++ alone_writes e.caller e.index c result
 
       abbrev a : AnsweredCall
       a = record { call = b; until = length history; answer = once_of result; next = next_index e.index }
 
-      abbrev done : Entry
-      done = entry_done e (length s.history)
+      abbrev done : PartyState
+      done = state_done e (length s.history)
 
       map_is : (h : List Write) (place : ℕ) → place ≡ length s.history → after base (s.history ++ h) place ≡ map_of_index s
       map_is h place last =
@@ -187,7 +191,7 @@ module _ (first : Index) (begun : List BegunCall) (calls : List AnsweredCall) (s
           )
 
       -- a put that found no room found none at the end of the history
-      lacked_room : (d : CoreCall) → FindsNoRoom d s → IsPut (op_of d) × FoundNoRoom first.layout.slots base (s.history ++ []) (length s.history) (length (s.history ++ [])) (name_asked (op_of d))
+      lacked_room : (d : CoreCall) → FindsNoRoom d s → IsPutOp (op_of d) × FoundNoRoom first.layout.slots base (s.history ++ []) (length s.history) (length (s.history ++ [])) (name_asked (op_of d))
       lacked_room (call.Put name value limit) none =
           let same : after base (s.history ++ []) (length s.history) ≡ map_of_index s = map_is [] (length s.history) refl in
           let long = length-append s.history [] in (
@@ -197,15 +201,19 @@ module _ (first : Index) (begun : List BegunCall) (calls : List AnsweredCall) (s
               later = omega arith;
               within = omega arith;
               lacked = ap (λ (m : Map). at m name) same ∙ none.0;
-              many = let full : len (after base (s.history ++ []) (length s.history)) ≡ first.layout.slots = ap len same ∙ none.1 ∙ ap (λ (l : Layout). l.slots) k.layout_is in omega arith;
+              many =
+                  let all : len (after base (s.history ++ []) (length s.history)) ≡ length (keys (map_of_index s)) = ap len same ∙ len-keys (map_of_index s) in
+                  let some_of = filter-short (λ other. node_for s other == node_for s name) (keys (map_of_index s)) in
+                  let full : length (names_beside s name) ≡ first.layout.slots = none.1 ∙ ap (λ (l : Layout). l.slots) k.layout_is in
+                  omega arith;
             },
           )
       lacked_room (call.Get name) none = absurd none
       lacked_room (call.Del name limit) none = absurd none
 
-      tells : (r : Whole) → IsWhole s c r
-          → AnswerHolds first.layout.slots base (s.history ++ placed_writes e.caller e.index c r) b (length (s.history ++ placed_writes e.caller e.index c r)) (once_of r)
-      tells (whole.Placed placed) why = let both = took (op_of c) placed (below_limit (limit_of c) (length s.history) why.1) why.3 why.4 in (both.0, both.0.within, both.1)
+      tells : (r : Whole) → IsWholeAnswer s c r
+          → AnswerHolds first.layout.slots base (s.history ++ alone_writes e.caller e.index c r) b (length (s.history ++ alone_writes e.caller e.index c r)) (once_of r)
+      tells (whole.Placed placed) why = let both = took (op_of c) placed (below_limit (limit_of c) (length s.history) why.0.1) why.1 why.2 in (both.0, both.0.within, both.1)
       tells whole.Full why = λ full. lacked_room c why.2
       tells (whole.Spent clock) why =
           let last = why.2 in
@@ -214,7 +222,7 @@ module _ (first : Index) (begun : List BegunCall) (calls : List AnsweredCall) (s
       tells (whole.Worn node word) why = tt
 
       -- its write is the last
-      last_write : (r : Whole) → IsWhole s c r → (place : ℕ) (write : Write) → slice_get (s.history ++ placed_writes e.caller e.index c r) place ≡ Some write
+      last_write : (r : Whole) → IsWholeAnswer s c r → (place : ℕ) (write : Write) → slice_get (s.history ++ alone_writes e.caller e.index c r) place ≡ Some write
           → (slice_get s.history place ≡ Some write) ⊎ ((placed : Placed) × (once_of r ≡ once.Done placed) × (placed.place ≡ place) × (write.caller ≡ e.caller) × (write.index ≡ e.index) × (change_of (op_of c) ≡ Some write.change))
       last_write (whole.Placed placed) why place write stands = at (change_of (op_of c)) refl stands
         where
@@ -225,7 +233,7 @@ module _ (first : Index) (begun : List BegunCall) (calls : List AnsweredCall) (s
               ⊎_elim
               (λ (before : slice_get s.history place ≡ Some write). inl before)
               (λ (last : (place ≡ length s.history) × (record { caller = e.caller; index = e.index; change = change } ≡ write)).
-              inr (placed, refl, why.4 ∙ sym last.0, ap (λ (w : Write). w.caller) (sym last.1), ap (λ (w : Write). w.index) (sym last.1), asks ∙ ap (λ (w : Write). Some w.change) last.1))
+              inr (placed, refl, why.2 ∙ sym last.0, ap (λ (w : Write). w.caller) (sym last.1), ap (λ (w : Write). w.index) (sym last.1), asks ∙ ap (λ (w : Write). Some w.change) last.1))
               (got_end s.history (record { caller = e.caller; index = e.index; change = change }) write place stands)
       last_write whole.Full why place write stands = inl (subst (λ (h : List Write). slice_get h place ≡ Some write) (append-nil s.history) stands)
       last_write (whole.Spent clock) why place write stands = inl (subst (λ (h : List Write). slice_get h place ≡ Some write) (append-nil s.history) stands)
@@ -242,7 +250,7 @@ module _ (first : Index) (begun : List BegunCall) (calls : List AnsweredCall) (s
       before_it j d at caller = subst (IsEarlier d e) idle (k.earlier j d i e at there caller)
 
       caller_is : e.caller ≡ i
-      caller_is = (k.index.entries i e there).caller
+      caller_is = (k.index.states i e there).caller
 
       ordered : (p q : ℕ) (u v : AnsweredCall) → get_elem? (calls ++ a ∷ []) p ≡ some u → get_elem? (calls ++ a ∷ []) q ≡ some v → p < q → u.call.caller ≡ v.call.caller → (u.next ≤ v.call.index) × (u.until ≤ v.call.since)
       ordered p q u v at_p at_q less caller =
@@ -261,7 +269,7 @@ module _ (first : Index) (begun : List BegunCall) (calls : List AnsweredCall) (s
 
       -- the index after it, as far as schedules speak of it
       abbrev after_it : Index → Index
-      after_it new = record new { entries = slice_set s.entries i done; base = s.base; history = history }
+      after_it new = record new { states = slice_set s.states i done; base = s.base; history = history }
 
       pub kept_alone : (new : Index) → new.layout ≡ s.layout → IsIndex (after_it new) → Kept first more (calls ++ a ∷ []) (after_it new)
       kept_alone new layout index = record {
@@ -269,25 +277,25 @@ module _ (first : Index) (begun : List BegunCall) (calls : List AnsweredCall) (s
         layout_is = layout ∙ k.layout_is;
         base_is = k.base_is;
         holds = λ j d at. ⊎_elim
-            (λ (old : get_elem? calls j ≡ some d). longer_call first.layout.slots base s.history (placed_writes e.caller e.index c result) d (k.holds j d old))
+            (λ (old : get_elem? calls j ≡ some d). longer_call first.layout.slots base s.history (alone_writes e.caller e.index c result) d (k.holds j d old))
             (λ (last : (j ≡ length calls) × (a ≡ d)). subst (CallHolds first.layout.slots base history) last.1 (tells result is, omega arith))
             (at_end calls a d j at);
         order = ordered;
-        earlier = λ j d p entry at at_p caller. ⊎_elim
-            (λ (mine : (p ≡ i) × (done ≡ entry)). let up = went_up in ⊎_elim
+        earlier = λ j d p state at at_p caller. ⊎_elim
+            (λ (mine : (p ≡ i) × (done ≡ state)). let up = went_up in ⊎_elim
             (λ (old : get_elem? calls j ≡ some d).
             let before = before_it j d old (caller ∙ mine.0) in
             let less : d.next ≤ done.index = omega arith in
-            subst (λ (q : Entry). IsEarlier d q q.machine) mine.1 less)
+            subst (λ (q : PartyState). IsEarlier d q q.machine) mine.1 less)
             (λ (last : (j ≡ length calls) × (a ≡ d)).
             let less : a.next ≤ done.index = omega arith in
-            subst (λ (q : Entry × AnsweredCall). IsEarlier q.1 q.0 q.0.machine) (λ t. (mine.1 t, last.1 t)) less)
+            subst (λ (q : PartyState × AnsweredCall). IsEarlier q.1 q.0 q.0.machine) (λ t. (mine.1 t, last.1 t)) less)
             (at_end calls a d j at))
-            (λ (other : (p ≢ i) × (get_elem? s.entries p ≡ some entry)). ⊎_elim
-            (λ (old : get_elem? calls j ≡ some d). k.earlier j d p entry old other.1 caller)
+            (λ (other : (p ≢ i) × (get_elem? s.states p ≡ some state)). ⊎_elim
+            (λ (old : get_elem? calls j ≡ some d). k.earlier j d p state old other.1 caller)
             (λ (last : (j ≡ length calls) × (a ≡ d)). absurd (other.0 (sym caller ∙ ap (λ (q : AnsweredCall). q.call.caller) (sym last.1) ∙ caller_is)))
             (at_end calls a d j at))
-            (at_set s.entries i p done entry at_p);
+            (at_set s.states i p done state at_p);
         writes = λ place write stands. inl (⊎_elim
             (λ (before : slice_get s.history place ≡ Some write). ⊎_elim
             (λ (w : IsAnsweredWrite calls place write). record {
@@ -301,7 +309,7 @@ module _ (first : Index) (begun : List BegunCall) (calls : List AnsweredCall) (s
               index = w.index;
               change = w.change;
             })
-            (λ (w : IsWriteInFlight s.entries place write). absurd (none_flies w.party w.entry w.machine w.there w.flies))
+            (λ (w : IsWriteInFlight s.states place write). absurd (none_flies w.party w.state w.machine w.there w.flies))
             (k.writes place write before))
             (λ last. record {
               number = length calls;
@@ -319,9 +327,9 @@ module _ (first : Index) (begun : List BegunCall) (calls : List AnsweredCall) (s
             (λ (old : get_elem? calls j ≡ some d). k.next j d old)
             (λ (last : (j ≡ length calls) × (a ≡ d)). subst (λ (q : AnsweredCall). IsNext q.call.index q.next q.answer) last.1 (next_alone result))
             (at_end calls a d j at);
-        each_call = each_alone begun calls s.entries k.each_call i e done there a (ap (flying_in e) idle) refl;
+        each_call = each_alone begun calls s.states k.each_call i e done there a (ap (flying_in e) idle) refl;
         counts = counts_more done (let up = went_up in omega arith);
       }
         where
-          none_flies : (p : ℕ) (entry : Entry) (machine : Running) → get_elem? s.entries p ≡ some entry → entry.machine ≡ Some machine → ⊥
-          none_flies p entry machine at flown = let both : None ≡ Some machine = sym (quiet p entry at) ∙ flown in cc
+          none_flies : (p : ℕ) (state : PartyState) (machine : Running) → get_elem? s.states p ≡ some state → state.machine ≡ Some machine → ⊥
+          none_flies p state machine at flown = let both : None ≡ Some machine = sym (quiet p state at) ∙ flown in cc

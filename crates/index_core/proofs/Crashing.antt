@@ -5,10 +5,10 @@ use Rattle.std.proofs.lemmas.List.Elements.{Contains-append_left, Contains-appen
 use mathlib.Core.Option.{some, some-injective, some-ne-none}
 use lib.ListN.{get_elem?}
 use Rattle.pm_words.specs.Images.{Row}
-use Rattle.pm_words.specs.Places.{image_words}
+use Rattle.pm_words.specs.Locations.{image_words}
 use Rattle.pm_words.specs.Rows.{evicted, durable_row}
 use Rattle.cat_history.specs.declared.op.Change.{Change}
-use Rattle.call_stages.specs.Stages.{Stage, Idle, Saw, Holds, pending_in, placed_in}
+use Rattle.call_stages.specs.Stages.{Held, Stage, Idle, Saw, Wears, Holds, Eyes, Splits, Leaves, Meets, Joins, pending_in, placed_in}
 use Rattle.node_ops.specs.declared.running.Running.{Running}
 use Rattle.node_ops.specs.Asked.{IsOf, IsAbout, op_in, name_asked}
 use Rattle.node_ops.specs.RunningSteps.{IsRunning, Sound}
@@ -17,22 +17,27 @@ use Rattle.node_ops.proofs.OpLaw.{pends_own_change, holds_own_name}
 use Rattle.index_law.specs.Worlds.{Party, facts}
 use Rattle.index_law.specs.Lawful.{Sure, IsPlaced}
 use Rattle.index_law.specs.Laws.{HasPending}
-use Rattle.index_law.proofs.Crashes.{crash_law}
+use Rattle.sound_image.specs.Sound.{image_map}
+use Rattle.data_node.specs.Lists.{members_from}
+use Rattle.data_node.specs.Weights.{list_weight}
+use Rattle.index_law.specs.Weights.{weight_sum}
+use Rattle.index_law.proofs.Images.{image_law, in_image}
 use Rattle.index_law.proofs.Evictions.{evict_law}
 use Rattle.index_law.proofs.Weights.{crash_weighs}
-use Rattle.index_core.specs.declared.entry.Entry.{Entry}
+use Rattle.index_core.specs.declared.party.PartyState.{PartyState}
 use Rattle.index_core.specs.Crashes.{IsCrash, AreRunning, evicted_index, unplaced, cut_change, cut_changes}
-use Rattle.index_core.specs.Entries.{machine_stage, party_of}
+use Rattle.index_core.specs.PartyStates.{machine_stage, party_of}
+use Rattle.index_core.specs.Weights.{crash_weight}
 use Rattle.index_core.specs.Indexes.{Index, IsIndex, world}
 use Rattle.index_core.proofs.Lists.{map_there, map_from}
 
 pub evict_keeps : (s : Index) (word : ℕ) → IsIndex s → word < image_words s.layout → IsIndex (evicted_index s word)
 evict_keeps s word is within = record {
   lawful = evict_law (world s) word is.lawful within;
-  callers = is.callers;
-  entries = is.entries;
-  names = is.names;
+  parties = is.parties;
+  states = is.states;
   ordered = is.ordered;
+  bounded = is.bounded;
 }
 
 -- the index with this row
@@ -43,21 +48,21 @@ pub evict_at : (s : Index) (word : ℕ) (row : Row) → row ≡ record { layout 
 evict_at s word row is = λ k. with_row s (is k)
 
 -- each call in flight is sound
-pub are_running : (s : Index) → IsIndex s → AreRunning s.entries
-are_running s is i entry there = at entry.machine (is.entries i entry there).machine
+pub are_running : (s : Index) → IsIndex s → AreRunning s.states
+are_running s is i state there = at state.machine (is.states i state there).machine
   where
     at : (machine : Option Running) → IfSome machine (Sound s.layout s.generation) → IfSome machine IsRunning
     at None sound = tt
     at (Some machine) sound = sound.here
 
 -- the change of a party whose call is in flight is among those that are cut off
-cut_there : (entries : List Entry) (i : ℕ) (entry : Entry) (change : Change) → get_elem? entries i ≡ some entry → cut_change entry.machine ≡ change ∷ [] → Contains (cut_changes entries) change
-cut_there [] i entry change there is = absurd (some-ne-none entry (sym there))
-cut_there (first ∷ entries) zero entry change there is =
-    let own : cut_change first.machine ≡ change ∷ [] = ap (λ (e : Entry). cut_change e.machine) (some-injective first entry there) ∙ is in
-    Contains-append_left (cut_change first.machine) (cut_changes entries) change (subst (λ (changes : List Change). Contains changes change) (sym own) (0, omega arith, refl))
-cut_there (first ∷ entries) (suc i) entry change there is =
-    Contains-append_right (cut_change first.machine) (cut_changes entries) change (cut_there entries i entry change there is)
+cut_there : (states : List PartyState) (i : ℕ) (state : PartyState) (change : Change) → get_elem? states i ≡ some state → cut_change state.machine ≡ change ∷ [] → Contains (cut_changes states) change
+cut_there [] i state change there is = absurd (some-ne-none state (sym there))
+cut_there (first ∷ states) zero state change there is =
+    let own : cut_change first.machine ≡ change ∷ [] = ap (λ (e : PartyState). cut_change e.machine) (some-injective first state there) ∙ is in
+    Contains-append_left (cut_change first.machine) (cut_changes states) change (subst (λ (changes : List Change). Contains changes change) (sym own) (0, omega arith, refl))
+cut_there (first ∷ states) (suc i) state change there is =
+    Contains-append_right (cut_change first.machine) (cut_changes states) change (cut_there states i state change there is)
 
 -- a change that a stage has pending is the unplaced one of its machine
 pending_cut : (machine : Option Running) (change : Change) → IfSome machine (λ m. IsOf (op_in m) m) → pending_in (machine_stage machine) ≡ Some change → cut_change machine ≡ change ∷ []
@@ -67,41 +72,55 @@ pending_cut (Some machine) change of told =
     (λ k. unplaced (own.1 k) (own.0 k))
 
 -- a call that has its place stands there, and got it after its start
-placed_since : (s : Index) → IsIndex s → (i place : ℕ) (entry : Entry) (machine : Running) → get_elem? s.entries i ≡ some entry → entry.machine ≡ Some machine
-    → placed_in (stage_of machine) ≡ Some place → IsPlaced s.history entry.caller entry.index entry.since (name_asked (op_in machine)) place
-placed_since s is i place entry machine there flies told =
-    at (stage_of machine) (subst (Sure s.layout s.generation (facts (world s)) entry.caller entry.index entry.since) (ap machine_stage flies) (is.lawful.sure i (party_of entry) (map_there party_of s.entries i entry there)))
-    (holds_own_name (op_in machine) machine (subst (λ (o : Option Running). IfSome o (λ m. IsOf (op_in m) m)) flies (is.entries i entry there).op)) told
+placed_since : (s : Index) → IsIndex s → (i place : ℕ) (state : PartyState) (machine : Running) → get_elem? s.states i ≡ some state → state.machine ≡ Some machine
+    → placed_in (stage_of machine) ≡ Some place → IsPlaced s.history state.caller state.index state.since (name_asked (op_in machine)) place
+placed_since s is i place state machine there flies told =
+    at (stage_of machine) (subst (Sure s.layout s.generation (facts (world s)) state.caller state.index state.since) (ap machine_stage flies) (is.lawful.sure i (party_of state) (map_there party_of s.states i state there)))
+    (holds_own_name (op_in machine) machine (subst (λ (o : Option Running). IfSome o (λ m. IsOf (op_in m) m)) flies (is.states i state there).op)) told
   where
-    at : (stage : Stage) → Sure s.layout s.generation (facts (world s)) entry.caller entry.index entry.since stage → IsAbout (name_asked (op_in machine)) stage → placed_in stage ≡ Some place
-        → IsPlaced s.history entry.caller entry.index entry.since (name_asked (op_in machine)) place
-    at Idle sure about told = absurd cc
-    at (Saw n v w) sure about told = absurd cc
-    at (Holds n w h) sure about told =
-        subst (λ (name : List ℕ). IsPlaced s.history entry.caller entry.index entry.since name place) about
-        (subst (λ (o : Option ℕ). IfSome o (IsPlaced s.history entry.caller entry.index entry.since h.name)) told sure.placed)
+    own : (h : Held) → IfSome h.placed (IsPlaced s.history state.caller state.index state.since h.name) → h.name ≡ name_asked (op_in machine) → h.placed ≡ Some place
+        → IsPlaced s.history state.caller state.index state.since (name_asked (op_in machine)) place
+    own h placed about told =
+        subst (λ (name : List ℕ). IsPlaced s.history state.caller state.index state.since name place) about
+        (subst (λ (o : Option ℕ). IfSome o (IsPlaced s.history state.caller state.index state.since h.name)) told placed)
 
-pub placed_later : (s : Index) → IsIndex s → (i place : ℕ) (entry : Entry) (machine : Running) → get_elem? s.entries i ≡ some entry → entry.machine ≡ Some machine
-    → placed_in (stage_of machine) ≡ Some place → entry.since ≤ place
-placed_later s is i place entry machine there flies told = (placed_since s is i place entry machine there flies told).later
+    at : (stage : Stage) → Sure s.layout s.generation (facts (world s)) state.caller state.index state.since stage → IsAbout (name_asked (op_in machine)) stage → placed_in stage ≡ Some place
+        → IsPlaced s.history state.caller state.index state.since (name_asked (op_in machine)) place
+    at Idle sure about told = absurd cc
+    at (Saw n v w k) sure about told = absurd cc
+    at (Wears n v) sure about told = absurd cc
+    at (Splits left fresh phase) sure about told = absurd cc
+    at (Leaves left) sure about told = absurd cc
+    at (Holds n w h) sure about told = own h sure.placed about told
+    at (Eyes n w h m v u free) sure about told = own h sure.0.placed about told
+    at (Meets n w h right) sure about told = own h sure.0.placed about told
+    at (Joins h left right pace) sure about told = own h sure.call.placed about told
+
+pub placed_later : (s : Index) → IsIndex s → (i place : ℕ) (state : PartyState) (machine : Running) → get_elem? s.states i ≡ some state → state.machine ≡ Some machine
+    → placed_in (stage_of machine) ≡ Some place → state.since ≤ place
+placed_later s is i place state machine there flies told = (placed_since s is i place state machine there flies told).later
 
 -- each pending change is among those that are cut off
-pending_there : (s : Index) → IsIndex s → (change : Change) → HasPending (world s).parties change → Contains (cut_changes s.entries) change
+pending_there : (s : Index) → IsIndex s → (change : Change) → HasPending (world s).parties change → Contains (cut_changes s.states) change
 pending_there s is change has =
-    let from = map_from party_of s.entries has.place has.party has.there in
-    cut_there s.entries has.place from.0 change from.1
-    (pending_cut from.0.machine change (is.entries has.place from.0 from.1).op (ap (λ (p : Party). pending_in p.stage) from.2 ∙ has.pending))
+    let from = map_from party_of s.states has.number has.party has.there in
+    cut_there s.states has.number from.0 change from.1
+    (pending_cut from.0.machine change (is.states has.number from.0 from.1).op (ap (λ (p : Party). pending_in p.stage) from.2 ∙ has.pending))
 
-pub crash_is : (s : Index) (image : Row) (cuts : List Entry) → IsIndex s → image ≡ record { layout = s.layout; words = durable_row s.layout s.words } → cuts ≡ s.entries → IsCrash s image cuts
+-- the image that a crash leaves weighs no more than the sum
+pub crash_light : (s : Index) → IsIndex s → crash_weight s ≤ weight_sum (world s)
+crash_light s is = in_image s.layout s.words (λ now. list_weight s.layout.slots now (members_from now s.layout.nodes 0) ≤ weight_sum (world s)) (crash_weighs (world s) is.lawful)
+
+pub crash_is : (s : Index) (image : Row) (cuts : List PartyState) → IsIndex s → image ≡ record { layout = s.layout; words = durable_row s.layout s.words } → cuts ≡ s.states → IsCrash s image cuts
 crash_is s image cuts is leaves cut_off =
-    let law = crash_law (world s) is.lawful is.names in
+    let law = image_law (world s) is.lawful in
     record {
       leaves = leaves;
       cut_off = cut_off;
       sound = law.sound;
-      weighs = crash_weighs (world s) is.lawful;
-      end = law.end;
+      weighs = crash_light s is;
+      end = image_map s.layout (durable_row s.layout s.words);
       keeps = law.keeps;
-      ends = law.ends (cut_changes s.entries) (pending_there s is);
-      placed = λ i place entry machine there flies told. (placed_since s is i place entry machine there flies told).write;
+      ends = law.ends (cut_changes s.states) (pending_there s is);
+      placed = λ i place state machine there flies told. (placed_since s is i place state machine there flies told).write;
     }

@@ -222,7 +222,7 @@ module _ (base : Map) (begun : List BegunCall) (calls : List AnsweredCall) (s : 
       ∙ ap (option_map (λ (change : Change). (w.placed.place, record { caller = w.answered.call.caller; index = w.answered.call.index; change = change }))) w.change
       ∙ (λ i. Some (w.place i, record { caller = sym w.caller i; index = sym w.index i; change = write.change })) in
       gives-here write_told calls w.number w.answered (place, write) w.there is)
-      (λ (w : IsWriteInFlight s.entries place write). absurd (let both : None ≡ Some w.machine = sym (quiet w.party w.entry w.there) ∙ w.flies in cc))
+      (λ (w : IsWriteInFlight s.states place write). absurd (let both : None ≡ Some w.machine = sym (quiet w.party w.state w.there) ∙ w.flies in cc))
       (legal.writes place write stands)
 
   by-place : IsQuiet s → IsPermutation (placed_writes (records_of calls)) (enumerate_from 0 s.history)

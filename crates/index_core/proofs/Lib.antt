@@ -1,16 +1,12 @@
 pub mod Lists
 pub mod Owing
-pub mod Phases
-pub mod Places
 pub mod Ordering
+pub mod Bounds
 pub mod Stepping
 pub mod Reading
 pub mod Crashing
 pub mod Fresh
 pub mod Answering
-pub mod Lonely
-pub mod Weighing
-pub mod Alone
 pub mod Flights
 pub mod Scheduling
 pub mod Beginning
@@ -19,3 +15,6 @@ pub mod OneHistory
 pub mod LegalRounds
 pub mod Shown
 pub mod WeightLaw
+pub mod MachineLaw
+pub mod Alone
+pub mod Endings

@@ -1,6 +1,6 @@
 -- How far past a limit the writes of a schedule are placed.
 use Rattle.std.proofs.Common.{◌≡◌, ◌≢◌, ℕ, ◌+◌, ◌<◌, ◌≤◌, ◌⊎◌, ⊎_elim, List, [], ◌∷◌, length, refl, sym, ap, ◌∙◌, subst, arith}
-use Rattle.std.specs.Prelude.{Option, Some, IfSome, Contains, slice_get}
+use Rattle.std.specs.Prelude.{Option, Some, None, IfSome, Contains, slice_get}
 use Rattle.std.proofs.lemmas.Bool.{cases_order}
 use Rattle.std.proofs.lemmas.List.{get_or-map, length-map}
 use Rattle.std.proofs.lemmas.List.Elements.{All-contains}
@@ -16,21 +16,21 @@ use Rattle.cat_history.specs.declared.op.Op.TheVariants as op
 use Rattle.cat_history.specs.declared.op.Write.{Write}
 use Rattle.call_stages.specs.declared.once.Once.TheVariants as once
 use Rattle.call_stages.specs.declared.once.Placed.{Placed}
-use Rattle.call_stages.specs.Stages.{Stage, Idle, Saw, Holds, placed_in}
+use Rattle.call_stages.specs.Stages.{Stage, Idle, Saw, Wears, Holds, Eyes, Splits, Leaves, Meets, Joins, placed_in}
 use Rattle.node_ops.specs.declared.running.Running.{Running}
 use Rattle.node_ops.specs.RunningSteps.{running_call}
 use Rattle.node_ops.specs.CallStages.{stage_of}
 use Rattle.index_law.specs.Worlds.{facts}
 use Rattle.index_law.specs.Lawful.{Sure}
-use Rattle.index_core.specs.declared.entry.Entry.{Entry}
-use Rattle.index_core.specs.Entries.{machine_stage, party_of}
+use Rattle.index_core.specs.declared.party.PartyState.{PartyState}
+use Rattle.index_core.specs.PartyStates.{machine_stage, party_of}
 use Rattle.index_core.specs.Indexes.{Index, IsIndex, world}
 use Rattle.index_core.specs.Schedules.{BegunCall, AnsweredCall, flying_call, IsAnsweredWrite, IsWriteInFlight, CarryLimit, callers_of}
 use Rattle.index_core.proofs.Crashing.{placed_later}
 use Rattle.index_core.proofs.Flights.{answered_begun, flying_begun}
 use Rattle.index_core.proofs.Lists.{map_there, some_same}
-use Rattle.index_core.proofs.Phases.{Phase, Begun, Seen, Locking, Over, Timed, Counted, phase_of}
-use Rattle.index_core.proofs.Places.{place_in, place_is, IsBelow, limit_in, limit_is}
+use Rattle.node_ops.specs.Endings.{limit_in}
+use Rattle.node_ops.proofs.Endings.{placed_is_in_time}
 use Rattle.index_core.proofs.Scheduling.{IsEarlier, AnswerHolds, Kept}
 
 -- where an interval ends, if it is of a write
@@ -39,25 +39,22 @@ write_end (op.Put _ _) place change asks = omega arith
 write_end (op.Get _) place change asks = absurd cc
 write_end (op.Del _) place change asks = omega arith
 
--- a call that has a place loaded a clock below its limit
-placed_below : (phase : Phase) (place : ℕ) → place_in phase ≡ Some place → IsBelow phase
-placed_below Begun place is = absurd cc
-placed_below (Seen v w) place is = absurd cc
-placed_below (Locking w) place is = absurd cc
-placed_below (Over w clock) place is = absurd cc
-placed_below (Timed w clock) place is = tt
-placed_below (Counted w own) place is = tt
-
--- and began below it
-began_below : (s : Index) → IsIndex s → (i place : ℕ) (entry : Entry) (machine : Running) → get_elem? s.entries i ≡ some entry → entry.machine ≡ Some machine → placed_in (stage_of machine) ≡ Some place
-    → IfSome (running_call machine).limit (λ most. entry.since < most)
-began_below s is i place entry machine there flies told =
-    subst (λ (limit : Option ℕ). IfSome limit (λ most. entry.since < most)) (limit_is machine (placed_below (phase_of machine) place (sym (place_is machine) ∙ told)))
-    (at (stage_of machine) (subst (Sure s.layout s.generation (facts (world s)) entry.caller entry.index entry.since) (ap machine_stage flies) (is.lawful.sure i (party_of entry) (map_there party_of s.entries i entry there))))
+-- a call that has a place began below its limit
+began_below : (s : Index) → IsIndex s → (i place : ℕ) (state : PartyState) (machine : Running) → get_elem? s.states i ≡ some state → state.machine ≡ Some machine → placed_in (stage_of machine) ≡ Some place
+    → IfSome (running_call machine).limit (λ most. state.since < most)
+began_below s is i place state machine there flies told =
+    subst (λ (limit : Option ℕ). IfSome limit (λ most. state.since < most)) (placed_is_in_time machine (λ none. let both : None ≡ Some place = sym none ∙ told in cc))
+    (at (stage_of machine) (subst (Sure s.layout s.generation (facts (world s)) state.caller state.index state.since) (ap machine_stage flies) (is.lawful.sure i (party_of state) (map_there party_of s.states i state there))))
   where
-    at : (stage : Stage) → Sure s.layout s.generation (facts (world s)) entry.caller entry.index entry.since stage → IfSome (limit_in stage) (λ most. entry.since < most)
+    at : (stage : Stage) → Sure s.layout s.generation (facts (world s)) state.caller state.index state.since stage → IfSome (limit_in stage) (λ most. state.since < most)
     at Idle sure = tt
-    at (Saw n v w) sure = tt
+    at (Saw n v w k) sure = tt
+    at (Wears n v) sure = tt
+    at (Eyes n w h m v u free) sure = tt
+    at (Splits left fresh phase) sure = tt
+    at (Leaves left) sure = tt
+    at (Meets n w h right) sure = tt
+    at (Joins h left right pace) sure = tt
     at (Holds n w h) sure = sure.below
 
 -- the caller of a call stands among the callers
@@ -90,16 +87,16 @@ module _ (first : Index) (begun : List BegunCall) (calls : List AnsweredCall) (s
       let ended = holds.1 in
       let began = holds.0.later in
       let same = w.place in
-      let below : a.call.since < limit = subst (λ (o : Option ℕ). IfSome o (λ most. a.call.since < most)) (own_limit a.call write.change (answered_begun begun calls s.entries k.each_call w.number a w.there) w.change) holds.0.below in
+      let below : a.call.since < limit = subst (λ (o : Option ℕ). IfSome o (λ most. a.call.since < most)) (own_limit a.call write.change (answered_begun begun calls s.states k.each_call w.number a w.there) w.change) holds.0.below in
       (below, omega arith, omega arith)
 
   -- and so did one in flight that has its place
-  flown_below : (place : ℕ) (write : Write) (w : IsWriteInFlight s.entries place write) → (w.entry.since < limit) × (w.entry.since ≤ place)
+  flown_below : (place : ℕ) (write : Write) (w : IsWriteInFlight s.states place write) → (w.state.since < limit) × (w.state.since ≤ place)
   flown_below place write w =
-      let c = flying_call w.entry w.machine in (
-        subst (λ (o : Option ℕ). IfSome o (λ most. w.entry.since < most)) (own_limit c write.change (flying_begun begun calls s.entries k.each_call w.party w.entry w.machine w.there w.flies) w.change)
-            (began_below s k.index w.party place w.entry w.machine w.there w.flies w.place),
-        placed_later s k.index w.party place w.entry w.machine w.there w.flies w.place,
+      let c = flying_call w.state w.machine in (
+        subst (λ (o : Option ℕ). IfSome o (λ most. w.state.since < most)) (own_limit c write.change (flying_begun begun calls s.states k.each_call w.party w.state w.machine w.there w.flies) w.change)
+            (began_below s k.index w.party place w.state w.machine w.there w.flies w.place),
+        placed_later s k.index w.party place w.state w.machine w.there w.flies w.place,
       )
 
   -- whoever wrote has a call, and the limit isn't 0
@@ -108,10 +105,10 @@ module _ (first : Index) (begun : List BegunCall) (calls : List AnsweredCall) (s
       ⊎_elim
       (λ (w : IsAnsweredWrite calls place write).
       let below = (answered_below place write w).0 in
-      (subst (Contains (callers_of begun)) (sym w.caller) (caller_there begun w.answered.call (answered_begun begun calls s.entries k.each_call w.number w.answered w.there)), omega arith))
-      (λ (w : IsWriteInFlight s.entries place write).
+      (subst (Contains (callers_of begun)) (sym w.caller) (caller_there begun w.answered.call (answered_begun begun calls s.states k.each_call w.number w.answered w.there)), omega arith))
+      (λ (w : IsWriteInFlight s.states place write).
       let below = (flown_below place write w).0 in
-      (subst (Contains (callers_of begun)) (sym w.caller) (caller_there begun (flying_call w.entry w.machine) (flying_begun begun calls s.entries k.each_call w.party w.entry w.machine w.there w.flies)), omega arith))
+      (subst (Contains (callers_of begun)) (sym w.caller) (caller_there begun (flying_call w.state w.machine) (flying_begun begun calls s.states k.each_call w.party w.state w.machine w.there w.flies)), omega arith))
       (k.writes place write stands)
 
   -- where the limit was all but reached, a caller writes once
@@ -138,25 +135,25 @@ module _ (first : Index) (begun : List BegunCall) (calls : List AnsweredCall) (s
       (λ (after : two.number < one.number). let ended = (k.order two.number one.number two.answered one.answered two.there one.there after (sym two.caller ∙ sym same ∙ one.caller)).1 in omega arith)
       apart)
       (cases_order one.number two.number))
-      (λ (two : IsWriteInFlight s.entries q w).
+      (λ (two : IsWriteInFlight s.states q w).
       let below = (flown_below q w two).0 in
-      let party : one.answered.call.caller ≡ two.party = sym one.caller ∙ same ∙ two.caller ∙ (k.index.entries two.party two.entry two.there).caller in
-      let ended = (subst (IsEarlier one.answered two.entry) two.flies (k.earlier one.number one.answered two.party two.entry one.there two.there party)).1 in
+      let party : one.answered.call.caller ≡ two.party = sym one.caller ∙ same ∙ two.caller ∙ (k.index.states two.party two.state two.there).caller in
+      let ended = (subst (IsEarlier one.answered two.state) two.flies (k.earlier one.number one.answered two.party two.state one.there two.there party)).1 in
       omega arith)
       (k.writes q w at_q))
-      (λ (one : IsWriteInFlight s.entries p v).
+      (λ (one : IsWriteInFlight s.states p v).
       let later = (flown_below p v one).1 in
       ⊎_elim
       (λ (two : IsAnsweredWrite calls q w).
       let further = (answered_below q w two).2 in
-      let party : two.answered.call.caller ≡ one.party = sym two.caller ∙ sym same ∙ one.caller ∙ (k.index.entries one.party one.entry one.there).caller in
-      let ended = (subst (IsEarlier two.answered one.entry) one.flies (k.earlier two.number two.answered one.party one.entry two.there one.there party)).1 in
+      let party : two.answered.call.caller ≡ one.party = sym two.caller ∙ sym same ∙ one.caller ∙ (k.index.states one.party one.state one.there).caller in
+      let ended = (subst (IsEarlier two.answered one.state) one.flies (k.earlier two.number two.answered one.party one.state two.there one.there party)).1 in
       omega arith)
-      (λ (two : IsWriteInFlight s.entries q w).
+      (λ (two : IsWriteInFlight s.states q w).
       let party : one.party ≡ two.party =
-      sym (k.index.entries one.party one.entry one.there).caller ∙ sym one.caller ∙ same ∙ two.caller ∙ (k.index.entries two.party two.entry two.there).caller in
-      let entry : one.entry ≡ two.entry = some-injective _ _ (sym one.there ∙ ap (get_elem? s.entries) party ∙ two.there) in
-      let machine : one.machine ≡ two.machine = some_same (sym one.flies ∙ ap (λ (e : Entry). e.machine) entry ∙ two.flies) in
+      sym (k.index.states one.party one.state one.there).caller ∙ sym one.caller ∙ same ∙ two.caller ∙ (k.index.states two.party two.state two.there).caller in
+      let state : one.state ≡ two.state = some-injective _ _ (sym one.there ∙ ap (get_elem? s.states) party ∙ two.there) in
+      let machine : one.machine ≡ two.machine = some_same (sym one.flies ∙ ap (λ (e : PartyState). e.machine) state ∙ two.flies) in
       let place : p ≡ q = some_same (sym one.place ∙ ap (λ (m : Running). placed_in (stage_of m)) machine ∙ two.place) in
       omega arith)
       (k.writes q w at_q))

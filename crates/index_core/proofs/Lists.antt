@@ -1,11 +1,11 @@
--- Lists of entries, read by their places.
+-- Lists of states, read by their places.
 use Rattle.std.proofs.Common.{◌≡◌, ℕ, zero, suc, ◌+◌, ◌<◌, ◌⊎◌, inl, inr, ⊎_elim, true, false, is_some, List, [], ◌∷◌, ◌++◌, length, get_or, set, map, refl, sym, ap, ◌∙◌, arith}
 use Rattle.std.proofs.lemmas.List.{length-append}
 use Rattle.std.specs.Prelude.{Option, Some, None, Contains, slice_get, slice_index_or}
 use mathlib.Core.Option.{some, some-injective, some-ne-none}
 use lib.ListN.{get_elem?}
-use Rattle.index_core.specs.declared.entry.Entry.{Entry}
-use Rattle.index_core.specs.Entries.{idle_entry, idle_entries, machine_owes, owed}
+use Rattle.index_core.specs.declared.party.PartyState.{PartyState}
+use Rattle.index_core.specs.PartyStates.{idle_state, idle_states, machine_owes, owed}
 
 module _ {A : Type 0} where
   pub within : (l : List A) (i : ℕ) (a : A) → get_elem? l i ≡ some a → i < length l
@@ -84,30 +84,30 @@ module _ {A B : Type 0} (f : A → B) where
   map_set (x ∷ xs) zero a = refl
   map_set (x ∷ xs) (suc i) a = ap (λ ys. f x ∷ ys) (map_set xs i a)
 
-pub idle-length : (callers : ℕ) → length (idle_entries callers) ≡ callers
+pub idle-length : (callers : ℕ) → length (idle_states callers) ≡ callers
 idle-length zero = refl
-idle-length (suc callers) = let one = length-append (idle_entries callers) (idle_entry callers ∷ []) in let before = idle-length callers in omega arith
+idle-length (suc callers) = let one = length-append (idle_states callers) (idle_state callers ∷ []) in let before = idle-length callers in omega arith
 
-pub idle-each : (callers i : ℕ) (entry : Entry) → get_elem? (idle_entries callers) i ≡ some entry → entry ≡ idle_entry i
-idle-each zero i entry e = absurd (some-ne-none entry (sym e))
-idle-each (suc callers) i entry e =
+pub idle-each : (callers i : ℕ) (state : PartyState) → get_elem? (idle_states callers) i ≡ some state → state ≡ idle_state i
+idle-each zero i state e = absurd (some-ne-none state (sym e))
+idle-each (suc callers) i state e =
     ⊎_elim
-    (λ (before : get_elem? (idle_entries callers) i ≡ some entry). idle-each callers i entry before)
-    (λ (last : (i ≡ length (idle_entries callers)) × (idle_entry callers ≡ entry)). sym last.1 ∙ ap idle_entry (sym (last.0 ∙ idle-length callers)))
-    (at_end (idle_entries callers) (idle_entry callers) entry i e)
+    (λ (before : get_elem? (idle_states callers) i ≡ some state). idle-each callers i state before)
+    (λ (last : (i ≡ length (idle_states callers)) × (idle_state callers ≡ state)). sym last.1 ∙ ap idle_state (sym (last.0 ∙ idle-length callers)))
+    (at_end (idle_states callers) (idle_state callers) state i e)
 
-owed-append : (l : List Entry) (entry : Entry) → owed (l ++ entry ∷ []) ≡ owed l + machine_owes entry.machine
-owed-append [] entry = omega arith
-owed-append (x ∷ xs) entry = let rest = owed-append xs entry in omega arith
+owed-append : (l : List PartyState) (state : PartyState) → owed (l ++ state ∷ []) ≡ owed l + machine_owes state.machine
+owed-append [] state = omega arith
+owed-append (x ∷ xs) state = let rest = owed-append xs state in omega arith
 
-pub idle-owed : (callers : ℕ) → owed (idle_entries callers) ≡ 0
+pub idle-owed : (callers : ℕ) → owed (idle_states callers) ≡ 0
 idle-owed zero = refl
-idle-owed (suc callers) = owed-append (idle_entries callers) (idle_entry callers) ∙ ap (λ (n : ℕ). n + 0) (idle-owed callers)
+idle-owed (suc callers) = owed-append (idle_states callers) (idle_state callers) ∙ ap (λ (n : ℕ). n + 0) (idle-owed callers)
 
--- what is owed once one entry is another
-pub owed-set : (l : List Entry) (i : ℕ) (was now : Entry) → get_elem? l i ≡ some was → owed (set l i now) + machine_owes was.machine ≡ owed l + machine_owes now.machine
+-- what is owed once one state is another
+pub owed-set : (l : List PartyState) (i : ℕ) (was now : PartyState) → get_elem? l i ≡ some was → owed (set l i now) + machine_owes was.machine ≡ owed l + machine_owes now.machine
 owed-set [] i was now e = absurd (some-ne-none was (sym e))
-owed-set (x ∷ xs) zero was now e = let same = ap (λ (d : Entry). machine_owes d.machine) (some-injective x was e) in omega arith
+owed-set (x ∷ xs) zero was now e = let same = ap (λ (d : PartyState). machine_owes d.machine) (some-injective x was e) in omega arith
 owed-set (x ∷ xs) (suc i) was now e = let rest = owed-set xs i was now e in omega arith
 
 pub none_of : {A : Type 0} → (o : Option A) → is_some o ≡ false → o ≡ None
@@ -117,3 +117,8 @@ none_of (Some a) e = absurd (cc)
 pub some_of : {A : Type 0} → (o : Option A) → is_some o ≡ true → (a : A) × (o ≡ Some a)
 some_of None e = absurd (cc)
 some_of (Some a) e = (a, refl)
+
+-- where no call is in flight nothing is owed
+pub quiet-owed : (l : List PartyState) → ((i : ℕ) (state : PartyState) → get_elem? l i ≡ some state → state.machine ≡ None) → owed l ≡ 0
+quiet-owed [] idle = refl
+quiet-owed (x ∷ xs) idle = let here = ap machine_owes (idle 0 x refl) in let rest = quiet-owed xs (λ i state at. idle (suc i) state at) in omega arith

@@ -23,16 +23,16 @@ use Rattle.node_ops.specs.declared.running.Running.{Running}
 use Rattle.node_ops.specs.Asked.{op_in}
 use Rattle.node_ops.specs.RunningSteps.{running_call, running_turned}
 use Rattle.node_ops.specs.CallStages.{stage_of}
-use Rattle.index_core.specs.declared.entry.Entry.{Entry}
+use Rattle.index_core.specs.declared.party.PartyState.{PartyState}
 use Rattle.index_core.specs.Answers.{IsAnswerOf}
-use Rattle.index_core.specs.Indexes.{Index, IsIndex, IsInFlight, told}
-use Rattle.index_core.specs.Lone.{IsQuiet, placed_writes, entry_done}
-use Rattle.index_core.specs.Schedules.{BegunCall, AnsweredCall, begun_call, flying_call, once_of, Runs, begins, starts, goes_on, answers, alone, evicts, reserves, StandsNowhere, StandsAt, WroteNothing, IsLegalAnswer, IsNext, interval_of, KeepsCallersOrder, EachWritesOnce, IsAnsweredWrite, IsWriteInFlight, IsLegalHistory, AreCounted, OneLegalHistory, FreshIndexBegins, flying_in, calls_in_flight}
+use Rattle.index_core.specs.Indexes.{Index, IsIndex, IsInFlight, parties_of, told}
+use Rattle.index_core.specs.Lone.{IsQuiet, alone_writes, state_done}
+use Rattle.index_core.specs.Schedules.{BegunCall, AnsweredCall, begun_call, flying_call, once_of, Runs, begins, starts, goes_on, answers, alone, evicts, reserves, StandsNowhere, StandsAt, WroteNothing, IsLegalAnswer, IsNext, interval_of, AnswersKeepOrder, EachWritesOnce, IsAnsweredWrite, IsWriteInFlight, IsLegalHistory, AreCounted, OneLegalHistory, FreshIndexBegins, flying_in, calls_in_flight}
 use Rattle.index_core.proofs.Crashing.{placed_later}
 use Rattle.index_core.proofs.Limits.{write_end, places_keep_limit}
 use Rattle.index_core.proofs.Beginning.{kept_start, kept_alone}
 use Rattle.index_core.proofs.Scheduling.{IsEarlier, AnswerHolds, in_flight, Kept, place_le_end, else_there, took_one}
-use Rattle.index_core.specs.Entries.{idle_entry, next_index, index_after}
+use Rattle.index_core.specs.PartyStates.{idle_state, next_index, index_after}
 use Rattle.index_core.proofs.Fresh.{fresh_quiet}
 use Rattle.index_core.proofs.Lists.{some_same, idle-each}
 use Rattle.index_core.proofs.Alone.{go_of, done_of}
@@ -55,9 +55,9 @@ kept_as first begun calls s words spare k index = record {
   counts = k.counts;
 }
 
-no_flights : (entries : List Entry) → ((i : ℕ) (entry : Entry) → get_elem? entries i ≡ some entry → entry.machine ≡ None) → calls_in_flight entries ≡ []
+no_flights : (states : List PartyState) → ((i : ℕ) (state : PartyState) → get_elem? states i ≡ some state → state.machine ≡ None) → calls_in_flight states ≡ []
 no_flights [] quiet = refl
-no_flights (entry ∷ entries) quiet = (λ t. flying_in entry (quiet 0 entry refl t) ++ no_flights entries (λ i e at. quiet (suc i) e at) t)
+no_flights (state ∷ states) quiet = (λ t. flying_in state (quiet 0 state refl t) ++ no_flights states (λ i e at. quiet (suc i) e at) t)
 
 -- as a schedule begins
 kept_first : (s : Index) → IsIndex s → IsQuiet s → s.history ≡ [] → Kept s [] [] s
@@ -67,52 +67,52 @@ kept_first s index quiet fresh = record {
   base_is = refl;
   holds = λ j c at. absurd (some-ne-none c (sym at));
   order = λ p q a b at_p at_q less caller. absurd (some-ne-none a (sym at_p));
-  earlier = λ j c p entry at at_p caller. absurd (some-ne-none c (sym at));
+  earlier = λ j c p state at at_p caller. absurd (some-ne-none c (sym at));
   writes = λ place write stands. absurd (let both : None ≡ Some write = subst (λ (h : List Write). slice_get h place ≡ Some write) fresh stands in cc);
   next = λ j c at. absurd (some-ne-none c (sym at));
-  each_call = subst (IsPermutation []) (sym (no_flights s.entries quiet)) (IsPermutation-refl []);
-  counts = λ p entry at_p. record { was = entry; there = at_p; most = let idle = ap in_flight (quiet p entry at_p) in omega arith };
+  each_call = subst (IsPermutation []) (sym (no_flights s.states quiet)) (IsPermutation-refl []);
+  counts = λ p state at_p. record { was = state; there = at_p; most = let idle = ap in_flight (quiet p state at_p) in omega arith };
 }
 
 -- fewer calls are counted too
 fewer : (first : Index) (begun more : List BegunCall) → AreCounted first (begun ++ more) → AreCounted first begun
-fewer first begun more few i entry there = let all = few i entry there in let long = length-append begun more in omega arith
+fewer first begun more few i state there = let all = few i state there in let long = length-append begun more in omega arith
 
-pub none_flies : (s : Index) (party : ℕ) (e : Entry) → (IsInFlight s party → ⊥) → get_elem? s.entries party ≡ some e → e.machine ≡ None
+pub none_flies : (s : Index) (party : ℕ) (e : PartyState) → (IsInFlight s party → ⊥) → get_elem? s.states party ≡ some e → e.machine ≡ None
 none_flies s party e none there = at e.machine refl
   where
     at : (o : Option Running) → e.machine ≡ o → e.machine ≡ None
     at None is = is
-    at (Some machine) is = absurd (none (record { entry = e; machine = machine; there = there; flies = is }))
+    at (Some machine) is = absurd (none (record { state = e; machine = machine; there = there; flies = is }))
 
 kept : (first : Index) → IsIndex first → IsQuiet first → first.history ≡ [] → {begun : List BegunCall} {calls : List AnsweredCall} {s : Index} → Runs first begun calls s → AreCounted first begun
     → Kept first begun calls s
 kept first index quiet fresh begins few = kept_first first index quiet fresh
 kept first index quiet fresh (starts {begun = begun} {calls = calls} {old = old} {new = new} {party = party} {call = c} run none t is) few =
-    let b = begun_call t.entry (length old.history) c in
-    let idle = none_flies old party t.entry none t.there in
+    let b = begun_call t.state (length old.history) c in
+    let idle = none_flies old party t.state none t.there in
     subst (Kept first (begun ++ b ∷ []) calls) (sym t.is)
-    (kept_start first begun calls old party t.entry c (kept first index quiet fresh run (fewer first begun (b ∷ []) few)) t.there idle few new.spare t.of (subst IsIndex t.is is))
+    (kept_start first begun calls old party t.state c (kept first index quiet fresh run (fewer first begun (b ∷ []) few)) t.there idle few new.spare t.of (subst IsIndex t.is is))
 kept first index quiet fresh (goes_on {begun = begun} {calls = calls} {old = old} {new = new} {party = party} run t is) few =
     let k = kept first index quiet fresh run few in
     let go = go_of (running_turned t.machine (told old t.machine)) (sym t.comes_to) in
     subst (Kept first begun calls) (sym t.is)
-    (along.goes_on first begun calls old party t.entry t.machine k t.there t.flies go.0 go.1 (t.keeps_op (op_in t.machine) (along.of first begun calls old party t.entry t.machine k t.there t.flies)) t.keeps_call new.spare (subst IsIndex t.is is))
+    (along.goes_on first begun calls old party t.state t.machine k t.there t.flies go.0 go.1 (t.turn.keeps_op (op_in t.machine) (along.of first begun calls old party t.state t.machine k t.there t.flies)) t.turn.keeps_call new.spare (subst IsIndex t.is is))
 kept first index quiet fresh (answers {begun = begun} {calls = calls} {old = old} {new = new} {party = party} {answer = answer} run t is) few =
     let k = kept first index quiet fresh run few in
     let done = done_of (running_turned t.machine (told old t.machine)) answer (sym t.comes_to) in
-    subst (λ (v : Index). Kept first begun (calls ++ record { call = flying_call t.entry t.machine; until = length v.history; answer = answer; next = index_after t.entry.index answer } ∷ []) v) (sym t.is)
-    (along.is_answered first begun calls old party t.entry t.machine k t.there t.flies answer done new.spare few
-    (subst (λ (v : Index). IsAnswerOf v.layout.slots (map_of v.base) v.history t.entry (op_in t.machine) (running_call t.machine).limit answer) t.is t.answer) (subst IsIndex t.is is))
+    subst (λ (v : Index). Kept first begun (calls ++ record { call = flying_call t.state t.machine; until = length v.history; answer = answer; next = index_after t.state.index answer } ∷ []) v) (sym t.is)
+    (along.is_answered first begun calls old party t.state t.machine k t.there t.flies answer done new.spare few
+    (subst (λ (v : Index). IsAnswerOf v.layout.slots (map_of v.base) v.history t.state (op_in t.machine) (running_call t.machine).limit answer) t.is t.answer) (subst IsIndex t.is is))
 kept first index quiet fresh (alone {begun = begun} {calls = calls} {old = old} {new = new} {caller = party} {call = c} {result = result} run still r is) few =
-    let b = begun_call r.entry (length old.history) c in
+    let b = begun_call r.state (length old.history) c in
     let k = kept first index quiet fresh run (fewer first begun (b ∷ []) few) in
-    let caller_is : r.entry.caller ≡ party = (k.index.entries party r.entry r.there).caller in
-    let history : new.history ≡ old.history ++ placed_writes r.entry.caller r.entry.index c result = r.history ∙ ap (λ (j : ℕ). old.history ++ placed_writes j r.entry.index c result) (sym caller_is) in
-    let same : Path Index new (record new { entries = set old.entries party (entry_done r.entry (length old.history)); base = old.base; history = old.history ++ placed_writes r.entry.caller r.entry.index c result }) =
-    (λ t. record new { entries = r.entries t; base = r.base t; history = history t }) in
-    subst (λ (v : Index). Kept first (begun ++ b ∷ []) (calls ++ record { call = b; until = length v.history; answer = once_of result; next = next_index r.entry.index } ∷ []) v) (sym same)
-    (kept_alone first begun calls old party r.entry c k r.there (still party r.entry r.there) few result still r.answer new r.layout (subst IsIndex same is))
+    let caller_is : r.state.caller ≡ party = (k.index.states party r.state r.there).caller in
+    let history : new.history ≡ old.history ++ alone_writes r.state.caller r.state.index c result = r.history ∙ ap (λ (j : ℕ). old.history ++ alone_writes j r.state.index c result) (sym caller_is) in
+    let same : Path Index new (record new { states = set old.states party (state_done r.state (length old.history)); base = old.base; history = old.history ++ alone_writes r.state.caller r.state.index c result }) =
+    (λ t. record new { states = r.states t; base = r.base t; history = history t }) in
+    subst (λ (v : Index). Kept first (begun ++ b ∷ []) (calls ++ record { call = b; until = length v.history; answer = once_of result; next = next_index r.state.index } ∷ []) v) (sym same)
+    (kept_alone first begun calls old party r.state c k r.there (still party r.state r.there) few result still r.answer new r.layout (subst IsIndex same is))
 kept first index quiet fresh (evicts {begun = begun} {calls = calls} {old = old} {new = new} {word = word} run within e is) few =
     subst (Kept first begun calls) (sym e) (kept_as first begun calls old (evicted old.layout old.words word) old.spare (kept first index quiet fresh run few) (subst IsIndex e is))
 kept first index quiet fresh (reserves {begun = begun} {calls = calls} {old = old} {new = new} run e) few =
@@ -153,9 +153,9 @@ module _ (first : Index) (begun : List BegunCall) (calls : List AnsweredCall) (s
       let one = took_one w.answered w.placed (k.next w.number w.answered w.there) w.answer in
       let same : w.answered ≡ c = one_call w.number n w.answered c w.there at one up (sym w.caller ∙ caller) (sym w.index ∙ index) in
       (w.placed, ap (λ (d : AnsweredCall). d.answer) (sym same) ∙ w.answer, w.place, ap (λ (d : AnsweredCall). change_of d.call.op) (sym same) ∙ w.change))
-      (λ (w : IsWriteInFlight s.entries place write).
-      let party : c.call.caller ≡ w.party = sym caller ∙ w.caller ∙ (k.index.entries w.party w.entry w.there).caller in
-      let before : (c.next ≤ w.entry.index) × (c.until ≤ w.entry.since) = subst (IsEarlier c w.entry) w.flies (k.earlier n c w.party w.entry at w.there party) in
+      (λ (w : IsWriteInFlight s.states place write).
+      let party : c.call.caller ≡ w.party = sym caller ∙ w.caller ∙ (k.index.states w.party w.state w.there).caller in
+      let before : (c.next ≤ w.state.index) × (c.until ≤ w.state.since) = subst (IsEarlier c w.state) w.flies (k.earlier n c w.party w.state at w.there party) in
       let less = before.0 in
       let same = w.index in
       absurd (omega arith))
@@ -184,10 +184,10 @@ module _ (first : Index) (begun : List BegunCall) (calls : List AnsweredCall) (s
       (λ (more : n < w.number). let before = (k.order n w.number c d at w.there more (sym caller ∙ w.caller)).1 in absurd (omega arith))
       apart)
       (cases_order w.number n))
-      (λ (w : IsWriteInFlight s.entries place write).
-      let party : c.call.caller ≡ w.party = sym caller ∙ w.caller ∙ (k.index.entries w.party w.entry w.there).caller in
-      let before : (c.next ≤ w.entry.index) × (c.until ≤ w.entry.since) = subst (IsEarlier c w.entry) w.flies (k.earlier n c w.party w.entry at w.there party) in
-      let began = placed_later s k.index w.party place w.entry w.machine w.there w.flies w.place in
+      (λ (w : IsWriteInFlight s.states place write).
+      let party : c.call.caller ≡ w.party = sym caller ∙ w.caller ∙ (k.index.states w.party w.state w.there).caller in
+      let before : (c.next ≤ w.state.index) × (c.until ≤ w.state.since) = subst (IsEarlier c w.state) w.flies (k.earlier n c w.party w.state at w.there party) in
+      let began = placed_later s k.index w.party place w.state w.machine w.there w.flies w.place in
       let ended = before.1 in
       omega arith)
       (k.writes place write stands)
@@ -229,7 +229,7 @@ module _ (first : Index) (begun : List BegunCall) (calls : List AnsweredCall) (s
   apart a b (once.Worn node word) t holds_a holds_b ended = tt
   apart a b (once.Again why) t holds_a holds_b ended = tt
 
-  in_order : KeepsCallersOrder calls
+  in_order : AnswersKeepOrder calls
   in_order p q a b at_p at_q less caller =
       let is = k.order p q a b at_p at_q less caller in
       record { index = is.0; ended = is.1; in_order = apart a b a.answer b.answer (k.holds p a at_p).0 (k.holds q b at_q).0 is.1 }
@@ -241,16 +241,16 @@ module _ (first : Index) (begun : List BegunCall) (calls : List AnsweredCall) (s
       let is = of_answered one.number one.answered one.there (took_one one.answered one.placed (k.next one.number one.answered one.there) one.answer) j w at_j (sym caller ∙ one.caller) (sym index ∙ one.index) in
       let same : one.placed ≡ is.0 = (let both : once.Done one.placed ≡ once.Done is.0 = sym one.answer ∙ is.1 in done_same both) in
       sym one.place ∙ ap (λ (p : Placed). p.place) same ∙ is.2)
-      (λ (one : IsWriteInFlight s.entries i v). ⊎_elim
+      (λ (one : IsWriteInFlight s.states i v). ⊎_elim
       (λ (two : IsAnsweredWrite calls j w).
       let is = of_answered two.number two.answered two.there (took_one two.answered two.placed (k.next two.number two.answered two.there) two.answer) i v at_i (caller ∙ two.caller) (index ∙ two.index) in
       let same : two.placed ≡ is.0 = (let both : once.Done two.placed ≡ once.Done is.0 = sym two.answer ∙ is.1 in done_same both) in
       sym (sym two.place ∙ ap (λ (p : Placed). p.place) same ∙ is.2))
-      (λ (two : IsWriteInFlight s.entries j w).
+      (λ (two : IsWriteInFlight s.states j w).
       let party : one.party ≡ two.party =
-      sym (k.index.entries one.party one.entry one.there).caller ∙ sym one.caller ∙ caller ∙ two.caller ∙ (k.index.entries two.party two.entry two.there).caller in
-      let entry : one.entry ≡ two.entry = some-injective _ _ (sym one.there ∙ ap (get_elem? s.entries) party ∙ two.there) in
-      let machine : one.machine ≡ two.machine = some_same (sym one.flies ∙ ap (λ (d : Entry). d.machine) entry ∙ two.flies) in
+      sym (k.index.states one.party one.state one.there).caller ∙ sym one.caller ∙ caller ∙ two.caller ∙ (k.index.states two.party two.state two.there).caller in
+      let state : one.state ≡ two.state = some-injective _ _ (sym one.there ∙ ap (get_elem? s.states) party ∙ two.there) in
+      let machine : one.machine ≡ two.machine = some_same (sym one.flies ∙ ap (λ (d : PartyState). d.machine) state ∙ two.flies) in
       some_same (sym one.place ∙ ap (λ (q : Running). placed_in (stage_of q)) machine ∙ two.place))
       (k.writes j w at_j))
       (k.writes i v at_i)
@@ -271,8 +271,8 @@ module _ (first : Index) (begun : List BegunCall) (calls : List AnsweredCall) (s
         };
     in_time = λ i j a b at_i at_j ended. apart a b a.answer b.answer (k.holds i a at_i).0 (k.holds j b at_j).0 ended;
     in_order = in_order;
-    in_flight = λ i entry machine there flies n a at caller.
-        subst (IsEarlier a entry) flies (k.earlier n a i entry at there (caller ∙ (k.index.entries i entry there).caller));
+    in_flight = λ i state machine there flies n a at caller.
+        subst (IsEarlier a state) flies (k.earlier n a i state at there (caller ∙ (k.index.states i state there).caller));
     once = once_each;
     writes = k.writes;
     places = λ limit carry. places_keep_limit first begun calls s k limit carry;
@@ -286,8 +286,8 @@ fresh_begins l first fresh = (
   fresh.index,
   fresh_quiet l first fresh,
   fresh.history,
-  λ begun few i entry there.
-      let same : entry ≡ idle_entry i = idle-each l.callers i entry (subst (λ (entries : List Entry). get_elem? entries i ≡ some entry) fresh.entries there) in
-      let none = ap (λ (d : Entry). d.index) same in
+  λ begun few i state there.
+      let same : state ≡ idle_state i = idle-each (parties_of l) i state (subst (λ (states : List PartyState). get_elem? states i ≡ some state) fresh.states there) in
+      let none = ap (λ (d : PartyState). d.index) same in
       omega arith,
 )

@@ -14,7 +14,7 @@ use Rattle.cat_history.specs.declared.op.Change.{Change}
 use Rattle.cat_history.specs.declared.op.Write.{Write}
 use Rattle.call_stages.specs.declared.once.Once.{Once}
 use Rattle.call_stages.specs.declared.once.Placed.{Placed}
-use Rattle.call_stages.specs.Kinds.{clock_place}
+use Rattle.call_stages.specs.Kinds.{clock_address}
 use Rattle.call_stages.specs.Stages.{counted, placed_in}
 use Rattle.node_ops.specs.declared.running.Running.{Running}
 use Rattle.node_ops.specs.Asked.{IsOf, op_in}
@@ -23,32 +23,32 @@ use Rattle.node_ops.specs.CallStages.{stage_of, reply_of}
 use Rattle.index_law.specs.Worlds.{written}
 use Rattle.index_law.specs.Lawful.{ClockCounts}
 use Rattle.index_law.proofs.Parties.{at_set}
-use Rattle.index_core.specs.declared.entry.Entry.{Entry}
-use Rattle.index_core.specs.Entries.{entry_with, entry_after, entry_counted, IsEntry}
+use Rattle.index_core.specs.declared.party.PartyState.{PartyState}
+use Rattle.index_core.specs.PartyStates.{state_with, state_after, state_counted, IsPartyState}
 use Rattle.index_core.specs.Indexes.{Index, AreOrdered, told}
 use Rattle.index_core.proofs.Lists.{some_same, got_end}
-use Rattle.index_core.proofs.Phases.{phase_of, phase_after, leads}
-use Rattle.index_core.proofs.Places.{place_is, Onward, onward}
+use Rattle.node_ops.specs.Endings.{GoesOn}
+use Rattle.node_ops.proofs.Endings.{turns_keep_place}
 
 -- a call that begins comes behind all writes
-pub start_ordered : (entries : List Entry) (history : List Write) (i : ℕ) (e : Entry) (machine : Running) → AreOrdered entries history → AreOrdered (set entries i (entry_with e (length history) machine)) history
-start_ordered entries history i e machine ordered j place entry m write at flies stands caller =
-    let now = entry_with e (length history) machine in
+pub start_ordered : (states : List PartyState) (history : List Write) (i : ℕ) (e : PartyState) (machine : Running) → AreOrdered states history → AreOrdered (set states i (state_with e (length history) machine)) history
+start_ordered states history i e machine ordered j place state m write at flies stands caller =
+    let now = state_with e (length history) machine in
     ⊎_elim
-    (λ (mine : (j ≡ i) × (now ≡ entry)). inl (subst (λ (d : Entry). place < d.since) mine.1 (slice_get_within history place write stands)))
-    (λ (other : (j ≢ i) × (get_elem? entries j ≡ some entry)). ordered j place entry m write other.1 flies stands caller)
-    (at_set entries i j now entry at)
+    (λ (mine : (j ≡ i) × (now ≡ state)). inl (subst (λ (d : PartyState). place < d.since) mine.1 (slice_get_within history place write stands)))
+    (λ (other : (j ≢ i) × (get_elem? states j ≡ some state)). ordered j place state m write other.1 flies stands caller)
+    (at_set states i j now state at)
 
 -- a party that is idle may have another index
-pub count_ordered : (entries : List Entry) (history : List Write) (i : ℕ) (e : Entry) → e.machine ≡ None → AreOrdered entries history → AreOrdered (set entries i (entry_counted e)) history
-count_ordered entries history i e idle ordered j place entry m write at flies stands caller =
+pub count_ordered : (states : List PartyState) (history : List Write) (i : ℕ) (e : PartyState) → e.machine ≡ None → AreOrdered states history → AreOrdered (set states i (state_counted e)) history
+count_ordered states history i e idle ordered j place state m write at flies stands caller =
     ⊎_elim
-    (λ (mine : (j ≡ i) × (entry_counted e ≡ entry)). absurd (let both : None ≡ Some m = sym idle ∙ ap (λ (d : Entry). d.machine) mine.1 ∙ flies in cc))
-    (λ (other : (j ≢ i) × (get_elem? entries j ≡ some entry)). ordered j place entry m write other.1 flies stands caller)
-    (at_set entries i j (entry_counted e) entry at)
+    (λ (mine : (j ≡ i) × (state_counted e ≡ state)). absurd (let both : None ≡ Some m = sym idle ∙ ap (λ (d : PartyState). d.machine) mine.1 ∙ flies in cc))
+    (λ (other : (j ≢ i) × (get_elem? states j ≡ some state)). ordered j place state m write other.1 flies stands caller)
+    (at_set states i j (state_counted e) state at)
 
-module _ (s : Index) (i : ℕ) (e : Entry) (m : Running) (all : (j : ℕ) (entry : Entry) → get_elem? s.entries j ≡ some entry → IsEntry s.layout s.generation j entry) (ordered : AreOrdered s.entries s.history)
-    (clock : ClockCounts s.layout s.words s.history) (there : get_elem? s.entries i ≡ some e) (flies : e.machine ≡ Some m) where
+module _ (s : Index) (i : ℕ) (e : PartyState) (m : Running) (all : (j : ℕ) (state : PartyState) → get_elem? s.states j ≡ some state → IsPartyState s.layout s.generation j state) (ordered : AreOrdered s.states s.history)
+    (clock : ClockCounts s.layout s.words s.history) (there : get_elem? s.states i ≡ some e) (flies : e.machine ≡ Some m) where
   of : IsOf (op_in m) m
   of = subst (λ (o : Option Running). IfSome o (λ q. IsOf (op_in q) q)) flies (all i e there).op
 
@@ -65,54 +65,54 @@ module _ (s : Index) (i : ℕ) (e : Entry) (m : Running) (all : (j : ℕ) (entry
       (got_end s.history (record { caller = e.caller; index = e.index; change = change }) write place stands)
 
   -- another party's call sees no new write of its own
-  theirs : (j place : ℕ) (entry : Entry) (machine : Running) (write : Write) → j ≢ i → get_elem? s.entries j ≡ some entry → entry.machine ≡ Some machine
-      → slice_get (s.history ++ written e.caller e.index (counted (stage_of m))) place ≡ Some write → write.caller ≡ entry.caller → (place < entry.since) ⊎ (placed_in (stage_of machine) ≡ Some place)
-  theirs j place entry machine write other at flown stands caller =
+  theirs : (j place : ℕ) (state : PartyState) (machine : Running) (write : Write) → j ≢ i → get_elem? s.states j ≡ some state → state.machine ≡ Some machine
+      → slice_get (s.history ++ written e.caller e.index (counted (stage_of m))) place ≡ Some write → write.caller ≡ state.caller → (place < state.since) ⊎ (placed_in (stage_of machine) ≡ Some place)
+  theirs j place state machine write other at flown stands caller =
       ⊎_elim
-      (λ (before : slice_get s.history place ≡ Some write). ordered j place entry machine write at flown before caller)
-      (λ (own : write.caller ≡ e.caller). absurd (other (sym (all j entry at).caller ∙ sym caller ∙ own ∙ (all i e there).caller)))
+      (λ (before : slice_get s.history place ≡ Some write). ordered j place state machine write at flown before caller)
+      (λ (own : write.caller ≡ e.caller). absurd (other (sym (all j state at).caller ∙ sym caller ∙ own ∙ (all i e there).caller)))
       (earlier_or_own (counted (stage_of m)) place write stands)
 
   -- the party's own call has the place of the write that its step counts
   module _ (next : Running) (is : running_turned m (told s m) ≡ Go next) where
-    on : Onward (running_call m).view.layout (phase_of m) (running_asks m) (told s m) (phase_of next) (counted (stage_of m))
-    on = subst (λ (turn : Turn Running (Once Placed)). Onward (running_call m).view.layout (phase_of m) (running_asks m) (told s m) (phase_after turn) (counted (stage_of m))) is (onward (leads (op_in m) m (told s m) of) (ap reply_of is))
+    on : GoesOn (running_call m).view.layout (stage_of m) (running_asks m) (told s m) (stage_of next) (counted (stage_of m))
+    on = turns_keep_place m next (told s m) sound.here is
 
     -- the place that it is told is the length of the history
-    told_length : running_asks m ≡ Add (clock_place (running_call m).view.layout) → told s m ≡ length s.history
-    told_length adds = ap (got s.layout s.words) (adds ∙ ap (λ (l : Layout). Add (clock_place l)) sound.layout) ∙ clock
+    told_length : running_asks m ≡ Add (clock_address (running_call m).view.layout) → told s m ≡ length s.history
+    told_length adds = ap (got s.layout s.words) (adds ∙ ap (λ (l : Layout). Add (clock_address l)) sound.layout) ∙ clock
 
-    mine : (o : Option Change) → Onward (running_call m).view.layout (phase_of m) (running_asks m) (told s m) (phase_of next) o → (place : ℕ) (write : Write) → slice_get (s.history ++ written e.caller e.index o) place ≡ Some write
+    mine : (o : Option Change) → GoesOn (running_call m).view.layout (stage_of m) (running_asks m) (told s m) (stage_of next) o → (place : ℕ) (write : Write) → slice_get (s.history ++ written e.caller e.index o) place ≡ Some write
         → write.caller ≡ e.caller → (place < e.since) ⊎ (placed_in (stage_of next) ≡ Some place)
     mine None same place write stands caller =
         ⊎_elim
         (λ (before : place < e.since). inl before)
-        (λ (own : placed_in (stage_of m) ≡ Some place). inr (place_is next ∙ same ∙ sym (place_is m) ∙ own))
+        (λ (own : placed_in (stage_of m) ≡ Some place). inr (same ∙ own))
         (ordered i place e m write there flies (subst (λ (h : List Write). slice_get h place ≡ Some write) (append-nil s.history) stands) caller)
     mine (Some change) goes place write stands caller =
         ⊎_elim
         (λ (old : slice_get s.history place ≡ Some write). ⊎_elim
         (λ (before : place < e.since). inl before)
-        (λ (own : placed_in (stage_of m) ≡ Some place). absurd (let both : None ≡ Some place = sym goes.1 ∙ sym (place_is m) ∙ own in cc))
+        (λ (own : placed_in (stage_of m) ≡ Some place). absurd (let both : None ≡ Some place = sym goes.1 ∙ own in cc))
         (ordered i place e m write there flies old caller))
-        (λ (last : (place ≡ length s.history) × (record { caller = e.caller; index = e.index; change = change } ≡ write)). inr (place_is next ∙ goes.2 ∙ ap Some (told_length goes.0 ∙ sym last.0)))
+        (λ (last : (place ≡ length s.history) × (record { caller = e.caller; index = e.index; change = change } ≡ write)). inr (goes.2 ∙ ap Some (told_length goes.0 ∙ sym last.0)))
         (got_end s.history (record { caller = e.caller; index = e.index; change = change }) write place stands)
 
-  after_turn : (turn : Turn Running (Once Placed)) → running_turned m (told s m) ≡ turn → AreOrdered (set s.entries i (entry_after e turn)) (s.history ++ written e.caller e.index (counted (stage_of m)))
-  after_turn (Done answer) is j place entry machine write at flown stands caller =
+  after_turn : (turn : Turn Running (Once Placed)) → running_turned m (told s m) ≡ turn → AreOrdered (set s.states i (state_after e turn)) (s.history ++ written e.caller e.index (counted (stage_of m)))
+  after_turn (Done answer) is j place state machine write at flown stands caller =
       ⊎_elim
-      (λ (mine : (j ≡ i) × (entry_after e (Done answer) ≡ entry)). absurd (let both : None ≡ Some machine = ap (λ (d : Entry). d.machine) mine.1 ∙ flown in cc))
-      (λ (other : (j ≢ i) × (get_elem? s.entries j ≡ some entry)). theirs j place entry machine write other.0 other.1 flown stands caller)
-      (at_set s.entries i j (entry_after e (Done answer)) entry at)
-  after_turn (Go next) is j place entry machine write at flown stands caller =
+      (λ (mine : (j ≡ i) × (state_after e (Done answer) ≡ state)). absurd (let both : None ≡ Some machine = ap (λ (d : PartyState). d.machine) mine.1 ∙ flown in cc))
+      (λ (other : (j ≢ i) × (get_elem? s.states j ≡ some state)). theirs j place state machine write other.0 other.1 flown stands caller)
+      (at_set s.states i j (state_after e (Done answer)) state at)
+  after_turn (Go next) is j place state machine write at flown stands caller =
       ⊎_elim
-      (λ (same : (j ≡ i) × (entry_after e (Go next) ≡ entry)).
-      let machine_is : next ≡ machine = some_same (ap (λ (d : Entry). d.machine) same.1 ∙ flown) in
-      let by : write.caller ≡ e.caller = caller ∙ ap (λ (d : Entry). d.caller) (sym same.1) in
-      subst (λ (q : Entry × Running). (place < q.0.since) ⊎ (placed_in (stage_of q.1) ≡ Some place)) (λ k. (same.1 k, machine_is k)) (mine next is (counted (stage_of m)) (on next is) place write stands by))
-      (λ (other : (j ≢ i) × (get_elem? s.entries j ≡ some entry)). theirs j place entry machine write other.0 other.1 flown stands caller)
-      (at_set s.entries i j (entry_after e (Go next)) entry at)
+      (λ (same : (j ≡ i) × (state_after e (Go next) ≡ state)).
+      let machine_is : next ≡ machine = some_same (ap (λ (d : PartyState). d.machine) same.1 ∙ flown) in
+      let by : write.caller ≡ e.caller = caller ∙ ap (λ (d : PartyState). d.caller) (sym same.1) in
+      subst (λ (q : PartyState × Running). (place < q.0.since) ⊎ (placed_in (stage_of q.1) ≡ Some place)) (λ k. (same.1 k, machine_is k)) (mine next is (counted (stage_of m)) (on next is) place write stands by))
+      (λ (other : (j ≢ i) × (get_elem? s.states j ≡ some state)). theirs j place state machine write other.0 other.1 flown stands caller)
+      (at_set s.states i j (state_after e (Go next)) state at)
 
   -- a step keeps the order
-  pub step_ordered : AreOrdered (set s.entries i (entry_after e (running_turned m (told s m)))) (s.history ++ written e.caller e.index (counted (stage_of m)))
+  pub step_ordered : AreOrdered (set s.states i (state_after e (running_turned m (told s m)))) (s.history ++ written e.caller e.index (counted (stage_of m)))
   step_ordered = after_turn (running_turned m (told s m)) (λ k. running_turned m (told s m))

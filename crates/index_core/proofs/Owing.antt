@@ -3,7 +3,7 @@ use Rattle.std.proofs.Common.{◌≡◌, ℕ, ◌+◌, ◌-◌, ◌<◌, ◌≤�
 use Rattle.std.specs.Prelude.{Option, Some, None, Result, Ok, Err, OnOk, min, nat_le}
 use Rattle.std.proofs.lemmas.Bool.{leb-true, leb-false}
 use Rattle.std.proofs.Math.Nat.{min-eq_left, min-eq_right}
-use Rattle.index_core.specs.declared.entry.Entry.{Entry}
+use Rattle.index_core.specs.declared.party.PartyState.{PartyState}
 use Rattle.pm_words.specs.declared.machine.Turn.{Turn}
 use Rattle.pm_words.specs.declared.machine.Turn.TheVariants.{Go, Done}
 use Rattle.cat_history.specs.declared.op.Change.{Change}
@@ -35,7 +35,7 @@ use Rattle.node_ops.specs.RunningSteps.{running_turned, wrapped}
 use Rattle.node_ops.specs.CallStages.{stage_of, lookup_stage, finish_stage}
 use Rattle.node_ops.proofs.OpLaw.{lookup_counts}
 use Rattle.index_law.specs.Worlds.{written}
-use Rattle.index_core.specs.Entries.{owes, machine_owes, owed}
+use Rattle.index_core.specs.PartyStates.{owes, machine_owes, owed}
 
 -- what a call owes after a turn
 abbrev pub owes_after : Turn Running (Once Placed) → ℕ
@@ -129,9 +129,9 @@ written-length caller index None = refl
 written-length caller index (Some change) = refl
 
 -- each party owes one at most
-pub owed_within : (entries : List Entry) → owed entries ≤ length entries
+pub owed_within : (states : List PartyState) → owed states ≤ length states
 owed_within [] = omega arith
-owed_within (entry ∷ entries) = let rest = owed_within entries in let one = at_most entry.machine in omega arith
+owed_within (state ∷ states) = let rest = owed_within states in let one = at_most state.machine in omega arith
   where
     at_most : (machine : Option Running) → machine_owes machine ≤ 1
     at_most None = omega arith

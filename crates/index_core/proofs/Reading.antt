@@ -1,5 +1,5 @@
 -- What the code of a step and of a start has in hand, as facts on the index that it works on.
-use Rattle.std.proofs.Common.{◌≡◌, ℕ, ◌+◌, ◌-◌, ◌<◌, ◌≤◌, ◌^◌, List, ◌++◌, length, get_or, set, sym, ap, ◌∙◌, subst}
+use Rattle.std.proofs.Common.{◌≡◌, ℕ, ◌+◌, ◌-◌, ◌<◌, ◌≤◌, List, ◌++◌, length, get_or, set, sym, ap, ◌∙◌, subst}
 use Rattle.std.specs.Prelude.{Option, Some, None, IfSome}
 use mathlib.Core.Option.{some}
 use lib.ListN.{get_elem?}
@@ -17,55 +17,55 @@ use Rattle.node_ops.specs.Asked.{IsOf, op_in}
 use Rattle.node_ops.specs.RunningSteps.{running_asks, running_turned, IsRunning, Sound}
 use Rattle.node_ops.specs.CallStages.{stage_of}
 use Rattle.index_law.specs.Worlds.{written}
-use Rattle.index_core.specs.declared.entry.CoreCall.{CoreCall}
-use Rattle.index_core.specs.declared.entry.Entry.{Entry}
-use Rattle.index_core.specs.CoreCalls.{machine_of, writes_of}
-use Rattle.index_core.specs.Entries.{entry_with, entry_after, owed}
+use Rattle.index_core.specs.declared.party.CoreCall.{CoreCall}
+use Rattle.index_core.specs.declared.party.PartyState.{PartyState}
+use Rattle.index_core.specs.CoreCalls.{machine_of, most_writes}
+use Rattle.index_core.specs.PartyStates.{state_with, state_after, owed}
 use Rattle.index_core.specs.Indexes.{Index, IsIndex, IsInFlight, view_of, started_index, told, stepped_index}
 use Rattle.index_core.proofs.Lists.{there_is, read_is}
 use Rattle.index_core.proofs.Stepping.{StepFacts, step_facts, step_at, same_machine, step_room, start_keeps, start_owes, start_at}
 
--- The entry r that a step reads is the party's, e, and the machine in it its call's, m.
-pub record Reads (s : Index) (i : ℕ) (e r : Entry) (m machine : Running) : Type 0 where
-  pub there : get_elem? s.entries i ≡ some e
+-- The state r that a step reads is the party's, e, and the machine in it its call's, m.
+pub record Reads (s : Index) (i : ℕ) (e r : PartyState) (m machine : Running) : Type 0 where
+  pub there : get_elem? s.states i ≡ some e
   pub read : r ≡ e
   pub same : machine ≡ m
   pub sound : Sound s.layout s.generation m
   pub of : IsOf (op_in m) m
   pub facts : StepFacts s i e m
 
-pub reads : (s old : Index) (i : ℕ) (flies : IsInFlight old i) (r : Entry) (machine : Running) → s.entries ≡ old.entries → IsIndex s → length s.history < 2 ^ 63 → r ≡ get_or s.entries i r → r.machine ≡ Some machine
-    → Reads s i flies.entry r flies.machine machine
-reads s old i flies r machine entries is room found has =
-    let there = ap (λ (l : List Entry). get_elem? l i) entries ∙ flies.there in
-    let read = read_is s.entries i flies.entry r there found in
+pub reads : (s old : Index) (i : ℕ) (flies : IsInFlight old i) (r : PartyState) (machine : Running) → s.states ≡ old.states → IsIndex s → r ≡ get_or s.states i r → r.machine ≡ Some machine
+    → Reads s i flies.state r flies.machine machine
+reads s old i flies r machine states is found has =
+    let there = ap (λ (l : List PartyState). get_elem? l i) states ∙ flies.there in
+    let read = read_is s.states i flies.state r there found in
     record {
       there = there;
       read = read;
-      same = same_machine r flies.entry machine flies.machine read has flies.flies;
-      sound = subst (λ (o : Option Running). IfSome o (Sound s.layout s.generation)) flies.flies (is.entries i flies.entry there).machine;
-      of = subst (λ (o : Option Running). IfSome o (λ q. IsOf (op_in q) q)) flies.flies (is.entries i flies.entry there).op;
-      facts = step_facts s i flies.entry flies.machine is there flies.flies room;
+      same = same_machine r flies.state machine flies.machine read has flies.flies;
+      sound = subst (λ (o : Option Running). IfSome o (Sound s.layout s.generation)) flies.flies (is.states i flies.state there).machine;
+      of = subst (λ (o : Option Running). IfSome o (λ q. IsOf (op_in q) q)) flies.flies (is.states i flies.state there).op;
+      facts = step_facts s i flies.state flies.machine is there flies.flies;
     }
 
--- The row, the entry and the history that it has made are those of the step, and there is room for what is owed.
-pub record Leaves (s : Index) (i : ℕ) (e : Entry) (m : Running) (row : Row) (turn : Turn Running (Once Placed)) (now : Entry) (history : List Write) (len cap len' cap' : ℕ) : Type 0 where
-  pub same : (spare : ℕ) → Path Index (record { layout = row.layout; generation = s.generation; words = row.words; entries = set s.entries i now; base = s.base; history = history; spare = spare }) (stepped_index s i e m spare)
+-- The row, the state and the history that it has made are those of the step, and there is room for what is owed.
+pub record Leaves (s : Index) (i : ℕ) (e : PartyState) (m : Running) (row : Row) (turn : Turn Running (Once Placed)) (now : PartyState) (history : List Write) (len cap len' cap' : ℕ) : Type 0 where
+  pub same : (spare : ℕ) → Path Index (record { layout = row.layout; generation = s.generation; words = row.words; states = set s.states i now; base = s.base; history = history; spare = spare }) (stepped_index s i e m spare)
   pub turned : turn ≡ running_turned m (told s m)
-  pub room : len' + owed (set s.entries i now) ≤ cap'
-  pub spare : cap - (len + owed s.entries) ≤ cap' - (len' + owed (set s.entries i now))
+  pub room : len' + owed (set s.states i now) ≤ cap'
+  pub spare : cap - (len + owed s.states) ≤ cap' - (len' + owed (set s.states i now))
 
-pub leaves : (s : Index) (i : ℕ) (e r : Entry) (m machine : Running) → Reads s i e r m machine → e.machine ≡ Some m
-    → (action : Action) (row : Row) (word : ℕ) (turn : Turn Running (Once Placed)) (now : Entry) (counts : Option Change) (history : List Write) (len cap len' cap' : ℕ)
+pub leaves : (s : Index) (i : ℕ) (e r : PartyState) (m machine : Running) → Reads s i e r m machine → e.machine ≡ Some m
+    → (action : Action) (row : Row) (word : ℕ) (turn : Turn Running (Once Placed)) (now : PartyState) (counts : Option Change) (history : List Write) (len cap len' cap' : ℕ)
     → action ≡ running_asks machine → row ≡ record { layout = s.layout; words = acted s.layout s.words action } → word ≡ got s.layout s.words action → turn ≡ running_turned machine word
-    → now ≡ entry_after r turn → counts ≡ counted (stage_of machine) → history ≡ s.history ++ written r.caller r.index counts
-    → len ≡ length s.history → len' ≡ length history → cap ≤ cap' → len + owed s.entries ≤ cap → Leaves s i e m row turn now history len cap len' cap'
+    → now ≡ state_after r turn → counts ≡ counted (stage_of machine) → history ≡ s.history ++ written r.caller r.index counts
+    → len ≡ length s.history → len' ≡ length history → cap ≤ cap' → len + owed s.states ≤ cap → Leaves s i e m row turn now history len cap len' cap'
 leaves s i e r m machine at flies action row word turn now counts history len cap len' cap' asks acts gives turns goes counted_is writes was is larger room =
     let words : row ≡ record { layout = s.layout; words = acted s.layout s.words (running_asks machine) } = acts ∙ ap (λ (a : Action). record { layout = s.layout; words = acted s.layout s.words a }) asks in
     let told_is : word ≡ got s.layout s.words (running_asks machine) = gives ∙ ap (got s.layout s.words) asks in
     let items = writes ∙ ap (λ (o : Option Change). s.history ++ written r.caller r.index o) counted_is in
     let same = λ (spare : ℕ). step_at s i e r now m machine row word turn history spare at.read at.same words told_is turns goes items in
-    let fits = step_room s i e m history (set s.entries i now) len cap len' cap' at.there flies (ap (λ (v : Index). v.history) (same 0)) (ap (λ (v : Index). v.entries) (same 0)) was is larger room in
+    let fits = step_room s i e m history (set s.states i now) len cap len' cap' at.there flies (ap (λ (v : Index). v.history) (same 0)) (ap (λ (v : Index). v.states) (same 0)) was is larger room in
     record {
       same = same;
       turned = turns ∙ (λ k. running_turned (at.same k) (told_is k)) ∙ ap (λ (q : Running). running_turned m (told s q)) at.same;
@@ -73,29 +73,29 @@ leaves s i e r m machine at flies action row word turn now counts history len ca
       spare = fits.1;
     }
 
--- The entry r that a start reads is the party's, e, which is idle, and the one that it makes of it begins the call.
-pub record Begins (s : Index) (i : ℕ) (r now : Entry) (c : CoreCall) : Type 0 where
-  pub entry : Entry
-  pub there : get_elem? s.entries i ≡ some entry
-  pub idle : entry.machine ≡ None
-  pub same : (spare : ℕ) → Path Index (record { layout = s.layout; generation = s.generation; words = s.words; entries = set s.entries i now; base = s.base; history = s.history; spare = spare }) (started_index s i entry c spare)
-  pub kept : (spare : ℕ) → IsIndex (started_index s i entry c spare)
-  pub owing : owed (set s.entries i now) ≡ owed s.entries + writes_of c
+-- The state r that a start reads is the party's, e, which is idle, and the one that it makes of it begins the call.
+pub record Begins (s : Index) (i : ℕ) (r now : PartyState) (c : CoreCall) : Type 0 where
+  pub state : PartyState
+  pub there : get_elem? s.states i ≡ some state
+  pub idle : state.machine ≡ None
+  pub same : (spare : ℕ) → Path Index (record { layout = s.layout; generation = s.generation; words = s.words; states = set s.states i now; base = s.base; history = s.history; spare = spare }) (started_index s i state c spare)
+  pub kept : (spare : ℕ) → IsIndex (started_index s i state c spare)
+  pub owing : owed (set s.states i now) ≡ owed s.states + most_writes c
 
-pub begins : (s : Index) (i : ℕ) (r now : Entry) (c : CoreCall) (machine : Running) (since : ℕ) → IsIndex s → i < length s.entries → r ≡ get_or s.entries i r → r.machine ≡ None
-    → machine ≡ machine_of (view_of s i) c → IsRunning machine → since ≡ length s.history → now ≡ entry_with r since machine → Begins s i r now c
+pub begins : (s : Index) (i : ℕ) (r now : PartyState) (c : CoreCall) (machine : Running) (since : ℕ) → IsIndex s → i < length s.states → r ≡ get_or s.states i r → r.machine ≡ None
+    → machine ≡ machine_of (view_of s i) c → IsRunning machine → since ≡ length s.history → now ≡ state_with r since machine → Begins s i r now c
 begins s i r now c machine since is within found none made running long goes =
-    let here = there_is s.entries i within in
+    let here = there_is s.states i within in
     let e = here.0 in
     let there = here.1 in
-    let read = read_is s.entries i e r there found in
-    let idle = sym (ap (λ (d : Entry). d.machine) read) ∙ none in
+    let read = read_is s.states i e r there found in
+    let idle = sym (ap (λ (d : PartyState). d.machine) read) ∙ none in
     let same = λ (spare : ℕ). start_at s i e r now c machine since spare read long made goes in
     record {
-      entry = e;
+      state = e;
       there = there;
       idle = idle;
       same = same;
       kept = λ spare. start_keeps s i e c spare is there idle (subst IsRunning made running);
-      owing = ap (λ (v : Index). owed v.entries) (same 0) ∙ start_owes s i e c there idle;
+      owing = ap (λ (v : Index). owed v.states) (same 0) ∙ start_owes s i e c there idle;
     }

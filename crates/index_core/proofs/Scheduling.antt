@@ -24,31 +24,34 @@ use Rattle.cat_history.specs.declared.op.Write.{Write}
 use Rattle.call_stages.specs.declared.once.Once.{Once}
 use Rattle.call_stages.specs.declared.once.Once.TheVariants as once
 use Rattle.call_stages.specs.declared.once.Placed.{Placed}
-use Rattle.call_stages.specs.Kinds.{clock_place}
+use Rattle.call_stages.specs.Kinds.{clock_address}
 use Rattle.call_stages.specs.Stages.{counted, placed_in}
+use Rattle.node_ops.specs.declared.call.Call.{Call}
 use Rattle.node_ops.specs.declared.running.Running.{Running}
 use Rattle.node_ops.specs.Asked.{IsOf, IsOfAfter, op_in, name_asked}
 use Rattle.node_ops.specs.RunningSteps.{running_call, running_asks, running_turned, Sound}
 use Rattle.node_ops.specs.CallStages.{stage_of, reply_of}
 use Rattle.node_ops.proofs.OpLaw.{counts_own_change, op_told}
+use Rattle.node_ops.specs.Endings.{IsPutOp}
 use Rattle.index_law.specs.Worlds.{written}
 use Rattle.index_law.specs.Lawful.{HasWriteAt}
 use Rattle.index_law.proofs.Maps.{after-longer, slice_get-longer}
 use Rattle.index_law.proofs.Parties.{at_set, at_longer, set_here, set_else}
-use Rattle.index_core.specs.declared.entry.Entry.{Entry}
-use Rattle.index_core.specs.Answers.{TookPlace, WasReached, IsPut, FoundNoRoom, IsAnswerOf}
-use Rattle.index_core.specs.Entries.{entry_after, next_index, index_after, IsEntry}
+use Rattle.index_core.specs.declared.party.PartyState.{PartyState}
+use Rattle.index_core.specs.Answers.{TookPlace, WasReached, FoundNoRoom, IsAnswerOf}
+use Rattle.index_core.specs.PartyStates.{state_after, next_index, index_after, IsPartyState}
 use Rattle.index_core.specs.Indexes.{Index, IsIndex, told, stepped_index, MakesCall}
 use Rattle.index_core.specs.Schedules.{BegunCall, AnsweredCall, flying_call, IsNext, flying_in, EachIsAnsweredOrFlies, IsAnsweredWrite, IsWriteInFlight, EachWriteIsOfACall, AreCounted}
 use Rattle.index_core.proofs.Flights.{each_goes_on, each_ends}
 use Rattle.index_core.proofs.Lists.{within, at_end, end_there, some_same, got_end}
-use Rattle.index_core.proofs.Phases.{phase_of, phase_after, leads}
-use Rattle.index_core.proofs.Places.{place_in, place_is, place_for, Onward, EndsWith, onward, ends_with}
+use Rattle.node_ops.specs.Endings.{place_for, GoesOn}
+use Rattle.node_ops.proofs.Endings.{turns_keep_place, last_counts_nothing}
+use Rattle.index_core.proofs.Endings.{EndsWith, ends_with}
 
 -- a call that was answered comes before what its caller makes
-abbrev pub IsEarlier : AnsweredCall → Entry → Option Running → Type 0
-IsEarlier c entry None = c.next ≤ entry.index
-IsEarlier c entry (Some machine) = (c.next ≤ entry.index) × (c.until ≤ entry.since)
+abbrev pub IsEarlier : AnsweredCall → PartyState → Option Running → Type 0
+IsEarlier c state None = c.next ≤ state.index
+IsEarlier c state (Some machine) = (c.next ≤ state.index) × (c.until ≤ state.since)
 
 -- what an answer says of the map and the history, which stays so as the history grows
 abbrev pub AnswerHolds : ℕ → Map → List Write → BegunCall → ℕ → Once Placed → Type 0
@@ -57,7 +60,7 @@ AnswerHolds slots base history c until (once.Done placed) =
     × IfSome (change_of c.op) (λ change. slice_get history placed.place ≡ Some (record { caller = c.caller; index = c.index; change = change }))
 AnswerHolds slots base history c until (once.Spent clock) = WasReached c.since until c.limit clock
 AnswerHolds slots base history c until (once.Worn node word) = Unit {0}
-AnswerHolds slots base history c until (once.Again why) = why ≡ NoFree → IsPut c.op × FoundNoRoom slots base history c.since until (name_asked c.op)
+AnswerHolds slots base history c until (once.Again why) = why ≡ NoFree → IsPutOp c.op × FoundNoRoom slots base history c.since until (name_asked c.op)
 
 -- the same of an answered call
 abbrev pub CallHolds : ℕ → Map → List Write → AnsweredCall → Type 0
@@ -69,10 +72,10 @@ in_flight None = 0
 in_flight (Some machine) = 1
 
 -- no caller has begun more calls that count than these since the schedule began
-pub record CountsUpTo (first : Index) (begun : List BegunCall) (i : ℕ) (entry : Entry) : Type 0 where
-  pub was : Entry
-  pub there : get_elem? first.entries i ≡ some was
-  pub most : entry.index + in_flight entry.machine ≤ was.index + length begun
+pub record CountsUpTo (first : Index) (begun : List BegunCall) (i : ℕ) (state : PartyState) : Type 0 where
+  pub was : PartyState
+  pub there : get_elem? first.states i ≡ some was
+  pub most : state.index + in_flight state.machine ≤ was.index + length begun
 
 pub record Kept (first : Index) (begun : List BegunCall) (calls : List AnsweredCall) (s : Index) : Type 0 where
   pub index : IsIndex s
@@ -81,11 +84,11 @@ pub record Kept (first : Index) (begun : List BegunCall) (calls : List AnsweredC
   pub holds : (n : ℕ) (c : AnsweredCall) → get_elem? calls n ≡ some c → CallHolds first.layout.slots (map_of first.base) s.history c
   pub order : (i j : ℕ) (a b : AnsweredCall) → get_elem? calls i ≡ some a → get_elem? calls j ≡ some b → i < j → a.call.caller ≡ b.call.caller
       → (a.next ≤ b.call.index) × (a.until ≤ b.call.since)
-  pub earlier : (n : ℕ) (c : AnsweredCall) (i : ℕ) (entry : Entry) → get_elem? calls n ≡ some c → get_elem? s.entries i ≡ some entry → c.call.caller ≡ i → IsEarlier c entry entry.machine
-  pub writes : EachWriteIsOfACall calls s.entries s.history
+  pub earlier : (n : ℕ) (c : AnsweredCall) (i : ℕ) (state : PartyState) → get_elem? calls n ≡ some c → get_elem? s.states i ≡ some state → c.call.caller ≡ i → IsEarlier c state state.machine
+  pub writes : EachWriteIsOfACall calls s.states s.history
   pub next : (n : ℕ) (c : AnsweredCall) → get_elem? calls n ≡ some c → IsNext c.call.index c.next c.answer
-  pub each_call : EachIsAnsweredOrFlies begun calls s.entries
-  pub counts : (i : ℕ) (entry : Entry) → get_elem? s.entries i ≡ some entry → CountsUpTo first begun i entry
+  pub each_call : EachIsAnsweredOrFlies begun calls s.states
+  pub counts : (i : ℕ) (state : PartyState) → get_elem? s.states i ≡ some state → CountsUpTo first begun i state
 
 pub place_le_end : (o : Op) (place : ℕ) → place ≤ (interval_at o place).end
 place_le_end (op.Put _ _) place = omega arith
@@ -130,14 +133,14 @@ longer_holds slots base h more c until (once.Again why) is ended = λ full. ((is
 pub longer_call : (slots : ℕ) (base : Map) (h more : List Write) (c : AnsweredCall) → CallHolds slots base h c → CallHolds slots base (h ++ more) c
 longer_call slots base h more c is = let longer = length-append h more in let within = is.1 in (longer_holds slots base h more c.call c.until c.answer is.0 is.1, omega arith)
 
--- an entry that stands elsewhere than the changed one
-pub else_there : (entries : List Entry) (i j : ℕ) (now entry : Entry) → j ≢ i → get_elem? entries j ≡ some entry → get_elem? (set entries i now) j ≡ some entry
-else_there entries i j now entry other there = set_else entries i j now other ∙ there
+-- an state that stands elsewhere than the changed one
+pub else_there : (states : List PartyState) (i j : ℕ) (now state : PartyState) → j ≢ i → get_elem? states j ≡ some state → get_elem? (set states i now) j ≡ some state
+else_there states i j now state other there = set_else states i j now other ∙ there
 
--- an entry that counts no more calls
-pub counts_as : (first : Index) (begun : List BegunCall) (i p : ℕ) (was now : Entry) → p ≡ i → now.index + in_flight now.machine ≤ was.index + in_flight was.machine → CountsUpTo first begun i was
+-- an state that counts no more calls
+pub counts_as : (first : Index) (begun : List BegunCall) (i p : ℕ) (was now : PartyState) → p ≡ i → now.index + in_flight now.machine ≤ was.index + in_flight was.machine → CountsUpTo first begun i was
     → CountsUpTo first begun p now
-counts_as first begun i p was now same fewer is = let most = is.most in record { was = is.was; there = ap (get_elem? first.entries) same ∙ is.there; most = omega arith }
+counts_as first begun i p was now same fewer is = let most = is.most in record { was = is.was; there = ap (get_elem? first.states) same ∙ is.there; most = omega arith }
 
 -- what an answer makes of an index that can be raised
 pub next_is : (index : ℕ) (answer : Once Placed) → next_index index ≡ index + 1 → IsNext index (index_after index answer) answer
@@ -157,15 +160,15 @@ pub took_one : (c : AnsweredCall) (placed : Placed) → IsNext c.call.index c.ne
 took_one c placed is answer = let up : c.next ≡ c.call.index + 1 = subst (IsNext c.call.index c.next) answer is in omega arith
 
 -- a party's call in flight
-module _ (first : Index) (begun : List BegunCall) (calls : List AnsweredCall) (s : Index) (i : ℕ) (e : Entry) (m : Running) (k : Kept first begun calls s) (there : get_elem? s.entries i ≡ some e) (flies : e.machine ≡ Some m) where
+module _ (first : Index) (begun : List BegunCall) (calls : List AnsweredCall) (s : Index) (i : ℕ) (e : PartyState) (m : Running) (k : Kept first begun calls s) (there : get_elem? s.states i ≡ some e) (flies : e.machine ≡ Some m) where
   abbrev base : Map
   base = map_of first.base
 
   abbrev x : ℕ
   x = told s m
 
-  own : IsEntry s.layout s.generation i e
-  own = k.index.entries i e there
+  own : IsPartyState s.layout s.generation i e
+  own = k.index.states i e there
 
   pub of : IsOf (op_in m) m
   of = subst (λ (o : Option Running). IfSome o (λ q. IsOf (op_in q) q)) flies own.op
@@ -174,10 +177,10 @@ module _ (first : Index) (begun : List BegunCall) (calls : List AnsweredCall) (s
   sound = subst (λ (o : Option Running). IfSome o (Sound s.layout s.generation)) flies own.machine
 
   -- whatever stands at this place is this call
-  machine_there : (entry : Entry) (machine : Running) → get_elem? s.entries i ≡ some entry → entry.machine ≡ Some machine → machine ≡ m
-  machine_there entry machine at flown =
-      let same : entry ≡ e = some-injective _ _ (sym at ∙ there) in
-      some_same (sym flown ∙ ap (λ (d : Entry). d.machine) same ∙ flies)
+  machine_there : (state : PartyState) (machine : Running) → get_elem? s.states i ≡ some state → state.machine ≡ Some machine → machine ≡ m
+  machine_there state machine at flown =
+      let same : state ≡ e = some-injective _ _ (sym at ∙ there) in
+      some_same (sym flown ∙ ap (λ (d : PartyState). d.machine) same ∙ flies)
 
   -- its own write stands where it has its place, and is of its op
   own_write : (place : ℕ) (write : Write) → slice_get s.history place ≡ Some write → write.caller ≡ e.caller → write.index ≡ e.index → change_of (op_in m) ≡ Some write.change
@@ -189,9 +192,9 @@ module _ (first : Index) (begun : List BegunCall) (calls : List AnsweredCall) (s
       let up = took_one w.answered w.placed (k.next w.number w.answered w.there) w.answer in
       let same = w.index in
       absurd (omega arith))
-      (λ (w : IsWriteInFlight s.entries place write).
-      let party : w.party ≡ i = sym (k.index.entries w.party w.entry w.there).caller ∙ sym w.caller ∙ caller ∙ own.caller in
-      let same = machine_there w.entry w.machine (subst (λ (j : ℕ). get_elem? s.entries j ≡ some w.entry) party w.there) w.flies in
+      (λ (w : IsWriteInFlight s.states place write).
+      let party : w.party ≡ i = sym (k.index.states w.party w.state w.there).caller ∙ sym w.caller ∙ caller ∙ own.caller in
+      let same = machine_there w.state w.machine (subst (λ (j : ℕ). get_elem? s.states j ≡ some w.state) party w.there) w.flies in
       ap (λ (q : Running). change_of (op_in q)) (sym same) ∙ w.change)
       (k.writes place write stands)
 
@@ -200,50 +203,50 @@ module _ (first : Index) (begun : List BegunCall) (calls : List AnsweredCall) (s
 
   -- it goes on
   module _ (next : Running) (is : running_turned m x ≡ Go next) (keeps_op : IsOfAfter (op_in m) (running_turned m x)) (keeps_call : MakesCall (running_call m) (running_turned m x)) (n : ℕ) where
-    abbrev e' : Entry
+    abbrev e' : PartyState
     e' = record e { machine = Some next }
 
     op_same : op_in next ≡ op_in m
     op_same = op_told (op_in m) next (subst (IsOfAfter (op_in m)) is keeps_op)
 
-    on : Onward (running_call m).view.layout (phase_of m) (running_asks m) x (phase_of next) (counted (stage_of m))
-    on = subst (λ (turn : Turn Running (Once Placed)). Onward (running_call m).view.layout (phase_of m) (running_asks m) x (phase_after turn) (counted (stage_of m))) is (onward (leads (op_in m) m x of) (ap reply_of is))
+    on : GoesOn (running_call m).view.layout (stage_of m) (running_asks m) x (stage_of next) (counted (stage_of m))
+    on = turns_keep_place m next x sound.here is
 
-    running_same : running_call next ≡ running_call m
-    running_same = subst (MakesCall (running_call m)) is keeps_call
+    running_same : (running_call next).limit ≡ (running_call m).limit
+    running_same = ap (λ (c : Call). c.limit) (subst (MakesCall (running_call m)) is keeps_call)
 
     same_call : flying_call e' next ≡ flying_call e m
-    same_call = λ t. record { caller = e.caller; index = e.index; op = op_same t; limit = (running_same t).limit; since = e.since }
+    same_call = λ t. record { caller = e.caller; index = e.index; op = op_same t; limit = running_same t; since = e.since }
 
     -- the place that it is told is the length of the history
-    clock : running_asks m ≡ Add (clock_place (running_call m).view.layout) → x ≡ length s.history
-    clock adds = ap (got s.layout s.words) (adds ∙ ap (λ (l : Layout). Add (clock_place l)) sound.layout) ∙ k.index.lawful.clock
+    clock : running_asks m ≡ Add (clock_address (running_call m).view.layout) → x ≡ length s.history
+    clock adds = ap (got s.layout s.words) (adds ∙ ap (λ (l : Layout). Add (clock_address l)) sound.layout) ∙ k.index.lawful.clock
 
-    still : {place : ℕ} {write : Write} → place_in (phase_of next) ≡ place_in (phase_of m) → slice_get s.history place ≡ Some write → IsAnsweredWrite calls place write ⊎ IsWriteInFlight (set s.entries i e') place write
+    still : {place : ℕ} {write : Write} → placed_in (stage_of next) ≡ placed_in (stage_of m) → slice_get s.history place ≡ Some write → IsAnsweredWrite calls place write ⊎ IsWriteInFlight (set s.states i e') place write
     still {place = place} {write = write} same stands =
         ⊎_elim
         (λ (w : IsAnsweredWrite calls place write). inl w)
-        (λ (w : IsWriteInFlight s.entries place write). inr (⊎_elim
+        (λ (w : IsWriteInFlight s.states place write). inr (⊎_elim
         (λ (party : w.party ≡ i).
-        let here = subst (λ (j : ℕ). get_elem? s.entries j ≡ some w.entry) party w.there in
-        let entry : w.entry ≡ e = some-injective _ _ (sym here ∙ there) in
-        let machine : w.machine ≡ m = machine_there w.entry w.machine here w.flies in
+        let here = subst (λ (j : ℕ). get_elem? s.states j ≡ some w.state) party w.there in
+        let state : w.state ≡ e = some-injective _ _ (sym here ∙ there) in
+        let machine : w.machine ≡ m = machine_there w.state w.machine here w.flies in
         record {
           party = i;
-          entry = e';
+          state = e';
           machine = next;
-          there = set_here s.entries i e' e there;
+          there = set_here s.states i e' e there;
           flies = refl;
-          place = place_is next ∙ same ∙ sym (place_is m) ∙ ap (λ (q : Running). placed_in (stage_of q)) (sym machine) ∙ w.place;
-          caller = w.caller ∙ ap (λ (d : Entry). d.caller) entry;
-          index = w.index ∙ ap (λ (d : Entry). d.index) entry;
+          place = same ∙ ap (λ (q : Running). placed_in (stage_of q)) (sym machine) ∙ w.place;
+          caller = w.caller ∙ ap (λ (d : PartyState). d.caller) state;
+          index = w.index ∙ ap (λ (d : PartyState). d.index) state;
           change = ap change_of op_same ∙ ap (λ (q : Running). change_of (op_in q)) (sym machine) ∙ w.change;
         })
         (λ (other : w.party ≢ i). record {
           party = w.party;
-          entry = w.entry;
+          state = w.state;
           machine = w.machine;
-          there = else_there s.entries i w.party e' w.entry other w.there;
+          there = else_there s.states i w.party e' w.state other w.there;
           flies = w.flies;
           place = w.place;
           caller = w.caller;
@@ -254,21 +257,21 @@ module _ (first : Index) (begun : List BegunCall) (calls : List AnsweredCall) (s
         (k.writes place write stands)
 
     -- a call that has no place yet leaves the others' writes as they are
-    others : {place : ℕ} {write : Write} → place_in (phase_of m) ≡ None → slice_get s.history place ≡ Some write → IsAnsweredWrite calls place write ⊎ IsWriteInFlight (set s.entries i e') place write
+    others : {place : ℕ} {write : Write} → placed_in (stage_of m) ≡ None → slice_get s.history place ≡ Some write → IsAnsweredWrite calls place write ⊎ IsWriteInFlight (set s.states i e') place write
     others {place = place} {write = write} none stands =
         ⊎_elim
         (λ (w : IsAnsweredWrite calls place write). inl w)
-        (λ (w : IsWriteInFlight s.entries place write). inr (
+        (λ (w : IsWriteInFlight s.states place write). inr (
         let other : w.party ≢ i =
         (λ party.
-        let machine : w.machine ≡ m = machine_there w.entry w.machine (subst (λ (j : ℕ). get_elem? s.entries j ≡ some w.entry) party w.there) w.flies in
-        let both : None ≡ Some place = sym none ∙ sym (place_is m) ∙ ap (λ (q : Running). placed_in (stage_of q)) (sym machine) ∙ w.place in
+        let machine : w.machine ≡ m = machine_there w.state w.machine (subst (λ (j : ℕ). get_elem? s.states j ≡ some w.state) party w.there) w.flies in
+        let both : None ≡ Some place = sym none ∙ ap (λ (q : Running). placed_in (stage_of q)) (sym machine) ∙ w.place in
         cc) in
         record {
           party = w.party;
-          entry = w.entry;
+          state = w.state;
           machine = w.machine;
-          there = else_there s.entries i w.party e' w.entry other w.there;
+          there = else_there s.states i w.party e' w.state other w.there;
           flies = w.flies;
           place = w.place;
           caller = w.caller;
@@ -277,19 +280,19 @@ module _ (first : Index) (begun : List BegunCall) (calls : List AnsweredCall) (s
         }))
         (k.writes place write stands)
 
-    writes_on : (o : Option Change) → Onward (running_call m).view.layout (phase_of m) (running_asks m) x (phase_of next) o → IfSome o (λ change. change_of (op_in m) ≡ Some change)
-        → EachWriteIsOfACall calls (set s.entries i e') (s.history ++ written e.caller e.index o)
+    writes_on : (o : Option Change) → GoesOn (running_call m).view.layout (stage_of m) (running_asks m) x (stage_of next) o → IfSome o (λ change. change_of (op_in m) ≡ Some change)
+        → EachWriteIsOfACall calls (set s.states i e') (s.history ++ written e.caller e.index o)
     writes_on None goes own_change place write stands = still goes (subst (λ (h : List Write). slice_get h place ≡ Some write) (append-nil s.history) stands)
     writes_on (Some change) goes own_change place write stands =
         ⊎_elim
         (λ (before : slice_get s.history place ≡ Some write). others goes.1 before)
         (λ (last : (place ≡ length s.history) × (record { caller = e.caller; index = e.index; change = change } ≡ write)). inr (record {
           party = i;
-          entry = e';
+          state = e';
           machine = next;
-          there = set_here s.entries i e' e there;
+          there = set_here s.states i e' e there;
           flies = refl;
-          place = place_is next ∙ goes.2 ∙ ap Some (clock goes.0 ∙ sym last.0);
+          place = goes.2 ∙ ap Some (clock goes.0 ∙ sym last.0);
           caller = ap (λ (w : Write). w.caller) (sym last.1);
           index = ap (λ (w : Write). w.index) (sym last.1);
           change = ap change_of op_same ∙ own_change ∙ ap (λ (w : Write). Some w.change) last.1;
@@ -299,7 +302,7 @@ module _ (first : Index) (begun : List BegunCall) (calls : List AnsweredCall) (s
     abbrev going_index : Index
     going_index = record s {
       words = acted s.layout s.words (running_asks m);
-      entries = slice_set s.entries i e';
+      states = slice_set s.states i e';
       history = s.history ++ written e.caller e.index (counted (stage_of m));
       spare = n;
     }
@@ -311,27 +314,27 @@ module _ (first : Index) (begun : List BegunCall) (calls : List AnsweredCall) (s
       layout_is = k.layout_is;
       holds = λ j c at. longer_call first.layout.slots base s.history (written e.caller e.index (counted (stage_of m))) c (k.holds j c at);
       order = k.order;
-      earlier = λ j c p entry at at_p caller. ⊎_elim
-          (λ (mine : (p ≡ i) × (e' ≡ entry)).
+      earlier = λ j c p state at at_p caller. ⊎_elim
+          (λ (mine : (p ≡ i) × (e' ≡ state)).
           let before : (c.next ≤ e.index) × (c.until ≤ e.since) = subst (IsEarlier c e) flies (k.earlier j c i e at there (caller ∙ mine.0)) in
-          subst (λ (d : Entry). IsEarlier c d d.machine) mine.1 before)
-          (λ (other : (p ≢ i) × (get_elem? s.entries p ≡ some entry)). k.earlier j c p entry at other.1 caller)
-          (at_set s.entries i p e' entry at_p);
+          subst (λ (d : PartyState). IsEarlier c d d.machine) mine.1 before)
+          (λ (other : (p ≢ i) × (get_elem? s.states p ≡ some state)). k.earlier j c p state at other.1 caller)
+          (at_set s.states i p e' state at_p);
       writes = writes_on (counted (stage_of m)) on (counts_own_change (op_in m) m of);
       next = k.next;
-      each_call = each_goes_on begun calls s.entries k.each_call i e e' there (ap (λ (c : BegunCall). c ∷ []) same_call ∙ sym (ap (flying_in e) flies));
-      counts = λ p entry at_p. ⊎_elim
-          (λ (mine : (p ≡ i) × (e' ≡ entry)).
+      each_call = each_goes_on begun calls s.states k.each_call i e e' there (ap (λ (c : BegunCall). c ∷ []) same_call ∙ sym (ap (flying_in e) flies));
+      counts = λ p state at_p. ⊎_elim
+          (λ (mine : (p ≡ i) × (e' ≡ state)).
           subst (CountsUpTo first begun p) mine.1 (counts_as first begun i p e e' mine.0 (let one = one_flies in omega arith) (k.counts i e there)))
-          (λ (other : (p ≢ i) × (get_elem? s.entries p ≡ some entry)). k.counts p entry other.1)
-          (at_set s.entries i p e' entry at_p);
+          (λ (other : (p ≢ i) × (get_elem? s.states p ≡ some state)). k.counts p state other.1)
+          (at_set s.states i p e' state at_p);
     }
 
     pub goes_on : IsIndex (stepped_index s i e m n) → Kept first begun calls (stepped_index s i e m n)
     goes_on index =
         let same : Path Index going_index (stepped_index s i e m n) = (λ t. record s {
           words = acted s.layout s.words (running_asks m);
-          entries = slice_set s.entries i (entry_after e (sym is t));
+          states = slice_set s.states i (state_after e (sym is t));
           history = s.history ++ written e.caller e.index (counted (stage_of m));
           spare = n;
         }) in
@@ -339,7 +342,7 @@ module _ (first : Index) (begun : List BegunCall) (calls : List AnsweredCall) (s
 
   -- it is answered
   module _ (answer : Once Placed) (is : running_turned m x ≡ Done answer) (n : ℕ) (few : AreCounted first begun) where
-    abbrev done : Entry
+    abbrev done : PartyState
     done = record e { index = index_after e.index answer; machine = None }
 
     abbrev call : AnsweredCall
@@ -354,12 +357,12 @@ module _ (first : Index) (begun : List BegunCall) (calls : List AnsweredCall) (s
         let below = few i counts.was counts.there in
         next_is e.index answer (min-eq_left (omega arith))
 
-    ends : EndsWith (running_call m).limit (op_in m) (phase_of m) answer
-    ends = (ends_with (leads (op_in m) m x of) answer (ap reply_of is)).0
+    ends : EndsWith m answer
+    ends = ends_with m x answer sound.here is
 
     -- the step counts nothing
     unwritten : s.history ++ written e.caller e.index (counted (stage_of m)) ≡ s.history
-    unwritten = ap (λ (o : Option Change). s.history ++ written e.caller e.index o) (ends_with (leads (op_in m) m x of) answer (ap reply_of is)).1 ∙ append-nil s.history
+    unwritten = ap (λ (o : Option Change). s.history ++ written e.caller e.index o) (last_counts_nothing m x answer sound.here is) ∙ append-nil s.history
 
     before_it : (j : ℕ) (c : AnsweredCall) → get_elem? calls j ≡ some c → c.call.caller ≡ e.caller → (c.next ≤ e.index) × (c.until ≤ e.since)
     before_it j c at caller = subst (IsEarlier c e) flies (k.earlier j c i e at there (caller ∙ own.caller))
@@ -378,16 +381,16 @@ module _ (first : Index) (begun : List BegunCall) (calls : List AnsweredCall) (s
     tells_it (once.Again why) says = says
 
     -- its place was the one that it is told
-    placed_by : (r : Once Placed) (place : ℕ) (change : Change) → EndsWith (running_call m).limit (op_in m) (phase_of m) r → placed_in (stage_of m) ≡ Some place → change_of (op_in m) ≡ Some change
+    placed_by : (r : Once Placed) (place : ℕ) (change : Change) → EndsWith m r → placed_in (stage_of m) ≡ Some place → change_of (op_in m) ≡ Some change
         → (placed : Placed) × (r ≡ once.Done placed) × (placed.place ≡ place)
     placed_by (once.Done placed) place change ending stands asks =
-        let both : Some placed.place ≡ Some place = ap (λ (o : Option Change). place_for o placed.place) (sym asks) ∙ sym ending.0 ∙ sym (place_is m) ∙ stands in
+        let both : Some placed.place ≡ Some place = ap (λ (o : Option Change). place_for o placed.place) (sym asks) ∙ sym ending.0 ∙ stands in
         (placed, refl, some_same both)
-    placed_by (once.Spent clock) place change ending stands asks = absurd (let both : None ≡ Some place = sym ending.0 ∙ sym (place_is m) ∙ stands in cc)
-    placed_by (once.Worn node word) place change ending stands asks = absurd (let both : None ≡ Some place = sym ending ∙ sym (place_is m) ∙ stands in cc)
-    placed_by (once.Again why) place change ending stands asks = absurd (let both : None ≡ Some place = sym ending.0 ∙ sym (place_is m) ∙ stands in cc)
+    placed_by (once.Spent clock) place change ending stands asks = absurd (let both : None ≡ Some place = sym ending.0 ∙ stands in cc)
+    placed_by (once.Worn node word) place change ending stands asks = absurd (let both : None ≡ Some place = sym ending ∙ stands in cc)
+    placed_by (once.Again why) place change ending stands asks = absurd (let both : None ≡ Some place = sym ending.0 ∙ stands in cc)
 
-    writes_done : EachWriteIsOfACall (calls ++ call ∷ []) (set s.entries i done) s.history
+    writes_done : EachWriteIsOfACall (calls ++ call ∷ []) (set s.states i done) s.history
     writes_done place write stands =
         ⊎_elim
         (λ (w : IsAnsweredWrite calls place write). inl (record {
@@ -401,11 +404,11 @@ module _ (first : Index) (begun : List BegunCall) (calls : List AnsweredCall) (s
           index = w.index;
           change = w.change;
         }))
-        (λ (w : IsWriteInFlight s.entries place write). ⊎_elim
+        (λ (w : IsWriteInFlight s.states place write). ⊎_elim
         (λ (party : w.party ≡ i).
-        let here = subst (λ (j : ℕ). get_elem? s.entries j ≡ some w.entry) party w.there in
-        let entry : w.entry ≡ e = some-injective _ _ (sym here ∙ there) in
-        let machine : w.machine ≡ m = machine_there w.entry w.machine here w.flies in
+        let here = subst (λ (j : ℕ). get_elem? s.states j ≡ some w.state) party w.there in
+        let state : w.state ≡ e = some-injective _ _ (sym here ∙ there) in
+        let machine : w.machine ≡ m = machine_there w.state w.machine here w.flies in
         let asks : change_of (op_in m) ≡ Some write.change = ap (λ (q : Running). change_of (op_in q)) (sym machine) ∙ w.change in
         let by = placed_by answer place write.change ends (ap (λ (q : Running). placed_in (stage_of q)) (sym machine) ∙ w.place) asks in
         inl (record {
@@ -415,15 +418,15 @@ module _ (first : Index) (begun : List BegunCall) (calls : List AnsweredCall) (s
           there = end_there calls call;
           answer = by.1;
           place = by.2;
-          caller = w.caller ∙ ap (λ (d : Entry). d.caller) entry;
-          index = w.index ∙ ap (λ (d : Entry). d.index) entry;
+          caller = w.caller ∙ ap (λ (d : PartyState). d.caller) state;
+          index = w.index ∙ ap (λ (d : PartyState). d.index) state;
           change = asks;
         }))
         (λ (other : w.party ≢ i). inr (record {
           party = w.party;
-          entry = w.entry;
+          state = w.state;
           machine = w.machine;
-          there = else_there s.entries i w.party done w.entry other w.there;
+          there = else_there s.states i w.party done w.state other w.there;
           flies = w.flies;
           place = w.place;
           caller = w.caller;
@@ -434,7 +437,7 @@ module _ (first : Index) (begun : List BegunCall) (calls : List AnsweredCall) (s
         (k.writes place write stands)
 
     abbrev done_index : Index
-    done_index = record s { words = acted s.layout s.words (running_asks m); entries = slice_set s.entries i done; spare = n }
+    done_index = record s { words = acted s.layout s.words (running_asks m); states = slice_set s.states i done; spare = n }
 
     ordered : (p q : ℕ) (a b : AnsweredCall) → get_elem? (calls ++ call ∷ []) p ≡ some a → get_elem? (calls ++ call ∷ []) q ≡ some b → p < q → a.call.caller ≡ b.call.caller → (a.next ≤ b.call.index) × (a.until ≤ b.call.since)
     ordered p q a b at_p at_q less caller =
@@ -460,33 +463,33 @@ module _ (first : Index) (begun : List BegunCall) (calls : List AnsweredCall) (s
           subst (CallHolds first.layout.slots base s.history) last.1 (tells_it answer says, omega arith))
           (at_end calls call c j at);
       order = ordered;
-      earlier = λ j c p entry at at_p caller. ⊎_elim
-          (λ (mine : (p ≡ i) × (done ≡ entry)). ⊎_elim
+      earlier = λ j c p state at at_p caller. ⊎_elim
+          (λ (mine : (p ≡ i) × (done ≡ state)). ⊎_elim
           (λ (old : get_elem? calls j ≡ some c).
           let before = (before_it j c old (caller ∙ mine.0 ∙ sym own.caller)).0 in
           let more = (next_near e.index done.index answer next_here).0 in
           let less : c.next ≤ done.index = omega arith in
-          subst (λ (d : Entry). IsEarlier c d d.machine) mine.1 less)
-          (λ (last : (j ≡ length calls) × (call ≡ c)). subst (λ (q : Entry × AnsweredCall). IsEarlier q.1 q.0 q.0.machine) (λ t. (mine.1 t, last.1 t)) (let here : call.next ≤ done.index = omega arith in here))
+          subst (λ (d : PartyState). IsEarlier c d d.machine) mine.1 less)
+          (λ (last : (j ≡ length calls) × (call ≡ c)). subst (λ (q : PartyState × AnsweredCall). IsEarlier q.1 q.0 q.0.machine) (λ t. (mine.1 t, last.1 t)) (let here : call.next ≤ done.index = omega arith in here))
           (at_end calls call c j at))
-          (λ (other : (p ≢ i) × (get_elem? s.entries p ≡ some entry)). ⊎_elim
-          (λ (old : get_elem? calls j ≡ some c). k.earlier j c p entry old other.1 caller)
+          (λ (other : (p ≢ i) × (get_elem? s.states p ≡ some state)). ⊎_elim
+          (λ (old : get_elem? calls j ≡ some c). k.earlier j c p state old other.1 caller)
           (λ (last : (j ≡ length calls) × (call ≡ c)). absurd (other.0 (sym caller ∙ ap (λ (d : AnsweredCall). d.call.caller) (sym last.1) ∙ own.caller)))
           (at_end calls call c j at))
-          (at_set s.entries i p done entry at_p);
+          (at_set s.states i p done state at_p);
       writes = writes_done;
       next = λ j c at. ⊎_elim
           (λ (old : get_elem? calls j ≡ some c). k.next j c old)
           (λ (last : (j ≡ length calls) × (call ≡ c)). subst (λ (d : AnsweredCall). IsNext d.call.index d.next d.answer) last.1 next_here)
           (at_end calls call c j at);
-      each_call = each_ends begun calls s.entries k.each_call i e done there call (ap (flying_in e) flies) refl;
-      counts = λ p entry at_p. ⊎_elim
-          (λ (mine : (p ≡ i) × (done ≡ entry)).
+      each_call = each_ends begun calls s.states k.each_call i e done there call (ap (flying_in e) flies) refl;
+      counts = λ p state at_p. ⊎_elim
+          (λ (mine : (p ≡ i) × (done ≡ state)).
           let near = (next_near e.index done.index answer next_here).1 in
           let one = one_flies in
           subst (CountsUpTo first begun p) mine.1 (counts_as first begun i p e done mine.0 (omega arith) (k.counts i e there)))
-          (λ (other : (p ≢ i) × (get_elem? s.entries p ≡ some entry)). k.counts p entry other.1)
-          (at_set s.entries i p done entry at_p);
+          (λ (other : (p ≢ i) × (get_elem? s.states p ≡ some state)). k.counts p state other.1)
+          (at_set s.states i p done state at_p);
     }
 
     pub is_answered : IsAnswerOf s.layout.slots (map_of (stepped_index s i e m n).base) (stepped_index s i e m n).history e (op_in m) (running_call m).limit answer → IsIndex (stepped_index s i e m n)
@@ -494,7 +497,7 @@ module _ (first : Index) (begun : List BegunCall) (calls : List AnsweredCall) (s
     is_answered says index =
         let same : Path Index done_index (stepped_index s i e m n) = (λ t. record s {
           words = acted s.layout s.words (running_asks m);
-          entries = slice_set s.entries i (entry_after e (sym is t));
+          states = slice_set s.states i (state_after e (sym is t));
           history = sym unwritten t;
           spare = n;
         }) in

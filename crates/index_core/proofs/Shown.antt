@@ -7,22 +7,10 @@ use Rattle.cat_history.specs.declared.op.Change.{Change}
 use Rattle.call_stages.specs.declared.once.Once.{Once}
 use Rattle.call_stages.specs.declared.once.Once.TheVariants as once
 use Rattle.call_stages.specs.declared.once.Placed.{Placed}
-use Rattle.call_stages.specs.Stages.{Held, Stage, Idle, Saw, Holds}
-use Rattle.call_stages.specs.Kinds.{IsClean, Look, turns_back, is_worn, sees, misses, times, learns, decides, glances, Answers, writes, reads, is_spent, has_no_room, Step, looks, locks, stores, commits, drains, counts, unlocks}
+use Rattle.call_stages.specs.Stages.{Held, Stage, Idle, Saw, Wears, Holds, Eyes, Splits, Leaves, Meets, Joins, IsLoose}
+use Rattle.call_stages.specs.Kinds.{IsClean, Look, turns_back, is_worn, wears, roams, roams_status, sees, misses, times, learns, decides, glances, finds_live, watches, watches_next, turns_away, steps_back, wanders, Split, fills, lights, switches, glances_left, glances_fresh, drains_left, drains_fresh, trims, splits, meets, knows_own, knows_right, copies, takes_up, puts_down, parts, gathers, joins, glances_joined, drains_joined, retires, yields, merges, peeks, peeks_status, eyes, eyes_free, passes, loses, claims, publishes, leaves, Answers, writes, reads, is_spent, has_no_room, refuses, Step, looks, locks, stores, commits, drains, counts, unlocks}
 use Rattle.index_law.specs.Weights.{AddsName}
-
--- one where a name that wasn't there is changed in the node, or in the history already
-abbrev pub shown_by : Option (Option ℕ) → Option Change → Option ℕ → ℕ
-shown_by (Some None) (Some change) placed = 1
-shown_by (Some None) None (Some place) = 1
-shown_by (Some None) None None = 0
-shown_by (Some (Some value)) pending placed = 0
-shown_by None pending placed = 0
-
-abbrev pub shows : Stage → ℕ
-shows Idle = 0
-shows (Saw n v w) = 0
-shows (Holds n w h) = shown_by h.old h.pending h.placed
+use Rattle.index_core.specs.MachineLaws.{shown_by, shows}
 
 -- one where a call is answered that its name wasn't there
 abbrev pub new_if : Option ℕ → ℕ
@@ -42,8 +30,14 @@ shown_few (Some None) None None = omega arith
 
 pub shows_few : (s : Stage) → shows s ≤ 1
 shows_few Idle = omega arith
-shows_few (Saw n v w) = omega arith
+shows_few (Saw n v w k) = omega arith
+shows_few (Wears n v) = omega arith
 shows_few (Holds n w h) = shown_few h.old h.pending h.placed
+shows_few (Eyes n w h m v u free) = shown_few h.old None h.placed
+shows_few (Splits left fresh phase) = omega arith
+shows_few (Leaves left) = omega arith
+shows_few (Meets n w h right) = shown_few h.old None h.placed
+shows_few (Joins h left right pace) = shown_few h.old None h.placed
 
 unshown : (old : Option (Option ℕ)) → shown_by old None None ≡ 0
 unshown None = refl
@@ -61,24 +55,63 @@ counted_shows None c placed place = omega arith
 counted_shows (Some None) c placed place = omega arith
 counted_shows (Some (Some value)) c placed place = omega arith
 
-written_shows : (old : Option ℕ) (place : ℕ) → shown_by (Some old) None (Some place) ≡ told_new (Some (once.Done (record { old = old; place = place; hops = 0 })))
-written_shows None place = refl
-written_shows (Some value) place = refl
+-- a change that is pending too makes it no less
+pending_shows : (old : Option (Option ℕ)) (pending : Option Change) (placed : Option ℕ) → shown_by old None placed ≤ shown_by old pending placed
+pending_shows None pending placed = omega arith
+pending_shows (Some (Some value)) pending placed = omega arith
+pending_shows (Some None) (Some change) None = omega arith
+pending_shows (Some None) (Some change) (Some place) = omega arith
+pending_shows (Some None) None placed = omega arith
+
+-- a stage that holds no node shows nothing
+loose_shows : (s : Stage) → IsLoose s → shows s ≡ 0
+loose_shows Idle loose = refl
+loose_shows (Saw n v w k) loose = refl
+loose_shows (Wears n v) loose = refl
+loose_shows (Holds n w h) loose = absurd loose
+loose_shows (Eyes n w h m v u free) loose = absurd loose
+loose_shows (Splits left fresh phase) loose = refl
+loose_shows (Leaves left) loose = refl
+loose_shows (Meets n w h right) loose = absurd loose
+loose_shows (Joins h left right pace) loose = absurd loose
+
+written_shows : (old : Option ℕ) (place hops : ℕ) → shown_by (Some old) None (Some place) ≡ told_new (Some (once.Done (record { old = old; place = place; hops = hops })))
+written_shows None place hops = refl
+written_shows (Some value) place hops = refl
 
 answer_shows : {l : Layout} {r : Once Placed} (h : Held) → h.pending ≡ None → Answers l h r → shown_by h.old h.pending h.placed ≤ told_new (Some r)
-answer_shows h clean (writes {old = old} {place = place} placed old_is) =
+answer_shows h clean (writes {old = old} {place = place} {hops = hops} placed old_is) =
     let same : shown_by h.old h.pending h.placed ≡ shown_by (Some old) None (Some place) = (λ k. shown_by (old_is k) (clean k) (placed k)) in
-    let told = written_shows old place in
+    let told = written_shows old place hops in
     omega arith
 answer_shows h clean (reads unplaced time old_is) = let none = shown_none h.old h.pending h.placed clean unplaced in omega arith
 answer_shows h clean (is_spent unplaced time) = let none = shown_none h.old h.pending h.placed clean unplaced in omega arith
 answer_shows h clean (has_no_room unplaced time old_is full) = let none = shown_none h.old h.pending h.placed clean unplaced in omega arith
+answer_shows h clean (refuses unplaced is) = let none = shown_none h.old h.pending h.placed clean unplaced in omega arith
+
+told_least : (r : Option (Once Placed)) → 0 ≤ told_new r
+told_least r = omega arith
 
 module _ {l : Layout} {g : ℕ} where
   look_shows : {s : Stage} {a : Action} {x : ℕ} {t : Stage} {r : Option (Once Placed)} → Look l g s a x t r → shows s ≤ shows t + told_new r
-  look_shows (turns_back here busy) = omega arith
-  look_shows (is_worn here free worn) = omega arith
-  look_shows (sees here free unworn lock) = omega arith
+  look_shows (turns_back {s = s} loose here busy) = let none = loose_shows s loose in omega arith
+  look_shows (wears {s = s} loose here free worn) = let none = loose_shows s loose in omega arith
+  look_shows (roams has) = omega arith
+  look_shows (roams_status here) = omega arith
+  look_shows (is_worn has) = omega arith
+  look_shows (sees {s = s} loose here free unworn lock) = let none = loose_shows s loose in omega arith
+  look_shows (finds_live here is) = omega arith
+  look_shows (watches has positive live next learnt) = omega arith
+  look_shows (watches_next has low high ne live live' next leads learnt) = omega arith
+  look_shows (turns_away {s = s} {r = r} loose here up) = let none = loose_shows s loose in let least = told_least r in omega arith
+  look_shows (steps_back {s = s} {r = r} loose here up) = let none = loose_shows s loose in let least = told_least r in omega arith
+  look_shows (wanders {s = s} {r = r} loose here up) = let none = loose_shows s loose in let least = told_least r in omega arith
+  look_shows (peeks here unready) = omega arith
+  look_shows (peeks_status here unready) = omega arith
+  look_shows (eyes {h = h} still durable here nonzero free unworn lock) = let same = ap (λ (p : Option Change). shown_by h.old p h.placed) still.pending in omega arith
+  look_shows (eyes_free here is) = omega arith
+  look_shows (passes {h = h} here) = let more = pending_shows h.old h.pending h.placed in omega arith
+  look_shows (loses {h = h} here other) = let more = pending_shows h.old h.pending h.placed in omega arith
   look_shows (misses other) = omega arith
   look_shows (times {h = h} clean below) = let none = clean_shows h clean in omega arith
   look_shows (learns has positive unready learnt) = omega arith
@@ -88,7 +121,7 @@ module _ {l : Layout} {g : ℕ} where
   -- what a call shows it goes on to show, until it is answered so
   pub step_shows : {s : Stage} {a : Action} {x : ℕ} {t : Stage} {r : Option (Once Placed)} → Step l g s a x t r → shows s ≤ shows t + told_new r
   step_shows (looks look) = look_shows look
-  step_shows (locks same named) = omega arith
+  step_shows (locks same named live between) = omega arith
   step_shows (stores {h = h} has positive small clean soils knows means) = let none = clean_shows h clean in omega arith
   step_shows (commits {h = h} has positive small clean durable soiled old about knows means) = let none = clean_shows h clean in omega arith
   step_shows (drains has small unready hand cleans) = omega arith
@@ -97,6 +130,30 @@ module _ {l : Layout} {g : ℕ} where
       let now = counted_shows h.old c h.placed x in
       omega arith
   step_shows (unlocks {h = h} next pending durable unready answers) = let told = answer_shows h pending answers in omega arith
+  step_shows (claims {h = h} may here same) = let none : shown_by h.old None h.placed ≡ 0 = (λ k. shown_by (may.lacked k) None (may.unplaced k)) in omega arith
+  step_shows (publishes next left fresh) = omega arith
+  step_shows (leaves next) = omega arith
+  step_shows (splits (fills has positive small within soils told)) = omega arith
+  step_shows (splits (lights here leads)) = omega arith
+  step_shows (splits (switches here small durable soiled cut told means)) = omega arith
+  step_shows (splits (glances_left has learnt)) = omega arith
+  step_shows (splits (glances_fresh has)) = omega arith
+  step_shows (splits (drains_left has small hand cleans)) = omega arith
+  step_shows (splits (drains_fresh has small hand cleans)) = omega arith
+  step_shows (splits (trims here small durable soiled anchor told means)) = omega arith
+  step_shows (merges (meets here same may next)) = omega arith
+  step_shows (merges (knows_own has positive learnt)) = omega arith
+  step_shows (merges (knows_right has positive told)) = omega arith
+  step_shows (merges (copies has content small soils learnt means)) = omega arith
+  step_shows (merges (takes_up has)) = omega arith
+  step_shows (merges (puts_down has small hand cleans)) = omega arith
+  step_shows (merges (parts {h = h} next)) = let more = pending_shows h.old h.pending h.placed in omega arith
+  step_shows (merges (gathers small durable soiled told gathered)) = omega arith
+  step_shows (merges (joins small durable soiled next told)) = omega arith
+  step_shows (merges (glances_joined has learnt)) = omega arith
+  step_shows (merges (drains_joined has small hand cleans)) = omega arith
+  step_shows (merges (retires durable)) = omega arith
+  step_shows (merges (yields {h = h} next durable)) = omega arith
 
 -- the store by which a put adds a name is the first that shows it
 pub adds_shows : (s : Stage) (a : Action) (t : Stage) → AddsName s a t → (shows s ≡ 0) × (shows t ≡ 1)

@@ -39,7 +39,7 @@ use Rattle.cat_history.specs.declared.op.Op.{Op}
 use Rattle.index_law.specs.Facts.{Facts}
 use Rattle.index_law.specs.Worlds.{Party, World, facts, written, moved_on, stepped}
 use Rattle.index_law.specs.Lawful.{Sure, Lawful}
-use Rattle.index_law.specs.Laws.{Allowed, ActionLaw, IsLegal, StepLaw}
+use Rattle.index_law.specs.Laws.{Allowed, ActionLaw, Counts, IsLegal, StepLaw}
 use Rattle.index_law.proofs.Actions.{action_law, zero_told}
 use Rattle.index_law.proofs.Own.{allow_law, sure_within}
 use Rattle.index_law.proofs.Law.{step_law}
@@ -48,90 +48,72 @@ use Rattle.index_law.specs.Weights.{AddsName, RisesBy, weight_sum}
 use Rattle.index_law.proofs.Weights.{step_weighs, swap_weighs}
 use Rattle.index_law.proofs.Starts.{start_law, swap_law}
 use Rattle.index_law.proofs.Parties.{at_set, set_here}
-use Rattle.index_core.specs.declared.entry.Entry.{Entry}
-use Rattle.index_core.specs.declared.entry.CoreCall.{CoreCall}
-use Rattle.index_core.specs.declared.entry.CoreCall.TheVariants as call
-use Rattle.index_core.specs.CoreCalls.{machine_of, writes_of}
-use Rattle.index_core.specs.Entries.{machine_stage, party_of, entry_with, entry_after, entry_counted, machine_owes, owes, owed, IsEntry}
+use Rattle.index_core.specs.declared.party.PartyState.{PartyState}
+use Rattle.index_core.specs.declared.party.CoreCall.{CoreCall}
+use Rattle.index_core.specs.declared.party.CoreCall.TheVariants as call
+use Rattle.index_core.specs.CoreCalls.{machine_of, most_writes}
+use Rattle.index_core.specs.PartyStates.{machine_stage, party_of, state_with, state_after, state_counted, machine_owes, owes, owed, IsPartyState}
+use Rattle.node_ops.specs.Calls.{IsSame}
 use Rattle.index_core.specs.Indexes.{Index, world, IsIndex, view_of, started_index, told, stepped_index, MakesCall}
 use Rattle.index_core.proofs.Lists.{map_there, map_set, owed-set, set_twice}
 use Rattle.index_core.proofs.Ordering.{start_ordered, count_ordered, step_ordered}
+use Rattle.index_core.proofs.Bounds.{bounded_small, step_bounded, start_bounded, count_bounded}
 use Rattle.index_core.proofs.Owing.{owes_after, pays, many, written-length}
 
--- what is counted is of a name
-counted_named : (l : Layout) (g : ℕ) (f : Facts) (caller index since : ℕ) (stage : Stage) → Sure l g f caller index since stage → IfSome (counted stage) (λ change. IsName (name_of change))
-counted_named l g f caller index since Idle sure = tt
-counted_named l g f caller index since (Saw n v w) sure = tt
-counted_named l g f caller index since (Holds n w h) sure = at h.ready h.pending sure.about
-  where
-    pending : (pending : Option Change) → IfSome pending (λ c. name_of c ≡ h.name) → IfSome pending (λ change. IsName (name_of change))
-    pending None about = tt
-    pending (Some change) about = subst IsName (sym about) sure.named
-
-    at : (ready : Bool) (p : Option Change) → IfSome p (λ c. name_of c ≡ h.name) → IfSome (elim ready [ true ↦ p | false ↦ None ]) (λ change. IsName (name_of change))
-    at true p about = pending p about
-    at false p about = tt
-
-longer_names : (base : Map) (history : List Write) (caller index : ℕ) (change : Option Change) → ((name : List ℕ) (value : ℕ) → at (after_all base history) name ≡ Some value → IsName name)
-    → IfSome change (λ c. IsName (name_of c)) → (name : List ℕ) (value : ℕ) → at (after_all base (history ++ written caller index change)) name ≡ Some value → IsName name
-longer_names base history caller index None names is = subst (λ (h : List Write). (name : List ℕ) (value : ℕ) → at (after_all base h) name ≡ Some value → IsName name) (sym (append-nil history)) names
-longer_names base history caller index (Some change) names is =
-    subst (λ (m : Map). (name : List ℕ) (value : ℕ) → at m name ≡ Some value → IsName name) (sym (fold-append (λ (n : Map) (w : Write). changed n w.change) base history ((record { caller = caller; index = index; change = change }) ∷ [])))
-    (changed_names (after_all base history) change names is)
-
 -- what a step of a party's machine needs and leaves
-pub record StepFacts (s : Index) (party : ℕ) (entry : Entry) (machine : Running) : Type 0 where
+pub record StepFacts (s : Index) (party : ℕ) (state : PartyState) (machine : Running) : Type 0 where
   pub fits : IsRunning machine
   pub can : CanAct s.layout s.words (running_asks machine)
   pub takes : running_takes machine (told s machine)
   pub keeps_op : (asked : Op) → IsOf asked machine → IsOfAfter asked (running_turned machine (told s machine))
   pub keeps_call : MakesCall (running_call machine) (running_turned machine (told s machine))
   pub is_step : Step s.layout s.generation (stage_of machine) (running_asks machine) (told s machine) (stage_after (running_turned machine (told s machine))) (reply_of (running_turned machine (told s machine)))
-  pub kept : (spare : ℕ) → IsIndex (stepped_index s party entry machine spare)
-  pub weighs : (spare : ℕ) → RisesBy (AddsName (stage_of machine) (running_asks machine) (stage_after (running_turned machine (told s machine)))) (weight_sum (world s)) (weight_sum (world (stepped_index s party entry machine spare)))
-  pub legal : (spare : ℕ) → IsLegal s.layout s.generation (facts (world (stepped_index s party entry machine spare))) entry.caller entry.index entry.since (stage_of machine) (reply_of (running_turned machine (told s machine)))
+  pub kept : (spare : ℕ) → IsIndex (stepped_index s party state machine spare)
+  pub weighs : (spare : ℕ) → RisesBy (AddsName (stage_of machine) (running_asks machine) (stage_after (running_turned machine (told s machine)))) (weight_sum (world s)) (weight_sum (world (stepped_index s party state machine spare)))
+  pub counts : Counts s.layout (length s.history) (running_asks machine) (told s machine) (counted (stage_of machine))
+  pub legal : (spare : ℕ) → IsLegal s.layout s.generation (facts (world (stepped_index s party state machine spare))) state.caller state.index state.since (stage_of machine) (reply_of (running_turned machine (told s machine)))
 
 -- the world with the party as its call's turn leaves it: one whose call is answered is idle, and may have another index
-abbrev world_after : World → ℕ → Entry → Action → Turn Running (Once Placed) → World
-world_after w i entry a turn = record (stepped w i (party_of entry) a (stage_after turn)) { parties = set w.parties i (party_of (entry_after entry turn)) }
+abbrev world_after : World → ℕ → PartyState → Action → Turn Running (Once Placed) → World
+world_after w i state a turn = record (stepped w i (party_of state) a (stage_after turn)) { parties = set w.parties i (party_of (state_after state turn)) }
 
-lawful_after : (w : World) (i : ℕ) (entry : Entry) (a : Action) (turn : Turn Running (Once Placed)) → get_elem? w.parties i ≡ some (party_of entry)
-    → Lawful (stepped w i (party_of entry) a (stage_after turn)) → Lawful (world_after w i entry a turn)
-lawful_after w i entry a (Go machine) there lawful = lawful
-lawful_after w i entry a (Done answer) there lawful =
-    let p = moved_on (party_of entry) Idle in
-    let q = party_of (entry_after entry (Done answer)) in
-    let v = stepped w i (party_of entry) a Idle in
-    let here = set_here w.parties i p (party_of entry) there in
+lawful_after : (w : World) (i : ℕ) (state : PartyState) (a : Action) (turn : Turn Running (Once Placed)) → get_elem? w.parties i ≡ some (party_of state)
+    → Lawful (stepped w i (party_of state) a (stage_after turn)) → Lawful (world_after w i state a turn)
+lawful_after w i state a (Go machine) there lawful = lawful
+lawful_after w i state a (Done answer) there lawful =
+    let p = moved_on (party_of state) Idle in
+    let q = party_of (state_after state (Done answer)) in
+    let v = stepped w i (party_of state) a Idle in
+    let here = set_here w.parties i p (party_of state) there in
     subst (λ (parties : List Party). Lawful (record v { parties = parties })) (set_twice w.parties i p q) (swap_law v i p q lawful here refl refl (lawful.begun i p here))
 
 -- an idle party weighs nothing, whatever its index
-weighs_after : (w : World) (i : ℕ) (entry : Entry) (a : Action) (turn : Turn Running (Once Placed)) → get_elem? w.parties i ≡ some (party_of entry)
-    → weight_sum (stepped w i (party_of entry) a (stage_after turn)) ≡ weight_sum (world_after w i entry a turn)
-weighs_after w i entry a (Go machine) there = refl
-weighs_after w i entry a (Done answer) there =
-    let p = moved_on (party_of entry) Idle in
-    let q = party_of (entry_after entry (Done answer)) in
-    let v = stepped w i (party_of entry) a Idle in
-    let same = swap_weighs v i p q (set_here w.parties i p (party_of entry) there) refl refl in
+weighs_after : (w : World) (i : ℕ) (state : PartyState) (a : Action) (turn : Turn Running (Once Placed)) → get_elem? w.parties i ≡ some (party_of state)
+    → weight_sum (stepped w i (party_of state) a (stage_after turn)) ≡ weight_sum (world_after w i state a turn)
+weighs_after w i state a (Go machine) there = refl
+weighs_after w i state a (Done answer) there =
+    let p = moved_on (party_of state) Idle in
+    let q = party_of (state_after state (Done answer)) in
+    let v = stepped w i (party_of state) a Idle in
+    let same = swap_weighs v i p q (set_here w.parties i p (party_of state) there) refl refl in
     sym same ∙ ap (λ (parties : List Party). weight_sum (record v { parties = parties })) (set_twice w.parties i p q)
 
-after_entry : (l : Layout) (g i : ℕ) (entry : Entry) (op : Op) (turn : Turn Running (Once Placed)) → entry.caller ≡ i → SoundAfter l g turn → IsOfAfter op turn → IsEntry l g i (entry_after entry turn)
-after_entry l g i entry op (Go machine) same sound of = record { caller = same; machine = sound; op = subst (λ (o : Op). IsOf o machine) (sym (op_told op machine of)) of }
-after_entry l g i entry op (Done answer) same sound of = record { caller = same; machine = tt; op = tt }
+after_state : (l : Layout) (g i : ℕ) (state : PartyState) (op : Op) (turn : Turn Running (Once Placed)) → state.caller ≡ i → SoundAfter l g turn → IsOfAfter op turn → IsPartyState l g i (state_after state turn)
+after_state l g i state op (Go machine) same sound of = record { caller = same; machine = sound; op = subst (λ (o : Op). IsOf o machine) (sym (op_told op machine of)) of }
+after_state l g i state op (Done answer) same sound of = record { caller = same; machine = tt; op = tt }
 
--- entries of which one is another
-set_entries : (l : Layout) (g : ℕ) (entries : List Entry) (i : ℕ) (now : Entry) → ((j : ℕ) (entry : Entry) → get_elem? entries j ≡ some entry → IsEntry l g j entry) → IsEntry l g i now
-    → (j : ℕ) (entry : Entry) → get_elem? (set entries i now) j ≡ some entry → IsEntry l g j entry
-set_entries l g entries i now all is j entry at =
+-- states of which one is another
+set_states : (l : Layout) (g : ℕ) (states : List PartyState) (i : ℕ) (now : PartyState) → ((j : ℕ) (state : PartyState) → get_elem? states j ≡ some state → IsPartyState l g j state) → IsPartyState l g i now
+    → (j : ℕ) (state : PartyState) → get_elem? (set states i now) j ≡ some state → IsPartyState l g j state
+set_states l g states i now all is j state at =
     ⊎_elim
-    (λ (t : (j ≡ i) × (now ≡ entry)). subst (λ (k : ℕ). IsEntry l g k entry) (sym t.0) (subst (IsEntry l g i) t.1 is))
-    (λ (t : (j ≢ i) × (get_elem? entries j ≡ some entry)). all j entry t.1)
-    (at_set entries i j now entry at)
+    (λ (t : (j ≡ i) × (now ≡ state)). subst (λ (k : ℕ). IsPartyState l g k state) (sym t.0) (subst (IsPartyState l g i) t.1 is))
+    (λ (t : (j ≢ i) × (get_elem? states j ≡ some state)). all j state t.1)
+    (at_set states i j now state at)
 
 -- each turn makes the same call
 same_call : {M : Type 0} (fits : M → Type 0) (of : M → Call) (wrap : M → Running) (c : Call) (turn : Turn M (Once Placed)) → ((m : M) → running_call (wrap m) ≡ of m) → Stays fits of c turn → MakesCall c (wrapped wrap turn)
-same_call fits of wrap c (Go machine) same stays = same machine ∙ stays.1
+same_call fits of wrap c (Go machine) same stays = subst (IsSame c) (sym (same machine)) stays.1
 same_call fits of wrap c (Done answer) same stays = tt
 
 keeps_call : (machine : Running) (x : ℕ) → running_takes machine x → MakesCall (running_call machine) (running_turned machine x)
@@ -139,31 +121,32 @@ keeps_call (Getting get) x takes = same_call IsGet get_call (λ (m : Get). Getti
 keeps_call (Putting put) x takes = same_call IsPut put_call (λ (m : Put). Putting m) (put_call put) (put_turned put x) (λ m. refl) (put_stays put x takes.0 takes.1)
 keeps_call (Deleting del) x takes = same_call IsDel del_call (λ (m : Del). Deleting m) (del_call del) (del_turned del x) (λ m. refl) (del_stays del x takes.0 takes.1)
 
-pub step_facts : (s : Index) (party : ℕ) (entry : Entry) (machine : Running) → IsIndex s → get_elem? s.entries party ≡ some entry → entry.machine ≡ Some machine → length s.history < 2 ^ 63
-    → StepFacts s party entry machine
-step_facts s i entry machine is there flies room =
+pub step_facts : (s : Index) (party : ℕ) (state : PartyState) (machine : Running) → IsIndex s → get_elem? s.states party ≡ some state → state.machine ≡ Some machine
+    → StepFacts s party state machine
+step_facts s i state machine is there flies =
+    let room : length s.history < 2 ^ 63 = bounded_small s is in
     let l = s.layout in
     let g = s.generation in
     let w = world s in
-    let p = party_of entry in
+    let p = party_of state in
     let a = running_asks machine in
     let x = told s machine in
     let turn = running_turned machine x in
-    let stage : machine_stage entry.machine ≡ stage_of machine = ap machine_stage flies in
-    let there' = map_there party_of s.entries i entry there in
-    let own = is.entries i entry there in
+    let stage : machine_stage state.machine ≡ stage_of machine = ap machine_stage flies in
+    let there' = map_there party_of s.states i state there in
+    let own = is.states i state there in
     let sound : Sound l g machine = subst (λ (o : Option Running). IfSome o (Sound l g)) flies own.machine in
-    let known : Sure l g (facts w) entry.caller entry.index entry.since (stage_of machine) = subst (Sure l g (facts w) entry.caller entry.index entry.since) stage (is.lawful.sure i p there') in
+    let known : Sure l g (facts w) state.caller state.index state.since (stage_of machine) = subst (Sure l g (facts w) state.caller state.index state.since) stage (is.lawful.sure i p there') in
     let first = turns_are_steps l g machine 0 sound (zero_told l g a) in
-    let allowed = allow_law l g (stage_of machine) a 0 _ _ (sure_within l g (facts w) entry.caller entry.index entry.since (stage_of machine) known) first in
-    let act : ActionLaw w a = action_law w i p a is.lawful there' (subst (λ (u : Stage). Allowed l u a) (sym stage) allowed) room in
+    let allowed = allow_law l g (stage_of machine) a 0 _ _ (sure_within l g (facts w) state.caller state.index state.since (stage_of machine) known) first in
+    let act : ActionLaw w p.stage a = action_law w i p a is.lawful there' (subst (λ (u : Stage). Allowed l u a) (sym stage) allowed) room in
     let step = turns_are_steps l g machine x sound act.told in
     let law : StepLaw w i p a x (stage_after turn) (reply_of turn) =
     step_law w i p a x (stage_after turn) (reply_of turn) is.lawful there' (subst (λ (u : Stage). Step l g u a x (stage_after turn) (reply_of turn)) (sym stage) step) refl room in
-    let parties : slice_set (map party_of s.entries) i (party_of (entry_after entry turn)) ≡ map party_of (slice_set s.entries i (entry_after entry turn)) =
-    sym (map_set party_of s.entries i (entry_after entry turn)) in
-    let same : Path World (world_after w i entry a turn) (world (stepped_index s i entry machine 0)) =
-    (λ k. record { layout = l; generation = g; words = acted l s.words a; parties = parties k; base = map_of s.base; history = s.history ++ written entry.caller entry.index (counted (stage k)) }) in
+    let parties : slice_set (map party_of s.states) i (party_of (state_after state turn)) ≡ map party_of (slice_set s.states i (state_after state turn)) =
+    sym (map_set party_of s.states i (state_after state turn)) in
+    let same : Path World (world_after w i state a turn) (world (stepped_index s i state machine 0)) =
+    (λ k. record { layout = l; generation = g; words = acted l s.words a; parties = parties k; base = map_of s.base; history = s.history ++ written state.caller state.index (counted (stage k)) }) in
     let own_told = subst (λ (v : Layout × ℕ). Told v.0 v.1 a x) (λ k. (sym sound.layout k, sym sound.generation k)) act.told in
     record {
       fits = sound.here;
@@ -173,33 +156,35 @@ step_facts s i entry machine is there flies room =
       keeps_call = keeps_call machine x (sound.here, own_told);
       is_step = step;
       weighs = λ spare. subst (λ (q : Stage × ℕ). RisesBy (AddsName q.0 a (stage_after turn)) (weight_sum w) q.1)
-          (λ k. (stage k, (weighs_after w i entry a turn there' ∙ ap weight_sum same) k))
+          (λ k. (stage k, (weighs_after w i state a turn there' ∙ ap weight_sum same) k))
           (step_weighs w i p a x (stage_after turn) (reply_of turn) is.lawful there' (subst (λ (u : Stage). Step l g u a x (stage_after turn) (reply_of turn)) (sym stage) step) refl);
       kept = λ spare. record {
-        lawful = subst Lawful same (lawful_after w i entry a turn there' law.kept);
-        callers = length-set s.entries i (entry_after entry turn) ∙ is.callers;
-        entries = set_entries l g s.entries i (entry_after entry turn) is.entries (after_entry l g i entry (op_in machine) turn own.caller (turns_stay_sound l g machine x sound act.told)
+        lawful = subst Lawful same (lawful_after w i state a turn there' law.kept);
+        parties = length-set s.states i (state_after state turn) ∙ is.parties;
+        states = set_states l g s.states i (state_after state turn) is.states (after_state l g i state (op_in machine) turn own.caller (turns_stay_sound l g machine x sound act.told)
             (turns_keep_op l g (op_in machine) machine x sound act.told (subst (λ (o : Option Running). IfSome o (λ m. IsOf (op_in m) m)) flies own.op)));
-        names = longer_names (map_of s.base) s.history entry.caller entry.index (counted (stage_of machine)) is.names (counted_named l g (facts w) entry.caller entry.index entry.since (stage_of machine) known);
-        ordered = step_ordered s i entry machine is.entries is.ordered is.lawful.clock there flies;
+        ordered = step_ordered s i state machine is.states is.ordered is.lawful.clock there flies;
+        bounded = step_bounded s i state machine is there flies (keeps_call machine x (sound.here, own_told))
+            (turns_keep_op l g (op_in machine) machine x sound act.told (subst (λ (o : Option Running). IfSome o (λ m. IsOf (op_in m) m)) flies own.op));
       };
-      legal = λ spare. subst (λ (u : World). IsLegal l g (facts u) entry.caller entry.index entry.since (stage_of machine) (reply_of turn)) same
-          (subst (λ (u : Stage). IsLegal l g (facts (stepped w i p a (stage_after turn))) entry.caller entry.index entry.since u (reply_of turn)) stage law.legal);
+      counts = subst (λ (u : Stage). Counts l (length s.history) a x (counted u)) stage law.counts;
+      legal = λ spare. subst (λ (u : World). IsLegal l g (facts u) state.caller state.index state.since (stage_of machine) (reply_of turn)) same
+          (subst (λ (u : Stage). IsLegal l g (facts (stepped w i p a (stage_after turn))) state.caller state.index state.since u (reply_of turn)) stage law.legal);
     }
 
 -- what the calls owe falls by what the step counts
-pub step_owes : (s : Index) (party : ℕ) (entry : Entry) (machine : Running) → get_elem? s.entries party ≡ some entry → entry.machine ≡ Some machine
-    → owed (stepped_index s party entry machine 0).entries + length (written entry.caller entry.index (counted (stage_of machine))) ≤ owed s.entries
-step_owes s i entry machine there flies =
+pub step_owes : (s : Index) (party : ℕ) (state : PartyState) (machine : Running) → get_elem? s.states party ≡ some state → state.machine ≡ Some machine
+    → owed (stepped_index s party state machine 0).states + length (written state.caller state.index (counted (stage_of machine))) ≤ owed s.states
+step_owes s i state machine there flies =
     let turn = running_turned machine (told s machine) in
-    let moved = owed-set s.entries i entry (entry_after entry turn) there in
-    let was : machine_owes entry.machine ≡ owes machine = ap machine_owes flies in
+    let moved = owed-set s.states i state (state_after state turn) there in
+    let was : machine_owes state.machine ≡ owes machine = ap machine_owes flies in
     let now = after turn in
     let paid = pays machine (told s machine) in
-    let count = written-length entry.caller entry.index (counted (stage_of machine)) in
+    let count = written-length state.caller state.index (counted (stage_of machine)) in
     omega arith
   where
-    after : (turn : Turn Running (Once Placed)) → machine_owes (entry_after entry turn).machine ≡ owes_after turn
+    after : (turn : Turn Running (Once Placed)) → machine_owes (state_after state turn).machine ≡ owes_after turn
     after (Go machine) = refl
     after (Done answer) = refl
 
@@ -219,96 +204,96 @@ machine_op s party (call.Put name value limit) = (refl, refl)
 machine_op s party (call.Get name) = refl
 machine_op s party (call.Del name limit) = (refl, tt)
 
-pub machine_writes : (s : Index) (party : ℕ) (c : CoreCall) → owes (machine_of (view_of s party) c) ≡ writes_of c
+pub machine_writes : (s : Index) (party : ℕ) (c : CoreCall) → owes (machine_of (view_of s party) c) ≡ most_writes c
 machine_writes s party (call.Put name value limit) = refl
 machine_writes s party (call.Get name) = refl
 machine_writes s party (call.Del name limit) = refl
 
-pub start_keeps : (s : Index) (party : ℕ) (entry : Entry) (c : CoreCall) (spare : ℕ) → IsIndex s → get_elem? s.entries party ≡ some entry → entry.machine ≡ None
-    → IsRunning (machine_of (view_of s party) c) → IsIndex (started_index s party entry c spare)
-start_keeps s i entry c spare is there idle here =
+pub start_keeps : (s : Index) (party : ℕ) (state : PartyState) (c : CoreCall) (spare : ℕ) → IsIndex s → get_elem? s.states party ≡ some state → state.machine ≡ None
+    → IsRunning (machine_of (view_of s party) c) → IsIndex (started_index s party state c spare)
+start_keeps s i state c spare is there idle here =
     let m = machine_of (view_of s i) c in
-    let now = entry_with entry (length s.history) m in
-    let there' = map_there party_of s.entries i entry there in
-    let lawful = start_law (world s) i (party_of entry) entry.index is.lawful there' (ap machine_stage idle) in
-    let parties : slice_set (map party_of s.entries) i (record { caller = entry.caller; index = entry.index; since = length s.history; stage = Idle }) ≡ map party_of (slice_set s.entries i now) =
-    ap (λ (u : Stage). set (map party_of s.entries) i (record { caller = entry.caller; index = entry.index; since = length s.history; stage = u })) (sym (machine_idle s i c)) ∙ sym (map_set party_of s.entries i now) in
+    let now = state_with state (length s.history) m in
+    let there' = map_there party_of s.states i state there in
+    let lawful = start_law (world s) i (party_of state) state.index is.lawful there' (ap machine_stage idle) in
+    let parties : slice_set (map party_of s.states) i (record { caller = state.caller; index = state.index; since = length s.history; stage = Idle }) ≡ map party_of (slice_set s.states i now) =
+    ap (λ (u : Stage). set (map party_of s.states) i (record { caller = state.caller; index = state.index; since = length s.history; stage = u })) (sym (machine_idle s i c)) ∙ sym (map_set party_of s.states i now) in
     record {
       lawful = subst (λ (parties : List Party). Lawful (record { layout = s.layout; generation = s.generation; words = s.words; parties = parties; base = map_of s.base; history = s.history })) parties lawful;
-      callers = length-set s.entries i now ∙ is.callers;
-      entries = set_entries s.layout s.generation s.entries i now is.entries (record { caller = (is.entries i entry there).caller; machine = machine_begins s i c here; op = machine_op s i c });
-      names = is.names;
-      ordered = start_ordered s.entries s.history i entry m is.ordered;
+      parties = length-set s.states i now ∙ is.parties;
+      states = set_states s.layout s.generation s.states i now is.states (record { caller = (is.states i state there).caller; machine = machine_begins s i c here; op = machine_op s i c });
+      ordered = start_ordered s.states s.history i state m is.ordered;
+      bounded = start_bounded s i state c is here;
     }
 
-pub start_owes : (s : Index) (party : ℕ) (entry : Entry) (c : CoreCall) → get_elem? s.entries party ≡ some entry → entry.machine ≡ None
-    → owed (started_index s party entry c 0).entries ≡ owed s.entries + writes_of c
-start_owes s i entry c there idle =
-    let moved = owed-set s.entries i entry (entry_with entry (length s.history) (machine_of (view_of s i) c)) there in
-    let was : machine_owes entry.machine ≡ 0 = ap machine_owes idle in
+pub start_owes : (s : Index) (party : ℕ) (state : PartyState) (c : CoreCall) → get_elem? s.states party ≡ some state → state.machine ≡ None
+    → owed (started_index s party state c 0).states ≡ owed s.states + most_writes c
+start_owes s i state c there idle =
+    let moved = owed-set s.states i state (state_with state (length s.history) (machine_of (view_of s i) c)) there in
+    let was : machine_owes state.machine ≡ 0 = ap machine_owes idle in
     let now = machine_writes s i c in
     omega arith
 
 -- an idle party's index may be counted up
-pub count_keeps : (s : Index) (i : ℕ) (entry : Entry) (spare : ℕ) → IsIndex s → get_elem? s.entries i ≡ some entry → entry.machine ≡ None
-    → IsIndex (record s { entries = set s.entries i (entry_counted entry); spare = spare })
-count_keeps s i entry spare is there idle =
-    let p = party_of entry in
-    let now = entry_counted entry in
-    let there' = map_there party_of s.entries i entry there in
-    let own = is.entries i entry there in
+pub count_keeps : (s : Index) (i : ℕ) (state : PartyState) (spare : ℕ) → IsIndex s → get_elem? s.states i ≡ some state → state.machine ≡ None
+    → IsIndex (record s { states = set s.states i (state_counted state); spare = spare })
+count_keeps s i state spare is there idle =
+    let p = party_of state in
+    let now = state_counted state in
+    let there' = map_there party_of s.states i state there in
+    let own = is.states i state there in
     let lawful = swap_law (world s) i p (party_of now) is.lawful there' (ap machine_stage idle) (ap machine_stage idle) (is.lawful.begun i p there') in
     record {
-      lawful = subst (λ (parties : List Party). Lawful (record (world s) { parties = parties })) (sym (map_set party_of s.entries i now)) lawful;
-      callers = length-set s.entries i now ∙ is.callers;
-      entries = set_entries s.layout s.generation s.entries i now is.entries (record { caller = own.caller; machine = own.machine; op = own.op });
-      names = is.names;
-      ordered = count_ordered s.entries s.history i entry idle is.ordered;
+      lawful = subst (λ (parties : List Party). Lawful (record (world s) { parties = parties })) (sym (map_set party_of s.states i now)) lawful;
+      parties = length-set s.states i now ∙ is.parties;
+      states = set_states s.layout s.generation s.states i now is.states (record { caller = own.caller; machine = own.machine; op = own.op });
+      ordered = count_ordered s.states s.history i state idle is.ordered;
+      bounded = count_bounded s i state is idle;
     }
 
 -- and owes what it owed
-pub count_owes : (s : Index) (i : ℕ) (entry : Entry) → get_elem? s.entries i ≡ some entry → owed (set s.entries i (entry_counted entry)) ≡ owed s.entries
-count_owes s i entry there = let moved = owed-set s.entries i entry (entry_counted entry) there in omega arith
+pub count_owes : (s : Index) (i : ℕ) (state : PartyState) → get_elem? s.states i ≡ some state → owed (set s.states i (state_counted state)) ≡ owed s.states
+count_owes s i state there = let moved = owed-set s.states i state (state_counted state) there in omega arith
 
 -- how much room is told of an index is none of its laws
 pub respare : (s : Index) (spare : ℕ) → IsIndex s → IsIndex (record s { spare = spare })
-respare s spare is = record { lawful = is.lawful; callers = is.callers; entries = is.entries; names = is.names; ordered = is.ordered }
+respare s spare is = record { lawful = is.lawful; parties = is.parties; states = is.states; ordered = is.ordered; bounded = is.bounded }
 
 -- the index that a step leaves, at values that are equal to its own
-pub step_at : (s : Index) (i : ℕ) (e r e' : Entry) (m m' : Running) (row : Row) (got' : ℕ) (turn : Turn Running (Once Placed)) (history : List Write) (spare : ℕ)
+pub step_at : (s : Index) (i : ℕ) (e r e' : PartyState) (m m' : Running) (row : Row) (got' : ℕ) (turn : Turn Running (Once Placed)) (history : List Write) (spare : ℕ)
     → r ≡ e → m' ≡ m → row ≡ record { layout = s.layout; words = acted s.layout s.words (running_asks m') } → got' ≡ got s.layout s.words (running_asks m') → turn ≡ running_turned m' got'
-    → e' ≡ entry_after r turn → history ≡ s.history ++ written r.caller r.index (counted (stage_of m'))
-    → Path Index (record { layout = row.layout; generation = s.generation; words = row.words; entries = set s.entries i e'; base = s.base; history = history; spare = spare }) (stepped_index s i e m spare)
+    → e' ≡ state_after r turn → history ≡ s.history ++ written r.caller r.index (counted (stage_of m'))
+    → Path Index (record { layout = row.layout; generation = s.generation; words = row.words; states = set s.states i e'; base = s.base; history = history; spare = spare }) (stepped_index s i e m spare)
 step_at s i e r e' m m' row got' turn history spare p q a b c d h =
     let turn' : turn ≡ running_turned m (told s m) = c ∙ (λ k. running_turned (q k) (b k)) ∙ ap (λ (x : Running). running_turned m (told s x)) q in
-    let entry' : e' ≡ entry_after e (running_turned m (told s m)) = d ∙ (λ k. entry_after (p k) (turn' k)) in
+    let state' : e' ≡ state_after e (running_turned m (told s m)) = d ∙ (λ k. state_after (p k) (turn' k)) in
     let row' : row ≡ record { layout = s.layout; words = acted s.layout s.words (running_asks m) } = a ∙ ap (λ (x : Running). record { layout = s.layout; words = acted s.layout s.words (running_asks x) }) q in
     let history' : history ≡ s.history ++ written e.caller e.index (counted (stage_of m)) = h ∙ (λ k. s.history ++ written (p k).caller (p k).index (counted (stage_of (q k)))) in
-    λ k. record { layout = (row' k).layout; generation = s.generation; words = (row' k).words; entries = set s.entries i (entry' k); base = s.base; history = history' k; spare = spare }
+    λ k. record { layout = (row' k).layout; generation = s.generation; words = (row' k).words; states = set s.states i (state' k); base = s.base; history = history' k; spare = spare }
 
 -- and the index that a start leaves
-pub start_at : (s : Index) (i : ℕ) (e r e' : Entry) (c : CoreCall) (m : Running) (since spare : ℕ) → r ≡ e → since ≡ length s.history → m ≡ machine_of (view_of s i) c → e' ≡ entry_with r since m
-    → Path Index (record { layout = s.layout; generation = s.generation; words = s.words; entries = set s.entries i e'; base = s.base; history = s.history; spare = spare }) (started_index s i e c spare)
+pub start_at : (s : Index) (i : ℕ) (e r e' : PartyState) (c : CoreCall) (m : Running) (since spare : ℕ) → r ≡ e → since ≡ length s.history → m ≡ machine_of (view_of s i) c → e' ≡ state_with r since m
+    → Path Index (record { layout = s.layout; generation = s.generation; words = s.words; states = set s.states i e'; base = s.base; history = s.history; spare = spare }) (started_index s i e c spare)
 start_at s i e r e' c m since spare p q a d =
-    let entry' : e' ≡ entry_with e (length s.history) (machine_of (view_of s i) c) = d ∙ (λ k. entry_with (p k) (q k) (a k)) in
-    λ k. record { layout = s.layout; generation = s.generation; words = s.words; entries = set s.entries i (entry' k); base = s.base; history = s.history; spare = spare }
+    let state' : e' ≡ state_with e (length s.history) (machine_of (view_of s i) c) = d ∙ (λ k. state_with (p k) (q k) (a k)) in
+    λ k. record { layout = s.layout; generation = s.generation; words = s.words; states = set s.states i (state' k); base = s.base; history = s.history; spare = spare }
 
-pub same_machine : (r e : Entry) (m' m : Running) → r ≡ e → r.machine ≡ Some m' → e.machine ≡ Some m → m' ≡ m
-same_machine r e m' m p q d = let both : Some m' ≡ Some m = sym q ∙ ap (λ (x : Entry). x.machine) p ∙ d in cc
+pub same_machine : (r e : PartyState) (m' m : Running) → r ≡ e → r.machine ≡ Some m' → e.machine ≡ Some m → m' ≡ m
+same_machine r e m' m p q d = let both : Some m' ≡ Some m = sym q ∙ ap (λ (x : PartyState). x.machine) p ∙ d in cc
 
 -- a step leaves room for what is owed
-pub step_room : (s : Index) (i : ℕ) (e : Entry) (m : Running) (history : List Write) (entries : List Entry) (len cap len' cap' : ℕ) → get_elem? s.entries i ≡ some e → e.machine ≡ Some m
-    → history ≡ s.history ++ written e.caller e.index (counted (stage_of m)) → entries ≡ (stepped_index s i e m 0).entries → len ≡ length s.history → len' ≡ length history → cap ≤ cap' → len + owed s.entries ≤ cap
-    → (len' + owed entries ≤ cap') × (cap - (len + owed s.entries) ≤ cap' - (len' + owed entries))
-step_room s i e m history entries len cap len' cap' there flies h same was now larger room =
+pub step_room : (s : Index) (i : ℕ) (e : PartyState) (m : Running) (history : List Write) (states : List PartyState) (len cap len' cap' : ℕ) → get_elem? s.states i ≡ some e → e.machine ≡ Some m
+    → history ≡ s.history ++ written e.caller e.index (counted (stage_of m)) → states ≡ (stepped_index s i e m 0).states → len ≡ length s.history → len' ≡ length history → cap ≤ cap' → len + owed s.states ≤ cap
+    → (len' + owed states ≤ cap') × (cap - (len + owed s.states) ≤ cap' - (len' + owed states))
+step_room s i e m history states len cap len' cap' there flies h same was now larger room =
     let paid = step_owes s i e m there flies in
     let owing = ap owed same in
     let longer = ap length h ∙ length-append s.history (written e.caller e.index (counted (stage_of m))) in
     (omega arith, omega arith)
 
 -- there is room for the write that a step counts
-pub count_room : (s : Index) (i : ℕ) (e r : Entry) (m : Running) (counts : Option Change) (len cap : ℕ) → get_elem? s.entries i ≡ some e → e.machine ≡ Some m → r ≡ e → counts ≡ counted (stage_of m)
-    → len + owed s.entries ≤ cap → len + length (written r.caller r.index counts) ≤ cap
+pub count_room : (s : Index) (i : ℕ) (e r : PartyState) (m : Running) (counts : Option Change) (len cap : ℕ) → get_elem? s.states i ≡ some e → e.machine ≡ Some m → r ≡ e → counts ≡ counted (stage_of m)
+    → len + owed s.states ≤ cap → len + length (written r.caller r.index counts) ≤ cap
 count_room s i e r m counts len cap there flies read same room =
     let paid = step_owes s i e m there flies in
     let count = written-length r.caller r.index counts ∙ ap many same ∙ sym (written-length e.caller e.index (counted (stage_of m))) in

@@ -22,22 +22,24 @@ use Rattle.node_ops.specs.CallStages.{stage_of, stage_after, reply_of}
 use Rattle.node_ops.proofs.OpLaw.{op_told, pends_own_change}
 use Rattle.index_law.specs.Worlds.{Party}
 use Rattle.index_law.specs.Weights.{AddsName, weight_sum}
-use Rattle.index_law.proofs.Weights.{swap_weighs, evict_weighs, idle_weighs, crash_weighs}
-use Rattle.index_core.specs.declared.entry.CoreCall.{CoreCall}
-use Rattle.index_core.specs.declared.entry.Entry.{Entry}
-use Rattle.index_core.specs.declared.entry.Whole.{Whole}
-use Rattle.index_core.specs.declared.entry.Whole.TheVariants as whole
+use Rattle.index_law.proofs.Weights.{swap_weighs, evict_weighs, idle_weighs}
+use Rattle.index_core.specs.declared.party.CoreCall.{CoreCall}
+use Rattle.index_core.specs.declared.party.PartyState.{PartyState}
+use Rattle.index_core.specs.declared.party.Whole.{Whole}
+use Rattle.index_core.specs.declared.party.Whole.TheVariants as whole
 use Rattle.index_core.specs.CoreCalls.{op_of, machine_of}
-use Rattle.index_core.specs.Entries.{machine_stage, party_of, entry_with, entry_after, index_after, next_index}
+use Rattle.index_core.specs.PartyStates.{machine_stage, party_of, state_with, state_after, index_after, next_index}
 use Rattle.index_core.specs.Indexes.{Index, IsIndex, world, view_of, told}
-use Rattle.index_core.specs.Lone.{IsQuiet, entry_done}
+use Rattle.index_core.specs.Lone.{IsQuiet, state_done}
 use Rattle.index_core.specs.Schedules.{BegunCall, AnsweredCall, begun_call, flying_call, once_of, Runs, begins, starts, goes_on, answers, alone, evicts, reserves}
 use Rattle.index_core.specs.Weights.{weight_of, put_count, added_if, added_by, added_whole, put_in}
 use Rattle.index_core.specs.WeightBounds.{names_added, puts_in_flight, WeightIsBounded}
+use Rattle.index_core.proofs.Crashing.{crash_light}
 use Rattle.index_core.proofs.Alone.{go_of, done_of, quiet_parties}
 use Rattle.index_core.proofs.Lists.{map_there, map_set}
 use Rattle.index_core.proofs.OneHistory.{none_flies}
-use Rattle.index_core.proofs.Shown.{shows, new_if, told_new, shows_few, step_shows, adds_shows}
+use Rattle.index_core.specs.MachineLaws.{shows}
+use Rattle.index_core.proofs.Shown.{new_if, told_new, shows_few, step_shows, adds_shows}
 use Rattle.index_core.proofs.Stepping.{machine_idle, respare}
 use Rattle.index_law.proofs.Parties.{at_set}
 
@@ -75,8 +77,8 @@ abbrev showing : Option Running → ℕ
 showing None = 0
 showing (Some machine) = showing_of (op_in machine) (shows (stage_of machine))
 
-abbrev showing_sum : List Entry → ℕ
-showing_sum entries = sum_by (λ entry. showing entry.machine) entries
+abbrev showing_sum : List PartyState → ℕ
+showing_sum states = sum_by (λ state. showing state.machine) states
 
 showing_up : (asked : Op) (few many : ℕ) → few ≤ many → showing_of asked few ≤ showing_of asked many
 showing_up (op.Put name value) few many more = more
@@ -121,8 +123,8 @@ told_added (op.Del name) (once.Spent clock) = refl
 told_added (op.Del name) (once.Worn node word) = refl
 told_added (op.Del name) (once.Again why) = refl
 
-showing_puts : (entry : Entry) → showing entry.machine ≤ put_in entry.machine
-showing_puts entry = at entry.machine
+showing_puts : (state : PartyState) → showing state.machine ≤ put_in state.machine
+showing_puts state = at state.machine
   where
     by_op : (asked : Op) (shown : ℕ) → shown ≤ 1 → showing_of asked shown ≤ put_count asked
     by_op (op.Put name value) shown few = few
@@ -148,7 +150,7 @@ idle_adds : (s : Stage) (m : Running) → AddsName s (running_asks m) Idle → �
 idle_adds s m adds = let both : Idle ≡ Holds adds.node adds.lock adds.after = adds.is in absurd cc
 
 abbrev bound : Index → List AnsweredCall → Index → ℕ
-bound first calls s = weight_of first + (names_added calls + showing_sum s.entries)
+bound first calls s = weight_of first + (names_added calls + showing_sum s.states)
 
 -- along a schedule the sum stays within the bound
 record Weighs (first : Index) (calls : List AnsweredCall) (s : Index) : Type 0 where
@@ -165,27 +167,27 @@ same_added asked (whole.Worn node word) = refl
 quiet_sum : (s : Index) → IsQuiet s → weight_sum (world s) ≡ weight_of s
 quiet_sum s quiet = idle_weighs (world s) (quiet_parties s quiet)
 
-quiet_shows : (entries : List Entry) → ((i : ℕ) (entry : Entry) → get_elem? entries i ≡ some entry → entry.machine ≡ None) → showing_sum entries ≡ 0
+quiet_shows : (states : List PartyState) → ((i : ℕ) (state : PartyState) → get_elem? states i ≡ some state → state.machine ≡ None) → showing_sum states ≡ 0
 quiet_shows [] quiet = refl
-quiet_shows (entry ∷ entries) quiet =
-    let first : showing entry.machine ≡ 0 = ap showing (quiet 0 entry refl) in
-    let rest = quiet_shows entries (λ i e at. quiet (suc i) e at) in
-    let whole = sum_by-cons (λ (e : Entry). showing e.machine) entry entries in
+quiet_shows (state ∷ states) quiet =
+    let first : showing state.machine ≡ 0 = ap showing (quiet 0 state refl) in
+    let rest = quiet_shows states (λ i e at. quiet (suc i) e at) in
+    let whole = sum_by-cons (λ (e : PartyState). showing e.machine) state states in
     omega arith
 
 -- a call that begins shows nothing
-start_weighs : (s : Index) (i : ℕ) (entry : Entry) (c : CoreCall) → get_elem? s.entries i ≡ some entry → entry.machine ≡ None
-    → (weight_sum (world (record s { entries = set s.entries i (entry_with entry (length s.history) (machine_of (view_of s i) c)) })) ≡ weight_sum (world s))
-    × (showing_sum (set s.entries i (entry_with entry (length s.history) (machine_of (view_of s i) c))) ≡ showing_sum s.entries)
-start_weighs s i entry c there idle =
+start_weighs : (s : Index) (i : ℕ) (state : PartyState) (c : CoreCall) → get_elem? s.states i ≡ some state → state.machine ≡ None
+    → (weight_sum (world (record s { states = set s.states i (state_with state (length s.history) (machine_of (view_of s i) c)) })) ≡ weight_sum (world s))
+    × (showing_sum (set s.states i (state_with state (length s.history) (machine_of (view_of s i) c))) ≡ showing_sum s.states)
+start_weighs s i state c there idle =
     let m = machine_of (view_of s i) c in
-    let now = entry_with entry (length s.history) m in
+    let now = state_with state (length s.history) m in
     let w = world s in
-    let sums = sum_set (λ (e : Entry). showing e.machine) s.entries i entry now there in
-    let was : showing entry.machine ≡ 0 = ap showing idle in
+    let sums = sum_set (λ (e : PartyState). showing e.machine) s.states i state now there in
+    let was : showing state.machine ≡ 0 = ap showing idle in
     let begins : showing (Some m) ≡ 0 = ap (λ (u : Stage). showing_of (op_in m) (shows u)) (machine_idle s i c) ∙ showing_none (op_in m) in (
-      ap (λ (parties : List Party). weight_sum (record w { parties = parties })) (map_set party_of s.entries i now)
-          ∙ swap_weighs w i (party_of entry) (party_of now) (map_there party_of s.entries i entry there) (ap machine_stage idle) (machine_idle s i c),
+      ap (λ (parties : List Party). weight_sum (record w { parties = parties })) (map_set party_of s.states i now)
+          ∙ swap_weighs w i (party_of state) (party_of now) (map_there party_of s.states i state there) (ap machine_stage idle) (machine_idle s i c),
       omega arith,
     )
 
@@ -195,9 +197,9 @@ module _ (first : Index) (quiet : IsQuiet first) (index : IsIndex first) where
   weighs (starts {calls = calls} {old = old} {new = new} {party = party} {call = c} run none t is) =
       let before = weighs run in
       let sum = before.sum in
-      let same = start_weighs old party t.entry c t.there (none_flies old party t.entry none t.there) in
+      let same = start_weighs old party t.state c t.there (none_flies old party t.state none t.there) in
       let now : weight_sum (world new) ≡ weight_sum (world old) = ap (λ (v : Index). weight_sum (world v)) t.is ∙ same.0 in
-      let shown : showing_sum new.entries ≡ showing_sum old.entries = ap (λ (v : Index). showing_sum v.entries) t.is ∙ same.1 in
+      let shown : showing_sum new.states ≡ showing_sum old.states = ap (λ (v : Index). showing_sum v.states) t.is ∙ same.1 in
       record { index = is; sum = omega arith }
   weighs (goes_on {calls = calls} {old = old} {new = new} {party = party} run t is) =
       let before = weighs run in
@@ -205,15 +207,15 @@ module _ (first : Index) (quiet : IsQuiet first) (index : IsIndex first) where
       let m = t.machine in
       let go = go_of (running_turned m (told old m)) (sym t.comes_to) in
       let next = go.0 in
-      let of : IsOf (op_in m) m = subst (λ (o : Option Running). IfSome o (λ q. IsOf (op_in q) q)) t.flies (before.index.entries party t.entry t.there).op in
-      let of_next : IsOf (op_in m) next = subst (IsOfAfter (op_in m)) go.1 (t.keeps_op (op_in m) of) in
+      let of : IsOf (op_in m) m = subst (λ (o : Option Running). IfSome o (λ q. IsOf (op_in q) q)) t.flies (before.index.states party t.state t.there).op in
+      let of_next : IsOf (op_in m) next = subst (IsOfAfter (op_in m)) go.1 (t.turn.keeps_op (op_in m) of) in
       let same_op : op_in next ≡ op_in m = op_told (op_in m) next of_next in
-      let entry' : Entry = record t.entry { machine = Some next } in
-      let entries : new.entries ≡ set old.entries party entry' = ap (λ (v : Index). v.entries) t.is ∙ ap (λ (turn : Turn Running (Once Placed)). set old.entries party (entry_after t.entry turn)) go.1 in
-      let sums = sum_set (λ (e : Entry). showing e.machine) old.entries party t.entry entry' t.there in
-      let was : showing t.entry.machine ≡ showing (Some m) = ap showing t.flies in
-      let now : showing_sum new.entries ≡ showing_sum (set old.entries party entry') = ap showing_sum entries in
-      let more : shows (stage_of m) ≤ shows (stage_of next) + 0 = subst (λ (turn : Turn Running (Once Placed)). shows (stage_of m) ≤ shows (stage_after turn) + told_new (reply_of turn)) go.1 (step_shows t.kind) in
+      let state' : PartyState = record t.state { machine = Some next } in
+      let states : new.states ≡ set old.states party state' = ap (λ (v : Index). v.states) t.is ∙ ap (λ (turn : Turn Running (Once Placed)). set old.states party (state_after t.state turn)) go.1 in
+      let sums = sum_set (λ (e : PartyState). showing e.machine) old.states party t.state state' t.there in
+      let was : showing t.state.machine ≡ showing (Some m) = ap showing t.flies in
+      let now : showing_sum new.states ≡ showing_sum (set old.states party state') = ap showing_sum states in
+      let more : shows (stage_of m) ≤ shows (stage_of next) + 0 = subst (λ (turn : Turn Running (Once Placed)). shows (stage_of m) ≤ shows (stage_after turn) + told_new (reply_of turn)) go.1 (step_shows t.turn.kind) in
       let up : showing (Some m) ≤ showing (Some next) =
       subst (λ (asked : Op). showing_of (op_in m) (shows (stage_of m)) ≤ showing_of asked (shows (stage_of next))) (sym same_op) (showing_up (op_in m) (shows (stage_of m)) (shows (stage_of next)) (omega arith)) in
       record {
@@ -226,22 +228,22 @@ module _ (first : Index) (quiet : IsQuiet first) (index : IsIndex first) where
             let one_after = one.1 in
             let most = adds.1 in
             omega arith)
-            t.weighs;
+            t.turn.weighs;
       }
   weighs (answers {calls = calls} {old = old} {new = new} {party = party} {answer = answer} run t is) =
       let before = weighs run in
       let sum = before.sum in
       let m = t.machine in
       let done = done_of (running_turned m (told old m)) answer (sym t.comes_to) in
-      let entries = ap (λ (v : Index). v.entries) t.is in
-      let entry' = entry_after t.entry (Done answer) in
-      let now : showing_sum new.entries ≡ showing_sum (set old.entries party entry') = ap showing_sum (entries ∙ ap (λ (turn : Turn Running (Once Placed)). set old.entries party (entry_after t.entry turn)) done) in
-      let sums = sum_set (λ (e : Entry). showing e.machine) old.entries party t.entry entry' t.there in
-      let was : showing t.entry.machine ≡ showing (Some m) = ap showing t.flies in
-      let told_it : shows (stage_of m) ≤ 0 + told_new (Some answer) = subst (λ (turn : Turn Running (Once Placed)). shows (stage_of m) ≤ shows (stage_after turn) + told_new (reply_of turn)) done (step_shows t.kind) in
+      let states = ap (λ (v : Index). v.states) t.is in
+      let state' = state_after t.state (Done answer) in
+      let now : showing_sum new.states ≡ showing_sum (set old.states party state') = ap showing_sum (states ∙ ap (λ (turn : Turn Running (Once Placed)). set old.states party (state_after t.state turn)) done) in
+      let sums = sum_set (λ (e : PartyState). showing e.machine) old.states party t.state state' t.there in
+      let was : showing t.state.machine ≡ showing (Some m) = ap showing t.flies in
+      let told_it : shows (stage_of m) ≤ 0 + told_new (Some answer) = subst (λ (turn : Turn Running (Once Placed)). shows (stage_of m) ≤ shows (stage_after turn) + told_new (reply_of turn)) done (step_shows t.turn.kind) in
       let up : showing (Some m) ≤ showing_of (op_in m) (told_new (Some answer)) = showing_up (op_in m) (shows (stage_of m)) (told_new (Some answer)) (omega arith) in
       let added = told_added (op_in m) answer in
-      let call : AnsweredCall = record { call = flying_call t.entry m; until = length new.history; answer = answer; next = index_after t.entry.index answer } in
+      let call : AnsweredCall = record { call = flying_call t.state m; until = length new.history; answer = answer; next = index_after t.state.index answer } in
       let longer = sum_by_push (λ (d : AnsweredCall). added_by d.call.op d.answer) calls call in
       record {
         index = is;
@@ -249,28 +251,28 @@ module _ (first : Index) (quiet : IsQuiet first) (index : IsIndex first) where
             (λ (less : weight_sum (world new) ≤ weight_sum (world old)). omega arith)
             (λ (adds : AddsName (stage_of m) (running_asks m) (stage_after (running_turned m (told old m))) × (weight_sum (world new) ≤ weight_sum (world old) + 1)).
             absurd (idle_adds (stage_of m) m (subst (λ (turn : Turn Running (Once Placed)). AddsName (stage_of m) (running_asks m) (stage_after turn)) done adds.0)))
-            t.weighs;
+            t.turn.weighs;
       }
   weighs (alone {calls = calls} {old = old} {new = new} {caller = caller} {call = c} {result = result} run still r is) =
       let before = weighs run in
       let sum = before.sum in
-      let quiet_new : IsQuiet new = (λ i entry at.
+      let quiet_new : IsQuiet new = (λ i state at.
       ⊎_elim
-      (λ (mine : (i ≡ caller) × (entry_done r.entry (length old.history) ≡ entry)). ap (λ (e : Entry). e.machine) (sym mine.1))
-      (λ (other : (i ≢ caller) × (get_elem? old.entries i ≡ some entry)). still i entry other.1)
-      (at_set old.entries caller i (entry_done r.entry (length old.history)) entry (ap (λ (l : List Entry). get_elem? l i) (sym r.entries) ∙ at))) in
+      (λ (mine : (i ≡ caller) × (state_done r.state (length old.history) ≡ state)). ap (λ (e : PartyState). e.machine) (sym mine.1))
+      (λ (other : (i ≢ caller) × (get_elem? old.states i ≡ some state)). still i state other.1)
+      (at_set old.states caller i (state_done r.state (length old.history)) state (ap (λ (l : List PartyState). get_elem? l i) (sym r.states) ∙ at))) in
       let more : weight_sum (world new) ≤ weight_sum (world old) + added_whole (op_of c) result =
       subst (λ (q : ℕ × ℕ). q.0 ≤ q.1 + added_whole (op_of c) result) (λ k. (sym (quiet_sum new quiet_new) k, sym (quiet_sum old still) k)) r.weighs in
-      let none = quiet_shows old.entries still in
+      let none = quiet_shows old.states still in
       let same = same_added (op_of c) result in
-      let call : AnsweredCall = record { call = begun_call r.entry (length old.history) c; until = length new.history; answer = once_of result; next = next_index r.entry.index } in
+      let call : AnsweredCall = record { call = begun_call r.state (length old.history) c; until = length new.history; answer = once_of result; next = next_index r.state.index } in
       let longer = sum_by_push (λ (d : AnsweredCall). added_by d.call.op d.answer) calls call in
       record { index = is; sum = omega arith }
   weighs (evicts {calls = calls} {old = old} {new = new} {word = word} run within e is) =
       let before = weighs run in
       let sum = before.sum in
       let same : weight_sum (world new) ≡ weight_sum (world old) = ap (λ (v : Index). weight_sum (world v)) e ∙ evict_weighs (world old) word in
-      let shown : showing_sum new.entries ≡ showing_sum old.entries = ap (λ (v : Index). showing_sum v.entries) e in
+      let shown : showing_sum new.states ≡ showing_sum old.states = ap (λ (v : Index). showing_sum v.states) e in
       record { index = is; sum = omega arith }
   weighs (reserves {calls = calls} {old = old} {new = new} run e) =
       let before = weighs run in
@@ -283,6 +285,6 @@ pub weight_is_bounded : WeightIsBounded
 weight_is_bounded first last begun calls index quiet run =
     let after = weighs first quiet index run in
     let sum = after.sum in
-    let puts : showing_sum last.entries ≤ puts_in_flight last.entries = sum_more (λ (e : Entry). showing e.machine) (λ (e : Entry). put_in e.machine) showing_puts last.entries in
-    let image = crash_weighs (world last) after.index.lawful in
+    let puts : showing_sum last.states ≤ puts_in_flight last.states = sum_more (λ (e : PartyState). showing e.machine) (λ (e : PartyState). put_in e.machine) showing_puts last.states in
+    let image = crash_light last after.index in
     record { core = omega arith; image = omega arith }

@@ -12,35 +12,33 @@ use Rattle.call_stages.specs.declared.once.Once.{Once}
 use Rattle.call_stages.specs.declared.once.Once.TheVariants as once
 use Rattle.call_stages.specs.declared.once.Placed.{Placed}
 use Rattle.node_ops.specs.Asked.{name_asked}
+use Rattle.node_ops.specs.Endings.{IsPutOp}
 use Rattle.index_law.specs.Lawful.{HasWriteAt}
-use Rattle.index_core.specs.declared.entry.Entry.{Entry}
-use Rattle.index_core.specs.declared.entry.CoreReply.TheVariants as reply
-use Rattle.index_core.specs.declared.entry.Stepped.{Stepped}
-use Rattle.index_core.specs.declared.entry.Stepped.TheVariants.{Going, Answered}
+use Rattle.index_core.specs.declared.party.PartyState.{PartyState}
+use Rattle.index_core.specs.declared.party.CoreReply.TheVariants as reply
+use Rattle.index_core.specs.declared.party.Stepped.{Stepped}
+use Rattle.index_core.specs.declared.party.Stepped.TheVariants.{Going, Answered}
 
 -- A call of this op and limit, begun as the history was so long, took place: its interval lies in its time, which began
--- below the limit if there is one, its old number is that of its name in the map at its place, and if it writes, its write of
--- the name stands there.
-pub record TookPlace (base : Map) (history : List Write) (caller index since : ℕ) (op : Op) (limit : Option ℕ) (placed : Placed) : Type 0 where
+-- below the limit if there is one, its old number is that of its name in the map at its place, and if it writes, its
+-- write of the name stands there.
+pub record TookPlace (base : Map) (history : List Write) (caller index since : ℕ) (op : Op) (limit : Option ℕ)
+    (placed : Placed) : Type 0 where
   pub later : since ≤ placed.place
   pub within : (interval_at op placed.place).end ≤ length history
   pub below : IfSome limit (λ most. since < most)
   pub old : placed.old ≡ at (after base history placed.place) (name_asked op)
   pub write : IfSome (change_of op) (λ change. HasWriteAt history caller index (name_asked op) placed.place)
 
--- The limit of a call was reached by a clock of its time, which is told by how long the history was as it began and ended.
+-- The limit of a call was reached by a clock of its time, which is told by how long the history was as it began and
+-- ended.
 pub record WasReached (since ends : ℕ) (limit : Option ℕ) (clock : ℕ) : Type 0 where
   pub reached : IsSomeAnd limit (λ most. most ≤ clock)
   pub later : since ≤ clock
   pub within : clock ≤ ends
 
--- The op is a put.
-abbrev pub IsPut : Op → Type 0
-IsPut (op.Put name value) = Unit {0}
-IsPut _ = ⊥
-
--- A name that found no room: after as many writes as a clock of the call's time says, the map lacked it, and had at least as
--- many names as a node has slots.
+-- A name that found no room: after as many writes as a clock of the call's time says, the map lacked it, and had at
+-- least as many names as a node has slots.
 pub record FoundNoRoom (slots : ℕ) (base : Map) (history : List Write) (since ends : ℕ) (name : List ℕ) : Type 0 where
   pub clock : ℕ
   pub later : since ≤ clock
@@ -48,15 +46,18 @@ pub record FoundNoRoom (slots : ℕ) (base : Map) (history : List Write) (since 
   pub lacked : at (after base history clock) name ≡ None
   pub many : slots ≤ len (after base history clock)
 
--- The answer of the party's call of this op and limit, on nodes of so many slots. Only a put is turned back for want of room.
-abbrev pub IsAnswerOf : ℕ → Map → List Write → Entry → Op → Option ℕ → Once Placed → Type 0
-IsAnswerOf slots base history entry op limit (once.Done placed) = TookPlace base history entry.caller entry.index entry.since op limit placed
-IsAnswerOf slots base history entry op limit (once.Spent clock) = WasReached entry.since (length history) limit clock
-IsAnswerOf slots base history entry op limit (once.Worn node word) = Unit {0}
-IsAnswerOf slots base history entry op limit (once.Again why) =
-    why ≡ NoFree → IsPut op × FoundNoRoom slots base history entry.since (length history) (name_asked op)
+-- The answer of the party's call of this op and limit, on nodes of so many slots. Only a put is turned back for want of
+-- room.
+abbrev pub IsAnswerOf : ℕ → Map → List Write → PartyState → Op → Option ℕ → Once Placed → Type 0
+IsAnswerOf slots base history state op limit (once.Done placed) =
+    TookPlace base history state.caller state.index state.since op limit placed
+IsAnswerOf slots base history state op limit (once.Spent clock) = WasReached state.since (length history) limit clock
+IsAnswerOf slots base history state op limit (once.Worn node word) = Unit {0}
+IsAnswerOf slots base history state op limit (once.Again why) =
+    why ≡ NoFree → IsPutOp op × FoundNoRoom slots base history state.since (length history) (name_asked op)
 
 -- What a step of it comes to.
-abbrev pub SaysOf : ℕ → Map → List Write → Entry → Op → Option ℕ → Stepped → Type 0
-SaysOf slots base history entry op limit Going = Unit {0}
-SaysOf slots base history entry op limit (Answered (reply.Placed answer)) = IsAnswerOf slots base history entry op limit answer
+abbrev pub SaysOf : ℕ → Map → List Write → PartyState → Op → Option ℕ → Stepped → Type 0
+SaysOf slots base history state op limit Going = Unit {0}
+SaysOf slots base history state op limit (Answered (reply.Placed answer)) =
+    IsAnswerOf slots base history state op limit answer

@@ -8,10 +8,10 @@ use Rattle.node_ops.specs.declared.put.Put.TheVariants as put
 use Rattle.node_ops.specs.declared.del.Del.TheVariants as del
 use Rattle.node_ops.specs.declared.running.Running.{Running}
 use Rattle.node_ops.specs.declared.running.Running.TheVariants.{Getting, Putting, Deleting}
-use Rattle.node_ops.specs.Calls.{call_of}
+use Rattle.node_ops.specs.Calls.{new_call}
 use Rattle.node_ops.specs.LookupSteps.{starts}
-use Rattle.index_core.specs.declared.entry.CoreCall.{CoreCall}
-use Rattle.index_core.specs.declared.entry.CoreCall.TheVariants as call
+use Rattle.index_core.specs.declared.party.CoreCall.{CoreCall}
+use Rattle.index_core.specs.declared.party.CoreCall.TheVariants as call
 
 -- What the call asks.
 abbrev pub op_of : CoreCall → Op
@@ -26,10 +26,10 @@ limit_of (call.Get name) = None
 limit_of (call.Del name limit) = Some limit
 
 -- How many writes it may place.
-abbrev pub writes_of : CoreCall → ℕ
-writes_of (call.Put name value limit) = 1
-writes_of (call.Get name) = 0
-writes_of (call.Del name limit) = 1
+abbrev pub most_writes : CoreCall → ℕ
+most_writes (call.Put name value limit) = 1
+most_writes (call.Get name) = 0
+most_writes (call.Del name limit) = 1
 
 abbrev pub LimitFits : CoreCall → Type 0
 LimitFits (call.Put name value limit) = limit ≤ 2 ^ 62
@@ -38,6 +38,6 @@ LimitFits (call.Del name limit) = limit ≤ 2 ^ 62
 
 -- The machine that makes the call, before its first action.
 abbrev pub machine_of : View → CoreCall → Running
-machine_of view (call.Put name value limit) = Putting (put.Looking (starts (call_of view name (Some limit))) value)
-machine_of view (call.Get name) = Getting (get.Looking (starts (call_of view name None)))
-machine_of view (call.Del name limit) = Deleting (del.Looking (starts (call_of view name (Some limit))))
+machine_of view (call.Put name value limit) = Putting (put.Looking (starts (new_call view name (Some limit))) value)
+machine_of view (call.Get name) = Getting (get.Looking (starts (new_call view name None)))
+machine_of view (call.Del name limit) = Deleting (del.Looking (starts (new_call view name (Some limit))))

@@ -16,9 +16,9 @@ use Rattle.cat_history.specs.Records.{change_of}
 use Rattle.node_ops.specs.Asked.{op_in, name_asked}
 use Rattle.node_ops.specs.RunningSteps.{IsRunning, running_call}
 use Rattle.node_ops.specs.CallStages.{stage_of}
-use Rattle.index_core.specs.declared.entry.CoreCall.{CoreCall}
-use Rattle.index_core.specs.declared.entry.CoreCall.TheVariants as call
-use Rattle.index_core.specs.declared.entry.Entry.{Entry}
+use Rattle.index_core.specs.declared.party.CoreCall.{CoreCall}
+use Rattle.index_core.specs.declared.party.CoreCall.TheVariants as call
+use Rattle.index_core.specs.declared.party.PartyState.{PartyState}
 use Rattle.index_core.specs.declared.crash.CutCall.{CutCall}
 use Rattle.index_law.specs.Lawful.{HasWriteAt}
 use Rattle.index_core.specs.Indexes.{Index, map_of_index, world}
@@ -47,19 +47,20 @@ call_in machine = call_with (op_in machine) (limit_or_most (running_call machine
 -- The call of a party that a crash cuts off, if one is in flight.
 abbrev pub cut_call : ℕ → Option Running → Option CutCall
 cut_call party None = None
-cut_call party (Some machine) = Some (record { party = party; call = call_in machine; place = placed_in (stage_of machine) })
+cut_call party (Some machine) =
+    Some (record { party = party; call = call_in machine; place = placed_in (stage_of machine) })
 
-abbrev pub cut_of : Option Entry → Option CutCall
+abbrev pub cut_of : Option PartyState → Option CutCall
 cut_of None = None
-cut_of (Some entry) = cut_call entry.caller entry.machine
+cut_of (Some state) = cut_call state.caller state.machine
 
 -- The call of the party at this place that a crash cuts off.
-abbrev pub cut_at : List Entry → ℕ → Option CutCall
-cut_at entries party = cut_of (slice_get entries party)
+abbrev pub cut_at : List PartyState → ℕ → Option CutCall
+cut_at states party = cut_of (slice_get states party)
 
 -- Each call in flight is sound.
-abbrev pub AreRunning : List Entry → Type 0
-AreRunning entries = (i : ℕ) (entry : Entry) → get_elem? entries i ≡ some entry → IfSome entry.machine IsRunning
+abbrev pub AreRunning : List PartyState → Type 0
+AreRunning states = (i : ℕ) (state : PartyState) → get_elem? states i ≡ some state → IfSome state.machine IsRunning
 
 -- The change of a write, as long as it has no place.
 abbrev pub unplaced : Option ℕ → Option Change → List Change
@@ -72,20 +73,24 @@ cut_change None = []
 cut_change (Some machine) = unplaced (placed_in (stage_of machine)) (change_of (op_in machine))
 
 -- The changes of the writes in flight that have no place, in the order of their parties.
-abbrev pub cut_changes : List Entry → List Change
+abbrev pub cut_changes : List PartyState → List Change
 cut_changes [] = []
-cut_changes (entry ∷ entries) = cut_change entry.machine ++ cut_changes entries
+cut_changes (state ∷ states) = cut_change state.machine ++ cut_changes states
 
 -- What a crash leaves: the durable words, which are a sound image, and the calls in flight.
-pub record IsCrash (s : Index) (image : Row) (cuts : List Entry) : Type 0 where
+pub record IsCrash (s : Index) (image : Row) (cuts : List PartyState) : Type 0 where
   pub leaves : image ≡ record { layout = s.layout; words = durable_row s.layout s.words }
-  pub cut_off : cuts ≡ s.entries
+  pub cut_off : cuts ≡ s.states
   pub sound : IsSound s.layout (durable_row s.layout s.words)
-  pub weighs : crash_weight s ≤ weight_sum (world s)  -- it weighs no more than the index, with what deletes that aren't counted yet have lowered it by
-  -- the map that the image keeps is the one after the whole history and after those of the unplaced writes that are found in it
+  -- it weighs no more than the index, with what deletes that aren't counted yet have lowered it by
+  pub weighs : crash_weight s ≤ weight_sum (world s)
+  -- the map that the image keeps is the one after the whole history and after those of the unplaced writes that are
+  -- found in it
   pub end : Map
   pub keeps : IsMapOf s.layout (durable_row s.layout s.words) end
-  pub ends : IsCrashEnd (map_of_index s) (cut_changes s.entries) end
+  pub ends : IsCrashEnd (map_of_index s) (cut_changes s.states) end
   -- a write that was cut off with a place stands there in the history
-  pub placed : (i place : ℕ) (entry : Entry) (machine : Running) → get_elem? s.entries i ≡ some entry → entry.machine ≡ Some machine →
-      placed_in (stage_of machine) ≡ Some place → HasWriteAt s.history entry.caller entry.index (name_asked (op_in machine)) place
+  pub placed : (i place : ℕ) (state : PartyState) (machine : Running) → get_elem? s.states i ≡ some state →
+      state.machine ≡ Some machine →
+      placed_in (stage_of machine) ≡ Some place →
+      HasWriteAt s.history state.caller state.index (name_asked (op_in machine)) place

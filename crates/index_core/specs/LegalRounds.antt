@@ -15,7 +15,12 @@ use Rattle.index_core.specs.Schedules.{BegunCall, AnsweredCall, IsLegalHistory}
 
 -- The record of a call that was answered with this old number and this place.
 abbrev pub placed_record : BegunCall → Placed → Record
-placed_record call placed = record { caller = call.caller; index = call.index; op = call.op; reply = Old placed.old placed.place }
+placed_record call placed = record {
+  caller = call.caller;
+  index = call.index;
+  op = call.op;
+  reply = Old placed.old placed.place;
+}
 
 -- The record of a call that took place; a call that was refused or turned back has none.
 abbrev pub record_told : BegunCall → Once Placed → Option Record
@@ -31,5 +36,6 @@ records_of calls = filter_map record_of calls
 
 -- Once no call is in flight, the calls that took place are a legal round, whose writes are the history.
 abbrev pub LegalHistoryIsLegalRound : Type 0
-LegalHistoryIsLegalRound = (base : Map) (begun : List BegunCall) (calls : List AnsweredCall) (s : Index) → IsLegalHistory base begun calls s → IsQuiet s →
+LegalHistoryIsLegalRound = (base : Map) (begun : List BegunCall) (calls : List AnsweredCall) (s : Index) →
+    IsLegalHistory base begun calls s → IsQuiet s →
     IsLegalRound base (map call_of (records_of calls)) (records_of calls) s.history

@@ -1,7 +1,8 @@
 pub mod CoreCalls
-pub mod Entries
+pub mod PartyStates
 pub mod Answers
 pub mod Indexes
+pub mod Cores
 pub mod Fresh
 pub mod Lone
 pub mod Crashes
@@ -9,3 +10,5 @@ pub mod Schedules
 pub mod LegalRounds
 pub mod Weights
 pub mod WeightBounds
+pub mod PartsOf
+pub mod MachineLaws

@@ -1,10 +1,11 @@
 -- Schedules of the core, and what is legal of all that they answer.
-use Rattle.std.specs.Prelude.{◌≡◌, ℕ, ◌+◌, ◌^◌, ◌<◌, ◌≤◌, ◌⊎◌, List, [], ◌∷◌, ◌++◌, length, slice_get, Option, Some, None, IfSome, All, map}
+use Rattle.std.specs.Prelude.{◌≡◌, ℕ, ◌+◌, ◌^◌, ◌<◌, ◌≤◌, ◌⊎◌, List, [], ◌∷◌, ◌++◌, length, slice_get, Option, Some}
+use Rattle.std.specs.Prelude.{None, IfSome, All, map}
 use Rattle.std.specs.List.Sorted.{IsPermutation}
 use mathlib.Core.Option.{some}
 use lib.ListN.{get_elem?}
 use Rattle.pm_words.specs.declared.layout.Layout.{Layout}
-use Rattle.pm_words.specs.Places.{image_words}
+use Rattle.pm_words.specs.Locations.{image_words}
 use Rattle.pm_words.specs.declared.again.Again.{Again}
 use Rattle.pm_words.specs.declared.again.Again.TheVariants as again
 use Rattle.cat_history.specs.Callers.{PlacesKeepLimit}
@@ -21,15 +22,16 @@ use Rattle.node_ops.specs.declared.running.Running.{Running}
 use Rattle.node_ops.specs.Asked.{op_in, name_asked}
 use Rattle.node_ops.specs.RunningSteps.{running_call}
 use Rattle.node_ops.specs.CallStages.{stage_of}
-use Rattle.index_core.specs.declared.entry.CoreCall.{CoreCall}
-use Rattle.index_core.specs.declared.entry.CoreReply.TheVariants as reply
-use Rattle.index_core.specs.declared.entry.Entry.{Entry}
-use Rattle.index_core.specs.declared.entry.Stepped.TheVariants.{Going, Answered}
-use Rattle.index_core.specs.declared.entry.Whole.{Whole}
-use Rattle.index_core.specs.declared.entry.Whole.TheVariants as whole
-use Rattle.index_core.specs.Answers.{TookPlace, WasReached, IsPut, FoundNoRoom}
+use Rattle.node_ops.specs.Endings.{IsPutOp}
+use Rattle.index_core.specs.declared.party.CoreCall.{CoreCall}
+use Rattle.index_core.specs.declared.party.CoreReply.TheVariants as reply
+use Rattle.index_core.specs.declared.party.PartyState.{PartyState}
+use Rattle.index_core.specs.declared.party.Stepped.TheVariants.{Going, Answered}
+use Rattle.index_core.specs.declared.party.Whole.{Whole}
+use Rattle.index_core.specs.declared.party.Whole.TheVariants as whole
+use Rattle.index_core.specs.Answers.{TookPlace, WasReached, FoundNoRoom}
 use Rattle.index_core.specs.CoreCalls.{op_of, limit_of}
-use Rattle.index_core.specs.Entries.{next_index, index_after}
+use Rattle.index_core.specs.PartyStates.{next_index, index_after}
 use Rattle.index_core.specs.Indexes.{Index, IsIndex, IsInFlight, Starts, StepsTo}
 use Rattle.index_core.specs.Crashes.{evicted_index}
 use Rattle.index_core.specs.Fresh.{IsFreshIndex}
@@ -51,13 +53,25 @@ pub record AnsweredCall : Type 0 where
   pub next : ℕ  -- the index of its caller's next call
 
 -- The call that the party begins as the history is so long.
-abbrev pub begun_call : Entry → ℕ → CoreCall → BegunCall
-begun_call entry since call = record { caller = entry.caller; index = entry.index; op = op_of call; limit = limit_of call; since = since }
+abbrev pub begun_call : PartyState → ℕ → CoreCall → BegunCall
+begun_call state since call = record {
+  caller = state.caller;
+  index = state.index;
+  op = op_of call;
+  limit = limit_of call;
+  since = since;
+}
 
 -- The party's call in flight.
-abbrev pub flying_call : Entry → Running → BegunCall
-flying_call entry machine =
-    record { caller = entry.caller; index = entry.index; op = op_in machine; limit = (running_call machine).limit; since = entry.since }
+abbrev pub flying_call : PartyState → Running → BegunCall
+flying_call state machine =
+    record {
+      caller = state.caller;
+      index = state.index;
+      op = op_in machine;
+      limit = (running_call machine).limit;
+      since = state.since;
+    }
 
 -- What a whole call that was alone is answered, as one try of it is: only a full node turns it back.
 abbrev pub once_of : Whole → Once Placed
@@ -67,25 +81,40 @@ once_of (whole.Spent clock) = once.Spent clock
 once_of (whole.Worn node word) = once.Worn node word
 
 -- A schedule of the core from this index to another: calls of the core one after another, each with what its contract
--- says. The first list has the calls that were begun on the way, in their order, the second those that were answered, in
--- the order of their answers. One that a step turned back isn't counted for its caller's next index; a whole call is counted
--- whatever it is answered.
+-- says. The first list has the calls that were begun on the way, in their order, the second those that were answered,
+-- in the order of their answers. One that a step turned back isn't counted for its caller's next index; a whole call is
+-- counted whatever it is answered.
 pub data Runs (first : Index) : List BegunCall → List AnsweredCall → Index → Type 0 where
   begins : Runs first [] [] first
-  starts : {begun : List BegunCall} {calls : List AnsweredCall} {old new : Index} {party : ℕ} {call : CoreCall} → Runs first begun calls old →
+  starts : {begun : List BegunCall} {calls : List AnsweredCall} {old new : Index} {party : ℕ} {call : CoreCall} →
+      Runs first begun calls old →
       (IsInFlight old party → ⊥) → (start : Starts old party call new) → IsIndex new →
-      Runs first (begun ++ begun_call start.entry (length old.history) call ∷ []) calls new
-  goes_on : {begun : List BegunCall} {calls : List AnsweredCall} {old new : Index} {party : ℕ} → Runs first begun calls old →
+      Runs first (begun ++ begun_call start.state (length old.history) call ∷ []) calls new
+  goes_on : {begun : List BegunCall} {calls : List AnsweredCall} {old new : Index} {party : ℕ} →
+      Runs first begun calls old →
       StepsTo old party new Going → IsIndex new → Runs first begun calls new
-  answers : {begun : List BegunCall} {calls : List AnsweredCall} {old new : Index} {party : ℕ} {answer : Once Placed} → Runs first begun calls old →
+  answers : {begun : List BegunCall} {calls : List AnsweredCall} {old new : Index} {party : ℕ} {answer : Once Placed} →
+      Runs first begun calls old →
       (step : StepsTo old party new (Answered (reply.Placed answer))) → IsIndex new →
       Runs first begun
-      (calls ++ record { call = flying_call step.entry step.machine; until = length new.history; answer = answer; next = index_after step.entry.index answer } ∷ []) new
-  alone : {begun : List BegunCall} {calls : List AnsweredCall} {old new : Index} {caller : ℕ} {call : CoreCall} {result : Whole} →
+      (calls ++ record {
+        call = flying_call step.state step.machine;
+        until = length new.history;
+        answer = answer;
+        next = index_after step.state.index answer;
+      } ∷ []) new
+  alone : {begun : List BegunCall} {calls : List AnsweredCall} {old new : Index} {caller : ℕ} {call : CoreCall}
+      {result : Whole} →
       Runs first begun calls old → IsQuiet old → (run : RunsAlone old caller call new result) → IsIndex new →
-      Runs first (begun ++ begun_call run.entry (length old.history) call ∷ [])
-      (calls ++ record { call = begun_call run.entry (length old.history) call; until = length new.history; answer = once_of result; next = next_index run.entry.index } ∷ []) new
-  evicts : {begun : List BegunCall} {calls : List AnsweredCall} {old new : Index} {word : ℕ} → Runs first begun calls old →
+      Runs first (begun ++ begun_call run.state (length old.history) call ∷ [])
+      (calls ++ record {
+        call = begun_call run.state (length old.history) call;
+        until = length new.history;
+        answer = once_of result;
+        next = next_index run.state.index;
+      } ∷ []) new
+  evicts : {begun : List BegunCall} {calls : List AnsweredCall} {old new : Index} {word : ℕ} →
+      Runs first begun calls old →
       word < image_words old.layout → new ≡ evicted_index old word → IsIndex new → Runs first begun calls new
   reserves : {begun : List BegunCall} {calls : List AnsweredCall} {old new : Index} → Runs first begun calls old →
       new ≡ record old { spare = new.spare } → Runs first begun calls new
@@ -98,7 +127,8 @@ StandsNowhere history caller index =
 -- The change of this caller's call of this index stands at the place; a call that changes nothing stands nowhere.
 abbrev pub StandsAt : List Write → ℕ → ℕ → ℕ → Option Change → Type 0
 StandsAt history caller index place None = StandsNowhere history caller index
-StandsAt history caller index place (Some change) = slice_get history place ≡ Some (record { caller = caller; index = index; change = change })
+StandsAt history caller index place (Some change) =
+    slice_get history place ≡ Some (record { caller = caller; index = index; change = change })
 
 -- A call took place within its time, and with its own change.
 pub record IsPlacedCall (base : Map) (history : List Write) (c : BegunCall) (ends : ℕ) (placed : Placed) : Type 0 where
@@ -114,17 +144,20 @@ pub record IsSpentCall (history : List Write) (c : BegunCall) (ends clock : ℕ)
 -- No write of its caller was placed in the call's time.
 abbrev pub WroteNothing : List Write → BegunCall → ℕ → Type 0
 WroteNothing history c until =
-    (place : ℕ) (write : Write) → slice_get history place ≡ Some write → write.caller ≡ c.caller → c.since ≤ place → place < until → ⊥
+    (place : ℕ) (write : Write) → slice_get history place ≡ Some write → write.caller ≡ c.caller → c.since ≤ place →
+    place < until → ⊥
 
--- A call was turned back: its caller wrote nothing in its time, and where it counts all the same, it stands nowhere. For want
--- of room that is only a put, whose name the map lacked in its time while it had as many names as a node has slots.
-pub record IsTurnedBack (slots : ℕ) (base : Map) (history : List Write) (c : BegunCall) (ends next : ℕ) (why : Again) : Type 0 where
+-- A call was turned back: its caller wrote nothing in its time, and where it counts all the same, it stands nowhere.
+-- For want of room that is only a put, whose name the map lacked in its time while it had as many names as a node has
+-- slots.
+pub record IsTurnedBack (slots : ℕ) (base : Map) (history : List Write) (c : BegunCall) (ends next : ℕ) (why : Again) :
+    Type 0 where
   pub wrote_nothing : WroteNothing history c ends
   pub nowhere : c.index < next → StandsNowhere history c.caller c.index
-  pub room : why ≡ again.NoFree → IsPut c.op × FoundNoRoom slots base history c.since ends (name_asked c.op)
+  pub room : why ≡ again.NoFree → IsPutOp c.op × FoundNoRoom slots base history c.since ends (name_asked c.op)
 
--- The answer of a call that ended as the history was so long, and left its caller this index for the next, on nodes of so
--- many slots.
+-- The answer of a call that ended as the history was so long, and left its caller this index for the next, on nodes of
+-- so many slots.
 abbrev pub IsLegalAnswer : ℕ → Map → List Write → BegunCall → ℕ → ℕ → Once Placed → Type 0
 IsLegalAnswer slots base history c until next (once.Done placed) = IsPlacedCall base history c until placed
 IsLegalAnswer slots base history c until next (once.Spent clock) = IsSpentCall history c until clock
@@ -149,11 +182,13 @@ interval_of op _ = None
 
 -- The interval of the one ends before that of the other starts.
 abbrev pub TakesEffectBefore : AnsweredCall → AnsweredCall → Type 0
-TakesEffectBefore a b = IfSome (interval_of a.call.op a.answer) (λ first. IfSome (interval_of b.call.op b.answer) (λ second. first.end ≤ second.start))
+TakesEffectBefore a b = IfSome (interval_of a.call.op a.answer)
+    (λ first. IfSome (interval_of b.call.op b.answer) (λ second. first.end ≤ second.start))
 
 -- A call that was answered before another began takes effect before it. How long the history was tells when that was.
 abbrev pub KeepsTime : List AnsweredCall → Type 0
-KeepsTime calls = (i j : ℕ) (a b : AnsweredCall) → get_elem? calls i ≡ some a → get_elem? calls j ≡ some b → a.until ≤ b.call.since →
+KeepsTime calls = (i j : ℕ) (a b : AnsweredCall) → get_elem? calls i ≡ some a → get_elem? calls j ≡ some b →
+    a.until ≤ b.call.since →
     TakesEffectBefore a b
 
 -- A call that was answered before its caller began another.
@@ -163,34 +198,38 @@ pub record Precedes (a b : AnsweredCall) : Type 0 where
   pub in_order : TakesEffectBefore a b
 
 -- Of two calls of one caller the one that was answered first precedes the other.
-abbrev pub KeepsCallersOrder : List AnsweredCall → Type 0
-KeepsCallersOrder calls = (i j : ℕ) (a b : AnsweredCall) → get_elem? calls i ≡ some a → get_elem? calls j ≡ some b → i < j →
+abbrev pub AnswersKeepOrder : List AnsweredCall → Type 0
+AnswersKeepOrder calls = (i j : ℕ) (a b : AnsweredCall) → get_elem? calls i ≡ some a → get_elem? calls j ≡ some b →
+    i < j →
     a.call.caller ≡ b.call.caller → Precedes a b
 
 -- Each answered call of its caller was answered before the call in flight began.
 abbrev pub ComesLast : List AnsweredCall → BegunCall → Type 0
-ComesLast calls c = (i : ℕ) (a : AnsweredCall) → get_elem? calls i ≡ some a → a.call.caller ≡ c.caller → (a.next ≤ c.index) × (a.until ≤ c.since)
+ComesLast calls c = (i : ℕ) (a : AnsweredCall) → get_elem? calls i ≡ some a → a.call.caller ≡ c.caller →
+    (a.next ≤ c.index) × (a.until ≤ c.since)
 
-abbrev pub AreLegalInFlight : List AnsweredCall → List Entry → Type 0
-AreLegalInFlight calls entries = (i : ℕ) (entry : Entry) (machine : Running) → get_elem? entries i ≡ some entry → entry.machine ≡ Some machine →
-    ComesLast calls (flying_call entry machine)
+abbrev pub AreLegalInFlight : List AnsweredCall → List PartyState → Type 0
+AreLegalInFlight calls states = (i : ℕ) (state : PartyState) (machine : Running) → get_elem? states i ≡ some state →
+    state.machine ≡ Some machine →
+    ComesLast calls (flying_call state machine)
 
 -- The calls in flight, by party.
-abbrev pub flying_in : Entry → Option Running → List BegunCall
-flying_in entry None = []
-flying_in entry (Some machine) = flying_call entry machine ∷ []
+abbrev pub flying_in : PartyState → Option Running → List BegunCall
+flying_in state None = []
+flying_in state (Some machine) = flying_call state machine ∷ []
 
-abbrev pub calls_in_flight : List Entry → List BegunCall
+abbrev pub calls_in_flight : List PartyState → List BegunCall
 calls_in_flight [] = []
-calls_in_flight (entry ∷ entries) = flying_in entry entry.machine ++ calls_in_flight entries
+calls_in_flight (state ∷ states) = flying_in state state.machine ++ calls_in_flight states
 
 -- The calls that were begun are those that were answered and those in flight, each as often.
-abbrev pub EachIsAnsweredOrFlies : List BegunCall → List AnsweredCall → List Entry → Type 0
-EachIsAnsweredOrFlies begun calls entries = IsPermutation begun (map (λ c. c.call) calls ++ calls_in_flight entries)
+abbrev pub EachIsAnsweredOrFlies : List BegunCall → List AnsweredCall → List PartyState → Type 0
+EachIsAnsweredOrFlies begun calls states = IsPermutation begun (map (λ c. c.call) calls ++ calls_in_flight states)
 
 -- No two writes are of one call.
 abbrev pub EachWritesOnce : List Write → Type 0
-EachWritesOnce history = (i j : ℕ) (v w : Write) → slice_get history i ≡ Some v → slice_get history j ≡ Some w → v.caller ≡ w.caller →
+EachWritesOnce history = (i j : ℕ) (v w : Write) → slice_get history i ≡ Some v → slice_get history j ≡ Some w →
+    v.caller ≡ w.caller →
     v.index ≡ w.index → i ≡ j
 
 -- The write, which stands at this place, is that of a call that was answered.
@@ -206,20 +245,20 @@ pub record IsAnsweredWrite (calls : List AnsweredCall) (stands : ℕ) (write : W
   pub change : change_of answered.call.op ≡ Some write.change
 
 -- Or that of a call in flight, which has this place.
-pub record IsWriteInFlight (entries : List Entry) (stands : ℕ) (write : Write) : Type 0 where
+pub record IsWriteInFlight (states : List PartyState) (stands : ℕ) (write : Write) : Type 0 where
   pub party : ℕ
-  pub entry : Entry
+  pub state : PartyState
   pub machine : Running
-  pub there : get_elem? entries party ≡ some entry
-  pub flies : entry.machine ≡ Some machine
+  pub there : get_elem? states party ≡ some state
+  pub flies : state.machine ≡ Some machine
   pub place : placed_in (stage_of machine) ≡ Some stands
-  pub caller : write.caller ≡ entry.caller
-  pub index : write.index ≡ entry.index
+  pub caller : write.caller ≡ state.caller
+  pub index : write.index ≡ state.index
   pub change : change_of (op_in machine) ≡ Some write.change
 
-abbrev pub EachWriteIsOfACall : List AnsweredCall → List Entry → List Write → Type 0
-EachWriteIsOfACall calls entries history = (place : ℕ) (write : Write) → slice_get history place ≡ Some write →
-    IsAnsweredWrite calls place write ⊎ IsWriteInFlight entries place write
+abbrev pub EachWriteIsOfACall : List AnsweredCall → List PartyState → List Write → Type 0
+EachWriteIsOfACall calls states history = (place : ℕ) (write : Write) → slice_get history place ≡ Some write →
+    IsAnsweredWrite calls place write ⊎ IsWriteInFlight states place write
 
 -- The callers of these calls.
 abbrev pub callers_of : List BegunCall → List ℕ
@@ -232,27 +271,30 @@ CarryLimit limit begun = All (λ c. IfSome (change_of c.op) (λ change. c.limit 
 -- The history of the index is the one legal history of these calls, over this base.
 pub record IsLegalHistory (base : Map) (begun : List BegunCall) (calls : List AnsweredCall) (s : Index) : Type 0 where
   pub base_is : map_of s.base ≡ base
-  pub each_call : EachIsAnsweredOrFlies begun calls s.entries
+  pub each_call : EachIsAnsweredOrFlies begun calls s.states
   pub answers : (i : ℕ) (c : AnsweredCall) → get_elem? calls i ≡ some c → IsLegalCall s.layout.slots base s.history c
   pub in_time : KeepsTime calls
-  pub in_order : KeepsCallersOrder calls
-  pub in_flight : AreLegalInFlight calls s.entries
+  pub in_order : AnswersKeepOrder calls
+  pub in_flight : AreLegalInFlight calls s.states
   pub once : EachWritesOnce s.history
-  pub writes : EachWriteIsOfACall calls s.entries s.history
+  pub writes : EachWriteIsOfACall calls s.states s.history
   -- under one limit, each place of a write is below it plus the number of callers that have calls, minus one
   pub places : (limit : ℕ) → CarryLimit limit begun → PlacesKeepLimit limit (callers_of begun) s.history
 
 -- Even if one caller began all these calls, its index, which has 64 bits, wouldn't come to its end.
 abbrev pub AreCounted : Index → List BegunCall → Type 0
-AreCounted first begun = (i : ℕ) (entry : Entry) → get_elem? first.entries i ≡ some entry → entry.index + length begun < 2 ^ 64
+AreCounted first begun = (i : ℕ) (state : PartyState) → get_elem? first.states i ≡ some state →
+    state.index + length begun < 2 ^ 64
 
--- However the calls were scheduled from an index with no call in flight and no write, their answers are those of one legal
--- history.
+-- However the calls were scheduled from an index with no call in flight and no write, their answers are those of one
+-- legal history.
 abbrev pub OneLegalHistory : Type 0
-OneLegalHistory = (first last : Index) (begun : List BegunCall) (calls : List AnsweredCall) → IsIndex first → IsQuiet first → first.history ≡ [] →
+OneLegalHistory = (first last : Index) (begun : List BegunCall) (calls : List AnsweredCall) → IsIndex first →
+    IsQuiet first → first.history ≡ [] →
     Runs first begun calls last → AreCounted first begun → IsLegalHistory (map_of first.base) begun calls last
 
 -- A fresh index is one that a schedule may begin with.
 abbrev pub FreshIndexBegins : Type 0
 FreshIndexBegins = (l : Layout) (first : Index) → IsFreshIndex l first →
-    IsIndex first × IsQuiet first × (first.history ≡ []) × ((begun : List BegunCall) → length begun < 2 ^ 64 → AreCounted first begun)
+    IsIndex first × IsQuiet first × (first.history ≡ []) × ((begun : List BegunCall) → length begun < 2 ^ 64 →
+    AreCounted first begun)

@@ -1,8 +1,8 @@
--- What the index weighs along a schedule: no more than as it began and the puts since then that added a name or may still
--- add one.
+-- What the index weighs along a schedule: no more than as it began and the puts since then that added a name or may
+-- still add one.
 use Rattle.std.specs.Prelude.{ℕ, ◌+◌, ◌≤◌, List}
 use Rattle.std.specs.List.{sum_by}
-use Rattle.index_core.specs.declared.entry.Entry.{Entry}
+use Rattle.index_core.specs.declared.party.PartyState.{PartyState}
 use Rattle.index_core.specs.Indexes.{Index, IsIndex}
 use Rattle.index_core.specs.Lone.{IsQuiet}
 use Rattle.index_core.specs.Schedules.{BegunCall, AnsweredCall, Runs}
@@ -13,16 +13,17 @@ abbrev pub names_added : List AnsweredCall → ℕ
 names_added calls = sum_by (λ c. added_by c.call.op c.answer) calls
 
 -- How many puts are in flight, and so aren't answered.
-abbrev pub puts_in_flight : List Entry → ℕ
-puts_in_flight entries = sum_by (λ entry. put_in entry.machine) entries
+abbrev pub puts_in_flight : List PartyState → ℕ
+puts_in_flight states = sum_by (λ state. put_in state.machine) states
 
 -- The index weighs no more than this, nor does the image that a crash leaves.
 pub record WeighsAtMost (most : ℕ) (s : Index) : Type 0 where
   pub core : weight_of s ≤ most
   pub image : crash_weight s ≤ most
 
--- However the calls were scheduled from an index with no call in flight: it weighs no more than it did then and the puts
--- since then that added a name or aren't answered.
+-- However the calls were scheduled from an index with no call in flight: it weighs no more than it did then and the
+-- puts since then that added a name or aren't answered.
 abbrev pub WeightIsBounded : Type 0
-WeightIsBounded = (first last : Index) (begun : List BegunCall) (calls : List AnsweredCall) → IsIndex first → IsQuiet first → Runs first begun calls last →
-    WeighsAtMost (weight_of first + (names_added calls + puts_in_flight last.entries)) last
+WeightIsBounded = (first last : Index) (begun : List BegunCall) (calls : List AnsweredCall) → IsIndex first →
+    IsQuiet first → Runs first begun calls last →
+    WeighsAtMost (weight_of first + (names_added calls + puts_in_flight last.states)) last

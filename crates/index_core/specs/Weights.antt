@@ -11,8 +11,8 @@ use Rattle.node_ops.specs.declared.running.Running.{Running}
 use Rattle.node_ops.specs.Asked.{op_in}
 use Rattle.index_law.specs.Worlds.{facts}
 use Rattle.index_law.specs.Weights.{index_weight}
-use Rattle.index_core.specs.declared.entry.Whole.{Whole}
-use Rattle.index_core.specs.declared.entry.Whole.TheVariants as whole
+use Rattle.index_core.specs.declared.party.Whole.{Whole}
+use Rattle.index_core.specs.declared.party.Whole.TheVariants as whole
 use Rattle.index_core.specs.Indexes.{Index, world}
 
 -- What the index weighs, and what the image weighs that a crash leaves of it.

@@ -1,7 +1,7 @@
 ghost use Rattle.std.specs.Prelude.{◌≡◌};
 ghost use Rattle.cat_key.specs.Names.{IsName};
 
-use crate::entry::CoreCall;
+use crate::party::CoreCall;
 use cat_key::Name;
 use node_ops::{Del, Get, Put, Running, View};
 
@@ -12,7 +12,7 @@ impl CoreCall {
     ghost use Rattle.index_core.specs.CoreCalls.{LimitFits, machine_of, op_of};
 
     /// The machine that makes the call.
-    pub(crate) fn machine(self, view: View) -> Running
+    pub fn machine(self, view: View) -> Running
         requires view { IsView view }
         requires limit { LimitFits self }
         ensures machine { result ≡ machine_of view self }

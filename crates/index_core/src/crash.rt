@@ -2,7 +2,7 @@
 
 ghost use Rattle.std.specs.Prelude.{◌≡◌};
 
-use crate::entry::{CoreCall, Entry};
+use crate::party::{CoreCall, PartyState};
 use cat_history::Op;
 use node_ops::Running;
 use pm_words::Image;
@@ -21,7 +21,7 @@ pub struct Crashed {
 /// The calls that a crash cut off, by party.
 #[derive(Drop)]
 pub struct Cuts {
-    entries: Vec<Entry>,
+    states: Vec<PartyState>,
 }
 
 /// A call that a crash cut off.
@@ -35,35 +35,35 @@ pub struct CutCall {
 
 impl Model for Cuts {
     ghost use Rattle.std.specs.Prelude.{List};
-    ghost use Rattle.index_core.specs.declared.entry.Entry.{Entry};
+    ghost use Rattle.index_core.specs.declared.party.PartyState.{PartyState};
     ghost use Rattle.index_core.specs.Crashes.{AreRunning};
 
-    ghost Value = { List Entry };
+    ghost Value = { List PartyState };
 
-    ghost view = { λ c. c.entries.items };
+    ghost view = { λ c. c.states.items };
 
-    ghost invariant = { λ c. AreRunning c.entries.items };
+    ghost invariant = { λ c. AreRunning c.states.items };
 }
 
 impl Cuts {
     ghost use Rattle.index_core.specs.Crashes.{AreRunning, cut_at};
 
     /// The calls in flight of these parties.
-    pub(crate) fn of(entries: Vec<Entry>) -> Cuts
-        requires { AreRunning entries.items }
-        ensures { result ≡ entries.items }
+    pub(crate) fn of(states: Vec<PartyState>) -> Cuts
+        requires { AreRunning states.items }
+        ensures { result ≡ states.items }
     {
-        Cuts { entries }
+        Cuts { states }
     }
 
     /// The call of this party that was cut off, if one was in flight.
     pub fn get(&self, party: u64) -> Option<CutCall>
         ensures { result ≡ cut_at self.now party }
     {
-        let entry = self.entries.get(party as usize)?;
-        let machine = entry.machine?;
+        let state = self.states.get(party as usize)?;
+        let machine = state.machine?;
         Some(CutCall {
-            party: entry.caller,
+            party: state.caller,
             call: CoreCall::of(&machine),
             place: machine.place(),
         })

@@ -1,18 +1,21 @@
-ghost use Rattle.std.specs.Prelude.{◌≡◌, ℕ, ◌+◌, ◌-◌, ◌<◌, ◌≤◌, ◌↔◌, List, ◌++◌, length, replicate, IfOk, OnOk, OnErr, IsErr, vec_len, vec_capacity, Some, None};
+ghost use Rattle.std.specs.Prelude.{◌≡◌, ℕ, ◌+◌, ◌-◌, ◌<◌, ◌≤◌, ◌↔◌, List, ◌++◌, length, replicate, IfOk, OnOk, OnErr};
+ghost use Rattle.std.specs.Prelude.{IsErr, vec_len, vec_capacity, Some, None};
 ghost use Rattle.pm_words.specs.Layouts.{IsLayout};
 ghost use Rattle.index_law.specs.Worlds.{written};
-ghost use Rattle.index_core.specs.CoreCalls.{LimitFits, writes_of};
+ghost use Rattle.index_core.specs.CoreCalls.{LimitFits, most_writes};
 ghost use Rattle.index_core.specs.Indexes.{IsInFlight, IsIndex, KeepsRoom, Starts, StepsTo};
 ghost use Rattle.index_core.specs.Fresh.{IsFreshIndex};
-ghost use Rattle.pm_words.specs.Places.{image_words};
+ghost use Rattle.pm_words.specs.Locations.{image_words};
 ghost use Rattle.index_core.specs.Crashes.{IsCrash, evicted_index};
+ghost use Rattle.index_core.specs.PartsOf.{index_in};
 ghost use Rattle.index_core.specs.Lone.{CountsCall, IsQuiet, RunsAlone, locks_left};
 
 use crate::crash::{Crashed, Cuts};
-use crate::entry::{CoreCall, Entry, InFlight, Stepped, Whole, idle_entries};
+use crate::party::{CoreCall, InFlight, PartyState, Stepped, Whole, idle_states};
 use cat_history::{Change, Listed, Write};
 use cat_key::Pair;
 use node_ops::View;
+use pm_words::offsets::volatile;
 use pm_words::{Image, Layout, Machine, Memory, NoMemory, Steps};
 use std::alloc::Global;
 use std::marker::Model;
@@ -21,40 +24,98 @@ use std::sync::ledger::Ledger;
 /// The generation of a fresh image.
 const FIRST_GENERATION: u64 = 1;
 
+/// The status of a listed node.
+const LIVE: u64 = 1;
+
 /// An index in memory, with at most one call in flight for each caller.
 #[derive(Drop)]
 pub struct Core {
     memory: Memory,
     generation: u64,
-    entries: Vec<Entry>,
+    states: Vec<PartyState>,
     base: Listed<Pair>,
     history: Vec<Write>,
 }
 
 impl Model for Core {
-    ghost use Rattle.std.specs.Prelude.{vec_len, vec_capacity, ◌+◌, ◌-◌, ◌≤◌};
-    ghost use Rattle.index_core.specs.Entries.{owed};
-    ghost use Rattle.index_core.specs.Indexes.{Index, IsIndex};
+    ghost use Rattle.index_core.specs.Indexes.{Index};
 
     ghost Value = { Index };
 
-    ghost view = { λ c. record { layout = c.memory.layout; generation = c.generation; words = c.memory.words; entries = c.entries.items; base = c.base; history = c.history.items; spare = vec_capacity c.history - (vec_len c.history + owed c.entries.items) } };
+    ghost use Rattle.index_core.specs.Cores.{index_of, IsCore};
 
-    ghost invariant = { λ c. IsIndex (record { layout = c.memory.layout; generation = c.generation; words = c.memory.words; entries = c.entries.items; base = c.base; history = c.history.items; spare = 0 })
-        × (vec_len c.history + owed c.entries.items ≤ vec_capacity c.history) };
+    ghost view = { index_of };
+
+    ghost invariant = { IsCore };
+}
+
+/// What a core is made of.
+#[derive(Drop)]
+pub struct Parts {
+    pub memory: Memory,
+    pub generation: u64,
+    pub states: Vec<PartyState>,
+    pub base: Listed<Pair>,
+    pub history: Vec<Write>,
 }
 
 impl Core {
-    /// An index without names. Every caller is idle.
+    /// What it is made of.
+    pub fn parts(self) -> Parts
+        ensures same { self ≡ index_in result self.spare }
+        ensures index { IsIndex self }
+    {
+        let Core {
+            memory,
+            generation,
+            states,
+            base,
+            history,
+        } = self;
+        Parts {
+            memory,
+            generation,
+            states,
+            base,
+            history,
+        }
+    }
+
+    /// An index of these parts, with no call in flight.
+    pub fn of_parts(parts: Parts) -> Core
+        requires index { IsIndex (index_in parts 0) }
+        requires quiet { IsQuiet (index_in parts 0) }
+        ensures same { result ≡ index_in parts result.spare }
+        ensures index { IsIndex result }
+    {
+        let Parts {
+            memory,
+            generation,
+            states,
+            base,
+            history,
+        } = parts;
+        Core {
+            memory,
+            generation,
+            states,
+            base,
+            history,
+        }
+    }
+
+    /// An index without names, whose only listed node is node 0. Every caller is idle, and so is the updater, whose
+    /// number is that of the callers.
     pub fn fresh(alloc: Global, layout: Layout) -> Result<Core, NoMemory>
         requires layout { IsLayout layout }
-        requires one_node { layout.nodes ≡ 1 }
         ensures { IfOk result (IsFreshIndex layout) }
     {
+        let mut memory = Memory::of(alloc, Image::fresh(alloc, layout)?)?;
+        memory.store(layout.node_volatile(0, volatile::STATUS), LIVE);
         Ok(Core {
-            memory: Memory::of(alloc, Image::fresh(alloc, layout)?)?,
+            memory,
             generation: FIRST_GENERATION,
-            entries: idle_entries(alloc, layout.callers())?,
+            states: idle_states(alloc, layout.callers() + 1)?,
             base: Listed::of(Vec::new(alloc)),
             history: Vec::new(alloc),
         })
@@ -65,16 +126,17 @@ impl Core {
     pub fn start(&mut self, party: u64, call: CoreCall) -> Result<(), InFlight>
         requires party { party < self.old.layout.callers }
         requires limit { LimitFits call }
-        requires spare { writes_of call ≤ self.old.spare }
+        requires spare { most_writes call ≤ self.old.spare }
         ensures in_flight { IsErr result ↔ IsInFlight self.old party }
         ensures err { OnErr result (self.new ≡ self.old) }
         ensures started { OnOk result (Starts self.old party call self.new) }
-        ensures spare { OnOk result (self.new.spare + writes_of call ≡ self.old.spare) }
+        ensures spare { OnOk result (self.new.spare + most_writes call ≡ self.old.spare) }
+        ensures before { IsIndex self.old }
         ensures index { IsIndex self.new }
     {
         let at = party as usize;
-        let entry = self.entries[at];
-        if entry.machine.is_some() {
+        let state = self.states[at];
+        if state.machine.is_some() {
             return Err(InFlight);
         }
         let machine = call.machine(View {
@@ -83,13 +145,14 @@ impl Core {
             caller: party,
         });
         let since = self.history.len() as u64;
-        self.entries[at] = entry.begins(since, machine);
+        self.states[at] = state.begins(since, machine);
         Ok(())
     }
 
-    /// One action of the party's call, which is in flight. Where it is answered, the number is that of its name in the map
-    /// at its place, which lies in the call's time, and a put or delete that took place stands there in the history; a call
-    /// that didn't take place is told why, and gives the room for its write back.
+    /// Takes one step of the party's call, which is in flight: one action on one word, counted in `steps` as one event.
+    /// Returns whether the call goes on or is answered. A call that took place is answered with the number of its name
+    /// in the map at its place, which lies in the call's time, and its write stands in the history there. Any other is
+    /// told its cause, and a put or delete gives the room for its write back to `spare`.
     pub fn step<L: Ledger>(&mut self, party: u64, steps: &mut Steps<L>) -> Stepped
         requires flies { IsInFlight self.old party }
         ensures stepped { StepsTo self.old party self.new result }
@@ -98,16 +161,16 @@ impl Core {
         ensures index { IsIndex self.new }
     {
         let at = party as usize;
-        let entry = self.entries[at];
-        let Some(machine) = entry.machine else {
+        let state = self.states[at];
+        let Some(machine) = state.machine else {
             unreachable!()
         };
         let action = machine.action();
         let counts = machine.counts();
         let got = self.memory.act(action, steps);
-        count(&mut self.history, entry, counts);
-        let (next, stepped) = entry.after(machine.resume(got));
-        self.entries[at] = next;
+        count(&mut self.history, state, counts);
+        let (next, stepped) = state.after(machine.resume(got));
+        self.states[at] = next;
         stepped
     }
 
@@ -120,14 +183,14 @@ impl Core {
         self.memory.evict(word);
     }
 
-    /// What a crash leaves: a sound image of the durable words, which keeps the map after the whole history and after those
-    /// of the writes in flight that are found in it, and the calls that were in flight.
+    /// Power fails now. Returns the durable words, which are a sound image, and the calls that were cut off. Its map is
+    /// that of the whole history and of the unplaced writes that the image shows.
     pub fn crash(self) -> Crashed
         ensures { IsCrash self result.image result.cuts }
     {
         Crashed {
             image: self.memory.crash(),
-            cuts: Cuts::of(self.entries),
+            cuts: Cuts::of(self.states),
         }
     }
 
@@ -138,13 +201,13 @@ impl Core {
         ensures spare { self.old.spare ≤ self.new.spare }
     {
         // Each call in flight may still place one.
-        let owed = self.entries.len();
+        let owed = self.states.len();
         self.history.reserve((writes as usize).saturating_add(owed))
     }
 
-    /// A whole call of a caller, with no other in flight. Its answer is told by its cause: the locks of the node are used
-    /// up, else the clock has reached the limit, else there is no room for a new name, else it takes place. Of `spare` it
-    /// takes one for a write that it places, and none otherwise.
+    /// A whole call of a caller, with no other in flight. Its answer is told by its cause: the locks of the node are
+    /// used up, else the clock has reached the limit, else there is no room for a new name, else it takes place. Of
+    /// `spare` it takes one for a write that it places, and none otherwise.
     pub fn run_alone<L: Ledger>(
         &mut self,
         caller: u64,
@@ -153,7 +216,7 @@ impl Core {
     ) -> Whole
         requires caller { caller < self.old.layout.callers }
         requires limit { LimitFits call }
-        requires spare { writes_of call ≤ self.old.spare }
+        requires spare { most_writes call ≤ self.old.spare }
         requires quiet { IsQuiet self.old }
         ensures runs { RunsAlone self.old caller call self.new result }
         ensures quiet { IsQuiet self.new }
@@ -184,8 +247,8 @@ impl Core {
         ensures index { IsIndex self.new }
     {
         let at = party as usize;
-        let entry = self.entries[at];
-        self.entries[at] = entry.counted();
+        let state = self.states[at];
+        self.states[at] = state.counted();
     }
 
     /// The writes placed since the base, each at its place.
@@ -212,13 +275,13 @@ impl Core {
 }
 
 /// Counts the write of a step, if it has one.
-fn count(history: &mut Vec<Write>, entry: Entry, counts: Option<Change>)
-    requires { vec_len history.old + length (written entry.caller entry.index counts) ≤ vec_capacity history.old }
-    ensures items { history.new.items ≡ history.old.items ++ written entry.caller entry.index counts }
+fn count(history: &mut Vec<Write>, state: PartyState, counts: Option<Change>)
+    requires { vec_len history.old + length (written state.caller state.index counts) ≤ vec_capacity history.old }
+    ensures items { history.new.items ≡ history.old.items ++ written state.caller state.index counts }
     ensures room { vec_capacity history.old ≤ vec_capacity history.new }
 {
     if let Some(change) = counts {
-        let Entry { caller, index, .. } = entry;
+        let PartyState { caller, index, .. } = state;
         let Ok(()) = history.push(Write {
             caller,
             index,

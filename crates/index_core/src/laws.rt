@@ -1,39 +1,73 @@
-//! The laws of whole schedules.
+//! The laws of whole schedules, and those of single steps, on which whoever keeps the words rests.
 
+ghost use Rattle.index_core.specs.MachineLaws.{MachineKeeps, BeginKeeps, FirstIsReady, IdleKeep, IdleWeigh};
+ghost use Rattle.index_core.specs.MachineLaws.{PlacesFollow};
 ghost use Rattle.index_core.specs.LegalRounds.{LegalHistoryIsLegalRound};
 ghost use Rattle.index_core.specs.WeightBounds.{WeightIsBounded};
 ghost use Rattle.index_core.specs.Schedules.{OneLegalHistory, FreshIndexBegins};
 
-/// Begin with an index in which no call is in flight and nothing is written yet. Start calls, step them in any order, make
-/// whole calls while no other is in flight, evict words and make room, as long as you like. Then all the answers are those
-/// of one legal history:
+/// All that a schedule answers is one legal history.
 ///
-/// - each call that was begun is answered once, or is in flight;
-/// - the old number of one that took place is that of its name in the map at its place, which lies between its start and its
-///   answer, and the history has its change there, if it makes one, and nothing else of it;
-/// - of one caller's calls the one that was answered first took effect first;
-/// - one that was refused stands nowhere in the history, and the clock that refused it had reached its limit in its time;
-/// - while one was made that was turned back, its caller wrote nothing, and its answer may leave the caller's index as it was;
-///   each other answer makes it one higher, and no later call of the caller has a lower one. For want of room only a put is
-///   turned back, whose name the map lacked in its time while it had as many names as the node has slots;
-/// - each write of the history is that of an answered call at its place, or of a call in flight that has this place;
-/// - where all puts and deletes have one limit, each place of a write is below it plus the number of callers that have calls,
-///   minus one.
+/// A schedule begins with an index in which no call is in flight and nothing is written yet, as a fresh one. It starts
+/// calls, steps them in any order, makes whole calls while no other is in flight, evicts words and makes room, as long
+/// as it likes. Fewer than 2^64 calls are begun, with those of a caller that counted before.
 ///
-/// Fewer than 2^64 calls are begun, with those of a caller that counted before. A fresh index is one to begin with.
+/// - **Each once.** A call that was begun is answered once, or is in flight.
+/// - **Its answer.** The old number of a call that took place is that of its name in the map at its place. The place
+///   lies between the call's start and its answer. The history has the call's change there, and nothing else of it.
+/// - **In order.** Of one caller's calls the one that was answered first took effect first.
+/// - **Refused.** A call that was refused at its limit stands nowhere in the history. The clock that refused it is one
+///   of its time, and had reached the limit.
+/// - **Turned back.** While a call was made that was turned back, its caller wrote nothing. For want of room only a put
+///   is turned back: in its time the map lacked its name, and had as many names as a node has slots.
+/// - **Index.** Each answer but that of a call that was turned back makes its caller's index one higher. No later call
+///   of the caller has a lower one.
+/// - **Nothing else.** Each write of the history is that of an answered call at its place, or of a call in flight that
+///   has this place.
+/// - **Limit.** Where all puts and deletes have one limit, each place of a write is below it plus the number of callers
+///   that have calls, minus one.
 pub fn one_history_law()
     ensures history { OneLegalHistory }
     ensures fresh { FreshIndexBegins }
 {}
 
-/// Once no call is in flight, the calls of such a history that took place are a legal round over its base: each write of
-/// the history is that of one of them, at its place.
+/// Once no call is in flight, the calls of such a history that took place are a legal round over its base: each write
+/// of the history is that of one of them, at its place.
 pub fn history_round_law()
     ensures { LegalHistoryIsLegalRound }
 {}
 
-/// Along such a schedule the index never weighs more than as it began and the puts since then that were answered that their
-/// name had no number, or that aren't answered; and neither does the image that a crash leaves.
+/// How full an index may be. Its weight is half the slots for each listed node, and one for each name above that.
+///
+/// Along a schedule from an index with no call in flight, the weight is at most that of the first index, and one more
+/// for each put that was begun since then and added a name, or isn't answered. The image that a crash leaves weighs no
+/// more either.
 pub fn weight_law()
     ensures { WeightIsBounded }
+{}
+
+/// A step of a party's call keeps the index.
+///
+/// The call's machine takes what its action gives. The action, done on its word, and the machine, told that number,
+/// leave an index. Its history is longer by the party's write exactly where the action adds to the clock. An answer is
+/// the map's at its place, or has its cause.
+pub fn machine_law()
+    ensures { MachineKeeps }
+{}
+
+/// An idle party may begin a call.
+pub fn begin_law()
+    ensures kept { BeginKeeps }
+    ensures ready { FirstIsReady }
+{}
+
+/// An index with no call in flight is one with any idle parties.
+pub fn idle_parties_law()
+    ensures kept { IdleKeep }
+    ensures weight { IdleWeigh }
+{}
+
+/// A call's write has the place that its step was told which counted it.
+pub fn place_law()
+    ensures { PlacesFollow }
 {}

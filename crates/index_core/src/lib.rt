@@ -6,14 +6,13 @@
 
 mod call;
 mod crash;
-mod entry;
 mod index;
-mod laws;
+pub mod laws;
+mod party;
 
 pub use crash::{Crashed, CutCall, Cuts};
-pub use entry::{CoreCall, CoreReply, Entry, InFlight, Stepped, Whole};
-pub use index::Core;
-pub use laws::{history_round_law, one_history_law, weight_law};
+pub use index::{Core, Parts};
+pub use party::{CoreCall, CoreReply, InFlight, PartyState, Stepped, Whole};
 
 #[cfg(test)]
 mod tests;

@@ -1,5 +1,5 @@
 ghost use Rattle.std.specs.Prelude.{◌≡◌, ◌<◌, ◌≤◌};
-ghost use Rattle.index_core.specs.CoreCalls.{LimitFits, writes_of};
+ghost use Rattle.index_core.specs.CoreCalls.{LimitFits, most_writes};
 
 use super::*;
 use call_stages::{Once, Placed};
@@ -24,7 +24,7 @@ const LIMIT: u64 = 1000;
 /// A put, a get or a delete of the one name of this test.
 fn call_of(kind: u64, name: Name) -> CoreCall
     ensures limit { LimitFits result }
-    ensures writes { writes_of result ≤ 1 }
+    ensures writes { most_writes result ≤ 1 }
 {
     match kind {
         0 => CoreCall::Put {
@@ -50,8 +50,8 @@ fn begin(core: &mut Core, party: u64, kind: u64) -> Result<(), Fail> {
     Ok(())
 }
 
-/// At most so many steps of a party's call, and its answer if it is done. That the call is in flight is told by a start,
-/// which is refused and changes nothing.
+/// At most so many steps of a party's call, and its answer if it is done. That the call is in flight is told by a
+/// start, which is refused and changes nothing.
 fn run<L: Ledger>(
     core: &mut Core,
     party: u64,
@@ -79,8 +79,8 @@ fn placed(answer: Option<Once<Placed>>) -> Option<Placed> {
     }
 }
 
-/// Both calls in turns of so many steps, the second first, until both are answered; of the first the answer may be there
-/// already.
+/// Both calls in turns of so many steps, the second first, until both are answered; of the first the answer may be
+/// there already.
 fn take_turns<L: Ledger>(
     core: &mut Core,
     turn: u64,
@@ -143,8 +143,8 @@ fn is_explained(
     one.old == old && two.old == plain(map, two_kind)
 }
 
-/// A schedule of two calls: their kinds, how many steps the first has made as the second begins, how many steps each then
-/// makes in turn, and whether the name has been put before.
+/// A schedule of two calls: their kinds, how many steps the first has made as the second begins, how many steps each
+/// then makes in turn, and whether the name has been put before.
 #[derive(Clone, Copy, PartialEq, Eq, Debug)]
 struct Schedule {
     one: u64,
@@ -155,8 +155,8 @@ struct Schedule {
 }
 
 impl Schedule {
-    /// The schedule of a case below 4860: each of put, get and delete against each, at each of 90 steps, with turns of one
-    /// step, of two, and of a whole call.
+    /// The schedule of a case below 4860: each of put, get and delete against each, at each of 90 steps, with turns of
+    /// one step, of two, and of a whole call.
     fn of(case: u64) -> Schedule {
         Schedule {
             one: case % 3,
@@ -265,8 +265,8 @@ fn refused_starts<L: Ledger>(alloc: Global, blank: Blank) -> Result<u64, Fail>
 
 #[test]
 fn a_start_during_a_callers_own_put_is_refused_without_trace(rt: HostRuntime) -> Result<(), Fail> {
-    // The put has 68 steps, so it is in flight after each of the first 67.
+    // The put has 73 steps, so it is in flight after each of the first 72.
     let found = refused_starts::<Brand>(rt.alloc(), Blank::new(1))?;
-    assert_eq!(rt; found, 68);
+    assert_eq!(rt; found, 73);
     Ok(())
 }

@@ -1,50 +1,80 @@
 -- What a party may do can be done.
-use Rattle.std.proofs.Common.{◌≡◌, ℕ, ◌<◌, ◌≤◌, ◌^◌, List, length, slice_index, refl, sym, ap, ◌∙◌, subst, arith}
+use Rattle.std.proofs.Common.{◌≡◌, ◌≢◌, ⊎_elim, ℕ, ◌<◌, ◌≤◌, ◌^◌, true, List, length, slice_index, refl, sym, ap, ◌∙◌, subst, arith}
 use Rattle.std.proofs.lemmas.Nat.{same_from_place}
 use Rattle.pm_words.specs.declared.layout.Layout.{Layout}
 use Rattle.pm_words.specs.declared.action.Action.{Action}
 use Rattle.pm_words.specs.declared.action.Action.TheVariants.{Load, Store, Exchange, Add, Drain}
-use Rattle.pm_words.specs.Places.{Cached, Clock, Node, node_words}
-use Rattle.pm_words.specs.Rows.{CanChange, IsOutsideHeader, given, got, place_of}
-use Rattle.pm_words.proofs.Apart.{places_within}
+use Rattle.pm_words.specs.Locations.{Cached, Clock, Node, Volatile, node_words}
+use Rattle.pm_words.specs.Rows.{CanChange, IsOutsideHeader, given, got, action_address}
+use Rattle.pm_words.proofs.Apart.{addresses_within}
 use Rattle.pm_words.proofs.Kept.{outside_header, keeps_header, names_cached}
 use Rattle.version_lock.specs.declared.TheConstants.{GENERATION_LIMIT}
 use Rattle.version_lock.specs.Versions.{generation_of}
-use Rattle.call_stages.specs.Stages.{Stage}
-use Rattle.call_stages.specs.Kinds.{Told, HasWordAt, clock_place, word_place, version_place}
-use Rattle.index_law.specs.Facts.{Facts, version_in}
+use Rattle.call_stages.specs.Stages.{Stage, Sight, Held, Saw, Holds}
+use Rattle.std.proofs.lemmas.Bool.{cases_eq}
+use Rattle.data_node.proofs.ListLemmas.{all_member}
+use Rattle.index_law.proofs.Switch.{leads_on, inside_listed}
+use Rattle.cat_history.specs.Maps.{Map}
+use Rattle.cat_history.specs.declared.op.Write.{Write}
+use Rattle.data_node.specs.Lists.{next_offset}
+use Rattle.call_stages.specs.Kinds.{Told, HasWordAt, clock_address, word_address, version_address, status_address, prev_address}
+use Rattle.index_law.specs.Facts.{Facts, facts_of, version_in}
 use Rattle.index_law.specs.Worlds.{World, facts}
-use Rattle.index_law.specs.Lawful.{Sure}
-use Rattle.index_law.specs.Laws.{Allowed, loads_clock, loads_word, exchanges, stores_word, drains_word, adds, frees, AllowedMayName, AllowedCanAct}
-use Rattle.index_law.proofs.Rows.{version_in-here}
+use Rattle.index_law.specs.Lawful.{IsList, Sure, SureSaw, SureHolds}
+use Rattle.index_law.specs.Laws.{Allowed, loads_clock, loads_word, loads_status, loads_prev, exchanges, stores_word, stores_status, drains_word, adds, claims_node, frees_fresh, frees_left, frees_met, frees_right, frees, AllowedMayName, AllowedCanAct}
+use Rattle.index_law.proofs.Rows.{version_in-here, spot_in-here}
 use Rattle.index_law.proofs.Versions.{own_lock, lock_fits}
 
 -- the clock and the words of a node stand beside the header
-pub clock_outside : (l : Layout) → IsOutsideHeader l (clock_place l)
+pub clock_outside : (l : Layout) → IsOutsideHeader l (clock_address l)
 clock_outside l = outside_header l Clock tt (λ k lt. (λ e. cc, λ e. cc))
 
-node_outside : (l : Layout) (n offset : ℕ) → HasWordAt l n offset → IsOutsideHeader l (word_place l n offset)
+node_outside : (l : Layout) (n offset : ℕ) → HasWordAt l n offset → IsOutsideHeader l (word_address l n offset)
 node_outside l n offset has = outside_header l (Cached (Node n offset)) has (λ k lt. (λ e. cc, λ e. cc))
 
+pub status_outside : (l : Layout) (n : ℕ) → n < l.nodes → IsOutsideHeader l (status_address l n)
+status_outside l n here = outside_header l (Volatile n 0) (here, omega arith) (λ k lt. (λ e. cc, λ e. cc))
+
 pub may_name : AllowedMayName
-may_name l s a loads_clock = places_within l Clock tt
-may_name l s a (loads_word {n = n} {offset = offset} has) = places_within l (Cached (Node n offset)) has
-may_name l s a (exchanges {n = n} here) = let has : HasWordAt l n 0 = (here, omega arith) in (places_within l (Cached (Node n 0)) has, node_outside l n 0 has)
-may_name l s a (stores_word {n = n} {offset = offset} has positive small) = (places_within l (Cached (Node n offset)) has, node_outside l n offset has)
-may_name l s a (drains_word {n = n} {y = y} {offset = offset} has small) = (names_cached l (Node n offset) has, keeps_header l (Node n offset) y has (λ k lt e. cc))
-may_name l s a adds = (places_within l Clock tt, clock_outside l)
-may_name l s a (frees {n = n} here next) = let has : HasWordAt l n 0 = (here, omega arith) in (places_within l (Cached (Node n 0)) has, node_outside l n 0 has)
+may_name l s a loads_clock = addresses_within l Clock tt
+may_name l s a (loads_word {n = n} {offset = offset} has) = addresses_within l (Cached (Node n offset)) has
+may_name l s a (loads_status {n = n} here) = addresses_within l (Volatile n 0) (here, omega arith)
+may_name l s a (loads_prev {n = n} here) = addresses_within l (Volatile n 1) (here, omega arith)
+may_name l s a (stores_status {n = n} holds here small) = (addresses_within l (Volatile n 0) (here, omega arith), status_outside l n here)
+may_name l s a (exchanges {n = n} here) = let has : HasWordAt l n 0 = (here, omega arith) in (addresses_within l (Cached (Node n 0)) has, node_outside l n 0 has)
+may_name l s a (stores_word {n = n} {offset = offset} holds has positive small) = (addresses_within l (Cached (Node n offset)) has, node_outside l n offset has)
+may_name l s a (drains_word {n = n} {y = y} {offset = offset} holds has small) = (names_cached l (Node n offset) has, keeps_header l (Node n offset) y has (λ k lt e. cc))
+may_name l s a adds = (addresses_within l Clock tt, clock_outside l)
+may_name l s a (claims_node {m = m} here) = let has : HasWordAt l m 0 = (here, omega arith) in (addresses_within l (Cached (Node m 0)) has, node_outside l m 0 has)
+may_name l s a (frees_fresh {fresh = fresh} here next) =
+    let has : HasWordAt l fresh.node 0 = (here, omega arith) in (addresses_within l (Cached (Node fresh.node 0)) has, node_outside l fresh.node 0 has)
+may_name l s a (frees_left {left = left} here next) =
+    let has : HasWordAt l left.node 0 = (here, omega arith) in (addresses_within l (Cached (Node left.node 0)) has, node_outside l left.node 0 has)
+may_name l s a (frees_met {right = right} here next) =
+    let has : HasWordAt l right.node 0 = (here, omega arith) in (addresses_within l (Cached (Node right.node 0)) has, node_outside l right.node 0 has)
+may_name l s a (frees_right {right = right} here next) =
+    let has : HasWordAt l right.node 0 = (here, omega arith) in (addresses_within l (Cached (Node right.node 0)) has, node_outside l right.node 0 has)
+may_name l s a (frees {n = n} here next) = let has : HasWordAt l n 0 = (here, omega arith) in (addresses_within l (Cached (Node n 0)) has, node_outside l n 0 has)
 
 -- the word that takes or gives back a lock has 64 bits
 can_change : (l : Layout) (g : ℕ) (f : Facts) (caller index since : ℕ) (s : Stage) (a : Action) (word : ℕ) → Allowed l s a → g < GENERATION_LIMIT
-    → Sure l g f caller index since s → (a ≡ Add (clock_place l) → word < 2 ^ 63) → CanChange a word
+    → Sure l g f caller index since s → (a ≡ Add (clock_address l) → word < 2 ^ 63) → CanChange a word
 can_change l g f caller index since s a word loads_clock fits knows room = tt
 can_change l g f caller index since s a word (loads_word has) fits knows room = tt
+can_change l g f caller index since s a word (loads_status here) fits knows room = tt
+can_change l g f caller index since s a word (loads_prev here) fits knows room = tt
+can_change l g f caller index since s a word (stores_status holds here small) fits knows room = small
 can_change l g f caller index since s a word (exchanges {v = v} {w = w} here) fits knows room =
     let most = lock_fits w g (own_lock v w g knows.known knows.unworn knows.lock) fits in omega arith
-can_change l g f caller index since s a word (stores_word has positive small) fits knows room = small
-can_change l g f caller index since s a word (drains_word has small) fits knows room = small
+can_change l g f caller index since s a word (stores_word holds has positive small) fits knows room = small
+can_change l g f caller index since s a word (drains_word holds has small) fits knows room = small
 can_change l g f caller index since s a word adds fits knows room = room refl
+can_change l g f caller index since s a word (claims_node {v = v} {u = u} here) fits knows room =
+    let most = lock_fits u g (own_lock v u g knows.1.known knows.1.unworn knows.1.lock) fits in omega arith
+can_change l g f caller index since s a word (frees_fresh {fresh = fresh} here next) fits knows room = let most = lock_fits fresh.lock g knows.new.lock fits in omega arith
+can_change l g f caller index since s a word (frees_left {left = left} here next) fits knows room = let most = lock_fits left.lock g knows.grip.lock fits in omega arith
+can_change l g f caller index since s a word (frees_met {right = right} here next) fits knows room = let most = lock_fits right.lock g knows.1.grip.lock fits in omega arith
+can_change l g f caller index since s a word (frees_right {right = right} here next) fits knows room = let most = lock_fits right.lock g knows.other.lock fits in omega arith
 can_change l g f caller index since s a word (frees {w = w} here next) fits knows room = let most = lock_fits w g knows.lock fits in omega arith
 
 -- the number that is told has 64 bits
@@ -56,7 +86,7 @@ given_fits (Add place) word small = small
 given_fits (Drain place value) word small = omega arith
 
 -- the place of a node's word is that of a version only if it is one
-version_alone : (l : Layout) (n offset m : ℕ) → HasWordAt l n offset → word_place l n offset ≡ version_place l m → (n ≡ m) × (offset ≡ 0)
+version_alone : (l : Layout) (n offset m : ℕ) → HasWordAt l n offset → word_address l n offset ≡ version_address l m → (n ≡ m) × (offset ≡ 0)
 version_alone l n offset m has same = same_from_place n offset m 0 (node_words l) has.1 (omega arith) (omega arith)
 
 -- every action may be told 0
@@ -69,33 +99,71 @@ loaded_from _ = 0
 
 -- a version word that is loaded is of no later run
 told_known : (l : Layout) (g : ℕ) (ws : List ℕ) (s : Stage) (a : Action) → Allowed l s a → ((n : ℕ) → n < l.nodes → generation_of (version_in l ws n) ≤ g)
-    → (n : ℕ) → a ≡ Load (version_place l n) → generation_of (got l ws a) ≤ g
-told_known l g ws s a loads_clock known n is = let place : clock_place l ≡ version_place l n = ap loaded_from is in absurd (omega arith)
+    → (n : ℕ) → a ≡ Load (version_address l n) → generation_of (got l ws a) ≤ g
+told_known l g ws s a loads_clock known n is = let place : clock_address l ≡ version_address l n = ap loaded_from is in absurd (omega arith)
 told_known l g ws s a (loads_word {n = m} {offset = offset} has) known n is =
     let parts = version_alone l m offset n has (ap loaded_from is) in
-    let there : version_in l ws m ≡ slice_index ws (word_place l m offset) = version_in-here l ws m has.0 ∙ ap (λ (o : ℕ). slice_index ws (word_place l m o)) (sym parts.1) in
+    let there : version_in l ws m ≡ slice_index ws (word_address l m offset) = version_in-here l ws m has.0 ∙ ap (λ (o : ℕ). slice_index ws (word_address l m o)) (sym parts.1) in
     subst (λ (x : ℕ). generation_of x ≤ g) there (known m has.0)
+told_known l g ws s a (loads_status {n = m} here) known n is = let place : status_address l m ≡ version_address l n = ap loaded_from is in absurd (omega arith)
+told_known l g ws s a (loads_prev {n = m} here) known n is = let place : prev_address l m ≡ version_address l n = ap loaded_from is in absurd (omega arith)
+told_known l g ws s a (stores_status holds here small) known n is = absurd cc
 told_known l g ws s a (exchanges here) known n is = absurd cc
-told_known l g ws s a (stores_word has positive small) known n is = absurd cc
-told_known l g ws s a (drains_word has small) known n is = absurd cc
+told_known l g ws s a (stores_word holds has positive small) known n is = absurd cc
+told_known l g ws s a (drains_word holds has small) known n is = absurd cc
 told_known l g ws s a adds known n is = absurd cc
+told_known l g ws s a (claims_node here) known n is = absurd cc
+told_known l g ws s a (frees_fresh here next) known n is = absurd cc
+told_known l g ws s a (frees_left here next) known n is = absurd cc
+told_known l g ws s a (frees_met here next) known n is = absurd cc
+told_known l g ws s a (frees_right here next) known n is = absurd cc
 told_known l g ws s a (frees here next) known n is = absurd cc
 
 -- the clock is below the bound of an add
-clock_room : (w : World) (s : Stage) (a : Action) → Allowed w.layout s a → slice_index w.words (clock_place w.layout) ≡ length w.history → length w.history < 2 ^ 63
-    → a ≡ Add (clock_place w.layout) → slice_index w.words (place_of w.layout a) < 2 ^ 63
+clock_room : (w : World) (s : Stage) (a : Action) → Allowed w.layout s a → slice_index w.words (clock_address w.layout) ≡ length w.history → length w.history < 2 ^ 63
+    → a ≡ Add (clock_address w.layout) → slice_index w.words (action_address w.layout a) < 2 ^ 63
 clock_room w s a allowed clock room is =
-    subst (λ (b : Action). slice_index w.words (place_of w.layout b) < 2 ^ 63) (sym is) (omega (arith, clock))
+    subst (λ (b : Action). slice_index w.words (action_address w.layout b) < 2 ^ 63) (sym is) (omega (arith, clock))
+
+-- a node that was LIVE leads to one of the layout's
+told_leads : (l : Layout) (g : ℕ) (ws : List ℕ) (base : Map) (history : List Write) (caller index since : ℕ) (s : Stage) (a : Action)
+    → Sure l g (facts_of l ws base history) caller index since s
+    → (n v w : ℕ) (k : Sight) → n < l.nodes → s ≡ Saw n v w k → k.live ≡ true → a ≡ Load (word_address l n next_offset) → got l ws a < l.nodes
+told_leads l g ws base history caller index since s a knows n v w k here at live is =
+    let sure : SureSaw l g (facts_of l ws base history) n v w k = subst (Sure l g (facts_of l ws base history) caller index since) at knows in
+    let has : HasWordAt l n next_offset = (here, omega arith) in
+    subst (λ (b : Action). got l ws b < l.nodes) (sym is) (subst (λ (x : ℕ). x < l.nodes) (spot_in-here l ws n next_offset has (omega arith)) (sure.leads live))
+
+-- and so does one that is held
+told_held : (l : Layout) (g : ℕ) (ws : List ℕ) (base : Map) (history : List Write) (caller index since : ℕ) (s : Stage) (a : Action) → IsList l (facts_of l ws base history)
+    → Sure l g (facts_of l ws base history) caller index since s → (n w : ℕ) (h : Held) → n < l.nodes → s ≡ Holds n w h → a ≡ Load (word_address l n next_offset) → got l ws a < l.nodes
+told_held l g ws base history caller index since s a list knows n w h here at is =
+    let f = facts_of l ws base history in
+    let sure : SureHolds l g f caller index since n w h = subst (Sure l g f caller index since) at knows in
+    let has : HasWordAt l n next_offset = (here, omega arith) in
+    let to : ℕ = f.now n next_offset in
+    let within : to < l.nodes = ⊎_elim
+    (λ (last : to ≡ 0). omega arith)
+    (λ (ne : to ≢ 0). ⊎_elim
+    (λ (first : to ≡ 0). absurd (ne first))
+    (λ among. all_member (λ k. k < l.nodes) f.list to list.within among)
+    (leads_on l f list n (inside_listed l f list n h.name sure.inside) ne))
+    (cases_eq to 0) in
+    subst (λ (b : Action). got l ws b < l.nodes) (sym is) (subst (λ (x : ℕ). x < l.nodes) (spot_in-here l ws n next_offset has (omega arith)) within)
 
 pub action_law : AllowedCanAct
 action_law w i p a lawful there allowed room = record {
   can = (
     may_name w.layout p.stage a allowed,
-    can_change w.layout w.generation (facts w) p.caller p.index p.since p.stage a (slice_index w.words (place_of w.layout a)) allowed lawful.run.fits (lawful.sure i p there)
+    can_change w.layout w.generation (facts w) p.caller p.index p.since p.stage a (slice_index w.words (action_address w.layout a)) allowed lawful.run.fits (lawful.sure i p there)
         (clock_room w p.stage a allowed lawful.clock room),
   );
   told = record {
-    fits = given_fits a (slice_index w.words (place_of w.layout a)) (lawful.row.fits (place_of w.layout a));
+    fits = given_fits a (slice_index w.words (action_address w.layout a)) (lawful.row.fits (action_address w.layout a));
     known = told_known w.layout w.generation w.words p.stage a allowed lawful.versions;
+  };
+  leads = record {
+    live = told_leads w.layout w.generation w.words w.base w.history p.caller p.index p.since p.stage a (lawful.sure i p there);
+    held = told_held w.layout w.generation w.words w.base w.history p.caller p.index p.since p.stage a lawful.list (lawful.sure i p there);
   };
 }

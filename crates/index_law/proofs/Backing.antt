@@ -1,8 +1,8 @@
 -- What a step makes of the durable twins that back the calls: of its own call, of the others, and of the free nodes.
-use Rattle.std.proofs.Common.{◌≡◌, ℕ, ◌+◌, ◌<◌, ◌≤◌, ◌⊎◌, inl, inr, ⊎_elim, Bool, false, cond, List, [], ◌∷◌, refl, sym, ap, ◌∙◌, subst, arith}
-use Rattle.std.specs.Prelude.{Option, Some, None}
+use Rattle.std.proofs.Common.{◌≡◌, ℕ, ◌+◌, ◌<◌, ◌≤◌, ◌⊎◌, ◌≢◌, inl, inr, ⊎_elim, Bool, false, List, [], ◌∷◌, refl, sym, ap, ◌∙◌, subst, arith}
+use Rattle.std.specs.Prelude.{◌||◌, Option, Some, None}
 use Rattle.std.specs.List.{AllByRecursion}
-use Rattle.std.proofs.lemmas.Bool.{cases_eq, cases_lt, ne_eqb}
+use Rattle.std.proofs.lemmas.Bool.{cases_eq, cases_lt}
 use Rattle.pm_words.specs.declared.layout.Layout.{Layout}
 use Rattle.pm_words.specs.declared.action.Action.{Action}
 use Rattle.version_lock.specs.Versions.{IsFree}
@@ -13,18 +13,22 @@ use Rattle.data_node.specs.Spots.{Spot, Means, updated}
 use Rattle.data_node.proofs.SpotLemmas.{updated-same, updated-other}
 use Rattle.call_stages.specs.declared.once.Once.{Once}
 use Rattle.call_stages.specs.declared.once.Placed.{Placed}
-use Rattle.call_stages.specs.Stages.{Knows, KnowsDurable, IsAmong, Held, Stage, Idle, Saw, Holds, just_held, pended}
-use Rattle.call_stages.specs.Kinds.{Look, turns_back, is_worn, sees, misses, times, learns, decides, glances, Step, looks, locks, stores, commits, drains, counts, unlocks}
+use Rattle.data_node.specs.Spots.{bitmap_offset}
+use Rattle.data_node.specs.Lists.{next_offset}
+use Rattle.call_stages.specs.Stages.{Knows, KnowsDurable, IsAmong, Held, Grip, Phase, Filling, Linked, Parted, Pace, Gathered, Joined, Gone, Stage, Idle, Saw, Wears, Holds, Eyes, Splits, Leaves, Meets, Joins, just_held, merged_held, pended}
+use Rattle.call_stages.specs.Kinds.{IsContent, Cleans, finds_live, watches, watches_next, turns_away, steps_back, wanders, Split, fills, lights, switches, glances_left, glances_fresh, drains_left, drains_fresh, trims, splits, Merge, meets, knows_own, knows_right, copies, takes_up, puts_down, parts, gathers, joins, glances_joined, drains_joined, retires, yields, merges, peeks, peeks_status, eyes, eyes_free, passes, loses, claims, publishes, leaves}
+use Rattle.call_stages.specs.Kinds.{Look, turns_back, is_worn, wears, roams, roams_status, sees, misses, times, learns, decides, glances, Step, looks, locks, stores, commits, drains, counts, unlocks}
 use Rattle.index_law.specs.Facts.{Facts, map_now, range_of, durable_spot}
-use Rattle.index_law.specs.Lawful.{HoldsNode, Sure}
-use Rattle.index_law.specs.Twins.{IsMix, IsBacked, BacksStage, AreDurable}
+use Rattle.index_law.specs.Lawful.{HoldsNode, IsList, Sure}
+use Rattle.index_law.specs.Twins.{IsMix, IsBacked, IsCleanBut, IsBackedLeft, IsBackedFresh, BacksSplit, IsBackedJoin, BacksStage, AreDurable}
 use Rattle.index_law.proofs.Bystanders.{IsLater, IsSteady, pended_alike}
-use Rattle.index_law.proofs.Locks.{steadies, goes_on, apart_from, version_else, version_there}
+use Rattle.index_law.proofs.Locks.{cut_now, steadies, steady_else, goes_on, own_of, holds_or, look_freed, split_freed}
+use Rattle.index_law.proofs.Stays.{means_less}
 use Rattle.index_law.proofs.Maps.{means_alike}
-use Rattle.index_law.proofs.Moves.{fact_after, Gives}
+use Rattle.index_law.proofs.Moves.{fact_after, split_after, merge_after, MergeGave, Gives}
 use Rattle.index_law.proofs.Own.{stored, clean_means}
-use Rattle.index_law.proofs.Rows.{with_version, with_word, with_writes}
-use Rattle.index_law.proofs.Versions.{own_lock, unfree}
+use Rattle.index_law.proofs.Rows.{with_version, with_word, with_next, with_past, with_writes, set_here, set_else}
+use Rattle.index_law.proofs.Versions.{unfree}
 
 -- an offset that is not in the first stretch is in one of the others or in none
 among_rest : (first count : ℕ) (stretches : List (ℕ × ℕ)) (offset : ℕ) → IsAmong stretches offset ⊎ (IsAmong stretches offset → ⊥)
@@ -51,13 +55,14 @@ pub clean_backs : (l : Layout) (f : Facts) (durable : Spot) (n : ℕ) (h : Held)
     → Means l.slots (range_of l f n) (f.now n) (pended h.pending (map_now f)) → IsBacked l f durable n h
 clean_backs l f durable n h clean means = record {
   clean = λ offset spared. clean offset;
+  fixed = λ offset low high. clean offset;
   mixes = λ mix is. inr (subst (λ (s : Spot). Means l.slots (range_of l f n) s (pended h.pending (map_now f)))
       (sym (alike mix (f.now n) (λ offset. ⊎_elim (λ durably. durably ∙ clean offset) (λ cached. cached) (is offset)))) means);
 }
 
 module _ (slots : ℕ) (range : List ℕ → Bool) (m : Map) (durable s : Spot) (h : Held) (offset y : ℕ) where
   -- what is known of the words and durable is known of each mix
-  known_mix : ((other : ℕ) → (IsAmong h.dirty other → ⊥) → durable other ≡ s other) → (mix : Spot) → IsMix durable s mix → (seen : List (ℕ × ℕ))
+  pub known_mix : ((other : ℕ) → (IsAmong h.dirty other → ⊥) → durable other ≡ s other) → (mix : Spot) → IsMix durable s mix → (seen : List (ℕ × ℕ))
       → AllByRecursion (λ (w : ℕ × ℕ). s w.0 ≡ w.1) seen → AllByRecursion (λ (w : ℕ × ℕ). IsAmong h.dirty w.0 ⊎ (mix w.0 ≡ w.1)) seen
   known_mix clean mix is [] all = tt
   known_mix clean mix is (w ∷ seen) all = (
@@ -73,10 +78,10 @@ module _ (slots : ℕ) (range : List ℕ → Bool) (m : Map) (durable s : Spot) 
   mix_beside mix is other apart = ⊎_elim (λ durably. inl durably) (λ cached. inr (cached ∙ updated-other s offset y other apart)) (is other)
 
   -- the mix without the store
-  abbrev before_store : Spot → Spot
+  abbrev pub before_store : Spot → Spot
   before_store mix = updated mix offset (s offset)
 
-  before_mix : (mix : Spot) → IsMix durable (updated s offset y) mix → IsMix durable s (before_store mix)
+  pub before_mix : (mix : Spot) → IsMix durable (updated s offset y) mix → IsMix durable s (before_store mix)
   before_mix mix is other = ⊎_elim
       (λ (same : other ≡ offset). inr (subst (λ (o : ℕ). before_store mix o ≡ s o) (sym same) (updated-same mix offset (s offset))))
       (λ (apart : other ≡ offset → ⊥). ⊎_elim
@@ -86,7 +91,7 @@ module _ (slots : ℕ) (range : List ℕ → Bool) (m : Map) (durable s : Spot) 
       (cases_eq other offset)
 
   -- the mix with the store, if the word that it stored is durable
-  after_mix : (mix : Spot) → mix offset ≡ updated s offset y offset → updated (before_store mix) offset y ≡ mix
+  pub after_mix : (mix : Spot) → mix offset ≡ updated s offset y offset → updated (before_store mix) offset y ≡ mix
   after_mix mix is = alike (updated (before_store mix) offset y) mix (λ other. ⊎_elim
       (λ (same : other ≡ offset). subst (λ (o : ℕ). updated (before_store mix) offset y o ≡ mix o) (sym same)
       (updated-same (before_store mix) offset y ∙ sym (is ∙ updated-same s offset y)))
@@ -94,7 +99,7 @@ module _ (slots : ℕ) (range : List ℕ → Bool) (m : Map) (durable s : Spot) 
       (cases_eq other offset))
 
   -- and if it isn't
-  without_mix : (mix : Spot) → IsMix durable (updated s offset y) mix → mix offset ≡ durable offset → IsMix durable s mix
+  pub without_mix : (mix : Spot) → IsMix durable (updated s offset y) mix → mix offset ≡ durable offset → IsMix durable s mix
   without_mix mix is durably other = ⊎_elim
       (λ (same : other ≡ offset). inl (subst (λ (o : ℕ). mix o ≡ durable o) (sym same) durably))
       (λ (apart : other ≡ offset → ⊥). mix_beside mix is other apart)
@@ -120,6 +125,10 @@ module _ (slots : ℕ) (range : List ℕ → Bool) (m : Map) (durable s : Spot) 
       (cases_eq other offset))))
       (is offset)
 
+-- a word of content is none of those that say where the node stands
+content_fixed : (offset other : ℕ) → IsContent offset → 2 ≤ other → other ≤ 5 → other ≡ offset → ⊥
+content_fixed offset other content low high e = ⊎_elim (λ bits. absurd (omega arith)) (λ far. absurd (omega arith)) content
+
 -- what no stretch has is all
 none_dirty : (durable s : Spot) (dirty : List (ℕ × ℕ)) → dirty ≡ [] → ((offset : ℕ) → (IsAmong dirty offset → ⊥) → durable offset ≡ s offset) → (offset : ℕ) → durable offset ≡ s offset
 none_dirty durable s dirty none clean offset = clean offset (λ among. subst (λ (stretches : List (ℕ × ℕ)). IsAmong stretches offset) none among)
@@ -128,52 +137,310 @@ none_dirty durable s dirty none clean offset = clean offset (λ among. subst (λ
 steady_backs : (l : Layout) (g : ℕ) (f f' : Facts) → IsLater f f' → (durable : Spot) (n : ℕ) (h : Held) → IsSteady l f f' n → IsBacked l f durable n h → IsBacked l f' durable n h
 steady_backs l g f f' later durable n h steady backed = record {
   clean = λ offset spared. backed.clean offset spared ∙ sym (ap (λ (s : Spot). s offset) steady.now);
+  fixed = λ offset low high. backed.fixed offset low high ∙ sym (ap (λ (s : Spot). s offset) steady.now);
   mixes = λ mix is. ⊎_elim
-      (λ was. inl (means_alike l.slots (range_of l f n) mix (map_now f) (map_now f') steady.map was))
-      (λ shows. inr (means_alike l.slots (range_of l f n) mix (pended h.pending (map_now f)) (pended h.pending (map_now f')) (pended_alike l g f f' later n steady h.pending) shows))
+      (λ was. inl (subst (λ (r : List ℕ → Bool). Means l.slots r mix (map_now f')) (sym steady.range)
+      (means_alike l.slots (range_of l f n) mix (map_now f) (map_now f') steady.map was)))
+      (λ shows. inr (subst (λ (r : List ℕ → Bool). Means l.slots r mix (pended h.pending (map_now f'))) (sym steady.range)
+      (means_alike l.slots (range_of l f n) mix (pended h.pending (map_now f)) (pended h.pending (map_now f')) (pended_alike l g f f' later n steady h.pending) shows)))
       (backed.mixes mix (λ offset. ⊎_elim (λ durably. inl durably) (λ cached. inr (cached ∙ ap (λ (s : Spot). s offset) steady.now)) (is offset)));
 }
 
+-- what two nodes that are steady back
+steady_left : (l : Layout) (g : ℕ) (f f' : Facts) → IsLater f f' → (durable : Spot) (left fresh : Grip) (phase : Phase) → IsSteady l f f' left.node → IsSteady l f f' fresh.node
+    → IsBackedLeft l f durable left fresh phase → IsBackedLeft l f' durable left fresh phase
+steady_left l g f f' later durable left fresh (Filling lit) one other backed = λ offset. backed offset ∙ sym (ap (λ (s : Spot). s offset) one.now)
+steady_left l g f f' later durable left fresh Linked one other backed = (
+  λ offset apart. backed.0 offset apart ∙ sym (ap (λ (s : Spot). s offset) one.now),
+  ⊎_elim (λ is. inl (is ∙ sym (ap (λ (s : Spot). s next_offset) one.now))) (λ was. inr (was ∙ sym (ap (λ (s : Spot). s next_offset) other.now))) backed.1,
+)
+steady_left l g f f' later durable left fresh Parted one other backed = (
+  λ offset apart. backed.0 offset apart ∙ sym (ap (λ (s : Spot). s offset) one.now),
+  λ mix is. subst (λ (r : List ℕ → Bool). Means l.slots r mix (map_now f')) (sym one.range)
+      (means_alike l.slots (range_of l f left.node) mix (map_now f) (map_now f') one.map
+      (backed.1 mix (λ offset. ⊎_elim (λ durably. inl durably) (λ cached. inr (cached ∙ ap (λ (s : Spot). s offset) one.now)) (is offset)))),
+)
+
+steady_fresh : (l : Layout) (f f' : Facts) (durable : Spot) (fresh : Grip) (phase : Phase) → IsSteady l f f' fresh.node → IsBackedFresh f durable fresh phase → IsBackedFresh f' durable fresh phase
+steady_fresh l f f' durable fresh (Filling lit) other backed = tt
+steady_fresh l f f' durable fresh Linked other backed = λ offset. backed offset ∙ sym (ap (λ (s : Spot). s offset) other.now)
+steady_fresh l f f' durable fresh Parted other backed = λ offset. backed offset ∙ sym (ap (λ (s : Spot). s offset) other.now)
+
+steady_split : (l : Layout) (g : ℕ) (f f' : Facts) → IsLater f f' → (words : List ℕ) (left fresh : Grip) (phase : Phase) → IsSteady l f f' left.node → IsSteady l f f' fresh.node
+    → BacksSplit l f words left fresh phase → BacksSplit l f' words left fresh phase
+steady_split l g f f' later words left fresh phase one other backed = record {
+  left_clean = λ offset spared. backed.left_clean offset spared ∙ sym (ap (λ (s : Spot). s offset) one.now);
+  fresh_clean = λ offset spared. backed.fresh_clean offset spared ∙ sym (ap (λ (s : Spot). s offset) other.now);
+  left_backed = steady_left l g f f' later (durable_spot l words left.node) left fresh phase one other backed.left_backed;
+  fresh_backed = steady_fresh l f f' (durable_spot l words fresh.node) fresh phase other backed.fresh_backed;
+}
+
+steady_join : (l : Layout) (g : ℕ) (f f' : Facts) → (durable : Spot) (left right : Grip) (pace : Pace) → IsSteady l f f' left.node
+    → IsBackedJoin l f durable left right pace → IsBackedJoin l f' durable left right pace
+steady_join l g f f' durable left right Gathered one backed = (
+  λ offset apart. backed.0 offset apart ∙ sym (ap (λ (s : Spot). s offset) one.now),
+  λ mix is. subst (λ (r : List ℕ → Bool). Means l.slots r mix (map_now f')) (sym one.range)
+      (means_alike l.slots (range_of l f left.node) mix (map_now f) (map_now f') one.map
+      (backed.1 mix (λ offset. ⊎_elim (λ durably. inl durably) (λ cached. inr (cached ∙ ap (λ (s : Spot). s offset) one.now)) (is offset)))),
+)
+steady_join l g f f' durable left right Joined one backed = (
+  λ offset apart. backed.0 offset apart ∙ sym (ap (λ (s : Spot). s offset) one.now),
+  ⊎_elim (λ is. inl (is ∙ sym (ap (λ (s : Spot). s next_offset) one.now))) (λ was. inr was) backed.1,
+)
+steady_join l g f f' durable left right Gone one backed = λ offset. backed offset ∙ sym (ap (λ (s : Spot). s offset) one.now)
+
+join_again : (l : Layout) (f : Facts) (durable : Spot) (left right : Grip) (seen dirty : List (ℕ × ℕ)) (hand : Option (ℕ × ℕ)) (pace : Pace)
+    → IsBackedJoin l f durable left right pace → IsBackedJoin l f durable (record left { seen = seen; dirty = dirty; hand = hand }) right pace
+join_again l f durable left right seen dirty hand Gathered backed = backed
+join_again l f durable left right seen dirty hand Joined backed = backed
+join_again l f durable left right seen dirty hand Gone backed = backed
+
+-- the grips with other words known and in hand
+left_again : (l : Layout) (f : Facts) (durable : Spot) (left fresh : Grip) (seen dirty seen' dirty' : List (ℕ × ℕ)) (hand hand' : Option (ℕ × ℕ)) (phase : Phase)
+    → IsBackedLeft l f durable left fresh phase
+    → IsBackedLeft l f durable (record left { seen = seen; dirty = dirty; hand = hand }) (record fresh { seen = seen'; dirty = dirty'; hand = hand' }) phase
+left_again l f durable left fresh seen dirty seen' dirty' hand hand' (Filling lit) backed = backed
+left_again l f durable left fresh seen dirty seen' dirty' hand hand' Linked backed = backed
+left_again l f durable left fresh seen dirty seen' dirty' hand hand' Parted backed = backed
+
+fresh_again : (f : Facts) (durable : Spot) (fresh : Grip) (seen dirty : List (ℕ × ℕ)) (hand : Option (ℕ × ℕ)) (phase : Phase)
+    → IsBackedFresh f durable fresh phase → IsBackedFresh f durable (record fresh { seen = seen; dirty = dirty; hand = hand }) phase
+fresh_again f durable fresh seen dirty hand (Filling lit) backed = backed
+fresh_again f durable fresh seen dirty hand Linked backed = backed
+fresh_again f durable fresh seen dirty hand Parted backed = backed
+
+-- a word that is drained is clean
+cleaned : (dirty after : List (ℕ × ℕ)) (offset : ℕ) (durable s : Spot) → Cleans dirty offset after → durable offset ≡ s offset → IsCleanBut dirty durable s → IsCleanBut after durable s
+cleaned dirty after offset durable s cleans drained clean other spared = ⊎_elim
+    (λ (same : other ≡ offset). subst (λ (o : ℕ). durable o ≡ s o) (sym same) drained)
+    (λ (apart : other ≡ offset → ⊥). clean other (λ among. ⊎_elim apart spared (cleans other among)))
+    (cases_eq other offset)
+
 -- the fact that a drain makes a word durable
+abbrev pub SplitDrained : {l : Layout} {g : ℕ} {s : Stage} {a : Action} {x : ℕ} {t : Stage} → Split l g s a x t → Facts → List ℕ → Type 0
+SplitDrained {l = l} (drains_left {offset = offset} {left = left} has small hand cleans) f words = durable_spot l words left.node offset ≡ f.now left.node offset
+SplitDrained {l = l} (drains_fresh {offset = offset} {fresh = fresh} has small hand cleans) f words = durable_spot l words fresh.node offset ≡ f.now fresh.node offset
+SplitDrained _ f words = Unit {0}
+
+abbrev pub MergeDrained : {l : Layout} {g : ℕ} {s : Stage} {a : Action} {x : ℕ} {t : Stage} → Merge l g s a x t → Facts → List ℕ → Type 0
+MergeDrained {l = l} (puts_down {n = n} {offset = offset} has small hand cleans) f words = durable_spot l words n offset ≡ f.now n offset
+MergeDrained {l = l} (drains_joined {offset = offset} {left = left} has small hand cleans) f words = durable_spot l words left.node offset ≡ f.now left.node offset
+MergeDrained _ f words = Unit {0}
+
 abbrev pub Drained : {l : Layout} {g : ℕ} {s : Stage} {a : Action} {x : ℕ} {t : Stage} {r : Option (Once Placed)} → Step l g s a x t r → Facts → List ℕ → Type 0
 Drained {l = l} (drains {n = n} {offset = offset} has small unready hand cleans) f words = durable_spot l words n offset ≡ f.now n offset
+Drained (splits k) f words = SplitDrained k f words
+Drained (merges k) f words = MergeDrained k f words
 Drained _ f words = Unit {0}
 
 module _ {l : Layout} {g : ℕ} (f : Facts) (words : List ℕ) (caller index since : ℕ) where
   -- a look that leaves what the node shows and which words are dirty
   look_backs : {s : Stage} {a : Action} {x : ℕ} {t : Stage} {r : Option (Once Placed)} → (k : Look l g s a x t r) → Sure l g f caller index since t → BacksStage l f words s → BacksStage l f words t
-  look_backs (turns_back here busy) after backed = tt
-  look_backs (is_worn here free worn) after backed = tt
-  look_backs (sees here free unworn lock) after backed = tt
+  look_backs (turns_back {s = s} loose here busy) after backed = tt
+  look_backs (wears {s = s} loose here free worn) after backed = tt
+  look_backs (roams has) after backed = tt
+  look_backs (roams_status here) after backed = tt
+  look_backs (is_worn has) after backed = tt
+  look_backs (sees {s = s} loose here free unworn lock) after backed = tt
+  look_backs (finds_live here is) after backed = tt
+  look_backs (watches has positive live next learnt) after backed = tt
+  look_backs (watches_next has low high ne live live' next leads learnt) after backed = tt
+  look_backs (turns_away {s = s} loose here up) after backed = tt
+  look_backs (steps_back {s = s} loose here up) after backed = tt
+  look_backs (wanders {s = s} loose here up) after backed = tt
+  look_backs (peeks here unready) after backed = backed
+  look_backs (peeks_status here unready) after backed = backed
+  look_backs (eyes clean durable here nonzero free unworn lock) after backed = backed
+  look_backs (eyes_free here is) after backed = backed
+  look_backs (passes here) after backed = backed
+  look_backs (loses here other) after backed = backed
   look_backs (misses other) after backed = tt
-  look_backs (times clean below) after backed = record { clean = backed.clean; mixes = backed.mixes }
-  look_backs (learns has positive unready learnt) after backed = record { clean = backed.clean; mixes = backed.mixes }
+  look_backs (times clean below) after backed = record { clean = backed.clean; fixed = backed.fixed; mixes = backed.mixes }
+  look_backs (learns has positive unready learnt) after backed = record { clean = backed.clean; fixed = backed.fixed; mixes = backed.mixes }
   look_backs (decides {n = n} {h = h} {k = k} {old = old} {pending = pending} {ready = ready} has positive clean durable about learnt decided) after backed =
       clean_backs l f (durable_spot l words n) n (record h { known = k; old = Some old; pending = pending; ready = ready })
       (none_dirty (durable_spot l words n) (f.now n) h.dirty durable backed.clean) after.means
-  look_backs (glances has unready) after backed = record { clean = backed.clean; mixes = backed.mixes }
+  look_backs (glances has unready) after backed = record { clean = backed.clean; fixed = backed.fixed; mixes = backed.mixes }
+
+  -- a step of a split
+  split_backs : {s : Stage} {a : Action} {x : ℕ} {t : Stage} → (k : Split l g s a x t) → Sure l g f caller index since s → Sure l g (split_after k f) caller index since t
+      → SplitDrained k f words → BacksStage l f words s → BacksStage l (split_after k f) words t
+  split_backs (fills {y = y} {offset = offset} {left = left} {fresh = fresh} {seen = seen} {dirty = dirty} has positive small within soils told) mine after drained backed =
+      let one : (with_word f fresh.node offset y).now left.node ≡ f.now left.node = set_else f.now fresh.node offset y left.node mine.apart in
+      let own : (with_word f fresh.node offset y).now fresh.node ≡ updated (f.now fresh.node) offset y = set_here f.now fresh.node offset y fresh.node refl in
+      record {
+        left_clean = λ other spared. backed.left_clean other spared ∙ sym (ap (λ (s : Spot). s other) one);
+        fresh_clean = λ other spared. backed.fresh_clean other (λ among. spared (soils.others other among))
+            ∙ sym (updated-other (f.now fresh.node) offset y other (λ same. spared (subst (IsAmong dirty) (sym same) soils.stored))) ∙ sym (ap (λ (s : Spot). s other) own);
+        left_backed = λ other. backed.left_backed other ∙ sym (ap (λ (s : Spot). s other) one);
+        fresh_backed = tt;
+      }
+  split_backs (lights here leads) mine after drained backed =
+      record { left_clean = backed.left_clean; fresh_clean = backed.fresh_clean; left_backed = backed.left_backed; fresh_backed = tt }
+  split_backs (switches {left = left} {fresh = fresh} {seen = seen} {dirty = dirty} here small all_durable soiled cut told means) mine after drained backed =
+      let own : (with_next f left.node fresh.node).now left.node ≡ updated (f.now left.node) next_offset fresh.node = set_here f.now left.node next_offset fresh.node left.node refl in
+      let new : (with_next f left.node fresh.node).now fresh.node ≡ f.now fresh.node = set_else f.now left.node next_offset fresh.node fresh.node (λ same. mine.apart (sym same)) in
+      let beside : (other : ℕ) → other ≢ next_offset → durable_spot l words left.node other ≡ (with_next f left.node fresh.node).now left.node other =
+      λ other apart. backed.left_backed other ∙ sym (updated-other (f.now left.node) next_offset fresh.node other apart) ∙ sym (ap (λ (s : Spot). s other) own) in
+      record {
+        left_clean = λ other spared. beside other (λ same. spared (subst (IsAmong dirty) (sym same) soiled));
+        fresh_clean = λ other spared. backed.fresh_clean other spared ∙ sym (ap (λ (s : Spot). s other) new);
+        left_backed = (beside, inr (backed.left_backed next_offset ∙ sym (cut_now l g f left fresh mine cut).leads ∙ sym (ap (λ (s : Spot). s next_offset) new)));
+        fresh_backed = λ other. none_dirty (durable_spot l words fresh.node) (f.now fresh.node) fresh.dirty all_durable backed.fresh_clean other ∙ sym (ap (λ (s : Spot). s other) new);
+      }
+  split_backs (glances_left {x = x} {offset = offset} {left = left} {fresh = fresh} {phase = phase} {seen = seen} has learnt) mine after drained backed = record {
+    left_clean = backed.left_clean;
+    fresh_clean = backed.fresh_clean;
+    left_backed = left_again l f (durable_spot l words left.node) left fresh seen left.dirty fresh.seen fresh.dirty (Some (offset, x)) fresh.hand phase backed.left_backed;
+    fresh_backed = backed.fresh_backed;
+  }
+  split_backs (glances_fresh {x = x} {offset = offset} {left = left} {fresh = fresh} {phase = phase} has) mine after drained backed = record {
+    left_clean = backed.left_clean;
+    fresh_clean = backed.fresh_clean;
+    left_backed = left_again l f (durable_spot l words left.node) left fresh left.seen left.dirty fresh.seen fresh.dirty left.hand (Some (offset, x)) phase backed.left_backed;
+    fresh_backed = fresh_again f (durable_spot l words fresh.node) fresh fresh.seen fresh.dirty (Some (offset, x)) phase backed.fresh_backed;
+  }
+  split_backs (drains_left {offset = offset} {left = left} {fresh = fresh} {phase = phase} {dirty = dirty} has small hand cleans) mine after drained backed = record {
+    left_clean = cleaned left.dirty dirty offset (durable_spot l words left.node) (f.now left.node) cleans drained backed.left_clean;
+    fresh_clean = backed.fresh_clean;
+    left_backed = left_again l f (durable_spot l words left.node) left fresh left.seen dirty fresh.seen fresh.dirty None fresh.hand phase backed.left_backed;
+    fresh_backed = backed.fresh_backed;
+  }
+  split_backs (drains_fresh {offset = offset} {left = left} {fresh = fresh} {phase = phase} {dirty = dirty} has small hand cleans) mine after drained backed = record {
+    left_clean = backed.left_clean;
+    fresh_clean = cleaned fresh.dirty dirty offset (durable_spot l words fresh.node) (f.now fresh.node) cleans drained backed.fresh_clean;
+    left_backed = left_again l f (durable_spot l words left.node) left fresh left.seen left.dirty fresh.seen dirty left.hand None phase backed.left_backed;
+    fresh_backed = fresh_again f (durable_spot l words fresh.node) fresh fresh.seen dirty None phase backed.fresh_backed;
+  }
+  split_backs (trims {y = y} {left = left} {fresh = fresh} {seen = seen} {dirty = dirty} here small all_durable soiled anchor told means) mine after drained backed =
+      let n = left.node in
+      let own : (with_word f n bitmap_offset y).now n ≡ updated (f.now n) bitmap_offset y = set_here f.now n bitmap_offset y n refl in
+      let new : (with_word f n bitmap_offset y).now fresh.node ≡ f.now fresh.node = set_else f.now n bitmap_offset y fresh.node (λ same. mine.apart (sym same)) in
+      let same = none_dirty (durable_spot l words n) (f.now n) left.dirty all_durable backed.left_clean in
+      let beside : (other : ℕ) → other ≢ bitmap_offset → durable_spot l words n other ≡ (with_word f n bitmap_offset y).now n other =
+      λ other apart. same other ∙ sym (updated-other (f.now n) bitmap_offset y other apart) ∙ sym (ap (λ (s : Spot). s other) own) in
+      record {
+        left_clean = λ other spared. beside other (λ e. spared (subst (IsAmong dirty) (sym e) soiled));
+        fresh_clean = λ other spared. backed.fresh_clean other spared ∙ sym (ap (λ (s : Spot). s other) new);
+        left_backed = (
+          beside,
+          λ mix is. ⊎_elim
+              (λ before. subst (λ (s : Spot). Means l.slots (range_of l f n) s (map_now f)) (sym before)
+              (means_less l.slots (λ name. range_of l f n name || range_of l f fresh.node name) (range_of l f n) (f.now n) (map_now f) (λ name inside. ap (λ b. b || range_of l f fresh.node name) inside) mine.at.means))
+              (λ stored_there. subst (λ (s : Spot). Means l.slots (range_of l f n) s (map_now f)) (own ∙ sym stored_there) after.at.settled_left.means)
+              (commit_mix l.slots (range_of l f n) (map_now f) (durable_spot l words n) (f.now n) (just_held []) bitmap_offset y same mix
+              (λ other. ⊎_elim (λ durably. inl durably) (λ cached. inr (cached ∙ ap (λ (s : Spot). s other) own)) (is other))),
+        );
+        fresh_backed = λ other. backed.fresh_backed other ∙ sym (ap (λ (s : Spot). s other) new);
+      }
+
+  -- a step of a merge
+  merge_backs : {s : Stage} {a : Action} {x : ℕ} {t : Stage} → (k : Merge l g s a x t) → MergeGave k f → Sure l g f caller index since s → Sure l g (merge_after k f) caller index since t
+      → MergeDrained k f words → AreDurable l g f words → BacksStage l f words s → BacksStage l (merge_after k f) words t
+  merge_backs (meets {n = n} {m = m} {v = v} {u = u} {h = h} here same untimed leads) e mine after drained durable backed = (
+    record { clean = backed.clean; fixed = backed.fixed; mixes = backed.mixes },
+    durable m here (subst (λ (z : ℕ). IsFree z g) (sym (sym e ∙ same)) mine.1.unlocked),
+  )
+  merge_backs (knows_own has positive learnt) e mine after drained durable backed = (record { clean = backed.0.clean; fixed = backed.0.fixed; mixes = backed.0.mixes }, backed.1)
+  merge_backs (knows_right has positive told) e mine after drained durable backed = (backed.0, backed.1)
+  merge_backs (copies {n = n} {w = w} {y = y} {offset = offset} {h = h} {right = right} {dirty = dirty} has content small soils learnt means) e mine after drained durable backed =
+      let pended_none : (mix : Spot) → IsMix (durable_spot l words n) (f.now n) mix → Means l.slots (range_of l f n) mix (map_now f) =
+      λ mix is. ⊎_elim (λ was. was) (λ shows. subst (λ (p : Option Change). Means l.slots (range_of l f n) mix (pended p (map_now f))) mine.1.still.pending shows) (backed.0.mixes mix is) in (
+        record {
+          clean = λ other spared. backed.0.clean other (λ among. spared (soils.others other among))
+              ∙ sym (updated-other (f.now n) offset y other (λ same. spared (subst (IsAmong dirty) (sym same) soils.stored))) ∙ sym (ap (λ (s : Spot). s other) (stored f n offset y));
+          fixed = λ other low high. backed.0.fixed other low high
+              ∙ sym (updated-other (f.now n) offset y other (content_fixed offset other content low high)) ∙ sym (ap (λ (s : Spot). s other) (stored f n offset y));
+          mixes = λ mix is. inl (store_mixes l.slots (range_of l f n) (map_now f) (durable_spot l words n) (f.now n) h offset y backed.0.clean pended_none mine.0.knows
+              (λ t knows was. means (range_of l f n) t (map_now f) knows was) mix
+              (λ other. ⊎_elim (λ durably. inl durably) (λ cached. inr (cached ∙ ap (λ (s : Spot). s other) (stored f n offset y))) (is other)));
+        },
+        λ other. backed.1 other ∙ sym (ap (λ (s : Spot). s other) (set_else f.now n offset y right.node (λ d. mine.1.apart (sym d)))),
+      )
+  merge_backs (takes_up has) e mine after drained durable backed = (record { clean = backed.0.clean; fixed = backed.0.fixed; mixes = backed.0.mixes }, backed.1)
+  merge_backs (puts_down {n = n} {offset = offset} {h = h} {dirty = dirty} has small hand cleans) e mine after drained durable backed = (
+    record { clean = cleaned h.dirty dirty offset (durable_spot l words n) (f.now n) cleans drained backed.0.clean; fixed = backed.0.fixed; mixes = backed.0.mixes },
+    backed.1,
+  )
+  merge_backs (parts {n = n} {h = h} next) e mine after drained durable backed = record { clean = backed.0.clean; fixed = backed.0.fixed; mixes = backed.0.mixes }
+  merge_backs (gathers {n = n} {w = w} {y = y} {h = h} {right = right} {seen = seen} {dirty = dirty} small all_durable soiled told gathered) e mine after drained durable backed =
+      let φ = with_word f n bitmap_offset y in
+      let own : φ.now n ≡ updated (f.now n) bitmap_offset y = set_here f.now n bitmap_offset y n refl in
+      let new : φ.now right.node ≡ f.now right.node = set_else f.now n bitmap_offset y right.node (λ d. mine.1.apart (sym d)) in
+      let same = none_dirty (durable_spot l words n) (f.now n) h.dirty all_durable backed.0.clean in
+      let beside : (other : ℕ) → other ≢ bitmap_offset → durable_spot l words n other ≡ φ.now n other =
+      λ other apart. same other ∙ sym (updated-other (f.now n) bitmap_offset y other apart) ∙ sym (ap (λ (s : Spot). s other) own) in
+      record {
+        left_clean = λ other spared. beside other (λ d. spared (subst (IsAmong dirty) (sym d) soiled));
+        right_backed = λ other. backed.1 other ∙ sym (ap (λ (s : Spot). s other) new);
+        left_backed = (
+          beside,
+          λ mix is. ⊎_elim
+              (λ before. subst (λ (s : Spot). Means l.slots (range_of l f n) s (map_now f)) (sym before) (clean_means f caller index since n w h mine.0 mine.1.still.pending))
+              (λ stored_there. subst (λ (s : Spot). Means l.slots (range_of l f n) s (map_now f)) (own ∙ sym stored_there)
+              (means_less l.slots (λ name. range_of l f n name || range_of l f right.node name) (range_of l f n) (φ.now n) (map_now f)
+              (λ name inside. ap (λ b. b || range_of l f right.node name) inside) after.at.linked.means))
+              (commit_mix l.slots (range_of l f n) (map_now f) (durable_spot l words n) (f.now n) (just_held []) bitmap_offset y same mix
+              (λ other. ⊎_elim (λ durably. inl durably) (λ cached. inr (cached ∙ ap (λ (s : Spot). s other) own)) (is other))),
+        );
+      }
+  merge_backs (joins {y = y} {left = left} {right = right} {seen = seen} {dirty = dirty} small all_durable soiled next told) e mine after drained durable backed =
+      let n = left.node in
+      let φ = with_past f n y right.node in
+      let own : φ.now n ≡ updated (f.now n) next_offset y = set_here f.now n next_offset y n refl in
+      let new : φ.now right.node ≡ f.now right.node = set_else f.now n next_offset y right.node (λ d. mine.apart (sym d)) in
+      let same = none_dirty (durable_spot l words n) (f.now n) left.dirty all_durable backed.left_clean in
+      let beside : (other : ℕ) → other ≢ next_offset → durable_spot l words n other ≡ φ.now n other =
+      λ other apart. same other ∙ sym (updated-other (f.now n) next_offset y other apart) ∙ sym (ap (λ (s : Spot). s other) own) in
+      record {
+        left_clean = λ other spared. beside other (λ d. spared (subst (IsAmong dirty) (sym d) soiled));
+        right_backed = λ other. backed.right_backed other ∙ sym (ap (λ (s : Spot). s other) new);
+        left_backed = (beside, inr (same next_offset ∙ mine.at.linked.leads));
+      }
+  merge_backs (glances_joined {x = x} {offset = offset} {left = left} {right = right} {pace = pace} {seen = seen} has learnt) e mine after drained durable backed = record {
+    left_clean = backed.left_clean;
+    right_backed = backed.right_backed;
+    left_backed = join_again l f (durable_spot l words left.node) left right seen left.dirty (Some (offset, x)) pace backed.left_backed;
+  }
+  merge_backs (drains_joined {offset = offset} {left = left} {right = right} {pace = pace} {dirty = dirty} has small hand cleans) e mine after drained durable backed = record {
+    left_clean = cleaned left.dirty dirty offset (durable_spot l words left.node) (f.now left.node) cleans drained backed.left_clean;
+    right_backed = backed.right_backed;
+    left_backed = join_again l f (durable_spot l words left.node) left right left.seen dirty None pace backed.left_backed;
+  }
+  merge_backs (retires {left = left} all_durable) e mine after drained durable backed = record {
+    left_clean = backed.left_clean;
+    right_backed = backed.right_backed;
+    left_backed = none_dirty (durable_spot l words left.node) (f.now left.node) left.dirty all_durable backed.left_clean;
+  }
+  merge_backs (yields {freed = freed} {h = h} {left = left} {right = right} next all_durable) e mine after drained durable backed =
+      clean_backs l (with_version f right.node freed) (durable_spot l words left.node) left.node (merged_held h)
+      (none_dirty (durable_spot l words left.node) (f.now left.node) left.dirty all_durable backed.left_clean) after.means
 
   -- a call's own step
   pub backs_mine : {s : Stage} {a : Action} {x : ℕ} {t : Stage} {r : Option (Once Placed)} → (k : Step l g s a x t r) → Gives k f → Sure l g f caller index since s
       → Sure l g (fact_after k f caller index) caller index since t → Drained k f words → AreDurable l g f words → BacksStage l f words s → BacksStage l (fact_after k f caller index) words t
   backs_mine (looks look) e mine after drained durable backed = look_backs look after backed
-  backs_mine (locks {n = n} {v = v} {w = w} {name = name} same named) e mine after drained durable backed =
+  backs_mine (locks {n = n} {v = v} {w = w} {name = name} same named live between) e mine after drained durable backed =
       clean_backs l (with_version f n w) (durable_spot l words n) n (just_held name) (durable n mine.here (subst (λ (u : ℕ). IsFree u g) (sym (sym e ∙ same)) mine.free)) after.means
-  backs_mine (stores {n = n} {w = w} {y = y} {offset = offset} {h = h} {dirty = dirty} has positive small clean soils learnt means) e mine after drained durable backed =
+  backs_mine (stores {n = n} {w = w} {y = y} {offset = offset} {h = h} {dirty = dirty} has content small clean soils learnt means) e mine after drained durable backed =
       let pended_none : (mix : Spot) → IsMix (durable_spot l words n) (f.now n) mix → Means l.slots (range_of l f n) mix (map_now f) =
       λ mix is. ⊎_elim (λ was. was) (λ shows. subst (λ (p : Option Change). Means l.slots (range_of l f n) mix (pended p (map_now f))) clean.pending shows) (backed.mixes mix is) in
       record {
         clean = λ other spared. backed.clean other (λ among. spared (soils.others other among))
             ∙ sym (updated-other (f.now n) offset y other (λ same. spared (subst (IsAmong dirty) (sym same) soils.stored))) ∙ sym (ap (λ (s : Spot). s other) (stored f n offset y));
+        fixed = λ other low high. backed.fixed other low high
+            ∙ sym (updated-other (f.now n) offset y other (content_fixed offset other content low high)) ∙ sym (ap (λ (s : Spot). s other) (stored f n offset y));
         mixes = λ mix is. inl (store_mixes l.slots (range_of l f n) (map_now f) (durable_spot l words n) (f.now n) h offset y backed.clean pended_none mine.knows
             (λ t knows was. means (range_of l f n) t (map_now f) knows was) mix
             (λ other. ⊎_elim (λ durably. inl durably) (λ cached. inr (cached ∙ ap (λ (s : Spot). s other) (stored f n offset y))) (is other)));
       }
-  backs_mine (commits {n = n} {w = w} {y = y} {offset = offset} {h = h} {dirty = dirty} {c = c} has positive small clean all_durable soiled old about learnt means) e mine after drained durable backed =
+  backs_mine (commits {n = n} {w = w} {y = y} {offset = offset} {h = h} {dirty = dirty} {c = c} has content small clean all_durable soiled old about learnt means) e mine after drained durable backed =
       let same = none_dirty (durable_spot l words n) (f.now n) h.dirty all_durable backed.clean in
       record {
         clean = λ other spared. same other
             ∙ sym (updated-other (f.now n) offset y other (λ alike. spared (subst (IsAmong dirty) (sym alike) soiled))) ∙ sym (ap (λ (s : Spot). s other) (stored f n offset y));
+        fixed = λ other low high. same other
+            ∙ sym (updated-other (f.now n) offset y other (content_fixed offset other content low high)) ∙ sym (ap (λ (s : Spot). s other) (stored f n offset y));
         mixes = λ mix is. ⊎_elim
             (λ before. inl (subst (λ (s : Spot). Means l.slots (range_of l f n) s (map_now f)) (sym before) (clean_means f caller index since n w h mine clean.pending)))
             (λ stored_there. inr (subst (λ (s : Spot). Means l.slots (range_of l f n) s (changed (map_now f) c)) (stored f n offset y ∙ sym stored_there) after.means))
@@ -185,44 +452,108 @@ module _ {l : Layout} {g : ℕ} (f : Facts) (words : List ℕ) (caller index sin
         (λ (same : other ≡ offset). subst (λ (o : ℕ). durable_spot l words n o ≡ f.now n o) (sym same) drained)
         (λ (apart : other ≡ offset → ⊥). backed.clean other (λ among. ⊎_elim apart spared (cleans other among)))
         (cases_eq other offset);
+    fixed = backed.fixed;
     mixes = backed.mixes;
   }
   backs_mine (counts {n = n} {x = x} {h = h} {c = c} all_durable ready pending unplaced) e mine after drained durable backed =
       clean_backs l (with_writes f ((record { caller = caller; index = index; change = c }) ∷ [])) (durable_spot l words n) n
       (record h { time = None; pending = None; ready = false; placed = Some x }) (none_dirty (durable_spot l words n) (f.now n) h.dirty all_durable backed.clean) after.means
   backs_mine (unlocks next pending all_durable unready answers) e mine after drained durable backed = tt
+  backs_mine (claims {n = n} {m = m} {v = v} {u = u} {h = h} unplaced here same) e mine after drained durable backed =
+      let free : IsFree (f.version m) g = subst (λ (z : ℕ). IsFree z g) (sym (sym e ∙ same)) mine.1.unlocked in
+      record {
+        left_clean = λ offset spared. none_dirty (durable_spot l words n) (f.now n) h.dirty mine.1.durable backed.clean offset;
+        fresh_clean = λ offset spared. durable m here free offset;
+        left_backed = none_dirty (durable_spot l words n) (f.now n) h.dirty mine.1.durable backed.clean;
+        fresh_backed = tt;
+      }
+  backs_mine (publishes {left = left} next left_durable all_durable) e mine after drained durable backed =
+      none_dirty (durable_spot l words left.node) (f.now left.node) left.dirty left_durable backed.left_clean
+  backs_mine (leaves next) e mine after drained durable backed = tt
+  backs_mine (splits k) e mine after drained durable backed = split_backs k mine after drained backed
+  backs_mine (merges k) e mine after drained durable backed = merge_backs k e mine after drained durable backed
 
   -- the other parties' calls
-  pub backs_others : {s : Stage} {a : Action} {x : ℕ} {t : Stage} {r : Option (Once Placed)} → (k : Step l g s a x t r) → Gives k f → Sure l g f caller index since s
+  pub backs_others : {s : Stage} {a : Action} {x : ℕ} {t : Stage} {r : Option (Once Placed)} → (k : Step l g s a x t r) → Gives k f → IsList l f → Sure l g f caller index since s
       → (caller' index' since' : ℕ) (u : Stage) → ((n : ℕ) → HoldsNode s n → HoldsNode u n → ⊥) → Sure l g f caller' index' since' u
       → BacksStage l f words u → BacksStage l (fact_after k f caller index) words u
-  backs_others k e mine caller' index' since' Idle apart knows backed = tt
-  backs_others k e mine caller' index' since' (Saw n v w) apart knows backed = tt
-  backs_others k e mine caller' index' since' (Holds n w h) apart knows backed =
+  backs_others k e list mine caller' index' since' Idle apart knows backed = tt
+  backs_others k e list mine caller' index' since' (Saw n v w z) apart knows backed = tt
+  backs_others k e list mine caller' index' since' (Wears n v) apart knows backed = tt
+  backs_others k e list mine caller' index' since' (Holds n w h) apart knows backed =
       steady_backs l g f (fact_after k f caller index) (goes_on f caller index since k) (durable_spot l words n) n h
-      (steadies f caller index since k e mine caller' index' since' (Holds n w h) apart knows n refl) backed
+      (steadies f caller index since k e list mine caller' index' since' (Holds n w h) apart knows n refl) backed
+  backs_others k e list mine caller' index' since' (Eyes n w h m v u free) apart knows backed =
+      steady_backs l g f (fact_after k f caller index) (goes_on f caller index since k) (durable_spot l words n) n h
+      (steadies f caller index since k e list mine caller' index' since' (Eyes n w h m v u free) apart knows n refl) backed
+  backs_others k e list mine caller' index' since' (Leaves left) apart knows backed =
+      let steady = steadies f caller index since k e list mine caller' index' since' (Leaves left) apart knows left.node refl in
+      λ offset. backed offset ∙ sym (ap (λ (s : Spot). s offset) steady.now)
+  backs_others k e list mine caller' index' since' (Meets n w h right) apart knows backed =
+      let other = steadies f caller index since k e list mine caller' index' since' (Meets n w h right) apart knows right.node (inr refl) in (
+        steady_backs l g f (fact_after k f caller index) (goes_on f caller index since k) (durable_spot l words n) n h
+            (steadies f caller index since k e list mine caller' index' since' (Meets n w h right) apart knows n (inl refl)) backed.0,
+        λ offset. backed.1 offset ∙ sym (ap (λ (s : Spot). s offset) other.now),
+      )
+  backs_others k e list mine caller' index' since' (Joins h left right pace) apart knows backed =
+      let one = steadies f caller index since k e list mine caller' index' since' (Joins h left right pace) apart knows left.node (inl refl) in
+      let other = steadies f caller index since k e list mine caller' index' since' (Joins h left right pace) apart knows right.node (inr refl) in
+      record {
+        left_clean = λ offset spared. backed.left_clean offset spared ∙ sym (ap (λ (s : Spot). s offset) one.now);
+        right_backed = λ offset. backed.right_backed offset ∙ sym (ap (λ (s : Spot). s offset) other.now);
+        left_backed = steady_join l g f (fact_after k f caller index) (durable_spot l words left.node) left right pace one backed.left_backed;
+      }
+  backs_others k e list mine caller' index' since' (Splits left fresh phase) apart knows backed =
+      steady_split l g f (fact_after k f caller index) (goes_on f caller index since k) words left fresh phase
+      (steadies f caller index since k e list mine caller' index' since' (Splits left fresh phase) apart knows left.node (inl refl))
+      (steadies f caller index since k e list mine caller' index' since' (Splits left fresh phase) apart knows fresh.node (inr refl)) backed
 
-  -- a free node other than the one whose word is stored
-  stored_beside : (n w : ℕ) (h : Held) (offset y : ℕ) → Sure l g f caller index since (Holds n w h) → AreDurable l g f words → AreDurable l g (with_word f n offset y) words
-  stored_beside n w h offset y mine durable m here free other =
-      durable m here free other
-      ∙ sym (ap (λ (s : Spot). s other) (ap (λ (b : Bool). cond b (updated (f.now n) offset y) (f.now m)) (ne_eqb m n (apart_from f caller index since n w h mine m free))))
+  merge_given : {s : Stage} {a : Action} {x : ℕ} {t : Stage} → (k : Merge l g s a x t) → BacksStage l f words s
+      → (m : ℕ) → HoldsNode s m → (HoldsNode t m → ⊥) → (offset : ℕ) → durable_spot l words m offset ≡ (merge_after k f).now m offset
+  merge_given (meets here same untimed leads) backed m held gone offset = absurd (gone (inl held))
+  merge_given (knows_own has positive learnt) backed m held gone offset = absurd (gone held)
+  merge_given (knows_right has positive told) backed m held gone offset = absurd (gone held)
+  merge_given (copies has content small soils learnt means) backed m held gone offset = absurd (gone held)
+  merge_given (takes_up has) backed m held gone offset = absurd (gone held)
+  merge_given (puts_down has small hand cleans) backed m held gone offset = absurd (gone held)
+  merge_given (parts next) backed m (inl held) gone offset = absurd (gone held)
+  merge_given (parts {right = right} next) backed m (inr held) gone offset = subst (λ (k : ℕ). durable_spot l words k offset ≡ f.now k offset) held (backed.1 offset)
+  merge_given (gathers small durable soiled told gathered) backed m held gone offset = absurd (gone held)
+  merge_given (joins small durable soiled next told) backed m held gone offset = absurd (gone held)
+  merge_given (glances_joined has learnt) backed m held gone offset = absurd (gone held)
+  merge_given (drains_joined has small hand cleans) backed m held gone offset = absurd (gone held)
+  merge_given (retires durable) backed m held gone offset = absurd (gone held)
+  merge_given (yields next durable) backed m (inl held) gone offset = absurd (gone held)
+  merge_given (yields {right = right} next durable) backed m (inr held) gone offset = subst (λ (k : ℕ). durable_spot l words k offset ≡ f.now k offset) held (backed.right_backed offset)
+
+  -- a node that is given back is durable
+  given_durable : {s : Stage} {a : Action} {x : ℕ} {t : Stage} {r : Option (Once Placed)} → (k : Step l g s a x t r) → BacksStage l f words s
+      → (m : ℕ) → HoldsNode s m → (HoldsNode t m → ⊥) → (offset : ℕ) → durable_spot l words m offset ≡ (fact_after k f caller index).now m offset
+  given_durable (looks look) backed m held gone offset = absurd (gone (look_freed f caller index since look m held))
+  given_durable (locks same named live between) backed m held gone offset = absurd held
+  given_durable (stores has content small clean soils learnt means) backed m held gone offset = absurd (gone held)
+  given_durable (commits has content small clean all_durable soiled old about learnt means) backed m held gone offset = absurd (gone held)
+  given_durable (drains has small unready hand cleans) backed m held gone offset = absurd (gone held)
+  given_durable (counts all_durable ready pending unplaced) backed m held gone offset = absurd (gone held)
+  given_durable (unlocks {n = n} {h = h} next pending all_durable unready answers) backed m held gone offset =
+      subst (λ (k : ℕ). durable_spot l words k offset ≡ f.now k offset) held (none_dirty (durable_spot l words n) (f.now n) h.dirty all_durable backed.clean offset)
+  given_durable (claims unplaced here same) backed m held gone offset = absurd (gone (inl held))
+  given_durable (publishes next left fresh) backed m (inl held) gone offset = absurd (gone held)
+  given_durable (publishes {fresh = fresh} next left fresh') backed m (inr held) gone offset =
+      subst (λ (k : ℕ). durable_spot l words k offset ≡ f.now k offset) held (backed.fresh_backed offset)
+  given_durable (leaves {left = left} next) backed m held gone offset = subst (λ (k : ℕ). durable_spot l words k offset ≡ f.now k offset) held (backed offset)
+  given_durable (merges k) backed m held gone offset = merge_given k backed m held gone offset
+  given_durable (splits k) backed m held gone offset = absurd (gone (split_freed f caller index since k m held))
 
   -- the free nodes
-  pub free_backs : {s : Stage} {a : Action} {x : ℕ} {t : Stage} {r : Option (Once Placed)} → (k : Step l g s a x t r) → Sure l g f caller index since s
-      → AreDurable l g f words → BacksStage l f words s → AreDurable l g (fact_after k f caller index) words
-  free_backs (looks look) mine durable backed m here free other = durable m here free other
-  free_backs (locks {n = n} {v = v} {w = w} same named) mine durable backed m here free other = ⊎_elim
-      (λ (alike : m ≡ n). absurd (unfree w g (own_lock v w g mine.known mine.unworn mine.lock) (subst (λ (u : ℕ). IsFree u g) (version_there f n w m alike) free)))
-      (λ (apart : m ≡ n → ⊥). durable m here (subst (λ (u : ℕ). IsFree u g) (version_else f n w m apart) free) other)
-      (cases_eq m n)
-  free_backs (stores {n = n} {w = w} {y = y} {offset = offset} {h = h} has positive small clean soils learnt means) mine durable backed m here free other =
-      stored_beside n w h offset y mine durable m here free other
-  free_backs (commits {n = n} {w = w} {y = y} {offset = offset} {h = h} has positive small clean all_durable soiled old about learnt means) mine durable backed m here free other =
-      stored_beside n w h offset y mine durable m here free other
-  free_backs (drains has small unready hand cleans) mine durable backed m here free other = durable m here free other
-  free_backs (counts all_durable ready pending unplaced) mine durable backed m here free other = durable m here free other
-  free_backs (unlocks {n = n} {f = freed} {h = h} next pending all_durable unready answers) mine durable backed m here free other = ⊎_elim
-      (λ (alike : m ≡ n). subst (λ (k : ℕ). durable_spot l words k other ≡ f.now k other) (sym alike) (none_dirty (durable_spot l words n) (f.now n) h.dirty all_durable backed.clean other))
-      (λ (apart : m ≡ n → ⊥). durable m here (subst (λ (u : ℕ). IsFree u g) (version_else f n freed m apart) free) other)
-      (cases_eq m n)
+  pub free_backs : {s : Stage} {a : Action} {x : ℕ} {t : Stage} {r : Option (Once Placed)} → (k : Step l g s a x t r) → IsList l f → Sure l g f caller index since s
+      → Sure l g (fact_after k f caller index) caller index since t → AreDurable l g f words → BacksStage l f words s → AreDurable l g (fact_after k f caller index) words
+  free_backs {s = s} {t = t} k list mine after durable backed m here free offset = ⊎_elim
+      (λ (held : HoldsNode t m). absurd (unfree ((fact_after k f caller index).version m) g (own_of l g (fact_after k f caller index) caller index since t m held after) free))
+      (λ (gone : HoldsNode t m → ⊥). ⊎_elim
+      (λ (held : HoldsNode s m). given_durable k backed m held gone offset)
+      (λ (never : HoldsNode s m → ⊥).
+      let steady = steady_else f caller index since k list mine m never gone in
+      durable m here (subst (λ (v : ℕ). IsFree v g) steady.version free) offset ∙ sym (ap (λ (s : Spot). s offset) steady.now))
+      (holds_or s m))
+      (holds_or t m)

@@ -1,6 +1,6 @@
 -- What a party relies on stays where the words of its node, and the map on its range, stay.
-use Rattle.std.proofs.Common.{◌≡◌, ◌≢◌, ℕ, ◌<◌, ◌≤◌, Bool, true, false, cond, List, [], ◌∷◌, ◌++◌, length, refl, sym, ap, ◌∙◌, subst, arith}
-use Rattle.std.specs.Prelude.{◌==◌, if◌then◌else◌, slice_get, Option, Some, None, IfSome}
+use Rattle.std.proofs.Common.{◌≡◌, ◌≢◌, ℕ, ◌<◌, ◌≤◌, inl, inr, Bool, true, false, cond, List, [], ◌∷◌, ◌++◌, length, refl, sym, ap, ◌∙◌, subst, arith}
+use Rattle.std.specs.Prelude.{◌==◌, ◌||◌, if◌then◌else◌, slice_get, Option, Some, None, IfSome}
 use Rattle.std.proofs.lemmas.Bool.{eqb-true, ne_eqb}
 use Rattle.std.proofs.lemmas.List.{append-nil, length-append}
 use Rattle.pm_words.specs.declared.layout.Layout.{Layout}
@@ -10,11 +10,19 @@ use Rattle.cat_history.proofs.ChangeLemmas.{at-changed_other}
 use Rattle.cat_history.specs.declared.op.Change.{Change}
 use Rattle.cat_history.specs.declared.op.Write.{Write}
 use Rattle.data_node.specs.Spots.{Spot, Means, updated}
-use Rattle.call_stages.specs.Stages.{Knows, Held, Stage, Idle, Saw, Holds, pended}
-use Rattle.index_law.specs.Facts.{Facts, map_now, range_of, cached_word}
-use Rattle.index_law.specs.Lawful.{HoldsNode, IsTime, HasWriteAt, IsPlaced, map_before, SureHolds, Sure}
+use Rattle.std.specs.List.{AllByRecursion}
+use Rattle.version_lock.specs.Versions.{IsFree, IsWorn}
+use Rattle.data_node.specs.Lists.{next_offset, StaysIn}
+use Rattle.call_stages.specs.Stages.{Knows, Held, Sight, Grip, Tells, Phase, Filling, Linked, Parted, Pace, Gathered, Joined, Gone, Stage, Idle, Saw, Wears, Holds, Eyes, Splits, Leaves, Meets, Joins, pended}
+use Rattle.index_law.specs.Facts.{Facts, map_now, range_of, cached_word, IsListed}
+use Rattle.index_law.specs.Lawful.{HoldsNode, IsTime, HasWriteAt, IsPlaced, map_before, IsSettled, IsAsked, Stands, SureHolds, SureGrip, IsAtPhase, IsList, SureCounted, IsAtPace, Sure}
+use Rattle.index_law.proofs.Switch.{one_range, leads_on}
+use Rattle.index_law.proofs.Stays.{both_true}
+use Rattle.call_stages.specs.Kinds.{from_key}
+use Rattle.data_node.specs.Lists.{anchor_in}
+use Rattle.data_node.specs.Weights.{names_in}
 use Rattle.index_law.proofs.Maps.{at-changed_alike, after_all-push, after-longer, slice_get-longer, means_alike}
-use Rattle.index_law.proofs.Rows.{with_version, with_word, with_writes}
+use Rattle.index_law.proofs.Rows.{with_version, with_status, with_word, with_writes}
 
 -- what holds of what is there holds of it in another way
 pub if_some : {A : Type 0} (P Q : A → Type 0) (o : Option A) → ((a : A) → P a → Q a) → IfSome o P → IfSome o Q
@@ -32,6 +40,25 @@ pub record IsSteady (l : Layout) (f f' : Facts) (n : ℕ) : Type 0 where
   pub version : f'.version n ≡ f.version n
   pub now : f'.now n ≡ f.now n
   pub map : (name : List ℕ) → range_of l f n name ≡ true → at (map_now f') name ≡ at (map_now f) name
+  pub range : range_of l f' n ≡ range_of l f n
+  pub listed : IsListed f n → IsListed f' n
+  pub unlisted : IsListed f' n → IsListed f n
+  pub status : f'.status n ≡ f.status n
+
+-- No version word falls, what a free node's watchers rely on stays where its version word does, and so do the anchors of
+-- listed nodes and that a node leads to one of the layout's.
+pub record IsCalm (l : Layout) (g : ℕ) (f f' : Facts) : Type 0 where
+  pub rises : (n : ℕ) → n < l.nodes → f.version n ≤ f'.version n
+  pub steady : (n : ℕ) → n < l.nodes → IsFree (f.version n) g → f'.version n ≡ f.version n → IsSteady l f f' n
+  pub anchors : (n : ℕ) → IsListed f n → (offset : ℕ) → 3 ≤ offset → offset ≤ 5 → f'.now n offset ≡ f.now n offset
+  pub leads : (n : ℕ) → f.now n next_offset < l.nodes → f'.now n next_offset < l.nodes
+  pub worn : (n : ℕ) → n < l.nodes → IsFree (f.version n) g → IsWorn (f.version n) g → f'.version n ≡ f.version n
+
+-- what is seen of the next node's anchor
+beyond_kept : (t t' : Spot) (seen : List (ℕ × ℕ)) → ((offset : ℕ) → 3 ≤ offset → offset ≤ 5 → t' offset ≡ t offset)
+    → AllByRecursion (λ (w : ℕ × ℕ). (3 ≤ w.0) × (w.0 ≤ 5) × (t w.0 ≡ w.1)) seen → AllByRecursion (λ (w : ℕ × ℕ). (3 ≤ w.0) × (w.0 ≤ 5) × (t' w.0 ≡ w.1)) seen
+beyond_kept t t' [] same all = tt
+beyond_kept t t' (w ∷ seen) same all = ((all.0.0, all.0.1, same w.0 all.0.0 all.0.1 ∙ all.0.2), beyond_kept t t' seen same all.1)
 
 module _ (l : Layout) (g : ℕ) (f f' : Facts) (later : IsLater f f') where
   longer : length f.history ≤ length f'.history
@@ -57,12 +84,12 @@ module _ (l : Layout) (g : ℕ) (f f' : Facts) (later : IsLater f f') where
 
   module _ (n : ℕ) (steady : IsSteady l f f' n) where
     time_kept : (since : ℕ) (limit : Option ℕ) (clock : ℕ) → IsTime (range_of l f n) f.base f.history since limit clock → IsTime (range_of l f' n) f'.base f'.history since limit clock
-    time_kept since limit clock time = record {
+    time_kept since limit clock time = subst (λ (r : List ℕ → Bool). IsTime r f'.base f'.history since limit clock) (sym steady.range) (record {
       later = time.later;
       within = let within = time.within in let longer' = longer in omega arith;
       below = time.below;
       same = λ name inside. ap (λ (m : Map). at m name) (after_kept clock time.within) ∙ time.same name inside ∙ sym (steady.map name inside);
-    }
+    })
 
     old_kept : (caller index since : ℕ) (name : List ℕ) → range_of l f n name ≡ true → (placed : Option ℕ) → IfSome placed (IsPlaced f.history caller index since name)
         → at (map_before f' placed) name ≡ at (map_before f placed) name
@@ -74,20 +101,41 @@ module _ (l : Layout) (g : ℕ) (f f' : Facts) (later : IsLater f f') where
     pended_alike (Some c) name inside = at-changed_alike (map_now f) (map_now f') c name (steady.map name inside)
 
     means_kept : (slots : ℕ) (pending : Option Change) → Means slots (range_of l f n) (f.now n) (pended pending (map_now f)) → Means slots (range_of l f' n) (f'.now n) (pended pending (map_now f'))
-    means_kept slots pending means = subst (λ (s : Spot). Means slots (range_of l f' n) s (pended pending (map_now f'))) (sym steady.now)
-        (means_alike slots (range_of l f n) (f.now n) (pended pending (map_now f)) (pended pending (map_now f')) (pended_alike pending) means)
+    means_kept slots pending means = subst (λ (r : List ℕ → Bool). Means slots r (f'.now n) (pended pending (map_now f'))) (sym steady.range)
+        (subst (λ (s : Spot). Means slots (range_of l f n) s (pended pending (map_now f'))) (sym steady.now)
+        (means_alike slots (range_of l f n) (f.now n) (pended pending (map_now f)) (pended pending (map_now f')) (pended_alike pending) means))
 
-    holds_kept : (caller index since w : ℕ) (h : Held) → SureHolds l g f caller index since n w h → SureHolds l g f' caller index since n w h
+    stays_kept : StaysIn l.slots (range_of l f n) (f.now n) → StaysIn l.slots (range_of l f' n) (f'.now n)
+    stays_kept stays = (λ (r : List ℕ → Bool) (s : Spot) (is : range_of l f n ≡ r) (same : f.now n ≡ s). subst (λ q. StaysIn l.slots q s) is (subst (StaysIn l.slots (range_of l f n)) same stays))
+        (range_of l f' n) (f'.now n) (sym steady.range) (sym steady.now)
+
+    pub settled_kept : IsSettled l f n → IsSettled l f' n
+    settled_kept settled = record { means = means_kept l.slots None settled.means; stays = stays_kept settled.stays }
+
+    -- what a call that is counted needs to answer
+    pub counted_kept : (caller index since : ℕ) (h : Held) → SureCounted l f caller index since n h → SureCounted l f' caller index since n h
+    counted_kept caller index since h knows = record {
+      unmerged = knows.unmerged;
+      named = knows.named;
+      inside = (λ i. steady.range i h.name) ∙ knows.inside;
+      below = knows.below;
+      old = if_some (λ old. at (map_before f h.placed) h.name ≡ old) (λ old. at (map_before f' h.placed) h.name ≡ old) h.old
+          (λ old was. old_kept caller index since h.name knows.inside h.placed knows.placed ∙ was) knows.old;
+      placed = if_some (IsPlaced f.history caller index since h.name) (IsPlaced f'.history caller index since h.name) h.placed (placed_kept caller index since h.name) knows.placed;
+    }
+
+    pub holds_kept : (caller index since w : ℕ) (h : Held) → SureHolds l g f caller index since n w h → SureHolds l g f' caller index since n w h
     holds_kept caller index since w h knows = record {
       here = knows.here;
       stands = steady.version ∙ knows.stands;
       lock = knows.lock;
       named = knows.named;
-      inside = knows.inside;
+      inside = (λ i. steady.range i h.name) ∙ knows.inside;
       knows = subst (Knows h.name h.known) (sym steady.now) knows.knows;
       hand = if_some (λ hand. cached_word f n hand.0 ≡ hand.1) (λ hand. cached_word f' n hand.0 ≡ hand.1) h.hand
           (λ hand is. (λ k. if hand.0 == 0 then steady.version k else steady.now k hand.0) ∙ is) knows.hand;
       means = means_kept l.slots h.pending knows.means;
+      stays = stays_kept knows.stays;
       about = knows.about;
       shown = knows.shown;
       below = knows.below;
@@ -97,23 +145,205 @@ module _ (l : Layout) (g : ℕ) (f f' : Facts) (later : IsLater f f') where
       placed = if_some (IsPlaced f.history caller index since h.name) (IsPlaced f'.history caller index since h.name) h.placed (placed_kept caller index since h.name) knows.placed;
     }
 
-  -- a party keeps what it knows where no version falls, and the nodes that it holds are steady
-  pub keeps : (caller index since : ℕ) (u : Stage) → ((n : ℕ) → n < l.nodes → f.version n ≤ f'.version n) → ((n : ℕ) → HoldsNode u n → IsSteady l f f' n)
+  pub grip_kept : (k : Grip) → IsSteady l f f' k.node → SureGrip l g f k → SureGrip l g f' k
+  grip_kept k steady knows = record {
+    here = knows.here;
+    stands = steady.version ∙ knows.stands;
+    lock = knows.lock;
+    seen = subst (Tells k.seen) (sym steady.now) knows.seen;
+    hand = if_some (λ hand. cached_word f k.node hand.0 ≡ hand.1) (λ hand. cached_word f' k.node hand.0 ≡ hand.1) k.hand
+        (λ hand is. (λ i. if hand.0 == 0 then steady.version i else steady.now i hand.0) ∙ is) knows.hand;
+  }
+
+  module _ (n m : ℕ) (one : IsSteady l f f' n) (other : IsSteady l f f' m) where
+    -- the ranges of two nodes together
+    abbrev joined : Facts → List ℕ → Bool
+    joined φ name = range_of l φ n name || range_of l φ m name
+
+    joined_same : joined f' ≡ joined f
+    joined_same = λ i name. one.range i name || other.range i name
+
+    joined_map : (name : List ℕ) → joined f name ≡ true → at (map_now f') name ≡ at (map_now f) name
+    joined_map name inside = elim (range_of l f n name) as (λ b. range_of l f n name ≡ b → (b || range_of l f m name) ≡ true → at (map_now f') name ≡ at (map_now f) name) [
+      | true ↦ λ is _. one.map name is
+      | false ↦ λ _ is. other.map name is
+    ] refl inside
+
+    pub joined_means : Means l.slots (joined f) (f.now n) (map_now f) → Means l.slots (joined f') (f'.now n) (map_now f')
+    joined_means means = subst (λ (r : List ℕ → Bool). Means l.slots r (f'.now n) (map_now f')) (sym joined_same)
+        (subst (λ (s : Spot). Means l.slots (joined f) s (map_now f')) (sym one.now) (means_alike l.slots (joined f) (f.now n) (map_now f) (map_now f') joined_map means))
+
+    pub joined_stays : StaysIn l.slots (joined f) (f.now n) → StaysIn l.slots (joined f') (f'.now n)
+    joined_stays stays = subst (λ (r : List ℕ → Bool). StaysIn l.slots r (f'.now n)) (sym joined_same) (subst (StaysIn l.slots (joined f)) (sym one.now) stays)
+
+  -- what a split knows of the name that it is about
+  pub asked_kept : (k : Grip) → IsSteady l f f' k.node → IsAsked l f k → IsAsked l f' k
+  asked_kept k one knows = record {
+    named = knows.named;
+    inside = (λ i. one.range i k.name) ∙ knows.inside;
+    had = still k.old (one.map k.name knows.inside) knows.had;
+    lacked = knows.lacked;
+  }
+    where
+      still : {m m' : Option ℕ} (o : Option (Option ℕ)) → m' ≡ m → IfSome o (λ old. m ≡ old) → IfSome o (λ old. m' ≡ old)
+      still None same had = tt
+      still (Some old) same had = same ∙ had
+
+  phase_kept : (left fresh : Grip) (phase : Phase) → IsSteady l f f' left.node → IsSteady l f f' fresh.node → IsAtPhase l f left fresh phase → IsAtPhase l f' left fresh phase
+  phase_kept left fresh (Filling lit) one other knows = record {
+    listed = one.listed knows.listed;
+    unlisted = λ is. knows.unlisted (other.unlisted is);
+    settled = settled_kept left.node one knows.settled;
+    asked = asked_kept left one knows.asked;
+    bright = λ is. other.status ∙ knows.bright is;
+    dark = λ is. other.status ∙ knows.dark is;
+  }
+  phase_kept left fresh Linked one other knows = record {
+    listed = one.listed knows.listed;
+    listed_fresh = other.listed knows.listed_fresh;
+    leads = ap (λ (s : Spot). s next_offset) one.now ∙ knows.leads;
+    means = joined_means left.node fresh.node one other knows.means;
+    stays = joined_stays left.node fresh.node one other knows.stays;
+    settled = settled_kept fresh.node other knows.settled;
+  }
+  phase_kept left fresh Parted one other knows = record {
+    listed = one.listed knows.listed;
+    listed_fresh = other.listed knows.listed_fresh;
+    settled_left = settled_kept left.node one knows.settled_left;
+    settled = settled_kept fresh.node other knows.settled;
+  }
+
+  pace_kept : (left right : Grip) (pace : Pace) → IsSteady l f f' left.node → IsSteady l f f' right.node → IsAtPace l f left right pace → IsAtPace l f' left right pace
+  pace_kept left right Gathered one other knows =
+      let names : names_in l.slots (λ name. range_of l f' left.node name || range_of l f' right.node name) (f'.now left.node)
+      ≡ names_in l.slots (λ name. range_of l f left.node name || range_of l f right.node name) (f.now left.node) =
+      λ i. names_in l.slots (λ name. one.range i name || other.range i name) (one.now i) in
+      record { linked = phase_kept left right Linked one other knows.linked; few = let few = knows.few in omega arith }
+  pace_kept left right Joined one other knows =
+      let a : ℕ = anchor_in (f.now right.node) in
+      let same : anchor_in (f'.now right.node) ≡ a = ap anchor_in other.now in
+      let low : anchor_in (f'.now left.node) ≡ anchor_in (f.now left.node) = ap anchor_in one.now in
+      let names : names_in l.slots (range_of l f' left.node) (f'.now left.node) ≡ names_in l.slots (range_of l f left.node) (f.now left.node) = λ i. names_in l.slots (one.range i) (one.now i) in
+      record {
+        listed = one.listed knows.listed;
+        unlisted = λ is. knows.unlisted (other.unlisted is);
+        settled = settled_kept left.node one knows.settled;
+        bright = other.status ∙ knows.bright;
+        leads = ap (λ (s : Spot). s next_offset) one.now ∙ knows.leads ∙ sym (ap (λ (s : Spot). s next_offset) other.now);
+        anchor = knows.anchor;
+        named = knows.named;
+        anchored = same ∙ knows.anchored;
+        inside = (λ i. one.range i knows.anchor) ∙ knows.inside;
+        up = let up = knows.up in omega arith;
+        kept = subst (λ (s : Spot). Means l.slots (from_key (range_of l f' left.node) (anchor_in s)) s (map_now f')) (sym other.now)
+            (subst (λ (r : List ℕ → Bool). Means l.slots (from_key r a) (f.now right.node) (map_now f')) (sym one.range)
+            (means_alike l.slots (from_key (range_of l f left.node) a) (f.now right.node) (map_now f) (map_now f') (λ name inside. one.map name (both_true (range_of l f left.node name) _ inside)) knows.kept));
+        few = let few = knows.few in omega arith;
+      }
+  pace_kept left right Gone one other knows = record {
+    listed = one.listed knows.listed;
+    unlisted = λ is. knows.unlisted (other.unlisted is);
+    settled = settled_kept left.node one knows.settled;
+    gone = other.status ∙ knows.gone;
+  }
+
+  stands_kept : (n : ℕ) (k : Sight) → IsSteady l f f' n → IsCalm l g f f' → IsList l f → Stands f n k → Stands f' n k
+  stands_kept n k steady calm list was =
+      let next : f'.now n next_offset ≡ f.now n next_offset = ap (λ (s : Spot). s next_offset) steady.now in
+      record {
+        listed = λ live. steady.listed (was.listed live);
+        sees = record {
+          seen = subst (λ (s : Spot). AllByRecursion (λ (w : ℕ × ℕ). s w.0 ≡ w.1) k.seen) (sym steady.now) was.sees.seen;
+          leads = λ ne. next ∙ was.sees.leads ne;
+          beyond = λ ne. beyond_kept (f.now (f.now n next_offset)) (f'.now (f'.now n next_offset)) k.beyond
+              (λ offset low high. ap (λ (m : ℕ). f'.now m offset) next ∙ calm.anchors (f.now n next_offset) (leads_on l f list n (was.leads ne) (λ z. ne (sym (was.sees.leads ne) ∙ z))) offset low high) (was.sees.beyond ne);
+        };
+        leads = λ ne. steady.listed (was.leads ne);
+      }
+
+  -- a party keeps what it knows where all is calm, and the nodes that it holds are steady
+  pub keeps : (caller index since : ℕ) (u : Stage) → IsList l f → IsCalm l g f f' → ((n : ℕ) → HoldsNode u n → IsSteady l f f' n)
       → Sure l g f caller index since u → Sure l g f' caller index since u
-  keeps caller index since Idle rises steady knows = tt
-  keeps caller index since (Saw n v w) rises steady knows = record {
+  keeps caller index since Idle list calm steady knows = tt
+  keeps caller index since (Saw n v w k) list calm steady knows = record {
     here = knows.here;
     known = knows.known;
     free = knows.free;
     unworn = knows.unworn;
     lock = knows.lock;
-    seen = let seen = knows.seen in let rise = rises n knows.here in omega arith;
+    seen = let seen = knows.seen in let rise = calm.rises n knows.here in omega arith;
+    leads = λ live. calm.leads n (knows.leads live);
+    stands = λ is.
+        let seen = knows.seen in
+        let rise = calm.rises n knows.here in
+        let same : f.version n ≡ v = omega arith in
+        stands_kept n k (calm.steady n knows.here (subst (λ (u : ℕ). IsFree u g) (sym same) knows.free) (is ∙ sym same)) calm list (knows.stands same);
   }
-  keeps caller index since (Holds n w h) rises steady knows = holds_kept n (steady n refl) caller index since w h knows
-
--- two nodes with one name in their ranges are one
-pub one_range : (l : Layout) (f f' : Facts) (n m : ℕ) (name : List ℕ) → range_of l f n name ≡ true → range_of l f' m name ≡ true → n ≡ m
-one_range l f f' n m name inside inside' = eqb-true n 0 inside ∙ sym (eqb-true m 0 inside')
+  keeps caller index since (Holds n w h) list calm steady knows = holds_kept n (steady n refl) caller index since w h knows
+  keeps caller index since (Eyes n w h m v u free) list calm steady knows = (
+    holds_kept n (steady n refl) caller index since w h knows.0,
+    record {
+      clean = knows.1.clean;
+      durable = knows.1.durable;
+      here = knows.1.here;
+      nonzero = knows.1.nonzero;
+      known = knows.1.known;
+      unlocked = knows.1.unlocked;
+      unworn = knows.1.unworn;
+      lock = knows.1.lock;
+      seen = let seen = knows.1.seen in let rise = calm.rises m knows.1.here in omega arith;
+      stands = λ is told.
+          let seen = knows.1.seen in
+          let rise = calm.rises m knows.1.here in
+          let same : f.version m ≡ v = omega arith in
+          (calm.steady m knows.1.here (subst (λ (u : ℕ). IsFree u g) (sym same) knows.1.unlocked) (is ∙ sym same)).status ∙ knows.1.stands same told;
+    },
+  )
+  keeps caller index since (Wears n v) list calm steady knows = record {
+    here = knows.here;
+    free = knows.free;
+    worn = knows.worn;
+    stands = calm.worn n knows.here (subst (λ (u : ℕ). IsFree u g) (sym knows.stands) knows.free) (subst (λ (u : ℕ). IsWorn u g) (sym knows.stands) knows.worn) ∙ knows.stands;
+  }
+  keeps caller index since (Leaves left) list calm steady knows =
+      let one = steady left.node refl in
+      record { grip = grip_kept left one knows.grip; listed = one.listed knows.listed; settled = settled_kept left.node one knows.settled }
+  keeps caller index since (Meets n w h right) list calm steady knows =
+      let one = steady n (inl refl) in
+      let other = steady right.node (inr refl) in (
+        holds_kept n one caller index since w h knows.0,
+        record {
+          still = knows.1.still;
+          untimed = knows.1.untimed;
+          unmerged = knows.1.unmerged;
+          grip = grip_kept right other knows.1.grip;
+          apart = knows.1.apart;
+          nonzero = knows.1.nonzero;
+          leads = ap (λ (s : Spot). s next_offset) one.now ∙ knows.1.leads;
+          settled = settled_kept right.node other knows.1.settled;
+        },
+      )
+  keeps caller index since (Joins h left right pace) list calm steady knows =
+      let one = steady left.node (inl refl) in
+      let other = steady right.node (inr refl) in
+      record {
+        call = counted_kept left.node one caller index since h knows.call;
+        one = grip_kept left one knows.one;
+        other = grip_kept right other knows.other;
+        apart = knows.apart;
+        nonzero = knows.nonzero;
+        at = pace_kept left right pace one other knows.at;
+      }
+  keeps caller index since (Splits left fresh phase) list calm steady knows =
+      let one = steady left.node (inl refl) in
+      let other = steady fresh.node (inr refl) in
+      record {
+        full = grip_kept left one knows.full;
+        new = grip_kept fresh other knows.new;
+        apart = knows.apart;
+        nonzero = knows.nonzero;
+        at = phase_kept left fresh phase one other knows.at;
+      }
 
 -- a number that is another one only where it is no smaller
 version_by : (v w : ℕ) (b : Bool) → (b ≡ true → v ≤ w) → v ≤ cond b w v
@@ -129,14 +359,14 @@ module _ (l : Layout) (f : Facts) where
   rises-version n w rise m = version_by (f.version m) w (m == n) (λ same. let alike = ap f.version (eqb-true m n same) in omega arith)
 
   pub steady-version : (n w m : ℕ) → m ≢ n → IsSteady l f (with_version f n w) m
-  steady-version n w m other = record { version = ap (λ (b : Bool). cond b w (f.version m)) (ne_eqb m n other); now = refl; map = λ name inside. refl }
+  steady-version n w m other = record { version = ap (λ (b : Bool). cond b w (f.version m)) (ne_eqb m n other); now = refl; map = λ name inside. refl; range = refl; listed = λ is. is; unlisted = λ is. is; status = refl }
 
   -- another word of a node
   pub later-word : (n offset y : ℕ) → IsLater f (with_word f n offset y)
   later-word n offset y = record { base = refl; more = []; history = sym (append-nil f.history) }
 
   pub steady-word : (n offset y m : ℕ) → m ≢ n → IsSteady l f (with_word f n offset y) m
-  steady-word n offset y m other = record { version = refl; now = ap (λ (b : Bool). cond b (updated (f.now n) offset y) (f.now m)) (ne_eqb m n other); map = λ name inside. refl }
+  steady-word n offset y m other = record { version = refl; now = ap (λ (b : Bool). cond b (updated (f.now n) offset y) (f.now m)) (ne_eqb m n other); map = λ name inside. refl; range = refl; listed = λ is. is; unlisted = λ is. is; status = refl }
 
   -- one more write
   pub later-write : (write : Write) → IsLater f (with_writes f (write ∷ []))
@@ -150,5 +380,24 @@ module _ (l : Layout) (f : Facts) where
   steady-write n write m mine other = record {
     version = refl;
     now = refl;
-    map = λ name inside. map-write write name (λ same. other (one_range l f f m n name inside (subst (λ (k : List ℕ). range_of l f n k ≡ true) (sym same) mine)));
+    map = λ name inside. map-write write name (λ same. other (one_range l f m n name inside (subst (λ (k : List ℕ). range_of l f n k ≡ true) (sym same) mine)));
+    range = refl;
+    listed = λ is. is;
+    unlisted = λ is. is;
+    status = refl;
+  }
+
+  -- another status
+  pub later-status : (n x : ℕ) → IsLater f (with_status f n x)
+  later-status n x = record { base = refl; more = []; history = sym (append-nil f.history) }
+
+  pub steady-status : (n x m : ℕ) → m ≢ n → IsSteady l f (with_status f n x) m
+  steady-status n x m other = record {
+    version = refl;
+    now = refl;
+    map = λ name inside. refl;
+    range = refl;
+    listed = λ is. is;
+    unlisted = λ is. is;
+    status = ap (λ (b : Bool). cond b x (f.status m)) (ne_eqb m n other);
   }

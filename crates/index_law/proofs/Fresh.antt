@@ -1,22 +1,36 @@
 -- In the row of a fresh image nothing is in flight, and its node means the empty map.
-use Rattle.std.proofs.Common.{◌≡◌, ℕ, ◌<◌, ◌≤◌, ◌==◌, true, false, cond, slice_index, inl, inr, refl, sym, ◌∙◌, subst, arith}
-use Rattle.std.proofs.lemmas.Bool.{cases_eq}
+use Rattle.std.proofs.Common.{◌≡◌, ◌≢◌, ℕ, ◌+◌, ◌*◌, ◌^◌, ◌<◌, ◌≤◌, ◌==◌, Bool, true, false, cond, List, [], slice_index, inl, inr, ⊎_elim, refl, sym, ap, ◌∙◌, subst, arith}
+use Rattle.std.specs.Prelude.{if◌then◌else◌, Some, None}
+use Rattle.std.specs.FinMap.{empty, get-empty}
+use Rattle.cat_key.specs.Names.{name_cmp}
+use Rattle.std.proofs.lemmas.Bool.{cases_eq, eq-eqb, ne_eqb}
 use Rattle.pm_words.specs.declared.layout.Layout.{Layout}
 use Rattle.pm_words.specs.Layouts.{IsLayout}
 use Rattle.pm_words.specs.Images.{fresh_words, fresh_word}
-use Rattle.pm_words.specs.Places.{Word, Header, Root, Node, Line, Leaf, Cell, Cached, Durable, Clock, HasWord, at}
-use Rattle.pm_words.specs.Rows.{row_of}
+use Rattle.pm_words.specs.Locations.{Word, Header, Root, Node, Line, Leaf, Cell, Volatile, Cached, Durable, Clock, HasWord, at}
+use Rattle.pm_words.specs.Rows.{row_of, CanAct}
+use Rattle.pm_words.specs.declared.action.Action.TheVariants.{Store}
+use Rattle.pm_words.proofs.Apart.{addresses_within, at-set_other}
+use Rattle.pm_words.proofs.Kept.{acted_row}
 use Rattle.pm_words.proofs.Made.{fresh_at, fresh_image, row_of-at, row_of-at_volatile, row_of-row}
 use Rattle.version_lock.specs.Versions.{generation_of, IsFree}
 use Rattle.sound_image.specs.Rules.{IsSpare}
 use Rattle.data_node.proofs.SpotLemmas.{means_empty}
-use Rattle.call_stages.specs.Kinds.{HasWordAt, word_place}
-use Rattle.index_law.specs.Facts.{version_in, spot_in, durable_spot}
-use Rattle.index_law.specs.Laws.{FreshIsAtRest}
-use Rattle.index_law.proofs.Rows.{in_spot, in_spot-true, version_in-here, spot_in-here}
+use Rattle.call_stages.specs.Kinds.{gone_status, HasWordAt, word_address, status_address, live_status}
+use Rattle.data_node.specs.Spots.{Finds}
+use Rattle.data_node.specs.Lists.{next_offset, anchor_in}
+use Rattle.index_law.specs.Facts.{Facts, facts_of, version_in, status_in, spot_in, list_in, durable_spot, range_of, IsListed}
+use Rattle.index_law.specs.Worlds.{Party, facts}
+use Rattle.index_law.specs.Lawful.{IsList, AreLive, IsSettled, AreKnown}
+use Rattle.index_law.specs.Twins.{IsFront}
+use Rattle.data_node.proofs.ListLemmas.{chain_is}
+use Rattle.index_law.proofs.Actions.{status_outside}
+use Rattle.index_law.proofs.Twins.{IsCloser, store_closer, closer_spot, closer_versions, closer_front, cached_front}
+use Rattle.index_law.specs.Laws.{fresh_row, FreshIsAtRest, fresh_world}
+use Rattle.index_law.proofs.Rows.{in_spot, in_spot-true, version_in-here, status_in-here, spot_in-here, with_status, facts-status}
 
 -- each word of a node is 0
-fresh_zero : (l : Layout) (n offset : ℕ) → IsLayout l → HasWordAt l n offset → slice_index (row_of l (fresh_words l)) (word_place l n offset) ≡ 0
+fresh_zero : (l : Layout) (n offset : ℕ) → IsLayout l → HasWordAt l n offset → slice_index (row_of l (fresh_words l)) (word_address l n offset) ≡ 0
 fresh_zero l n offset layout has = (row_of-at l (fresh_words l) (Node n offset) (fresh_image l layout) has).0 ∙ fresh_at l (Node n offset) has
 
 fresh_version : (l : Layout) (n : ℕ) → IsLayout l → n < l.nodes → version_in l (row_of l (fresh_words l)) n ≡ 0
@@ -57,28 +71,125 @@ spare_zero l (Line c j o) is = absurd is
 spare_zero l (Leaf k o) is = absurd is
 spare_zero l (Cell kind k o) is = absurd is
 
+-- each status is 0
+fresh_status : (l : Layout) (n : ℕ) → IsLayout l → n < l.nodes → status_in l (row_of l (fresh_words l)) n ≡ 0
+fresh_status l n layout here = status_in-here l (row_of l (fresh_words l)) n here ∙ row_of-at_volatile l (fresh_words l) (Volatile n 0) (here, omega arith) (omega arith)
+
+module _ (l : Layout) (parties : List Party) (layout : IsLayout l) where
+  abbrev row : List ℕ
+  row = row_of l (fresh_words l)
+
+  some : 0 < l.nodes
+  some = let least = layout.nodes in omega arith
+
+  -- the facts: node 0 is LIVE
+  same : facts (fresh_world l parties) ≡ with_status (facts_of l row empty []) 0 live_status
+  same = facts-status l row empty [] 0 live_status (row_of-row l (fresh_words l) (fresh_image l layout)).whole some
+
+  next_zero : spot_in l row 0 next_offset ≡ 0
+  next_zero =
+      let has : HasWordAt l 0 2 = (some, omega arith) in
+      spot_in-here l row 0 2 has (omega arith) ∙ fresh_zero l 0 2 layout has
+
+  anchor_zero : anchor_in (spot_in l row 0) ≡ 0
+  unfolding anchor_in
+  anchor_zero =
+      let word : (o : ℕ) → 3 ≤ o → o ≤ 5 → spot_in l row 0 o ≡ 0 =
+      λ o low high. let has : HasWordAt l 0 o = (some, omega arith) in spot_in-here l row 0 o has (omega arith) ∙ fresh_zero l 0 o layout has in
+      λ k. (word 3 (omega arith) (omega arith) k * 2 ^ 64 + word 4 (omega arith) (omega arith) k) * 2 ^ 64 + word 5 (omega arith) (omega arith) k
+
+  none : list_in l row ≡ []
+  none = chain_is (spot_in l row) l.nodes 0 [] next_zero (omega arith)
+
+  abbrev lit : Facts
+  lit = record { version = version_in l row; status = λ m. if m == 0 then live_status else status_in l row m; now = spot_in l row; list = []; base = empty; history = [] }
+
+  same_lit : facts (fresh_world l parties) ≡ lit
+  same_lit = same ∙ (λ k. record {
+    version = version_in l row;
+    status = λ m. if m == 0 then live_status else status_in l row m;
+    now = spot_in l row;
+    list = none k;
+    base = empty;
+    history = [];
+  })
+
+  bitmap_zero : spot_in l row 0 1 ≡ 0
+  bitmap_zero =
+      let has : HasWordAt l 0 1 = (some, omega arith) in
+      spot_in-here l row 0 1 has (omega arith) ∙ fresh_zero l 0 1 layout has
+
+  closer : IsCloser l row (fresh_world l parties).words
+  closer = store_closer l row (Volatile 0 0) live_status (some, omega arith) (λ w alike. cc)
+
+  settled_lit : (n : ℕ) → IsListed lit n → IsSettled l lit n
+  settled_lit n (inl e) = subst (IsSettled l lit) (sym e) (record {
+    means = means_empty l.slots (range_of l lit 0) (spot_in l row 0) bitmap_zero;
+    stays = λ name is outside. subst (Finds l.slots (spot_in l row 0) name) (get-empty name_cmp name) ((means_empty l.slots (λ k. true) (spot_in l row 0) bitmap_zero).agrees name is refl);
+  })
+  settled_lit n (inr among) = absurd among
+
+  live_lit : AreLive l 1 lit
+  live_lit = record {
+    live = λ n is. ⊎_elim (λ (e : n ≡ 0). ap (λ (b : Bool). cond b live_status (status_in l row n)) (eq-eqb n 0 e)) (λ among. absurd among) is;
+    listed = λ n here is free. ⊎_elim
+        (λ (e : n ≡ 0). inl e)
+        (λ (other : n ≢ 0).
+        let zero : (if n == 0 then live_status else status_in l row n) ≡ 0 = ap (λ (b : Bool). cond b live_status (status_in l row n)) (ne_eqb n 0 other) ∙ fresh_status l n layout here in
+        absurd (let no : 0 ≡ 1 = sym zero ∙ is in omega arith))
+        (cases_eq n 0);
+    three = λ n here. ⊎_elim
+        (λ (e : n ≡ 0). subst (λ u. u ≤ gone_status) (sym (ap (λ (b : Bool). cond b live_status (status_in l row n)) (eq-eqb n 0 e))) (omega arith))
+        (λ (other : n ≢ 0).
+        subst (λ u. u ≤ gone_status) (sym (ap (λ (b : Bool). cond b live_status (status_in l row n)) (ne_eqb n 0 other) ∙ fresh_status l n layout here)) (omega arith))
+        (cases_eq n 0);
+    leads = λ n here is. let has : HasWordAt l n 2 = (here, omega arith) in
+        let zero : spot_in l row n next_offset ≡ 0 = spot_in-here l row n 2 has (omega arith) ∙ fresh_zero l n 2 layout has in omega arith;
+  }
+
+  list_lit : IsList l lit
+  list_lit = record { chain = next_zero; lowest = anchor_zero; rise = tt; within = tt; named = tt }
+
 pub fresh_law : FreshIsAtRest
-fresh_law l parties layout one_node idle begun = record {
-  one_node = one_node;
-  run = record { least = omega arith; fits = omega arith };
-  row = row_of-row l (fresh_words l) (fresh_image l layout);
-  clock = row_of-at_volatile l (fresh_words l) Clock tt (omega arith);
-  versions = λ n here. subst (λ (v : ℕ). generation_of v ≤ 1) (sym (fresh_version l n layout here)) (omega arith);
-  free = λ n here. subst (λ (v : ℕ). IsFree v 1) (sym (fresh_version l n layout here)) (inl (omega arith));
-  means = λ n here.
-      let has : HasWordAt l n 1 = (here, omega arith) in
-      means_empty l.slots (λ name. n == 0) (spot_in l (row_of l (fresh_words l)) n)
-      (spot_in-here l (row_of l (fresh_words l)) n 1 has (omega arith) ∙ fresh_zero l n 1 layout has);
-  durable = λ n here offset. fresh_twins l n offset layout;
-  durable_versions = λ n here. subst (λ (v : ℕ). generation_of v ≤ 1) (sym (fresh_durable l (Node n 0) layout (here, omega arith))) (omega arith);
-  front = record {
-    generation = fresh_cached l (Header 5) layout (omega arith);
-    spare = λ w is. let zero = spare_zero l w is in fresh_cached l w layout zero.0 ∙ zero.1;
-  };
-  durable_front = record {
-    generation = fresh_durable l (Header 5) layout (omega arith);
-    spare = λ w is. let zero = spare_zero l w is in fresh_durable l w layout zero.0 ∙ zero.1;
-  };
-  idle = idle;
-  begun = begun;
-}
+fresh_law l parties layout idle begun =
+    let w = fresh_world l parties in
+    let row = row_of l (fresh_words l) in
+    let here : 0 < l.nodes = some l parties layout in
+    let is = same_lit l parties layout in
+    let whole = row_of-row l (fresh_words l) (fresh_image l layout) in
+    let can : CanAct l row (Store (status_address l 0) live_status) = ((addresses_within l (Volatile 0 0) (here, omega arith), status_outside l 0 here), omega arith) in
+    let near = closer l parties layout in
+    let known : AreKnown l 1 (facts_of l row empty []) = λ n below. subst (λ (v : ℕ). generation_of v ≤ 1) (sym (fresh_version l n layout below)) (omega arith) in
+    let front : IsFront l 1 row Cached = record {
+      generation = fresh_cached l (Header 5) layout (omega arith);
+      spare = λ v spare. let zero = spare_zero l v spare in fresh_cached l v layout zero.0 ∙ zero.1;
+    } in
+    record {
+      named = λ name value has. absurd (let none : None ≡ Some value = sym (get-empty name_cmp name) ∙ has in cc);
+      list = subst (IsList l) (sym is) (list_lit l parties layout);
+      live = subst (AreLive l 1) (sym is) (live_lit l parties layout);
+      run = record { least = omega arith; fits = omega arith };
+      row = acted_row l row (Store (status_address l 0) live_status) whole can;
+      clock = at-set_other l row (Volatile 0 0) Clock live_status (here, omega arith) tt (λ e. cc) ∙ row_of-at_volatile l (fresh_words l) Clock tt (omega arith);
+      versions = subst (AreKnown l 1) (sym is) known;
+      free = λ n below. subst (λ (f : Facts). IsFree (f.version n) 1) (sym is) (subst (λ (v : ℕ). IsFree v 1) (sym (fresh_version l n layout below)) (inl (omega arith)));
+      settled = subst (λ (f : Facts). (n : ℕ) → IsListed f n → IsSettled l f n) (sym is) (settled_lit l parties layout);
+      durable = λ n below offset. ⊎_elim
+          (λ stays. stays ∙ fresh_twins l n offset layout)
+          (λ copied. copied)
+          (closer_spot l row w.words near n offset)
+          ∙ sym (ap (λ (f : Facts). f.now n offset) is);
+      durable_versions = closer_versions l row w.words empty [] near 1 known
+          (λ n below. subst (λ (v : ℕ). generation_of v ≤ 1) (sym (fresh_durable l (Node n 0) layout (below, omega arith))) (omega arith));
+      front = cached_front l 1 row w.words (λ v has other. at-set_other l row (Volatile 0 0) (Cached v) live_status (here, omega arith) has (λ e. cc)) front;
+      durable_front = closer_front l 1 row w.words near front (record {
+        generation = fresh_durable l (Header 5) layout (omega arith);
+        spare = λ v spare. let zero = spare_zero l v spare in fresh_durable l v layout zero.0 ∙ zero.1;
+      });
+      idle = idle;
+      begun = begun;
+    }
+
+-- no node of a fresh row was ever locked
+pub fresh_versions : (l : Layout) → IsLayout l → (n : ℕ) → n < l.nodes → version_in l (fresh_row l) n ≡ 0
+fresh_versions l layout n here = ap (λ (f : Facts). f.version n) (same l [] layout) ∙ fresh_version l n layout here

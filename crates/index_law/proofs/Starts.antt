@@ -6,9 +6,18 @@ use Rattle.version_lock.specs.Versions.{IsFree}
 use Rattle.call_stages.specs.Stages.{Stage, Idle}
 use Rattle.index_law.specs.Worlds.{Party, World, facts}
 use Rattle.index_law.specs.Twins.{BacksStage}
-use Rattle.index_law.specs.Lawful.{HoldsNode, Sure, IsHeld, Lawful}
+use Rattle.pm_words.specs.declared.layout.Layout.{Layout}
+use Rattle.pm_words.specs.Layouts.{IsLayout}
+use Rattle.index_law.specs.Facts.{Facts, IsListed}
+use Rattle.data_node.proofs.ListLemmas.{all_member}
+use Rattle.index_law.specs.Lawful.{IsList, HoldsNode, Sure, IsHeld, Lawful}
 use Rattle.index_law.specs.Laws.{StartKeeps, JoinKeeps, RestIsLawful, IdleIsAtRest}
 use Rattle.index_law.proofs.Parties.{at_set, at_snoc, at_longer, each_snoc, set_else, each_set}
+
+-- a listed node is one of the layout's
+pub listed_within : (l : Layout) (f : Facts) → IsList l f → IsLayout l → (n : ℕ) → IsListed f n → n < l.nodes
+listed_within l f list layout n (inl e) = let least = layout.nodes in omega (arith, e)
+listed_within l f list layout n (inr among) = all_member (λ m. m < l.nodes) f.list n list.within among
 
 -- the world with another party in the place of one
 abbrev replaced : World → ℕ → Party → World
@@ -20,7 +29,9 @@ idle_holds p n idle holds = subst (λ (s : Stage). HoldsNode s n) idle holds
 -- a party that relies on nothing may be replaced by another one that relies on nothing
 pub swap_law : (w : World) (i : ℕ) (p q : Party) → Lawful w → get_elem? w.parties i ≡ some p → p.stage ≡ Idle → q.stage ≡ Idle → q.since ≤ length w.history → Lawful (replaced w i q)
 swap_law w i p q lawful there idle idle' since = record {
-  one_node = lawful.one_node;
+  named = lawful.named;
+  list = lawful.list;
+  live = lawful.live;
   run = lawful.run;
   row = lawful.row;
   clock = lawful.clock;
@@ -39,9 +50,9 @@ swap_law w i p q lawful there idle idle' since = record {
   held = λ n here. ⊎_elim
       (λ (free : IsFree ((facts w).version n) w.generation). inl free)
       (λ (held : IsHeld w.parties n).
-      let other : held.place ≢ i =
+      let other : held.number ≢ i =
       (λ same. idle_holds p n idle (subst (λ (e : Party). HoldsNode e.stage n) (some-injective _ _ (sym held.there ∙ ap (get_elem? w.parties) same ∙ there)) held.holds)) in
-      inr (record { place = held.place; party = held.party; there = set_else w.parties i held.place q other ∙ held.there; holds = held.holds }))
+      inr (record { number = held.number; party = held.party; there = set_else w.parties i held.number q other ∙ held.there; holds = held.holds }))
       (lawful.held n here);
   backed = each_set (λ (d : Party). BacksStage w.layout (facts w) w.words d.stage) w.parties i q (λ j d other at. lawful.backed j d at)
       (subst (λ (s : Stage). BacksStage w.layout (facts w) w.words s) (sym idle') tt);
@@ -57,7 +68,9 @@ start_law w i p index lawful there idle =
 
 pub join_law : JoinKeeps
 join_law w q lawful idle since = record {
-  one_node = lawful.one_node;
+  named = lawful.named;
+  list = lawful.list;
+  live = lawful.live;
   run = lawful.run;
   row = lawful.row;
   clock = lawful.clock;
@@ -76,7 +89,7 @@ join_law w q lawful idle since = record {
   held = λ n here. ⊎_elim
       (λ (free : IsFree ((facts w).version n) w.generation). inl free)
       (λ (held : IsHeld w.parties n).
-      inr (record { place = held.place; party = held.party; there = at_longer w.parties (q ∷ []) held.place held.party held.there; holds = held.holds }))
+      inr (record { number = held.number; party = held.party; there = at_longer w.parties (q ∷ []) held.number held.party held.there; holds = held.holds }))
       (lawful.held n here);
   backed = each_snoc (λ (d : Party). BacksStage w.layout (facts w) w.words d.stage) w.parties q lawful.backed
       (subst (λ (s : Stage). BacksStage w.layout (facts w) w.words s) (sym idle) tt);
@@ -88,7 +101,9 @@ join_law w q lawful idle since = record {
 
 pub rest_law : RestIsLawful
 rest_law w rest = record {
-  one_node = rest.one_node;
+  named = rest.named;
+  list = rest.list;
+  live = rest.live;
   run = rest.run;
   row = rest.row;
   clock = rest.clock;
@@ -96,7 +111,7 @@ rest_law w rest = record {
   sure = λ j d at. subst (λ (s : Stage). Sure w.layout w.generation (facts w) d.caller d.index d.since s) (sym (rest.idle j d at)) tt;
   begun = rest.begun;
   alone = λ u v n b d at_u at_v holds_u holds_v. absurd (idle_holds b n (rest.idle u b at_u) holds_u);
-  settled = λ n here free. rest.means n here;
+  settled = λ n is free. rest.settled n is;
   held = λ n here. inl (rest.free n here);
   backed = λ j d at. subst (λ (s : Stage). BacksStage w.layout (facts w) w.words s) (sym (rest.idle j d at)) tt;
   durable = λ n here free. rest.durable n here;
@@ -110,16 +125,18 @@ idle_law w lawful idle =
     let free : (n : ℕ) → n < w.layout.nodes → IsFree ((facts w).version n) w.generation =
     λ n here. ⊎_elim
     (λ (free : IsFree ((facts w).version n) w.generation). free)
-    (λ (held : IsHeld w.parties n). absurd (idle_holds held.party n (idle held.place held.party held.there) held.holds))
+    (λ (held : IsHeld w.parties n). absurd (idle_holds held.party n (idle held.number held.party held.there) held.holds))
     (lawful.held n here) in
     record {
-      one_node = lawful.one_node;
+      named = lawful.named;
+      list = lawful.list;
+      live = lawful.live;
       run = lawful.run;
       row = lawful.row;
       clock = lawful.clock;
       versions = lawful.versions;
       free = free;
-      means = λ n here. lawful.settled n here (free n here);
+      settled = λ n is. lawful.settled n is (free n (listed_within w.layout (facts w) lawful.list lawful.row.layout n is));
       durable = λ n here. lawful.durable n here (free n here);
       durable_versions = lawful.durable_versions;
       front = lawful.front;

@@ -4,20 +4,21 @@ use Rattle.std.proofs.lemmas.Bool.{cases_eq}
 use Rattle.std.proofs.lemmas.List.{get_or-set_same, get_or-set_other}
 use Rattle.pm_words.specs.declared.layout.Layout.{Layout}
 use Rattle.pm_words.specs.declared.action.Action.TheVariants.{Drain}
-use Rattle.pm_words.specs.Places.{Word, Header, Root, Node, Line, Leaf, Cell, Place, Cached, Durable, HasWord, HasPlace, at, place_number, word_number, image_words, row_words, cached_place, durable_place}
+use Rattle.pm_words.specs.Locations.{Word, Header, Root, Node, Line, Leaf, Cell, Location, Cached, Durable, HasWord, HasLocation, at, address_of, word_number, image_words, row_words, cached_address, durable_address}
 use Rattle.pm_words.specs.Rows.{acted, evicted}
 use Rattle.pm_words.proofs.Apart.{words_within, at-set_other}
-use Rattle.pm_words.proofs.Kept.{place_of-drain}
+use Rattle.pm_words.proofs.Kept.{action_address-drain}
 use Rattle.version_lock.specs.Versions.{generation_of}
 use Rattle.cat_history.specs.Maps.{Map}
 use Rattle.cat_history.specs.declared.op.Write.{Write}
 use Rattle.data_node.specs.Spots.{Spot}
 use Rattle.sound_image.specs.Rules.{IsSpare}
-use Rattle.call_stages.specs.Stages.{Held, Stage, Idle, Saw, Holds}
-use Rattle.call_stages.specs.Kinds.{HasWordAt, word_place}
+use Rattle.data_node.specs.Lists.{next_offset}
+use Rattle.call_stages.specs.Stages.{Held, Grip, Phase, Filling, Linked, Parted, Pace, Gathered, Joined, Gone, Stage, Idle, Saw, Wears, Holds, Eyes, Splits, Leaves, Meets, Joins}
+use Rattle.call_stages.specs.Kinds.{HasWordAt, word_address}
 use Rattle.index_law.specs.Facts.{Facts, facts_of, spot_in, durable_spot}
 use Rattle.index_law.specs.Lawful.{AreKnown}
-use Rattle.index_law.specs.Twins.{IsBacked, BacksStage, AreDurable, AreDurablyKnown, IsFront}
+use Rattle.index_law.specs.Twins.{IsBacked, IsBackedLeft, IsBackedFresh, IsBackedJoin, BacksStage, AreDurable, AreDurablyKnown, IsFront}
 use Rattle.index_law.proofs.Rows.{in_spot, in_spot-true, version_in-here}
 
 -- the durable words of another row are those of this one, or its cached ones
@@ -27,27 +28,27 @@ IsCloser l words words' = (w : Word) → HasWord l w → (at l words' (Durable w
 -- so are they once a word is copied
 pub evict_closer : (l : Layout) (words : List ℕ) (word : ℕ) → length words ≡ row_words l → word < image_words l → IsCloser l words (evicted l words word)
 evict_closer l words word whole within w has =
-    let x : ℕ = slice_index words (cached_place l word) in
+    let x : ℕ = slice_index words (cached_address l word) in
     ⊎_elim
-    (λ (same : word_number l w ≡ word). inr (subst (λ (k : ℕ). slice_index (slice_set words (durable_place l word) x) (durable_place l k) ≡ slice_index words (cached_place l k)) (sym same)
-    (get_or-set_same words (durable_place l word) x 0 (omega arith))))
-    (λ (other : word_number l w ≡ word → ⊥). inl (get_or-set_other words (durable_place l word) (place_number l (Durable w)) x 0 (λ e. other (omega arith))))
+    (λ (same : word_number l w ≡ word). inr (subst (λ (k : ℕ). slice_index (slice_set words (durable_address l word) x) (durable_address l k) ≡ slice_index words (cached_address l k)) (sym same)
+    (get_or-set_same words (durable_address l word) x 0 (omega arith))))
+    (λ (other : word_number l w ≡ word → ⊥). inl (get_or-set_other words (durable_address l word) (address_of l (Durable w)) x 0 (λ e. other (omega arith))))
     (cases_eq (word_number l w) word)
 
 -- while the cached words stay
 pub evict_cached : (l : Layout) (words : List ℕ) (word : ℕ) (w : Word) → HasWord l w → at l (evicted l words word) (Cached w) ≡ at l words (Cached w)
 evict_cached l words word w has =
-    let x : ℕ = slice_index words (cached_place l word) in
+    let x : ℕ = slice_index words (cached_address l word) in
     let within = words_within l w has in
-    get_or-set_other words (durable_place l word) (place_number l (Cached w)) x 0 (λ e. absurd (omega arith))
+    get_or-set_other words (durable_address l word) (address_of l (Cached w)) x 0 (λ e. absurd (omega arith))
 
 -- a drain of a word that gives its cached twin copies it
-pub drain_evicts : (l : Layout) (words : List ℕ) (n offset y : ℕ) → y ≡ slice_index words (word_place l n offset)
-    → acted l words (Drain (word_place l n offset) y) ≡ evicted l words (word_number l (Node n offset))
-drain_evicts l words n offset y is = λ k. slice_set words (place_of-drain l (Node n offset) y k) (is k)
+pub drain_evicts : (l : Layout) (words : List ℕ) (n offset y : ℕ) → y ≡ slice_index words (word_address l n offset)
+    → acted l words (Drain (word_address l n offset) y) ≡ evicted l words (word_number l (Node n offset))
+drain_evicts l words n offset y is = λ k. slice_set words (action_address-drain l (Node n offset) y k) (is k)
 
 -- a store elsewhere than in durable twins leaves these
-pub store_closer : (l : Layout) (words : List ℕ) (p : Place) (x : ℕ) → HasPlace l p → ((w : Word) → Durable w ≡ p → ⊥) → IsCloser l words (slice_set words (place_number l p) x)
+pub store_closer : (l : Layout) (words : List ℕ) (p : Location) (x : ℕ) → HasLocation l p → ((w : Word) → Durable w ≡ p → ⊥) → IsCloser l words (slice_set words (address_of l p) x)
 store_closer l words p x has other w has_word = inl (at-set_other l words p (Durable w) x has has_word (other w))
 
 -- the durable words of a node
@@ -65,9 +66,43 @@ closer_spot l words words' closer n offset =
 closer_backed : (l : Layout) (f : Facts) (d d' : Spot) (n : ℕ) (h : Held) → ((offset : ℕ) → (d' offset ≡ d offset) ⊎ (d' offset ≡ f.now n offset)) → IsBacked l f d n h → IsBacked l f d' n h
 closer_backed l f d d' n h closer backed = record {
   clean = λ offset spared. ⊎_elim (λ stays. stays ∙ backed.clean offset spared) (λ is. is) (closer offset);
+  fixed = λ offset low high. ⊎_elim (λ stays. stays ∙ backed.fixed offset low high) (λ is. is) (closer offset);
   mixes = λ mix is. backed.mixes mix (λ offset.
       ⊎_elim (λ durable. ⊎_elim (λ stays. inl (durable ∙ stays)) (λ cached. inr (durable ∙ cached)) (closer offset)) (λ cached. inr cached) (is offset));
 }
+
+-- and so do the two of a split
+closer_left : (l : Layout) (f : Facts) (d d' : Spot) (left fresh : Grip) (phase : Phase) → ((offset : ℕ) → (d' offset ≡ d offset) ⊎ (d' offset ≡ f.now left.node offset))
+    → IsBackedLeft l f d left fresh phase → IsBackedLeft l f d' left fresh phase
+closer_left l f d d' left fresh (Filling lit) closer backed = λ offset. ⊎_elim (λ stays. stays ∙ backed offset) (λ is. is) (closer offset)
+closer_left l f d d' left fresh Linked closer backed = (
+  λ offset apart. ⊎_elim (λ stays. stays ∙ backed.0 offset apart) (λ is. is) (closer offset),
+  ⊎_elim (λ stays. ⊎_elim (λ is. inl (stays ∙ is)) (λ was. inr (stays ∙ was)) backed.1) (λ is. inl is) (closer next_offset),
+)
+closer_left l f d d' left fresh Parted closer backed = (
+  λ offset apart. ⊎_elim (λ stays. stays ∙ backed.0 offset apart) (λ is. is) (closer offset),
+  λ mix is. backed.1 mix (λ offset.
+      ⊎_elim (λ durable. ⊎_elim (λ stays. inl (durable ∙ stays)) (λ cached. inr (durable ∙ cached)) (closer offset)) (λ cached. inr cached) (is offset)),
+)
+
+closer_fresh : (f : Facts) (d d' : Spot) (fresh : Grip) (phase : Phase) → ((offset : ℕ) → (d' offset ≡ d offset) ⊎ (d' offset ≡ f.now fresh.node offset))
+    → IsBackedFresh f d fresh phase → IsBackedFresh f d' fresh phase
+closer_fresh f d d' fresh (Filling lit) closer backed = tt
+closer_fresh f d d' fresh Linked closer backed = λ offset. ⊎_elim (λ stays. stays ∙ backed offset) (λ is. is) (closer offset)
+closer_fresh f d d' fresh Parted closer backed = λ offset. ⊎_elim (λ stays. stays ∙ backed offset) (λ is. is) (closer offset)
+
+closer_join : (l : Layout) (f : Facts) (d d' : Spot) (left right : Grip) (pace : Pace) → ((offset : ℕ) → (d' offset ≡ d offset) ⊎ (d' offset ≡ f.now left.node offset))
+    → IsBackedJoin l f d left right pace → IsBackedJoin l f d' left right pace
+closer_join l f d d' left right Gathered closer backed = (
+  λ offset apart. ⊎_elim (λ stays. stays ∙ backed.0 offset apart) (λ is. is) (closer offset),
+  λ mix is. backed.1 mix (λ offset.
+      ⊎_elim (λ durable. ⊎_elim (λ stays. inl (durable ∙ stays)) (λ cached. inr (durable ∙ cached)) (closer offset)) (λ cached. inr cached) (is offset)),
+)
+closer_join l f d d' left right Joined closer backed = (
+  λ offset apart. ⊎_elim (λ stays. stays ∙ backed.0 offset apart) (λ is. is) (closer offset),
+  ⊎_elim (λ stays. ⊎_elim (λ is. inl (stays ∙ is)) (λ was. inr (stays ∙ was)) backed.1) (λ is. inl is) (closer next_offset),
+)
+closer_join l f d d' left right Gone closer backed = λ offset. ⊎_elim (λ stays. stays ∙ backed offset) (λ is. is) (closer offset)
 
 module _ (l : Layout) (words words' : List ℕ) (base : Map) (history : List Write) (closer : IsCloser l words words') where
   abbrev f : Facts
@@ -75,8 +110,26 @@ module _ (l : Layout) (words words' : List ℕ) (base : Map) (history : List Wri
 
   pub closer_stage : (u : Stage) → BacksStage l f words u → BacksStage l f words' u
   closer_stage Idle backed = tt
-  closer_stage (Saw n v w) backed = tt
+  closer_stage (Saw n v w k) backed = tt
   closer_stage (Holds n w h) backed = closer_backed l f (durable_spot l words n) (durable_spot l words' n) n h (closer_spot l words words' closer n) backed
+  closer_stage (Eyes n w h m v u free) backed = closer_backed l f (durable_spot l words n) (durable_spot l words' n) n h (closer_spot l words words' closer n) backed
+  closer_stage (Wears n v) backed = tt
+  closer_stage (Leaves left) backed = λ offset. ⊎_elim (λ stays. stays ∙ backed offset) (λ is. is) (closer_spot l words words' closer left.node offset)
+  closer_stage (Meets n w h right) backed = (
+    closer_backed l f (durable_spot l words n) (durable_spot l words' n) n h (closer_spot l words words' closer n) backed.0,
+    λ offset. ⊎_elim (λ stays. stays ∙ backed.1 offset) (λ is. is) (closer_spot l words words' closer right.node offset),
+  )
+  closer_stage (Joins h left right pace) backed = record {
+    left_clean = λ offset spared. ⊎_elim (λ stays. stays ∙ backed.left_clean offset spared) (λ is. is) (closer_spot l words words' closer left.node offset);
+    right_backed = λ offset. ⊎_elim (λ stays. stays ∙ backed.right_backed offset) (λ is. is) (closer_spot l words words' closer right.node offset);
+    left_backed = closer_join l f (durable_spot l words left.node) (durable_spot l words' left.node) left right pace (closer_spot l words words' closer left.node) backed.left_backed;
+  }
+  closer_stage (Splits left fresh phase) backed = record {
+    left_clean = λ offset spared. ⊎_elim (λ stays. stays ∙ backed.left_clean offset spared) (λ is. is) (closer_spot l words words' closer left.node offset);
+    fresh_clean = λ offset spared. ⊎_elim (λ stays. stays ∙ backed.fresh_clean offset spared) (λ is. is) (closer_spot l words words' closer fresh.node offset);
+    left_backed = closer_left l f (durable_spot l words left.node) (durable_spot l words' left.node) left fresh phase (closer_spot l words words' closer left.node) backed.left_backed;
+    fresh_backed = closer_fresh f (durable_spot l words fresh.node) (durable_spot l words' fresh.node) fresh phase (closer_spot l words words' closer fresh.node) backed.fresh_backed;
+  }
 
   pub closer_durable : (g : ℕ) → AreDurable l g f words → AreDurable l g f words'
   closer_durable g durable n here free offset = ⊎_elim (λ stays. stays ∙ durable n here free offset) (λ is. is) (closer_spot l words words' closer n offset)
@@ -91,7 +144,7 @@ module _ (l : Layout) (words words' : List ℕ) (base : Map) (history : List Wri
       (closer (Node n 0) has)
 
 -- spare words are words, and no node's
-spare_word : (l : Layout) (w : Word) → IsSpare w → HasWord l w × ((n offset : ℕ) → w ≡ Node n offset → ⊥)
+pub spare_word : (l : Layout) (w : Word) → IsSpare w → HasWord l w × ((n offset : ℕ) → w ≡ Node n offset → ⊥)
 spare_word l (Header o) is = (is.1, λ n offset e. cc)
 spare_word l (Root o) is = (is.1, λ n offset e. cc)
 spare_word l (Node n o) is = absurd is

@@ -1,12 +1,12 @@
 -- The weight of a lawful index: what a step, a start and a crash make of it.
-use Rattle.std.proofs.Common.{◌≡◌, ◌≢◌, ℕ, zero, suc, ◌+◌, ◌-◌, ◌/◌, ◌<◌, ◌≤◌, inl, inr, ⊎_elim, Bool, true, false, cond, List, [], ◌∷◌, ◌++◌, length, set, refl, sym, ap, ◌∙◌, subst, arith}
-use Rattle.std.specs.Prelude.{Option, Some, None, IfSome, IsSome, nat_le}
-use Rattle.std.proofs.lemmas.Bool.{leb-true, leb-false}
+use Rattle.std.proofs.Common.{◌≡◌, ◌≢◌, ℕ, zero, suc, ◌+◌, ◌-◌, ◌/◌, ◌<◌, ◌≤◌, ◌⊎◌, inl, inr, ⊎_elim, Bool, true, false, cond, List, [], ◌∷◌, ◌++◌, length, set, refl, sym, ap, ◌∙◌, subst, arith}
+use Rattle.std.specs.Prelude.{◌||◌, ◌==◌, Option, Some, None, IfSome, IsSome, nat_le}
+use Rattle.std.proofs.lemmas.Bool.{leb-true, leb-false, eq-eqb, eqb-true, ne_eqb, cases_eq}
+use Rattle.call_stages.specs.Kinds.{gone_status, live_status}
 use mathlib.Core.Option.{some, some-injective, some-ne-none}
 use lib.ListN.{get_elem?}
 use Rattle.pm_words.specs.declared.layout.Layout.{Layout}
 use Rattle.pm_words.specs.declared.action.Action.{Action}
-use Rattle.pm_words.specs.Rows.{durable_row}
 use Rattle.version_lock.specs.Versions.{IsFree}
 use Rattle.cat_key.specs.Names.{IsName}
 use Rattle.cat_history.specs.Maps.{Map, at}
@@ -16,21 +16,32 @@ use Rattle.cat_history.specs.declared.op.Change.TheVariants.{Put, Del}
 use Rattle.data_node.specs.Spots.{Spot, Means}
 use Rattle.data_node.specs.Weights.{names_in, node_weight}
 use Rattle.data_node.proofs.NameCounts.{same_names, put_keeps_names, put_adds_one, put_over_keeps_names, del_takes_one, del_keeps_names}
-use Rattle.sound_image.specs.Weights.{image_weight}
 use Rattle.call_stages.specs.declared.once.Once.{Once}
 use Rattle.call_stages.specs.declared.once.Placed.{Placed}
-use Rattle.call_stages.specs.Stages.{Held, Stage, Idle, Saw, Holds, pended}
-use Rattle.call_stages.specs.Kinds.{Look, turns_back, is_worn, sees, misses, times, learns, decides, glances, Step, looks, locks, stores, commits, drains, counts, unlocks, word_place}
-use Rattle.index_law.specs.Facts.{Facts, map_now, range_of, durable_spot}
+use Rattle.data_node.specs.Spots.{bitmap_offset}
+use Rattle.data_node.specs.Lists.{ListNode, next_offset, anchor_in, key_of}
+use Rattle.call_stages.specs.Stages.{Held, Gathered, Joined, Gone, Stage, Idle, Saw, Wears, Holds, Eyes, Splits, Leaves, Meets, Joins, pended}
+use Rattle.call_stages.specs.Kinds.{Look, turns_back, is_worn, wears, roams, roams_status, sees, misses, times, learns, decides, glances, finds_live, watches, watches_next, turns_away, steps_back, wanders, from_key, below_key, Merge, meets, knows_own, knows_right, copies, takes_up, puts_down, parts, gathers, joins, glances_joined, drains_joined, retires, yields, merges, Split, fills, lights, switches, glances_left, glances_fresh, drains_left, drains_fresh, trims, splits, peeks, peeks_status, eyes, eyes_free, passes, loses, claims, publishes, leaves, Step, looks, locks, stores, commits, drains, counts, unlocks, word_address}
+use Rattle.index_law.specs.Facts.{Facts, map_now, range_of, durable_spot, IsListed}
 use Rattle.index_law.specs.Worlds.{Party, World, facts, moved_on}
-use Rattle.index_law.specs.Lawful.{Each, HoldsNode, IsHeld, SureHolds, Sure, map_before}
-use Rattle.index_law.specs.Twins.{BacksStage}
-use Rattle.index_law.specs.Weights.{index_weight, lowered_by, lowered_in, lowered_sum, weight_sum, AddsName, RisesBy, StepWeighs, StartWeighs, JoinWeighs, EvictWeighs, IdleWeighs, CrashWeighs}
-use Rattle.index_law.proofs.Locks.{steadies}
-use Rattle.index_law.proofs.Moves.{fact_after, Gave, Gives, gives, facts_step}
+use Rattle.index_law.specs.Lawful.{Lawful, IsLinked, IsList, Each, HoldsNode, IsHeld, SureHolds, Sure, map_before}
+use Rattle.index_law.specs.Twins.{IsBacked, BacksSplit, BacksStage}
+use Rattle.data_node.specs.Weights.{total}
+use Rattle.index_law.specs.Weights.{weight_at, listed_weight, gone_weight, index_weight, lowered_by, lowered_in, lowered_sum, weight_sum, AddsName, RisesBy, StepWeighs, StartWeighs, JoinWeighs, EvictWeighs, IdleWeighs, CrashWeighs}
+use Rattle.index_law.proofs.Bystanders.{IsSteady}
+use Rattle.index_law.proofs.Loose.{loose_lowers}
+use Rattle.index_law.proofs.Locks.{cut_now, steadies}
+use Rattle.index_law.proofs.Stays.{means_less, means_beside, both_true}
+use Rattle.index_law.proofs.Switch.{leads_on, rise_from, inside_listed, range_left, range_fresh, range_other}
+use Rattle.index_law.proofs.Totals.{total_alike, total_one, total_cut, total_past, names_parts, total_plus, total_zero, part_at, part-here, total_part, names_less, names_or}
+use Rattle.index_law.proofs.Past.{range_past, list_past, listed_else, listed_not}
+use Rattle.index_law.proofs.Durable.{IsSkip, IsBack, thinned, same_list, plain_within, skip_within, back_within, put_within}
+use Rattle.index_law.proofs.Starts.{listed_within}
+use Rattle.call_stages.specs.Stages.{Grip, Filling, Linked, Parted}
+use Rattle.data_node.specs.Lists.{target_from}
+use Rattle.index_law.proofs.Moves.{fact_after, split_after, merge_after, Gave, Gives, gives, facts_step}
 use Rattle.index_law.proofs.Own.{clean_means, old_is, mine}
-use Rattle.index_law.proofs.Rows.{with_word}
-use Rattle.index_law.proofs.Crashes.{image_is}
+use Rattle.index_law.proofs.Rows.{with_word, with_next, with_past, new_member, set_else}
 use Rattle.index_law.proofs.Evictions.{evict_facts}
 
 -- a name taken away weighed where so many are left
@@ -80,24 +91,103 @@ shown_before slots range s m name (Some (Del key)) (Some value) named inside abo
     let less = del_takes_one slots range s s m key (subst IsName (sym about) named) (subst (λ (k : List ℕ). range k ≡ true) (sym about) inside) before after value (ap (at m) about ∙ had) in
     absurd (omega arith)
 
--- node 0 is the one that a call holds
-only_node : (l : Layout) (n : ℕ) → l.nodes ≡ 1 → n < l.nodes → 0 ≡ n
-only_node l n one here = omega arith
-
-weight_of : (l : Layout) (f : Facts) (n : ℕ) → l.nodes ≡ 1 → n < l.nodes → index_weight l f ≡ node_weight l.slots (range_of l f n) (f.now n)
-weight_of l f n one here = ap (λ (k : ℕ). node_weight l.slots (range_of l f k) (f.now k)) (only_node l n one here)
-
 -- the weight, with what one call has lowered it by
 abbrev own_sum : Layout → Facts → Stage → ℕ
-own_sum l f s = index_weight l f + lowered_in l f s
+own_sum l f s = listed_weight l f + lowered_in l f s
+
+-- a step that stores a word of content
+content_weighs : (l : Layout) (f : Facts) → IsList l f → (n offset y : ℕ) → IsListed f n
+    → listed_weight l (with_word f n offset y) + weight_at l f n ≡ listed_weight l f + weight_at l (with_word f n offset y) n
+content_weighs l f list n offset y listed =
+    total_one f.now (weight_at l f) (weight_at l (with_word f n offset y)) n 0 f.list list.chain (rise_from l f list) listed
+    (λ k is other. ap (node_weight l.slots (range_of l f k)) (set_else f.now n offset y k other))
+
+-- neither half is small
+halves_weigh : (slots kept moved whole : ℕ) → kept + moved ≡ whole → slots / 2 ≤ kept → slots / 2 ≤ moved
+    → (slots / 2 + (kept - slots / 2)) + (slots / 2 + (moved - slots / 2)) ≤ slots / 2 + (whole - slots / 2)
+halves_weigh slots kept moved whole whole_is low high = omega arith
+
+-- a merge takes the half of a node's slots that the right node weighs at least
+merged_less : (half one other all after before : ℕ) → after + (half + (one - half)) + (half + (other - half)) ≡ before + (half + (all - half)) → all ≤ half → after + half ≤ before + 0
+merged_less half one other all after before fewer few = omega arith
+
+-- what one node weighs that may be GONE
+one_gone : (half a b : ℕ) → (a ≡ gone_status → b ≡ gone_status) → cond (a == gone_status) half 0 ≤ cond (b == gone_status) half 0
+one_gone half a b also = elim (a == gone_status) as (λ c. (a == gone_status) ≡ c → cond c half 0 ≤ cond (b == gone_status) half 0) [
+  | true ↦ λ is. let same : cond (b == gone_status) half 0 ≡ half = ap (λ c. cond c half 0) (eq-eqb b gone_status (also (eqb-true a gone_status is))) in omega arith
+  | false ↦ λ _. omega arith
+] refl
+
+most_gone : (half a : ℕ) → cond (a == gone_status) half 0 ≤ half
+most_gone half a = elim (a == gone_status) as (λ c. cond c half 0 ≤ half) [
+  | true ↦ omega arith
+  | false ↦ omega arith
+]
+
+-- no more nodes are GONE,
+gone_less : (half : ℕ) (status status' : ℕ → ℕ) (n : ℕ) → ((k : ℕ) → k < n → status' k ≡ gone_status → status k ≡ gone_status) → gone_weight half status' n ≤ gone_weight half status n
+gone_less half status status' zero fewer = omega arith
+gone_less half status status' (suc n) fewer =
+    let one = one_gone half (status' n) (status n) (fewer n (omega arith)) in
+    let rest = gone_less half status status' n (λ k within. fewer k (omega arith)) in
+    omega arith
+
+-- or one more
+gone_more : (half : ℕ) (status status' : ℕ → ℕ) (r n : ℕ) → ((k : ℕ) → k < n → status' k ≡ gone_status → (status k ≡ gone_status) ⊎ (k ≡ r)) → gone_weight half status' n ≤ gone_weight half status n + half
+gone_more half status status' r zero more = omega arith
+gone_more half status status' r (suc n) more = ⊎_elim
+    (λ (e : n ≡ r).
+    let one = most_gone half (status' n) in
+    let rest = gone_less half status status' n (λ k within is. ⊎_elim (λ was. was) (λ d. absurd (omega arith)) (more k (omega arith) is)) in
+    omega arith)
+    (λ (other : n ≢ r).
+    let one = one_gone half (status' n) (status n) (λ is. ⊎_elim (λ was. was) (λ d. absurd (other d)) (more n (omega arith) is)) in
+    let rest = gone_more half status status' r n (λ k within. more k (omega arith)) in
+    omega arith)
+    (cases_eq n r)
+
+split_lowers : (l : Layout) (g : ℕ) (f : Facts) {s : Stage} {a : Action} {x : ℕ} {t : Stage} → Split l g s a x t → lowered_in l f s ≡ 0
+split_lowers l g f (fills has positive small within soils told) = refl
+split_lowers l g f (lights here leads) = refl
+split_lowers l g f (switches here small durable soiled cut told means) = refl
+split_lowers l g f (glances_left has learnt) = refl
+split_lowers l g f (glances_fresh has) = refl
+split_lowers l g f (drains_left has small hand cleans) = refl
+split_lowers l g f (drains_fresh has small hand cleans) = refl
+split_lowers l g f (trims here small durable soiled anchor told means) = refl
+
+split_lowers_after : (l : Layout) (g : ℕ) (f : Facts) {s : Stage} {a : Action} {x : ℕ} {t : Stage} → Split l g s a x t → lowered_in l f t ≡ 0
+split_lowers_after l g f (fills has positive small within soils told) = refl
+split_lowers_after l g f (lights here leads) = refl
+split_lowers_after l g f (switches here small durable soiled cut told means) = refl
+split_lowers_after l g f (glances_left has learnt) = refl
+split_lowers_after l g f (glances_fresh has) = refl
+split_lowers_after l g f (drains_left has small hand cleans) = refl
+split_lowers_after l g f (drains_fresh has small hand cleans) = refl
+split_lowers_after l g f (trims here small durable soiled anchor told means) = refl
 
 module _ {l : Layout} {g : ℕ} (f : Facts) (caller index since : ℕ) where
   -- a look lowers nothing
   look_lowers : {s : Stage} {a : Action} {x : ℕ} {t : Stage} {r : Option (Once Placed)} → (k : Look l g s a x t r) → Gave k f → Sure l g f caller index since s
       → Sure l g f caller index since t → lowered_in l f t ≡ lowered_in l f s
-  look_lowers (turns_back here busy) e knows after = refl
-  look_lowers (is_worn here free worn) e knows after = refl
-  look_lowers (sees here free unworn lock) e knows after = refl
+  look_lowers (turns_back {s = s} loose here busy) e knows after = sym (loose_lowers l f s loose)
+  look_lowers (wears {s = s} loose here free worn) e knows after = sym (loose_lowers l f s loose)
+  look_lowers (roams has) e knows after = refl
+  look_lowers (roams_status here) e knows after = refl
+  look_lowers (is_worn has) e knows after = refl
+  look_lowers (sees {s = s} loose here free unworn lock) e knows after = sym (loose_lowers l f s loose)
+  look_lowers (finds_live here is) e knows after = refl
+  look_lowers (watches has positive live next learnt) e knows after = refl
+  look_lowers (watches_next has low high ne live live' next leads learnt) e knows after = refl
+  look_lowers (turns_away {s = s} loose here up) e knows after = sym (loose_lowers l f s loose)
+  look_lowers (steps_back {s = s} loose here up) e knows after = sym (loose_lowers l f s loose)
+  look_lowers (wanders {s = s} loose here up) e knows after = sym (loose_lowers l f s loose)
+  look_lowers (peeks here unready) e knows after = refl
+  look_lowers (peeks_status here unready) e knows after = refl
+  look_lowers (eyes {n = n} {h = h} clean durable here nonzero free unworn lock) e knows after = sym (unlowered l.slots (names_in l.slots (range_of l f n) (f.now n)) h.pending h.old clean.pending)
+  look_lowers (eyes_free here is) e knows after = refl
+  look_lowers (passes {n = n} {h = h} here) e knows after = unlowered l.slots (names_in l.slots (range_of l f n) (f.now n)) h.pending h.old knows.1.clean.pending
+  look_lowers (loses {n = n} {h = h} here other) e knows after = unlowered l.slots (names_in l.slots (range_of l f n) (f.now n)) h.pending h.old knows.1.clean.pending
   look_lowers (misses other) e knows after = refl
   look_lowers (times clean below) e knows after = refl
   look_lowers (learns has positive unready learnt) e knows after = refl
@@ -108,22 +198,118 @@ module _ {l : Layout} {g : ℕ} (f : Facts) (caller index since : ℕ) where
       ∙ sym (unlowered l.slots (names_in l.slots (range_of l f n) (f.now n)) h.pending h.old clean.pending)
   look_lowers (glances has unready) e knows after = refl
 
-  own_weighs : l.nodes ≡ 1 → {s : Stage} {a : Action} {x : ℕ} {t : Stage} {r : Option (Once Placed)} → (k : Step l g s a x t r) → Gives k f → Sure l g f caller index since s
-      → Sure l g (fact_after k f caller index) caller index since t → RisesBy (AddsName s a t) (own_sum l f s) (own_sum l (fact_after k f caller index) t)
-  own_weighs one (looks look) e knows after = let same = look_lowers look e knows after in inl (omega arith)
-  own_weighs one (locks same named) e knows after = inl (omega arith)
-  own_weighs one (stores {n = n} {y = y} {offset = offset} {h = h} has positive small clean soils learnt means) e knows after =
+  -- a split weighs no more at any of its steps
+  split_weighs : IsList l f → {s : Stage} {a : Action} {x : ℕ} {t : Stage} → (k : Split l g s a x t) → Sure l g f caller index since s → Sure l g (split_after k f) caller index since t
+      → listed_weight l (split_after k f) ≤ listed_weight l f
+  split_weighs list (fills {y = y} {offset = offset} {fresh = fresh} has positive small within soils told) knows after =
+      let same = total_alike (weight_at l f) (weight_at l (with_word f fresh.node offset y)) 0 f.list
+      (λ n is. ap (node_weight l.slots (range_of l f n)) (set_else f.now fresh.node offset y n (λ e. knows.at.unlisted (subst (IsListed f) e is)))) in
+      omega arith
+  split_weighs list (lights here leads) knows after = omega arith
+  split_weighs list (switches {left = left} {fresh = fresh} here small durable soiled cut told means) knows after =
+      let is = cut_now l g f left fresh knows cut in
+      let n = left.node in
+      let y = fresh.node in
+      let φ = with_next f n y in
+      let listed = knows.at.listed in
+      let out = knows.at.unlisted in
+      let a : ℕ = anchor_in (f.now y) in
+      let m = map_now f in
+      let range = range_of l f n in
+      let low : range_of l φ n ≡ below_key range a = range_left l f list n y listed out knows.new.here m is in
+      let high : range_of l φ y ≡ from_key range a = range_fresh l f list n y listed out knows.new.here m is in
+      let new : φ.now y ≡ f.now y = set_else f.now n next_offset y y (λ same. knows.apart (sym same)) in
+      let less = means_less l.slots range (below_key range a) (f.now n) m (λ name inside. both_true (range name) _ inside) knows.at.settled.means in
+      let more = means_less l.slots range (from_key range a) (f.now n) m (λ name inside. both_true (range name) _ inside) knows.at.settled.means in
+      let alone = means_less l.slots (λ name. range_of l φ n name || range_of l φ y name) (range_of l φ n) (φ.now n) m (λ name inside. ap (λ b. b || range_of l φ y name) inside) after.at.means in
+      let kept : names_in l.slots (range_of l φ n) (φ.now n) ≡ names_in l.slots (below_key range a) (f.now n) =
+      same_names l.slots (range_of l φ n) (φ.now n) (f.now n) m alone (subst (λ (r : List ℕ → Bool). Means l.slots r (f.now n) m) (sym low) less)
+      ∙ ap (λ (r : List ℕ → Bool). names_in l.slots r (f.now n)) low in
+      let taken : names_in l.slots (range_of l φ y) (φ.now y) ≡ names_in l.slots (from_key range a) (f.now y) = (λ i. names_in l.slots (high i) (new i)) in
+      let moved : names_in l.slots (from_key range a) (f.now y) ≡ names_in l.slots (from_key range a) (f.now n) = same_names l.slots (from_key range a) (f.now y) (f.now n) m is.means more in
+      let parts = names_parts l.slots range a (f.now n) in
+      let full = is.full in
+      let half = is.half in
+      let longer = total_cut f.now (weight_at l φ) n (new_member f.now y) 0 f.list list.chain (rise_from l f list) listed in
+      let one = total_one f.now (weight_at l f) (weight_at l φ) n 0 f.list list.chain (rise_from l f list) listed
+      (λ k in_list other. λ i. node_weight l.slots (range_other l f list n y listed out knows.new.here m is k other (λ e. out (subst (IsListed f) e in_list)) i) (set_else f.now n next_offset y k other i)) in
+      let less_weight : weight_at l φ n + weight_at l φ y ≤ weight_at l f n =
+      let whole = halves_weigh l.slots (names_in l.slots (range_of l φ n) (φ.now n)) (names_in l.slots (range_of l φ y) (φ.now y)) (names_in l.slots range (f.now n)) (omega arith) (omega arith) (omega arith) in
+      whole in
+      omega arith
+  split_weighs list (glances_left has learnt) knows after = omega arith
+  split_weighs list (glances_fresh has) knows after = omega arith
+  split_weighs list (drains_left has small hand cleans) knows after = omega arith
+  split_weighs list (drains_fresh has small hand cleans) knows after = omega arith
+  split_weighs list (trims {y = y} {left = left} {fresh = fresh} here small durable soiled anchor told means) knows after =
+      let n = left.node in
+      let φ = with_word f n bitmap_offset y in
+      let m = map_now f in
+      let before = means_less l.slots (λ name. range_of l f n name || range_of l f fresh.node name) (range_of l f n) (f.now n) m (λ name inside. ap (λ b. b || range_of l f fresh.node name) inside) knows.at.means in
+      let same = same_names l.slots (range_of l f n) (f.now n) (φ.now n) m before after.at.settled_left.means in
+      let one = content_weighs l f list n bitmap_offset y knows.at.listed in
+      omega arith
+
+  -- neither does a merge, with the node that it leaves out
+  merge_weighs : IsList l f → {s : Stage} {a : Action} {x : ℕ} {t : Stage} → (k : Merge l g s a x t) → Sure l g f caller index since s → Sure l g (merge_after k f) caller index since t
+      → own_sum l (merge_after k f) t ≤ own_sum l f s
+  merge_weighs list (meets here same untimed leads) knows after = omega arith
+  merge_weighs list (knows_own has positive learnt) knows after = omega arith
+  merge_weighs list (knows_right has positive told) knows after = omega arith
+  merge_weighs list (copies {n = n} {y = y} {offset = offset} {h = h} has content small soils learnt means) knows after =
       let φ = with_word f n offset y in
-      let was = weight_of l f n one knows.here in
-      let is = weight_of l φ n one knows.here in
+      let one = content_weighs l f list n offset y (inside_listed l f list n h.name knows.0.inside) in
+      let names = same_names l.slots (range_of l f n) (f.now n) (φ.now n) (pended h.pending (map_now f)) knows.0.means after.0.means in
+      omega arith
+  merge_weighs list (takes_up has) knows after = omega arith
+  merge_weighs list (puts_down has small hand cleans) knows after = omega arith
+  merge_weighs list (parts {n = n} {freed = freed} {h = h} {right = right} next) knows after =
+      let none = unlowered l.slots (names_in l.slots (range_of l f n) (f.now n)) h.pending h.old knows.1.still.pending in
+      omega arith
+  merge_weighs list (gathers {n = n} {w = w} {y = y} {h = h} {right = right} small durable soiled told gathered) knows after =
+      let φ = with_word f n bitmap_offset y in
+      let one = content_weighs l f list n bitmap_offset y (inside_listed l f list n h.name knows.0.inside) in
+      let now = means_less l.slots (λ name. range_of l f n name || range_of l f right.node name) (range_of l f n) (φ.now n) (map_now f)
+      (λ name inside. ap (λ b. b || range_of l f right.node name) inside) after.at.linked.means in
+      let names = same_names l.slots (range_of l f n) (f.now n) (φ.now n) (map_now f) (clean_means f caller index since n w h knows.0 knows.1.still.pending) now in
+      omega arith
+  merge_weighs list (joins {y = y} {left = left} {right = right} small durable soiled next told) knows after =
+      let n = left.node in
+      let r = right.node in
+      let φ = with_past f n y r in
+      let was = knows.at.linked in
+      let on : f.now r next_offset ≡ y = next (f.now r) knows.other.seen in
+      let list' = list_past l f list n y r was.listed was.leads knows.nonzero on in
+      let listed' = listed_else l f list n y r was.listed was.leads knows.nonzero on n knows.apart was.listed in
+      let one = total_one φ.now (weight_at l f) (weight_at l φ) n 0 φ.list list'.chain (rise_from l φ list') listed'
+      (λ k in_list other. λ i. node_weight l.slots
+      (range_past l f list n y r was.listed was.leads knows.nonzero on k other (λ e. listed_not l f list n y r was.listed was.leads knows.nonzero on (subst (IsListed φ) e in_list)) i)
+      (set_else f.now n next_offset y k other i)) in
+      let fewer : listed_weight l φ + weight_at l f n + weight_at l f r ≡ listed_weight l f + weight_at l φ n = ⊎_elim
+      (λ (z : r ≡ 0). absurd (knows.nonzero z))
+      (λ among. let past = total_past (weight_at l f) r 0 f.list among in omega arith)
+      was.listed_fresh in
+      let few = after.at.few in
+      merged_less (l.slots / 2) (names_in l.slots (range_of l f n) (f.now n)) (names_in l.slots (range_of l f r) (f.now r)) (names_in l.slots (range_of l φ n) (φ.now n)) (listed_weight l φ) (listed_weight l f) fewer few
+  merge_weighs list (glances_joined has learnt) knows after = omega arith
+  merge_weighs list (drains_joined has small hand cleans) knows after = omega arith
+  merge_weighs list (retires durable) knows after = omega arith
+  merge_weighs list (yields next durable) knows after = omega arith
+
+  own_weighs : IsList l f → {s : Stage} {a : Action} {x : ℕ} {t : Stage} {r : Option (Once Placed)} → (k : Step l g s a x t r) → Gives k f → Sure l g f caller index since s
+      → Sure l g (fact_after k f caller index) caller index since t → RisesBy (AddsName s a t) (own_sum l f s) (own_sum l (fact_after k f caller index) t)
+  own_weighs list (looks look) e knows after = let same = look_lowers look e knows after in inl (omega arith)
+  own_weighs list (locks same named live between) e knows after = inl (omega arith)
+  own_weighs list (stores {n = n} {y = y} {offset = offset} {h = h} has content small clean soils learnt means) e knows after =
+      let φ = with_word f n offset y in
+      let one = content_weighs l f list n offset y (inside_listed l f list n h.name knows.inside) in
       let names = same_names l.slots (range_of l f n) (f.now n) (φ.now n) (pended h.pending (map_now f)) knows.means after.means in
       let before = unlowered l.slots (names_in l.slots (range_of l f n) (f.now n)) h.pending h.old clean.pending in
       let stays = unlowered l.slots (names_in l.slots (range_of l f n) (φ.now n)) h.pending h.old clean.pending in
       inl (omega arith)
-  own_weighs one (commits {n = n} {w = w} {y = y} {offset = offset} {h = h} {k = k} {dirty = dirty} {old = old} {c = c} has positive small clean durable soiled old_known about learnt means) e knows after =
+  own_weighs list (commits {n = n} {w = w} {y = y} {offset = offset} {h = h} {k = k} {dirty = dirty} {old = old} {c = c} has content small clean durable soiled old_known about learnt means) e knows after =
       let φ = with_word f n offset y in
-      let was = weight_of l f n one knows.here in
-      let is = weight_of l φ n one knows.here in
+      let one = content_weighs l f list n offset y (inside_listed l f list n h.name knows.inside) in
       let before = unlowered l.slots (names_in l.slots (range_of l f n) (f.now n)) h.pending h.old clean.pending in
       let stays : lowered_by l.slots (names_in l.slots (range_of l f n) (φ.now n)) (Some c) h.old ≡ lowered_by l.slots (names_in l.slots (range_of l f n) (φ.now n)) (Some c) (Some old) =
       ap (lowered_by l.slots (names_in l.slots (range_of l f n) (φ.now n)) (Some c)) old_known in
@@ -150,22 +336,83 @@ module _ {l : Layout} {g : ℕ} (f : Facts) (caller index since : ℕ) where
           name = put.name;
           value = put.value;
           shows = ap Some put.put;
-          place = word_place l n offset;
+          address = word_address l n offset;
           word = y;
           stores = refl;
         },
         omega arith,
       ))
       weighs
-  own_weighs one (drains has small unready hand cleans) e knows after = inl (omega arith)
-  own_weighs one (counts durable ready pending unplaced) e knows after = inl (omega arith)
-  own_weighs one (unlocks next pending durable unready answers) e knows after = inl (omega arith)
+  own_weighs list (drains has small unready hand cleans) e knows after = inl (omega arith)
+  own_weighs list (counts durable ready pending unplaced) e knows after = inl (omega arith)
+  own_weighs list (unlocks next pending durable unready answers) e knows after = inl (omega arith)
+  own_weighs list (claims unplaced here same) e knows after = inl (omega arith)
+  own_weighs list (publishes next left fresh) e knows after = inl (omega arith)
+  own_weighs list (leaves next) e knows after = inl (omega arith)
+  own_weighs list (merges k) e knows after = inl (merge_weighs list k knows after)
+  own_weighs list (splits k) e knows after =
+      let weighs = split_weighs list k knows after in
+      let none = split_lowers l g f k in
+      let none' = split_lowers_after l g (split_after k f) k in
+      inl (omega arith)
 
--- what a call has lowered stays where the words of its node stay
-lowered_alike : (l : Layout) (f f' : Facts) (s : Stage) → ((n : ℕ) → HoldsNode s n → f'.now n ≡ f.now n) → lowered_in l f' s ≡ lowered_in l f s
+  -- what the GONE nodes weigh, with the one that a merge makes GONE
+  gone_step : {s : Stage} {a : Action} {x : ℕ} {t : Stage} {r : Option (Once Placed)} → (k : Step l g s a x t r)
+      → (gone_weight (l.slots / 2) (fact_after k f caller index).status l.nodes ≤ gone_weight (l.slots / 2) f.status l.nodes)
+      ⊎ ((own_sum l (fact_after k f caller index) t + l.slots / 2 ≤ own_sum l f s)
+      × (gone_weight (l.slots / 2) (fact_after k f caller index).status l.nodes ≤ gone_weight (l.slots / 2) f.status l.nodes + l.slots / 2))
+  gone_step (looks look) = inl (omega arith)
+  gone_step (locks same named live between) = inl (omega arith)
+  gone_step (stores has content small clean soils learnt means) = inl (omega arith)
+  gone_step (commits has content small clean durable soiled old about learnt means) = inl (omega arith)
+  gone_step (drains has small unready hand cleans) = inl (omega arith)
+  gone_step (counts durable ready pending unplaced) = inl (omega arith)
+  gone_step (unlocks next pending durable unready answers) = inl (omega arith)
+  gone_step (claims unplaced here same) = inl (omega arith)
+  gone_step (publishes next left fresh) = inl (omega arith)
+  gone_step (leaves next) = inl (omega arith)
+  gone_step (splits (fills has positive small within soils told)) = inl (omega arith)
+  gone_step (splits (lights {fresh = fresh} here leads)) = inl (gone_less (l.slots / 2) f.status (λ m. cond (m == fresh.node) live_status (f.status m)) l.nodes (λ n within is. ⊎_elim
+      (λ (e : n ≡ fresh.node). absurd (let no : 1 ≡ 2 = sym (ap (λ (b : Bool). cond b live_status (f.status n)) (eq-eqb n fresh.node e)) ∙ is in omega arith))
+      (λ (other : n ≢ fresh.node). sym (ap (λ (b : Bool). cond b live_status (f.status n)) (ne_eqb n fresh.node other)) ∙ is)
+      (cases_eq n fresh.node)))
+  gone_step (splits (switches here small durable soiled cut told means)) = inl (omega arith)
+  gone_step (splits (glances_left has learnt)) = inl (omega arith)
+  gone_step (splits (glances_fresh has)) = inl (omega arith)
+  gone_step (splits (drains_left has small hand cleans)) = inl (omega arith)
+  gone_step (splits (drains_fresh has small hand cleans)) = inl (omega arith)
+  gone_step (splits (trims here small durable soiled anchor told means)) = inl (omega arith)
+  gone_step (merges (meets here same untimed leads)) = inl (omega arith)
+  gone_step (merges (knows_own has positive learnt)) = inl (omega arith)
+  gone_step (merges (knows_right has positive told)) = inl (omega arith)
+  gone_step (merges (copies has content small soils learnt means)) = inl (omega arith)
+  gone_step (merges (takes_up has)) = inl (omega arith)
+  gone_step (merges (puts_down has small hand cleans)) = inl (omega arith)
+  gone_step (merges (parts next)) = inl (omega arith)
+  gone_step (merges (gathers small durable soiled told gathered)) = inl (omega arith)
+  gone_step (merges (joins small durable soiled next told)) = inl (omega arith)
+  gone_step (merges (glances_joined has learnt)) = inl (omega arith)
+  gone_step (merges (drains_joined has small hand cleans)) = inl (omega arith)
+  gone_step (merges (retires {right = right} durable)) = inr (
+    omega arith,
+    gone_more (l.slots / 2) f.status (λ m. cond (m == right.node) gone_status (f.status m)) right.node l.nodes (λ n within is. ⊎_elim
+        (λ (e : n ≡ right.node). inr e)
+        (λ (other : n ≢ right.node). inl (sym (ap (λ (b : Bool). cond b gone_status (f.status n)) (ne_eqb n right.node other)) ∙ is))
+        (cases_eq n right.node)),
+  )
+  gone_step (merges (yields next durable)) = inl (omega arith)
+
+-- what a call has lowered stays where its node is steady
+lowered_alike : (l : Layout) (f f' : Facts) (s : Stage) → ((n : ℕ) → HoldsNode s n → IsSteady l f f' n) → lowered_in l f' s ≡ lowered_in l f s
 lowered_alike l f f' Idle same = refl
-lowered_alike l f f' (Saw n v w) same = refl
-lowered_alike l f f' (Holds n w h) same = ap (λ (s : Spot). lowered_by l.slots (names_in l.slots (range_of l f n) s) h.pending h.old) (same n refl)
+lowered_alike l f f' (Saw n v w k) same = refl
+lowered_alike l f f' (Holds n w h) same = λ i. lowered_by l.slots (names_in l.slots ((same n refl).range i) ((same n refl).now i)) h.pending h.old
+lowered_alike l f f' (Eyes n w h m v u free) same = refl
+lowered_alike l f f' (Splits left fresh phase) same = refl
+lowered_alike l f f' (Wears n v) same = refl
+lowered_alike l f f' (Leaves left) same = refl
+lowered_alike l f f' (Meets n w h right) same = refl
+lowered_alike l f f' (Joins h left right pace) same = refl
 
 -- the sum over the parties, where each one's part is the same
 sum_same : (l : Layout) (f f' : Facts) (parties : List Party) → ((j : ℕ) (d : Party) → get_elem? parties j ≡ some d → lowered_in l f' d.stage ≡ lowered_in l f d.stage)
@@ -197,16 +444,19 @@ step_weighs w i p a x t r lawful there k told =
     let known = lawful.sure i p there in
     let given = gives w.words w.base w.history p.caller p.index p.since k lawful.clock told known in
     let φ = fact_after k f p.caller p.index in
-    let after = mine f p.caller p.index p.since (lawful.begun i p there) lawful.versions lawful.one_node lawful.settled k given known in
-    let same = facts_step w.words w.base w.history p.caller p.index p.since k lawful.row told known in
+    let after = mine f p.caller p.index p.since (lawful.begun i p there) lawful.versions lawful.list lawful.live lawful.settled k given known in
+    let same = facts_step w.words w.base w.history p.caller p.index p.since k lawful.row lawful.list told known in
     let sums = sum_set l f φ w.parties i p (moved_on p t) there (λ j d other at.
     lowered_alike l f φ d.stage (λ n holds.
-    (steadies f p.caller p.index p.since k given known d.caller d.index d.since d.stage (λ m mine theirs. other (lawful.alone j i m d p at there theirs mine)) (lawful.sure j d at) n holds).now)) in
+    (steadies f p.caller p.index p.since k given lawful.list known d.caller d.index d.since d.stage (λ m mine theirs. other (lawful.alone j i m d p at there theirs mine)) (lawful.sure j d at) n holds))) in
     subst (λ (ψ : Facts). RisesBy (AddsName p.stage a t) (weight_sum w) (index_weight l ψ + lowered_sum l ψ (set w.parties i (moved_on p t)))) (sym same)
     (⊎_elim
+    (λ fewer. ⊎_elim
     (λ less. inl (omega arith))
     (λ more. inr (more.0, let most = more.1 in omega arith))
-    (own_weighs f p.caller p.index p.since lawful.one_node k given known after))
+    (own_weighs f p.caller p.index p.since lawful.list k given known after))
+    (λ retired. let less = retired.0 in let more = retired.1 in inl (omega arith))
+    (gone_step {g = w.generation} f p.caller p.index p.since k))
 
 -- who relies on nothing has lowered nothing
 idle_lowers : (l : Layout) (f : Facts) (p : Party) → p.stage ≡ Idle → lowered_in l f p.stage ≡ 0
@@ -296,31 +546,198 @@ module _ (l : Layout) (g : ℕ) (f : Facts) (words : List ℕ) (caller index sin
       }
 
   -- the durable words of the node that a call holds
-  held_weighs : (n : ℕ) (s : Stage) → HoldsNode s n → Sure l g f caller index since s → BacksStage l f words s
-      → node_weight l.slots (range_of l f n) (durable_spot l words n) ≤ node_weight l.slots (range_of l f n) (f.now n) + lowered_in l f s
-  held_weighs n Idle holds knows backed = absurd holds
-  held_weighs n (Saw m v w) holds knows backed = absurd holds
-  held_weighs n (Holds m w h) holds knows backed =
-      subst (λ (k : ℕ). node_weight l.slots (range_of l f k) (durable_spot l words k) ≤ node_weight l.slots (range_of l f k) (f.now k) + lowered_in l f (Holds m w h)) holds
-      (⊎_elim
-      (λ was. back_weighs l.slots (range_of l f m) (f.now m) (durable_spot l words m) (map_now f) h.pending h.old (pending_told m w h h.pending knows refl) was knows.means)
-      (λ shows. let same = same_names l.slots (range_of l f m) (f.now m) (durable_spot l words m) (pended h.pending (map_now f)) knows.means shows in omega arith)
-      (backed.mixes (durable_spot l words m) (λ offset. inl refl)))
+  held_weighs : (n w : ℕ) (h : Held) → SureHolds l g f caller index since n w h → IsBacked l f (durable_spot l words n) n h
+      → node_weight l.slots (range_of l f n) (durable_spot l words n) ≤ node_weight l.slots (range_of l f n) (f.now n) + lowered_in l f (Holds n w h)
+  held_weighs n w h knows backed = ⊎_elim
+      (λ was. back_weighs l.slots (range_of l f n) (f.now n) (durable_spot l words n) (map_now f) h.pending h.old (pending_told n w h h.pending knows refl) was knows.means)
+      (λ shows. let same = same_names l.slots (range_of l f n) (f.now n) (durable_spot l words n) (pended h.pending (map_now f)) knows.means shows in omega arith)
+      (backed.mixes (durable_spot l words n) (λ offset. inl refl))
+
+-- the node at which a call has lowered the weight
+abbrev node_of : Stage → ℕ
+node_of (Holds n w h) = n
+node_of (Joins h left right pace) = left.node
+node_of _ = 0
+
+-- what the calls have lowered at a node
+abbrev lowered_at : Layout → Facts → List Party → ℕ → ℕ
+lowered_at l f [] n = 0
+lowered_at l f (p ∷ parties) n = part_at (node_of p.stage) (lowered_in l f p.stage) n + lowered_at l f parties n
+
+-- over all listed nodes that is no more than all that the calls have lowered
+lowered_total : (l : Layout) (f : Facts) → IsList l f → (parties : List Party) → total (lowered_at l f parties) 0 f.list ≤ lowered_sum l f parties
+lowered_total l f list [] = let none = total_zero 0 f.list in omega arith
+lowered_total l f list (p ∷ parties) =
+    let first = total_part f.now (node_of p.stage) (lowered_in l f p.stage) 0 f.list list.chain (rise_from l f list) in
+    let rest = lowered_total l f list parties in
+    let sums = total_plus (part_at (node_of p.stage) (lowered_in l f p.stage)) (lowered_at l f parties) 0 f.list in
+    omega arith
+
+lowered_has : (l : Layout) (f : Facts) (parties : List Party) (i : ℕ) (p : Party) (n w : ℕ) (h : Held) → get_elem? parties i ≡ some p → p.stage ≡ Holds n w h
+    → lowered_in l f (Holds n w h) ≤ lowered_at l f parties n
+lowered_has l f [] i p n w h there is = absurd (some-ne-none p (sym there))
+lowered_has l f (d ∷ parties) zero p n w h there is =
+    let stage : d.stage ≡ Holds n w h = ap (λ (e : Party). e.stage) (some-injective d p there) ∙ is in
+    let part : part_at (node_of d.stage) (lowered_in l f d.stage) n ≡ lowered_in l f (Holds n w h) =
+    ap (λ s. part_at (node_of s) (lowered_in l f s) n) stage ∙ part-here n (lowered_in l f (Holds n w h)) n refl in
+    omega arith
+lowered_has l f (d ∷ parties) (suc i) p n w h there is = let rest = lowered_has l f parties i p n w h there is in omega arith
+
+-- what any stage has lowered at its node
+lowered_there : (l : Layout) (f : Facts) (parties : List Party) (i : ℕ) (p : Party) (stage : Stage) → get_elem? parties i ≡ some p → p.stage ≡ stage
+    → lowered_in l f stage ≤ lowered_at l f parties (node_of stage)
+lowered_there l f [] i p stage there is = absurd (some-ne-none p (sym there))
+lowered_there l f (d ∷ parties) zero p stage there is =
+    let same : d.stage ≡ stage = ap (λ (e : Party). e.stage) (some-injective d p there) ∙ is in
+    let part : part_at (node_of d.stage) (lowered_in l f d.stage) (node_of stage) ≡ lowered_in l f stage =
+    ap (λ s. part_at (node_of s) (lowered_in l f s) (node_of stage)) same ∙ part-here (node_of stage) (lowered_in l f stage) (node_of stage) refl in
+    omega arith
+lowered_there l f (d ∷ parties) (suc i) p stage there is = let rest = lowered_there l f parties i p stage there is in omega arith
+
+or_true : (b : Bool) → (b || true) ≡ true
+or_true true = refl
+or_true false = refl
+
+-- two halves weigh no less than the whole
+whole_weighs : (slots one other all : ℕ) → all ≤ one + other → slots / 2 + (all - slots / 2) ≤ (slots / 2 + (one - slots / 2)) + (slots / 2 + (other - slots / 2))
+whole_weighs slots one other all most = omega arith
+
+more_weighs : (slots few many : ℕ) → few ≤ many → slots / 2 + (few - slots / 2) ≤ slots / 2 + (many - slots / 2)
+more_weighs slots few many less = omega arith
+
+module _ (w : World) (lawful : Lawful w) where
+  abbrev f : Facts
+  f = facts w
+
+  abbrev slots : ℕ
+  slots = w.layout.slots
+
+  abbrev safe : ℕ → Spot
+  safe = durable_spot w.layout w.words
+
+  abbrev cost : ℕ → ℕ
+  cost n = weight_at w.layout f n + lowered_at w.layout f w.parties n
+
+  equal_weighs : (n : ℕ) → ((offset : ℕ) → safe n offset ≡ f.now n offset) → node_weight slots (range_of w.layout f n) (safe n) ≤ cost n
+  equal_weighs n same = let is : node_weight slots (range_of w.layout f n) (safe n) ≡ weight_at w.layout f n = ap (node_weight slots (range_of w.layout f n)) (λ k offset. same offset k) in omega arith
+
+  means_weighs : (n : ℕ) → Means slots (range_of w.layout f n) (safe n) (map_now f) → Means slots (range_of w.layout f n) (f.now n) (map_now f) → node_weight slots (range_of w.layout f n) (safe n) ≤ cost n
+  means_weighs n durably now = let same = same_names slots (range_of w.layout f n) (safe n) (f.now n) (map_now f) durably now in omega arith
+
+  linked_means : (left fresh : Grip) → IsLinked w.layout f left fresh → BacksSplit w.layout f w.words left fresh Linked
+      → Means slots (λ name. range_of w.layout f left.node name || range_of w.layout f fresh.node name) (safe left.node) (map_now f)
+  linked_means left fresh at backed =
+      means_beside slots (λ name. range_of w.layout f left.node name || range_of w.layout f fresh.node name) (f.now left.node) (safe left.node) (map_now f) backed.left_backed.0 at.means
+
+  -- what the durable words of a node weigh on its range
+  stage_weighs : (n i : ℕ) (p : Party) (stage : Stage) → get_elem? w.parties i ≡ some p → p.stage ≡ stage → HoldsNode stage n → IsListed f n
+      → Sure w.layout w.generation f p.caller p.index p.since stage → BacksStage w.layout f w.words stage → node_weight slots (range_of w.layout f n) (safe n) ≤ cost n
+  stage_weighs n i p Idle there is holds listed sure backed = absurd holds
+  stage_weighs n i p (Saw m v u k) there is holds listed sure backed = absurd holds
+  stage_weighs n i p (Holds m u h) there is holds listed sure backed = subst (λ k. node_weight slots (range_of w.layout f k) (safe k) ≤ cost k) holds
+      (let less = held_weighs w.layout w.generation f w.words p.caller p.index p.since m u h sure backed in
+      let has = lowered_has w.layout f w.parties i p m u h there is in
+      omega arith)
+  stage_weighs n i p (Eyes m u h k v z free) there is holds listed sure backed = subst (λ k. node_weight slots (range_of w.layout f k) (safe k) ≤ cost k) holds
+      (let less = held_weighs w.layout w.generation f w.words p.caller p.index p.since m u h sure.0 backed in
+      let none = unlowered slots (names_in slots (range_of w.layout f m) (f.now m)) h.pending h.old sure.1.clean.pending in
+      omega arith)
+  stage_weighs n i p (Wears m v) there is holds listed sure backed = absurd holds
+  stage_weighs n i p (Leaves left) there is holds listed sure backed = subst (λ k. node_weight slots (range_of w.layout f k) (safe k) ≤ cost k) holds (equal_weighs left.node backed)
+  stage_weighs n i p (Splits left fresh (Filling lit)) there is (inl holds) listed sure backed =
+      subst (λ k. node_weight slots (range_of w.layout f k) (safe k) ≤ cost k) holds (equal_weighs left.node backed.left_backed)
+  stage_weighs n i p (Splits left fresh (Filling lit)) there is (inr holds) listed sure backed = absurd (sure.at.unlisted (subst (IsListed f) (sym holds) listed))
+  stage_weighs n i p (Splits left fresh Linked) there is (inl holds) listed sure backed =
+      let both : List ℕ → Bool = λ name. range_of w.layout f left.node name || range_of w.layout f fresh.node name in
+      let part : (name : List ℕ) → range_of w.layout f left.node name ≡ true → both name ≡ true = λ name inside. ap (λ b. b || range_of w.layout f fresh.node name) inside in
+      subst (λ k. node_weight slots (range_of w.layout f k) (safe k) ≤ cost k) holds
+      (means_weighs left.node (means_less slots both (range_of w.layout f left.node) (safe left.node) (map_now f) part (linked_means left fresh sure.at backed))
+      (means_less slots both (range_of w.layout f left.node) (f.now left.node) (map_now f) part sure.at.means))
+  stage_weighs n i p (Splits left fresh Linked) there is (inr holds) listed sure backed =
+      subst (λ k. node_weight slots (range_of w.layout f k) (safe k) ≤ cost k) holds (equal_weighs fresh.node backed.fresh_backed)
+  stage_weighs n i p (Splits left fresh Parted) there is (inl holds) listed sure backed =
+      subst (λ k. node_weight slots (range_of w.layout f k) (safe k) ≤ cost k) holds
+      (means_weighs left.node (backed.left_backed.1 (safe left.node) (λ offset. inl refl)) sure.at.settled_left.means)
+  stage_weighs n i p (Splits left fresh Parted) there is (inr holds) listed sure backed =
+      subst (λ k. node_weight slots (range_of w.layout f k) (safe k) ≤ cost k) holds (equal_weighs fresh.node backed.fresh_backed)
+  stage_weighs n i p (Meets m u h right) there is (inl holds) listed sure backed = subst (λ k. node_weight slots (range_of w.layout f k) (safe k) ≤ cost k) holds
+      (let less = held_weighs w.layout w.generation f w.words p.caller p.index p.since m u h sure.0 backed.0 in
+      let none = unlowered slots (names_in slots (range_of w.layout f m) (f.now m)) h.pending h.old sure.1.still.pending in
+      omega arith)
+  stage_weighs n i p (Meets m u h right) there is (inr holds) listed sure backed =
+      subst (λ k. node_weight slots (range_of w.layout f k) (safe k) ≤ cost k) holds (equal_weighs right.node backed.1)
+  stage_weighs n i p (Joins h left right Gathered) there is (inl holds) listed sure backed =
+      let both : List ℕ → Bool = λ name. range_of w.layout f left.node name || range_of w.layout f right.node name in
+      subst (λ k. node_weight slots (range_of w.layout f k) (safe k) ≤ cost k) holds
+      (means_weighs left.node (backed.left_backed.1 (safe left.node) (λ offset. inl refl))
+      (means_less slots both (range_of w.layout f left.node) (f.now left.node) (map_now f) (λ name inside. ap (λ b. b || range_of w.layout f right.node name) inside) sure.at.linked.means))
+  stage_weighs n i p (Joins h left right Gathered) there is (inr holds) listed sure backed =
+      subst (λ k. node_weight slots (range_of w.layout f k) (safe k) ≤ cost k) holds (equal_weighs right.node backed.right_backed)
+  stage_weighs n i p (Joins h left right Joined) there is (inl holds) listed sure backed =
+      subst (λ k. node_weight slots (range_of w.layout f k) (safe k) ≤ cost k) holds
+      (means_weighs left.node (means_beside slots (range_of w.layout f left.node) (f.now left.node) (safe left.node) (map_now f) backed.left_backed.0 sure.at.settled.means) sure.at.settled.means)
+  stage_weighs n i p (Joins h left right Joined) there is (inr holds) listed sure backed = absurd (sure.at.unlisted (subst (IsListed f) (sym holds) listed))
+  stage_weighs n i p (Joins h left right Gone) there is (inl holds) listed sure backed =
+      subst (λ k. node_weight slots (range_of w.layout f k) (safe k) ≤ cost k) holds (equal_weighs left.node backed.left_backed)
+  stage_weighs n i p (Joins h left right Gone) there is (inr holds) listed sure backed = absurd (sure.at.unlisted (subst (IsListed f) (sym holds) listed))
+
+  listed_weighs : (n : ℕ) → IsListed f n → node_weight slots (range_of w.layout f n) (safe n) ≤ cost n
+  listed_weighs n listed =
+      let here = listed_within w.layout f lawful.list lawful.row.layout n listed in
+      ⊎_elim
+      (λ (free : IsFree (f.version n) w.generation). equal_weighs n (lawful.durable n here free))
+      (λ (held : IsHeld w.parties n). stage_weighs n held.number held.party held.party.stage held.there refl held.holds listed
+      (lawful.sure held.number held.party held.there) (lawful.backed held.number held.party held.there))
+      (lawful.held n here)
+
+  -- and where it skips one, on the ranges of both
+  skips_weighs : (n : ℕ) → IsSkip w n
+      → node_weight slots (λ name. range_of w.layout f n name || range_of w.layout f (f.now n next_offset) name) (safe n) ≤ cost n + cost (f.now n next_offset)
+  skips_weighs n skip =
+      let y : ℕ = f.now n next_offset in
+      let both : List ℕ → Bool = λ name. range_of w.layout f n name || range_of w.layout f y name in
+      let parts = names_or slots (range_of w.layout f n) (range_of w.layout f y) (safe n) in
+      let moved = same_names slots (range_of w.layout f y) (safe n) (safe y) (map_now f)
+      (means_less slots both (range_of w.layout f y) (safe n) (map_now f) (λ name inside. ap (λ b. range_of w.layout f n name || b) inside ∙ or_true (range_of w.layout f n name)) skip.means) skip.beyond in
+      let all = whole_weighs slots (names_in slots (range_of w.layout f n) (safe n)) (names_in slots (range_of w.layout f y) (safe y)) (names_in slots both (safe n)) (omega arith) in
+      let one = listed_weighs n skip.listed in
+      let other = listed_weighs y (leads_on w.layout f lawful.list n skip.listed skip.ne) in
+      omega arith
+
+  -- and with the node that is put back behind it
+  backs_weigh : (n r few more : ℕ) → IsBack w n r → few ≤ names_in slots (range_of w.layout f n) (safe n)
+      → more ≤ names_in slots (from_key (range_of w.layout f n) (anchor_in (safe r))) (safe r) → (slots / 2 + (few - slots / 2)) + (slots / 2 + (more - slots / 2)) ≤ cost n
+  backs_weigh n r few more back low high =
+      let lowered : slots / 2 ≤ lowered_at w.layout f w.parties n =
+      subst (λ k. slots / 2 ≤ lowered_at w.layout f w.parties k) back.at_left (lowered_there w.layout f w.parties back.number back.party (Joins back.held back.left back.right Joined) back.there back.stage) in
+      let a = back.few in
+      let b = back.few_right in
+      omega arith
+
+  weight_thin : total (λ n. node_weight slots (λ name. target_from 0 (thinned w lawful).to (key_of name) == n) (safe n)) 0 (thinned w lawful).to ≤ weight_sum w
+  weight_thin =
+      let thin = thinned w lawful in
+      let weighs = thin.weighs (λ n. node_weight slots (λ name. target_from 0 thin.to (key_of name) == n) (safe n)) cost
+      (λ n is same.
+      let few = names_less slots (λ name. target_from 0 thin.to (key_of name) == n) (range_of w.layout f n) (safe n) (λ name inside. plain_within w lawful n is same name inside) in
+      let less = more_weighs slots (names_in slots (λ name. target_from 0 thin.to (key_of name) == n) (safe n)) (names_in slots (range_of w.layout f n) (safe n)) few in
+      let listed = listed_weighs n is in
+      omega arith)
+      (λ n is skip.
+      let both : List ℕ → Bool = λ name. range_of w.layout f n name || range_of w.layout f (f.now n next_offset) name in
+      let few = names_less slots (λ name. target_from 0 thin.to (key_of name) == n) both (safe n) (λ name inside. skip_within w lawful n is name inside) in
+      let less = more_weighs slots (names_in slots (λ name. target_from 0 thin.to (key_of name) == n) (safe n)) (names_in slots both (safe n)) few in
+      let listed = skips_weighs n skip in
+      omega arith)
+      (λ n r is back.
+      let few = names_less slots (λ name. target_from 0 thin.to (key_of name) == n) (range_of w.layout f n) (safe n) (λ name inside. back_within w lawful n r back name inside) in
+      let more = names_less slots (λ name. target_from 0 thin.to (key_of name) == r) (from_key (range_of w.layout f n) (anchor_in (safe r))) (safe r) (λ name inside. put_within w lawful n r back name inside) in
+      backs_weigh n r (names_in slots (λ name. target_from 0 thin.to (key_of name) == n) (safe n)) (names_in slots (λ name. target_from 0 thin.to (key_of name) == r) (safe r)) back few more) in
+      let sums = total_plus (weight_at w.layout f) (lowered_at w.layout f w.parties) 0 f.list in
+      let lowered = lowered_total w.layout f lawful.list w.parties in
+      omega arith
 
 pub crash_weighs : CrashWeighs
-crash_weighs w lawful =
-    let l = w.layout in
-    let f = facts w in
-    let one : 0 < l.nodes = let nodes = lawful.one_node in omega arith in
-    let image : image_weight l (durable_row l w.words) ≡ node_weight l.slots (range_of l f 0) (durable_spot l w.words 0) =
-    ap (node_weight l.slots (range_of l f 0)) (λ k offset. image_is l w.words 0 offset k) in
-    ⊎_elim
-    (λ (free : IsFree (f.version 0) w.generation).
-    let same : node_weight l.slots (range_of l f 0) (durable_spot l w.words 0) ≡ index_weight l f = ap (node_weight l.slots (range_of l f 0)) (λ k offset. lawful.durable 0 one free offset k) in
-    omega arith)
-    (λ (held : IsHeld w.parties 0).
-    let p = held.party in
-    let weighs = held_weighs l w.generation f w.words p.caller p.index p.since 0 p.stage held.holds (lawful.sure held.place p held.there) (lawful.backed held.place p held.there) in
-    let part = sum_has l f w.parties held.place p held.there in
-    omega arith)
-    (lawful.held 0 one)
+crash_weighs w lawful = subst
+    (λ (to : List ListNode). total (λ n. node_weight w.layout.slots (λ name. target_from 0 to (key_of name) == n) (durable_spot w.layout w.words n)) 0 to ≤ weight_sum w)
+    (sym (same_list w lawful)) (weight_thin w lawful)

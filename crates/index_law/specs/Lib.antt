@@ -4,3 +4,14 @@ pub mod Twins
 pub mod Lawful
 pub mod Laws
 pub mod Weights
+pub mod Shapes
+pub mod Lines
+pub mod Parts
+pub mod Joint
+pub mod Beside
+pub mod Prevs
+pub mod Anchors
+pub mod LoneShapes
+pub mod Whole
+pub mod Images
+pub mod Claims

@@ -1,39 +1,65 @@
 -- What an index weighs, with the calls in flight, and how steps, starts and crashes change that.
-use Rattle.std.specs.Prelude.{◌≡◌, ℕ, ◌+◌, ◌≤◌, ◌/◌, ◌⊎◌, nat_le, if◌then◌else◌, List, [], ◌∷◌, Option, Some, None}
+use Rattle.std.specs.Prelude.{◌≡◌, ℕ, zero, suc, ◌+◌, ◌≤◌, ◌/◌, ◌==◌, ◌⊎◌, nat_le, if◌then◌else◌, List, [], ◌∷◌, Option}
+use Rattle.std.specs.Prelude.{Some, None}
 use mathlib.Core.Option.{some}
 use lib.ListN.{get_elem?}
 use Rattle.pm_words.specs.declared.layout.Layout.{Layout}
 use Rattle.pm_words.specs.declared.action.Action.{Action}
 use Rattle.pm_words.specs.declared.action.Action.TheVariants.{Store}
-use Rattle.pm_words.specs.Rows.{got, durable_row}
+use Rattle.pm_words.specs.Rows.{got}
 use Rattle.cat_history.specs.declared.op.Change.{Change}
 use Rattle.cat_history.specs.declared.op.Change.TheVariants.{Put, Del}
-use Rattle.data_node.specs.Weights.{names_in, node_weight}
-use Rattle.sound_image.specs.Weights.{image_weight}
+use Rattle.data_node.specs.Weights.{names_in, node_weight, total, list_weight}
 use Rattle.call_stages.specs.declared.once.Once.{Once}
 use Rattle.call_stages.specs.declared.once.Placed.{Placed}
-use Rattle.call_stages.specs.Stages.{Held, Stage, Idle, Saw, Holds}
-use Rattle.call_stages.specs.Kinds.{Step}
-use Rattle.index_law.specs.Facts.{Facts, range_of}
-use Rattle.index_law.specs.Worlds.{Party, World, facts, stepped, started, joined, evicted}
+use Rattle.call_stages.specs.Stages.{Held, Pace, Gathered, Joined, Gone, Stage, Idle, Saw, Wears, Holds, Eyes, Splits}
+use Rattle.call_stages.specs.Stages.{Leaves, Meets, Joins}
+use Rattle.call_stages.specs.Kinds.{Step, gone_status}
+use Rattle.index_law.specs.Facts.{Facts, range_of, durable_spot}
+use Rattle.index_law.specs.Laws.{durable_list}
+use Rattle.index_law.specs.Worlds.{Party, World, facts, stepped, started, joined, evicted_world}
 use Rattle.index_law.specs.Lawful.{Lawful, Each}
 
--- What the index weighs: its listed nodes together. As long as node 0 is the only one, that is what it weighs.
-abbrev pub index_weight : Layout → Facts → ℕ
-index_weight l f = node_weight l.slots (range_of l f 0) (f.now 0)
+-- What a node weighs, and the listed nodes together.
+abbrev pub weight_at : Layout → Facts → ℕ → ℕ
+weight_at l f n = node_weight l.slots (range_of l f n) (f.now n)
 
--- One for a delete that has lowered the weight of its node and isn't counted in the history yet: its name was there, and
--- so many names are left that the one taken away weighed. It goes by the slots, the names that the node has now, the
--- change that is pending, and what its name had.
+abbrev pub listed_weight : Layout → Facts → ℕ
+listed_weight l f = total (weight_at l f) 0 f.list
+
+-- What those of the first so many nodes weigh that are GONE, by what one weighs.
+abbrev pub gone_weight : ℕ → (ℕ → ℕ) → ℕ → ℕ
+gone_weight half status zero = 0
+gone_weight half status (suc n) = (if status n == gone_status then half else 0) + gone_weight half status n
+
+-- What the index weighs: its listed nodes, and half a node's slots for each GONE one.
+abbrev pub index_weight : Layout → Facts → ℕ
+index_weight l f = listed_weight l f + gone_weight (l.slots / 2) f.status l.nodes
+
+-- One for a delete that has lowered the weight of its node and isn't counted in the history yet: its name was there,
+-- and so many names are left that the one taken away weighed. It goes by the slots, the names that the node has now,
+-- the change that is pending, and what its name had.
 abbrev pub lowered_by : ℕ → ℕ → Option Change → Option (Option ℕ) → ℕ
 lowered_by slots names (Some (Del name)) (Some (Some value)) = if nat_le (slots / 2) names then 1 else 0
 lowered_by slots names _ _ = 0
 
+-- What a node weighs that a merge has left out of the list and that isn't GONE yet.
+abbrev pub left_out : ℕ → Pace → ℕ
+left_out slots Gathered = 0
+left_out slots Joined = slots / 2
+left_out slots Gone = 0
+
 -- By how much the call at this stage has lowered the weight so.
 abbrev pub lowered_in : Layout → Facts → Stage → ℕ
 lowered_in l f Idle = 0
-lowered_in l f (Saw n v w) = 0
+lowered_in l f (Saw n v w k) = 0
 lowered_in l f (Holds n w h) = lowered_by l.slots (names_in l.slots (range_of l f n) (f.now n)) h.pending h.old
+lowered_in l f (Eyes n w h m v u free) = 0
+lowered_in l f (Splits left fresh phase) = 0
+lowered_in l f (Leaves left) = 0
+lowered_in l f (Wears n v) = 0
+lowered_in l f (Meets n w h right) = 0
+lowered_in l f (Joins h left right pace) = left_out l.slots pace
 
 -- By how much the calls of all the parties have.
 abbrev pub lowered_sum : Layout → Facts → List Party → ℕ
@@ -44,8 +70,8 @@ lowered_sum l f (p ∷ parties) = lowered_in l f p.stage + lowered_sum l f parti
 abbrev pub weight_sum : World → ℕ
 weight_sum w = index_weight w.layout (facts w) + lowered_sum w.layout (facts w) w.parties
 
--- The store by which a put adds a name: before it the call has neither a change in its node nor a place, and after it the
--- node shows the put of a name that wasn't there.
+-- The store by which a put adds a name: before it the call has neither a change in its node nor a place, and after it
+-- the node shows the put of a name that wasn't there.
 pub record AddsName (stage : Stage) (action : Action) (next : Stage) : Type 0 where
   pub node : ℕ
   pub lock : ℕ
@@ -59,9 +85,9 @@ pub record AddsName (stage : Stage) (action : Action) (next : Stage) : Type 0 wh
   pub name : List ℕ
   pub value : ℕ
   pub shows : after.pending ≡ Some (Put name value)
-  pub place : ℕ
+  pub address : ℕ
   pub word : ℕ
-  pub stores : action ≡ Store place word
+  pub stores : action ≡ Store address word
 
 -- The second number is no more than the first, or one more where there is a reason.
 abbrev pub RisesBy : Type 0 → ℕ → ℕ → Type 0
@@ -69,8 +95,10 @@ RisesBy reason before after = (after ≤ before) ⊎ (reason × (after ≤ befor
 
 -- A step raises the sum by at most one, and only where a put adds a name.
 abbrev pub StepWeighs : Type 0
-StepWeighs = (w : World) (i : ℕ) (p : Party) (action : Action) (x : ℕ) (next : Stage) (answer : Option (Once Placed)) → Lawful w →
-    get_elem? w.parties i ≡ some p → Step w.layout w.generation p.stage action x next answer → x ≡ got w.layout w.words action →
+StepWeighs = (w : World) (i : ℕ) (p : Party) (action : Action) (x : ℕ) (next : Stage) (answer : Option (Once Placed)) →
+    Lawful w →
+    get_elem? w.parties i ≡ some p → Step w.layout w.generation p.stage action x next answer →
+    x ≡ got w.layout w.words action →
     RisesBy (AddsName p.stage action next) (weight_sum w) (weight_sum (stepped w i p action next))
 
 -- A start leaves the sum as it is,
@@ -84,12 +112,15 @@ JoinWeighs = (w : World) (p : Party) → p.stage ≡ Idle → weight_sum (joined
 
 -- and a word that becomes durable.
 abbrev pub EvictWeighs : Type 0
-EvictWeighs = (w : World) (word : ℕ) → weight_sum (evicted w word) ≡ weight_sum w
+EvictWeighs = (w : World) (word : ℕ) → weight_sum (evicted_world w word) ≡ weight_sum w
 
 -- Where all parties are idle the sum is the weight.
 abbrev pub IdleWeighs : Type 0
 IdleWeighs = (w : World) → Each (λ p. p.stage ≡ Idle) w.parties → weight_sum w ≡ index_weight w.layout (facts w)
 
--- The image that a crash leaves weighs no more than the sum.
+-- What is durable weighs no more than the sum.
+abbrev pub durable_weight : World → ℕ
+durable_weight w = list_weight w.layout.slots (durable_spot w.layout w.words) (durable_list w)
+
 abbrev pub CrashWeighs : Type 0
-CrashWeighs = (w : World) → Lawful w → image_weight w.layout (durable_row w.layout w.words) ≤ weight_sum w
+CrashWeighs = (w : World) → Lawful w → durable_weight w ≤ weight_sum w

@@ -53,12 +53,19 @@ stepped w i p action stage =
 -- The party, which stands at i, begins its call of this index.
 abbrev pub started : World → ℕ → Party → ℕ → World
 started w i p index =
-    record w { parties = slice_set w.parties i (record { caller = p.caller; index = index; since = length w.history; stage = Idle }) }
+    record w {
+      parties = slice_set w.parties i (record {
+        caller = p.caller;
+        index = index;
+        since = length w.history;
+        stage = Idle;
+      });
+    }
 
 -- The party comes to those that are there.
 abbrev pub joined : World → Party → World
 joined w p = record w { parties = w.parties ++ p ∷ [] }
 
 -- A word of the image became durable.
-abbrev pub evicted : World → ℕ → World
-evicted w word = record w { words = rows.evicted w.layout w.words word }
+abbrev pub evicted_world : World → ℕ → World
+evicted_world w word = record w { words = rows.evicted w.layout w.words word }

@@ -1,7 +1,24 @@
 //! The laws of a lawful index, each named by the contract of a function.
 
-ghost use Rattle.index_law.specs.Laws.{StepIsAllowed, AllowedMayName, AllowedCanAct, StepKeeps, StartKeeps, JoinKeeps, EvictKeeps, CrashLeavesSound, RestIsLawful, IdleIsAtRest, NextRoundIsAtRest, FreshIsAtRest};
+ghost use Rattle.index_law.specs.LoneShapes.{StepCountsGone, NoFreeIsNoRoom, NoFreeIsEach, NoFreeWeighs, NoSwitchIsPut};
+ghost use Rattle.index_law.specs.LoneShapes.{FreeIsRoom, SwitchIsPut, SwitchIsDelete, NoSwitchIsDelete, StepSplits};
+ghost use Rattle.index_law.specs.LoneShapes.{StepKeepsPut, StepMergesOnce, StepKeepsDel, PutEnds, PutEndsFull, DelEnds};
+ghost use Rattle.index_law.specs.LoneShapes.{MeetsCrowded, HoldsAlone};
+ghost use Rattle.index_law.specs.Anchors.{ListHasAnchors, RangesAreMembers, StepMovesAnchors, NodesHoldShape};
+ghost use Rattle.index_law.specs.Anchors.{NodesAreCounted, IdleHasShape};
+ghost use Rattle.index_law.specs.Claims.{ClaimedAreOutside, CleanLinesAreDurable};
+ghost use Rattle.index_law.specs.Beside.{NodesLeaveOthers, PrevsKeep};
+ghost use Rattle.index_law.specs.Whole.{NodeStepKeepsAll, LineStepKeepsAll, PrevStepKeepsAll};
+ghost use Rattle.index_law.specs.Prevs.{StepTraces, PrevTraces, EvictTraces, StartTraces, GoneComeOut, PrevsAreNodes};
+ghost use Rattle.index_law.specs.Prevs.{RestIsTraced, IdleFollow};
+ghost use Rattle.index_law.specs.Joint.{NodeStepKeeps, LineStepKeeps};
+ghost use Rattle.index_law.specs.Lines.{NotesKeep, NodesLeaveLines, EvictFits};
+ghost use Rattle.index_law.specs.Shapes.{StepShapes};
 ghost use Rattle.index_law.specs.Weights.{StepWeighs, StartWeighs, JoinWeighs, EvictWeighs, IdleWeighs, CrashWeighs};
+ghost use Rattle.index_law.specs.Images.{CrashLeavesSound};
+ghost use Rattle.index_law.specs.Laws.{StepIsAllowed, AllowedMayName, AllowedCanAct, StepKeeps, StartKeeps, JoinKeeps};
+ghost use Rattle.index_law.specs.Laws.{EvictKeeps, DurablesAreAList, CrashLeavesEnd, RestIsLawful, IdleIsAtRest};
+ghost use Rattle.index_law.specs.Laws.{NextRoundIsAtRest, FreshIsAtRest};
 
 /// A step, whatever number it is told, is by an action that its party may do.
 pub fn allow_law()
@@ -38,10 +55,10 @@ pub fn evict_law()
     ensures { EvictKeeps }
 {}
 
-/// Whenever a crash comes, it leaves a sound image, which keeps the map, or the map with the change of one call in flight.
-/// So whatever changes it cut off, the map is the one after those of them that are found in it.
-pub fn crash_law()
-    ensures { CrashLeavesSound }
+/// Whatever words are durable, they make a list, of listed nodes, and each means the map on its range there, or the map
+/// with a change that some call has pending.
+pub fn durable_law()
+    ensures { DurablesAreAList }
 {}
 
 /// An index in which nothing is in flight is lawful.
@@ -64,8 +81,8 @@ pub fn fresh_law()
     ensures { FreshIsAtRest }
 {}
 
-/// A step raises the weight, together with what deletes have lowered it by that aren't counted yet, by at most one, and only
-/// where a put adds a name.
+/// A step raises the weight sum by at most one, and only where a put adds a name. The sum is the weight, and one for each
+/// delete whose node shows it, and weighs less for it, while the history doesn't have it.
 pub fn step_weighs()
     ensures { StepWeighs }
 {}
@@ -82,7 +99,110 @@ pub fn idle_weighs()
     ensures { IdleWeighs }
 {}
 
-/// Whenever a crash comes, the image that it leaves weighs no more than the sum.
+/// A step leaves the list as it is, or it is the switch of a split, which cuts one full member in two, or that of a
+/// merge, with which a member joins the one before it.
+pub fn step_shapes()
+    ensures { StepShapes }
+{}
+
+/// The map that a crash leaves is the one after those of the changes cut off that are found in it.
+pub fn crash_law()
+    ensures { CrashLeavesEnd }
+{}
+
+/// Whenever a crash comes, it leaves a sound image, which keeps the map after those of the changes cut off that are
+/// found in it, and weighs no more than the sum.
+pub fn image_law()
+    ensures { CrashLeavesSound }
+{}
+
+/// A step on a log line keeps the index lawful and all lines in order.
+pub fn notes_law()
+    ensures notes { NotesKeep }
+    ensures nodes { NodesLeaveLines }
+    ensures evict { EvictFits }
+{}
+
+/// Whenever a crash comes, what is durable weighs no more than the sum.
 pub fn crash_weighs()
     ensures { CrashWeighs }
+{}
+
+/// Steps on nodes and steps on lines keep an index with the lines that its parties have.
+pub fn joint_law()
+    ensures nodes { NodeStepKeeps }
+    ensures lines { LineStepKeeps }
+{}
+
+/// Steps on nodes leave all words beside nodes, and the store of a prev keeps the index lawful, its lines in order and
+/// each prev a node.
+pub fn others_law()
+    ensures nodes { NodesLeaveOthers }
+    ensures prevs { PrevsKeep }
+{}
+
+/// The anchors of a list are anchors, and ranges are members. A step leaves them, or it is the switch of a split or of
+/// a merge. Where listed nodes mean the map they hold the shape, and the index weighs what that does, with half a
+/// node's slots for each GONE node.
+pub fn anchors_law()
+    ensures anchors { ListHasAnchors }
+    ensures members { RangesAreMembers }
+    ensures step { StepMovesAnchors }
+    ensures nodes { NodesHoldShape }
+    ensures counted { NodesAreCounted }
+    ensures idle { IdleHasShape }
+{}
+
+/// A switch is the split of a put of its call's name, or the merge of a delete of it, and where a call makes none its
+/// put splits nothing, or its delete merges nothing. A node more is GONE only where a merge makes it so. A put finds no
+/// room exactly where no node is FREE.
+pub fn lone_law()
+    ensures splits { StepSplits }
+    ensures put { SwitchIsPut }
+    ensures put_alone { NoSwitchIsPut }
+    ensures put_stands { StepKeepsPut }
+    ensures put_ends { PutEnds }
+    ensures put_full { PutEndsFull }
+    ensures del { SwitchIsDelete }
+    ensures del_alone { NoSwitchIsDelete }
+    ensures once { StepMergesOnce }
+    ensures del_stands { StepKeepsDel }
+    ensures del_ends { DelEnds }
+    ensures crowded { MeetsCrowded }
+    ensures alone { HoldsAlone }
+    ensures gone { StepCountsGone }
+    ensures no_room { NoFreeIsNoRoom }
+    ensures each { NoFreeIsEach }
+    ensures full_weighs { NoFreeWeighs }
+    ensures room { FreeIsRoom }
+{}
+
+/// Steps on nodes, and stores of their prevs, keep each listed node's prev, where none is owed, and the order of the
+/// GONE nodes.
+pub fn prev_law()
+    ensures nodes { StepTraces }
+    ensures prevs { PrevTraces }
+    ensures evict { EvictTraces }
+    ensures start { StartTraces }
+    ensures out { GoneComeOut }
+    ensures within { PrevsAreNodes }
+    ensures rest { RestIsTraced }
+    ensures idle { IdleFollow }
+{}
+
+/// Steps on nodes, on lines and on prevs keep an index with the lines and the debts that its parties have.
+pub fn whole_law()
+    ensures nodes { NodeStepKeepsAll }
+    ensures lines { LineStepKeepsAll }
+    ensures prevs { PrevStepKeepsAll }
+{}
+
+/// From the claim of a node until the switch the node isn't listed, and the claimer has it locked.
+pub fn claim_law()
+    ensures { ClaimedAreOutside }
+{}
+
+/// What a party knows of its line is durable where none of its words may differ from their durable twins.
+pub fn line_law()
+    ensures { CleanLinesAreDurable }
 {}

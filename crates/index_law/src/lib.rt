@@ -4,9 +4,4 @@
 //! parties that it names. The functions here name its laws, so that they are proved; crates above cite the lemmas.
 #![tactic(auto)]
 
-mod laws;
-
-pub use laws::{
-    action_law, allow_law, crash_law, evict_law, fresh_law, idle_law, join_law, names_law,
-    rest_law, round_law, start_law, step_law,
-};
+pub mod laws;

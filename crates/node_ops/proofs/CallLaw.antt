@@ -1,5 +1,5 @@
 -- Each turn of a call is a step of a kind.
-use Rattle.std.proofs.Common.{◌≡◌, ℕ, ◌/◌, ◌<◌, ◌≤◌, ◌^◌, true, false, [], ◌∷◌, ◌++◌, Option, Some, None, inl, length, get_or, refl, sym, subst, ap, ◌∙◌, arith}
+use Rattle.std.proofs.Common.{◌≡◌, ℕ, ◌/◌, ◌<◌, ◌≤◌, ◌^◌, true, false, [], ◌∷◌, ◌++◌, Option, Some, None, inl, inr, length, get_or, refl, sym, subst, ap, ◌∙◌, arith}
 use Rattle.std.specs.FinMap.{remove}
 use Rattle.cat_key.specs.Names.{words_of}
 use Rattle.cat_key.proofs.Packing.{length-words_of}
@@ -38,7 +38,7 @@ use Rattle.node_ops.specs.declared.running.Running.{Running}
 use Rattle.node_ops.specs.declared.running.Running.TheVariants.{Getting, Putting, Deleting}
 use Rattle.node_ops.specs.Calls.{IsCall, name_in}
 use Rattle.node_ops.specs.FenceSteps.{fence_of}
-use Rattle.node_ops.specs.LookupSteps.{IsHit, IsFound, lookup_turned}
+use Rattle.node_ops.specs.LookupSteps.{IsHit, IsFoundBy, lookup_turned}
 use Rattle.node_ops.specs.FinishSteps.{finish_turned}
 use Rattle.node_ops.specs.FillSteps.{fill_turned}
 use Rattle.node_ops.specs.GetSteps.{IsGet, get_call, get_asks, get_turned, get_looked}
@@ -127,7 +127,7 @@ module _ (call : Call) (sound : IsCall call) where
   put_full_leads stage action x found None value leads =
       leads (knows ((bitmap_offset, found.directory.bitmap) ∷ [])) None false tt (λ s known. record { seen = (known.seen.0, tt); left = tt }) (λ range s m in_range old means. means)
 
-  put_into_leads : (stage : Stage) (action : Action) (x : ℕ) (found : Found) (value : ℕ) (clear : Option ℕ) → lowest_clear found.directory.bitmap slots ≡ clear → IsFound slots found
+  put_into_leads : (stage : Stage) (action : Action) (x : ℕ) (found : Found) (value : ℕ) (clear : Option ℕ) → lowest_clear found.directory.bitmap slots ≡ clear → IsFoundBy slots found
       → Leads_found call stage action x found → Puts call stage action x (Go (put_into call found value clear))
   put_into_leads stage action x found value (Some slot) is sound_found leads =
       let lowest = lowest_clear-some found.directory.bitmap slots slot sound_found.directory.bitmap limit is in
@@ -169,7 +169,7 @@ module _ (call : Call) (sound : IsCall call) where
       let within : hit.slot < slots = is.within in
       commits {h = decided call hold (Some hit.value) (knows (seen_hit call bitmap (Some hit)))} {k = nothing}
       {dirty = fence_rest (fence_of (slot_offset hit.slot 3)) ∷ []} {old = Some hit.value} {c = change.Put (name_in call) value}
-      (sound.node, (omega arith)) (omega arith) fits (record { pending = refl; ready = refl; placed = refl }) refl (inl (omega arith, omega arith)) refl refl
+      (sound.node, (omega arith)) (inr (omega arith)) fits (record { pending = refl; ready = refl; placed = refl }) refl (inl (omega arith, omega arith)) refl refl
       (λ s tidy before. record { seen = tt; left = tt })
       (λ range s m in_range before old means.
       let here = hit_words_known s call bitmap hit sound before.seen is.live in
@@ -200,31 +200,31 @@ module _ (call : Call) (sound : IsCall call) where
   clearing_leads hold bitmap hit x fits is =
       commits {h = decided call hold (Some hit.value) (knows (seen_hit call bitmap (Some hit)))} {k = nothing}
       {dirty = fence_rest (fence_of bitmap_offset) ∷ []} {old = Some hit.value} {c = change.Del (name_in call)}
-      (sound.node, (omega arith)) (omega arith) (without_live_below 64 bitmap hit.slot fits) (record { pending = refl; ready = refl; placed = refl }) refl (inl (omega arith, omega arith)) refl refl
+      (sound.node, (omega arith)) (inl refl) (without_live_below 64 bitmap hit.slot fits) (record { pending = refl; ready = refl; placed = refl }) refl (inl (omega arith, omega arith)) refl refl
       (λ s tidy before. record { seen = tt; left = tt })
       (λ range s m in_range before old means.
       let here = hit_words_known s call bitmap hit sound before.seen is.live in
       subst (λ b. Means slots range (updated s bitmap_offset (without_live b hit.slot)) (remove m (name_in call))) before.seen.0
       (means_cleared slots range s m (name_in call) hit.slot limit sound.packed.named here.0 here.1 means))
 
-get_leads : (get : Get) (x : ℕ) → IsGet get → Gets (get_call get) (get_stage get) (get_asks get) x (get_turned get x)
-get_leads (get.Looking lookup) x sound = get_looked_leads lookup.call sound.call _ _ x (lookup_turned lookup x) (lookup_leads lookup.call sound.call lookup.at x sound.here)
-get_leads (get.Unlocking call hold old) x sound = unlocks refl refl refl refl (reads refl refl refl)
+get_leads : (get : Get) (x : ℕ) → IsGet get → Told (get_call get).view.layout (get_call get).view.generation (get_asks get) x → Gets (get_call get) (get_stage get) (get_asks get) x (get_turned get x)
+get_leads (get.Looking lookup) x sound told = get_looked_leads lookup.call sound.call _ _ x (lookup_turned lookup x) (lookup_leads lookup.call sound.call lookup.at x sound.here told)
+get_leads (get.Unlocking call hold old) x sound told = unlocks refl refl refl refl (reads refl refl refl)
 
 put_leads : (put : Put) (x : ℕ) → IsPut put → Told (put_call put).view.layout (put_call put).view.generation (put_asks put) x
     → Puts (put_call put) (put_stage put) (put_asks put) x (put_turned put x)
 put_leads (put.Looking lookup value) x sound told =
-    put_looked_leads lookup.call sound.0.call _ _ x value (lookup_turned lookup x) (lookup_stays lookup x sound.0 told) (lookup_leads lookup.call sound.0.call lookup.at x sound.0.here)
+    put_looked_leads lookup.call sound.0.call _ _ x value (lookup_turned lookup x) (lookup_stays lookup x sound.0 told) (lookup_leads lookup.call sound.0.call lookup.at x sound.0.here told)
 put_leads (put.Filling fill) x sound told = put_filled_leads fill.call sound.call _ _ x (fill_turned fill x) (fill_leads fill x sound)
 put_leads (put.Replacing call hold bitmap hit value) x sound told = replacing_leads call sound.call hold bitmap hit value x sound.hit sound.value
 put_leads (put.Finishing finish) x sound told = put_finished_leads finish.call sound.call _ _ x (finish_turned finish x) (finish_leads finish x sound)
 put_leads (put.Refusing call hold bitmap value) x sound told =
     unlocks refl refl refl refl (has_no_room refl refl refl (λ s tidy known. subst (λ b. AreAllLive b call.view.layout.slots) (sym known.seen.0) sound.full))
 
-del_leads : (del : Del) (x : ℕ) → IsDel del → Dels (del_call del) (del_stage del) (del_asks del) x (del_turned del x)
-del_leads (del.Looking lookup) x sound = del_looked_leads lookup.call sound.call _ _ x (lookup_turned lookup x) (lookup_leads lookup.call sound.call lookup.at x sound.here)
-del_leads (del.Clearing call hold bitmap hit) x sound = clearing_leads call sound.call hold bitmap hit x sound.fits sound.hit
-del_leads (del.Finishing finish) x sound = del_finished_leads finish.call sound.call _ _ x (finish_turned finish x) (finish_leads finish x sound)
+del_leads : (del : Del) (x : ℕ) → IsDel del → Told (del_call del).view.layout (del_call del).view.generation (del_asks del) x → Dels (del_call del) (del_stage del) (del_asks del) x (del_turned del x)
+del_leads (del.Looking lookup) x sound told = del_looked_leads lookup.call sound.call _ _ x (lookup_turned lookup x) (lookup_leads lookup.call sound.call lookup.at x sound.here told)
+del_leads (del.Clearing call hold bitmap hit) x sound told = clearing_leads call sound.call hold bitmap hit x sound.fits sound.hit
+del_leads (del.Finishing finish) x sound told = del_finished_leads finish.call sound.call _ _ x (finish_turned finish x) (finish_leads finish x sound)
 
 -- a part's step is the whole's
 as_get : (call : Call) (stage : Stage) (action : Action) (x : ℕ) (turn : Turn Get (Once Placed)) → Gets call stage action x turn
@@ -245,9 +245,9 @@ as_del call stage action x (Done answer) step = step
 own_steps : (running : Running) (x : ℕ) → IsRunning running → Told (running_call running).view.layout (running_call running).view.generation (running_asks running) x
     → Step (running_call running).view.layout (running_call running).view.generation (stage_of running) (running_asks running) x
     (stage_after (running_turned running x)) (reply_of (running_turned running x))
-own_steps (Getting get) x sound told = as_get (get_call get) _ _ x (get_turned get x) (get_leads get x sound)
+own_steps (Getting get) x sound told = as_get (get_call get) _ _ x (get_turned get x) (get_leads get x sound told)
 own_steps (Putting put) x sound told = as_put (put_call put) _ _ x (put_turned put x) (put_leads put x sound told)
-own_steps (Deleting del) x sound told = as_del (del_call del) _ _ x (del_turned del x) (del_leads del x sound)
+own_steps (Deleting del) x sound told = as_del (del_call del) _ _ x (del_turned del x) (del_leads del x sound told)
 
 pub turns_are_steps : TurnsAreSteps
 turns_are_steps l g running x sound told =

@@ -34,9 +34,9 @@ use Rattle.node_ops.specs.declared.del.Del.{Del}
 use Rattle.node_ops.specs.declared.del.Del.TheVariants as del
 use Rattle.node_ops.specs.declared.running.Running.{Running}
 use Rattle.node_ops.specs.declared.running.Running.TheVariants.{Getting, Putting, Deleting}
-use Rattle.node_ops.specs.Calls.{IsCall}
+use Rattle.node_ops.specs.Calls.{IsCall, at_node, IsSame}
 use Rattle.node_ops.specs.FenceSteps.{IsFence, fence_of, fence_next, fence_at_next}
-use Rattle.node_ops.specs.LookupSteps.{IsHit, IsFound, lookup_turned}
+use Rattle.node_ops.specs.LookupSteps.{IsHit, IsFoundBy, lookup_turned}
 use Rattle.node_ops.specs.FinishSteps.{IsFinish, IsFinishAt, finish_turned, finish_at_turned, finish_fenced}
 use Rattle.node_ops.specs.FillSteps.{IsFill, IsFillAt, fill_turned, fill_at_turned, slot_fenced, print_fenced}
 use Rattle.node_ops.specs.GetSteps.{IsGet, get_call, get_asks, get_turned, get_looked}
@@ -60,7 +60,7 @@ fence_stays l fence x is fits = at fence.at
 
 -- the fields after a turn, and that the call is the same
 abbrev SoundFinish : Call → Turn Finish (Once Placed) → Type 0
-SoundFinish call (Go finish) = IsFinish finish × (finish.call ≡ call)
+SoundFinish call (Go finish) = IsFinish finish × IsSame call finish.call
 SoundFinish call (Done answer) = Unit {0}
 
 finish_stays : (finish : Finish) (x : ℕ) → IsFinish finish → x < 2 ^ 64 → SoundFinish finish.call (finish_turned finish x)
@@ -90,8 +90,8 @@ print_line call slot sound within =
     record { within = omega arith; word = omega arith; value = tt }
 
 abbrev SoundFill : Call → Turn Fill Finish → Type 0
-SoundFill call (Go fill) = IsFill fill × (fill.call ≡ call)
-SoundFill call (Done finish) = IsFinish finish × (finish.call ≡ call)
+SoundFill call (Go fill) = IsFill fill × IsSame call fill.call
+SoundFill call (Done finish) = IsFinish finish × IsSame call finish.call
 
 fill_stays : (fill : Fill) (x : ℕ) → IsFill fill → x < 2 ^ 64 → SoundFill fill.call (fill_turned fill x)
 fill_stays fill x sound fits = at fill.at sound.here
@@ -120,7 +120,7 @@ fill_stays fill x sound fits = at fill.at sound.here
 
 -- a call of this layout and generation
 abbrev pub Stays : {M : Type 0} → (M → Type 0) → (M → Call) → Call → Turn M (Once Placed) → Type 0
-Stays sound of call (Go machine) = sound machine × (of machine ≡ call)
+Stays sound of call (Go machine) = sound machine × IsSame call (of machine)
 Stays sound of call (Done answer) = Unit {0}
 
 pub get_stays : (get : Get) (x : ℕ) → IsGet get → Told (get_call get).view.layout (get_call get).view.generation (get_asks get) x → Stays IsGet get_call (get_call get) (get_turned get x)
@@ -135,12 +135,12 @@ get_stays (get.Unlocking call hold old) x sound told = tt
 pub put_stays : (put : Put) (x : ℕ) → IsPut put → Told (put_call put).view.layout (put_call put).view.generation (put_asks put) x → Stays IsPut put_call (put_call put) (put_turned put x)
 put_stays (put.Looking lookup value) x sound told = at (lookup_turned lookup x) (lookup_stays lookup x sound.0 told)
   where
-    full : (found : Found) (hit : Option Hit) → IfSome hit (IsHit lookup.call.view.layout.slots found.directory.bitmap) → IsFound lookup.call.view.layout.slots found
+    full : (found : Found) (hit : Option Hit) → IfSome hit (IsHit lookup.call.view.layout.slots found.directory.bitmap) → IsFoundBy lookup.call.view.layout.slots found
         → AreAllLive found.directory.bitmap lookup.call.view.layout.slots → Stays IsPut put_call lookup.call (Go (put_full lookup.call found.hold found.directory.bitmap hit value))
     full found (Some hit) is_hit is all = (record { call = sound.0.call; locked = is.locked; hit = is_hit; value = sound.1 }, refl)
     full found None is_hit is all = (record { call = sound.0.call; locked = is.locked; full = all }, refl)
 
-    into : (found : Found) (clear : Option ℕ) → lowest_clear found.directory.bitmap lookup.call.view.layout.slots ≡ clear → IsFound lookup.call.view.layout.slots found
+    into : (found : Found) (clear : Option ℕ) → lowest_clear found.directory.bitmap lookup.call.view.layout.slots ≡ clear → IsFoundBy lookup.call.view.layout.slots found
         → Stays IsPut put_call lookup.call (Go (put_into lookup.call found value clear))
     into found (Some slot) same is =
         let lowest = lowest_clear-some found.directory.bitmap lookup.call.view.layout.slots slot is.directory.bitmap sound.0.call.view.layout.slots.1 same in
@@ -167,7 +167,7 @@ put_stays (put.Refusing call hold bitmap value) x sound told = tt
 pub del_stays : (del : Del) (x : ℕ) → IsDel del → Told (del_call del).view.layout (del_call del).view.generation (del_asks del) x → Stays IsDel del_call (del_call del) (del_turned del x)
 del_stays (del.Looking lookup) x sound told = at (lookup_turned lookup x) (lookup_stays lookup x sound told)
   where
-    hit : (found : Found) (hit : Option Hit) → IfSome hit (IsHit lookup.call.view.layout.slots found.directory.bitmap) → IsFound lookup.call.view.layout.slots found
+    hit : (found : Found) (hit : Option Hit) → IfSome hit (IsHit lookup.call.view.layout.slots found.directory.bitmap) → IsFoundBy lookup.call.view.layout.slots found
         → Stays IsDel del_call lookup.call (Go (del_hit lookup.call found.hold found.directory.bitmap hit))
     hit found (Some h) is_hit is = (record { call = sound.call; locked = is.locked; fits = is.directory.bitmap; hit = is_hit }, refl)
     hit found None is_hit is = (record { call = sound.call; locked = is.locked; here = tt }, refl)
@@ -188,7 +188,7 @@ as_whole : {M : Type 0} (sound : M → Type 0) (of : M → Call) (wrap : M → R
     → ((machine : M) → sound machine → IsRunning (wrap machine)) → ((machine : M) → running_call (wrap machine) ≡ of machine)
     → call.view.layout ≡ l → call.view.generation ≡ g → Stays sound of call turn → SoundAfter l g (wrapped wrap turn)
 as_whole sound of wrap l g call (Go machine) is_sound same layout generation stays =
-    let one : running_call (wrap machine) ≡ call = same machine ∙ stays.1 in
+    let one : running_call (wrap machine) ≡ at_node call (of machine).node (of machine).hops = same machine ∙ stays.1 in
     record {
       layout = ap (λ (c : Call). c.view.layout) one ∙ layout;
       generation = ap (λ (c : Call). c.view.generation) one ∙ generation;

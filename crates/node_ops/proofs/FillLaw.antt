@@ -279,7 +279,7 @@ module _ (fill : Fill) (sound : IsFill fill) where
   word_step k x small =
       let within : fill.slot < slots = sound.within in
       let more : suc k ≡ k + 1 = omega arith in
-      stores (sound.call.node, (omega arith)) (omega arith) (word_below k) (record { pending = refl; ready = refl; placed = refl })
+      stores (sound.call.node, (omega arith)) (inr (omega arith)) (word_below k) (record { pending = refl; ready = refl; placed = refl })
       (subst (λ count. Soils (slot_words fill.slot k) (slot_offset fill.slot k) (slot_words fill.slot count)) more (slot_soils fill.slot k))
       (λ s tidy before. known (updated s (slot_offset fill.slot k) (fill_word fill k)) fill.prints (k + 1) (omega arith) (word_stored s k small (relies s fill.prints k (omega arith) before)))
       (λ range s m before means.
@@ -300,7 +300,7 @@ module _ (fill : Fill) (sound : IsFill fill) where
   fill_at_leads fill_at.Print x here =
       let small_slot : fill.slot < 64 = in_node in
       let word = printed fill.prints fill.slot fill.call.print in
-      stores (sound.call.node, (omega arith)) (omega arith) (printed_below fill.prints fill.slot fill.call.print print_below) (record { pending = refl; ready = refl; placed = refl })
+      stores (sound.call.node, (omega arith)) (inr (omega arith)) (printed_below fill.prints fill.slot fill.call.print print_below) (record { pending = refl; ready = refl; placed = refl })
       (print_soils fill.slot)
       (λ s tidy before. known (updated s (print_offset fill.slot) word) word 4 (omega arith) (print_stored s word (relies s fill.prints 4 (omega arith) before)))
       (λ range s m before means.
@@ -314,7 +314,7 @@ module _ (fill : Fill) (sound : IsFill fill) where
   fill_at_leads fill_at.Bitmap x here =
       let word = printed fill.prints fill.slot fill.call.print in
       commits {h = written} {k = nothing} {dirty = fence_rest (fence_of bitmap_offset) ∷ []} {old = value_of fill.hit} {c = change.Put name fill.value}
-      (sound.call.node, (omega arith)) (omega arith) bitmap_below (record { pending = refl; ready = refl; placed = refl }) refl (inl (omega arith, omega arith)) refl refl
+      (sound.call.node, (omega arith)) (inl refl) bitmap_below (record { pending = refl; ready = refl; placed = refl }) refl (inl (omega arith, omega arith)) refl refl
       (λ s tidy before. record { seen = tt; left = tt })
       (λ range s m in_range before old means. means_filled range s m in_range (relies s word 4 (omega arith) before) old means)
 

@@ -4,7 +4,7 @@ use Rattle.std.proofs.lemmas.Bool.{cases_eq, ltb-false}
 use Rattle.pm_words.specs.declared.action.Action.{Action}
 use Rattle.pm_words.specs.declared.machine.Turn.{Turn}
 use Rattle.pm_words.specs.declared.machine.Turn.TheVariants.{Go, Done}
-use Rattle.pm_words.specs.Places.{node_words}
+use Rattle.pm_words.specs.Locations.{node_words}
 use Rattle.call_stages.specs.declared.once.Once.{Once}
 use Rattle.call_stages.specs.declared.once.Placed.{Placed}
 use Rattle.call_stages.specs.Stages.{IsAmong, Held, Stage, Idle, Holds}
@@ -16,7 +16,7 @@ use Rattle.node_ops.specs.declared.fence.FenceAt.TheVariants as fence_at
 use Rattle.node_ops.specs.declared.finish.Finish.{Finish}
 use Rattle.node_ops.specs.declared.finish.FinishAt.{FinishAt}
 use Rattle.node_ops.specs.declared.finish.FinishAt.TheVariants as finish_at
-use Rattle.node_ops.specs.Calls.{IsCall, call_place, name_in}
+use Rattle.node_ops.specs.Calls.{IsCall, call_address, name_in}
 use Rattle.node_ops.specs.FenceSteps.{IsFence, IsFenceAt, fence_asks, fence_at_asks, fence_next, fence_at_next}
 use Rattle.node_ops.specs.FinishSteps.{IsFinish, IsFinishAt, finish_asks, finish_at_asks, finish_turned, finish_at_turned, finish_fenced}
 use Rattle.node_ops.specs.CallStages.{fencing, finish_stage, finish_at_held, changes, change_to}
@@ -58,12 +58,12 @@ fence_leads call fence word held others x sound is waits = at fence.at is.value
     within = let last : fence.line + 8 ≤ node_words call.view.layout = is.within in let small : fence.word < 8 = is.word in omega arith
 
     at : (at : FenceAt) → IsFenceAt at → Fences call word held others (Holds call.node word (fencing held (record fence { at = at }) others))
-        (fence_at_asks (call_place call (fence.line + fence.word)) at) x (fence_at_next fence at x)
+        (fence_at_asks (call_address call (fence.line + fence.word)) at) x (fence_at_next fence at x)
     at fence_at.Load fits = looks (glances (sound.node, within) waits)
     at (fence_at.Drain value) fits =
         elim (ltb (fence.word + 1) 8) as (λ b. ltb (fence.word + 1) 8 ≡ b →
         Fences call word held others (Holds call.node word (fencing held (record fence { at = fence_at.Drain value }) others))
-        (fence_at_asks (call_place call (fence.line + fence.word)) (fence_at.Drain value)) x
+        (fence_at_asks (call_address call (fence.line + fence.word)) (fence_at.Drain value)) x
         (cond b (Some (record fence { word = fence.word + 1; at = fence_at.Load })) None)) [
           | true ↦ λ more. drains (sound.node, within) fits waits refl (rest_shrinks fence.line fence.word others is.word)
           | false ↦ λ last dirty ready kept. drains (sound.node, within) fits waits refl

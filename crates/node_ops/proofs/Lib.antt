@@ -7,3 +7,5 @@ pub mod FillLaw
 pub mod CallLaw
 pub mod CallSound
 pub mod OpLaw
+pub mod Endings
+pub mod Landings

@@ -1,8 +1,8 @@
 -- Each turn of a look-up is a step of a kind. At its end the next step of the call may rely on what the name has.
-use Rattle.std.proofs.Common.{◌≡◌, ℕ, zero, suc, ◌+◌, ◌%◌, ◌<◌, ◌≤◌, ◌==◌, ◌||◌, Bool, true, false, cond, ltb, List, [], ◌∷◌, ◌++◌, Option, Some, None, IfSome, length, take, get_or, set, inl, inr, ⊎_elim, refl, sym, subst, ap, ◌∙◌, arith}
+use Rattle.std.proofs.Common.{◌≡◌, ℕ, zero, suc, ◌+◌, ◌<◌, ◌≤◌, ◌==◌, Bool, true, false, cond, ltb, List, [], ◌∷◌, ◌++◌, Option, Some, None, IfSome, length, take, get_or, set, refl, sym, subst, ap, ◌∙◌, arith}
 use Rattle.std.specs.Int.{bit_at}
 use Rattle.std.proofs.Math.ListN.{length-set}
-use Rattle.std.proofs.lemmas.Bool.{eqb-true, eqb-false, ltb-true, ltb-false, leb-false, lt-ltb, eq-eqb, or_cases, and_parts, and_from, both_ways}
+use Rattle.std.proofs.lemmas.Bool.{eqb-true, eqb-false, ltb-false, leb-false}
 use Rattle.std.proofs.lemmas.Nat.Bits.{bit_at-zero}
 use Rattle.cat_key.specs.Names.{words_of}
 use Rattle.cat_key.proofs.Packing.{length-words_of}
@@ -11,20 +11,33 @@ use Rattle.cat_history.specs.Writes.{name_of}
 use Rattle.cat_history.specs.declared.op.Change.{Change}
 use Rattle.pm_words.specs.declared.action.Action.{Action}
 use Rattle.pm_words.specs.declared.action.Action.TheVariants.{Load, Exchange}
-use Rattle.pm_words.specs.declared.again.Again.TheVariants.{Locked, Moved}
+use Rattle.pm_words.specs.declared.again.Again.TheVariants.{Moved}
 use Rattle.pm_words.specs.declared.machine.Turn.{Turn}
 use Rattle.pm_words.specs.declared.machine.Turn.TheVariants.{Go, Done}
-use Rattle.pm_words.specs.Places.{node_words}
-use Rattle.version_lock.specs.Versions.{generation_of, kept_count, locked_word, IsFree, IsWorn}
+use Rattle.pm_words.specs.Locations.{node_words}
+use Rattle.version_lock.specs.Versions.{kept_count, locked_word}
 use Rattle.data_node.specs.Slots.{IsLive}
 use Rattle.data_node.specs.Bits.{without_live, lowest_live, candidate_bits}
+use Rattle.pm_words.specs.declared.layout.Layout.{Layout}
+use Rattle.data_node.specs.Lists.{three_words, key_of, IsBetween}
 use Rattle.data_node.specs.Spots.{Spot, bitmap_offset, slot_offset, IsLiveIn, name_words, IsTidy, Means}
 use Rattle.data_node.proofs.BitLemmas.{lowest_live-some, lowest_live-none, without_live-other}
 use Rattle.data_node.proofs.SpotLemmas.{at_found, at_missing}
 use Rattle.data_node.proofs.StoreLemmas.{candidates_cover}
 use Rattle.call_stages.specs.declared.once.Once.TheVariants as once
 use Rattle.call_stages.specs.Stages.{Known, Knows, Stage, Idle, Saw, Holds, just_held, pended}
-use Rattle.call_stages.specs.Kinds.{HasWordAt, clock_place, Step, looks, locks, unlocks, turns_back, is_worn, sees, misses, times, learns, decides, is_spent}
+use Rattle.call_stages.specs.Kinds.{HasWordAt, clock_address, Told, Step, looks, locks, unlocks, misses, times, learns, decides, is_spent}
+use Rattle.data_list.specs.declared.key.KeyWords.{KeyWords}
+use Rattle.data_list.specs.declared.target.Sighting.{Sighting}
+use Rattle.data_list.specs.declared.target.Target.{Target}
+use Rattle.data_list.specs.declared.target.Walked.{Walked}
+use Rattle.data_list.specs.declared.target.Walked.TheVariants as walked
+use Rattle.data_list.specs.declared.walk.Walk.{Walk}
+use Rattle.data_list.specs.Keys.{key_number, key_words}
+use Rattle.data_list.specs.Walks.{sighting_of, walk_asks, walk_turned}
+use Rattle.data_list.specs.WalkStages.{is_worn_word, walk_stage, sight_in}
+use Rattle.data_list.specs.Laws.{IsSighting, IsTarget, EndsAt, Walks}
+use Rattle.data_list.proofs.WalkLaw.{walks_are_looks}
 use Rattle.node_ops.specs.declared.call.Call.{Call}
 use Rattle.node_ops.specs.declared.lookup.Hold.{Hold}
 use Rattle.node_ops.specs.declared.lookup.Directory.{Directory}
@@ -35,8 +48,8 @@ use Rattle.node_ops.specs.declared.lookup.Looked.TheVariants as looked
 use Rattle.node_ops.specs.declared.lookup.LookupAt.{LookupAt}
 use Rattle.node_ops.specs.declared.lookup.LookupAt.TheVariants as look
 use Rattle.node_ops.specs.declared.lookup.Lookup.{Lookup}
-use Rattle.node_ops.specs.Calls.{IsCall, name_in, call_place}
-use Rattle.node_ops.specs.LookupSteps.{is_free_word, is_worn_word, is_spent as has_reached, value_of, goes_to, ends, finds, saw_version, tried_lock, saw_clock, saw_prints, saw_name, saw_directory, next_candidate, candidate_turned, lookup_at_asks, lookup_at_turned, IsComparing, IsLookupAt}
+use Rattle.node_ops.specs.Calls.{IsCall, name_in, call_address, at_node}
+use Rattle.node_ops.specs.LookupSteps.{walked_on, IsWalking, is_spent as has_reached, value_of, goes_to, ends, finds, tried_lock, saw_clock, saw_prints, saw_name, saw_directory, next_candidate, candidate_turned, lookup_at_asks, lookup_at_turned, IsComparing, IsLookupAt}
 use Rattle.node_ops.specs.CallStages.{words_from, knows, timed, lookup_at_stage, lookup_stage}
 use Rattle.node_ops.proofs.SeenLemmas.{Seen, Stand, seen_append, seen_front, seen_back, stand_taken, taken_stand, stand_whole, whole_stand, stand_more, stand_set, name_stands}
 
@@ -68,6 +81,7 @@ Leads_found call stage action x found =
       pending = pending;
       ready = ready;
       placed = None;
+      merged = false;
     }))
     None
 
@@ -76,27 +90,6 @@ abbrev pub Leads : Call → Stage → Action → ℕ → Turn Lookup Looked → 
 Leads call stage action x (Go lookup) = Step call.view.layout call.view.generation stage action x (lookup_stage lookup) None
 Leads call stage action x (Done (looked.Early answer)) = Step call.view.layout call.view.generation stage action x Idle (Some answer)
 Leads call stage action x (Done (looked.Found found)) = Leads_found call stage action x found
-
-pub free_word : (word generation : ℕ) → is_free_word word generation ≡ true → IsFree word generation
-free_word word generation is = ⊎_elim (λ earlier. inl (ltb-true _ _ earlier)) (λ unlocked. inr (eqb-true _ _ unlocked)) (or_cases _ _ is)
-
-or_left : (x y : Bool) → x ≡ true → (x || y) ≡ true
-or_left true y is = refl
-or_left false y is = absurd (cc)
-
-or_right : (x y : Bool) → y ≡ true → (x || y) ≡ true
-or_right true y is = refl
-or_right false y is = is
-
-taken_word : (word generation : ℕ) → is_free_word word generation ≡ false → IsFree word generation → ⊥
-taken_word word generation is (inl earlier) = both_ways _ is (or_left _ _ (lt-ltb (generation_of word) generation earlier))
-taken_word word generation is (inr unlocked) = both_ways _ is (or_right _ _ (eq-eqb (word % 2) 0 unlocked))
-
-worn_word : (word generation : ℕ) → is_worn_word word generation ≡ true → IsWorn word generation
-worn_word word generation is = let parts = and_parts _ _ is in (eqb-true _ _ parts.0, eqb-true _ _ parts.1)
-
-pub fresh_word : (word generation : ℕ) → is_worn_word word generation ≡ false → IsWorn word generation → ⊥
-fresh_word word generation is worn = both_ways _ is (and_from _ _ (eq-eqb _ _ worn.0) (eq-eqb _ _ worn.1))
 
 below_limit : (limit : Option ℕ) (clock : ℕ) → has_reached limit clock ≡ false → IfSome limit (λ most. clock < most)
 below_limit None clock is = tt
@@ -108,6 +101,27 @@ name_word s slot zero small = refl
 name_word s slot (suc zero) small = refl
 name_word s slot (suc (suc zero)) small = refl
 name_word s slot (suc (suc (suc k))) small = absurd (omega arith)
+
+-- each turn of the walk, as the call's
+pub own_walks : (call : Call) (walk : Walk) (x : ℕ) → IsWalking call walk → Told call.view.layout call.view.generation (walk_asks walk) x
+    → Walks call.view.layout call.view.generation (key_words call.name) (walk_stage walk) (walk_asks walk) x (walk_turned walk x)
+own_walks call walk x here told =
+    let at_generation = subst (λ (n : ℕ). Told call.view.layout n (walk_asks walk) x) (sym here.generation) told in
+    let at_layout = subst (λ (l : Layout). Told l walk.generation (walk_asks walk) x) (sym here.layout) at_generation in
+    subst (λ (q : Layout × (ℕ × KeyWords)). Walks q.0 q.1.0 q.1.1 (walk_stage walk) (walk_asks walk) x (walk_turned walk x)) (λ i. (here.layout i, (here.generation i, here.key i)))
+    (walks_are_looks walk x here.sound at_layout)
+
+-- what it is told to be its target is one
+pub told_target : (call : Call) (walk : Walk) (x : ℕ) (target : Target) → IsWalking call walk → Told call.view.layout call.view.generation (walk_asks walk) x → walk_turned walk x ≡ Done (walked.Target target)
+    → IsTarget call.view.layout call.view.generation (key_words call.name) target
+told_target call walk x target here told is =
+    let walks = subst (Walks call.view.layout call.view.generation (key_words call.name) (walk_stage walk) (walk_asks walk) x) is (own_walks call walk x here told) in
+    walks.1
+
+-- the key of the walk is the name's
+pub key_is : (call : Call) → IsCall call → key_number (key_words call.name) ≡ key_of (name_in call)
+unfolding key_of
+key_is call sound = ap (λ (words : List ℕ). three_words (get_or words 0 0) (get_or words 1 0) (get_or words 2 0)) (sym sound.packed.whole)
 
 module _ (call : Call) (sound : IsCall call) where
   abbrev slots : ℕ
@@ -129,7 +143,7 @@ module _ (call : Call) (sound : IsCall call) where
   decide : (found : Found) (k : Known) (offset x : ℕ) → offset < node_words call.view.layout → 0 < offset
       → ((s : Spot) → IsTidy slots s → Knows name k s → s offset ≡ x → Knows name (found_known call found) s)
       → ((range : List ℕ → Bool) (s : Spot) (m : Map) → range name ≡ true → Knows name k s → s offset ≡ x → Means slots range s m → at m name ≡ value_of found.hit)
-      → Leads_found call (Holds call.node found.hold.locked (timed call found.hold k)) (Load (call_place call offset)) x found
+      → Leads_found call (Holds call.node found.hold.locked (timed call found.hold k)) (Load (call_address call offset)) x found
   decide found k offset x within behind learnt old = λ next pending ready named less means.
       looks (decides (has_word offset within) behind (record { pending = refl; ready = refl; placed = refl }) refl named
       (λ s tidy known e. less s (learnt s tidy known e))
@@ -139,9 +153,9 @@ module _ (call : Call) (sound : IsCall call) where
   next_leads : (hold : Hold) (directory : Directory) (left : ℕ) (k : Known) (offset x : ℕ) → offset < node_words call.view.layout → 0 < offset
       → ((s : Spot) → Knows name k s → s offset ≡ x → Seen s ((bitmap_offset, directory.bitmap) ∷ words_from 8 directory.prints))
       → ((s : Spot) → IsTidy slots s → Knows name k s → s offset ≡ x → (slot : ℕ) → slot < 64 → IsLiveIn s slot → name_words s slot ≡ words_of name → IsLive left slot)
-      → Leads call (Holds call.node hold.locked (timed call hold k)) (Load (call_place call offset)) x (next_candidate call hold directory left)
+      → Leads call (Holds call.node hold.locked (timed call hold k)) (Load (call_address call offset)) x (next_candidate call hold directory left)
   next_leads hold directory left k offset x within behind seen covers =
-      elim (lowest_live left) as (λ o. lowest_live left ≡ o → Leads call (Holds call.node hold.locked (timed call hold k)) (Load (call_place call offset)) x (candidate_turned call hold directory left o)) [
+      elim (lowest_live left) as (λ o. lowest_live left ≡ o → Leads call (Holds call.node hold.locked (timed call hold k)) (Load (call_address call offset)) x (candidate_turned call hold directory left o)) [
         | Some slot ↦ λ is. looks (learns (has_word offset within) behind refl (λ s tidy known e.
             let both = seen s known e in
             record { seen = (both.0, seen_append s (words_from 8 directory.prints) [] both.1 tt); left = covers s tidy known e }))
@@ -155,45 +169,48 @@ module _ (call : Call) (sound : IsCall call) where
             omega arith))
       ] refl
 
-  version_leads : (x : ℕ) → Leads call Idle (Load (call_place call 0)) x (saw_version call x)
-  version_leads x =
+  walked_leads : (stage : Stage) (action : Action) (x : ℕ) (turn : Turn Walk Walked) → Walks call.view.layout call.view.generation (key_words call.name) stage action x turn
+      → Leads call stage action x (walked_on call turn)
+  walked_leads stage action x (Go walk) is = looks is.0
+  walked_leads stage action x (Done (walked.Again why)) is = looks is
+  walked_leads stage action x (Done (walked.Target target)) is =
       let g = call.view.generation in
-      let locked = look.Lock x (locked_word g (kept_count x g)) in
-      elim (is_free_word x g) as (λ b. is_free_word x g ≡ b → Leads call Idle (Load (call_place call 0)) x
-      (cond b (cond (is_worn_word x g) (ends (once.Worn call.node x)) (goes_to call locked)) (ends (once.Again (Locked call.node x))))) [
-        | true ↦ λ free. elim (is_worn_word x g) as (λ b. is_worn_word x g ≡ b → Leads call Idle (Load (call_place call 0)) x (cond b (ends (once.Worn call.node x)) (goes_to call locked))) [
-          | true ↦ λ worn. looks (is_worn sound.node (free_word x g free) (worn_word x g worn))
-          | false ↦ λ fresh. looks (sees sound.node (free_word x g free) (fresh_word x g fresh) refl)
-        ] refl
-        | false ↦ λ taken. looks (turns_back sound.node (taken_word x g taken))
-      ] refl
+      elim (is_worn_word target.version g) as (λ b. EndsAt call.view.layout g stage action x target.node (sighting_of target) b → Leads call stage action x
+      (cond b (ends (once.Worn target.node target.version)) (goes_to (at_node call target.node target.hops) (look.Lock (sighting_of target) (locked_word g (kept_count target.version g)))))) [
+        | true ↦ λ step. looks step
+        | false ↦ λ step. looks step
+      ] is.0
 
-  lock_leads : (version word x : ℕ) → Leads call (Saw call.node version word) (Exchange (call_place call 0) version word) x (tried_lock call version word x)
-  lock_leads version word x =
-      elim (x == version) as (λ b. (x == version) ≡ b → Leads call (Saw call.node version word) (Exchange (call_place call 0) version word) x
-      (cond b (goes_to call (look.Clock word)) (ends (once.Again (Moved call.node version x))))) [
-        | true ↦ λ same. locks (eqb-true _ _ same) sound.packed.named
+  walk_leads : (walk : Walk) (x : ℕ) → IsWalking call walk → Told call.view.layout call.view.generation (walk_asks walk) x → Leads call (walk_stage walk) (walk_asks walk) x (walked_on call (walk_turned walk x))
+  walk_leads walk x here told = walked_leads (walk_stage walk) (walk_asks walk) x (walk_turned walk x) (own_walks call walk x here told)
+
+  lock_leads : (seen : Sighting) (word x : ℕ) → IsSighting call.view.generation (key_words call.name) seen
+      → Leads call (Saw call.node seen.version word (sight_in seen)) (Exchange (call_address call 0) seen.version word) x (tried_lock call seen.version word x)
+  lock_leads seen word x is =
+      elim (x == seen.version) as (λ b. (x == seen.version) ≡ b → Leads call (Saw call.node seen.version word (sight_in seen)) (Exchange (call_address call 0) seen.version word) x
+      (cond b (goes_to call (look.Clock word)) (ends (once.Again (Moved call.node seen.version x))))) [
+        | true ↦ λ same. locks (eqb-true _ _ same) sound.packed.named is.live (λ s t see. subst (IsBetween s t) (key_is call sound) (is.between s t see))
         | false ↦ λ other. looks (misses (eqb-false _ _ other))
       ] refl
 
-  clock_leads : (word x : ℕ) → Leads call (Holds call.node word (just_held name)) (Load (clock_place call.view.layout)) x (saw_clock call (record { locked = word; clock = x }))
+  clock_leads : (word x : ℕ) → Leads call (Holds call.node word (just_held name)) (Load (clock_address call.view.layout)) x (saw_clock call (record { locked = word; clock = x }))
   clock_leads word x =
       let hold : Hold = record { locked = word; clock = x } in
-      elim (has_reached call.limit x) as (λ b. has_reached call.limit x ≡ b → Leads call (Holds call.node word (just_held name)) (Load (clock_place call.view.layout)) x
+      elim (has_reached call.limit x) as (λ b. has_reached call.limit x ≡ b → Leads call (Holds call.node word (just_held name)) (Load (clock_address call.view.layout)) x
       (cond b (goes_to call (look.Spent hold)) (goes_to call (look.Bitmap hold)))) [
         | true ↦ λ spent. looks (times {limit = None} (record { pending = refl; ready = refl; placed = refl }) tt)
         | false ↦ λ below. looks (times {limit = call.limit} (record { pending = refl; ready = refl; placed = refl }) (below_limit call.limit x below))
       ] refl
 
   prints_leads : (hold : Hold) (bitmap : ℕ) (prints : List ℕ) (k x : ℕ) → length prints ≡ 8 → k < 8
-      → Leads call (lookup_at_stage call (look.Prints hold bitmap prints k)) (Load (call_place call (8 + k))) x (saw_prints call hold bitmap prints k x)
+      → Leads call (lookup_at_stage call (look.Prints hold bitmap prints k)) (Load (call_address call (8 + k))) x (saw_prints call hold bitmap prints k x)
   prints_leads hold bitmap prints k x eight small =
       let directory : Directory = record { bitmap = bitmap; prints = set prints k x } in
       let seen_so_far = knows ((bitmap_offset, bitmap) ∷ words_from 8 (take k prints)) in
       let whole : length (set prints k x) ≡ 8 = length-set prints k x ∙ eight in
       let more : (s : Spot) → Knows name seen_so_far s → s (8 + k) ≡ x → Stand s 8 (set prints k x) (k + 1) =
       λ s known e. stand_set s 8 prints k x (omega arith) (stand_taken s 8 prints k (omega arith) known.seen.1) e in
-      elim (ltb (k + 1) 8) as (λ b. ltb (k + 1) 8 ≡ b → Leads call (lookup_at_stage call (look.Prints hold bitmap prints k)) (Load (call_place call (8 + k))) x
+      elim (ltb (k + 1) 8) as (λ b. ltb (k + 1) 8 ≡ b → Leads call (lookup_at_stage call (look.Prints hold bitmap prints k)) (Load (call_address call (8 + k))) x
       (cond b (goes_to call (look.Prints hold bitmap (set prints k x) (k + 1))) (saw_directory call hold directory))) [
         | true ↦ λ is. looks (learns (has_word (8 + k) (omega arith)) (omega arith) refl (λ s tidy known e.
             record { seen = (known.seen.0, taken_stand s 8 (set prints k x) (k + 1) (omega arith) (more s known e)); left = tt }))
@@ -214,7 +231,7 @@ module _ (call : Call) (sound : IsCall call) where
       record { seen = (bitmap_offset, directory.bitmap) ∷ (words_from 8 directory.prints ++ words_from (slot_offset slot 0) (take k call.name)); left = Some left }
 
   name_leads : (hold : Hold) (directory : Directory) (left slot k x : ℕ) → IsComparing slots directory.bitmap left slot → k < 3
-      → Leads call (Holds call.node hold.locked (timed call hold (comparing_known directory left slot k))) (Load (call_place call (slot_offset slot k))) x
+      → Leads call (Holds call.node hold.locked (timed call hold (comparing_known directory left slot k))) (Load (call_address call (slot_offset slot k))) x
       (saw_name call hold directory left slot k x)
   name_leads hold directory left slot k x comparing small =
       let words = call.name in
@@ -223,7 +240,7 @@ module _ (call : Call) (sound : IsCall call) where
       let lowest = lowest_live-some left slot comparing.fits comparing.lowest in
       let slot_within : slot < slots = (comparing.live slot lowest.live).0 in
       let stage = Holds call.node hold.locked (timed call hold (comparing_known directory left slot k)) in
-      let action = Load (call_place call (slot_offset slot k)) in
+      let action = Load (call_address call (slot_offset slot k)) in
       let within : slot_offset slot k < node_words call.view.layout = omega arith in
       let more : (s : Spot) → Knows name (comparing_known directory left slot k) s → s (slot_offset slot k) ≡ get_or words k 0 → Stand s (slot_offset slot 0) words (k + 1) =
       λ s known e. stand_more s (slot_offset slot 0) words k
@@ -265,7 +282,7 @@ module _ (call : Call) (sound : IsCall call) where
       ] refl
 
   value_leads : (hold : Hold) (directory : Directory) (slot x : ℕ) → slot < slots → IsLive directory.bitmap slot
-      → Leads call (lookup_at_stage call (look.Value hold directory slot)) (Load (call_place call (slot_offset slot 3))) x (finds hold directory (Some (record { slot = slot; value = x })))
+      → Leads call (lookup_at_stage call (look.Value hold directory slot)) (Load (call_address call (slot_offset slot 3))) x (finds hold directory (Some (record { slot = slot; value = x })))
   value_leads hold directory slot x slot_within live =
       let known_now = knows ((bitmap_offset, directory.bitmap) ∷ (words_from 8 directory.prints ++ words_from (slot_offset slot 0) call.name)) in
       decide (record { hold = hold; directory = directory; hit = Some (record { slot = slot; value = x }) }) known_now (slot_offset slot 3) x (omega arith) (omega arith)
@@ -277,12 +294,12 @@ module _ (call : Call) (sound : IsCall call) where
       let live_here : IsLiveIn s slot = subst (λ b. IsLive b slot) (sym known.seen.0) live in
       at_found slots range s m name slot sound.packed.named in_range means live_here same ∙ ap Some e)
 
-  pub lookup_leads : (at : LookupAt) (x : ℕ) → IsLookupAt call at → Leads call (lookup_at_stage call at) (lookup_at_asks call at) x (lookup_at_turned call at x)
-  lookup_leads look.Version x here = version_leads x
-  lookup_leads (look.Lock version word) x here = lock_leads version word x
-  lookup_leads (look.Clock word) x here = clock_leads word x
-  lookup_leads (look.Spent hold) x here = unlocks refl refl refl refl (is_spent refl refl)
-  lookup_leads (look.Bitmap hold) x here = looks (learns (has_word bitmap_offset (omega arith)) (omega arith) refl (λ s tidy known e. record { seen = (e, tt); left = tt }))
-  lookup_leads (look.Prints hold bitmap prints k) x here = prints_leads hold bitmap prints k x here.1.prints here.2
-  lookup_leads (look.Name hold directory left slot k) x here = name_leads hold directory left slot k x here.2 here.3
-  lookup_leads (look.Value hold directory slot) x here = value_leads hold directory slot x here.2 here.3
+  pub lookup_leads : (at : LookupAt) (x : ℕ) → IsLookupAt call at → Told call.view.layout call.view.generation (lookup_at_asks call at) x → Leads call (lookup_at_stage call at) (lookup_at_asks call at) x (lookup_at_turned call at x)
+  lookup_leads (look.Walk walk) x here told = walk_leads walk x here told
+  lookup_leads (look.Lock seen word) x here told = lock_leads seen word x here.is
+  lookup_leads (look.Clock word) x here told = clock_leads word x
+  lookup_leads (look.Spent hold) x here told = unlocks refl refl refl refl (is_spent refl refl)
+  lookup_leads (look.Bitmap hold) x here told = looks (learns (has_word bitmap_offset (omega arith)) (omega arith) refl (λ s tidy known e. record { seen = (e, tt); left = tt }))
+  lookup_leads (look.Prints hold bitmap prints k) x here told = prints_leads hold bitmap prints k x here.1.prints here.2
+  lookup_leads (look.Name hold directory left slot k) x here told = name_leads hold directory left slot k x here.2 here.3
+  lookup_leads (look.Value hold directory slot) x here told = value_leads hold directory slot x here.2 here.3

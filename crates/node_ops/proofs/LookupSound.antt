@@ -4,7 +4,7 @@ use Rattle.std.specs.Int.{bit_at}
 use Rattle.std.proofs.Math.ListN.{length-set}
 use Rattle.std.proofs.lemmas.Bool.{cases_eq, cases_lt, ltb-true}
 use Rattle.std.proofs.lemmas.Nat.Bits.{bit_at_above}
-use Rattle.pm_words.specs.declared.again.Again.TheVariants.{Locked, Moved}
+use Rattle.pm_words.specs.declared.again.Again.TheVariants.{Moved}
 use Rattle.pm_words.specs.declared.machine.Turn.{Turn}
 use Rattle.pm_words.specs.declared.machine.Turn.TheVariants.{Go, Done}
 use Rattle.version_lock.specs.declared.TheConstants.{LAST_COUNT, GENERATION_LIMIT}
@@ -18,20 +18,31 @@ use Rattle.call_stages.specs.Kinds.{Told}
 use Rattle.node_ops.specs.declared.call.Call.{Call}
 use Rattle.node_ops.specs.declared.lookup.Hold.{Hold}
 use Rattle.node_ops.specs.declared.lookup.Directory.{Directory}
+use Rattle.node_ops.specs.declared.lookup.Found.{Found}
 use Rattle.node_ops.specs.declared.lookup.Looked.{Looked}
 use Rattle.node_ops.specs.declared.lookup.Looked.TheVariants as looked
 use Rattle.node_ops.specs.declared.lookup.LookupAt.{LookupAt}
 use Rattle.node_ops.specs.declared.lookup.LookupAt.TheVariants as look
 use Rattle.node_ops.specs.declared.lookup.Lookup.{Lookup}
-use Rattle.node_ops.specs.Calls.{IsCall, IsLockWord}
-use Rattle.node_ops.specs.LookupSteps.{is_free_word, is_worn_word, is_spent, goes_to, ends, saw_version, saw_prints, saw_name, saw_directory, next_candidate, candidate_turned, lookup_asks, lookup_at_asks, lookup_turned, lookup_at_turned, IsLocking, IsDirectory, IsComparing, IsFound, IsLookupAt, IsLookup}
-use Rattle.node_ops.proofs.LookupLaw.{free_word, fresh_word}
+use Rattle.node_ops.specs.Calls.{IsCall, IsLockWord, at_node, IsSame}
+use Rattle.node_ops.specs.LookupSteps.{walked_on, is_spent, goes_to, ends, saw_prints, saw_name, saw_directory, next_candidate, candidate_turned, lookup_asks, lookup_at_asks, lookup_turned, lookup_at_turned, IsLocking, IsDirectory, IsComparing, IsFoundBy, IsLookupAt, IsLookup}
+use Rattle.pm_words.specs.declared.action.Action.{Action}
+use Rattle.call_stages.specs.Stages.{Stage}
+use Rattle.data_list.specs.declared.target.Walked.{Walked}
+use Rattle.data_list.specs.declared.target.Walked.TheVariants as walked
+use Rattle.data_list.specs.declared.walk.Walk.{Walk}
+use Rattle.data_list.specs.Keys.{key_words}
+use Rattle.data_list.specs.Walks.{sighting_of, walk_asks, walk_turned}
+use Rattle.data_list.specs.WalkStages.{is_worn_word, walk_stage}
+use Rattle.data_list.specs.Laws.{IsTarget, Walks}
+use Rattle.data_list.proofs.WalkLaw.{fresh_word}
+use Rattle.node_ops.proofs.LookupLaw.{own_walks}
 
--- the fields after a turn, and that the call is the same
+-- the fields after a turn, and that the call is the same, maybe at another node
 abbrev pub SoundLooked : Call → Turn Lookup Looked → Type 0
-SoundLooked call (Go lookup) = IsLookup lookup × (lookup.call ≡ call)
+SoundLooked call (Go lookup) = IsLookup lookup × IsSame call lookup.call
 SoundLooked call (Done (looked.Early answer)) = Unit {0}
-SoundLooked call (Done (looked.Found found)) = IsFound call.view.layout.slots found
+SoundLooked call (Done (looked.Found found)) = IsFoundBy call.view.layout.slots found
 
 -- a locked word that was made of a free one can be given back
 pub lock_word : (generation version word : ℕ) → generation < GENERATION_LIMIT → IsLocking generation version word → IsLockWord word
@@ -72,16 +83,23 @@ module _ (call : Call) (sound : IsCall call) where
         | None ↦ λ is. record { locked = locked; directory = loaded; hit = tt }
       ] refl
 
-  version_sound : (x : ℕ) → generation_of x ≤ call.view.generation → SoundLooked call (saw_version call x)
-  version_sound x known =
+  walked_sound : (stage : Stage) (action : Action) (x : ℕ) (turn : Turn Walk Walked) → Walks call.view.layout call.view.generation (key_words call.name) stage action x turn
+      → SoundLooked call (walked_on call turn)
+  walked_sound stage action x (Go walk) is = (record { call = sound; here = record { sound = is.1; layout = is.2; generation = is.3; key = is.4 } }, refl)
+  walked_sound stage action x (Done (walked.Again why)) is = tt
+  walked_sound stage action x (Done (walked.Target target)) is =
       let g = call.view.generation in
-      let locked = look.Lock x (locked_word g (kept_count x g)) in
-      elim (is_free_word x g) as (λ b. is_free_word x g ≡ b → SoundLooked call (cond b (cond (is_worn_word x g) (ends (once.Worn call.node x)) (goes_to call locked)) (ends (once.Again (Locked call.node x))))) [
-        | true ↦ λ free. elim (is_worn_word x g) as (λ b. is_worn_word x g ≡ b → SoundLooked call (cond b (ends (once.Worn call.node x)) (goes_to call locked))) [
-          | true ↦ λ worn. tt
-          | false ↦ λ fresh. (record { call = sound; here = record { known = known; free = free_word x g free; unworn = fresh_word x g fresh; locked = refl } }, refl)
-        ] refl
-        | false ↦ λ taken. tt
+      let t : IsTarget call.view.layout g (key_words call.name) target = is.1 in
+      elim (is_worn_word target.version g) as (λ b. is_worn_word target.version g ≡ b → SoundLooked call
+      (cond b (ends (once.Worn target.node target.version)) (goes_to (at_node call target.node target.hops) (look.Lock (sighting_of target) (locked_word g (kept_count target.version g)))))) [
+        | true ↦ λ worn. tt
+        | false ↦ λ fresh. (
+          record {
+            call = record { view = sound.view; node = t.here; packed = sound.packed; print = sound.print; limit = sound.limit };
+            here = record { locking = record { known = t.seen.free.known; free = t.seen.free.free; unworn = fresh_word target.version g fresh; locked = refl }; is = t.seen };
+          },
+          refl,
+        )
       ] refl
 
   prints_sound : (hold : Hold) (bitmap : ℕ) (prints : List ℕ) (k x : ℕ) → IsLockWord hold.locked → IsDirectory (record { bitmap = bitmap; prints = prints })
@@ -125,10 +143,10 @@ module _ (call : Call) (sound : IsCall call) where
       ]
 
   lookup_at_stays : (at : LookupAt) (x : ℕ) → IsLookupAt call at → Told call.view.layout call.view.generation (lookup_at_asks call at) x → SoundLooked call (lookup_at_turned call at x)
-  lookup_at_stays look.Version x here told = version_sound x (told.known call.node refl)
-  lookup_at_stays (look.Lock version word) x here told =
-      elim (x == version) as (λ b. SoundLooked call (cond b (goes_to call (look.Clock word)) (ends (once.Again (Moved call.node version x))))) [
-        | true ↦ (record { call = sound; here = lock_word call.view.generation version word sound.view.generation here }, refl)
+  lookup_at_stays (look.Walk walk) x here told = walked_sound (walk_stage walk) (walk_asks walk) x (walk_turned walk x) (own_walks call walk x here told)
+  lookup_at_stays (look.Lock seen word) x here told =
+      elim (x == seen.version) as (λ b. SoundLooked call (cond b (goes_to call (look.Clock word)) (ends (once.Again (Moved call.node seen.version x))))) [
+        | true ↦ (record { call = sound; here = lock_word call.view.generation seen.version word sound.view.generation here.locking }, refl)
         | false ↦ tt
       ]
   lookup_at_stays (look.Clock word) x here told =
@@ -146,3 +164,8 @@ module _ (call : Call) (sound : IsCall call) where
 pub lookup_stays : (lookup : Lookup) (x : ℕ) → IsLookup lookup → Told lookup.call.view.layout lookup.call.view.generation (lookup_asks lookup) x
     → SoundLooked lookup.call (lookup_turned lookup x)
 lookup_stays lookup x sound told = lookup_at_stays lookup.call sound.call lookup.at x sound.here told
+
+-- what it found
+pub found_sound : (lookup : Lookup) (x : ℕ) (found : Found) → IsLookup lookup → Told lookup.call.view.layout lookup.call.view.generation (lookup_asks lookup) x
+    → Done (looked.Found found) ≡ lookup_turned lookup x → IsFoundBy lookup.call.view.layout.slots found
+found_sound lookup x found sound told is = subst (SoundLooked lookup.call) (sym is) (lookup_stays lookup x sound told)

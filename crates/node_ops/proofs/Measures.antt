@@ -87,8 +87,8 @@ pub lookup_left_some : (lookup : Lookup) → IsLookup lookup → 0 < lookup_left
 lookup_left_some lookup sound = at lookup.call lookup.at sound.here
   where
     at : (call : Call) (at : LookupAt) → IsLookupAt call at → 0 < lookup_at_left call.view.layout.slots at
-    at call look.Version sound = omega arith
-    at call (look.Lock version locked) sound = omega arith
+    at call (look.Walk walk) sound = omega arith
+    at call (look.Lock target locked) sound = omega arith
     at call (look.Clock locked) sound = omega arith
     at call (look.Spent hold) sound = omega arith
     at call (look.Bitmap hold) sound = omega arith

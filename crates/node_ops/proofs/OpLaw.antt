@@ -10,7 +10,9 @@ use Rattle.cat_history.specs.declared.op.Change.TheVariants as change
 use Rattle.data_node.specs.Bits.{lowest_clear}
 use Rattle.call_stages.specs.declared.once.Once.{Once}
 use Rattle.call_stages.specs.declared.once.Placed.{Placed}
-use Rattle.call_stages.specs.Stages.{Holds, counted, pending_in, placed_in}
+use Rattle.call_stages.specs.Stages.{Stage, Idle, Saw, Wears, Holds, Eyes, Splits, Leaves, Meets, Joins, IsLoose, counted, pending_in, placed_in}
+use Rattle.data_list.specs.WalkStages.{walk_stage}
+use Rattle.data_list.proofs.WalkLaw.{walk_loose}
 use Rattle.call_stages.specs.Kinds.{Told}
 use Rattle.node_ops.specs.declared.call.Call.{Call}
 use Rattle.node_ops.specs.declared.lookup.Found.{Found}
@@ -173,10 +175,44 @@ turns_keep_op l g op running x sound told is =
     let at_generation = subst (λ (n : ℕ). Told l n (running_asks running) x) (sym sound.generation) told in
     own_keep op running x sound.here (subst (λ (k : Layout). Told k (running_call running).view.generation (running_asks running) x) (sym sound.layout) at_generation) is
 
+-- a stage that holds no node
+loose_counts : (s : Stage) → IsLoose s → counted s ≡ None
+loose_counts Idle loose = refl
+loose_counts (Saw n v w k) loose = refl
+loose_counts (Wears n v) loose = refl
+loose_counts (Holds n w h) loose = absurd loose
+loose_counts (Eyes n w h m v u free) loose = absurd loose
+loose_counts (Splits left fresh phase) loose = absurd loose
+loose_counts (Leaves left) loose = absurd loose
+loose_counts (Meets n w h right) loose = absurd loose
+loose_counts (Joins h left right pace) loose = absurd loose
+
+loose_about : (name : List ℕ) (s : Stage) → IsLoose s → IsAbout name s
+loose_about name Idle loose = tt
+loose_about name (Saw n v w k) loose = tt
+loose_about name (Wears n v) loose = tt
+loose_about name (Holds n w h) loose = absurd loose
+loose_about name (Eyes n w h m v u free) loose = absurd loose
+loose_about name (Splits left fresh phase) loose = absurd loose
+loose_about name (Leaves left) loose = absurd loose
+loose_about name (Meets n w h right) loose = absurd loose
+loose_about name (Joins h left right pace) loose = absurd loose
+
+loose_pends : (s : Stage) → IsLoose s → pending_in s ≡ None
+loose_pends Idle loose = refl
+loose_pends (Saw n v w k) loose = refl
+loose_pends (Wears n v) loose = refl
+loose_pends (Holds n w h) loose = absurd loose
+loose_pends (Eyes n w h m v u free) loose = absurd loose
+loose_pends (Splits left fresh phase) loose = absurd loose
+loose_pends (Leaves left) loose = absurd loose
+loose_pends (Meets n w h right) loose = absurd loose
+loose_pends (Joins h left right pace) loose = absurd loose
+
 -- a look-up counts nothing, and holds its node for its call's name
 pub lookup_counts : (call : Call) (at : LookupAt) → counted (lookup_at_stage call at) ≡ None
-lookup_counts call look.Version = refl
-lookup_counts call (look.Lock version locked) = refl
+lookup_counts call (look.Walk walk) = loose_counts (walk_stage walk) (walk_loose walk.generation walk.node walk.at)
+lookup_counts call (look.Lock target locked) = refl
 lookup_counts call (look.Clock locked) = refl
 lookup_counts call (look.Spent hold) = refl
 lookup_counts call (look.Bitmap hold) = refl
@@ -185,8 +221,8 @@ lookup_counts call (look.Name hold directory left slot k) = refl
 lookup_counts call (look.Value hold directory slot) = refl
 
 lookup_about : (call : Call) (at : LookupAt) → IsAbout (name_in call) (lookup_at_stage call at)
-lookup_about call look.Version = tt
-lookup_about call (look.Lock version locked) = tt
+lookup_about call (look.Walk walk) = loose_about (name_in call) (walk_stage walk) (walk_loose walk.generation walk.node walk.at)
+lookup_about call (look.Lock target locked) = tt
 lookup_about call (look.Clock locked) = refl
 lookup_about call (look.Spent hold) = refl
 lookup_about call (look.Bitmap hold) = refl
@@ -250,8 +286,8 @@ holds_own_name (op.Del name) (Deleting (del.Finishing finish)) is =
     subst (λ n. IsAbout n (Holds finish.call.node finish.hold.locked (finish_at_held finish finish.at))) is.0 (finish_about finish finish.at)
 
 lookup_pends : (call : Call) (at : LookupAt) → pending_in (lookup_at_stage call at) ≡ None
-lookup_pends call look.Version = refl
-lookup_pends call (look.Lock version locked) = refl
+lookup_pends call (look.Walk walk) = loose_pends (walk_stage walk) (walk_loose walk.generation walk.node walk.at)
+lookup_pends call (look.Lock target locked) = refl
 lookup_pends call (look.Clock locked) = refl
 lookup_pends call (look.Spent hold) = refl
 lookup_pends call (look.Bitmap hold) = refl

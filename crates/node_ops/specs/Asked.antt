@@ -6,7 +6,7 @@ use Rattle.cat_history.specs.declared.op.Op.{Op}
 use Rattle.cat_history.specs.declared.op.Op.TheVariants as op
 use Rattle.call_stages.specs.declared.once.Once.{Once}
 use Rattle.call_stages.specs.declared.once.Placed.{Placed}
-use Rattle.call_stages.specs.Stages.{Stage, Idle, Saw, Holds}
+use Rattle.call_stages.specs.Stages.{Stage, Holds, Eyes, Meets, Joins}
 use Rattle.node_ops.specs.declared.finish.Finish.{Finish}
 use Rattle.node_ops.specs.declared.put.Put.{Put}
 use Rattle.node_ops.specs.declared.put.Put.TheVariants as put
@@ -74,6 +74,8 @@ op_in (Deleting del) = del_op del
 
 -- what is held is held for this name
 abbrev pub IsAbout : List ℕ → Stage → Type 0
-IsAbout name Idle = Unit {0}
-IsAbout name (Saw n v w) = Unit {0}
 IsAbout name (Holds n w h) = h.name ≡ name
+IsAbout name (Eyes n w h m v u free) = h.name ≡ name
+IsAbout name (Meets n w h right) = h.name ≡ name
+IsAbout name (Joins h left right pace) = h.name ≡ name
+IsAbout name _ = Unit {0}

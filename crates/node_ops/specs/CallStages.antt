@@ -34,6 +34,7 @@ use Rattle.node_ops.specs.declared.del.Del.{Del}
 use Rattle.node_ops.specs.declared.del.Del.TheVariants as del
 use Rattle.node_ops.specs.declared.running.Running.{Running}
 use Rattle.node_ops.specs.declared.running.Running.TheVariants.{Getting, Putting, Deleting}
+use Rattle.data_list.specs.WalkStages.{walk_stage, sight_in}
 use Rattle.node_ops.specs.Calls.{name_in}
 use Rattle.node_ops.specs.LookupSteps.{value_of}
 use Rattle.node_ops.specs.RunningSteps.{Sound}
@@ -58,20 +59,68 @@ seen_hit call bitmap (Some hit) = (bitmap_offset, bitmap) ∷ words_from (slot_o
 
 -- the node is held, with the clock loaded and below the limit
 abbrev pub timed : Call → Hold → Known → Held
-timed call hold known = record { name = name_in call; limit = call.limit; known = known; dirty = []; hand = None; time = Some hold.clock; old = None; pending = None; ready = false; placed = None }
+timed call hold known = record {
+  name = name_in call;
+  limit = call.limit;
+  known = known;
+  dirty = [];
+  hand = None;
+  time = Some hold.clock;
+  old = None;
+  pending = None;
+  ready = false;
+  placed = None;
+  merged = false;
+}
 
 -- and it is known what the name has
 abbrev pub decided : Call → Hold → Option ℕ → Known → Held
-decided call hold old known = record { name = name_in call; limit = call.limit; known = known; dirty = []; hand = None; time = Some hold.clock; old = Some old; pending = None; ready = false; placed = None }
+decided call hold old known = record {
+  name = name_in call;
+  limit = call.limit;
+  known = known;
+  dirty = [];
+  hand = None;
+  time = Some hold.clock;
+  old = Some old;
+  pending = None;
+  ready = false;
+  placed = None;
+  merged = false;
+}
 
 -- and the node's words show this change
 abbrev pub changes : Call → Hold → Option ℕ → Change → Bool → Held
 changes call hold old change ready =
-    record { name = name_in call; limit = call.limit; known = nothing; dirty = []; hand = None; time = Some hold.clock; old = Some old; pending = Some change; ready = ready; placed = None }
+    record {
+      name = name_in call;
+      limit = call.limit;
+      known = nothing;
+      dirty = [];
+      hand = None;
+      time = Some hold.clock;
+      old = Some old;
+      pending = Some change;
+      ready = ready;
+      placed = None;
+      merged = false;
+    }
 
 -- and the change has its place
 abbrev pub has_place : Call → Option ℕ → ℕ → Held
-has_place call old place = record { name = name_in call; limit = call.limit; known = nothing; dirty = []; hand = None; time = None; old = Some old; pending = None; ready = false; placed = Some place }
+has_place call old place = record {
+  name = name_in call;
+  limit = call.limit;
+  known = nothing;
+  dirty = [];
+  hand = None;
+  time = None;
+  old = Some old;
+  pending = None;
+  ready = false;
+  placed = Some place;
+  merged = false;
+}
 
 -- the words that a fence has still to make durable: the rest of its line
 abbrev pub fence_rest : Fence → ℕ × ℕ
@@ -90,20 +139,25 @@ abbrev pub fencing : Held → Fence → List (ℕ × ℕ) → Held
 fencing held fence others = record held { dirty = fence_rest fence ∷ others; hand = fence_hand fence }
 
 abbrev pub lookup_at_stage : Call → LookupAt → Stage
-lookup_at_stage call look.Version = Idle
-lookup_at_stage call (look.Lock version locked) = Saw call.node version locked
+lookup_at_stage call (look.Walk walk) = walk_stage walk
+lookup_at_stage call (look.Lock seen locked) = Saw call.node seen.version locked (sight_in seen)
 lookup_at_stage call (look.Clock locked) = Holds call.node locked (just_held (name_in call))
-lookup_at_stage call (look.Spent hold) = Holds call.node hold.locked (record (just_held (name_in call)) { time = Some hold.clock })
+lookup_at_stage call (look.Spent hold) =
+    Holds call.node hold.locked (record (just_held (name_in call)) { time = Some hold.clock })
 lookup_at_stage call (look.Bitmap hold) = Holds call.node hold.locked (timed call hold nothing)
 lookup_at_stage call (look.Prints hold bitmap prints k) =
     Holds call.node hold.locked (timed call hold (knows ((bitmap_offset, bitmap) ∷ words_from 8 (take k prints))))
 lookup_at_stage call (look.Name hold directory left slot k) =
     Holds call.node hold.locked (timed call hold (record {
-      seen = (bitmap_offset, directory.bitmap) ∷ (words_from 8 directory.prints ++ words_from (slot_offset slot 0) (take k call.name));
+      seen = (bitmap_offset, directory.bitmap) ∷ (words_from 8 directory.prints ++ words_from (slot_offset slot 0)
+          (take k call.name));
       left = Some left;
     }))
 lookup_at_stage call (look.Value hold directory slot) =
-    Holds call.node hold.locked (timed call hold (knows ((bitmap_offset, directory.bitmap) ∷ (words_from 8 directory.prints ++ words_from (slot_offset slot 0) call.name))))
+    Holds call.node hold.locked (timed call hold (knows ((
+      bitmap_offset,
+      directory.bitmap,
+    ) ∷ (words_from 8 directory.prints ++ words_from (slot_offset slot 0) call.name))))
 
 abbrev pub lookup_stage : Lookup → Stage
 lookup_stage lookup = lookup_at_stage lookup.call lookup.at
@@ -115,7 +169,8 @@ pair_words fill = fill.call.name ++ fill.value ∷ []
 -- the bitmap, the word with the slot's fingerprint, where the name was, and the words stored in the slot
 abbrev pub seen_fill : Fill → ℕ → ℕ → List (ℕ × ℕ)
 seen_fill fill prints count =
-    (print_offset fill.slot, prints) ∷ (seen_hit fill.call fill.bitmap fill.hit ++ words_from (slot_offset fill.slot 0) (take count (pair_words fill)))
+    (print_offset fill.slot, prints) ∷ (seen_hit fill.call fill.bitmap fill.hit ++ words_from (slot_offset fill.slot 0)
+    (take count (pair_words fill)))
 
 abbrev pub fill_at_known : Fill → FillAt → Known
 fill_at_known fill (fill_at.Word k) = knows (seen_fill fill fill.prints k)
@@ -146,7 +201,10 @@ fill_at_hand fill_at.Bitmap = None
 
 abbrev pub fill_at_held : Fill → FillAt → Held
 fill_at_held fill at =
-    record (decided fill.call fill.hold (value_of fill.hit) (fill_at_known fill at)) { dirty = fill_at_dirty fill.slot at; hand = fill_at_hand at }
+    record (decided fill.call fill.hold (value_of fill.hit) (fill_at_known fill at)) {
+      dirty = fill_at_dirty fill.slot at;
+      hand = fill_at_hand at;
+    }
 
 abbrev pub fill_stage : Fill → Stage
 fill_stage fill = Holds fill.call.node fill.hold.locked (fill_at_held fill fill.at)
@@ -157,8 +215,10 @@ change_to name (Some value) = change.Put name value
 change_to name None = change.Del name
 
 abbrev pub finish_at_held : Finish → FinishAt → Held
-finish_at_held finish (finish_at.Fence fence) = fencing (changes finish.call finish.hold finish.old (change_to (name_in finish.call) finish.new) false) fence []
-finish_at_held finish finish_at.Add = changes finish.call finish.hold finish.old (change_to (name_in finish.call) finish.new) true
+finish_at_held finish (finish_at.Fence fence) =
+    fencing (changes finish.call finish.hold finish.old (change_to (name_in finish.call) finish.new) false) fence []
+finish_at_held finish finish_at.Add =
+    changes finish.call finish.hold finish.old (change_to (name_in finish.call) finish.new) true
 finish_at_held finish (finish_at.Unlock place) = has_place finish.call finish.old place
 
 abbrev pub finish_stage : Finish → Stage
@@ -171,13 +231,16 @@ get_stage (get.Unlocking call hold old) = Holds call.node hold.locked (decided c
 abbrev pub put_stage : Put → Stage
 put_stage (put.Looking lookup value) = lookup_stage lookup
 put_stage (put.Filling fill) = fill_stage fill
-put_stage (put.Replacing call hold bitmap hit value) = Holds call.node hold.locked (decided call hold (Some hit.value) (knows (seen_hit call bitmap (Some hit))))
+put_stage (put.Replacing call hold bitmap hit value) =
+    Holds call.node hold.locked (decided call hold (Some hit.value) (knows (seen_hit call bitmap (Some hit))))
 put_stage (put.Finishing finish) = finish_stage finish
-put_stage (put.Refusing call hold bitmap value) = Holds call.node hold.locked (decided call hold None (knows ((bitmap_offset, bitmap) ∷ [])))
+put_stage (put.Refusing call hold bitmap value) =
+    Holds call.node hold.locked (decided call hold None (knows ((bitmap_offset, bitmap) ∷ [])))
 
 abbrev pub del_stage : Del → Stage
 del_stage (del.Looking lookup) = lookup_stage lookup
-del_stage (del.Clearing call hold bitmap hit) = Holds call.node hold.locked (decided call hold (Some hit.value) (knows (seen_hit call bitmap (Some hit))))
+del_stage (del.Clearing call hold bitmap hit) =
+    Holds call.node hold.locked (decided call hold (Some hit.value) (knows (seen_hit call bitmap (Some hit))))
 del_stage (del.Finishing finish) = finish_stage finish
 
 abbrev pub stage_of : Running → Stage

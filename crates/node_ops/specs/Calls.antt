@@ -4,7 +4,7 @@ use Rattle.cat_key.specs.Names.{words_of, bytes_of, fingerprint_of, IsPacked}
 use Rattle.pm_words.specs.Layouts.{IsLayout}
 use Rattle.version_lock.specs.declared.TheConstants.{GENERATION_LIMIT, LAST_COUNT}
 use Rattle.version_lock.specs.Versions.{count_of, IsLocked}
-use Rattle.call_stages.specs.Kinds.{word_place}
+use Rattle.call_stages.specs.Kinds.{word_address}
 use Rattle.node_ops.specs.declared.call.View.{View}
 use Rattle.node_ops.specs.declared.call.Call.{Call}
 
@@ -22,17 +22,32 @@ pub record IsCall (call : Call) : Type 0 where
   pub print : call.print ≡ fingerprint_of (bytes_of call.name)
   pub limit : IfSome call.limit (λ most. most ≤ 2 ^ 62)
 
--- a call that begins, on node 0
-abbrev pub call_of : View → List ℕ → Option ℕ → Call
-call_of view name limit = record { view = view; node = 0; name = words_of name; print = fingerprint_of name; limit = limit }
+-- a call that begins
+abbrev pub new_call : View → List ℕ → Option ℕ → Call
+new_call view name limit = record {
+  view = view;
+  node = 0;
+  hops = 0;
+  name = words_of name;
+  print = fingerprint_of name;
+  limit = limit;
+}
+
+-- the call once it is at a node
+abbrev pub at_node : Call → ℕ → ℕ → Call
+at_node call node hops = record call { node = node; hops = hops }
+
+-- they are the same call, maybe at another node
+abbrev pub IsSame : Call → Call → Type 0
+IsSame before after = after ≡ at_node before after.node after.hops
 
 -- the name that the call is about
 abbrev pub name_in : Call → List ℕ
 name_in call = bytes_of call.name
 
--- the place of a word of the call's node
-abbrev pub call_place : Call → ℕ → ℕ
-call_place call offset = word_place call.view.layout call.node offset
+-- the address of a word of the call's node
+abbrev pub call_address : Call → ℕ → ℕ
+call_address call offset = word_address call.view.layout call.node offset
 
 -- a word with which a party has a node locked, and which it can give back
 pub record IsLockWord (word : ℕ) : Type 0 where

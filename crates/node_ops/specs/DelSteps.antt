@@ -20,7 +20,7 @@ use Rattle.node_ops.specs.declared.finish.Finish.{Finish}
 use Rattle.node_ops.specs.declared.finish.FinishAt.TheVariants as finish_at
 use Rattle.node_ops.specs.declared.del.Del.{Del}
 use Rattle.node_ops.specs.declared.del.Del.TheVariants.{Looking, Clearing, Finishing}
-use Rattle.node_ops.specs.Calls.{IsCall, IsLockWord, call_place}
+use Rattle.node_ops.specs.Calls.{IsCall, IsLockWord, call_address}
 use Rattle.node_ops.specs.FenceSteps.{fence_of}
 use Rattle.node_ops.specs.LookupSteps.{IsHit, IsLookup, lookup_asks, lookup_turned, lookup_left}
 use Rattle.node_ops.specs.FinishSteps.{IsFinish, finish_asks, finish_turned, finish_left}
@@ -33,13 +33,14 @@ del_call (Finishing finish) = finish.call
 
 abbrev pub del_asks : Del → Action
 del_asks (Looking lookup) = lookup_asks lookup
-del_asks (Clearing call hold bitmap hit) = Store (call_place call bitmap_offset) (without_live bitmap hit.slot)
+del_asks (Clearing call hold bitmap hit) = Store (call_address call bitmap_offset) (without_live bitmap hit.slot)
 del_asks (Finishing finish) = finish_asks finish
 
 -- a name that is not there takes its place without a store
 abbrev pub del_hit : Call → Hold → ℕ → Option Hit → Del
 del_hit call hold bitmap (Some hit) = Clearing call hold bitmap hit
-del_hit call hold bitmap None = Finishing (record { call = call; hold = hold; old = None; new = None; at = finish_at.Add })
+del_hit call hold bitmap None =
+    Finishing (record { call = call; hold = hold; old = None; new = None; at = finish_at.Add })
 
 abbrev pub del_found : Call → Found → Del
 del_found call found = del_hit call found.hold found.directory.bitmap found.hit
@@ -56,7 +57,13 @@ del_finished (Done answer) = Done answer
 
 -- what is left to do once the bit is clear
 abbrev pub cleared : Call → Hold → Hit → Finish
-cleared call hold hit = record { call = call; hold = hold; old = Some hit.value; new = None; at = finish_at.Fence (fence_of bitmap_offset) }
+cleared call hold hit = record {
+  call = call;
+  hold = hold;
+  old = Some hit.value;
+  new = None;
+  at = finish_at.Fence (fence_of bitmap_offset);
+}
 
 abbrev pub del_turned : Del → ℕ → Turn Del (Once Placed)
 del_turned (Looking lookup) got = del_looked lookup.call (lookup_turned lookup got)

@@ -4,12 +4,12 @@ use Rattle.pm_words.specs.declared.TheConstants.{LINE}
 use Rattle.pm_words.specs.declared.layout.Layout.{Layout}
 use Rattle.pm_words.specs.declared.action.Action.{Action}
 use Rattle.pm_words.specs.declared.action.Action.TheVariants.{Load, Drain}
-use Rattle.pm_words.specs.Places.{node_words}
+use Rattle.pm_words.specs.Locations.{node_words}
 use Rattle.node_ops.specs.declared.call.Call.{Call}
 use Rattle.node_ops.specs.declared.fence.Fence.{Fence}
 use Rattle.node_ops.specs.declared.fence.FenceAt.{FenceAt}
 use Rattle.node_ops.specs.declared.fence.FenceAt.TheVariants as at
-use Rattle.node_ops.specs.Calls.{call_place}
+use Rattle.node_ops.specs.Calls.{call_address}
 
 -- the line in which the word with this offset stands
 abbrev pub fence_of : ℕ → Fence
@@ -26,15 +26,16 @@ pub record IsFence (l : Layout) (fence : Fence) : Type 0 where
   pub value : IsFenceAt fence.at
 
 abbrev pub fence_at_asks : ℕ → FenceAt → Action
-fence_at_asks place at.Load = Load place
-fence_at_asks place (at.Drain value) = Drain place value
+fence_at_asks address at.Load = Load address
+fence_at_asks address (at.Drain value) = Drain address value
 
 abbrev pub fence_asks : Call → Fence → Action
-fence_asks call fence = fence_at_asks (call_place call (fence.line + fence.word)) fence.at
+fence_asks call fence = fence_at_asks (call_address call (fence.line + fence.word)) fence.at
 
 abbrev pub fence_at_next : Fence → FenceAt → ℕ → Option Fence
 fence_at_next fence at.Load got = Some (record fence { at = at.Drain got })
-fence_at_next fence (at.Drain value) got = if nat_lt (fence.word + 1) LINE then Some (record fence { word = fence.word + 1; at = at.Load }) else None
+fence_at_next fence (at.Drain value) got =
+    if nat_lt (fence.word + 1) LINE then Some (record fence { word = fence.word + 1; at = at.Load }) else None
 
 -- what it is once it is told a number; None where the whole line is durable
 abbrev pub fence_next : Fence → ℕ → Option Fence

@@ -17,7 +17,7 @@ use Rattle.node_ops.specs.declared.finish.FinishAt.TheVariants as finish_at
 use Rattle.node_ops.specs.declared.fill.Fill.{Fill}
 use Rattle.node_ops.specs.declared.fill.FillAt.{FillAt}
 use Rattle.node_ops.specs.declared.fill.FillAt.TheVariants as at
-use Rattle.node_ops.specs.Calls.{IsCall, IsLockWord, call_place}
+use Rattle.node_ops.specs.Calls.{IsCall, IsLockWord, call_address}
 use Rattle.node_ops.specs.FenceSteps.{IsFence, fence_of, fence_asks, fence_next, fence_left}
 use Rattle.node_ops.specs.LookupSteps.{value_of, IsHit}
 
@@ -35,11 +35,12 @@ abbrev pub bitmap_after : Fill → ℕ
 bitmap_after fill = with_live (bitmap_without fill.bitmap fill.hit) fill.slot
 
 abbrev pub fill_at_asks : Fill → FillAt → Action
-fill_at_asks fill (at.Word k) = Store (call_place fill.call (slot_offset fill.slot k)) (fill_word fill k)
-fill_at_asks fill at.Print = Store (call_place fill.call (print_offset fill.slot)) (printed fill.prints fill.slot fill.call.print)
+fill_at_asks fill (at.Word k) = Store (call_address fill.call (slot_offset fill.slot k)) (fill_word fill k)
+fill_at_asks fill at.Print =
+    Store (call_address fill.call (print_offset fill.slot)) (printed fill.prints fill.slot fill.call.print)
 fill_at_asks fill (at.FenceSlot fence) = fence_asks fill.call fence
 fill_at_asks fill (at.FencePrint fence) = fence_asks fill.call fence
-fill_at_asks fill at.Bitmap = Store (call_place fill.call bitmap_offset) (bitmap_after fill)
+fill_at_asks fill at.Bitmap = Store (call_address fill.call bitmap_offset) (bitmap_after fill)
 
 abbrev pub fill_asks : Fill → Action
 fill_asks fill = fill_at_asks fill fill.at
@@ -58,10 +59,17 @@ print_fenced fill None = fills_on fill at.Bitmap
 
 -- what is left to do once the bitmap is stored
 abbrev pub filled : Fill → Finish
-filled fill = record { call = fill.call; hold = fill.hold; old = value_of fill.hit; new = Some fill.value; at = finish_at.Fence (fence_of bitmap_offset) }
+filled fill = record {
+  call = fill.call;
+  hold = fill.hold;
+  old = value_of fill.hit;
+  new = Some fill.value;
+  at = finish_at.Fence (fence_of bitmap_offset);
+}
 
 abbrev pub fill_at_turned : Fill → FillAt → ℕ → Turn Fill Finish
-fill_at_turned fill (at.Word k) got = if nat_lt (k + 1) (WORDS + 1) then fills_on fill (at.Word (k + 1)) else fills_on fill at.Print
+fill_at_turned fill (at.Word k) got =
+    if nat_lt (k + 1) (WORDS + 1) then fills_on fill (at.Word (k + 1)) else fills_on fill at.Print
 fill_at_turned fill at.Print got = fills_on fill (at.FenceSlot (fence_of (slot_offset fill.slot 0)))
 fill_at_turned fill (at.FenceSlot fence) got = slot_fenced fill (fence_next fence got)
 fill_at_turned fill (at.FencePrint fence) got = print_fenced fill (fence_next fence got)

@@ -7,19 +7,19 @@ use Rattle.pm_words.specs.declared.machine.Turn.TheVariants.{Go, Done}
 use Rattle.call_stages.specs.declared.once.Once.{Once}
 use Rattle.call_stages.specs.declared.once.Once.TheVariants as once
 use Rattle.call_stages.specs.declared.once.Placed.{Placed}
-use Rattle.call_stages.specs.Kinds.{clock_place, Told}
+use Rattle.call_stages.specs.Kinds.{clock_address, Told}
 use Rattle.node_ops.specs.declared.call.Call.{Call}
 use Rattle.node_ops.specs.declared.fence.Fence.{Fence}
 use Rattle.node_ops.specs.declared.finish.Finish.{Finish}
 use Rattle.node_ops.specs.declared.finish.FinishAt.{FinishAt}
 use Rattle.node_ops.specs.declared.finish.FinishAt.TheVariants as at
-use Rattle.node_ops.specs.Calls.{IsCall, IsLockWord, call_place}
+use Rattle.node_ops.specs.Calls.{IsCall, IsLockWord, call_address}
 use Rattle.node_ops.specs.FenceSteps.{IsFence, fence_asks, fence_next, fence_left}
 
 abbrev pub finish_at_asks : Finish → FinishAt → Action
 finish_at_asks finish (at.Fence fence) = fence_asks finish.call fence
-finish_at_asks finish at.Add = Add (clock_place finish.call.view.layout)
-finish_at_asks finish (at.Unlock place) = Store (call_place finish.call 0) (finish.hold.locked + 1)
+finish_at_asks finish at.Add = Add (clock_address finish.call.view.layout)
+finish_at_asks finish (at.Unlock place) = Store (call_address finish.call 0) (finish.hold.locked + 1)
 
 abbrev pub finish_asks : Finish → Action
 finish_asks finish = finish_at_asks finish finish.at
@@ -35,7 +35,8 @@ finish_fenced finish None = finishes_on finish at.Add
 abbrev pub finish_at_turned : Finish → FinishAt → ℕ → Turn Finish (Once Placed)
 finish_at_turned finish (at.Fence fence) got = finish_fenced finish (fence_next fence got)
 finish_at_turned finish at.Add got = finishes_on finish (at.Unlock got)
-finish_at_turned finish (at.Unlock place) got = Done (once.Done (record { old = finish.old; place = place; hops = 0 }))
+finish_at_turned finish (at.Unlock place) got =
+    Done (once.Done (record { old = finish.old; place = place; hops = finish.call.hops }))
 
 abbrev pub finish_turned : Finish → ℕ → Turn Finish (Once Placed)
 finish_turned finish got = finish_at_turned finish finish.at got
@@ -52,7 +53,8 @@ pub record IsFinish (finish : Finish) : Type 0 where
   pub here : IsFinishAt finish.call finish.at
 
 abbrev pub finish_takes : Finish → ℕ → Type 0
-finish_takes finish got = IsFinish finish × Told finish.call.view.layout finish.call.view.generation (finish_asks finish) got
+finish_takes finish got = IsFinish finish ×
+    Told finish.call.view.layout finish.call.view.generation (finish_asks finish) got
 
 abbrev pub finish_at_left : FinishAt → ℕ
 finish_at_left (at.Fence fence) = fence_left fence + 2

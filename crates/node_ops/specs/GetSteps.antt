@@ -14,7 +14,7 @@ use Rattle.node_ops.specs.declared.lookup.Looked.TheVariants as looked
 use Rattle.node_ops.specs.declared.lookup.Lookup.{Lookup}
 use Rattle.node_ops.specs.declared.get.Get.{Get}
 use Rattle.node_ops.specs.declared.get.Get.TheVariants.{Looking, Unlocking}
-use Rattle.node_ops.specs.Calls.{IsCall, IsLockWord, call_place}
+use Rattle.node_ops.specs.Calls.{IsCall, IsLockWord, call_address}
 use Rattle.node_ops.specs.LookupSteps.{value_of, IsLookup, lookup_asks, lookup_turned, lookup_left}
 
 -- what stays the same while it is made
@@ -24,7 +24,7 @@ get_call (Unlocking call hold old) = call
 
 abbrev pub get_asks : Get → Action
 get_asks (Looking lookup) = lookup_asks lookup
-get_asks (Unlocking call hold old) = Store (call_place call 0) (hold.locked + 1)
+get_asks (Unlocking call hold old) = Store (call_address call 0) (hold.locked + 1)
 
 -- after a turn of the look-up
 abbrev pub get_looked : Call → Turn Lookup Looked → Turn Get (Once Placed)
@@ -34,7 +34,7 @@ get_looked call (Done (looked.Found found)) = Go (Unlocking call found.hold (val
 
 abbrev pub get_turned : Get → ℕ → Turn Get (Once Placed)
 get_turned (Looking lookup) got = get_looked lookup.call (lookup_turned lookup got)
-get_turned (Unlocking call hold old) got = Done (once.Done (record { old = old; place = hold.clock; hops = 0 }))
+get_turned (Unlocking call hold old) got = Done (once.Done (record { old = old; place = hold.clock; hops = call.hops }))
 
 -- what its fields keep
 abbrev pub IsGet : Get → Type 0

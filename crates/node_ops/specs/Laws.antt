@@ -13,21 +13,26 @@ use Rattle.node_ops.specs.CallStages.{stage_of, stage_after, reply_of, SoundAfte
 
 -- a turn is a step of a kind, with the answer of the turn
 abbrev pub TurnsAreSteps : Type 0
-TurnsAreSteps = (l : Layout) (g : ℕ) (running : Running) (x : ℕ) → Sound l g running → Told l g (running_asks running) x →
-    Step l g (stage_of running) (running_asks running) x (stage_after (running_turned running x)) (reply_of (running_turned running x))
+TurnsAreSteps = (l : Layout) (g : ℕ) (running : Running) (x : ℕ) → Sound l g running →
+    Told l g (running_asks running) x →
+    Step l g (stage_of running) (running_asks running) x (stage_after (running_turned running x))
+    (reply_of (running_turned running x))
 
 -- and leaves the call sound
 abbrev pub TurnsStaySound : Type 0
-TurnsStaySound = (l : Layout) (g : ℕ) (running : Running) (x : ℕ) → Sound l g running → Told l g (running_asks running) x → SoundAfter l g (running_turned running x)
+TurnsStaySound = (l : Layout) (g : ℕ) (running : Running) (x : ℕ) → Sound l g running →
+    Told l g (running_asks running) x → SoundAfter l g (running_turned running x)
 
 -- and a call of the same op
 abbrev pub TurnsKeepOp : Type 0
-TurnsKeepOp = (l : Layout) (g : ℕ) (op : Op) (running : Running) (x : ℕ) → Sound l g running → Told l g (running_asks running) x → IsOf op running →
+TurnsKeepOp = (l : Layout) (g : ℕ) (op : Op) (running : Running) (x : ℕ) → Sound l g running →
+    Told l g (running_asks running) x → IsOf op running →
     IsOfAfter op (running_turned running x)
 
 -- what a call of an op counts is the change of that op
 abbrev pub CountsOwnChange : Type 0
-CountsOwnChange = (op : Op) (running : Running) → IsOf op running → IfSome (counted (stage_of running)) (λ change. change_of op ≡ Some change)
+CountsOwnChange = (op : Op) (running : Running) → IsOf op running →
+    IfSome (counted (stage_of running)) (λ change. change_of op ≡ Some change)
 
 -- and what it holds is held for the op's name
 abbrev pub HoldsOwnName : Type 0
@@ -35,7 +40,8 @@ HoldsOwnName = (op : Op) (running : Running) → IsOf op running → IsAbout (na
 
 -- and what it has pending, which a crash may find in the node already, is the change of the op, which has no place yet
 abbrev pub PendingIsOwnChange : Type 0
-PendingIsOwnChange = (op : Op) (running : Running) (change : Change) → IsOf op running → pending_in (stage_of running) ≡ Some change →
+PendingIsOwnChange = (op : Op) (running : Running) (change : Change) → IsOf op running →
+    pending_in (stage_of running) ≡ Some change →
     (change_of op ≡ Some change) × (placed_in (stage_of running) ≡ None)
 
 -- a call is of no other op than the one that its machine tells

@@ -9,4 +9,6 @@ pub mod DelSteps
 pub mod RunningSteps
 pub mod CallStages
 pub mod Asked
+pub mod Endings
+pub mod Landings
 pub mod Laws

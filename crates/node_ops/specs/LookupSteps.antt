@@ -1,13 +1,13 @@
 -- Looking a name up under its node's lock, step by step.
-use Rattle.std.specs.Prelude.{◌≡◌, ℕ, ◌+◌, ◌-◌, ◌*◌, ◌%◌, ◌^◌, ◌<◌, ◌≤◌, ◌==◌, ◌&&◌, ◌||◌, Bool, false, nat_lt, nat_le, if◌then◌else◌, List, length, Option, Some, None, IfSome, IsTrue, slice_index, slice_set, replicate}
+use Rattle.std.specs.Prelude.{◌≡◌, ℕ, ◌+◌, ◌-◌, ◌*◌, ◌^◌, ◌<◌, ◌≤◌, ◌==◌, Bool, false, nat_lt, nat_le, if◌then◌else◌}
+use Rattle.std.specs.Prelude.{List, length, Option, Some, None, IfSome, IsTrue, slice_index, slice_set, replicate}
 use Rattle.cat_key.specs.declared.TheConstants.{WORDS}
 use Rattle.pm_words.specs.declared.action.Action.{Action}
 use Rattle.pm_words.specs.declared.action.Action.TheVariants.{Load, Store, Exchange}
-use Rattle.pm_words.specs.declared.again.Again.TheVariants.{Locked, Moved}
+use Rattle.pm_words.specs.declared.again.Again.TheVariants.{Moved}
 use Rattle.pm_words.specs.declared.machine.Turn.{Turn}
 use Rattle.pm_words.specs.declared.machine.Turn.TheVariants.{Go, Done}
-use Rattle.version_lock.specs.declared.TheConstants.{LAST_COUNT}
-use Rattle.version_lock.specs.Versions.{generation_of, count_of, kept_count, locked_word, IsFree, IsWorn}
+use Rattle.version_lock.specs.Versions.{generation_of, kept_count, locked_word, IsFree, IsWorn}
 use Rattle.data_node.specs.declared.slots.TheConstants.{PRINT_WORDS}
 use Rattle.data_node.specs.Slots.{IsLive}
 use Rattle.data_node.specs.Bits.{without_live, lowest_live, candidate_bits}
@@ -15,7 +15,7 @@ use Rattle.data_node.specs.Spots.{bitmap_offset, slot_offset}
 use Rattle.call_stages.specs.declared.once.Once.{Once}
 use Rattle.call_stages.specs.declared.once.Once.TheVariants as once
 use Rattle.call_stages.specs.declared.once.Placed.{Placed}
-use Rattle.call_stages.specs.Kinds.{clock_place, Told}
+use Rattle.call_stages.specs.Kinds.{clock_address, Told}
 use Rattle.node_ops.specs.declared.call.Call.{Call}
 use Rattle.node_ops.specs.declared.lookup.Hold.{Hold}
 use Rattle.node_ops.specs.declared.lookup.Directory.{Directory}
@@ -26,7 +26,16 @@ use Rattle.node_ops.specs.declared.lookup.Looked.TheVariants as looked
 use Rattle.node_ops.specs.declared.lookup.Lookup.{Lookup}
 use Rattle.node_ops.specs.declared.lookup.LookupAt.{LookupAt}
 use Rattle.node_ops.specs.declared.lookup.LookupAt.TheVariants as at
-use Rattle.node_ops.specs.Calls.{IsCall, IsLockWord, call_place}
+use Rattle.data_list.specs.declared.target.Sighting.{Sighting}
+use Rattle.data_list.specs.declared.target.Target.{Target}
+use Rattle.data_list.specs.declared.target.Walked.{Walked}
+use Rattle.data_list.specs.declared.target.Walked.TheVariants as walked
+use Rattle.data_list.specs.declared.walk.Walk.{Walk}
+use Rattle.data_list.specs.Keys.{key_words}
+use Rattle.data_list.specs.Walks.{sighting_of, walk_from, walk_asks, walk_turned, walk_left, IsWalk}
+use Rattle.data_list.specs.WalkStages.{is_worn_word}
+use Rattle.data_list.specs.Laws.{IsSighting}
+use Rattle.node_ops.specs.Calls.{IsCall, IsLockWord, call_address, at_node}
 
 -- what a name has, if a slot has it
 abbrev pub value_of : Option Hit → Option ℕ
@@ -35,24 +44,20 @@ value_of (Some hit) = Some hit.value
 
 -- a look-up that begins
 abbrev pub starts : Call → Lookup
-starts call = record { call = call; at = at.Version }
-
--- nobody has the node locked in this generation
-abbrev pub is_free_word : ℕ → ℕ → Bool
-is_free_word word generation = nat_lt (generation_of word) generation || word % 2 == 0
-
-abbrev pub is_worn_word : ℕ → ℕ → Bool
-is_worn_word word generation = generation_of word == generation && count_of word == LAST_COUNT
+starts call = record {
+  call = call;
+  at = at.Walk (walk_from call.view.layout call.view.generation 0 (key_words call.name));
+}
 
 abbrev pub lookup_at_asks : Call → LookupAt → Action
-lookup_at_asks call at.Version = Load (call_place call 0)
-lookup_at_asks call (at.Lock version locked) = Exchange (call_place call 0) version locked
-lookup_at_asks call (at.Clock locked) = Load (clock_place call.view.layout)
-lookup_at_asks call (at.Spent hold) = Store (call_place call 0) (hold.locked + 1)
-lookup_at_asks call (at.Bitmap hold) = Load (call_place call bitmap_offset)
-lookup_at_asks call (at.Prints hold bitmap prints k) = Load (call_place call (8 + k))
-lookup_at_asks call (at.Name hold directory left slot k) = Load (call_place call (slot_offset slot k))
-lookup_at_asks call (at.Value hold directory slot) = Load (call_place call (slot_offset slot 3))
+lookup_at_asks call (at.Walk walk) = walk_asks walk
+lookup_at_asks call (at.Lock seen locked) = Exchange (call_address call 0) seen.version locked
+lookup_at_asks call (at.Clock locked) = Load (clock_address call.view.layout)
+lookup_at_asks call (at.Spent hold) = Store (call_address call 0) (hold.locked + 1)
+lookup_at_asks call (at.Bitmap hold) = Load (call_address call bitmap_offset)
+lookup_at_asks call (at.Prints hold bitmap prints k) = Load (call_address call (8 + k))
+lookup_at_asks call (at.Name hold directory left slot k) = Load (call_address call (slot_offset slot k))
+lookup_at_asks call (at.Value hold directory slot) = Load (call_address call (slot_offset slot 3))
 
 abbrev pub lookup_asks : Lookup → Action
 lookup_asks lookup = lookup_at_asks lookup.call lookup.at
@@ -69,13 +74,19 @@ ends answer = Done (looked.Early answer)
 abbrev pub finds : Hold → Directory → Option Hit → Turn Lookup Looked
 finds hold directory hit = Done (looked.Found (record { hold = hold; directory = directory; hit = hit }))
 
-abbrev pub saw_version : Call → ℕ → Turn Lookup Looked
-saw_version call word =
-    if is_free_word word call.view.generation
-    then (if is_worn_word word call.view.generation
-    then ends (once.Worn call.node word)
-    else goes_to call (at.Lock word (locked_word call.view.generation (kept_count word call.view.generation))))
-    else ends (once.Again (Locked call.node word))
+-- it is at its target, which it locks next
+abbrev pub came_to : Call → Target → Turn Lookup Looked
+came_to call target =
+    if is_worn_word target.version call.view.generation
+    then ends (once.Worn target.node target.version)
+    else goes_to (at_node call target.node target.hops)
+    (at.Lock (sighting_of target) (locked_word call.view.generation (kept_count target.version call.view.generation)))
+
+-- after a turn of the walk
+abbrev pub walked_on : Call → Turn Walk Walked → Turn Lookup Looked
+walked_on call (Go walk) = goes_to call (at.Walk walk)
+walked_on call (Done (walked.Again why)) = ends (once.Again why)
+walked_on call (Done (walked.Target target)) = came_to call target
 
 abbrev pub tried_lock : Call → ℕ → ℕ → ℕ → Turn Lookup Looked
 tried_lock call version locked found =
@@ -87,7 +98,8 @@ is_spent None clock = false
 is_spent (Some limit) clock = nat_le limit clock
 
 abbrev pub saw_clock : Call → Hold → Turn Lookup Looked
-saw_clock call hold = if is_spent call.limit hold.clock then goes_to call (at.Spent hold) else goes_to call (at.Bitmap hold)
+saw_clock call hold =
+    if is_spent call.limit hold.clock then goes_to call (at.Spent hold) else goes_to call (at.Bitmap hold)
 
 abbrev pub candidate_turned : Call → Hold → Directory → ℕ → Option ℕ → Turn Lookup Looked
 candidate_turned call hold directory left None = finds hold directory None
@@ -100,7 +112,8 @@ next_candidate call hold directory left = candidate_turned call hold directory l
 -- all fingerprints are loaded
 abbrev pub saw_directory : Call → Hold → Directory → Turn Lookup Looked
 saw_directory call hold directory =
-    next_candidate call hold directory (candidate_bits directory.bitmap directory.prints call.print call.view.layout.slots)
+    next_candidate call hold directory (candidate_bits directory.bitmap directory.prints call.print
+    call.view.layout.slots)
 
 abbrev pub saw_prints : Call → Hold → ℕ → List ℕ → ℕ → ℕ → Turn Lookup Looked
 saw_prints call hold bitmap prints k word =
@@ -117,14 +130,15 @@ saw_name call hold directory left slot k word =
     else next_candidate call hold directory (without_live left slot)
 
 abbrev pub lookup_at_turned : Call → LookupAt → ℕ → Turn Lookup Looked
-lookup_at_turned call at.Version got = saw_version call got
-lookup_at_turned call (at.Lock version locked) got = tried_lock call version locked got
+lookup_at_turned call (at.Walk walk) got = walked_on call (walk_turned walk got)
+lookup_at_turned call (at.Lock seen locked) got = tried_lock call seen.version locked got
 lookup_at_turned call (at.Clock locked) got = saw_clock call (record { locked = locked; clock = got })
 lookup_at_turned call (at.Spent hold) got = ends (once.Spent hold.clock)
 lookup_at_turned call (at.Bitmap hold) got = goes_to call (at.Prints hold got (replicate 8 0) 0)
 lookup_at_turned call (at.Prints hold bitmap prints k) got = saw_prints call hold bitmap prints k got
 lookup_at_turned call (at.Name hold directory left slot k) got = saw_name call hold directory left slot k got
-lookup_at_turned call (at.Value hold directory slot) got = finds hold directory (Some (record { slot = slot; value = got }))
+lookup_at_turned call (at.Value hold directory slot) got =
+    finds hold directory (Some (record { slot = slot; value = got }))
 
 abbrev pub lookup_turned : Lookup → ℕ → Turn Lookup Looked
 lookup_turned lookup got = lookup_at_turned lookup.call lookup.at got
@@ -153,20 +167,34 @@ pub record IsHit (slots bitmap : ℕ) (hit : Hit) : Type 0 where
   pub live : IsLive bitmap hit.slot
   pub fits : hit.value < 2 ^ 64
 
-pub record IsFound (slots : ℕ) (found : Found) : Type 0 where
+pub record IsFoundBy (slots : ℕ) (found : Found) : Type 0 where
   pub locked : IsLockWord found.hold.locked
   pub directory : IsDirectory found.directory
   pub hit : IfSome found.hit (IsHit slots found.directory.bitmap)
 
+-- it walks to the node of its name
+pub record IsWalking (call : Call) (walk : Walk) : Type 0 where
+  pub sound : IsWalk walk
+  pub layout : walk.layout ≡ call.view.layout
+  pub generation : walk.generation ≡ call.view.generation
+  pub key : walk.key ≡ key_words call.name
+
+-- it is at its target, and locks it
+pub record IsAtTarget (call : Call) (seen : Sighting) (locked : ℕ) : Type 0 where
+  pub locking : IsLocking call.view.generation seen.version locked
+  pub is : IsSighting call.view.generation (key_words call.name) seen
+
 abbrev pub IsLookupAt : Call → LookupAt → Type 0
-IsLookupAt call at.Version = Unit {0}
-IsLookupAt call (at.Lock version locked) = IsLocking call.view.generation version locked
+IsLookupAt call (at.Walk walk) = IsWalking call walk
+IsLookupAt call (at.Lock seen locked) = IsAtTarget call seen locked
 IsLookupAt call (at.Clock locked) = IsLockWord locked
 IsLookupAt call (at.Spent hold) = IsLockWord hold.locked × IsTrue (is_spent call.limit hold.clock)
 IsLookupAt call (at.Bitmap hold) = IsLockWord hold.locked
-IsLookupAt call (at.Prints hold bitmap prints k) = IsLockWord hold.locked × IsDirectory (record { bitmap = bitmap; prints = prints }) × (k < PRINT_WORDS)
+IsLookupAt call (at.Prints hold bitmap prints k) = IsLockWord hold.locked ×
+    IsDirectory (record { bitmap = bitmap; prints = prints }) × (k < PRINT_WORDS)
 IsLookupAt call (at.Name hold directory left slot k) =
-    IsLockWord hold.locked × IsDirectory directory × IsComparing call.view.layout.slots directory.bitmap left slot × (k < WORDS)
+    IsLockWord hold.locked × IsDirectory directory × IsComparing call.view.layout.slots directory.bitmap left slot ×
+    (k < WORDS)
 IsLookupAt call (at.Value hold directory slot) =
     IsLockWord hold.locked × IsDirectory directory × (slot < call.view.layout.slots) × IsLive directory.bitmap slot
 
@@ -176,12 +204,13 @@ pub record IsLookup (lookup : Lookup) : Type 0 where
   pub here : IsLookupAt lookup.call lookup.at
 
 abbrev pub lookup_takes : Lookup → ℕ → Type 0
-lookup_takes lookup got = IsLookup lookup × Told lookup.call.view.layout lookup.call.view.generation (lookup_asks lookup) got
+lookup_takes lookup got = IsLookup lookup ×
+    Told lookup.call.view.layout lookup.call.view.generation (lookup_asks lookup) got
 
 -- each candidate takes three actions at most, and the value one more
 abbrev pub lookup_at_left : ℕ → LookupAt → ℕ
-lookup_at_left slots at.Version = 3 * slots + 13
-lookup_at_left slots (at.Lock version locked) = 3 * slots + 12
+lookup_at_left slots (at.Walk walk) = walk_left walk + (3 * slots + 13)
+lookup_at_left slots (at.Lock seen locked) = 3 * slots + 12
 lookup_at_left slots (at.Clock locked) = 3 * slots + 11
 lookup_at_left slots (at.Spent hold) = 1
 lookup_at_left slots (at.Bitmap hold) = 3 * slots + 10

@@ -25,7 +25,7 @@ use Rattle.node_ops.specs.declared.fill.Fill.{Fill}
 use Rattle.node_ops.specs.declared.fill.FillAt.TheVariants as fill_at
 use Rattle.node_ops.specs.declared.put.Put.{Put}
 use Rattle.node_ops.specs.declared.put.Put.TheVariants.{Looking, Filling, Replacing, Finishing, Refusing}
-use Rattle.node_ops.specs.Calls.{IsCall, IsLockWord, call_place}
+use Rattle.node_ops.specs.Calls.{IsCall, IsLockWord, call_address}
 use Rattle.node_ops.specs.FenceSteps.{fence_of}
 use Rattle.node_ops.specs.LookupSteps.{IsHit, IsLookup, lookup_asks, lookup_turned, lookup_left}
 use Rattle.node_ops.specs.FillSteps.{IsFill, fill_asks, fill_turned, fill_left}
@@ -42,9 +42,9 @@ put_call (Refusing call hold bitmap value) = call
 abbrev pub put_asks : Put → Action
 put_asks (Looking lookup value) = lookup_asks lookup
 put_asks (Filling fill) = fill_asks fill
-put_asks (Replacing call hold bitmap hit value) = Store (call_place call (slot_offset hit.slot 3)) value
+put_asks (Replacing call hold bitmap hit value) = Store (call_address call (slot_offset hit.slot 3)) value
 put_asks (Finishing finish) = finish_asks finish
-put_asks (Refusing call hold bitmap value) = Store (call_place call 0) (hold.locked + 1)
+put_asks (Refusing call hold bitmap value) = Store (call_address call 0) (hold.locked + 1)
 
 -- no slot is clear
 abbrev pub put_full : Call → Hold → ℕ → Option Hit → ℕ → Put
@@ -85,7 +85,13 @@ put_finished (Done answer) = Done answer
 
 -- what is left to do once the value is stored in place
 abbrev pub replaced : Call → Hold → Hit → ℕ → Finish
-replaced call hold hit value = record { call = call; hold = hold; old = Some hit.value; new = Some value; at = finish_at.Fence (fence_of (slot_offset hit.slot 3)) }
+replaced call hold hit value = record {
+  call = call;
+  hold = hold;
+  old = Some hit.value;
+  new = Some value;
+  at = finish_at.Fence (fence_of (slot_offset hit.slot 3));
+}
 
 abbrev pub put_turned : Put → ℕ → Turn Put (Once Placed)
 put_turned (Looking lookup value) got = put_looked lookup.call value (lookup_turned lookup got)

@@ -42,7 +42,8 @@ IsRunning (Putting put) = IsPut put
 IsRunning (Deleting del) = IsDel del
 
 abbrev pub running_takes : Running → ℕ → Type 0
-running_takes running got = IsRunning running × Told (running_call running).view.layout (running_call running).view.generation (running_asks running) got
+running_takes running got = IsRunning running ×
+    Told (running_call running).view.layout (running_call running).view.generation (running_asks running) got
 
 abbrev pub running_left : Running → ℕ
 running_left (Getting get) = get_left get

@@ -1,12 +1,14 @@
+//! What stays the same while a call is made.
+
 ghost use Rattle.std.specs.Prelude.{◌≡◌, ◌^◌, ◌<◌, ◌≤◌, IfSome};
-ghost use Rattle.pm_words.specs.Places.{node_words};
+ghost use Rattle.pm_words.specs.Locations.{node_words};
 ghost use Rattle.data_node.specs.Spots.{slot_offset, print_offset};
 
 use cat_key::{Name, WORDS};
 use pm_words::Layout;
 use pm_words::offsets::node;
 
-/// The place of the clock, the first word of a row.
+/// The address of the clock, the first word of a row.
 pub(crate) const CLOCK: u64 = 0;
 
 /// What a call has of the index: its layout, the generation of this run, and the number of the caller.
@@ -17,30 +19,32 @@ pub struct View {
     pub caller: u64,
 }
 
-/// What stays the same while a call is made: the node that it works on, the words and the fingerprint of its name, and
-/// the limit that the clock has to be below, if there is one.
+/// What a call has: the node that it works on and how many hops its walk made to it, which stay the same once it is
+/// there, the words and the fingerprint of its name, and the limit that the clock has to be below, if there is one.
 #[derive(Clone, Copy)]
 pub struct Call {
     pub view: View,
     pub node: u64,
+    pub hops: u64,
     pub name: [u64; WORDS],
     pub print: u8,
     pub limit: Option<u64>,
 }
 
 impl Call {
-    ghost use Rattle.node_ops.specs.Calls.{IsView, IsCall, call_of, call_place, name_in};
+    ghost use Rattle.node_ops.specs.Calls.{IsView, IsCall, new_call, call_address, name_in};
 
-    /// A call on node 0.
+    /// A call that hasn't come to its node yet.
     pub(crate) fn new(view: View, name: &Name, limit: Option<u64>) -> Call
         requires view { IsView view }
         requires limit { IfSome limit (λ most. most ≤ 2 ^ 62) }
-        ensures call { result ≡ call_of view name.now limit }
+        ensures call { result ≡ new_call view name.now limit }
         ensures sound { IsCall result }
     {
         Call {
             view,
             node: 0,
+            hops: 0,
             name: name.words(),
             print: name.fingerprint(),
             limit,
@@ -58,11 +62,11 @@ impl Call {
         }
     }
 
-    /// The place of a word of its node.
-    pub(crate) fn place(&self, offset: u64) -> u64
+    /// The address of a word of its node.
+    pub(crate) fn address(&self, offset: u64) -> u64
         requires sound { IsCall self.now }
         requires within { offset < node_words self.now.view.layout }
-        ensures { result ≡ call_place self.now offset }
+        ensures { result ≡ call_address self.now offset }
     {
         let layout = self.view.layout;
         layout.cached(layout.node_word(self.node, offset))

@@ -1,3 +1,6 @@
+//! A delete: `Looking`, then `Clearing`, the store of the bitmap without the name's slot, and `Finishing`. A name that
+//! isn't there is finished at once, without a store.
+
 ghost use Rattle.std.specs.Prelude.{◌≡◌, ℕ};
 
 use crate::call::{Call, View};
@@ -31,7 +34,7 @@ pub enum Del {
 
 impl Del {
     ghost use Rattle.std.specs.Prelude.{◌≡◌, ◌^◌, ◌≤◌, Some};
-    ghost use Rattle.node_ops.specs.Calls.{IsView, call_of};
+    ghost use Rattle.node_ops.specs.Calls.{IsView, new_call};
     ghost use Rattle.node_ops.specs.LookupSteps.{starts};
     ghost use Rattle.node_ops.specs.DelSteps.{IsDel, del_found};
 
@@ -39,7 +42,7 @@ impl Del {
     pub fn new(view: View, name: &Name, limit: u64) -> Del
         requires view { IsView view }
         requires limit { limit ≤ 2 ^ 62 }
-        ensures new { result ≡ Del.Looking (starts (call_of view name.now (Some limit))) }
+        ensures new { result ≡ Del.Looking (starts (new_call view name.now (Some limit))) }
         ensures sound { IsDel result }
     {
         Del::Looking {
@@ -88,12 +91,7 @@ impl Del {
         match *self {
             Del::Looking { lookup } => lookup.call,
             Del::Finishing { finish } => finish.call,
-            Del::Clearing {
-                call,
-                hold: _,
-                bitmap: _,
-                hit: _,
-            } => call,
+            Del::Clearing { call, .. } => call,
         }
     }
 
@@ -131,10 +129,10 @@ impl Machine for Del {
             Del::Looking { lookup } => lookup.action(),
             Del::Clearing {
                 call,
-                hold: _,
                 bitmap,
                 hit,
-            } => Action::Store(call.place(node::BITMAP), without_live(bitmap, hit.slot)),
+                ..
+            } => Action::Store(call.address(node::BITMAP), without_live(bitmap, hit.slot)),
             Del::Finishing { finish } => finish.action(),
         }
     }
@@ -149,8 +147,8 @@ impl Machine for Del {
             Del::Clearing {
                 call,
                 hold,
-                bitmap: _,
                 hit,
+                ..
             } => Turn::Go(Del::Finishing {
                 finish: Finish {
                     call,

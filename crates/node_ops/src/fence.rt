@@ -1,3 +1,6 @@
+//! A fence over one line of a node. For each of its words in turn: `Load`, then `Drain`, which gives the durable twin
+//! the word that was loaded.
+
 ghost use Rattle.std.specs.Prelude.{◌≡◌, ◌<◌};
 
 use crate::call::Call;
@@ -39,10 +42,10 @@ impl Fence {
         requires fence { IsFence call.now.view.layout self.now }
         ensures { result ≡ fence_asks call.now self.now }
     {
-        let place = call.place(self.line + self.word);
+        let address = call.address(self.line + self.word);
         match self.at {
-            FenceAt::Load => Action::Load(place),
-            FenceAt::Drain { value } => Action::Drain(place, value),
+            FenceAt::Load => Action::Load(address),
+            FenceAt::Drain { value } => Action::Drain(address, value),
         }
     }
 
@@ -56,7 +59,7 @@ impl Fence {
                 at: FenceAt::Drain { value: got },
                 ..self
             }),
-            FenceAt::Drain { value: _ } => {
+            FenceAt::Drain { .. } => {
                 if self.word + 1 < LINE {
                     Some(Fence {
                         word: self.word + 1,

@@ -1,3 +1,7 @@
+//! The filling of a clear slot. Its states, in order: `Word`, the stores of the slot's four words; `Print`, the store
+//! of its fingerprint; `FenceSlot` and `FencePrint`, which make both lines durable; `Bitmap`, the one store that makes
+//! the slot live.
+
 ghost use Rattle.std.specs.Prelude.{◌≡◌, ℕ};
 
 use crate::call::{Call, print_word, slot_word};
@@ -9,8 +13,9 @@ use data_node::{with_live, with_print, without_live};
 use pm_words::offsets::node;
 use pm_words::{Action, Machine, Turn};
 
-/// It writes the call's name with a value into a clear slot, makes it durable, and stores the one bitmap in which that
-/// slot is live and the slot that had the name before is clear.
+/// Writes the call's name and value into a clear slot, with its fingerprint, and makes these durable. Then it stores the
+/// bitmap, once: the slot is live there, and the one that had the name before is clear. So the node shows the old number
+/// or the new one, and never neither.
 #[derive(Clone, Copy)]
 pub struct Fill {
     pub call: Call,
@@ -53,11 +58,14 @@ impl Machine for Fill {
     fn action(&self) -> Action {
         let call = &self.call;
         match self.at {
-            FillAt::Word { k } => Action::Store(call.place(slot_word(self.slot, k)), self.word(k)),
-            FillAt::Print => Action::Store(call.place(print_word(self.slot)), self.print()),
+            FillAt::Word { k } => Action::Store(
+                call.address(slot_word(self.slot, k)),
+                self.word(k),
+            ),
+            FillAt::Print => Action::Store(call.address(print_word(self.slot)), self.print()),
             FillAt::FenceSlot { fence } => fence.action(call),
             FillAt::FencePrint { fence } => fence.action(call),
-            FillAt::Bitmap => Action::Store(call.place(node::BITMAP), self.bitmap_after()),
+            FillAt::Bitmap => Action::Store(call.address(node::BITMAP), self.bitmap_after()),
         }
     }
 

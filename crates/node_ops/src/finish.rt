@@ -1,3 +1,6 @@
+//! The end of a write. Its states, in order: `Fence` makes the line of its last store durable, `Add` counts it in the
+//! clock, which gives it its place, and `Unlock` gives the node back.
+
 ghost use Rattle.std.specs.Prelude.{◌≡◌, ℕ};
 
 use crate::call::{CLOCK, Call};
@@ -48,8 +51,8 @@ impl Machine for Finish {
         match self.at {
             FinishAt::Fence { fence } => fence.action(&self.call),
             FinishAt::Add => Action::Add(CLOCK),
-            FinishAt::Unlock { place: _ } => {
-                Action::Store(self.call.place(node::VERSION), freed_of(self.hold.locked))
+            FinishAt::Unlock { .. } => {
+                Action::Store(self.call.address(node::VERSION), freed_of(self.hold.locked))
             }
         }
     }
@@ -64,7 +67,7 @@ impl Machine for Finish {
             FinishAt::Unlock { place } => Turn::Done(Once::Done(Placed {
                 old: self.old,
                 place,
-                hops: 0,
+                hops: self.call.hops,
             })),
         }
     }
@@ -115,7 +118,7 @@ impl Finish {
     {
         match self.at {
             FinishAt::Unlock { place } => Some(place),
-            FinishAt::Fence { fence: _ } | FinishAt::Add => None,
+            FinishAt::Fence { .. } | FinishAt::Add => None,
         }
     }
 
@@ -126,7 +129,7 @@ impl Finish {
     {
         match self.at {
             FinishAt::Add => Some(self.change()),
-            FinishAt::Fence { fence: _ } | FinishAt::Unlock { place: _ } => None,
+            FinishAt::Fence { .. } | FinishAt::Unlock { .. } => None,
         }
     }
 }

@@ -1,3 +1,6 @@
+//! A get: `Looking`, then `Unlocking`, which gives the node back and is done at the clock that was loaded under the
+//! lock.
+
 ghost use Rattle.std.specs.Prelude.{◌≡◌, ℕ};
 
 use crate::call::{Call, View};
@@ -24,14 +27,14 @@ pub enum Get {
 
 impl Get {
     ghost use Rattle.std.specs.Prelude.{◌≡◌, None};
-    ghost use Rattle.node_ops.specs.Calls.{IsView, call_of};
+    ghost use Rattle.node_ops.specs.Calls.{IsView, new_call};
     ghost use Rattle.node_ops.specs.GetSteps.{IsGet};
     ghost use Rattle.node_ops.specs.LookupSteps.{starts};
 
     /// A get of this name.
     pub fn new(view: View, name: &Name) -> Get
         requires { IsView view }
-        ensures new { result ≡ Get.Looking (starts (call_of view name.now None)) }
+        ensures new { result ≡ Get.Looking (starts (new_call view name.now None)) }
         ensures sound { IsGet result }
     {
         Get::Looking {
@@ -50,11 +53,7 @@ impl Get {
     {
         match *self {
             Get::Looking { lookup } => lookup.call,
-            Get::Unlocking {
-                call,
-                hold: _,
-                old: _,
-            } => call,
+            Get::Unlocking { call, .. } => call,
         }
     }
 }
@@ -77,8 +76,8 @@ impl Machine for Get {
     fn action(&self) -> Action {
         match *self {
             Get::Looking { lookup } => lookup.action(),
-            Get::Unlocking { call, hold, old: _ } => {
-                Action::Store(call.place(node::VERSION), freed_of(hold.locked))
+            Get::Unlocking { call, hold, .. } => {
+                Action::Store(call.address(node::VERSION), freed_of(hold.locked))
             }
         }
     }
@@ -94,10 +93,10 @@ impl Machine for Get {
                     old: Hit::value_of(found.hit),
                 }),
             },
-            Get::Unlocking { call: _, hold, old } => Turn::Done(Once::Done(Placed {
+            Get::Unlocking { call, hold, old } => Turn::Done(Once::Done(Placed {
                 old,
                 place: hold.clock,
-                hops: 0,
+                hops: call.hops,
             })),
         }
     }

@@ -1,6 +1,7 @@
 //! The laws of the machines, which the index rests on.
 
-ghost use Rattle.node_ops.specs.Laws.{TurnsAreSteps, TurnsStaySound, TurnsKeepOp, CountsOwnChange, HoldsOwnName, PendingIsOwnChange, OpIsTold};
+ghost use Rattle.node_ops.specs.Laws.{TurnsAreSteps, TurnsStaySound, TurnsKeepOp, CountsOwnChange, HoldsOwnName};
+ghost use Rattle.node_ops.specs.Laws.{PendingIsOwnChange, OpIsTold};
 
 /// Each turn of a sound call, whatever number it is told, is a step of one of the kinds, with the answer of the turn.
 pub fn turns_are_steps()
@@ -31,4 +32,38 @@ pub fn pending_law()
 /// A call is of no other op than the one that its machine tells.
 pub fn op_law()
     ensures { OpIsTold }
+{}
+
+ghost use Rattle.node_ops.specs.Endings.{DoneIsCounted, SpentIsLate, NoFreeIsOfPuts, RefusedIsUncounted};
+ghost use Rattle.node_ops.specs.Endings.{TurnsKeepPlace, LastCountsNothing, PlacedIsInTime};
+
+/// A call that is done has a place exactly if it is a write that was counted there, and tells the hops of its walk.
+pub fn done_law()
+    ensures { DoneIsCounted }
+{}
+
+/// A call is answered that it is spent only where the clock that it loaded had reached its limit.
+pub fn spent_law()
+    ensures { SpentIsLate }
+{}
+
+/// A call that is turned back or worn was not counted, and only a put is turned back because no node is free.
+pub fn refused_law()
+    ensures uncounted { RefusedIsUncounted }
+    ensures no_free { NoFreeIsOfPuts }
+{}
+
+/// A call keeps its place, or takes the one that its add to the clock gives, before its last turn and in time.
+pub fn place_law()
+    ensures kept { TurnsKeepPlace }
+    ensures last { LastCountsNothing }
+    ensures in_time { PlacedIsInTime }
+{}
+
+ghost use Rattle.node_ops.specs.Landings.{TurnsLand};
+
+/// A call has the node and the hops of its walk from the turn on that ends the walk at its target, and no other turn
+/// changes the call.
+pub fn landing_law()
+    ensures { TurnsLand }
 {}

@@ -1,8 +1,8 @@
 //! The calls on a node as machines: a get, a put and a delete that ask for one action on one word at a time.
 //!
-//! Each locks its node, loads the clock, and looks its name up. A write then stores in such an order that a crash at any
-//! moment leaves the node as it was before the call or as it is after it: what a bitmap makes live is durable before the
-//! bitmap is stored, and the bitmap before the clock counts the write.
+//! Each walks to the node of its name, locks it, loads the clock, and looks the name up. A write then stores in such an
+//! order that a crash at any moment leaves the node as it was before the call or as it is after it: what a bitmap makes
+//! live is durable before the bitmap is stored, and the bitmap before the clock counts the write.
 #![tactic(auto)]
 
 mod call;

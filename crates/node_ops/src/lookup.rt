@@ -1,12 +1,25 @@
+//! The look-up with which every call begins. Its states, in order:
+//!
+//! - `Walk`: it walks to the node of its name; locked nodes and too many hops end it, and so does a target that is
+//! worn.
+//! - `Lock`: it exchanges the version word that the walk saw for a locked one; another word there ends it.
+//! - `Clock`: it loads the clock. Where that has reached the limit, it gives the node back in `Spent` and ends.
+//! - `Bitmap`, `Prints`: it loads the bitmap and the eight words of fingerprints.
+//! - `Name`: it compares the words of the name with those of each live slot that has its fingerprint, one load each.
+//! - `Value`: it loads the value of the slot that has the name.
+//!
+//! It ends with what it found, and has the lock still.
+
 ghost use Rattle.std.specs.Prelude.{◌≡◌, ℕ};
 
 use crate::call::{CLOCK, Call, slot_word};
 use call_stages::{Once, Placed};
 use cat_key::WORDS;
+use data_list::{Sighting, Target, Walk, Walked};
 use data_node::{PRINT_WORDS, candidates, lowest_live, without_live};
 use pm_words::offsets::node;
 use pm_words::{Action, Again, Machine, Turn};
-use version_lock::{freed_of, is_free, locked_of};
+use version_lock::{freed_of, locked_of};
 
 /// The lock that a call has on its node: the locked version word, and the clock that was loaded then.
 #[derive(Clone, Copy)]
@@ -56,8 +69,8 @@ pub enum Looked {
     Found(Found),
 }
 
-/// It locks the node, loads the clock, and looks for the live slot with the call's name: it compares the name with those
-/// of the slots whose fingerprints agree.
+/// It walks to the node of its name, locks it, loads the clock, and looks for the live slot with the call's name: it
+/// compares the name with those of the slots whose fingerprints agree.
 #[derive(Clone, Copy)]
 pub struct Lookup {
     pub call: Call,
@@ -66,9 +79,12 @@ pub struct Lookup {
 
 #[derive(Clone, Copy)]
 pub enum LookupAt {
-    Version,
+    Walk {
+        walk: Walk,
+    },
+    /// It takes the lock, by an exchange of the version word that the walk saw.
     Lock {
-        version: u64,
+        seen: Sighting,
         locked: u64,
     },
     Clock {
@@ -120,40 +136,32 @@ impl Machine for Lookup {
     fn action(&self) -> Action {
         let call = &self.call;
         match self.at {
-            LookupAt::Version => Action::Load(call.place(node::VERSION)),
-            LookupAt::Lock { version, locked } => {
-                Action::Exchange(call.place(node::VERSION), version, locked)
+            LookupAt::Walk { walk } => walk.action(),
+            LookupAt::Lock { seen, locked } => {
+                Action::Exchange(call.address(node::VERSION), seen.version, locked)
             }
-            LookupAt::Clock { locked: _ } => Action::Load(CLOCK),
+            LookupAt::Clock { .. } => Action::Load(CLOCK),
             LookupAt::Spent { hold } => {
-                Action::Store(call.place(node::VERSION), freed_of(hold.locked))
+                Action::Store(call.address(node::VERSION), freed_of(hold.locked))
             }
-            LookupAt::Bitmap { hold: _ } => Action::Load(call.place(node::BITMAP)),
-            LookupAt::Prints {
-                hold: _,
-                bitmap: _,
-                prints: _,
-                at,
-            } => Action::Load(call.place(node::PRINTS + at)),
-            LookupAt::Name {
-                hold: _,
-                directory: _,
-                left: _,
+            LookupAt::Bitmap { .. } => Action::Load(call.address(node::BITMAP)),
+            LookupAt::Prints { at, .. } => Action::Load(call.address(node::PRINTS + at)),
+            LookupAt::Name { slot, at, .. } => Action::Load(call.address(slot_word(slot, at))),
+            LookupAt::Value { slot, .. } => Action::Load(call.address(slot_word(
                 slot,
-                at,
-            } => Action::Load(call.place(slot_word(slot, at))),
-            LookupAt::Value {
-                hold: _,
-                directory: _,
-                slot,
-            } => Action::Load(call.place(slot_word(slot, WORDS as u64))),
+                WORDS as u64,
+            ))),
         }
     }
 
     fn resume(self, got: u64) -> Turn<Lookup, Looked> {
         match self.at {
-            LookupAt::Version => self.saw_version(got),
-            LookupAt::Lock { version, locked } => self.tried_lock(version, locked, got),
+            LookupAt::Walk { walk } => match walk.resume(got) {
+                Turn::Go(walk) => self.goes_to(LookupAt::Walk { walk }),
+                Turn::Done(Walked::Again(why)) => Turn::Done(Looked::Early(Once::Again(why))),
+                Turn::Done(Walked::Target(target)) => self.came_to(target),
+            },
+            LookupAt::Lock { seen, locked } => self.tried_lock(seen.version, locked, got),
             LookupAt::Clock { locked } => self.saw_clock(Hold { locked, clock: got }),
             LookupAt::Spent { hold } => Turn::Done(Looked::Early(Once::Spent {
                 clock: hold.clock,
@@ -193,15 +201,21 @@ impl Machine for Lookup {
 impl Lookup {
     ghost use Rattle.std.specs.Prelude.{◌≡◌, ℕ, ◌^◌, ◌<◌, ◌≤◌, IfSome};
     ghost use Rattle.data_node.specs.Slots.{IsLive};
-    ghost use Rattle.version_lock.specs.Versions.{generation_of};
-    ghost use Rattle.node_ops.specs.LookupSteps.{goes_to, saw_version, tried_lock, saw_clock, saw_prints, saw_name, next_candidate};
+    ghost use Rattle.version_lock.specs.Versions.{generation_of, IsFree};
+    ghost use Rattle.node_ops.specs.Calls.{IsCall};
+    ghost use Rattle.node_ops.specs.LookupSteps.{IsLookup, starts, goes_to, came_to, tried_lock, saw_clock, saw_prints};
+    ghost use Rattle.node_ops.specs.LookupSteps.{saw_name, next_candidate};
 
     pub(crate) fn new(call: Call) -> Lookup
-        ensures { result ≡ record { call = call; at = LookupAt.Version } }
+        requires { IsCall call }
+        ensures new { result ≡ starts call }
+        ensures sound { IsLookup result }
     {
         Lookup {
             call,
-            at: LookupAt::Version,
+            at: LookupAt::Walk {
+                walk: Walk::new(call.view.layout, call.view.generation, 0, call.name),
+            },
         }
     }
 
@@ -212,21 +226,27 @@ impl Lookup {
         Turn::Go(Lookup { at, ..self })
     }
 
-    fn saw_version(self, word: u64) -> Turn<Lookup, Looked>
-        requires known { generation_of word ≤ self.call.view.generation }
+    /// It is at the node of its name, which it locks next.
+    fn came_to(self, target: Target) -> Turn<Lookup, Looked>
+        requires known { generation_of target.version ≤ self.call.view.generation }
+        requires free { IsFree target.version self.call.view.generation }
         requires in_range { self.call.view.generation < 2 ^ 24 }
-        ensures { result ≡ saw_version self.call word }
+        ensures { result ≡ came_to self.call target }
     {
-        let node = self.call.node;
-        let generation = self.call.view.generation;
-        if !is_free(word, generation) {
-            return Turn::Done(Looked::Early(Once::Again(Again::Locked { node, word })));
-        }
-        match locked_of(word, generation) {
-            None => Turn::Done(Looked::Early(Once::Worn { node, word })),
-            Some(locked) => self.goes_to(LookupAt::Lock {
-                version: word,
-                locked,
+        let Target { node, hops, .. } = target;
+        let seen = target.sighting();
+        match locked_of(seen.version, self.call.view.generation) {
+            None => Turn::Done(Looked::Early(Once::Worn {
+                node,
+                word: seen.version,
+            })),
+            Some(locked) => Turn::Go(Lookup {
+                call: Call {
+                    node,
+                    hops,
+                    ..self.call
+                },
+                at: LookupAt::Lock { seen, locked },
             }),
         }
     }

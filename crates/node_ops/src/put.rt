@@ -1,3 +1,9 @@
+//! A put: `Looking`, then
+//!
+//! - where a slot is clear: `Filling` and `Finishing`;
+//! - where none is clear and one has the name: `Replacing`, the store of its value, and `Finishing`;
+//! - where none is clear and none has the name: `Refusing`, which gives the node back.
+
 ghost use Rattle.std.specs.Prelude.{◌≡◌, ℕ};
 
 use crate::call::{Call, View, slot_word};
@@ -46,15 +52,15 @@ pub enum Put {
 
 impl Put {
     ghost use Rattle.std.specs.Prelude.{◌≡◌, ◌^◌, ◌≤◌, Some};
-    ghost use Rattle.node_ops.specs.Calls.{IsView, IsCall, call_of};
-    ghost use Rattle.node_ops.specs.LookupSteps.{IsFound, starts};
+    ghost use Rattle.node_ops.specs.Calls.{IsView, IsCall, new_call};
+    ghost use Rattle.node_ops.specs.LookupSteps.{IsFoundBy, starts};
     ghost use Rattle.node_ops.specs.PutSteps.{IsPut, put_found};
 
     /// A put of this value under this name, which is refused where the clock has reached the limit.
     pub fn new(view: View, name: &Name, value: u64, limit: u64) -> Put
         requires view { IsView view }
         requires limit { limit ≤ 2 ^ 62 }
-        ensures new { result ≡ Put.Looking (starts (call_of view name.now (Some limit))) value }
+        ensures new { result ≡ Put.Looking (starts (new_call view name.now (Some limit))) value }
         ensures sound { IsPut result }
     {
         Put::Looking {
@@ -66,7 +72,7 @@ impl Put {
     /// What a put does once it has looked its name up.
     fn found(call: Call, found: Found, value: u64) -> Put
         requires call { IsCall call }
-        requires found { IsFound call.view.layout.slots found }
+        requires found { IsFoundBy call.view.layout.slots found }
         ensures { result ≡ put_found call found value }
     {
         let Found {
@@ -115,22 +121,10 @@ impl Put {
         ensures { result ≡ put_call self.now }
     {
         match *self {
-            Put::Looking { lookup, value: _ } => lookup.call,
+            Put::Looking { lookup, .. } => lookup.call,
             Put::Filling { fill } => fill.call,
             Put::Finishing { finish } => finish.call,
-            Put::Replacing {
-                call,
-                hold: _,
-                bitmap: _,
-                hit: _,
-                value: _,
-            }
-            | Put::Refusing {
-                call,
-                hold: _,
-                bitmap: _,
-                value: _,
-            } => call,
+            Put::Replacing { call, .. } | Put::Refusing { call, .. } => call,
         }
     }
 
@@ -141,21 +135,9 @@ impl Put {
     {
         let value = match *self {
             Put::Finishing { finish } => return finish.op(),
-            Put::Looking { lookup: _, value } => value,
+            Put::Looking { value, .. } => value,
             Put::Filling { fill } => fill.value,
-            Put::Replacing {
-                call: _,
-                hold: _,
-                bitmap: _,
-                hit: _,
-                value,
-            }
-            | Put::Refusing {
-                call: _,
-                hold: _,
-                bitmap: _,
-                value,
-            } => value,
+            Put::Replacing { value, .. } | Put::Refusing { value, .. } => value,
         };
         Op::Put {
             name: self.call().name(),
@@ -181,22 +163,19 @@ impl Machine for Put {
 
     fn action(&self) -> Action {
         match *self {
-            Put::Looking { lookup, value: _ } => lookup.action(),
+            Put::Looking { lookup, .. } => lookup.action(),
             Put::Filling { fill } => fill.action(),
             Put::Replacing {
                 call,
-                hold: _,
-                bitmap: _,
                 hit,
                 value,
-            } => Action::Store(call.place(slot_word(hit.slot, WORDS as u64)), value),
+                ..
+            } => Action::Store(call.address(slot_word(hit.slot, WORDS as u64)), value),
             Put::Finishing { finish } => finish.action(),
-            Put::Refusing {
-                call,
-                hold,
-                bitmap: _,
-                value: _,
-            } => Action::Store(call.place(node::VERSION), freed_of(hold.locked)),
+            Put::Refusing { call, hold, .. } => Action::Store(
+                call.address(node::VERSION),
+                freed_of(hold.locked),
+            ),
         }
     }
 
@@ -214,9 +193,9 @@ impl Machine for Put {
             Put::Replacing {
                 call,
                 hold,
-                bitmap: _,
                 hit,
                 value,
+                ..
             } => Turn::Go(Put::Finishing {
                 finish: Finish {
                     call,
@@ -232,12 +211,7 @@ impl Machine for Put {
                 Turn::Go(finish) => Turn::Go(Put::Finishing { finish }),
                 Turn::Done(answer) => Turn::Done(answer),
             },
-            Put::Refusing {
-                call: _,
-                hold: _,
-                bitmap: _,
-                value: _,
-            } => Turn::Done(Once::Again(Again::NoFree)),
+            Put::Refusing { .. } => Turn::Done(Once::Again(Again::NoFree)),
         }
     }
 }

@@ -1,3 +1,5 @@
+//! Any call in flight, as one machine.
+
 ghost use Rattle.std.specs.Prelude.{◌≡◌, ℕ};
 
 use crate::del::Del;

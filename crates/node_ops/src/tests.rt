@@ -1,12 +1,12 @@
 ghost use Rattle.std.specs.Prelude.{◌≡◌, ℕ, IsTrue};
 ghost use Rattle.pm_words.specs.Layouts.{IsLayout};
-ghost use Rattle.call_stages.specs.Kinds.{Told, version_place};
+ghost use Rattle.call_stages.specs.Kinds.{Told, version_address};
 ghost use Rattle.node_ops.specs.RunningSteps.{Sound};
 
 use super::*;
 use call_stages::{Once, Placed};
 use cat_key::Name;
-use pm_words::offsets::node;
+use pm_words::offsets::{node, volatile};
 use pm_words::{Action, Again, Layout, Machine, Turn};
 use std::process::Abort;
 use std::test::Fail;
@@ -16,7 +16,10 @@ use version_lock::{GENERATION_UNIT, LAST_COUNT};
 const FAR: u64 = 1 << 62;
 
 /// Words enough for the rows of all tests.
-const ROW: usize = 5000;
+const ROW: usize = 8000;
+
+/// The status of a node that is in use.
+const LIVE: u64 = 1;
 
 /// A row of words on which calls run alone in generation 1, and how many actions were done on it.
 #[derive(Drop)]
@@ -39,40 +42,40 @@ impl Row {
         }
     }
 
-    /// The place that an action works on: a drain's is the durable twin.
-    fn place_of(&self, rt: &impl Abort, action: Action) -> u64 {
+    /// The address that an action works on: a drain's is the durable twin.
+    fn address_of(&self, rt: &impl Abort, action: Action) -> u64 {
         match action {
-            Action::Load(place)
-            | Action::Store(place, _)
-            | Action::Exchange(place, _, _)
-            | Action::Add(place) => place,
-            Action::Drain(place, _) => place
+            Action::Load(address)
+            | Action::Store(address, _)
+            | Action::Exchange(address, _, _)
+            | Action::Add(address) => address,
+            Action::Drain(address, _) => address
                 .checked_add(self.layout.image_words())
-                .expect(rt, "a drain's place"),
+                .expect(rt, "a drain's address"),
         }
     }
 
     fn act(&mut self, rt: &impl Abort, action: Action) -> u64
         ensures { self.new.layout ≡ self.old.layout }
     {
-        let place = self.place_of(rt, action) as usize;
+        let address = self.address_of(rt, action) as usize;
         self.actions = self.actions.checked_add(1).expect(rt, "a count of actions");
-        assert!(rt; place < self.words.len(), "{action:?}");
-        let found = self.words[place];
+        assert!(rt; address < self.words.len(), "{action:?}");
+        let found = self.words[address];
         match action {
             Action::Load(_) => found,
             Action::Store(_, word) | Action::Drain(_, word) => {
-                self.words[place] = word;
+                self.words[address] = word;
                 0
             }
             Action::Exchange(_, old, new) => {
                 if found == old {
-                    self.words[place] = new;
+                    self.words[address] = new;
                 }
                 found
             }
             Action::Add(_) => {
-                self.words[place] = found.checked_add(1).expect(rt, "a clock");
+                self.words[address] = found.checked_add(1).expect(rt, "a clock");
                 found
             }
         }
@@ -80,10 +83,34 @@ impl Row {
 }
 
 impl Row {
-    /// The cached and the durable word of node 0 with this offset.
-    fn twins(&self, rt: &impl Abort, offset: u64) -> (u64, u64) {
+    /// A word of a node is as given, in both twins.
+    fn stand(&mut self, rt: &impl Abort, node: u64, offset: u64, word: u64)
+        ensures { self.new.layout ≡ self.old.layout }
+    {
+        let layout = self.layout;
+        assert!(rt; node < layout.nodes(), "{node}");
+        assert!(rt; offset < 16 + 4 * layout.slots(), "{offset}");
+        let address = layout.cached(layout.node_word(node, offset));
+        self.act(rt, Action::Store(address, word));
+        self.act(rt, Action::Drain(address, word));
+    }
+
+    /// A node is in use, and leads to this one, or to none.
+    fn live(&mut self, rt: &impl Abort, node: u64, next: u64)
+        ensures { self.new.layout ≡ self.old.layout }
+    {
+        let layout = self.layout;
+        assert!(rt; node < layout.nodes(), "{node}");
+        let status = layout.node_volatile(node, volatile::STATUS);
+        self.act(rt, Action::Store(status, LIVE));
+        self.stand(rt, node, node::NEXT, next);
+    }
+
+    /// The cached and the durable word of a node with this offset.
+    fn twins(&self, rt: &impl Abort, node: u64, offset: u64) -> (u64, u64) {
+        assert!(rt; node < self.layout.nodes(), "{node}");
         assert!(rt; offset < 16 + 4 * self.layout.slots(), "{offset}");
-        let word = self.layout.node_word(0, offset);
+        let word = self.layout.node_word(node, offset);
         let cached = self.layout.cached(word) as usize;
         let durable = self.layout.durable(word) as usize;
         assert!(rt;
@@ -94,13 +121,13 @@ impl Row {
     }
 }
 
-/// Whether the place may be that of a version word.
-fn is_version(layout: &Layout, place: u64) -> bool
+/// Whether the address may be that of a version word.
+fn is_version(layout: &Layout, address: u64) -> bool
     requires { IsLayout layout.now }
-    ensures { (n : ℕ) → place ≡ version_place layout.now n → IsTrue result }
+    ensures { (n : ℕ) → address ≡ version_address layout.now n → IsTrue result }
 {
     let first = layout.cached(layout.node_word(0, node::VERSION));
-    place >= first && (place - first) % (16 + 4 * layout.slots()) == 0
+    address >= first && (address - first) % (16 + 4 * layout.slots()) == 0
 }
 
 /// No version word is of a later run.
@@ -108,8 +135,8 @@ fn tell(rt: &impl Abort, layout: &Layout, action: Action, got: u64)
     requires { IsLayout layout.now }
     ensures { Told layout.now 1 action got }
 {
-    if let Action::Load(place) = action {
-        if is_version(layout, place) {
+    if let Action::Load(address) = action {
+        if is_version(layout, address) {
             assert!(rt; got / GENERATION_UNIT <= 1, "{got}");
         }
     }
@@ -174,43 +201,45 @@ fn started(rt: &impl Abort, layout: Layout, ask: Ask) -> Running
 }
 
 fn done(old: Option<u64>, place: u64) -> Once<Placed> {
-    Once::Done(Placed {
-        old,
-        place,
-        hops: 0,
-    })
+    done_after(old, place, 0)
+}
+
+fn done_after(old: Option<u64>, place: u64, hops: u64) -> Once<Placed> {
+    Once::Done(Placed { old, place, hops })
 }
 
 /// Puts, gets and deletes on a node of four slots, one after another: what each answers, and in how many actions.
 ///
-/// A look-up takes 12 actions until the fingerprints are loaded, and three or four for each slot with the name's
-/// fingerprint. A write into a clear slot takes 5 stores, two fences of 16 actions and the store of the bitmap, and its
-/// end a fence, the add and the unlock.
+/// A walk to the one node takes 6 loads: version, status, three words of the anchor, and next. A look-up takes 11
+/// actions more until the fingerprints are loaded, the lock, the clock, the bitmap and eight words of fingerprints, and
+/// three or four for each slot with the name's fingerprint. A write into a clear slot takes 5 stores, two fences of 16
+/// actions and the store of the bitmap, and its end a fence, the add and the unlock.
 #[test]
 fn one_caller_on_four_slots(rt: HostRuntime) -> Result<(), Fail> {
     let layout = Layout::new(1, 4, 1)?;
     let mut row = Row::new(layout, vec![in rt.alloc(); 0u64; ROW]?);
+    row.live(&rt, 0, 0);
     let put = |letter: u8, value: u64| Ask::Put {
         letter,
         value,
         limit: FAR,
     };
     let calls = [
-        (put(b'a', 1), done(None, 0), 68),
-        (put(b'b', 2), done(None, 1), 68),
-        (put(b'c', 3), done(None, 2), 68),
-        (put(b'd', 4), done(None, 3), 68),
-        (put(b'a', 9), done(Some(1), 4), 35),
-        (put(b'e', 5), Once::Again(Again::NoFree), 13),
-        (Ask::Get { letter: b'a' }, done(Some(9), 5), 17),
-        (Ask::Get { letter: b'e' }, done(None, 5), 13),
+        (put(b'a', 1), done(None, 0), 73),
+        (put(b'b', 2), done(None, 1), 73),
+        (put(b'c', 3), done(None, 2), 73),
+        (put(b'd', 4), done(None, 3), 73),
+        (put(b'a', 9), done(Some(1), 4), 40),
+        (put(b'e', 5), Once::Again(Again::NoFree), 18),
+        (Ask::Get { letter: b'a' }, done(Some(9), 5), 22),
+        (Ask::Get { letter: b'e' }, done(None, 5), 18),
         (
             Ask::Del {
                 letter: b'b',
                 limit: FAR,
             },
             done(Some(2), 5),
-            35,
+            40,
         ),
         (
             Ask::Del {
@@ -218,9 +247,9 @@ fn one_caller_on_four_slots(rt: HostRuntime) -> Result<(), Fail> {
                 limit: FAR,
             },
             done(None, 6),
-            14,
+            19,
         ),
-        (put(b'a', 10), done(Some(9), 7), 72),
+        (put(b'a', 10), done(Some(9), 7), 77),
         (
             Ask::Put {
                 letter: b'f',
@@ -228,7 +257,7 @@ fn one_caller_on_four_slots(rt: HostRuntime) -> Result<(), Fail> {
                 limit: 1,
             },
             Once::Spent { clock: 8 },
-            4,
+            9,
         ),
         (
             Ask::Del {
@@ -236,7 +265,7 @@ fn one_caller_on_four_slots(rt: HostRuntime) -> Result<(), Fail> {
                 limit: 8,
             },
             Once::Spent { clock: 8 },
-            4,
+            9,
         ),
     ];
     for (ask, answer, actions) in calls {
@@ -258,9 +287,9 @@ fn one_caller_on_four_slots(rt: HostRuntime) -> Result<(), Fail> {
         (node::SLOTS + 15, 4),
     ];
     for (offset, word) in words {
-        assert_eq!(rt; row.twins(&rt, offset), (word, word), "{offset}");
+        assert_eq!(rt; row.twins(&rt, 0, offset), (word, word), "{offset}");
     }
-    assert_eq!(rt; row.twins(&rt, node::VERSION).0, GENERATION_UNIT + 26);
+    assert_eq!(rt; row.twins(&rt, 0, node::VERSION).0, GENERATION_UNIT + 26);
     Ok(())
 }
 
@@ -268,6 +297,7 @@ fn one_caller_on_four_slots(rt: HostRuntime) -> Result<(), Fail> {
 fn sixty_four_slots_take_no_longer(rt: HostRuntime) -> Result<(), Fail> {
     let layout = Layout::new(1, 64, 1)?;
     let mut row = Row::new(layout, vec![in rt.alloc(); 0u64; ROW]?);
+    row.live(&rt, 0, 0);
     let calls = [
         (
             Ask::Put {
@@ -276,16 +306,16 @@ fn sixty_four_slots_take_no_longer(rt: HostRuntime) -> Result<(), Fail> {
                 limit: FAR,
             },
             done(None, 0),
-            68,
+            73,
         ),
-        (Ask::Get { letter: b'a' }, done(Some(1), 1), 17),
+        (Ask::Get { letter: b'a' }, done(Some(1), 1), 22),
         (
             Ask::Del {
                 letter: b'a',
                 limit: FAR,
             },
             done(Some(1), 1),
-            35,
+            40,
         ),
     ];
     for (ask, answer, actions) in calls {
@@ -297,10 +327,10 @@ fn sixty_four_slots_take_no_longer(rt: HostRuntime) -> Result<(), Fail> {
     Ok(())
 }
 
-/// On a node with this version word every call is answered so, at its first action.
-fn all_turn_back(rt: &impl Abort, mut row: Row, word: u64, answer: Once<Placed>) {
-    let place = row.layout.cached(row.layout.node_word(0, node::VERSION));
-    row.act(rt, Action::Store(place, word));
+/// On a node with this version word every call is answered so, after so many loads.
+fn all_turn_back(rt: &impl Abort, mut row: Row, word: u64, answer: Once<Placed>, loads: u64) {
+    row.live(rt, 0, 0);
+    row.stand(rt, 0, node::VERSION, word);
     let asks = [
         Ask::Get { letter: b'a' },
         Ask::Put {
@@ -317,18 +347,86 @@ fn all_turn_back(rt: &impl Abort, mut row: Row, word: u64, answer: Once<Placed>)
         row.actions = 0;
         let call = started(rt, row.layout, ask);
         assert_eq!(rt; run(rt, &mut row, call), answer, "{ask:?}");
-        assert_eq!(rt; row.actions, 1, "{ask:?}");
+        assert_eq!(rt; row.actions, loads, "{ask:?}");
     }
 }
 
+/// A walk ends at a version word that is locked. That its target is worn is told once it is there.
 #[test]
 fn locked_and_worn_nodes(rt: HostRuntime) -> Result<(), Fail> {
     let layout = Layout::new(1, 4, 1)?;
     let word = GENERATION_UNIT + 7;
     let row = Row::new(layout, vec![in rt.alloc(); 0u64; ROW]?);
-    all_turn_back(&rt, row, word, Once::Again(Again::Locked { node: 0, word }));
+    let locked = Once::Again(Again::Locked { node: 0, word });
+    all_turn_back(&rt, row, word, locked, 1);
     let word = GENERATION_UNIT + 2 * LAST_COUNT;
     let row = Row::new(layout, vec![in rt.alloc(); 0u64; ROW]?);
-    all_turn_back(&rt, row, word, Once::Worn { node: 0, word });
+    all_turn_back(&rt, row, word, Once::Worn { node: 0, word }, 6);
+    Ok(())
+}
+
+/// Calls on a list of the nodes 0, 2 and 1, with the anchors g and p: each goes to the node of its name, and tells its
+/// hops. At a node that leads on, the three words of the next node's anchor are loaded too, so 9 loads each. After the
+/// walk all is as on one node.
+#[test]
+fn calls_on_three_nodes(rt: HostRuntime) -> Result<(), Fail> {
+    let layout = Layout::new(3, 4, 1)?;
+    let mut row = Row::new(layout, vec![in rt.alloc(); 0u64; ROW]?);
+    row.live(&rt, 0, 2);
+    row.live(&rt, 2, 1);
+    row.live(&rt, 1, 0);
+    row.stand(&rt, 2, node::ANCHOR, 0x67 << 56);
+    row.stand(&rt, 1, node::ANCHOR, 0x70 << 56);
+    let put = |letter: u8, value: u64| Ask::Put {
+        letter,
+        value,
+        limit: FAR,
+    };
+    let walks = [9, 9 + 9, 9 + 9 + 6];
+    let calls = [
+        (put(b'a', 1), done_after(None, 0, 0), walks[0] + 67),
+        (put(b'g', 2), done_after(None, 1, 1), walks[1] + 67),
+        (put(b'z', 3), done_after(None, 2, 2), walks[2] + 67),
+        (
+            Ask::Get { letter: b'g' },
+            done_after(Some(2), 3, 1),
+            walks[1] + 16,
+        ),
+        (
+            Ask::Get { letter: b'o' },
+            done_after(None, 3, 1),
+            walks[1] + 12,
+        ),
+        (
+            Ask::Del {
+                letter: b'z',
+                limit: FAR,
+            },
+            done_after(Some(3), 3, 2),
+            walks[2] + 34,
+        ),
+        (
+            Ask::Del {
+                letter: b'p',
+                limit: 4,
+            },
+            Once::Spent { clock: 4 },
+            walks[2] + 3,
+        ),
+    ];
+    for (ask, answer, actions) in calls {
+        row.actions = 0;
+        let call = started(&rt, row.layout, ask);
+        assert_eq!(rt; run(&rt, &mut row, call), answer, "{ask:?}");
+        assert_eq!(rt; row.actions, actions, "{ask:?}");
+    }
+    let bitmaps = [(0, 1), (2, 1), (1, 0)];
+    for (node, bitmap) in bitmaps {
+        assert_eq!(rt;
+            row.twins(&rt, node, node::BITMAP),
+            (bitmap, bitmap),
+            "{node}"
+        );
+    }
     Ok(())
 }

@@ -1,5 +1,5 @@
 -- A fresh image is sound, and keeps no name.
-use Rattle.std.proofs.Common.{◌≡◌, ℕ, ◌<◌, ◌≤◌, Some, None, inl, inr, sym, subst, ◌∙◌, arith}
+use Rattle.std.proofs.Common.{◌≡◌, ℕ, ◌<◌, ◌≤◌, List, [], ◌∷◌, Some, None, inl, inr, sym, subst, ◌∙◌, arith}
 use Rattle.std.specs.FinMap.{empty, get-empty}
 use Rattle.std.proofs.lemmas.Bool.{cases_eq}
 use Rattle.cat_key.specs.Names.{name_cmp}
@@ -8,10 +8,13 @@ use Rattle.data_node.proofs.SpotLemmas.{means_empty}
 use Rattle.pm_words.specs.declared.layout.Layout.{Layout}
 use Rattle.pm_words.specs.Images.{fresh_words}
 use Rattle.pm_words.specs.Layouts.{IsLayout}
-use Rattle.pm_words.specs.Places.{Word, Header, Root, Node, Line, Leaf, Cell, word_at}
-use Rattle.pm_words.proofs.Made.{fresh_at}
+use Rattle.pm_words.specs.Locations.{Word, Header, Root, Node, Line, Leaf, Cell, word_at}
+use Rattle.pm_words.proofs.Made.{fresh_at, fresh_image}
 use Rattle.version_lock.specs.Versions.{generation_of}
-use Rattle.sound_image.specs.Nodes.{image_spot, range_in}
+use Rattle.data_node.specs.Lists.{ListNode, next_offset, IsIn, MakeList}
+use Rattle.data_node.proofs.ListLemmas.{chain_is}
+use Rattle.data_node.proofs.KeyLemmas.{anchor_zero}
+use Rattle.sound_image.specs.Nodes.{image_spot, image_list, IsListedNode, image_range}
 use Rattle.sound_image.specs.Rules.{IsSpare, header_generation}
 use Rattle.version_lock.specs.Versions.{IsGeneration}
 use Rattle.sound_image.specs.Laws.{KeepsRules, FreshIsSound}
@@ -32,12 +35,33 @@ fresh_spare l (Line c j o) spare = absurd spare
 fresh_spare l (Leaf k o) spare = absurd spare
 fresh_spare l (Cell kind k o) spare = absurd spare
 
-fresh_means : (l : Layout) → IsLayout l → (n : ℕ) → n ≡ 0 → Means l.slots (range_in l (fresh_words l) n) (image_spot l (fresh_words l) n) empty
+-- its list is node 0 alone
+fresh_zero : (l : Layout) (n offset : ℕ) → n < l.nodes → 0 < offset → offset < 16 → image_spot l (fresh_words l) n offset ≡ 0
+fresh_zero l n offset here behind within = image_spot-here l (fresh_words l) n offset here behind (omega arith) ∙ fresh_at l (Node n offset) (here, omega arith)
+
+fresh_list : (l : Layout) → IsLayout l → image_list l (fresh_words l) ≡ []
+fresh_list l is =
+    let nodes = is.nodes in
+    chain_is (image_spot l (fresh_words l)) l.nodes 0 [] (fresh_zero l 0 next_offset (omega arith) (omega arith) (omega arith)) (omega arith)
+
+fresh_makes : (l : Layout) → IsLayout l → MakeList l.nodes (image_spot l (fresh_words l)) []
+fresh_makes l is =
+    let nodes = is.nodes in
+    let some : 0 < l.nodes = omega arith in
+    record {
+      chain = fresh_zero l 0 next_offset some (omega arith) (omega arith);
+      lowest = anchor_zero (image_spot l (fresh_words l) 0)
+          (λ i. fresh_zero l 0 3 some (omega arith) (omega arith) i ∷ fresh_zero l 0 4 some (omega arith) (omega arith) i ∷ fresh_zero l 0 5 some (omega arith) (omega arith) i ∷ []);
+      rise = tt;
+      within = tt;
+      named = tt;
+    }
+
+fresh_means : (l : Layout) → IsLayout l → (n : ℕ) → IsListedNode l (fresh_words l) n → Means l.slots (image_range l (fresh_words l) n) (image_spot l (fresh_words l) n) empty
 fresh_means l is n listed =
     let nodes = is.nodes in
-    let here : n < l.nodes = omega (arith, nodes.0, listed) in
-    means_empty l.slots (range_in l (fresh_words l) n) (image_spot l (fresh_words l) n)
-    (image_spot-here l (fresh_words l) n bitmap_offset here (omega arith) (omega arith) ∙ fresh_at l (Node n bitmap_offset) (here, omega arith))
+    let first : n ≡ 0 = elim (subst (λ (list : List ListNode). IsIn list n) (fresh_list l is) listed) as (λ _. n ≡ 0) [ inl zero ↦ zero | inr none ↦ absurd none ] in
+    means_empty l.slots (image_range l (fresh_words l) n) (image_spot l (fresh_words l) n) (fresh_zero l n bitmap_offset (omega arith) (omega arith) (omega arith))
 
 fresh_keeps : (l : Layout) → IsLayout l → KeepsRules l (fresh_words l)
 fresh_keeps l is =
@@ -46,12 +70,13 @@ fresh_keeps l is =
       generation = subst IsGeneration (sym first) (record { least = omega arith; fits = omega arith });
       spare = fresh_spare l;
       versions = λ n here. subst (λ (v : ℕ). generation_of v ≤ header_generation l (fresh_words l)) (sym (fresh_at l (Node n 0) (here, omega arith))) (omega arith);
+      list = subst (MakeList l.nodes (image_spot l (fresh_words l))) (sym (fresh_list l is)) (fresh_makes l is);
       tidy = λ n listed. (fresh_means l is n listed).tidy;
     }
 
 pub fresh_is_sound : FreshIsSound
 fresh_is_sound l is = (
-  keeps_sound l (fresh_words l) (fresh_keeps l is),
+  keeps_sound l (fresh_words l) (fresh_image l is) (fresh_keeps l is),
   record {
     means = fresh_means l is;
     names = λ name value has. absurd (let none : None ≡ Some value = sym (get-empty name_cmp name) ∙ has in cc);

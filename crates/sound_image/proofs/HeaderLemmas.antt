@@ -3,7 +3,7 @@ use Rattle.std.proofs.Common.{◌≡◌, ℕ, ◌+◌, ◌*◌, ◌<◌, ◌≤�
 use Rattle.std.proofs.lemmas.Bool.{cases_lt}
 use Rattle.std.proofs.lemmas.Nat.{mul-le}
 use Rattle.pm_words.specs.declared.layout.Layout.{Layout}
-use Rattle.pm_words.specs.Places.{Header, Node, node_words, word_number}
+use Rattle.pm_words.specs.Locations.{Header, Node, node_words, word_number}
 use Rattle.sound_image.specs.Lowest.{IsLowest, IsNumberOf}
 use Rattle.sound_image.specs.Rules.{header_generation, BreaksHeader, IsLater, BreaksVersions}
 use Rattle.version_lock.specs.Versions.{IsGeneration}

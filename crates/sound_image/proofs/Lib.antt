@@ -2,6 +2,8 @@ pub mod LowestLemmas
 pub mod WordLemmas
 pub mod HeaderLemmas
 pub mod NodeLemmas
+pub mod WalkLemmas
+pub mod ListRules
 pub mod NameCases
 pub mod FirstLemmas
 pub mod TidyLemmas

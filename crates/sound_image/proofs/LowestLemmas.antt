@@ -18,20 +18,20 @@ none_below-next P count none here number within holds =
 pub none_at_all : (P : ℕ → Type 0) (count : ℕ) → ((number : ℕ) → P number → number < count) → NoneBelow P count → IsLowest P None
 none_at_all P count within none number holds = none number (within number holds) holds
 
--- Q holds of the places of the numbers of which P holds, and of no other; and places rise with their numbers.
-pub record Moves (P Q : ℕ → Type 0) (place : ℕ → ℕ) : Type 0 where
-  pub to : (number : ℕ) → P number → Q (place number)
-  pub from : (there : ℕ) → Q there → (number : ℕ) × P number × (place number ≡ there)
-  pub rises : (number other : ℕ) → place number < place other → number < other
+-- Q holds of the positions of the numbers of which P holds, and of no other; and positions rise with their numbers.
+pub record Moves (P Q : ℕ → Type 0) (position : ℕ → ℕ) : Type 0 where
+  pub to : (number : ℕ) → P number → Q (position number)
+  pub from : (there : ℕ) → Q there → (number : ℕ) × P number × (position number ≡ there)
+  pub rises : (number other : ℕ) → position number < position other → number < other
 
-pub lowest-none : (P Q : ℕ → Type 0) (place : ℕ → ℕ) (result : Option ℕ) → Moves P Q place → result ≡ None → IsLowest P None → IsLowest Q result
-lowest-none P Q place result moves is none = subst (IsLowest Q) (sym is) (λ there holds. let at = moves.from there holds in none at.0 at.1)
+pub lowest-none : (P Q : ℕ → Type 0) (position : ℕ → ℕ) (result : Option ℕ) → Moves P Q position → result ≡ None → IsLowest P None → IsLowest Q result
+lowest-none P Q position result moves is none = subst (IsLowest Q) (sym is) (λ there holds. let at = moves.from there holds in none at.0 at.1)
 
-pub lowest-some : (P Q : ℕ → Type 0) (place : ℕ → ℕ) (number result : ℕ) → Moves P Q place → result ≡ place number → IsLowest P (Some number) →
+pub lowest-some : (P Q : ℕ → Type 0) (position : ℕ → ℕ) (number result : ℕ) → Moves P Q position → result ≡ position number → IsLowest P (Some number) →
     IsLowest Q (Some result)
-lowest-some P Q place number result moves is lowest = subst (λ n. IsLowest Q (Some n)) (sym is) (
+lowest-some P Q position number result moves is lowest = subst (λ n. IsLowest Q (Some n)) (sym is) (
   moves.to number lowest.0,
   λ there below holds.
       let at = moves.from there holds in
-      lowest.1 at.0 (moves.rises at.0 number (subst (λ n. n < place number) (sym at.2) below)) at.1,
+      lowest.1 at.0 (moves.rises at.0 number (subst (λ n. n < position number) (sym at.2) below)) at.1,
 )

@@ -1,18 +1,19 @@
 -- The lowest offset at which a node breaks a rule, from the lowest slot that does; and the lowest word.
-use Rattle.std.proofs.Common.{◌≡◌, ℕ, ◌+◌, ◌*◌, ◌/◌, ◌<◌, ◌≤◌, ◌==◌, ◌↔◌, List, Option, Some, None, inl, inr, refl, sym, ap, subst, ◌∙◌, arith}
+use Rattle.std.proofs.Common.{◌≡◌, ℕ, ◌+◌, ◌*◌, ◌/◌, ◌<◌, ◌≤◌, ◌==◌, ◌↔◌, List, Some, None, inl, inr, refl, sym, ap, subst, ◌∙◌, arith}
 use Rattle.std.specs.Prelude.{not, IsTrue}
 use Rattle.std.proofs.lemmas.Bool.{cases_lt, cases_eq, eq-eqb, ne_eqb, false≢true}
 use Rattle.std.proofs.Math.Nat.{div-eq_of_lt, lt-div-mul-add}
 use Rattle.cat_key.specs.Names.{IsName, words_of, fingerprint_of}
 use Rattle.cat_key.proofs.Packing.{words_tell_names}
 use Rattle.pm_words.specs.declared.layout.Layout.{Layout}
-use Rattle.pm_words.specs.Places.{Node, word_number}
+use Rattle.pm_words.specs.Locations.{Word, Node, word_number}
 use Rattle.data_node.specs.Spots.{Spot, print_offset, slot_offset, IsLiveIn, name_words, print_in_spot}
 use Rattle.sound_image.specs.Lowest.{IsLowest, IsNumberOf}
-use Rattle.sound_image.specs.Nodes.{image_spot}
-use Rattle.sound_image.specs.Rules.{IsMisprinted, IsRepeated, BreaksPrints, BreaksApart, BreaksInNode}
-use Rattle.sound_image.proofs.LowestLemmas.{Moves, lowest-none, lowest-some}
-use Rattle.sound_image.proofs.WordLemmas.{node_number}
+use Rattle.sound_image.specs.Nodes.{image_spot, IsListedAt}
+use Rattle.sound_image.specs.Rules.{IsMisprinted, IsRepeated, BreaksPrints, BreaksApart, BreaksBy, BreaksInNode}
+use Rattle.sound_image.specs.declared.listed.NodeRule.{NodeRule}
+use Rattle.sound_image.proofs.LowestLemmas.{Moves, lowest-some}
+use Rattle.sound_image.proofs.WalkLemmas.{same_node}
 
 -- a bitmap has a bit from the slots on exactly where it is still something without the bits of the slots
 pub past_slots : (bitmap power : ℕ) → 0 < power → IsTrue (not (bitmap / power == 0)) ↔ (power ≤ bitmap)
@@ -33,30 +34,33 @@ prints_move slots s = record { to = λ slot is. (slot, refl, is); from = λ offs
 pub apart_move : (slots : ℕ) (s : Spot) → Moves (IsRepeated slots s) (BreaksApart slots s) (λ slot. slot_offset slot 0)
 apart_move slots s = record { to = λ slot is. (slot, refl, is); from = λ offset is. (is.0, is.2, sym is.1); rises = λ a b below. omega arith }
 
--- the offset at which node 0 breaks a rule, as a word: no other node is listed
-pub offsets_move : (l : Layout) (image : List ℕ) (P : ℕ → Spot → ℕ → Type 0) →
-    Moves (P l.slots (image_spot l image 0)) (IsNumberOf l (BreaksInNode l image P)) (λ offset. word_number l (Node 0 offset))
-offsets_move l image P = record {
-  to = λ offset breaks. record { word = Node 0 offset; numbered = refl; holds = record { node = 0; offset = offset; listed = refl; here = refl; breaks = breaks } };
+-- the offset at which the node at a position breaks a rule, as a word
+pub offsets_move : (l : Layout) (image : List ℕ) (rule : NodeRule) (position node : ℕ) → IsListedAt l image position node →
+    Moves (BreaksBy rule l.slots (image_spot l image node)) (IsNumberOf l (BreaksInNode l image rule position)) (λ offset. word_number l (Node node offset))
+offsets_move l image rule position node listed = record {
+  to = λ offset breaks. record { word = Node node offset; numbered = refl; holds = record { node = node; offset = offset; listed = listed; here = refl; breaks = breaks } };
   from = λ there is.
-      let at = is.holds in (
+      let at = is.holds in
+      let same = same_node l image position at.node node at.listed listed in (
         at.offset,
-        subst (λ n. P l.slots (image_spot l image n) at.offset) at.listed at.breaks,
-        ap (λ n. word_number l (Node n at.offset)) (sym at.listed) ∙ sym (ap (word_number l) at.here) ∙ is.numbered,
+        subst (λ n. BreaksBy rule l.slots (image_spot l image n) at.offset) same at.breaks,
+        ap (λ n. word_number l (Node n at.offset)) (sym same) ∙ sym (ap (word_number l) at.here) ∙ is.numbered,
       );
   rises = λ a b below. omega arith;
 }
 
--- so what is known of node 0 is known of the image
-pub word_none : (l : Layout) (image : List ℕ) (P : ℕ → Spot → ℕ → Type 0) (result : Option ℕ) → result ≡ None → IsLowest (P l.slots (image_spot l image 0)) None →
-    IsLowest (IsNumberOf l (BreaksInNode l image P)) result
-word_none l image P result = lowest-none (P l.slots (image_spot l image 0)) (IsNumberOf l (BreaksInNode l image P)) (λ offset. word_number l (Node 0 offset)) result (offsets_move l image P)
+-- so what is known of the node is known of the position
+pub in_node_kept : (l : Layout) (image : List ℕ) (rule : NodeRule) (position node : ℕ) → IsListedAt l image position node →
+    IsLowest (BreaksBy rule l.slots (image_spot l image node)) None → (w : Word) → ¬ BreaksInNode l image rule position w
+in_node_kept l image rule position node listed none w breaks =
+    let same = same_node l image position breaks.node node breaks.listed listed in
+    none breaks.offset (subst (λ n. BreaksBy rule l.slots (image_spot l image n) breaks.offset) same breaks.breaks)
 
-pub word_some : (l m : Layout) (image : List ℕ) (P : ℕ → Spot → ℕ → Type 0) (offset number : ℕ) → m ≡ l → number ≡ word_number m (Node 0 offset) →
-    IsLowest (P l.slots (image_spot l image 0)) (Some offset) → IsLowest (IsNumberOf l (BreaksInNode l image P)) (Some number)
-word_some l m image P offset number told is =
-    lowest-some (P l.slots (image_spot l image 0)) (IsNumberOf l (BreaksInNode l image P)) (λ o. word_number l (Node 0 o)) offset number (offsets_move l image P)
-    (node_number l m 0 offset number told is)
+pub in_node_found : (l : Layout) (image : List ℕ) (rule : NodeRule) (position node offset number : ℕ) → IsListedAt l image position node → number ≡ word_number l (Node node offset) →
+    IsLowest (BreaksBy rule l.slots (image_spot l image node)) (Some offset) → IsLowest (IsNumberOf l (BreaksInNode l image rule position)) (Some number)
+in_node_found l image rule position node offset number listed is =
+    lowest-some (BreaksBy rule l.slots (image_spot l image node)) (IsNumberOf l (BreaksInNode l image rule position)) (λ o. word_number l (Node node o)) offset number
+    (offsets_move l image rule position node listed) is
 
 -- a live slot that has a name is misprinted exactly where that name's fingerprint is another than the slot's
 pub misprinted_if : (slots : ℕ) (s : Spot) (slot : ℕ) (name : List ℕ) (mark print : ℕ) → slot < slots → IsLiveIn s slot → IsName name →

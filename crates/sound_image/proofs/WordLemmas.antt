@@ -1,8 +1,9 @@
 -- The words of an image by name: which have no use, and which are those of a node.
-use Rattle.std.proofs.Common.{◌≡◌, ◌≢◌, ℕ, ◌-◌, ◌<◌, ◌≤◌, List, slice_index, inl, inr, refl, sym, ap, subst, ◌∙◌, arith}
-use Rattle.std.proofs.lemmas.Bool.{cases_lt, lt-ltb}
+use Rattle.std.proofs.Common.{◌≡◌, ◌≢◌, ℕ, ◌-◌, ◌^◌, ◌<◌, ◌≤◌, true, false, cond, List, slice_index, inl, inr, refl, sym, ap, subst, ◌∙◌, arith}
+use Rattle.std.specs.Prelude.{◌&&◌, nat_lt}
+use Rattle.std.proofs.lemmas.Bool.{cases_lt, lt-ltb, le-ltb}
 use Rattle.pm_words.specs.declared.layout.Layout.{Layout}
-use Rattle.pm_words.specs.Places.{Word, Header, Root, Node, Line, Leaf, Cell, node_words, word_number, word_at}
+use Rattle.pm_words.specs.Locations.{Word, Header, Root, Node, Line, Leaf, Cell, node_words, word_number, word_at}
 use Rattle.sound_image.specs.Lowest.{IsNumberOf}
 use Rattle.sound_image.specs.Nodes.{image_spot}
 use Rattle.sound_image.specs.Laws.{CrashKeepsSpot, StartCachesSpot}
@@ -50,6 +51,20 @@ pub image_spot-here : (l : Layout) (image : List ℕ) (n offset : ℕ) → n < l
     image_spot l image n offset ≡ word_at l image (Node n offset)
 unfolding image_spot
 image_spot-here l image n offset here behind within = rw (lt-ltb n l.nodes here, lt-ltb 0 offset behind, lt-ltb offset (node_words l) within) refl
+
+-- a node that the image doesn't have is all zeros
+pub image_spot-outside : (l : Layout) (image : List ℕ) (n offset : ℕ) → l.nodes ≤ n → image_spot l image n offset ≡ 0
+unfolding image_spot
+image_spot-outside l image n offset out = rw (le-ltb n l.nodes out) refl
+
+-- each word of a node has as many bits as those of the image
+pub image_spot-fits : (l : Layout) (image : List ℕ) (n offset : ℕ) → ((k : ℕ) → slice_index image k < 2 ^ 64) → image_spot l image n offset < 2 ^ 64
+unfolding image_spot
+image_spot-fits l image n offset fits =
+    elim (nat_lt n l.nodes && (nat_lt 0 offset && nat_lt offset (node_words l))) as (λ b. cond b (word_at l image (Node n offset)) 0 < 2 ^ 64) [
+      | true ↦ fits (word_number l (Node n offset))
+      | false ↦ omega arith
+    ]
 
 -- the number of a word of a node, by the layout that the image tells
 pub node_number : (l m : Layout) (n offset number : ℕ) → m ≡ l → number ≡ word_number m (Node n offset) → number ≡ word_number l (Node n offset)

@@ -1,30 +1,36 @@
 -- Laws of sound images. Each is proved; crates above cite its proof by the lemma's name.
-use Rattle.std.specs.Prelude.{◌≡◌, ℕ, ◌<◌, ◌≤◌, ◌↔◌, List}
+use Rattle.std.specs.Prelude.{◌≡◌, ℕ, ◌<◌, ◌≤◌, List}
 use Rattle.std.specs.FinMap.{empty}
 use Rattle.pm_words.specs.declared.layout.Layout.{Layout}
 use Rattle.pm_words.specs.Images.{IsImage, fresh_words}
 use Rattle.pm_words.specs.Layouts.{IsLayout}
-use Rattle.pm_words.specs.Places.{Word, Node, Cached, Durable, node_words, word_at}
-use Rattle.pm_words.specs.Places as places
+use Rattle.pm_words.specs.Locations.{Word, Node, Cached, Durable, node_words, word_at}
+use Rattle.pm_words.specs.Locations as positions
 use Rattle.pm_words.specs.Rows.{durable_row, row_of}
 use Rattle.version_lock.specs.Versions.{generation_of}
 use Rattle.cat_history.specs.Maps.{Map}
 use Rattle.data_node.specs.Spots.{IsTidy}
-use Rattle.sound_image.specs.Nodes.{image_spot, IsListed}
+use Rattle.data_node.specs.Lists.{MakeList}
+use Rattle.sound_image.specs.Nodes.{image_spot, image_list, IsListedNode}
 use Rattle.sound_image.specs.Rules.{IsSpare, header_generation}
 use Rattle.version_lock.specs.Versions.{IsGeneration}
 use Rattle.sound_image.specs.Sound.{IsSound, IsMapOf, image_map}
 
--- The rules of a sound image, each by what it wants.
+-- The rules of a sound image, by what they want: the nodes make a list, and each listed one is in order.
 pub record KeepsRules (l : Layout) (image : List ℕ) : Type 0 where
   pub generation : IsGeneration (header_generation l image)
   pub spare : (w : Word) → IsSpare w → word_at l image w ≡ 0
   pub versions : (n : ℕ) → n < l.nodes → generation_of (word_at l image (Node n 0)) ≤ header_generation l image
-  pub tidy : (n : ℕ) → IsListed l image n → IsTidy l.slots (image_spot l image n)
+  pub list : MakeList l.nodes (image_spot l image) (image_list l image)
+  pub tidy : (n : ℕ) → IsListedNode l image n → IsTidy l.slots (image_spot l image n)
 
--- They are the rules of which a sound image breaks none.
-abbrev pub SoundIsTidy : Type 0
-SoundIsTidy = (l : Layout) (image : List ℕ) → IsSound l image ↔ KeepsRules l image
+-- A sound image keeps them,
+abbrev pub SoundKeepsRules : Type 0
+SoundKeepsRules = (l : Layout) (image : List ℕ) → IsSound l image → KeepsRules l image
+
+-- and one that keeps them is sound.
+abbrev pub RulesMakeSound : Type 0
+RulesMakeSound = (l : Layout) (image : List ℕ) → IsImage l image → KeepsRules l image → IsSound l image
 
 -- A sound image keeps a map,
 abbrev pub SoundHasMap : Type 0
@@ -38,11 +44,13 @@ HasOneMap = (l : Layout) (image : List ℕ) (m n : Map) → IsMapOf l image m �
 abbrev pub FreshIsSound : Type 0
 FreshIsSound = (l : Layout) → IsLayout l → IsSound l (fresh_words l) × IsMapOf l (fresh_words l) empty
 
--- The words of a node in the image that a crash leaves are those that were durable; and a start caches those of the image.
+-- The words of a node in the image that a crash leaves are those that were durable; and a start caches those of the
+-- image.
 abbrev pub CrashKeepsSpot : Type 0
 CrashKeepsSpot = (l : Layout) (words : List ℕ) (n offset : ℕ) → n < l.nodes → 0 < offset → offset < node_words l →
-    image_spot l (durable_row l words) n offset ≡ places.at l words (Durable (Node n offset))
+    image_spot l (durable_row l words) n offset ≡ positions.at l words (Durable (Node n offset))
 
 abbrev pub StartCachesSpot : Type 0
-StartCachesSpot = (l : Layout) (image : List ℕ) (n offset : ℕ) → IsImage l image → n < l.nodes → 0 < offset → offset < node_words l →
-    places.at l (row_of l image) (Cached (Node n offset)) ≡ image_spot l image n offset
+StartCachesSpot = (l : Layout) (image : List ℕ) (n offset : ℕ) → IsImage l image → n < l.nodes → 0 < offset →
+    offset < node_words l →
+    positions.at l (row_of l image) (Cached (Node n offset)) ≡ image_spot l image n offset

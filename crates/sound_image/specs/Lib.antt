@@ -1,5 +1,6 @@
 pub mod Lowest
 pub mod Nodes
+pub mod NodeSets
 pub mod Rules
 pub mod Sound
 pub mod Laws

@@ -1,45 +1,62 @@
 -- Which images are sound, which word of another is the first that breaks a rule, and which map a sound one keeps.
-use Rattle.std.specs.Prelude.{◌≡◌, ℕ, zero, suc, ◌<◌, ◌==◌, if◌then◌else◌, List, Some}
+use Rattle.std.specs.Prelude.{◌≡◌, ℕ, zero, suc, ◌<◌, Bool, if◌then◌else◌, List, [], ◌∷◌, Some}
 use Rattle.std.specs.FinMap.{empty, insert}
-use Rattle.std.specs.Int.{bit_at}
 use Rattle.pm_words.specs.declared.layout.Layout.{Layout}
-use Rattle.pm_words.specs.Places.{Word}
+use Rattle.pm_words.specs.Locations.{Word}
 use Rattle.cat_key.specs.Names.{IsName, bytes_of}
 use Rattle.cat_history.specs.Maps.{Map, at}
-use Rattle.data_node.specs.Spots.{Spot, Means, bitmap_offset, name_words, value_in}
-use Rattle.sound_image.specs.Lowest.{IsLowest, IsNumberOf}
-use Rattle.sound_image.specs.Nodes.{image_spot, IsListed, range_in}
-use Rattle.sound_image.specs.Rules.{BreaksHeader, BreaksVersions, BreaksNames, BreaksPrints, BreaksApart, BreaksInNode}
+use Rattle.data_node.specs.Spots.{Spot, Means, name_words, value_in}
+use Rattle.data_node.specs.Lists.{ListNode}
+use Rattle.data_node.specs.Weights.{has_name_in}
+use Rattle.sound_image.specs.Lowest.{IsFirst}
+use Rattle.sound_image.specs.Nodes.{image_spot, image_list, IsListedNode, image_range}
+use Rattle.sound_image.specs.Rules.{BreaksHeader, BreaksVersions, LeadsOut, LeadsBack, BreaksAnchors, BreaksInNode}
 use Rattle.sound_image.specs.declared.broken.Broken.{Broken}
+use Rattle.sound_image.specs.declared.listed.NodeRule.TheVariants.{Names, Prints, Apart}
 
--- The image breaks the rule of this number at this word.
-pub data Breaks (l : Layout) (image : List ℕ) : ℕ → Word → Type 0 where
-  in_header : {w : Word} → BreaksHeader l image w → Breaks l image 1 w
-  in_versions : {w : Word} → BreaksVersions l image w → Breaks l image 2 w
-  in_names : {w : Word} → BreaksInNode l image BreaksNames w → Breaks l image 6 w
-  in_prints : {w : Word} → BreaksInNode l image BreaksPrints w → Breaks l image 7 w
-  in_apart : {w : Word} → BreaksInNode l image BreaksApart w → Breaks l image 8 w
+-- The image breaks the rule of this number at a position of its list, at this word. The rules that aren't on the list
+-- have position 0.
+pub data Breaks (l : Layout) (image : List ℕ) : ℕ → ℕ → Word → Type 0 where
+  in_header : {w : Word} → BreaksHeader l image w → Breaks l image 1 0 w
+  in_versions : {w : Word} → BreaksVersions l image w → Breaks l image 2 0 w
+  leads_out : {position : ℕ} {w : Word} → LeadsOut l image position w → Breaks l image 3 position w
+  leads_back : {position : ℕ} {w : Word} → LeadsBack l image position w → Breaks l image 4 position w
+  in_anchors : {position : ℕ} {w : Word} → BreaksAnchors l image position w → Breaks l image 5 position w
+  in_names : {position : ℕ} {w : Word} → BreaksInNode l image Names position w → Breaks l image 6 position w
+  in_prints : {position : ℕ} {w : Word} → BreaksInNode l image Prints position w → Breaks l image 7 position w
+  in_apart : {position : ℕ} {w : Word} → BreaksInNode l image Apart position w → Breaks l image 8 position w
 
--- It breaks no rule at any word.
+-- It breaks no rule below this number at any word,
+abbrev pub AreKept : Layout → List ℕ → ℕ → Type 0
+AreKept l image limit = (rule position : ℕ) (w : Word) → rule < limit → ¬ Breaks l image rule position w
+
+-- and no rule at all.
 abbrev pub IsSound : Layout → List ℕ → Type 0
-IsSound l image = (rule : ℕ) (w : Word) → ¬ Breaks l image rule w
+IsSound l image = (rule position : ℕ) (w : Word) → ¬ Breaks l image rule position w
 
--- It breaks this rule and no lower one, and breaks it at this word and at no lower one.
+-- It breaks this rule and no lower one, and the word is the first at which it does, in the order of the list.
 pub record IsFirstBroken (l : Layout) (image : List ℕ) (broken : Broken) : Type 0 where
-  pub no_lower_rule : (rule : ℕ) (w : Word) → rule < broken.rule → ¬ Breaks l image rule w
-  pub lowest : IsLowest (IsNumberOf l (Breaks l image broken.rule)) (Some broken.word)
+  pub no_lower_rule : AreKept l image broken.rule
+  pub first : IsFirst l (Breaks l image broken.rule) (Some broken.word)
 
 -- Each listed node has, of the names that belong there, what the map has; and the map has names alone.
 pub record IsMapOf (l : Layout) (image : List ℕ) (m : Map) : Type 0 where
-  pub means : (n : ℕ) → IsListed l image n → Means l.slots (range_in l image n) (image_spot l image n) m
+  pub means : (n : ℕ) → IsListedNode l image n → Means l.slots (image_range l image n) (image_spot l image n) m
   pub names : (name : List ℕ) (value : ℕ) → at m name ≡ Some value → IsName name
 
--- What the live ones of the first so many slots have under their names.
-abbrev pub slots_map : Spot → ℕ → Map
-slots_map s zero = empty
-slots_map s (suc slot) =
-    if bit_at (s bitmap_offset) slot == 1 then insert (slots_map s slot) (bytes_of (name_words s slot)) (value_in s slot) else slots_map s slot
+-- The map, and what the live ones of the first so many slots have under their names, those of the range.
+abbrev pub with_slots : (List ℕ → Bool) → Spot → Map → ℕ → Map
+with_slots range s m zero = m
+with_slots range s m (suc slot) =
+    if has_name_in range s slot then insert (with_slots range s m slot) (bytes_of (name_words s slot)) (value_in s slot)
+    else with_slots range s m slot
 
--- The map that an image keeps, if it is sound: node 0 has all its names.
+-- The map, and what this node and those behind it have under the names that belong to them.
+abbrev pub with_nodes : ℕ → (ℕ → List ℕ → Bool) → (ℕ → Spot) → Map → ℕ → List ListNode → Map
+with_nodes slots range now m here [] = with_slots (range here) (now here) m slots
+with_nodes slots range now m here (next ∷ behind) =
+    with_nodes slots range now (with_slots (range here) (now here) m slots) next.node behind
+
+-- The map that an image keeps, if it is sound: the pairs of all listed nodes' live slots within their ranges.
 abbrev pub image_map : Layout → List ℕ → Map
-image_map l image = slots_map (image_spot l image 0) l.slots
+image_map l image = with_nodes l.slots (image_range l image) (image_spot l image) empty 0 (image_list l image)

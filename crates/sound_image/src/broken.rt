@@ -1,10 +1,12 @@
 //! The first rule that an image breaks.
 
-ghost use Rattle.std.specs.Prelude.{◌↔◌, IsNone, IfSome};
-ghost use Rattle.sound_image.specs.Sound.{IsSound, IsFirstBroken};
+ghost use Rattle.std.specs.Prelude.{◌≤◌, ◌↔◌, IsNone, IfSome};
+ghost use Rattle.sound_image.specs.Lowest.{IsFirst};
+ghost use Rattle.sound_image.specs.Sound.{Breaks, AreKept, IsSound, IsFirstBroken};
 
 use crate::header::{wrong_header, wrong_version};
-use crate::listed::{repeated_name, wrong_name, wrong_print};
+use crate::list::{leads_back, leads_out, wrong_anchor};
+use crate::listed::NodeRule;
 use pm_words::Image;
 
 /// A rule that an image breaks, and where.
@@ -16,23 +18,37 @@ pub struct Broken {
     pub word: u64,
 }
 
-/// The first rule that the image breaks, at the lowest word that breaks it; or `None` where it is sound.
+/// The number of the last rule.
+const LAST_RULE: u64 = 8;
+
+/// The first word at which the image breaks a rule, if it keeps those before it.
+fn broken_at(image: &Image, rule: u64) -> Option<u64>
+    requires rule { (1 ≤ rule) × (rule ≤ LAST_RULE) }
+    requires kept { AreKept image.now.layout image.now.words rule }
+    ensures { IsFirst image.now.layout (Breaks image.now.layout image.now.words rule) result }
+{
+    match rule {
+        1 => wrong_header(image),
+        2 => wrong_version(image),
+        3 => leads_out(image),
+        4 => leads_back(image),
+        5 => wrong_anchor(image),
+        6 => NodeRule::Names.broken_word(image),
+        7 => NodeRule::Prints.broken_word(image),
+        _ => NodeRule::Apart.broken_word(image),
+    }
+}
+
+/// The first rule that the image breaks, at the first word that breaks it, in the order of the list; or `None` where it
+/// is sound. It takes time in proportion to the words of the listed nodes.
 pub fn first_broken(image: &Image) -> Option<Broken>
     ensures none { IsNone result ↔ IsSound image.now.layout image.now.words }
     ensures some { IfSome result (IsFirstBroken image.now.layout image.now.words) }
 {
-    if let Some(word) = wrong_header(image) {
-        return Some(Broken { rule: 1, word });
+    for rule in 1..LAST_RULE + 1 {
+        if let Some(word) = broken_at(image, rule) {
+            return Some(Broken { rule, word });
+        }
     }
-    if let Some(word) = wrong_version(image) {
-        return Some(Broken { rule: 2, word });
-    }
-    if let Some(word) = wrong_name(image) {
-        return Some(Broken { rule: 6, word });
-    }
-    if let Some(word) = wrong_print(image) {
-        return Some(Broken { rule: 7, word });
-    }
-    let word = repeated_name(image)?;
-    Some(Broken { rule: 8, word })
+    None
 }

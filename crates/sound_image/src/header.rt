@@ -1,7 +1,7 @@
 //! The rules on the header, and on the version words that it bounds.
 
 ghost use Rattle.std.specs.Prelude.{◌≡◌, ◌≢◌, ℕ, ◌<◌, ◌↔◌, IsTrue, slice_index};
-ghost use Rattle.pm_words.specs.Places.{Word, word_at};
+ghost use Rattle.pm_words.specs.Locations.{Word, word_at};
 ghost use Rattle.version_lock.specs.Versions.{IsGeneration};
 ghost use Rattle.sound_image.specs.Lowest.{IsLowest, IsNumberOf};
 ghost use Rattle.sound_image.specs.Rules.{header_generation, IsSpare, IsLater, BreaksHeader, BreaksVersions};
@@ -26,7 +26,8 @@ fn is_generation(generation: u64) -> bool
 
 /// The lowest spare word that is not 0.
 fn used_spare(image: &Image) -> Option<u64>
-    ensures { IsLowest (IsNumberOf image.now.layout (λ w. IsSpare w × (word_at image.now.layout image.now.words w ≢ 0))) result }
+    ensures { IsLowest (IsNumberOf image.now.layout (λ w. IsSpare w ×
+        (word_at image.now.layout image.now.words w ≢ 0))) result }
 {
     for word in header::GENERATION + 1..2 * LINE {
         if word != LINE + root::REFERENCE && image.word(word) != 0 {

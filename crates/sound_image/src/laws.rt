@@ -1,10 +1,13 @@
 //! The laws of sound images, each named by the contract of a function.
 
-ghost use Rattle.sound_image.specs.Laws.{SoundIsTidy, SoundHasMap, HasOneMap, FreshIsSound, CrashKeepsSpot, StartCachesSpot};
+ghost use Rattle.sound_image.specs.Laws.{SoundKeepsRules, RulesMakeSound, SoundHasMap, HasOneMap, FreshIsSound};
+ghost use Rattle.sound_image.specs.Laws.{CrashKeepsSpot, StartCachesSpot};
 
-/// An image is sound exactly where its header is in order and each listed node is tidy.
-pub fn tidy_law()
-    ensures { SoundIsTidy }
+/// A sound image has its header in order, and its nodes make a list of tidy ones; and an image of which that holds is
+/// sound.
+pub fn rules_law()
+    ensures keeps { SoundKeepsRules }
+    ensures sound { RulesMakeSound }
 {}
 
 /// A sound image keeps a map, and no image keeps two.

@@ -1,22 +1,34 @@
-//! The rules on listed nodes. As long as no node leads to another, node 0 is the only one.
+//! The rules on each listed node.
 
 ghost use Rattle.std.specs.Prelude.{◌<◌, IfSome};
-ghost use Rattle.pm_words.specs.Places.{node_words};
-ghost use Rattle.sound_image.specs.Lowest.{IsLowest, IsNumberOf};
-ghost use Rattle.sound_image.specs.Nodes.{image_spot};
-ghost use Rattle.sound_image.specs.Rules.{BreaksNames, BreaksPrints, BreaksApart, BreaksInNode};
+ghost use Rattle.pm_words.specs.Locations.{node_words};
+ghost use Rattle.sound_image.specs.Lowest.{IsLowest, IsFirst};
+ghost use Rattle.sound_image.specs.Nodes.{image_spot, LeadWithin};
+ghost use Rattle.sound_image.specs.Rules.{BreaksNames, BreaksPrints, BreaksApart, BreaksBy, BreaksInNode};
 
 use crate::node::{
-    bitmap_of, has_bits_past, misprinted_slot, nameless_slot, print_start, repeated_slot,
-    slot_start, slots_of,
+    bitmap_of, has_bits_past, misprinted_slot, nameless_slot, next_of, number_of, print_start,
+    repeated_slot, slot_start, slots_of,
 };
 use pm_words::Image;
 use pm_words::offsets::node;
 
+/// A rule on a node.
+#[derive(Clone, Copy)]
+pub(crate) enum NodeRule {
+    /// Rule 6: its live slots have names, and no bit is set past its slots.
+    Names,
+    /// Rule 7: they have the fingerprints of their names.
+    Prints,
+    /// Rule 8: they have different names.
+    Apart,
+}
+
 /// The lowest offset at which a node breaks rule 6.
 fn misnamed_offset(image: &Image, node: u64) -> Option<u64>
     requires { node < image.now.layout.nodes }
-    ensures lowest { IsLowest (BreaksNames image.now.layout.slots (image_spot image.now.layout image.now.words node)) result }
+    ensures lowest { IsLowest (BreaksNames image.now.layout.slots (image_spot image.now.layout image.now.words node))
+        result }
     ensures within { IfSome result (λ offset. offset < node_words image.now.layout) }
 {
     if has_bits_past(bitmap_of(image, node), slots_of(image)) {
@@ -29,7 +41,8 @@ fn misnamed_offset(image: &Image, node: u64) -> Option<u64>
 /// The lowest offset at which a node breaks rule 7.
 fn misprinted_offset(image: &Image, node: u64) -> Option<u64>
     requires { node < image.now.layout.nodes }
-    ensures lowest { IsLowest (BreaksPrints image.now.layout.slots (image_spot image.now.layout image.now.words node)) result }
+    ensures lowest { IsLowest (BreaksPrints image.now.layout.slots (image_spot image.now.layout image.now.words node))
+        result }
     ensures within { IfSome result (λ offset. offset < node_words image.now.layout) }
 {
     let slot = misprinted_slot(image, node)?;
@@ -39,36 +52,44 @@ fn misprinted_offset(image: &Image, node: u64) -> Option<u64>
 /// The lowest offset at which a node breaks rule 8.
 fn repeated_offset(image: &Image, node: u64) -> Option<u64>
     requires { node < image.now.layout.nodes }
-    ensures lowest { IsLowest (BreaksApart image.now.layout.slots (image_spot image.now.layout image.now.words node)) result }
+    ensures lowest { IsLowest (BreaksApart image.now.layout.slots (image_spot image.now.layout image.now.words node))
+        result }
     ensures within { IfSome result (λ offset. offset < node_words image.now.layout) }
 {
     let slot = repeated_slot(image, node)?;
     Some(slot_start(slot))
 }
 
-/// The lowest word that breaks rule 6.
-pub(crate) fn wrong_name(image: &Image) -> Option<u64>
-    ensures { IsLowest (IsNumberOf image.now.layout (BreaksInNode image.now.layout image.now.words BreaksNames)) result }
-{
-    let layout = image.layout();
-    let offset = misnamed_offset(image, 0)?;
-    Some(layout.node_word(0, offset))
-}
+impl NodeRule {
+    /// The lowest offset at which a node breaks the rule.
+    fn broken_offset(self, image: &Image, node: u64) -> Option<u64>
+        requires { node < image.now.layout.nodes }
+        ensures lowest { IsLowest (BreaksBy self image.now.layout.slots
+            (image_spot image.now.layout image.now.words node)) result }
+        ensures within { IfSome result (λ offset. offset < node_words image.now.layout) }
+    {
+        match self {
+            NodeRule::Names => misnamed_offset(image, node),
+            NodeRule::Prints => misprinted_offset(image, node),
+            NodeRule::Apart => repeated_offset(image, node),
+        }
+    }
 
-/// The lowest word that breaks rule 7.
-pub(crate) fn wrong_print(image: &Image) -> Option<u64>
-    ensures { IsLowest (IsNumberOf image.now.layout (BreaksInNode image.now.layout image.now.words BreaksPrints)) result }
-{
-    let layout = image.layout();
-    let offset = misprinted_offset(image, 0)?;
-    Some(layout.node_word(0, offset))
-}
-
-/// The lowest word that breaks rule 8.
-pub(crate) fn repeated_name(image: &Image) -> Option<u64>
-    ensures { IsLowest (IsNumberOf image.now.layout (BreaksInNode image.now.layout image.now.words BreaksApart)) result }
-{
-    let layout = image.layout();
-    let offset = repeated_offset(image, 0)?;
-    Some(layout.node_word(0, offset))
+    /// The first word of a listed node that breaks the rule.
+    pub(crate) fn broken_word(self, image: &Image) -> Option<u64>
+        requires { LeadWithin image.now.layout image.now.words }
+        ensures { IsFirst image.now.layout (BreaksInNode image.now.layout image.now.words self) result }
+    {
+        let mut node = 0;
+        for _position in 0..image.layout().nodes() + 1 {
+            if let Some(offset) = self.broken_offset(image, node) {
+                return Some(number_of(image, node, offset));
+            }
+            node = next_of(image, node);
+            if node == 0 {
+                return None;
+            }
+        }
+        None
+    }
 }

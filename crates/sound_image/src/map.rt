@@ -1,21 +1,49 @@
 //! Reading the map that an image keeps.
 
-ghost use Rattle.std.specs.Prelude.{◌≡◌, ◌↔◌, IsTrue};
+ghost use Rattle.std.specs.Prelude.{◌≡◌, ◌<◌, ◌≤◌, ◌↔◌, IsTrue, IsNone, IfSome};
 ghost use Rattle.cat_history.specs.Maps.{Map, at};
 ghost use Rattle.cat_history.specs.CrashEnds.{IsFound};
+ghost use Rattle.sound_image.specs.Nodes.{target_in};
 ghost use Rattle.sound_image.specs.Sound.{IsMapOf};
 
-use crate::node::{first_node, slot_with, value_in};
+use crate::node::{anchor_of, next_of, slot_with, value_in};
 use cat_history::Change;
 use cat_key::Name;
+use data_node::is_below;
 use pm_words::Image;
+
+/// The node to which a name belongs, if the image has that node, as it has each where it is sound.
+fn target_of(image: &Image, name: &Name) -> Option<u64>
+    ensures some { IfSome result (λ node. (node ≡ target_in image.now.layout image.now.words name.now) ×
+        (node < image.now.layout.nodes)) }
+    ensures none { IsNone result → image.now.layout.nodes ≤ target_in image.now.layout image.now.words name.now }
+{
+    let nodes = image.layout().nodes();
+    let words = name.words();
+    let mut node = 0;
+    for _position in 0..nodes {
+        let next = next_of(image, node);
+        if next == 0 {
+            break;
+        }
+        if nodes <= next {
+            return None;
+        }
+        if is_below(&words, &anchor_of(image, next)) {
+            break;
+        }
+        node = next;
+    }
+    Some(node)
+}
 
 /// The number that a name has in the map of an image.
 pub fn number_in(image: &Image, name: &Name) -> Option<u64>
     ensures { (m : Map) → IsMapOf image.now.layout image.now.words m → result ≡ at m name.now }
 {
-    let node = first_node(image);
-    let slot = slot_with(image, node, name.words())?;
+    let words = name.words();
+    let node = target_of(image, name)?;
+    let slot = slot_with(image, node, words)?;
     Some(value_in(image, node, slot))
 }
 

@@ -2,10 +2,12 @@
 
 ghost use Rattle.std.specs.Prelude.{◌≡◌, ℕ, ◌<◌, ◌≤◌, ◌^◌, ◌↔◌, IsTrue, IfSome};
 ghost use Rattle.pm_words.specs.Layouts.{IsLayout};
-ghost use Rattle.pm_words.specs.Places.{node_words};
-ghost use Rattle.data_node.specs.Spots.{bitmap_offset, print_offset, slot_offset, IsLiveIn, name_words, value_in, print_in_spot};
+ghost use Rattle.pm_words.specs.Locations.{Node, node_words, word_number};
+ghost use Rattle.data_node.specs.Lists.{anchor_in, anchor_words};
+ghost use Rattle.data_node.specs.Spots.{bitmap_offset, print_offset, slot_offset, IsLiveIn, name_words, value_in};
+ghost use Rattle.data_node.specs.Spots.{print_in_spot};
 ghost use Rattle.sound_image.specs.Lowest.{IsLowest};
-ghost use Rattle.sound_image.specs.Nodes.{image_spot, HasWords};
+ghost use Rattle.sound_image.specs.Nodes.{image_spot, next_in, HasWords};
 ghost use Rattle.sound_image.specs.Rules.{IsNameless, IsMisprinted, IsRepeated};
 
 use cat_key::{Name, WORDS};
@@ -36,6 +38,35 @@ fn word_in(image: &Image, node: u64, offset: u64) -> u64
     ensures layout { IsLayout image.now.layout }
 {
     image.word(image.layout().node_word(node, offset))
+}
+
+/// The number of a node's word in the image.
+pub(crate) fn number_of(image: &Image, node: u64, offset: u64) -> u64
+    requires node { node < image.now.layout.nodes }
+    requires within { offset < node_words image.now.layout }
+    ensures { result ≡ word_number image.now.layout (Node node offset) }
+{
+    image.layout().node_word(node, offset)
+}
+
+/// The node to which a node leads; 0 is none.
+pub(crate) fn next_of(image: &Image, node: u64) -> u64
+    requires { node < image.now.layout.nodes }
+    ensures { result ≡ next_in image.now.layout image.now.words node }
+{
+    word_in(image, node, node::NEXT)
+}
+
+/// The words of a node's anchor.
+pub(crate) fn anchor_of(image: &Image, node: u64) -> [u64; WORDS]
+    requires { node < image.now.layout.nodes }
+    ensures { result ≡ anchor_words (image_spot image.now.layout image.now.words node) }
+{
+    [
+        word_in(image, node, node::ANCHOR),
+        word_in(image, node, node::ANCHOR + 1),
+        word_in(image, node, node::ANCHOR + 2),
+    ]
 }
 
 /// The bitmap of a node. It has a bit for each slot.
@@ -124,7 +155,8 @@ fn is_nameless(image: &Image, node: u64, slot: u64) -> bool
 fn is_misprinted(image: &Image, node: u64, slot: u64) -> bool
     requires node { node < image.now.layout.nodes }
     requires slot { slot < image.now.layout.slots }
-    ensures { IsTrue result ↔ IsMisprinted image.now.layout.slots (image_spot image.now.layout image.now.words node) slot }
+    ensures { IsTrue result ↔ IsMisprinted image.now.layout.slots (image_spot image.now.layout image.now.words node)
+        slot }
 {
     if !is_live_in(image, node, slot) {
         return false;
@@ -135,7 +167,7 @@ fn is_misprinted(image: &Image, node: u64, slot: u64) -> bool
     }
 }
 
-/// Whether two slots are live and have the same words in place of a name.
+/// Whether two slots are live and have the same words in position of a name.
 fn are_alike(image: &Image, node: u64, lower: u64, slot: u64) -> bool
     requires node { node < image.now.layout.nodes }
     requires lower { lower < image.now.layout.slots }
@@ -149,28 +181,21 @@ fn are_alike(image: &Image, node: u64, lower: u64, slot: u64) -> bool
         && name_in(image, node, lower) == name_in(image, node, slot)
 }
 
-/// Whether a slot is live and has these words in place of a name.
+/// Whether a slot is live and has these words in position of a name.
 fn has_words(image: &Image, node: u64, slot: u64, words: [u64; WORDS]) -> bool
     requires node { node < image.now.layout.nodes }
     requires slot { slot < image.now.layout.slots }
-    ensures { IsTrue result ↔ HasWords image.now.layout.slots (image_spot image.now.layout image.now.words node) words slot }
+    ensures { IsTrue result ↔ HasWords image.now.layout.slots (image_spot image.now.layout image.now.words node) words
+        slot }
 {
     is_live_in(image, node, slot) && name_in(image, node, slot) == words
 }
 
-/// The first node, which every layout has.
-pub(crate) fn first_node(image: &Image) -> u64
-    ensures first { result ≡ 0 }
-    ensures there { result < image.now.layout.nodes }
-{
-    let _layout = image.layout();
-    0
-}
-
-/// The lowest live slot that has these words in place of a name.
+/// The lowest live slot that has these words in position of a name.
 pub(crate) fn slot_with(image: &Image, node: u64, words: [u64; WORDS]) -> Option<u64>
     requires { node < image.now.layout.nodes }
-    ensures lowest { IsLowest (HasWords image.now.layout.slots (image_spot image.now.layout image.now.words node) words) result }
+    ensures lowest { IsLowest (HasWords image.now.layout.slots (image_spot image.now.layout image.now.words node)
+        words) result }
 {
     for slot in 0..slots_of(image) {
         if has_words(image, node, slot, words) {
@@ -206,7 +231,8 @@ fn is_repeated(image: &Image, node: u64, slot: u64) -> bool
 /// The lowest live slot without a name.
 pub(crate) fn nameless_slot(image: &Image, node: u64) -> Option<u64>
     requires { node < image.now.layout.nodes }
-    ensures lowest { IsLowest (IsNameless image.now.layout.slots (image_spot image.now.layout image.now.words node)) result }
+    ensures lowest { IsLowest (IsNameless image.now.layout.slots (image_spot image.now.layout image.now.words node))
+        result }
     ensures bound { IfSome result (λ slot. slot < 64) }
 {
     for slot in 0..slots_of(image) {
@@ -220,7 +246,8 @@ pub(crate) fn nameless_slot(image: &Image, node: u64) -> Option<u64>
 /// The lowest live slot with another fingerprint than that of its name.
 pub(crate) fn misprinted_slot(image: &Image, node: u64) -> Option<u64>
     requires { node < image.now.layout.nodes }
-    ensures lowest { IsLowest (IsMisprinted image.now.layout.slots (image_spot image.now.layout image.now.words node)) result }
+    ensures lowest { IsLowest (IsMisprinted image.now.layout.slots (image_spot image.now.layout image.now.words node))
+        result }
     ensures bound { IfSome result (λ slot. slot < 64) }
 {
     for slot in 0..slots_of(image) {
@@ -234,7 +261,8 @@ pub(crate) fn misprinted_slot(image: &Image, node: u64) -> Option<u64>
 /// The lowest live slot whose name a lower live slot has.
 pub(crate) fn repeated_slot(image: &Image, node: u64) -> Option<u64>
     requires { node < image.now.layout.nodes }
-    ensures lowest { IsLowest (IsRepeated image.now.layout.slots (image_spot image.now.layout image.now.words node)) result }
+    ensures lowest { IsLowest (IsRepeated image.now.layout.slots (image_spot image.now.layout image.now.words node))
+        result }
     ensures bound { IfSome result (λ slot. slot < 64) }
 {
     for slot in 0..slots_of(image) {

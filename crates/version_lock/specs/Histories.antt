@@ -1,7 +1,8 @@
 -- The words that one node has had in one run of the index.
 use Rattle.std.specs.Prelude.{◌≡◌, ℕ, ◌+◌, ◌<◌, ◌≤◌, ◌⊎◌, List, [], ◌∷◌, AllPairs}
 use Rattle.version_lock.specs.declared.TheConstants.{LAST_COUNT}
-use Rattle.version_lock.specs.Versions.{generation_of, count_of, kept_count, version_word, locked_word, IsFree, IsLocked, IsWorn}
+use Rattle.version_lock.specs.Versions.{generation_of, count_of, kept_count, version_word, locked_word, IsFree}
+use Rattle.version_lock.specs.Versions.{IsLocked, IsWorn}
 
 -- a party took the lock in this generation
 pub record Locks (generation old new : ℕ) : Type 0 where
@@ -28,4 +29,5 @@ IsHistory generation (old ∷ (new ∷ later)) = Follows generation old new × I
 
 -- in one generation a node's word only rises, so that no word comes back
 abbrev pub WordsRise : Type 0
-WordsRise = (generation : ℕ) (words : List ℕ) → IsHistory generation words → AllPairs (λ earlier later. earlier < later) words
+WordsRise = (generation : ℕ) (words : List ℕ) → IsHistory generation words →
+    AllPairs (λ earlier later. earlier < later) words

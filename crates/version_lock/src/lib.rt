@@ -9,7 +9,8 @@
 #![tactic(auto)]
 
 ghost use Rattle.std.specs.Prelude.{◌≡◌, ◌+◌, ◌^◌, ◌<◌, ◌≤◌, ◌↔◌, IsTrue, IsNone, IfSome};
-ghost use Rattle.version_lock.specs.Versions.{generation_of, count_of, kept_count, version_word, locked_word, IsLocked, IsFree, IsWorn};
+ghost use Rattle.version_lock.specs.Versions.{generation_of, count_of, kept_count, version_word, locked_word, IsLocked};
+ghost use Rattle.version_lock.specs.Versions.{IsFree, IsWorn};
 ghost use Rattle.version_lock.specs.Histories.{WordsRise};
 
 /// What one generation adds to a word: the generation stands from bit 40 on.

@@ -1,7 +1,7 @@
 //! Crashes after each step of a write, with nothing, everything or every second word evicted before.
 
 ghost use Rattle.std.specs.Prelude.{◌≡◌, ◌<◌, ◌≤◌};
-ghost use Rattle.index_core.specs.CoreCalls.{LimitFits, writes_of};
+ghost use Rattle.index_core.specs.CoreCalls.{LimitFits, most_writes};
 
 use super::{LIMIT, MANY, run};
 use crate::{Core, CoreCall, Crashed, CutCall, Cuts};
@@ -43,7 +43,7 @@ impl Case {
 
 fn call_of(change: Change) -> CoreCall
     ensures limit { LimitFits result }
-    ensures writes { writes_of result ≤ 1 }
+    ensures writes { most_writes result ≤ 1 }
 {
     match change {
         Change::Put { name, value } => CoreCall::Put {
@@ -161,8 +161,8 @@ fn crashed<L: Ledger>(
     shown_of(alloc, core, &change)
 }
 
-/// The first step after which the write is found, if after each one before it was lost, and after each one from there on
-/// it is found.
+/// The first step after which the write is found, if after each one before it was lost, and after each one from there
+/// on it is found.
 fn found_from<L: Ledger>(
     alloc: Global,
     case: Case,
@@ -170,7 +170,7 @@ fn found_from<L: Ledger>(
     steps: &mut Steps<L>,
 ) -> Result<Option<u64>, Fail> {
     let mut first = None;
-    for before in 0..70 {
+    for before in 0..75 {
         let shown = crashed(alloc, case, before, evicts, steps)?;
         match (shown, first) {
             (Shown::Wrong, _) | (Shown::Lost, Some(_)) => return Ok(None),
@@ -201,9 +201,9 @@ fn found_by_evictions<L: Ledger>(
 
 #[test]
 fn a_crash_keeps_the_map_with_what_is_found(rt: HostRuntime) -> Result<(), Fail> {
-    // A write is found from the store of its word on where that word is evicted, and else from its drain on. The bitmap is
-    // word 17 of the image, which a put into a clear slot stores as its event 50 and drains as 54, and a delete as 17 and 21;
-    // the value of slot 0 is word 35, and is stored in place as event 17 and drained as event 25.
+    // A write is found from the store of its word on where that word is evicted, and else from its drain on. The bitmap
+    // is word 17 of the image, which a put into a clear slot stores as its event 55 and drains as 59, and a delete as
+    // 22 and 26; the value of slot 0 is word 35, and is stored in place as event 22 and drained as event 30.
     let put = Case {
         put: true,
         number: 1,
@@ -219,7 +219,7 @@ fn a_crash_keeps_the_map_with_what_is_found(rt: HostRuntime) -> Result<(), Fail>
         number: 0,
         before: 2,
     };
-    for (case, stored, drained) in [(put, 50, 54), (overwrite, 17, 25), (delete, 17, 21)] {
+    for (case, stored, drained) in [(put, 55, 59), (overwrite, 22, 30), (delete, 22, 26)] {
         let found = found_by_evictions::<Brand>(rt.alloc(), Blank::new(1), case)?;
         assert_eq!(rt;
             found,

@@ -1,7 +1,7 @@
 //! Which calls use up an index.
 
 ghost use Rattle.std.specs.Prelude.{◌≡◌, ◌<◌, ◌≤◌, IfOk};
-ghost use Rattle.index_core.specs.CoreCalls.{LimitFits, writes_of};
+ghost use Rattle.index_core.specs.CoreCalls.{LimitFits, most_writes};
 
 use super::{LIMIT, MANY, begin, run};
 use crate::{Core, CoreCall, Whole};
@@ -19,8 +19,8 @@ fn written_at(core: &Core, place: usize) -> Result<[u64; 2], Fail> {
     Ok([write.caller, write.index])
 }
 
-/// A put of caller 1 meets the lock of a put of caller 0, is turned back and made again, and then caller 1 puts once more.
-/// The callers and indexes of the three writes.
+/// A put of caller 1 meets the lock of a put of caller 0, is turned back and made again, and then caller 1 puts once
+/// more. The callers and indexes of the three writes.
 fn again_and_once_more<L: Ledger>(alloc: Global, blank: Blank) -> Result<[[u64; 2]; 3], Fail>
     requires name { blank.name ≡ L.name }
     requires parts { (blank.parts ≡ L.parts) × (0 < L.parts) }
@@ -56,7 +56,7 @@ fn a_call_that_is_turned_back_is_made_again_under_its_index(rt: HostRuntime) -> 
 /// A put of one of five names.
 fn put_of(number: u64) -> Result<CoreCall, Fail>
     ensures limit { IfOk result LimitFits }
-    ensures writes { IfOk result (λ call. writes_of call ≤ 1) }
+    ensures writes { IfOk result (λ call. most_writes call ≤ 1) }
 {
     let byte = 0x61 + (number % 5) as u8;
     let name = Name::read(&[byte]).ok().ok_or("a name")?;
@@ -67,8 +67,8 @@ fn put_of(number: u64) -> Result<CoreCall, Fail>
     })
 }
 
-/// Six whole puts on a node of four slots. The fifth name finds no room, and the sixth put is of the first name again: the
-/// number of the put that found none, and the index of the last write.
+/// Six whole puts on a node of four slots. The fifth name finds no room, and the sixth put is of the first name again:
+/// the number of the put that found none, and the index of the last write.
 fn past_a_full_node<L: Ledger>(alloc: Global, blank: Blank) -> Result<[u64; 2], Fail>
     requires name { blank.name ≡ L.name }
     requires parts { (blank.parts ≡ L.parts) × (0 < L.parts) }

@@ -28,7 +28,7 @@ loop-index-preserved g c =
     let now = g.M.NameMap.contents c.loop-index.map in
     let room = g.M.NameMap.room c.args.map.now in
     let r : Record = recorded index call c.answer.result in
-    let grown : c.push.new.self.items ≡ records ++ r ∷ [] = c.push.ensures.items ∙ ap (λ o. cond (is_ok o) (records ++ r ∷ []) records) c.unwrap.ensures in
+    let grown : c.push_reserved.new.self.items ≡ records ++ r ∷ [] = c.push_reserved.ensures.items in
     let one = subst (λ (ops : List CallerOp). All (λ a. a.caller ≡ c.requires.caller.0) ops) (sym c.as_slice-asked.ensures) c.requires.caller.1 in
     let full = subst (λ (k : ℕ). (c.answer.result ≡ Full) ↔ PutsWithoutRoom k now call.op) was.room_stays c.answer.ensures.full in
     let counted : c.if-is_placed_write.writes ≡ c.loop-index.writes + length (write_of r) =
@@ -45,8 +45,8 @@ loop-index-preserved g c =
       few = omega (arith, counted, was.few, one_at_most c.is_placed_write.result (length (write_of r)) c.is_placed_write.ensures);
       room_stays = c.answer.ensures.room ∙ was.room_stays;
       calls = omega (arith, was.calls, c.answer.ensures.calls_left);
-      made = c.push.ensures.len ∙ ap (λ o. cond (is_ok o) (vec_len c.loop-index.records + 1) (vec_len c.loop-index.records)) c.unwrap.ensures ∙ omega (arith, was.made);
-      reserved = omega (arith, was.reserved, c.push.ensures.capacity);
+      made = c.push_reserved.ensures.len ∙ omega (arith, was.made);
+      reserved = omega (arith, was.reserved, c.push_reserved.ensures.capacity);
     }
 
 pub returns-clause-played : goal.returns-clause-played

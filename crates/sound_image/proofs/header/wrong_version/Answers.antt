@@ -1,4 +1,4 @@
-use Rattle.pm_words.specs.Places.{Node, word_number}
+use Rattle.pm_words.specs.Locations.{Node, word_number}
 use Rattle.sound_image.specs.Lowest.{IsNumberOf}
 use Rattle.sound_image.specs.Rules.{IsLater, BreaksVersions}
 use Rattle.sound_image.proofs.LowestLemmas.{lowest-none, lowest-some}

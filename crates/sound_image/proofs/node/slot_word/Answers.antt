@@ -1,5 +1,5 @@
 use Rattle.std.proofs.Common.{◌≡◌, ◌+◌, ◌∙◌, ap, sym, slice_index, arith}
-use Rattle.pm_words.specs.Places.{Node, word_number}
+use Rattle.pm_words.specs.Locations.{Node, word_number}
 use Rattle.data_node.specs.Spots.{slot_offset}
 use Rattle.sound_image.proofs.WordLemmas.{image_spot-here, node_number}
 use Rattle.sound_image.proofs.node.slot_word.Goals as goal

@@ -5,7 +5,7 @@ use Rattle.std.specs.FinMap.{insert, len}
 use Rattle.std.specs.Result.{is_ok}
 use Rattle.cat_key.specs.declared.Pair.{Pair}
 use Rattle.cat_history.specs.Maps.{at}
-use Rattle.cat_history.proofs.PlainMapLemmas.{pushed, some≢none, at-lacking, at-place, len-map_of, map_of-written, differ-written, map_of-pushed, differ-pushed}
+use Rattle.cat_history.proofs.PlainMapLemmas.{pushed, some≢none, at-lacking, at-position, len-map_of, map_of-written, differ-written, map_of-pushed, differ-pushed}
 use Rattle.cat_history.proofs.plain.PlainMapNameMap.put.Goals as goal
 
 pub invariant_of-self : goal.invariant_of-self
@@ -16,8 +16,8 @@ invariant_of-self c =
     let pairs = c.self.inside.pairs.items in
     let name_is : c.index_mut.result.now.name ≡ c.args.name.now = ap (λ (p : Pair). p.name) c.index_mut.ensures.value ∙ named c.index_mut.result.now in
     record {
-      differ = rw name_is (differ-written pairs c.in-Some.place c.args.name.now c.replace-old.new.dest was.differ within named);
-      fits = omega (arith, was.fits, length-set pairs c.in-Some.place (record { name = c.index_mut.result.now.name; value = c.replace-old.new.dest }));
+      differ = rw name_is (differ-written pairs c.in-Some.position c.args.name.now c.replace-old.new.dest was.differ within named);
+      fits = omega (arith, was.fits, length-set pairs c.in-Some.position (record { name = c.index_mut.result.now.name; value = c.replace-old.new.dest }));
       reserved = was.reserved;
     }
 
@@ -26,7 +26,7 @@ returns-in-Some-clause-old c =
     let within = rw c.deref.ensures.value at c.in-Some.ensures.within in
     let named = rw c.deref.ensures.value at c.in-Some.ensures.named in
     ap Some (c.replace-old.ensures.value ∙ ap (λ (p : Pair). p.value) c.index_mut.ensures.value)
-    ∙ sym (at-place c.self.inside.pairs.items c.in-Some.place c.args.name.now c.index_mut.result.now c.self.invariant.differ within named)
+    ∙ sym (at-position c.self.inside.pairs.items c.in-Some.position c.args.name.now c.index_mut.result.now c.self.invariant.differ within named)
     ∙ ap (λ m. at m.contents c.args.name.now) c.self.view_is
 
 pub returns-in-Some-clause-ok : goal.returns-in-Some-clause-ok
@@ -36,17 +36,17 @@ returns-in-Some-clause-ok c =
     let pairs = c.self.inside.pairs.items in
     let name_is : c.index_mut.result.now.name ≡ c.args.name.now = ap (λ (p : Pair). p.name) c.index_mut.ensures.value ∙ named c.index_mut.result.now in
     rw (name_is, c.replace-old.ensures.after)
-    (map_of-written pairs c.in-Some.place c.args.name.now c.args.value c.self.invariant.differ within named
+    (map_of-written pairs c.in-Some.position c.args.name.now c.args.value c.self.invariant.differ within named
     ∙ ap (λ m. insert m.contents c.args.name.now c.args.value) c.self.view_is)
 
 pub returns-in-Some-clause-full : goal.returns-in-Some-clause-full
 returns-in-Some-clause-full c =
     let within = rw c.deref.ensures.value at c.in-Some.ensures.within in
     let named = rw c.deref.ensures.value at c.in-Some.ensures.named in
-    let pair : Pair = get_or c.self.inside.pairs.items c.in-Some.place c.index_mut.result.now in
+    let pair : Pair = get_or c.self.inside.pairs.items c.in-Some.position c.index_mut.result.now in
     let has : at c.args.self.now.contents c.args.name.now ≡ Some pair.value =
     ap (λ m. at m.contents c.args.name.now) (sym c.self.view_is)
-    ∙ at-place c.self.inside.pairs.items c.in-Some.place c.args.name.now c.index_mut.result.now c.self.invariant.differ within named in
+    ∙ at-position c.self.inside.pairs.items c.in-Some.position c.args.name.now c.index_mut.result.now c.self.invariant.differ within named in
     (λ e. absurd (false≢true e), λ full. absurd (some≢none pair.value (sym has ∙ full.0)))
 
 pub returns-then-len-self-clause-full : goal.returns-then-len-self-clause-full

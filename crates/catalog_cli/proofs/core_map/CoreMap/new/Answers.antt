@@ -2,9 +2,9 @@ use Rattle.catalog_cli.proofs.CoreMaps.{fresh_map, fresh_calls}
 use Rattle.catalog_cli.proofs.core_map.CoreMap.new.Goals as goal
 
 pub invariant_of-result : goal.invariant_of-result
-invariant_of-result g c = fresh_map c.args.layout c.in_ok-core.core c.reserve.new.self c.in_ok-core.ensures c.reserve.ensures.kept
+invariant_of-result g c = fresh_map c.args.layout c.in_ok-core.core c.reserve.new.self c.requires.one_node c.in_ok-core.ensures c.reserve.ensures.kept
 
 pub returns-clause-calls_left : goal.returns-clause-calls_left
 returns-clause-calls_left g c =
-    fresh_calls c.args.layout c.in_ok-core.core c.reserve.new.self c.args.calls c.requires.layout c.requires.one_node c.in_ok-core.ensures c.reserve.ensures.kept
+    fresh_calls c.args.layout c.in_ok-core.core c.reserve.new.self c.args.calls c.requires.layout c.in_ok-core.ensures c.reserve.ensures.kept
     c.in_ok-reserve.ensures.ok c.requires.calls

@@ -1,18 +1,19 @@
 use Rattle.std.proofs.Common.{◌+◌, ◌≤◌, length, refl, sym, ap, ◌∙◌, subst, arith}
-use Rattle.index_core.specs.Indexes.{Index}
+use Rattle.index_core.specs.Indexes.{Index, IsIndex}
 use Rattle.index_core.specs.Lone.{RunsAlone, locks_left}
 use Rattle.index_core.proofs.Alone.{lone_start, lone_flies, lone_goes, reply_runs, reply_full_runs, reply_quiet, reply_locks, count_quiet, spare_left}
+use Rattle.index_core.proofs.Stepping.{respare}
 use Rattle.index_core.proofs.index.Core.run_alone.Goals as goal
 
 pub unreachable-requires : goal.unreachable-requires
 unreachable-requires g c =
     let f = c.in_default.ensures.in_flight.0 refl in
-    let both = sym (c.requires.quiet c.args.caller f.entry f.there) ∙ f.flies in
+    let both = sym (c.requires.quiet c.args.caller f.state f.there) ∙ f.flies in
     absurd (cc)
 
 pub steps-init : goal.steps-init
 steps-init g c =
-    lone_start c.args.self.now c.start.new.self c.args.caller c.args.call c.requires.quiet c.in-Ok.ensures.started c.in-Ok.ensures.spare c.start.ensures.index
+    lone_start c.args.self.now c.start.new.self c.args.caller c.args.call c.start.ensures.before c.requires.quiet c.in-Ok.ensures.started c.in-Ok.ensures.spare c.start.ensures.index
 
 pub step-requires : goal.step-requires
 step-requires g c = record { flies = lone_flies _ _ _ _ c.steps.invariant }

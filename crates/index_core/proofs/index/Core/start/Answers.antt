@@ -4,145 +4,132 @@ use mathlib.Core.Option.{some-injective}
 use lib.ListN.{get_elem?}
 use Rattle.pm_words.specs.declared.layout.Layout.{Layout}
 use Rattle.node_ops.specs.Asked.{IsOf}
-use Rattle.index_core.specs.declared.entry.Entry.{Entry}
+use Rattle.index_core.specs.declared.party.PartyState.{PartyState}
 use Rattle.index_core.specs.CoreCalls.{op_of, machine_of}
-use Rattle.index_core.specs.Entries.{owed}
+use Rattle.index_core.specs.PartyStates.{owed}
+use Rattle.index_core.specs.Cores.{index_with}
 use Rattle.index_core.specs.Indexes.{Index, IsIndex, IsInFlight, view_of, started_index}
 use Rattle.index_core.proofs.Lists.{there_is, read_is, none_of, some_of}
-use Rattle.index_core.proofs.Reading.{begins}
+use Rattle.index_core.proofs.Reading.{Begins, begins}
 use Rattle.index_core.proofs.Stepping.{respare}
 use Rattle.index_core.proofs.index.Core.start.Goals as goal
 
 pub index-requires : goal.index-requires
 index-requires c =
-    let s : Index = record { layout = c.self.inside.memory.layout; generation = c.self.inside.generation; words = c.self.inside.memory.words; entries = c.self.inside.entries.items; base = c.self.inside.base; history = c.self.inside.history.items; spare = 0 } in
-    let i = c.args.party in
     let callers = ap (λ (v : Index). v.layout.callers) c.self.view_is in
-    let lt = c.requires.party in
-    let here = there_is s.entries i (omega (arith, c.self.invariant.0.callers, callers, lt)) in
-    let e = here.0 in
-    let there = here.1 in
-    omega (arith, c.self.invariant.0.callers, c.self.inside.entries.ok.0, callers, lt)
+    omega (arith, c.self.invariant.0.parties, c.self.inside.states.ok.0, callers, c.requires.party)
 
 pub index_mut-requires : goal.index_mut-requires
 index_mut-requires c =
-    let s : Index = record { layout = c.self.inside.memory.layout; generation = c.self.inside.generation; words = c.self.inside.memory.words; entries = c.self.inside.entries.items; base = c.self.inside.base; history = c.self.inside.history.items; spare = 0 } in
-    let i = c.args.party in
     let callers = ap (λ (v : Index). v.layout.callers) c.self.view_is in
-    let lt = c.requires.party in
-    let here = there_is s.entries i (omega (arith, c.self.invariant.0.callers, callers, lt)) in
-    let e = here.0 in
-    let there = here.1 in
-    omega (arith, c.self.invariant.0.callers, c.self.inside.entries.ok.0, callers, lt)
+    omega (arith, c.self.invariant.0.parties, c.self.inside.states.ok.0, callers, c.requires.party)
 
 pub returns-then-is_some-clause-in_flight : goal.returns-then-is_some-clause-in_flight
 returns-then-is_some-clause-in_flight c =
-    let s : Index = record { layout = c.self.inside.memory.layout; generation = c.self.inside.generation; words = c.self.inside.memory.words; entries = c.self.inside.entries.items; base = c.self.inside.base; history = c.self.inside.history.items; spare = 0 } in
+    let s = index_with c.self.inside 0 in
     let i = c.args.party in
     let callers = ap (λ (v : Index). v.layout.callers) c.self.view_is in
     let lt = c.requires.party in
-    let here = there_is s.entries i (omega (arith, c.self.invariant.0.callers, callers, lt)) in
+    let here = there_is s.states i (omega (arith, c.self.invariant.0.parties, callers, lt)) in
     let e = here.0 in
     let there = here.1 in
-    let read = read_is s.entries i e c.index.result.now there c.index.ensures in
+    let read = read_is s.states i e c.index.result.now there c.index.ensures in
     let machine = some_of c.index.result.now.machine (sym c.is_some.ensures ∙ c.if-is_some.true) in
-    (λ _. record { entry = e; machine = machine.0; there = sym (ap (λ (v : Index). get_elem? v.entries i) c.self.view_is) ∙ there; flies = sym (ap (λ (d : Entry). d.machine) read) ∙ machine.1 }, λ _. refl)
+    (λ _. record { state = e; machine = machine.0; there = sym (ap (λ (v : Index). get_elem? v.states i) c.self.view_is) ∙ there; flies = sym (ap (λ (d : PartyState). d.machine) read) ∙ machine.1 }, λ _. refl)
 
 pub returns-then-is_some-clause-index : goal.returns-then-is_some-clause-index
 returns-then-is_some-clause-index c =
     subst IsIndex c.self.view_is (respare _ _ c.self.invariant.0)
 
-pub invariant_of-self : goal.invariant_of-self
-invariant_of-self c =
-    let s : Index = record { layout = c.self.inside.memory.layout; generation = c.self.inside.generation; words = c.self.inside.memory.words; entries = c.self.inside.entries.items; base = c.self.inside.base; history = c.self.inside.history.items; spare = 0 } in
+-- the machine that it has made
+made_at : (c : goal.After-self-1) → c.machine-machine.result ≡ machine_of (view_of (index_with c.self.inside 0) c.args.party) c.args.call
+made_at c =
+    c.machine-machine.ensures.machine
+    ∙ ap (λ (l : Layout). machine_of (record { layout = l; generation = c.self.inside.generation; caller = c.args.party }) c.args.call) c.layout.ensures.layout
+
+-- what it has in hand once it has begun the call
+begun_at : (c : goal.After-self-1) → Begins (index_with c.self.inside 0) c.args.party c.index.result.now c.begins.result c.args.call
+begun_at c =
+    let s = index_with c.self.inside 0 in
     let i = c.args.party in
     let callers = ap (λ (v : Index). v.layout.callers) c.self.view_is in
     let lt = c.requires.party in
-    let made : c.machine-machine.result ≡ machine_of (view_of s i) c.args.call =
-    c.machine-machine.ensures.machine ∙ ap (λ (l : Layout). machine_of (record { layout = l; generation = s.generation; caller = i }) c.args.call) c.layout.ensures.layout in
-    let begun = begins s i c.index.result.now c.begins.result c.args.call c.machine-machine.result c.len-since.result c.self.invariant.0 (omega (arith, c.self.invariant.0.callers, callers, lt)) c.index.ensures
-    (none_of c.index.result.now.machine (sym c.is_some.ensures ∙ c.if-is_some.false)) made c.machine-machine.ensures.sound (c.len-since.ensures ∙ c.self.inside.history.ok.0) c.begins.ensures in
+    let made = made_at c in
+    begins s i c.index.result.now c.begins.result c.args.call c.machine-machine.result c.len-since.result c.self.invariant.0 (omega (arith, c.self.invariant.0.parties, callers, lt)) c.index.ensures
+    (none_of c.index.result.now.machine (sym c.is_some.ensures ∙ c.if-is_some.false)) made c.machine-machine.ensures.sound (c.len-since.ensures ∙ c.self.inside.history.ok.0) c.begins.ensures
+
+pub invariant_of-self : goal.invariant_of-self
+invariant_of-self c =
+    let s = index_with c.self.inside 0 in
+    let i = c.args.party in
+    let begun = begun_at c in
     let owing = begun.owing in
     let was = ap (λ (v : Index). v.spare) c.self.view_is in
     let room = c.self.invariant.1 in
     let wanted = c.requires.spare in
-    let n : ℕ = c.self.inside.history.cap - (c.self.inside.history.len + owed (slice_set s.entries i c.begins.result)) in
+    let n : ℕ = c.self.inside.history.cap - (c.self.inside.history.len + owed (slice_set s.states i c.begins.result)) in
     (subst IsIndex (sym (begun.same 0)) (begun.kept 0), omega arith)
 
 pub returns-clause-in_flight : goal.returns-clause-in_flight
 returns-clause-in_flight c =
-    let s : Index = record { layout = c.self.inside.memory.layout; generation = c.self.inside.generation; words = c.self.inside.memory.words; entries = c.self.inside.entries.items; base = c.self.inside.base; history = c.self.inside.history.items; spare = 0 } in
+    let s = index_with c.self.inside 0 in
     let i = c.args.party in
-    let callers = ap (λ (v : Index). v.layout.callers) c.self.view_is in
-    let lt = c.requires.party in
-    let made : c.machine-machine.result ≡ machine_of (view_of s i) c.args.call =
-    c.machine-machine.ensures.machine ∙ ap (λ (l : Layout). machine_of (record { layout = l; generation = s.generation; caller = i }) c.args.call) c.layout.ensures.layout in
-    let begun = begins s i c.index.result.now c.begins.result c.args.call c.machine-machine.result c.len-since.result c.self.invariant.0 (omega (arith, c.self.invariant.0.callers, callers, lt)) c.index.ensures
-    (none_of c.index.result.now.machine (sym c.is_some.ensures ∙ c.if-is_some.false)) made c.machine-machine.ensures.sound (c.len-since.ensures ∙ c.self.inside.history.ok.0) c.begins.ensures in
+    let begun = begun_at c in
     let owing = begun.owing in
     let was = ap (λ (v : Index). v.spare) c.self.view_is in
     let room = c.self.invariant.1 in
     let wanted = c.requires.spare in
-    let n : ℕ = c.self.inside.history.cap - (c.self.inside.history.len + owed (slice_set s.entries i c.begins.result)) in (
+    let n : ℕ = c.self.inside.history.cap - (c.self.inside.history.len + owed (slice_set s.states i c.begins.result)) in (
       λ (e : _). absurd (cc),
       λ (f : IsInFlight _ i).
-          let here = some-injective _ _ (sym begun.there ∙ ap (λ (v : Index). get_elem? v.entries i) c.self.view_is ∙ f.there) in
-          let both = sym begun.idle ∙ ap (λ (d : Entry). d.machine) here ∙ f.flies in
+          let here = some-injective _ _ (sym begun.there ∙ ap (λ (v : Index). get_elem? v.states i) c.self.view_is ∙ f.there) in
+          let both = sym begun.idle ∙ ap (λ (d : PartyState). d.machine) here ∙ f.flies in
           absurd (cc),
     )
 
 pub returns-clause-started : goal.returns-clause-started
 returns-clause-started c =
-    let s : Index = record { layout = c.self.inside.memory.layout; generation = c.self.inside.generation; words = c.self.inside.memory.words; entries = c.self.inside.entries.items; base = c.self.inside.base; history = c.self.inside.history.items; spare = 0 } in
+    let s = index_with c.self.inside 0 in
     let i = c.args.party in
-    let callers = ap (λ (v : Index). v.layout.callers) c.self.view_is in
-    let lt = c.requires.party in
-    let made : c.machine-machine.result ≡ machine_of (view_of s i) c.args.call =
-    c.machine-machine.ensures.machine ∙ ap (λ (l : Layout). machine_of (record { layout = l; generation = s.generation; caller = i }) c.args.call) c.layout.ensures.layout in
-    let begun = begins s i c.index.result.now c.begins.result c.args.call c.machine-machine.result c.len-since.result c.self.invariant.0 (omega (arith, c.self.invariant.0.callers, callers, lt)) c.index.ensures
-    (none_of c.index.result.now.machine (sym c.is_some.ensures ∙ c.if-is_some.false)) made c.machine-machine.ensures.sound (c.len-since.ensures ∙ c.self.inside.history.ok.0) c.begins.ensures in
+    let begun = begun_at c in
     let owing = begun.owing in
     let was = ap (λ (v : Index). v.spare) c.self.view_is in
     let room = c.self.invariant.1 in
     let wanted = c.requires.spare in
-    let n : ℕ = c.self.inside.history.cap - (c.self.inside.history.len + owed (slice_set s.entries i c.begins.result)) in
+    let n : ℕ = c.self.inside.history.cap - (c.self.inside.history.len + owed (slice_set s.states i c.begins.result)) in
     record {
-      entry = begun.entry;
-      there = sym (ap (λ (v : Index). get_elem? v.entries i) c.self.view_is) ∙ begun.there;
-      is = begun.same n ∙ ap (λ (v : Index). started_index v i begun.entry c.args.call n) c.self.view_is;
-      of = subst (IsOf (op_of c.args.call)) (made ∙ ap (λ (v : Index). machine_of (view_of v i) c.args.call) c.self.view_is) c.machine-machine.ensures.op;
+      state = begun.state;
+      there = sym (ap (λ (v : Index). get_elem? v.states i) c.self.view_is) ∙ begun.there;
+      is = begun.same n ∙ ap (λ (v : Index). started_index v i begun.state c.args.call n) c.self.view_is;
+      of = subst (IsOf (op_of c.args.call)) (made_at c ∙ ap (λ (v : Index). machine_of (view_of v i) c.args.call) c.self.view_is) c.machine-machine.ensures.op;
     }
 
 pub returns-clause-spare : goal.returns-clause-spare
 returns-clause-spare c =
-    let s : Index = record { layout = c.self.inside.memory.layout; generation = c.self.inside.generation; words = c.self.inside.memory.words; entries = c.self.inside.entries.items; base = c.self.inside.base; history = c.self.inside.history.items; spare = 0 } in
+    let s = index_with c.self.inside 0 in
     let i = c.args.party in
-    let callers = ap (λ (v : Index). v.layout.callers) c.self.view_is in
-    let lt = c.requires.party in
-    let made : c.machine-machine.result ≡ machine_of (view_of s i) c.args.call =
-    c.machine-machine.ensures.machine ∙ ap (λ (l : Layout). machine_of (record { layout = l; generation = s.generation; caller = i }) c.args.call) c.layout.ensures.layout in
-    let begun = begins s i c.index.result.now c.begins.result c.args.call c.machine-machine.result c.len-since.result c.self.invariant.0 (omega (arith, c.self.invariant.0.callers, callers, lt)) c.index.ensures
-    (none_of c.index.result.now.machine (sym c.is_some.ensures ∙ c.if-is_some.false)) made c.machine-machine.ensures.sound (c.len-since.ensures ∙ c.self.inside.history.ok.0) c.begins.ensures in
+    let begun = begun_at c in
     let owing = begun.owing in
     let was = ap (λ (v : Index). v.spare) c.self.view_is in
     let room = c.self.invariant.1 in
     let wanted = c.requires.spare in
-    let n : ℕ = c.self.inside.history.cap - (c.self.inside.history.len + owed (slice_set s.entries i c.begins.result)) in
+    let n : ℕ = c.self.inside.history.cap - (c.self.inside.history.len + owed (slice_set s.states i c.begins.result)) in
     omega arith
 
 pub returns-clause-index : goal.returns-clause-index
 returns-clause-index c =
-    let s : Index = record { layout = c.self.inside.memory.layout; generation = c.self.inside.generation; words = c.self.inside.memory.words; entries = c.self.inside.entries.items; base = c.self.inside.base; history = c.self.inside.history.items; spare = 0 } in
+    let s = index_with c.self.inside 0 in
     let i = c.args.party in
-    let callers = ap (λ (v : Index). v.layout.callers) c.self.view_is in
-    let lt = c.requires.party in
-    let made : c.machine-machine.result ≡ machine_of (view_of s i) c.args.call =
-    c.machine-machine.ensures.machine ∙ ap (λ (l : Layout). machine_of (record { layout = l; generation = s.generation; caller = i }) c.args.call) c.layout.ensures.layout in
-    let begun = begins s i c.index.result.now c.begins.result c.args.call c.machine-machine.result c.len-since.result c.self.invariant.0 (omega (arith, c.self.invariant.0.callers, callers, lt)) c.index.ensures
-    (none_of c.index.result.now.machine (sym c.is_some.ensures ∙ c.if-is_some.false)) made c.machine-machine.ensures.sound (c.len-since.ensures ∙ c.self.inside.history.ok.0) c.begins.ensures in
+    let begun = begun_at c in
     let owing = begun.owing in
     let was = ap (λ (v : Index). v.spare) c.self.view_is in
     let room = c.self.invariant.1 in
     let wanted = c.requires.spare in
-    let n : ℕ = c.self.inside.history.cap - (c.self.inside.history.len + owed (slice_set s.entries i c.begins.result)) in
+    let n : ℕ = c.self.inside.history.cap - (c.self.inside.history.len + owed (slice_set s.states i c.begins.result)) in
     subst IsIndex (sym (begun.same n)) (begun.kept n)
+
+pub returns-then-is_some-clause-before : goal.returns-then-is_some-clause-before
+returns-then-is_some-clause-before c = subst IsIndex c.self.view_is (respare _ _ c.self.invariant.0)
+
+pub returns-clause-before : goal.returns-clause-before
+returns-clause-before c = subst IsIndex c.self.view_is (respare _ _ c.self.invariant.0)

@@ -17,165 +17,167 @@ use Rattle.node_ops.specs.RunningSteps.{running_call, running_left, running_asks
 use Rattle.index_law.specs.Worlds.{facts}
 use Rattle.index_law.specs.Laws.{IsLegal}
 use Rattle.index_law.specs.Weights.{AddsName, RisesBy, weight_sum}
-use Rattle.index_core.specs.declared.entry.Entry.{Entry}
-use Rattle.index_core.specs.declared.entry.Stepped.{Stepped}
+use Rattle.index_core.specs.declared.party.PartyState.{PartyState}
+use Rattle.index_core.specs.declared.party.Stepped.{Stepped}
 use Rattle.index_core.specs.Answers.{SaysOf}
-use Rattle.index_core.specs.Entries.{stepped_of, owed}
+use Rattle.index_core.specs.PartyStates.{stepped_of, owed}
+use Rattle.index_core.specs.Cores.{index_with}
 use Rattle.index_core.specs.Indexes.{Index, IsIndex, world, told, stepped_index, MakesCall}
 use Rattle.index_core.proofs.Answering.{says_of}
 use Rattle.index_core.proofs.Lists.{within, read_is}
-use Rattle.index_core.proofs.Reading.{reads, leaves}
+use Rattle.index_core.proofs.Reading.{Reads, reads, Leaves, leaves}
 use Rattle.index_core.proofs.Stepping.{count_room}
 use Rattle.index_core.proofs.index.Core.step.Goals as goal
 
-pub index-entry-requires : goal.index-entry-requires
-index-entry-requires g c =
-    let s : Index = record { layout = c.self.inside.memory.layout; generation = c.self.inside.generation; words = c.self.inside.memory.words; entries = c.self.inside.entries.items; base = c.self.inside.base; history = c.self.inside.history.items; spare = 0 } in
+pub index-state-requires : goal.index-state-requires
+index-state-requires g c =
+    let s = index_with c.self.inside 0 in
     let i = c.args.party in
     let flies = c.requires.flies in
-    let e = flies.entry in
-    let there = ap (λ (v : Index). get_elem? v.entries i) c.self.view_is ∙ flies.there in
-    omega (arith, within s.entries i e there, c.self.inside.entries.ok.0)
+    let e = flies.state in
+    let there = ap (λ (v : Index). get_elem? v.states i) c.self.view_is ∙ flies.there in
+    omega (arith, within s.states i e there, c.self.inside.states.ok.0)
 
 pub index_mut-requires : goal.index_mut-requires
 index_mut-requires g c =
-    let s : Index = record { layout = c.self.inside.memory.layout; generation = c.self.inside.generation; words = c.self.inside.memory.words; entries = c.self.inside.entries.items; base = c.self.inside.base; history = c.self.inside.history.items; spare = 0 } in
+    let s = index_with c.self.inside 0 in
     let i = c.args.party in
     let flies = c.requires.flies in
-    let e = flies.entry in
-    let there = ap (λ (v : Index). get_elem? v.entries i) c.self.view_is ∙ flies.there in
-    omega (arith, within s.entries i e there, c.self.inside.entries.ok.0)
+    let e = flies.state in
+    let there = ap (λ (v : Index). get_elem? v.states i) c.self.view_is ∙ flies.there in
+    omega (arith, within s.states i e there, c.self.inside.states.ok.0)
 
 pub unreachable-requires : goal.unreachable-requires
 unreachable-requires g c =
-    let s : Index = record { layout = c.self.inside.memory.layout; generation = c.self.inside.generation; words = c.self.inside.memory.words; entries = c.self.inside.entries.items; base = c.self.inside.base; history = c.self.inside.history.items; spare = 0 } in
+    let s = index_with c.self.inside 0 in
     let i = c.args.party in
     let flies = c.requires.flies in
-    let e = flies.entry in
-    let there = ap (λ (v : Index). get_elem? v.entries i) c.self.view_is ∙ flies.there in
-    let read = read_is s.entries i e c.index-entry.result.now there c.index-entry.ensures in
-    c.in_default.not-Some flies.machine (ap (λ (d : Entry). d.machine) read ∙ flies.flies)
+    let e = flies.state in
+    let there = ap (λ (v : Index). get_elem? v.states i) c.self.view_is ∙ flies.there in
+    let read = read_is s.states i e c.index-state.result.now there c.index-state.ensures in
+    c.in_default.not-Some flies.machine (ap (λ (d : PartyState). d.machine) read ∙ flies.flies)
 
 pub action-action-requires : goal.action-action-requires
 action-action-requires g c =
-    let s : Index = record { layout = c.self.inside.memory.layout; generation = c.self.inside.generation; words = c.self.inside.memory.words; entries = c.self.inside.entries.items; base = c.self.inside.base; history = c.self.inside.history.items; spare = 0 } in
+    let s = index_with c.self.inside 0 in
     let i = c.args.party in
     let flies = c.requires.flies in
-    let e = flies.entry in
+    let e = flies.state in
     let m = flies.machine in
-    let small = c.self.inside.history.small in
-    let at = reads s c.args.self.now i flies c.index-entry.result.now c.in-Some.machine (ap (λ (v : Index). v.entries) c.self.view_is) c.self.invariant.0 (omega (arith, c.self.inside.history.ok.0, c.self.inside.history.ok.1, small)) c.index-entry.ensures c.in-Some.is in
+    let at = reads s c.args.self.now i flies c.index-state.result.now c.in-Some.machine (ap (λ (v : Index). v.states) c.self.view_is) c.self.invariant.0 c.index-state.ensures c.in-Some.is in
     subst IsRunning (sym at.same) at.facts.fits
 
 pub counts-counts-requires : goal.counts-counts-requires
 counts-counts-requires g c =
-    let s : Index = record { layout = c.self.inside.memory.layout; generation = c.self.inside.generation; words = c.self.inside.memory.words; entries = c.self.inside.entries.items; base = c.self.inside.base; history = c.self.inside.history.items; spare = 0 } in
+    let s = index_with c.self.inside 0 in
     let i = c.args.party in
     let flies = c.requires.flies in
-    let e = flies.entry in
+    let e = flies.state in
     let m = flies.machine in
-    let small = c.self.inside.history.small in
-    let at = reads s c.args.self.now i flies c.index-entry.result.now c.in-Some.machine (ap (λ (v : Index). v.entries) c.self.view_is) c.self.invariant.0 (omega (arith, c.self.inside.history.ok.0, c.self.inside.history.ok.1, small)) c.index-entry.ensures c.in-Some.is in
+    let at = reads s c.args.self.now i flies c.index-state.result.now c.in-Some.machine (ap (λ (v : Index). v.states) c.self.view_is) c.self.invariant.0 c.index-state.ensures c.in-Some.is in
     subst IsRunning (sym at.same) at.facts.fits
 
 pub act-got-requires : goal.act-got-requires
 act-got-requires g c =
-    let s : Index = record { layout = c.self.inside.memory.layout; generation = c.self.inside.generation; words = c.self.inside.memory.words; entries = c.self.inside.entries.items; base = c.self.inside.base; history = c.self.inside.history.items; spare = 0 } in
+    let s = index_with c.self.inside 0 in
     let i = c.args.party in
     let flies = c.requires.flies in
-    let e = flies.entry in
+    let e = flies.state in
     let m = flies.machine in
-    let small = c.self.inside.history.small in
-    let at = reads s c.args.self.now i flies c.index-entry.result.now c.in-Some.machine (ap (λ (v : Index). v.entries) c.self.view_is) c.self.invariant.0 (omega (arith, c.self.inside.history.ok.0, c.self.inside.history.ok.1, small)) c.index-entry.ensures c.in-Some.is in
+    let at = reads s c.args.self.now i flies c.index-state.result.now c.in-Some.machine (ap (λ (v : Index). v.states) c.self.view_is) c.self.invariant.0 c.index-state.ensures c.in-Some.is in
     subst (CanAct s.layout s.words) (sym (c.action-action.ensures ∙ ap running_asks at.same)) at.facts.can
 
 pub count-requires : goal.count-requires
 count-requires g c =
-    let s : Index = record { layout = c.self.inside.memory.layout; generation = c.self.inside.generation; words = c.self.inside.memory.words; entries = c.self.inside.entries.items; base = c.self.inside.base; history = c.self.inside.history.items; spare = 0 } in
+    let s = index_with c.self.inside 0 in
     let i = c.args.party in
     let flies = c.requires.flies in
-    let e = flies.entry in
+    let e = flies.state in
     let m = flies.machine in
-    let small = c.self.inside.history.small in
-    let at = reads s c.args.self.now i flies c.index-entry.result.now c.in-Some.machine (ap (λ (v : Index). v.entries) c.self.view_is) c.self.invariant.0 (omega (arith, c.self.inside.history.ok.0, c.self.inside.history.ok.1, small)) c.index-entry.ensures c.in-Some.is in
-    count_room s i e c.index-entry.result.now m c.counts-counts.result _ _ at.there flies.flies at.read (c.counts-counts.ensures ∙ ap (λ (n : Running). counted (stage_of n)) at.same) c.self.invariant.1
+    let at = reads s c.args.self.now i flies c.index-state.result.now c.in-Some.machine (ap (λ (v : Index). v.states) c.self.view_is) c.self.invariant.0 c.index-state.ensures c.in-Some.is in
+    count_room s i e c.index-state.result.now m c.counts-counts.result _ _ at.there flies.flies at.read (c.counts-counts.ensures ∙ ap (λ (n : Running). counted (stage_of n)) at.same) c.self.invariant.1
 
 pub resume-requires : goal.resume-requires
 resume-requires g c =
-    let s : Index = record { layout = c.self.inside.memory.layout; generation = c.self.inside.generation; words = c.self.inside.memory.words; entries = c.self.inside.entries.items; base = c.self.inside.base; history = c.self.inside.history.items; spare = 0 } in
+    let s = index_with c.self.inside 0 in
     let i = c.args.party in
     let flies = c.requires.flies in
-    let e = flies.entry in
+    let e = flies.state in
     let m = flies.machine in
-    let small = c.self.inside.history.small in
-    let at = reads s c.args.self.now i flies c.index-entry.result.now c.in-Some.machine (ap (λ (v : Index). v.entries) c.self.view_is) c.self.invariant.0 (omega (arith, c.self.inside.history.ok.0, c.self.inside.history.ok.1, small)) c.index-entry.ensures c.in-Some.is in
+    let at = reads s c.args.self.now i flies c.index-state.result.now c.in-Some.machine (ap (λ (v : Index). v.states) c.self.view_is) c.self.invariant.0 c.index-state.ensures c.in-Some.is in
     let given : c.act-got.result ≡ told s m = c.act-got.ensures.got ∙ ap (got s.layout s.words) (c.action-action.ensures ∙ ap running_asks at.same) in
     subst (λ (x : Running × ℕ). running_takes x.0 x.1) (λ k. (sym at.same k, sym given k)) at.facts.takes
 
+-- what it has read, and what it has made, once it is done
+reads_at : (g : _) (c : goal.After-self-1 g) → Reads (index_with c.self.inside 0) c.args.party c.requires.flies.state c.index-state.result.now c.requires.flies.machine c.in-Some.machine
+reads_at g c =
+    reads (index_with c.self.inside 0) c.args.self.now c.args.party c.requires.flies c.index-state.result.now c.in-Some.machine (ap (λ (v : Index). v.states) c.self.view_is) c.self.invariant.0
+    c.index-state.ensures c.in-Some.is
+
+leaves_at : (g : _) (c : goal.After-self-1 g) → Leaves (index_with c.self.inside 0) c.args.party c.requires.flies.state c.requires.flies.machine c.act-got.new.self c.resume.result c.after-stepped.result.0
+    c.count.new.history.items c.self.inside.history.len c.self.inside.history.cap c.count.new.history.len c.count.new.history.cap
+leaves_at g c =
+    leaves (index_with c.self.inside 0) c.args.party c.requires.flies.state c.index-state.result.now c.requires.flies.machine c.in-Some.machine (reads_at g c) c.requires.flies.flies c.action-action.result c.act-got.new.self c.act-got.result c.resume.result c.after-stepped.result.0 c.counts-counts.result
+    c.count.new.history.items c.self.inside.history.len c.self.inside.history.cap c.count.new.history.len c.count.new.history.cap c.action-action.ensures c.act-got.ensures.row c.act-got.ensures.got c.resume.ensures.turned
+    c.after-stepped.ensures.state c.counts-counts.ensures c.count.ensures.items c.self.inside.history.ok.0 c.count.new.history.ok.0 c.count.ensures.room c.self.invariant.1
+
 pub invariant_of-self : goal.invariant_of-self
 invariant_of-self g c =
-    let s : Index = record { layout = c.self.inside.memory.layout; generation = c.self.inside.generation; words = c.self.inside.memory.words; entries = c.self.inside.entries.items; base = c.self.inside.base; history = c.self.inside.history.items; spare = 0 } in
+    let s = index_with c.self.inside 0 in
     let i = c.args.party in
     let flies = c.requires.flies in
-    let e = flies.entry in
+    let e = flies.state in
     let m = flies.machine in
-    let small = c.self.inside.history.small in
-    let at = reads s c.args.self.now i flies c.index-entry.result.now c.in-Some.machine (ap (λ (v : Index). v.entries) c.self.view_is) c.self.invariant.0 (omega (arith, c.self.inside.history.ok.0, c.self.inside.history.ok.1, small)) c.index-entry.ensures c.in-Some.is in
-    let left = leaves s i e c.index-entry.result.now m c.in-Some.machine at flies.flies c.action-action.result c.act-got.new.self c.act-got.result c.resume.result c.after-stepped.result.0 c.counts-counts.result
-    c.count.new.history.items c.self.inside.history.len c.self.inside.history.cap c.count.new.history.len c.count.new.history.cap c.action-action.ensures c.act-got.ensures.row c.act-got.ensures.got c.resume.ensures.turned
-    c.after-stepped.ensures.entry c.counts-counts.ensures c.count.ensures.items c.self.inside.history.ok.0 c.count.new.history.ok.0 c.count.ensures.room c.self.invariant.1 in
+    let at = reads_at g c in
+    let left = leaves_at g c in
     (subst IsIndex (sym (left.same 0)) (at.facts.kept 0), left.room)
 
 pub returns-clause-stepped : goal.returns-clause-stepped
 returns-clause-stepped g c =
-    let s : Index = record { layout = c.self.inside.memory.layout; generation = c.self.inside.generation; words = c.self.inside.memory.words; entries = c.self.inside.entries.items; base = c.self.inside.base; history = c.self.inside.history.items; spare = 0 } in
+    let s = index_with c.self.inside 0 in
     let i = c.args.party in
     let flies = c.requires.flies in
-    let e = flies.entry in
+    let e = flies.state in
     let m = flies.machine in
-    let small = c.self.inside.history.small in
-    let at = reads s c.args.self.now i flies c.index-entry.result.now c.in-Some.machine (ap (λ (v : Index). v.entries) c.self.view_is) c.self.invariant.0 (omega (arith, c.self.inside.history.ok.0, c.self.inside.history.ok.1, small)) c.index-entry.ensures c.in-Some.is in
-    let left = leaves s i e c.index-entry.result.now m c.in-Some.machine at flies.flies c.action-action.result c.act-got.new.self c.act-got.result c.resume.result c.after-stepped.result.0 c.counts-counts.result
-    c.count.new.history.items c.self.inside.history.len c.self.inside.history.cap c.count.new.history.len c.count.new.history.cap c.action-action.ensures c.act-got.ensures.row c.act-got.ensures.got c.resume.ensures.turned
-    c.after-stepped.ensures.entry c.counts-counts.ensures c.count.ensures.items c.self.inside.history.ok.0 c.count.new.history.ok.0 c.count.ensures.room c.self.invariant.1 in
-    let n : ℕ = c.count.new.history.cap - (c.count.new.history.len + owed (slice_set s.entries i c.after-stepped.result.0)) in
-    let new : Index = record { layout = c.act-got.new.self.layout; generation = s.generation; words = c.act-got.new.self.words; entries = slice_set s.entries i c.after-stepped.result.0; base = s.base; history = c.count.new.history.items; spare = n } in
+    let at = reads_at g c in
+    let left = leaves_at g c in
+    let n : ℕ = c.count.new.history.cap - (c.count.new.history.len + owed (slice_set s.states i c.after-stepped.result.0)) in
+    let new : Index = record { layout = c.act-got.new.self.layout; generation = s.generation; words = c.act-got.new.self.words; states = slice_set s.states i c.after-stepped.result.0; base = s.base; history = c.count.new.history.items; spare = n } in
     record {
-      entry = e;
+      state = e;
       machine = m;
       there = flies.there;
       flies = flies.flies;
       is = left.same n ∙ ap (λ (v : Index). stepped_index v i e m n) c.self.view_is;
       comes_to = c.after-stepped.ensures.stepped ∙ ap stepped_of left.turned ∙ ap (λ (v : Index). stepped_of (running_turned m (told v m))) c.self.view_is;
-      keeps_op = subst (λ (v : Index). (asked : Op) → IsOf asked m → IsOfAfter asked (running_turned m (told v m))) c.self.view_is at.facts.keeps_op;
-      keeps_call = subst (λ (v : Index). MakesCall (running_call m) (running_turned m (told v m))) c.self.view_is at.facts.keeps_call;
-      kind = subst (λ (v : Index). Step v.layout v.generation (stage_of m) (running_asks m) (told v m) (stage_after (running_turned m (told v m))) (reply_of (running_turned m (told v m)))) c.self.view_is at.facts.is_step;
-      fewer = subst (λ (v : Index). GoesBelow running_left (running_left m) (running_turned m (told v m))) c.self.view_is
-          (subst (λ (q : Running × Turn Running (Once Placed)). GoesBelow running_left (running_left q.0) q.1) (λ k. (at.same k, left.turned k)) c.resume.ensures.fewer);
       answer = subst (λ (r : Stepped). SaysOf new.layout.slots (map_of new.base) new.history e (op_in m) (running_call m).limit r) (sym (c.after-stepped.ensures.stepped ∙ ap stepped_of left.turned))
           (subst (λ (v : Index). SaysOf v.layout.slots (map_of v.base) v.history e (op_in m) (running_call m).limit (stepped_of (running_turned m (told s m)))) (sym (left.same n))
           (says_of s.layout s.generation (facts (world (stepped_index s i e m n))) e m (told s m) at.of at.sound.here (at.facts.legal n)));
-      weighs = subst (λ (q : Index × Index). RisesBy (AddsName (stage_of m) (running_asks m) (stage_after (running_turned m (told q.0 m)))) (weight_sum (world q.0)) (weight_sum (world q.1)))
-          (λ k. (c.self.view_is k, sym (left.same n) k)) (at.facts.weighs n);
-      legal = subst (λ (v : Index). IsLegal new.layout new.generation (facts (world new)) e.caller e.index e.since (stage_of m) (reply_of (running_turned m (told v m)))) c.self.view_is
-          (subst (λ (v : Index). IsLegal v.layout v.generation (facts (world v)) e.caller e.index e.since (stage_of m) (reply_of (running_turned m (told s m)))) (sym (left.same n)) (at.facts.legal n));
+      fewer = subst (λ (v : Index). GoesBelow running_left (running_left m) (running_turned m (told v m))) c.self.view_is
+          (subst (λ (q : Running × Turn Running (Once Placed)). GoesBelow running_left (running_left q.0) q.1) (λ k. (at.same k, left.turned k)) c.resume.ensures.fewer);
+      turn = record {
+        keeps_op = subst (λ (v : Index). (asked : Op) → IsOf asked m → IsOfAfter asked (running_turned m (told v m))) c.self.view_is at.facts.keeps_op;
+        keeps_call = subst (λ (v : Index). MakesCall (running_call m) (running_turned m (told v m))) c.self.view_is at.facts.keeps_call;
+        kind = subst (λ (v : Index). Step v.layout v.generation (stage_of m) (running_asks m) (told v m) (stage_after (running_turned m (told v m))) (reply_of (running_turned m (told v m)))) c.self.view_is at.facts.is_step;
+        weighs = subst (λ (q : Index × Index). RisesBy (AddsName (stage_of m) (running_asks m) (stage_after (running_turned m (told q.0 m)))) (weight_sum (world q.0)) (weight_sum (world q.1)))
+            (λ k. (c.self.view_is k, sym (left.same n) k)) (at.facts.weighs n);
+        legal = subst (λ (v : Index). IsLegal new.layout new.generation (facts (world new)) e.caller e.index e.since (stage_of m) (reply_of (running_turned m (told v m)))) c.self.view_is
+            (subst (λ (v : Index). IsLegal v.layout v.generation (facts (world v)) e.caller e.index e.since (stage_of m) (reply_of (running_turned m (told s m)))) (sym (left.same n)) (at.facts.legal n));
+      };
     }
 
 pub returns-clause-spare : goal.returns-clause-spare
 returns-clause-spare g c =
-    let s : Index = record { layout = c.self.inside.memory.layout; generation = c.self.inside.generation; words = c.self.inside.memory.words; entries = c.self.inside.entries.items; base = c.self.inside.base; history = c.self.inside.history.items; spare = 0 } in
+    let s = index_with c.self.inside 0 in
     let i = c.args.party in
     let flies = c.requires.flies in
-    let e = flies.entry in
+    let e = flies.state in
     let m = flies.machine in
-    let small = c.self.inside.history.small in
-    let at = reads s c.args.self.now i flies c.index-entry.result.now c.in-Some.machine (ap (λ (v : Index). v.entries) c.self.view_is) c.self.invariant.0 (omega (arith, c.self.inside.history.ok.0, c.self.inside.history.ok.1, small)) c.index-entry.ensures c.in-Some.is in
-    let left = leaves s i e c.index-entry.result.now m c.in-Some.machine at flies.flies c.action-action.result c.act-got.new.self c.act-got.result c.resume.result c.after-stepped.result.0 c.counts-counts.result
-    c.count.new.history.items c.self.inside.history.len c.self.inside.history.cap c.count.new.history.len c.count.new.history.cap c.action-action.ensures c.act-got.ensures.row c.act-got.ensures.got c.resume.ensures.turned
-    c.after-stepped.ensures.entry c.counts-counts.ensures c.count.ensures.items c.self.inside.history.ok.0 c.count.new.history.ok.0 c.count.ensures.room c.self.invariant.1 in
+    let at = reads_at g c in
+    let left = leaves_at g c in
     let was = ap (λ (v : Index). v.spare) c.self.view_is in
     let written = ap (λ (v : Index). length v.history) c.self.view_is in
-    let owing = ap (λ (v : Index). owed v.entries) c.self.view_is in
+    let owing = ap (λ (v : Index). owed v.states) c.self.view_is in
     let here = left.room in
     let fewer = left.spare in
     let before = c.self.invariant.1 in
@@ -184,14 +186,11 @@ returns-clause-spare g c =
 
 pub returns-clause-index : goal.returns-clause-index
 returns-clause-index g c =
-    let s : Index = record { layout = c.self.inside.memory.layout; generation = c.self.inside.generation; words = c.self.inside.memory.words; entries = c.self.inside.entries.items; base = c.self.inside.base; history = c.self.inside.history.items; spare = 0 } in
+    let s = index_with c.self.inside 0 in
     let i = c.args.party in
     let flies = c.requires.flies in
-    let e = flies.entry in
+    let e = flies.state in
     let m = flies.machine in
-    let small = c.self.inside.history.small in
-    let at = reads s c.args.self.now i flies c.index-entry.result.now c.in-Some.machine (ap (λ (v : Index). v.entries) c.self.view_is) c.self.invariant.0 (omega (arith, c.self.inside.history.ok.0, c.self.inside.history.ok.1, small)) c.index-entry.ensures c.in-Some.is in
-    let left = leaves s i e c.index-entry.result.now m c.in-Some.machine at flies.flies c.action-action.result c.act-got.new.self c.act-got.result c.resume.result c.after-stepped.result.0 c.counts-counts.result
-    c.count.new.history.items c.self.inside.history.len c.self.inside.history.cap c.count.new.history.len c.count.new.history.cap c.action-action.ensures c.act-got.ensures.row c.act-got.ensures.got c.resume.ensures.turned
-    c.after-stepped.ensures.entry c.counts-counts.ensures c.count.ensures.items c.self.inside.history.ok.0 c.count.new.history.ok.0 c.count.ensures.room c.self.invariant.1 in
+    let at = reads_at g c in
+    let left = leaves_at g c in
     subst IsIndex (sym (left.same _)) (at.facts.kept _)

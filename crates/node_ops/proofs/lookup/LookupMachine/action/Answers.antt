@@ -10,8 +10,8 @@ slot_word-requires-clause-slot c =
     let limit : c.args.self.now.call.view.layout.slots ≤ 64 = c.requires.call.view.layout.slots.1 in
     omega arith
 
-pub place-requires-in-Name-clause-within : goal.place-requires-in-Name-clause-within
-place-requires-in-Name-clause-within c =
+pub address-requires-in-Name-clause-within : goal.address-requires-in-Name-clause-within
+address-requires-in-Name-clause-within c =
     let here = subst (IsLookupAt c.args.self.now.call) c.in-Name.is c.requires.here in
     let within : c.in-Name.slot < c.args.self.now.call.view.layout.slots = comparing_within _ _ _ _ here.2 in
     let small : c.in-Name.at < 3 = here.3 in

@@ -1,4 +1,0 @@
-use Rattle.catalog_cli.proofs.tests.the_core_and_a_node_answer_as_the_plain_map.Given as goal
-
-abbrev pub ghosts-report_on_core : goal.ghosts-report_on_core
-ghosts-report_on_core g a = record { name = a.blank.name; parts = a.blank.parts }

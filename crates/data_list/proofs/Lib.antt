@@ -1,0 +1,4 @@
+pub mod WalkLaw
+pub mod StillWalk
+pub mod HopLaw
+pub mod KeyLemmas

@@ -1,0 +1,63 @@
+-- What every turn of a walk is.
+use Rattle.std.specs.Prelude.{◌≡◌, ℕ, ◌<◌, ◌≤◌, Bool, true, false, List, Option, Some, None, IfSome}
+use Rattle.pm_words.specs.declared.layout.Layout.{Layout}
+use Rattle.pm_words.specs.declared.action.Action.{Action}
+use Rattle.pm_words.specs.declared.machine.Turn.{Turn}
+use Rattle.pm_words.specs.declared.machine.Turn.TheVariants.{Go, Done}
+use Rattle.version_lock.specs.Versions.{kept_count, locked_word}
+use Rattle.data_node.specs.Spots.{Spot}
+use Rattle.data_node.specs.Lists.{IsBetween}
+use Rattle.call_stages.specs.declared.once.Once.TheVariants as once
+use Rattle.call_stages.specs.Stages.{Sees, Stage, Idle, Saw}
+use Rattle.call_stages.specs.Kinds.{Look, Told}
+use Rattle.data_list.specs.declared.key.KeyWords.{KeyWords}
+use Rattle.data_list.specs.declared.target.Next.{Next}
+use Rattle.data_list.specs.declared.target.Sighting.{Sighting}
+use Rattle.data_list.specs.declared.target.Target.{Target}
+use Rattle.data_list.specs.declared.target.Walked.{Walked}
+use Rattle.data_list.specs.declared.target.Walked.TheVariants as walked
+use Rattle.data_list.specs.declared.walk.Walk.{Walk}
+use Rattle.data_list.specs.Keys.{key_number, key_words, words_in, IsNameOf}
+use Rattle.data_list.specs.Walks.{LeadsOn, sighting_of, WasFree, IsWalk, walk_asks, walk_turned}
+use Rattle.data_list.specs.WalkStages.{is_worn_word, walk_stage, sight_in}
+
+-- What a walk saw of its target. While the version word stands, the key belongs there.
+pub record IsSighting (g : ℕ) (key : KeyWords) (seen : Sighting) : Type 0 where
+  pub free : WasFree g seen.version
+  pub live : (sight_in seen).live ≡ true
+  pub between : (s t : Spot) → Sees (sight_in seen) s t → IsBetween s t (key_number key)
+
+-- The end of the range of a node that leads there, told as a name if its words are one.
+abbrev pub Ends : Option Next → Option (List ℕ) → Type 0
+Ends None high = high ≡ None
+Ends (Some next) high = IsNameOf (words_in (key_words next.anchor)) high
+
+-- What a walk tells of its target.
+pub record IsTarget (l : Layout) (g : ℕ) (key : KeyWords) (target : Target) : Type 0 where
+  pub here : target.node < l.nodes
+  pub seen : IsSighting g key (sighting_of target)
+  pub above : key_number (key_words target.low) ≤ key_number key  -- the key isn't below its range,
+  pub below : IfSome target.next (λ next. key_number key < key_number (key_words next.anchor))  -- nor past it
+  pub next : IfSome target.next (λ next. LeadsOn l next.node)
+  pub high : Ends target.next target.high
+
+-- The last load of a walk that came to its target: a call may go on from what it saw, or ends because the node is worn.
+abbrev pub EndsAt : Layout → ℕ → Stage → Action → ℕ → ℕ → Sighting → Bool → Type 0
+EndsAt l g stage action x n seen true = Look l g stage action x Idle (Some (once.Worn n seen.version))
+EndsAt l g stage action x n seen false =
+    Look l g stage action x (Saw n seen.version (locked_word g (kept_count seen.version g)) (sight_in seen)) None
+
+-- A turn of a walk in the layout l and the generation g to this key, at this stage, whose action gave x: it is a look,
+-- and the walk that goes on is sound and has the same fields.
+abbrev pub Walks : Layout → ℕ → KeyWords → Stage → Action → ℕ → Turn Walk Walked → Type 0
+Walks l g key stage action x (Go walk) =
+    Look l g stage action x (walk_stage walk) None × IsWalk walk × (walk.layout ≡ l) × (walk.generation ≡ g) ×
+    (walk.key ≡ key)
+Walks l g key stage action x (Done (walked.Again why)) = Look l g stage action x Idle (Some (once.Again why))
+Walks l g key stage action x (Done (walked.Target target)) =
+    EndsAt l g stage action x target.node (sighting_of target) (is_worn_word target.version g) × IsTarget l g key target
+
+-- Each turn of a sound walk is a look, whatever number x it is told of those that its load may give.
+abbrev pub WalksAreLooks : Type 0
+WalksAreLooks = (walk : Walk) (x : ℕ) → IsWalk walk → Told walk.layout walk.generation (walk_asks walk) x →
+    Walks walk.layout walk.generation walk.key (walk_stage walk) (walk_asks walk) x (walk_turned walk x)

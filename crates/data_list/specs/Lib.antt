@@ -1,0 +1,6 @@
+pub mod Keys
+pub mod Walks
+pub mod WalkStages
+pub mod Hops
+pub mod Laws
+pub mod Still

@@ -1,0 +1,64 @@
+-- What a walk relies on.
+use Rattle.std.specs.Prelude.{ℕ, ◌==◌, ◌&&◌, Bool, true, if◌then◌else◌, List, [], ◌∷◌, Option, Some, None}
+use Rattle.version_lock.specs.declared.TheConstants.{LAST_COUNT}
+use Rattle.version_lock.specs.Versions.{generation_of, count_of, kept_count, locked_word}
+use Rattle.data_node.specs.Lists.{next_offset}
+use Rattle.call_stages.specs.Stages.{Sight, no_sight, Stage, Idle, Saw, Wears}
+use Rattle.data_list.specs.declared.key.KeyWords.{KeyWords}
+use Rattle.data_list.specs.declared.target.Next.{Next}
+use Rattle.data_list.specs.declared.target.Sighting.{Sighting}
+use Rattle.data_list.specs.declared.walk.Walk.{Walk}
+use Rattle.data_list.specs.declared.walk.WalkAt.{WalkAt}
+use Rattle.data_list.specs.declared.walk.WalkAt.TheVariants as at
+use Rattle.data_list.specs.Keys.{key_words}
+
+abbrev pub is_worn_word : ℕ → ℕ → Bool
+is_worn_word word generation = generation_of word == generation && count_of word == LAST_COUNT
+
+-- what was seen of a node whose version word was free
+abbrev pub saw_stage : ℕ → ℕ → ℕ → Sight → Stage
+saw_stage g n version sight =
+    if is_worn_word version g then Wears n version else Saw n version (locked_word g (kept_count version g)) sight
+
+-- of a LIVE node these words
+abbrev pub live_sight : List (ℕ × ℕ) → Sight
+live_sight seen = record { live = true; seen = seen; next = 0; beyond = [] }
+
+abbrev pub anchor_seen : KeyWords → List (ℕ × ℕ)
+anchor_seen low = (3, low.first) ∷ (4, low.second) ∷ (5, low.third) ∷ []
+
+-- and that it leads there, where these anchor words stood
+abbrev pub leading_sight : KeyWords → ℕ → List (ℕ × ℕ) → Sight
+leading_sight low next beyond = record {
+  live = true;
+  seen = (next_offset, next) ∷ anchor_seen low;
+  next = next;
+  beyond = beyond;
+}
+
+abbrev pub walk_at_stage : ℕ → ℕ → WalkAt → Stage
+walk_at_stage g n at.Version = Idle
+walk_at_stage g n (at.Status version) = saw_stage g n version no_sight
+walk_at_stage g n (at.First version) = saw_stage g n version (live_sight [])
+walk_at_stage g n (at.Second version first) = saw_stage g n version (live_sight ((3, first) ∷ []))
+walk_at_stage g n (at.Third version first second) = saw_stage g n version (live_sight ((3, first) ∷ (4, second) ∷ []))
+walk_at_stage g n (at.Next version low) = saw_stage g n version (live_sight (anchor_seen low))
+walk_at_stage g n (at.HighFirst version low next) =
+    saw_stage g n version (live_sight ((next_offset, next) ∷ anchor_seen low))
+walk_at_stage g n (at.HighSecond version low next first) =
+    saw_stage g n version (leading_sight low next ((3, first) ∷ []))
+walk_at_stage g n (at.HighThird version low next first second) =
+    saw_stage g n version (leading_sight low next ((3, first) ∷ (4, second) ∷ []))
+walk_at_stage g n at.Prev = Idle
+
+abbrev pub walk_stage : Walk → Stage
+walk_stage walk = walk_at_stage walk.generation walk.node walk.at
+
+-- what it saw of the node that it leads to, if it leads to one
+abbrev pub leads_on : KeyWords → Option Next → Sight
+leads_on low None = live_sight ((next_offset, 0) ∷ anchor_seen low)
+leads_on low (Some next) = leading_sight low next.node (anchor_seen (key_words next.anchor))
+
+-- what it saw of its target
+abbrev pub sight_in : Sighting → Sight
+sight_in seen = leads_on (key_words seen.low) seen.next

@@ -1,0 +1,277 @@
+//! Walks over rows of words that are made by hand.
+
+ghost use Rattle.std.specs.Prelude.{◌≡◌, ℕ, ◌^◌, ◌-◌};
+ghost use Rattle.pm_words.specs.Layouts.{IsLayout};
+ghost use Rattle.call_stages.specs.Kinds.{Told};
+
+use super::*;
+use cat_key::WORDS;
+use pm_words::offsets::{node, volatile};
+use pm_words::{Action, Again, Layout, Machine, Turn};
+use std::process::Abort;
+use std::test::Fail;
+use version_lock::{GENERATION_UNIT, LAST_COUNT};
+
+/// The last generation that there is, so that no version word is of a later one.
+const RUN: u64 = (1 << 24) - 1;
+
+/// Words enough for the volatile and the cached words of the row.
+const ROW: usize = 5000;
+
+/// The statuses of nodes.
+const FREE: u64 = 0;
+
+const LIVE: u64 = 1;
+
+const GONE: u64 = 2;
+
+/// A row of words from which a walk loads, and how many loads were made.
+#[derive(Drop)]
+struct Row {
+    layout: Layout,
+    words: Vec<u64>,
+    loads: u64,
+    ghost in_range: { IsLayout layout },
+}
+
+impl Row {
+    fn load(&mut self, rt: &impl Abort, action: Action) -> u64
+        ensures { self.new.layout ≡ self.old.layout }
+    {
+        let Action::Load(address) = action else {
+            panic!(rt; "a walk asks for {action:?}");
+        };
+        self.loads = self.loads.checked_add(1).expect(rt, "a count of loads");
+        let address = address as usize;
+        assert!(rt; address < self.words.len(), "{action:?}");
+        self.words[address]
+    }
+
+    fn store(&mut self, rt: &impl Abort, address: u64, word: u64)
+        ensures { self.new.layout ≡ self.old.layout }
+    {
+        let address = address as usize;
+        assert!(rt; address < self.words.len(), "{address}");
+        self.words[address] = word;
+    }
+}
+
+/// The words of a node that a walk loads.
+#[derive(Clone, Copy, Debug)]
+struct Node {
+    node: u64,
+    version: u64,
+    status: u64,
+    prev: u64,
+    anchor: [u64; WORDS],
+    next: u64,
+}
+
+fn store_node(rt: &impl Abort, row: &mut Row, of: Node)
+    ensures { row.new.layout ≡ row.old.layout }
+{
+    let layout = row.layout;
+    assert!(rt; of.node < layout.nodes(), "{of:?}");
+    let [first, second, third] = of.anchor;
+    let version = layout.node_word(of.node, node::VERSION);
+    let next = layout.node_word(of.node, node::NEXT);
+    let anchor = layout.node_word(of.node, node::ANCHOR);
+    row.store(rt, layout.cached(version), of.version);
+    row.store(rt, layout.cached(next), of.next);
+    row.store(rt, layout.cached(anchor), first);
+    row.store(rt, layout.cached(anchor + 1), second);
+    row.store(rt, layout.cached(anchor + 2), third);
+    row.store(
+        rt,
+        layout.node_volatile(of.node, volatile::STATUS),
+        of.status,
+    );
+    row.store(rt, layout.node_volatile(of.node, volatile::PREV), of.prev);
+}
+
+/// In the last generation a walk may be told any word.
+fn may_tell(layout: &Layout, action: Action, got: u64)
+    ensures { Told layout.now (2 ^ 24 - 1) action got }
+{}
+
+/// Walks to the node of a key, and counts the loads.
+fn run(rt: &impl Abort, row: &mut Row, hint: u64, key: [u64; WORDS]) -> Walked
+    ensures { row.new.layout ≡ row.old.layout }
+{
+    row.loads = 0;
+    assert!(rt; hint < row.layout.nodes(), "{hint}");
+    let mut turn = Turn::Go(Walk::new(row.layout, RUN, hint, key));
+    'turns: loop {
+        match turn {
+            Turn::Done(walked) => return walked,
+            Turn::Go(walk) => {
+                let action = walk.action();
+                let got = row.load(rt, action);
+                may_tell(&row.layout, action, got);
+                turn = walk.resume(got);
+            }
+        }
+    }
+}
+
+/// The words of a name of one letter.
+fn key(letter: u8) -> [u64; WORDS] {
+    [(letter as u64) << 56, 0, 0]
+}
+
+/// A list of the nodes 0, 2 and 1, with the anchors g and p. Node 3 was merged into node 2, and node 4 is free.
+fn three_nodes(rt: &impl Abort, words: Vec<u64>) -> Row {
+    let layout = Layout::new(5, 4, 1).expect(rt, "a layout");
+    let mut row = Row {
+        layout,
+        words,
+        loads: 0,
+    };
+    let node = |node: u64, status: u64, prev: u64, letter: u8, next: u64| Node {
+        node,
+        version: 0,
+        status,
+        prev,
+        anchor: key(letter),
+        next,
+    };
+    store_node(rt, &mut row, node(0, LIVE, 0, 0, 2));
+    store_node(rt, &mut row, node(2, LIVE, 0, b'g', 1));
+    store_node(rt, &mut row, node(1, LIVE, 2, b'p', 0));
+    store_node(rt, &mut row, node(3, GONE, 2, b'm', 1));
+    store_node(rt, &mut row, node(4, FREE, 0, b'z', 3));
+    row
+}
+
+/// A walk loads version and status of a node, the three words of its anchor, its next, and where there is one the three
+/// words of that node's anchor: 9 loads, and 6 at the last node. It leaves a GONE node after 3, a FREE one after 2, and
+/// one whose anchor is past the key after 6.
+#[test]
+fn walks_on_three_nodes(rt: HostRuntime) -> Result<(), Fail> {
+    let mut row = three_nodes(&rt, vec![in rt.alloc(); 0u64; ROW]?);
+    // The hint, the key's letter, or 0 for the zero key; the target, the letters of its bounds, its hops, and the
+    // loads.
+    let walks = [
+        (0, 0, 0, 0, b'g', 0, 9),
+        (0, b'a', 0, 0, b'g', 0, 9),
+        (0, b'g', 2, b'g', b'p', 1, 9 + 9),
+        (0, b'o', 2, b'g', b'p', 1, 9 + 9),
+        (0, b'p', 1, b'p', 0, 2, 9 + 9 + 6),
+        (2, b'h', 2, b'g', b'p', 0, 9),
+        (1, b'h', 2, b'g', b'p', 1, 6 + 9),
+        (1, b'a', 0, 0, b'g', 2, 6 + 6 + 9),
+        (3, b'h', 2, b'g', b'p', 1, 3 + 9),
+        (3, b'z', 1, b'p', 0, 2, 3 + 9 + 6),
+        (4, b'a', 0, 0, b'g', 1, 2 + 9),
+        (4, b'z', 1, b'p', 0, 3, 2 + 9 + 9 + 6),
+    ];
+    for (hint, letter, node, low, high, hops, loads) in walks {
+        let walked = run(&rt, &mut row, hint, key(letter));
+        let Walked::Target(target) = walked else {
+            panic!(rt; "{hint} {letter}");
+        };
+        assert_eq!(rt; target.node, node, "{hint} {letter}");
+        assert_eq!(rt; target.version, 0, "{hint} {letter}");
+        assert_eq!(rt; target.low, key(low), "{hint} {letter}");
+        assert_eq!(rt; target.hops, hops, "{hint} {letter}");
+        let end = match target.high {
+            None => 0,
+            Some(end) => end.byte(0),
+        };
+        assert_eq!(rt; end, high, "{hint} {letter}");
+        assert_eq!(rt; row.loads, loads, "{hint} {letter}");
+    }
+    Ok(())
+}
+
+/// Node 2 has other words: what a walk to this letter from node 0 tells then, and by how many loads.
+fn with_node_2(rt: &impl Abort, words: Vec<u64>, of: Node, letter: u8, walked: Walked, loads: u64) {
+    let mut row = three_nodes(rt, words);
+    store_node(rt, &mut row, of);
+    let told = run(rt, &mut row, 0, key(letter));
+    assert_eq!(rt; told, walked, "{of:?}");
+    assert_eq!(rt; row.loads, loads, "{of:?}");
+}
+
+#[test]
+fn locked_worn_and_nameless_nodes_on_the_way(rt: HostRuntime) -> Result<(), Fail> {
+    let node = Node {
+        node: 2,
+        version: 0,
+        status: LIVE,
+        prev: 0,
+        anchor: key(b'g'),
+        next: 1,
+    };
+    let locked = Node {
+        version: RUN * GENERATION_UNIT + 7,
+        ..node
+    };
+    let word = locked.version;
+    let answer = Walked::Again(Again::Locked { node: 2, word });
+    with_node_2(
+        &rt,
+        vec![in rt.alloc(); 0u64; ROW]?,
+        locked,
+        b'z',
+        answer,
+        9 + 1,
+    );
+    // A worn node is passed.
+    let worn = Node {
+        version: RUN * GENERATION_UNIT + 2 * LAST_COUNT,
+        ..node
+    };
+    let last = Target {
+        node: 1,
+        version: 0,
+        low: key(b'p'),
+        high: None,
+        hops: 2,
+        next: None,
+    };
+    with_node_2(
+        &rt,
+        vec![in rt.alloc(); 0u64; ROW]?,
+        worn,
+        b'z',
+        Walked::Target(last),
+        9 + 9 + 6,
+    );
+    // The words of its anchor are being stored: a byte stands behind a zero.
+    let nameless = Node {
+        anchor: [0x67 << 56, 0, 1],
+        ..node
+    };
+    let first = Target {
+        node: 0,
+        version: 0,
+        low: [0; WORDS],
+        high: None,
+        hops: 0,
+        next: Some(Next {
+            node: 2,
+            anchor: nameless.anchor,
+        }),
+    };
+    with_node_2(
+        &rt,
+        vec![in rt.alloc(); 0u64; ROW]?,
+        nameless,
+        b'a',
+        Walked::Target(first),
+        9,
+    );
+    // It leads to itself: each hop after the first comes there again, until there are twice as many as nodes.
+    let circle = Node { next: 2, ..node };
+    let answer = Walked::Again(Again::Hops { count: 10 });
+    with_node_2(
+        &rt,
+        vec![in rt.alloc(); 0u64; ROW]?,
+        circle,
+        b'z',
+        answer,
+        10 * 9,
+    );
+    Ok(())
+}

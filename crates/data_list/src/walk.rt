@@ -1,0 +1,344 @@
+//! The walk as a machine. At each node it makes these loads, in this order, one in each state:
+//!
+//! | State | Loads | Then |
+//! |---|---|---|
+//! | `Version` | the version word | it gives up where that is locked |
+//! | `Status` | the status | GONE: `Prev`; FREE: a hop to node 0 |
+//! | `First`, `Second`, `Third` | the anchor, word by word | where the key is below it: `Prev` |
+//! | `Next` | the number of the next node | where there is none, this is the target |
+//! | `HighFirst`, `HighSecond`, `HighThird` | the next node's anchor, word by word | where the key is below it, this is
+//! the target, else a hop to the next node |
+//! | `Prev` | the node before, or the one into which a GONE node was merged | a hop there |
+//!
+//! A hop begins anew at `Version` of the other node, and nothing that was loaded before it is relied on. A number that
+//! is none of a node leads to node 0.
+
+ghost use Rattle.std.specs.Prelude.{◌≡◌, ℕ, ◌+◌, ◌*◌, ◌^◌, ◌<◌, ◌≤◌};
+
+use crate::key::KeyWords;
+use crate::target::{Next, Target, Walked};
+use cat_key::WORDS;
+use pm_words::offsets::{node, volatile};
+use pm_words::{Action, Again, Layout, Machine, Turn};
+use version_lock::is_free;
+
+/// The status of a node that is in use.
+const LIVE: u64 = 1;
+
+/// The status of a node that was merged into another.
+const GONE: u64 = 2;
+
+/// A walk: it goes from node to node until it is at the one in whose range its key lies.
+#[derive(Clone, Copy)]
+pub struct Walk {
+    pub layout: Layout,
+    pub generation: u64,
+    pub key: KeyWords,
+    pub node: u64,
+    pub hops: u64,
+    pub at: WalkAt,
+}
+
+/// What it loads next.
+#[derive(Clone, Copy)]
+pub enum WalkAt {
+    Version,
+    Status {
+        version: u64,
+    },
+    /// The anchor, word by word.
+    First {
+        version: u64,
+    },
+    Second {
+        version: u64,
+        first: u64,
+    },
+    Third {
+        version: u64,
+        first: u64,
+        second: u64,
+    },
+    Next {
+        version: u64,
+        low: KeyWords,
+    },
+    /// The anchor of the next node, word by word.
+    HighFirst {
+        version: u64,
+        low: KeyWords,
+        next: u64,
+    },
+    HighSecond {
+        version: u64,
+        low: KeyWords,
+        next: u64,
+        first: u64,
+    },
+    HighThird {
+        version: u64,
+        low: KeyWords,
+        next: u64,
+        first: u64,
+        second: u64,
+    },
+    /// The node before, to which it goes.
+    Prev,
+}
+
+impl Machine for Walk {
+    ghost use Rattle.data_list.specs.Walks.{IsWalk, walk_asks, walk_turned, walk_takes, walk_left};
+
+    type Answer = Walked;
+
+    ghost fits = { IsWalk };
+
+    ghost asks = { walk_asks };
+
+    ghost turned = { walk_turned };
+
+    ghost takes = { walk_takes };
+
+    ghost left = { walk_left };
+
+    fn action(&self) -> Action {
+        Action::Load(match self.at {
+            WalkAt::Version => self.address(self.node, node::VERSION),
+            WalkAt::Status { .. } => self.layout.node_volatile(self.node, volatile::STATUS),
+            WalkAt::First { .. } => self.address(self.node, node::ANCHOR),
+            WalkAt::Second { .. } => self.address(self.node, node::ANCHOR + 1),
+            WalkAt::Third { .. } => self.address(self.node, node::ANCHOR + 2),
+            WalkAt::Next { .. } => self.address(self.node, node::NEXT),
+            WalkAt::HighFirst { next, .. } => self.address(next, node::ANCHOR),
+            WalkAt::HighSecond { next, .. } => self.address(next, node::ANCHOR + 1),
+            WalkAt::HighThird { next, .. } => self.address(next, node::ANCHOR + 2),
+            WalkAt::Prev => self.layout.node_volatile(self.node, volatile::PREV),
+        })
+    }
+
+    fn resume(self, got: u64) -> Turn<Walk, Walked> {
+        match self.at {
+            WalkAt::Version => self.saw_version(got),
+            WalkAt::Status { version } => self.saw_status(version, got),
+            WalkAt::First { version } => self.loads_at(WalkAt::Second {
+                version,
+                first: got,
+            }),
+            WalkAt::Second { version, first } => self.loads_at(WalkAt::Third {
+                version,
+                first,
+                second: got,
+            }),
+            WalkAt::Third {
+                version,
+                first,
+                second,
+            } => self.saw_anchor(
+                version,
+                KeyWords {
+                    first,
+                    second,
+                    third: got,
+                },
+            ),
+            WalkAt::Next { version, low } => self.saw_next(version, low, got),
+            WalkAt::HighFirst { version, low, next } => self.loads_at(WalkAt::HighSecond {
+                version,
+                low,
+                next,
+                first: got,
+            }),
+            WalkAt::HighSecond {
+                version,
+                low,
+                next,
+                first,
+            } => self.loads_at(WalkAt::HighThird {
+                version,
+                low,
+                next,
+                first,
+                second: got,
+            }),
+            WalkAt::HighThird {
+                version,
+                low,
+                next,
+                first,
+                second,
+            } => self.saw_high(
+                version,
+                low,
+                next,
+                KeyWords {
+                    first,
+                    second,
+                    third: got,
+                },
+            ),
+            WalkAt::Prev => self.hops_to(got),
+        }
+    }
+}
+
+impl Walk {
+    ghost use Rattle.std.specs.Prelude.{◌≡◌, ℕ, ◌+◌, ◌*◌, ◌^◌, ◌<◌, ◌≤◌};
+    ghost use Rattle.pm_words.specs.Layouts.{IsLayout};
+    ghost use Rattle.pm_words.specs.Locations.{node_words};
+    ghost use Rattle.call_stages.specs.Kinds.{word_address};
+    ghost use Rattle.data_list.specs.Keys.{key_words};
+    ghost use Rattle.data_list.specs.Walks.{IsWalk, walk_from, target, loads_at, hops_to, saw_version, saw_status};
+    ghost use Rattle.data_list.specs.Walks.{saw_anchor, saw_next, saw_high};
+
+    /// A walk to the node of a key, in this generation, that begins at the node `hint`.
+    pub fn new(layout: Layout, generation: u64, hint: u64, key: [u64; WORDS]) -> Walk
+        requires layout { IsLayout layout }
+        requires hint { hint < layout.nodes }
+        ensures new { result ≡ walk_from layout generation hint (key_words key) }
+        ensures sound { IsWalk result }
+    {
+        Walk {
+            layout,
+            generation,
+            key: KeyWords::of(key),
+            node: hint,
+            hops: 0,
+            at: WalkAt::Version,
+        }
+    }
+
+    /// The node that it is at.
+    pub fn node(&self) -> u64
+        ensures { result ≡ self.now.node }
+    {
+        self.node
+    }
+
+    /// How many hops it has made.
+    pub fn hops(&self) -> u64
+        ensures { result ≡ self.now.hops }
+    {
+        self.hops
+    }
+
+    fn address(&self, node: u64, offset: u64) -> u64
+        requires layout { IsLayout self.now.layout }
+        requires node { node < self.now.layout.nodes }
+        requires within { offset < node_words self.now.layout }
+        ensures { result ≡ word_address self.now.layout node offset }
+    {
+        self.layout.cached(self.layout.node_word(node, offset))
+    }
+
+    /// It goes on there.
+    fn loads_at(self, at: WalkAt) -> Turn<Walk, Walked>
+        ensures { result ≡ loads_at self at }
+    {
+        Turn::Go(Walk { at, ..self })
+    }
+
+    /// It goes on at this node, or at node 0 where there is none of this number.
+    fn hops_to(self, node: u64) -> Turn<Walk, Walked>
+        requires layout { IsLayout self.layout }
+        requires hops { self.hops < 2 * self.layout.nodes }
+        ensures { result ≡ hops_to self node }
+    {
+        let nodes = self.layout.nodes();
+        let hops = self.hops + 1;
+        if hops < 2 * nodes {
+            Turn::Go(Walk {
+                node: if node < nodes { node } else { 0 },
+                hops,
+                at: WalkAt::Version,
+                ..self
+            })
+        } else {
+            Turn::Done(Walked::Again(Again::Hops { count: hops }))
+        }
+    }
+
+    /// The node that it is at is its target.
+    fn is_at_target(self, version: u64, low: KeyWords, next: Option<Next>) -> Turn<Walk, Walked>
+        ensures { result ≡ target self version low next }
+    {
+        let high = match next {
+            Some(next) => KeyWords::of(next.anchor).name(),
+            None => None,
+        };
+        Turn::Done(Walked::Target(Target {
+            node: self.node,
+            version,
+            low: low.words(),
+            high,
+            hops: self.hops,
+            next,
+        }))
+    }
+
+    fn saw_version(self, word: u64) -> Turn<Walk, Walked>
+        ensures { result ≡ saw_version self word }
+    {
+        if is_free(word, self.generation) {
+            self.loads_at(WalkAt::Status { version: word })
+        } else {
+            Turn::Done(Walked::Again(Again::Locked {
+                node: self.node,
+                word,
+            }))
+        }
+    }
+
+    fn saw_status(self, version: u64, status: u64) -> Turn<Walk, Walked>
+        requires layout { IsLayout self.layout }
+        requires hops { self.hops < 2 * self.layout.nodes }
+        ensures { result ≡ saw_status self version status }
+    {
+        if status == LIVE {
+            self.loads_at(WalkAt::First { version })
+        } else if status == GONE {
+            self.loads_at(WalkAt::Prev)
+        } else {
+            self.hops_to(0)
+        }
+    }
+
+    fn saw_anchor(self, version: u64, low: KeyWords) -> Turn<Walk, Walked>
+        ensures { result ≡ saw_anchor self version low }
+    {
+        if self.key.is_below(low) {
+            self.loads_at(WalkAt::Prev)
+        } else {
+            self.loads_at(WalkAt::Next { version, low })
+        }
+    }
+
+    fn saw_next(self, version: u64, low: KeyWords, next: u64) -> Turn<Walk, Walked>
+        requires layout { IsLayout self.layout }
+        requires hops { self.hops < 2 * self.layout.nodes }
+        ensures { result ≡ saw_next self version low next }
+    {
+        if next == 0 {
+            self.is_at_target(version, low, None)
+        } else if next < self.layout.nodes() {
+            self.loads_at(WalkAt::HighFirst { version, low, next })
+        } else {
+            self.hops_to(0)
+        }
+    }
+
+    fn saw_high(self, version: u64, low: KeyWords, next: u64, high: KeyWords) -> Turn<Walk, Walked>
+        requires layout { IsLayout self.layout }
+        requires hops { self.hops < 2 * self.layout.nodes }
+        ensures { result ≡ saw_high self version low next high }
+    {
+        if self.key.is_below(high) {
+            let next = Next {
+                node: next,
+                anchor: high.words(),
+            };
+            self.is_at_target(version, low, Some(next))
+        } else {
+            self.hops_to(next)
+        }
+    }
+}

@@ -1,0 +1,258 @@
+-- The laws on parties and their machines.
+use Rattle.std.proofs.Common.{◌≡◌, ℕ, map, refl, sym, ap, ◌∙◌, subst, arith, ◌+◌, ◌≤◌, ⊎_elim, List, length, ◌≢◌, set}
+use Rattle.std.specs.Prelude.{Option, Some, None, IfSome}
+use mathlib.Core.Option.{some}
+use lib.ListN.{get_elem?, length-set}
+use Rattle.cat_history.specs.Records.{change_of}
+use Rattle.cat_history.specs.declared.op.Change.{Change}
+use Rattle.pm_words.specs.declared.layout.Layout.{Layout}
+use Rattle.pm_words.specs.declared.machine.Turn.{Turn}
+use Rattle.pm_words.specs.declared.machine.Turn.TheVariants.{Go, Done}
+use Rattle.call_stages.specs.declared.once.Once.{Once}
+use Rattle.call_stages.specs.declared.once.Once.TheVariants as once
+use Rattle.call_stages.specs.declared.once.Placed.{Placed}
+use Rattle.call_stages.specs.Stages.{Idle, counted, placed_in}
+use Rattle.node_ops.specs.declared.running.Running.{Running}
+use Rattle.node_ops.specs.Asked.{IsOf, IsOfAfter, op_in}
+use Rattle.node_ops.specs.RunningSteps.{running_asks, running_turned, running_call, Sound}
+use Rattle.node_ops.specs.CallStages.{stage_of, reply_of}
+use Rattle.node_ops.proofs.CallLaw.{turns_are_steps}
+use Rattle.index_law.specs.Worlds.{Party, World, facts}
+use Rattle.index_law.specs.Lawful.{Sure, Lawful}
+use Rattle.index_law.specs.Laws.{IsAtRest, IsWithin}
+use Rattle.index_law.proofs.Actions.{may_name, zero_told}
+use Rattle.index_law.proofs.Own.{allow_law, sure_within}
+use Rattle.index_law.proofs.Parties.{at_set, set_here}
+use Rattle.index_law.proofs.Weights.{swap_weighs, idle_weighs}
+use Rattle.index_law.proofs.Starts.{idle_law, rest_law, swap_law}
+use Rattle.index_core.specs.declared.party.CoreCall.{CoreCall}
+use Rattle.index_core.specs.declared.party.CoreCall.TheVariants as call
+use Rattle.index_core.specs.declared.party.PartyState.{PartyState}
+use Rattle.index_core.specs.CoreCalls.{machine_of}
+use Rattle.index_core.specs.PartyStates.{IsPartyState, state_after, state_with, machine_stage, party_of}
+use Rattle.index_core.specs.Indexes.{Index, IsIndex, world, told, view_of, started_index, stepped_index}
+use Rattle.index_core.specs.MachineLaws.{IsReady, ReadyAfter, MachineKeeps, BeginKeeps, FirstIsReady, IdleKeep, place_told, place_now, place_next, PlacesFollow}
+use Rattle.cat_history.specs.declared.op.Change.TheVariants as change
+use Rattle.cat_history.specs.declared.op.Op.{Op}
+use Rattle.cat_history.specs.declared.op.Op.TheVariants as op
+use Rattle.pm_words.specs.declared.action.Action.{Action}
+use Rattle.call_stages.specs.Stages.{pending_in}
+use Rattle.node_ops.specs.CallStages.{stage_after}
+use Rattle.node_ops.proofs.OpLaw.{op_told, pends_own_change}
+use Rattle.index_law.specs.Weights.{AddsName, RisesBy, weight_sum}
+use Rattle.index_core.specs.Weights.{added_if}
+use Rattle.index_core.specs.MachineLaws.{IdleWeigh, shows, put_shows, showing, showing_after}
+use Rattle.index_core.proofs.Shown.{new_if, told_new, step_shows, adds_shows}
+use Rattle.index_core.proofs.Answering.{says_of}
+use Rattle.index_core.proofs.Lists.{map_from, map_there, map_set, set_twice}
+use Rattle.index_core.proofs.Stepping.{step_facts, start_keeps, machine_idle}
+use Rattle.node_ops.specs.Endings.{GoesOn}
+use Rattle.node_ops.proofs.Endings.{turns_keep_place, last_counts_nothing}
+use Rattle.index_core.proofs.Endings.{EndsWith, ends_with}
+
+-- a machine that is in flight in an index is ready for its next step
+ready : (s : Index) (i : ℕ) (e : PartyState) (m : Running) → IsIndex s → get_elem? s.states i ≡ some e → e.machine ≡ Some m → IsReady s.layout s.generation m
+ready s i e m is there flies =
+    let own = is.states i e there in
+    let sound : Sound s.layout s.generation m = subst (λ (o : Option Running). IfSome o (Sound s.layout s.generation)) flies own.machine in
+    let known : Sure s.layout s.generation (facts (world s)) e.caller e.index e.since (stage_of m) =
+    subst (Sure s.layout s.generation (facts (world s)) e.caller e.index e.since) (ap machine_stage flies) (is.lawful.sure i (party_of e) (map_there party_of s.states i e there)) in
+    let a = running_asks m in
+    let first = turns_are_steps s.layout s.generation m 0 sound (zero_told s.layout s.generation a) in
+    let allowed = allow_law s.layout s.generation (stage_of m) a 0 _ _ (sure_within s.layout s.generation (facts (world s)) e.caller e.index e.since (stage_of m) known) first in
+    record { sound = sound; names = may_name s.layout (stage_of m) a allowed }
+
+-- a machine before its first action is ready for it
+ready_idle : (l : Layout) (g : ℕ) (m : Running) → Sound l g m → stage_of m ≡ Idle → IsReady l g m
+ready_idle l g m sound idle =
+    let a = running_asks m in
+    let first = turns_are_steps l g m 0 sound (zero_told l g a) in
+    let allowed = allow_law l g (stage_of m) a 0 _ _ (subst (IsWithin l) (sym idle) tt) first in
+    record { sound = sound; names = may_name l (stage_of m) a allowed }
+
+-- a put that shows a new name goes on to, until it is answered so
+fades : (o : Op) (shown : ℕ) (turn : Turn Running (Once Placed)) → IsOfAfter o turn → shown ≤ shows (stage_after turn) + told_new (reply_of turn) → put_shows o shown ≤ showing_after o turn
+fades (op.Put name value) shown (Go next) of less =
+    let same : put_shows (op.Put name value) (shows (stage_of next)) ≡ put_shows (op_in next) (shows (stage_of next)) = ap (λ (o : Op). put_shows o (shows (stage_of next))) (sym (op_told (op.Put name value) next of)) in
+    omega arith
+fades (op.Put name value) shown (Done (once.Done placed)) of less = at placed.old less
+  where
+    at : (old : Option ℕ) → shown ≤ 0 + new_if old → shown ≤ added_if (op.Put name value) old
+    at None less = omega arith
+    at (Some value) less = omega arith
+fades (op.Put name value) shown (Done (once.Spent clock)) of less = omega arith
+fades (op.Put name value) shown (Done (once.Worn node word)) of less = omega arith
+fades (op.Put name value) shown (Done (once.Again why)) of less = omega arith
+fades (op.Get name) shown turn of less = omega arith
+fades (op.Del name) shown turn of less = omega arith
+
+asks_put : (o : Op) (name : List ℕ) (value n : ℕ) → change_of o ≡ Some (change.Put name value) → put_shows o n ≡ n
+asks_put (op.Put _ _) name value n asks = refl
+asks_put (op.Get _) name value n asks = absurd (cc)
+asks_put (op.Del _) name value n asks = absurd (cc)
+
+-- the store by which a put adds a name is the first that shows it
+rises : (m : Running) (a : Action) (turn : Turn Running (Once Placed)) → IsOfAfter (op_in m) turn → AddsName (stage_of m) a (stage_after turn) → (put_shows (op_in m) (shows (stage_of m)) ≡ 0) × (showing_after (op_in m) turn ≡ 1)
+rises m a (Go next) of adds =
+    let both = adds_shows (stage_of m) a (stage_of next) adds in
+    let pends = pends_own_change (op_in m) next (change.Put adds.name adds.value) of (ap pending_in adds.is ∙ adds.shows) in
+    let told : op_in next ≡ op_in m = op_told (op_in m) next of in (
+      asks_put (op_in m) adds.name adds.value (shows (stage_of m)) pends.0 ∙ both.0,
+      ap (λ (o : Op). put_shows o (shows (stage_of next))) told ∙ asks_put (op_in m) adds.name adds.value (shows (stage_of next)) pends.0 ∙ both.1,
+    )
+rises m a (Done answer) of adds = absurd (let idle = adds.is in cc)
+
+weight_on : (m : Running) (a : Action) (turn : Turn Running (Once Placed)) (before after : ℕ) → IsOfAfter (op_in m) turn → shows (stage_of m) ≤ shows (stage_after turn) + told_new (reply_of turn)
+    → RisesBy (AddsName (stage_of m) a (stage_after turn)) before after → after + showing (Some m) ≤ before + showing_after (op_in m) turn
+weight_on m a turn before after of less rise = ⊎_elim
+    (λ (same : after ≤ before). let on = fades (op_in m) (shows (stage_of m)) turn of less in omega arith)
+    (λ (more : AddsName (stage_of m) a (stage_after turn) × (after ≤ before + 1)). let up = rises m a turn of more.0 in let none = up.0 in let one = up.1 in let most = more.1 in omega arith)
+    rise
+
+after_caller : (e : PartyState) (turn : Turn Running (Once Placed)) → (state_after e turn).caller ≡ e.caller
+after_caller e (Go m) = refl
+after_caller e (Done answer) = refl
+
+pub machine_law : MachineKeeps
+machine_law s i e m is there flies =
+    let step = step_facts s i e m is there flies in
+    let of : IsOf (op_in m) m = subst (λ (o : Option Running). IfSome o (λ q. IsOf (op_in q) q)) flies (is.states i e there).op in
+    let new = stepped_index s i e m s.spare in
+    let turn = running_turned m (told s m) in
+    record {
+      can = step.can;
+      takes = step.takes;
+      kept = step.kept s.spare;
+      counts = step.counts;
+      says = says_of s.layout s.generation (facts (world new)) e m (told s m) of step.fits (step.legal s.spare);
+      keeps_op = step.keeps_op (op_in m) of;
+      keeps_call = step.keeps_call;
+      ready = after new (step.kept s.spare) turn (set_here s.states i (state_after e turn) e there);
+      weighs = weight_on m (running_asks m) turn (weight_sum (world s)) (weight_sum (world new)) (step.keeps_op (op_in m) of) (step_shows step.is_step) (step.weighs s.spare);
+    }
+  where
+    after : (t : Index) → IsIndex t → (turn : Turn Running (Once Placed)) → get_elem? t.states i ≡ some (state_after e turn) → ReadyAfter t.layout t.generation turn
+    after t is' (Go next) at = ready t i (state_after e (Go next)) next is' at refl
+    after t is' (Done answer) at = tt
+
+none_shown : (s : Index) (i : ℕ) (c : CoreCall) → showing (Some (machine_of (view_of s i) c)) ≡ 0
+none_shown s i (call.Put name value limit) = refl
+none_shown s i (call.Get name) = refl
+none_shown s i (call.Del name limit) = refl
+
+-- an idle party may have another index
+module _ (s : Index) (i : ℕ) (e : PartyState) (index : ℕ) (is : IsIndex s) (there : get_elem? s.states i ≡ some e) (idle : e.machine ≡ None) where
+  abbrev now : PartyState
+  now = record e { index = index }
+
+  abbrev other : Index
+  other = record s { states = set s.states i now }
+
+  none_now : (state : PartyState) (m : Running) {P : Type 0} → now ≡ state → state.machine ≡ Some m → P
+  none_now state m same flies = absurd (let both : None ≡ Some m = sym idle ∙ ap (λ (d : PartyState). d.machine) same ∙ flies in cc)
+
+  reindexed : IsIndex other
+  reindexed =
+      let there' = map_there party_of s.states i e there in
+      let lawful = swap_law (world s) i (party_of e) (party_of now) is.lawful there' (ap machine_stage idle) (ap machine_stage idle) (is.lawful.begun i (party_of e) there') in
+      let own = is.states i e there in
+      record {
+        lawful = subst (λ (parties : List Party). Lawful (record (world s) { parties = parties })) (sym (map_set party_of s.states i now)) lawful;
+        parties = length-set s.states i now ∙ is.parties;
+        states = λ j state at. ⊎_elim
+            (λ (t : (j ≡ i) × (now ≡ state)). subst (λ (k : ℕ). IsPartyState s.layout s.generation k state) (sym t.0) (subst (IsPartyState s.layout s.generation i) t.1 (record { caller = own.caller; machine = own.machine; op = own.op })))
+            (λ (t : (j ≢ i) × (get_elem? s.states j ≡ some state)). is.states j state t.1)
+            (at_set s.states i j now state at);
+        ordered = λ j place state m write at flies stands caller. ⊎_elim
+            (λ (t : (j ≡ i) × (now ≡ state)). none_now state m t.1 flies)
+            (λ (t : (j ≢ i) × (get_elem? s.states j ≡ some state)). is.ordered j place state m write t.1 flies stands caller)
+            (at_set s.states i j now state at);
+        bounded = record {
+          limits = λ j state m at flies. ⊎_elim
+              (λ (t : (j ≡ i) × (now ≡ state)). none_now state m t.1 flies)
+              (λ (t : (j ≢ i) × (get_elem? s.states j ≡ some state)). is.bounded.limits j state m t.1 flies)
+              (at_set s.states i j now state at);
+          writers = is.bounded.writers;
+          late = is.bounded.late;
+        };
+      }
+
+pub begin_law : BeginKeeps
+begin_law s i e index c is there idle here =
+    let m = machine_of (view_of s i) c in
+    let old = record e { index = index } in
+    let now = state_with old (length s.history) m in
+    let there' = map_there party_of s.states i e there in
+    let same = swap_weighs (world s) i (party_of e) (party_of now) there' (ap machine_stage idle) (machine_idle s i c) in
+    let s' : Index = record s { states = set s.states i old } in
+    let kept = start_keeps s' i old c s.spare (reindexed s i e index is there idle) (set_here s.states i old e there) idle here in
+    record {
+      kept = subst (λ (states : List PartyState). IsIndex (record s { states = states })) (set_twice s.states i old now) kept;
+      weighs = ap (λ (parties : List Party). weight_sum (record (world s) { parties = parties })) (map_set party_of s.states i now) ∙ same;
+      shows_none = none_shown s i c;
+    }
+
+pub idle_weigh : IdleWeigh
+idle_weigh s quiet = idle_weighs (world s) (λ i p at. let from = map_from party_of s.states i p at in sym (ap (λ (q : Party). q.stage) from.2) ∙ ap machine_stage (quiet i from.0 from.1))
+
+pub first_ready : FirstIsReady
+first_ready v (call.Put name value limit) here = ready_idle v.layout v.generation (machine_of v (call.Put name value limit)) (record { layout = refl; generation = refl; here = here }) refl
+first_ready v (call.Get name) here = ready_idle v.layout v.generation (machine_of v (call.Get name)) (record { layout = refl; generation = refl; here = here }) refl
+first_ready v (call.Del name limit) here = ready_idle v.layout v.generation (machine_of v (call.Del name limit)) (record { layout = refl; generation = refl; here = here }) refl
+
+-- an index with no call in flight is one with any other idle parties
+pub with_idle : IdleKeep
+with_idle s states is quiet idle =
+    let each = λ (i : ℕ) (p : Party) (at : get_elem? (map party_of s.states) i ≡ some p). let from = map_from party_of s.states i p at in sym (ap (λ (q : Party). q.stage) from.2) ∙ ap machine_stage (quiet i from.0 from.1) in
+    let rest = idle_law (world s) is.lawful each in
+    let w : World = world (record s { states = states }) in
+    let at_rest : IsAtRest w = record {
+      named = rest.named;
+      list = rest.list;
+      live = rest.live;
+      run = rest.run;
+      row = rest.row;
+      clock = rest.clock;
+      versions = rest.versions;
+      free = rest.free;
+      settled = rest.settled;
+      durable = rest.durable;
+      durable_versions = rest.durable_versions;
+      front = rest.front;
+      durable_front = rest.durable_front;
+      idle = λ i p at. let from = map_from party_of states i p at in sym (ap (λ (q : Party). q.stage) from.2) ∙ ap machine_stage (idle.idle i from.0 from.1);
+      begun = λ i p at. let from = map_from party_of states i p at in let zero_since = sym (ap (λ (q : Party). q.since) from.2) ∙ idle.begun i from.0 from.1 in omega arith;
+    } in
+    record {
+      lawful = rest_law w at_rest;
+      parties = idle.count;
+      states = λ i e at. record { caller = idle.numbers i e at; machine = subst (λ (o : Option Running). IfSome o (Sound s.layout s.generation)) (sym (idle.idle i e at)) tt; op = subst (λ (o : Option Running). IfSome o (λ m. IsOf (op_in m) m)) (sym (idle.idle i e at)) tt };
+      ordered = λ i place e m w at flies stands caller. absurd (let both : None ≡ Some m = sym (idle.idle i e at) ∙ flies in cc);
+      bounded = record {
+        limits = λ i e m at flies. absurd (let both : None ≡ Some m = sym (idle.idle i e at) ∙ flies in cc);
+        writers = is.bounded.writers;
+        late = is.bounded.late;
+      };
+    }
+
+-- a step's place, and that a step which counts had none before
+pub places_follow : PlacesFollow
+places_follow m x sound = at (running_turned m x) refl
+  where
+    on : (o : Option Change) (next : Running) → GoesOn (running_call m).view.layout (stage_of m) (running_asks m) x (stage_of next) o
+        → (placed_in (stage_of next) ≡ place_next (placed_in (stage_of m)) x o) × IfSome o (λ c. placed_in (stage_of m) ≡ None)
+    on None next goes = (goes, tt)
+    on (Some c) next goes = (goes.2, goes.1)
+
+    end : (o : Option Change) (answer : Once Placed) → EndsWith m answer → o ≡ None
+        → (place_told (change_of (op_in m)) answer ≡ place_next (placed_in (stage_of m)) x o) × IfSome o (λ c. placed_in (stage_of m) ≡ None)
+    end None (once.Done placed) ends none = (sym ends.0, tt)
+    end None (once.Spent clock) ends none = (sym ends.0, tt)
+    end None (once.Worn node word) ends none = (sym ends, tt)
+    end None (once.Again why) ends none = (sym ends.0, tt)
+    end (Some c) answer ends none = absurd (cc)
+
+    at : (turn : Turn Running (Once Placed)) → running_turned m x ≡ turn
+        → (place_now (change_of (op_in m)) turn ≡ place_next (placed_in (stage_of m)) x (counted (stage_of m))) × IfSome (counted (stage_of m)) (λ c. placed_in (stage_of m) ≡ None)
+    at (Go next) is = on (counted (stage_of m)) next (turns_keep_place m next x sound is)
+    at (Done answer) is = end (counted (stage_of m)) answer (ends_with m x answer sound is) (last_counts_nothing m x answer sound is)

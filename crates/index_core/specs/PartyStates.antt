@@ -1,0 +1,113 @@
+-- The parties of the core, each with its call in flight.
+use Rattle.std.specs.Prelude.{◌≡◌, ℕ, zero, suc, ◌+◌, ◌-◌, ◌^◌, min, List, [], ◌∷◌, ◌++◌, Option, Some, None, IfSome}
+use Rattle.pm_words.specs.declared.layout.Layout.{Layout}
+use Rattle.pm_words.specs.declared.machine.Turn.{Turn}
+use Rattle.pm_words.specs.declared.machine.Turn.TheVariants.{Go, Done}
+use Rattle.call_stages.specs.declared.once.Once.{Once}
+use Rattle.call_stages.specs.declared.once.Once.TheVariants as once
+use Rattle.call_stages.specs.declared.once.Placed.{Placed}
+use Rattle.call_stages.specs.Stages.{Stage, Idle}
+use Rattle.node_ops.specs.declared.finish.FinishAt.{FinishAt}
+use Rattle.node_ops.specs.declared.finish.FinishAt.TheVariants as finish_at
+use Rattle.node_ops.specs.declared.put.Put.{Put}
+use Rattle.node_ops.specs.declared.put.Put.TheVariants as put
+use Rattle.node_ops.specs.declared.del.Del.{Del}
+use Rattle.node_ops.specs.declared.del.Del.TheVariants as del
+use Rattle.node_ops.specs.declared.running.Running.{Running}
+use Rattle.node_ops.specs.declared.running.Running.TheVariants.{Getting, Putting, Deleting}
+use Rattle.node_ops.specs.CallStages.{stage_of}
+use Rattle.node_ops.specs.RunningSteps.{Sound}
+use Rattle.node_ops.specs.Asked.{IsOf, op_in}
+use Rattle.index_law.specs.Worlds.{Party}
+use Rattle.index_core.specs.declared.party.PartyState.{PartyState}
+use Rattle.index_core.specs.declared.party.CoreReply.TheVariants as reply
+use Rattle.index_core.specs.declared.party.Stepped.{Stepped}
+use Rattle.index_core.specs.declared.party.Stepped.TheVariants.{Going, Answered}
+
+-- What a call in flight relies on.
+abbrev pub machine_stage : Option Running → Stage
+machine_stage None = Idle
+machine_stage (Some machine) = stage_of machine
+
+-- The party as the law of the index knows it.
+abbrev pub party_of : PartyState → Party
+party_of state = record {
+  caller = state.caller;
+  index = state.index;
+  since = state.since;
+  stage = machine_stage state.machine;
+}
+
+-- It has made no call.
+abbrev pub idle_state : ℕ → PartyState
+idle_state caller = record { caller = caller; index = 0; since = 0; machine = None }
+
+-- So many of them, each at the place of its number.
+abbrev pub idle_states : ℕ → List PartyState
+idle_states zero = []
+idle_states (suc callers) = idle_states callers ++ idle_state callers ∷ []
+
+-- It begins this call, under the index that is its next.
+abbrev pub state_with : PartyState → ℕ → Running → PartyState
+state_with state since machine = record {
+  caller = state.caller;
+  index = state.index;
+  since = since;
+  machine = Some machine;
+}
+
+-- One higher, as far as 64 bits go.
+abbrev pub next_index : ℕ → ℕ
+next_index index = min (index + 1) (2 ^ 64 - 1)
+
+-- The index of a party's next call, once its call of this index is answered: one that is turned back uses up none.
+abbrev pub index_after : ℕ → Once Placed → ℕ
+index_after index (once.Again why) = index
+index_after index _ = next_index index
+
+-- One call more of the party is counted.
+abbrev pub state_counted : PartyState → PartyState
+state_counted state = record state { index = next_index state.index }
+
+-- After its call's turn.
+abbrev pub state_after : PartyState → Turn Running (Once Placed) → PartyState
+state_after state (Go machine) = record state { machine = Some machine }
+state_after state (Done answer) = record state { index = index_after state.index answer; machine = None }
+
+abbrev pub stepped_of : Turn Running (Once Placed) → Stepped
+stepped_of (Go machine) = Going
+stepped_of (Done answer) = Answered (reply.Placed answer)
+
+-- How many writes a call in flight may still place.
+abbrev finish_owes : FinishAt → ℕ
+finish_owes (finish_at.Fence fence) = 1
+finish_owes finish_at.Add = 1
+finish_owes (finish_at.Unlock place) = 0
+
+abbrev put_owes : Put → ℕ
+put_owes (put.Finishing finish) = finish_owes finish.at
+put_owes _ = 1
+
+abbrev del_owes : Del → ℕ
+del_owes (del.Finishing finish) = finish_owes finish.at
+del_owes _ = 1
+
+abbrev pub owes : Running → ℕ
+owes (Getting get) = 0
+owes (Putting put) = put_owes put
+owes (Deleting del) = del_owes del
+
+abbrev pub machine_owes : Option Running → ℕ
+machine_owes None = 0
+machine_owes (Some machine) = owes machine
+
+-- How many writes all the calls in flight may still place.
+abbrev pub owed : List PartyState → ℕ
+owed [] = 0
+owed (state ∷ states) = machine_owes state.machine + owed states
+
+-- The party stands at the place of its number.
+pub record IsPartyState (l : Layout) (g : ℕ) (i : ℕ) (state : PartyState) : Type 0 where
+  pub caller : state.caller ≡ i
+  pub machine : IfSome state.machine (Sound l g)  -- its call is one of this index
+  pub op : IfSome state.machine (λ machine. IsOf (op_in machine) machine)  -- and is made for one op

@@ -1,0 +1,163 @@
+ghost use Rattle.std.specs.Prelude.{◌≡◌, IfOk};
+ghost use Rattle.index_core.specs.PartyStates.{idle_states};
+
+use call_stages::{Once, Placed};
+use cat_key::Name;
+use node_ops::Running;
+use pm_words::{NoMemory, Turn};
+use std::alloc::Global;
+
+/// What a party calls. A put or delete is refused where the clock, loaded under the lock of its node, has reached
+/// `limit`.
+#[derive(Clone, Copy)]
+pub enum CoreCall {
+    Put { name: Name, value: u64, limit: u64 },
+    Get { name: Name },
+    Del { name: Name, limit: u64 },
+}
+
+/// A party and its call in flight, if it has one.
+#[derive(Clone, Copy)]
+pub struct PartyState {
+    /// The party's number.
+    pub caller: u64,
+    /// How many of its calls were answered, without those that were turned back. It is the index of its call in flight,
+    /// and between two calls that of its next one.
+    pub index: u64,
+    /// How long the history was as its call in flight, or else its last one, began.
+    pub since: u64,
+    /// The machine that makes its call in flight.
+    pub machine: Option<Running>,
+}
+
+/// What a call is answered.
+#[derive(Clone, Copy)]
+pub enum CoreReply {
+    /// The answer of one try of a put, a get or a delete.
+    Placed(Once<Placed>),
+}
+
+/// What one step comes to.
+#[derive(Clone, Copy)]
+pub enum Stepped {
+    Going,
+    Answered(CoreReply),
+}
+
+/// The answer of a call that is made with no other in flight.
+#[derive(Clone, Copy)]
+pub enum Whole {
+    Placed(Placed),
+    /// A put found no room: the map lacks the name, and has as many names as the node has slots.
+    Full,
+    /// The clock had reached the call's limit.
+    Spent { clock: u64 },
+    /// No more locks can be taken of the node in this run.
+    Worn { node: u64, word: u64 },
+}
+
+/// The party has a call in flight already.
+#[derive(Clone, Copy, PartialEq, Eq, Debug)]
+pub struct InFlight;
+
+impl Whole {
+    ghost use Rattle.std.specs.Prelude.{◌≡◌};
+    ghost use Rattle.index_core.specs.Lone.{whole_of_reply};
+
+    /// A call that is alone is turned back by a full node only.
+    pub(crate) fn of(reply: CoreReply) -> Whole
+        ensures { result ≡ whole_of_reply reply }
+    {
+        let CoreReply::Placed(answer) = reply;
+        match answer {
+            Once::Done(placed) => Whole::Placed(placed),
+            Once::Spent { clock } => Whole::Spent { clock },
+            Once::Worn { node, word } => Whole::Worn { node, word },
+            Once::Again(_) => Whole::Full,
+        }
+    }
+}
+
+impl PartyState {
+    ghost use Rattle.std.specs.Prelude.{◌≡◌};
+    ghost use Rattle.index_core.specs.PartyStates.{idle_state, state_with, state_after, state_counted, index_after};
+    ghost use Rattle.index_core.specs.PartyStates.{stepped_of};
+
+    /// A party that has made no call.
+    pub(crate) fn idle(caller: u64) -> PartyState
+        ensures { result ≡ idle_state caller }
+    {
+        PartyState {
+            caller,
+            index: 0,
+            since: 0,
+            machine: None,
+        }
+    }
+
+    /// It begins a call, at this length of the history.
+    pub(crate) fn begins(self, since: u64, machine: Running) -> PartyState
+        ensures { result ≡ state_with self since machine }
+    {
+        PartyState {
+            since,
+            machine: Some(machine),
+            ..self
+        }
+    }
+
+    /// The index of its next call: one that is turned back uses up none.
+    fn index_after(self, answer: Once<Placed>) -> u64
+        ensures { result ≡ index_after self.index answer }
+    {
+        match answer {
+            Once::Again(_) => self.index,
+            _ => self.index.saturating_add(1),
+        }
+    }
+
+    /// The party with one call counted more.
+    pub(crate) fn counted(self) -> PartyState
+        ensures { result ≡ state_counted self }
+    {
+        PartyState {
+            index: self.index.saturating_add(1),
+            ..self
+        }
+    }
+
+    /// The party after its call's turn, and what the step comes to.
+    pub(crate) fn after(self, turn: Turn<Running, Once<Placed>>) -> (PartyState, Stepped)
+        ensures state { result.0 ≡ state_after self turn }
+        ensures stepped { result.1 ≡ stepped_of turn }
+    {
+        match turn {
+            Turn::Go(machine) => (
+                PartyState {
+                    machine: Some(machine),
+                    ..self
+                },
+                Stepped::Going,
+            ),
+            Turn::Done(answer) => (
+                PartyState {
+                    index: self.index_after(answer),
+                    machine: None,
+                    ..self
+                },
+                Stepped::Answered(CoreReply::Placed(answer)),
+            ),
+        }
+    }
+}
+
+/// So many parties that have made no call.
+pub(crate) fn idle_states(alloc: Global, callers: u64) -> Result<Vec<PartyState>, NoMemory>
+    ensures { IfOk result (λ states. states.items ≡ idle_states callers) }
+{
+    let mut states = Vec::with_capacity(alloc, callers as usize)?;
+    for caller in 0..callers {
+        states.push(PartyState::idle(caller))?;
+    }
+    Ok(states)
+}

@@ -1,0 +1,133 @@
+-- What a step makes of the list.
+use Rattle.std.proofs.Common.{◌≡◌, ℕ, ◌+◌, ◌≤◌, ◌/◌, ◌⊎◌, inl, inr, ⊎_elim, Bool, true, false, List, refl, sym, ap, ◌∙◌, subst, arith}
+use Rattle.std.specs.Prelude.{◌||◌, Option, None}
+use Rattle.pm_words.specs.declared.layout.Layout.{Layout}
+use Rattle.pm_words.specs.declared.action.Action.{Action}
+use Rattle.data_node.specs.Lists.{next_offset, anchor_in, with_member}
+use Rattle.data_node.specs.Weights.{names_in}
+use Rattle.call_stages.specs.declared.once.Once.{Once}
+use Rattle.call_stages.specs.declared.once.Placed.{Placed}
+use Rattle.call_stages.specs.Stages.{Stage}
+use Rattle.call_stages.specs.Kinds.{below_key, Split, fills, lights, switches, glances_left, glances_fresh, drains_left, drains_fresh, trims, Merge, meets, knows_own, knows_right, copies, takes_up, puts_down, parts, gathers, joins, glances_joined, drains_joined, retires, yields, merges, from_key, Step, looks, locks, stores, commits, drains, counts, unlocks, splits, claims, publishes, leaves}
+use Rattle.index_law.specs.Facts.{Facts, map_now, range_of}
+use Rattle.index_law.specs.Lawful.{IsList, SureJoins, Sure}
+use Rattle.index_law.proofs.Past.{range_right}
+use Rattle.index_law.proofs.Splitting.{range_below}
+use Rattle.index_law.proofs.Stays.{means_less}
+use Rattle.index_law.proofs.Totals.{names_parts}
+use Rattle.data_node.proofs.NameCounts.{same_names}
+use Rattle.call_stages.specs.Stages.{Held, Grip, Gathered}
+use Rattle.index_law.specs.Shapes.{IsHalved, IsSwitch, IsMerged, IsJoin, StepShapes}
+use Rattle.index_law.specs.Worlds.{facts}
+use Rattle.index_law.proofs.Locks.{cut_now}
+use Rattle.index_law.proofs.Moves.{fact_after, split_after, merge_after, facts_step}
+
+or_true : (b : Bool) → (b || true) ≡ true
+or_true true = refl
+or_true false = refl
+
+module _ {l : Layout} {g : ℕ} (f : Facts) (caller index since : ℕ) where
+  split_shapes : {s : Stage} {a : Action} {x : ℕ} {t : Stage} → (k : Split l g s a x t) → Sure l g f caller index since s
+      → ((split_after k f).list ≡ f.list) ⊎ ((switch : IsSwitch s t) × (halved : IsHalved l f (split_after k f).list) × (halved.node ≡ switch.left.node))
+  split_shapes (fills has positive small within soils told) knows = inl refl
+  split_shapes (lights here leads) knows = inl refl
+  split_shapes (switches {left = left} {fresh = fresh} {seen = seen} {dirty = dirty} here small durable soiled cut told means) knows =
+      let is = cut_now l g f left fresh knows cut in
+      inr (
+        record { left = left; fresh = fresh; after = record left { seen = seen; dirty = dirty; hand = None }; was = refl; is = refl },
+        record {
+          node = left.node;
+          fresh = fresh.node;
+          listed = knows.at.listed;
+          unlisted = knows.at.unlisted;
+          anchor = is.anchor;
+          named = is.named;
+          inside = is.inside;
+          had = is.had;
+          full = is.full;
+          means = knows.at.settled.means;
+          half = ap (λ key. names_in l.slots (below_key (range_of l f left.node) key) (f.now left.node)) (sym is.anchored) ∙ is.half;
+          longer = λ i. with_member left.node (record { node = fresh.node; anchor = is.anchored i }) 0 f.list;
+        },
+        refl,
+      )
+  split_shapes (glances_left has learnt) knows = inl refl
+  split_shapes (glances_fresh has) knows = inl refl
+  split_shapes (drains_left has small hand cleans) knows = inl refl
+  split_shapes (drains_fresh has small hand cleans) knows = inl refl
+  split_shapes (trims here small durable soiled anchor told means) knows = inl refl
+
+  -- the names of the two nodes of a merge
+  few_names : (list : IsList l f) (h : Held) (left right : Grip) (y : ℕ) → SureJoins l g f caller index since h left right Gathered → f.now right.node next_offset ≡ y
+      → names_in l.slots (range_of l f left.node) (f.now left.node) + names_in l.slots (range_of l f right.node) (f.now right.node) ≤ l.slots / 2
+  few_names list h left right y knows on =
+      let n = left.node in
+      let r = right.node in
+      let was = knows.at.linked in
+      let both : List ℕ → Bool = λ name. range_of l f n name || range_of l f r name in
+      let a : ℕ = anchor_in (f.now r) in
+      let low : range_of l f n ≡ below_key both a = range_below l g f caller index since list left right knows.nonzero was in
+      let high : range_of l f r ≡ from_key both a = range_right l f list n y r was.listed was.leads knows.nonzero on in
+      let parts = names_parts l.slots both a (f.now n) in
+      let own = ap (λ (q : List ℕ → Bool). names_in l.slots q (f.now n)) low in
+      let moved : names_in l.slots (range_of l f r) (f.now n) ≡ names_in l.slots (from_key both a) (f.now n) = ap (λ (q : List ℕ → Bool). names_in l.slots q (f.now n)) high in
+      let same : names_in l.slots (range_of l f r) (f.now n) ≡ names_in l.slots (range_of l f r) (f.now r) =
+      same_names l.slots (range_of l f r) (f.now n) (f.now r) (map_now f)
+      (means_less l.slots both (range_of l f r) (f.now n) (map_now f) (λ name inside. ap (λ b. range_of l f n name || b) inside ∙ or_true (range_of l f n name)) was.means) was.settled.means in
+      let few = knows.at.few in
+      omega arith
+
+  merge_shapes : {s : Stage} {a : Action} {x : ℕ} {t : Stage} → (k : Merge l g s a x t) → IsList l f → Sure l g f caller index since s
+      → ((merge_after k f).list ≡ f.list) ⊎ ((join : IsJoin s t) × (merged : IsMerged l f (merge_after k f).list) × (merged.node ≡ join.left.node))
+  merge_shapes (meets here same untimed leads) list knows = inl refl
+  merge_shapes (knows_own has positive learnt) list knows = inl refl
+  merge_shapes (knows_right has positive told) list knows = inl refl
+  merge_shapes (copies has content small soils learnt means) list knows = inl refl
+  merge_shapes (takes_up has) list knows = inl refl
+  merge_shapes (puts_down has small hand cleans) list knows = inl refl
+  merge_shapes (parts next) list knows = inl refl
+  merge_shapes (gathers small durable soiled told gathered) list knows = inl refl
+  merge_shapes (joins {y = y} {h = h} {left = left} {right = right} {seen = seen} {dirty = dirty} small durable soiled next told) list knows = inr (
+    record { held = h; left = left; right = right; after = record left { seen = seen; dirty = dirty; hand = None }; was = refl; is = refl },
+    record {
+      node = left.node;
+      right = right.node;
+      listed = knows.at.linked.listed;
+      listed_right = knows.at.linked.listed_fresh;
+      leads = knows.at.linked.leads;
+      nonzero = knows.nonzero;
+      means = knows.at.linked.means;
+      together = knows.at.few;
+      few = few_names list h left right y knows (next (f.now right.node) knows.other.seen);
+      shorter = refl;
+    },
+    refl,
+  )
+  merge_shapes (glances_joined has learnt) list knows = inl refl
+  merge_shapes (drains_joined has small hand cleans) list knows = inl refl
+  merge_shapes (retires durable) list knows = inl refl
+  merge_shapes (yields next durable) list knows = inl refl
+
+  shapes : {s : Stage} {a : Action} {x : ℕ} {t : Stage} {r : Option (Once Placed)} → (k : Step l g s a x t r) → IsList l f → Sure l g f caller index since s
+      → ((fact_after k f caller index).list ≡ f.list) ⊎ (((switch : IsSwitch s t) × (halved : IsHalved l f (fact_after k f caller index).list) × (halved.node ≡ switch.left.node))
+      ⊎ ((join : IsJoin s t) × (merged : IsMerged l f (fact_after k f caller index).list) × (merged.node ≡ join.left.node)))
+  shapes (looks look) list knows = inl refl
+  shapes (locks same named live between) list knows = inl refl
+  shapes (stores has content small clean soils learnt means) list knows = inl refl
+  shapes (commits has content small clean durable soiled old about learnt means) list knows = inl refl
+  shapes (drains has small unready hand cleans) list knows = inl refl
+  shapes (counts durable ready pending unplaced) list knows = inl refl
+  shapes (unlocks next pending durable unready answers) list knows = inl refl
+  shapes (claims unplaced here same) list knows = inl refl
+  shapes (publishes next left fresh) list knows = inl refl
+  shapes (leaves next) list knows = inl refl
+  shapes (splits k) list knows = ⊎_elim (λ same. inl same) (λ cut. inr (inl cut)) (split_shapes k knows)
+  shapes (merges k) list knows = ⊎_elim (λ same. inl same) (λ one. inr (inr one)) (merge_shapes k list knows)
+
+pub step_shapes : StepShapes
+step_shapes w i p a x t r lawful there k told =
+    let l = w.layout in
+    let f = facts w in
+    let known = lawful.sure i p there in
+    let same = facts_step w.words w.base w.history p.caller p.index p.since k lawful.row lawful.list told known in
+    subst (λ (φ : Facts). (φ.list ≡ f.list) ⊎ (((switch : IsSwitch p.stage t) × (halved : IsHalved l f φ.list) × (halved.node ≡ switch.left.node)) ⊎ ((join : IsJoin p.stage t) × (merged : IsMerged l f φ.list) × (merged.node ≡ join.left.node)))) (sym same) (shapes f p.caller p.index p.since k lawful.list known)

@@ -1,0 +1,220 @@
+-- What a step does to the place that its call has, and to the list.
+use Rattle.std.proofs.Common.{◌≡◌, ◌==◌, ℕ, List, true, false, refl, sym, ap, ◌∙◌, subst}
+use Rattle.std.specs.Prelude.{Option, Some, None, IfSome}
+use Rattle.pm_words.specs.declared.layout.Layout.{Layout}
+use Rattle.pm_words.specs.declared.action.Action.{Action}
+use Rattle.cat_history.specs.declared.op.Change.{Change}
+use Rattle.call_stages.specs.declared.once.Once.{Once}
+use Rattle.call_stages.specs.declared.once.Once.TheVariants as once
+use Rattle.call_stages.specs.declared.once.Placed.{Placed}
+use Rattle.call_stages.specs.Stages.{Held, Grip, Stage, Idle, Saw, Wears, Holds, Eyes, Splits, Leaves, Meets, Joins, Filling, Linked, Parted, Phase, IsLoose, counted, placed_in}
+use Rattle.call_stages.specs.Kinds.{below_key, from_key, Look, turns_back, is_worn, wears, roams, roams_status, sees, misses, times, learns, decides, glances, finds_live, watches, watches_next, turns_away, steps_back, wanders, fills, lights, switches, glances_left, glances_fresh, drains_left, drains_fresh, trims, splits, meets, knows_own, knows_right, copies, takes_up, puts_down, parts, gathers, joins, glances_joined, drains_joined, retires, yields, merges, peeks, peeks_status, eyes, eyes_free, passes, loses, claims, publishes, leaves, Step, looks, locks, stores, commits, drains, counts, unlocks, GivesUp, Answers, writes, reads, is_spent, has_no_room, refuses}
+use Rattle.data_node.specs.Lists.{ListNode, target_from, key_of, with_member}
+use Rattle.data_node.specs.Weights.{names_in}
+use Rattle.cat_history.specs.Maps.{at}
+use Rattle.index_law.specs.Facts.{Facts, map_now, range_of}
+use Rattle.index_law.specs.Lawful.{Sure, IsList}
+use Rattle.index_law.proofs.Switch.{range_left, range_fresh}
+use Rattle.index_law.specs.Shapes.{IsHalved}
+use Rattle.index_law.proofs.Locks.{cut_now}
+use Rattle.index_law.proofs.Moves.{fact_after}
+use Rattle.index_law.proofs.Loose.{loose_counted}
+use Rattle.lone_law.specs.Tries.{is_cut, IsFor}
+
+-- an answer that isn't Done
+abbrev pub IsDone : Once Placed → Type 0
+IsDone (once.Done placed) = Unit {0}
+IsDone _ = ⊥
+
+-- A member is cut, by a split that is about a name of its range.
+pub record Cuts (l : Layout) (f : Facts) (list : List ListNode) (s : Stage) : Type 0 where
+  pub halved : IsHalved l f list
+  pub left : Grip
+  pub fresh : Grip
+  pub is : s ≡ Splits left fresh (Filling true)
+  pub inside : range_of l f halved.node left.name ≡ true
+  pub had : IfSome left.old (λ old. at (map_now f) left.name ≡ old)
+  pub lower : (λ (other : List ℕ). target_from 0 list (key_of other) == halved.node) ≡ below_key (range_of l f halved.node) (key_of halved.anchor)
+  pub upper : (λ (other : List ℕ). target_from 0 list (key_of other) == halved.fresh) ≡ from_key (range_of l f halved.node) (key_of halved.anchor)
+
+-- What a step does, beside what it does to its node: f are the facts before it, and this is the list after it.
+pub data Effect (l : Layout) (f : Facts) (list : List ListNode) (s : Stage) (x : ℕ) (t : Stage) : Option (Once Placed) → Type 0 where
+  stays : counted s ≡ None → placed_in t ≡ placed_in s → is_cut t ≡ is_cut s → list ≡ f.list → Effect l f list s x t None
+  adds : {c : Change} → counted s ≡ Some c → placed_in s ≡ None → placed_in t ≡ Some x → is_cut s ≡ false → is_cut t ≡ false → list ≡ f.list → Effect l f list s x t None
+  cuts : counted s ≡ None → placed_in s ≡ None → placed_in t ≡ None → is_cut s ≡ false → is_cut t ≡ true → Cuts l f list s → Effect l f list s x t None
+  ends : {r : Once Placed} → counted s ≡ None → (IsDone r → ⊥) → placed_in s ≡ None → list ≡ f.list → Effect l f list s x t (Some r)
+  is_done : {r : Once Placed} → counted s ≡ None → IsDone r → list ≡ f.list → Effect l f list s x t (Some r)
+
+loose_placed : (s : Stage) → IsLoose s → placed_in s ≡ None
+loose_placed Idle loose = refl
+loose_placed (Saw n v w k) loose = refl
+loose_placed (Wears n v) loose = refl
+loose_placed (Holds n w h) loose = absurd loose
+loose_placed (Eyes n w h m v u free) loose = absurd loose
+loose_placed (Splits left fresh phase) loose = absurd loose
+loose_placed (Leaves left) loose = absurd loose
+loose_placed (Meets n w h right) loose = absurd loose
+loose_placed (Joins h left right pace) loose = absurd loose
+
+loose_cut : (s : Stage) → IsLoose s → is_cut s ≡ false
+loose_cut Idle loose = refl
+loose_cut (Saw n v w k) loose = refl
+loose_cut (Wears n v) loose = refl
+loose_cut (Holds n w h) loose = absurd loose
+loose_cut (Eyes n w h m v u free) loose = absurd loose
+loose_cut (Splits left fresh phase) loose = absurd loose
+loose_cut (Leaves left) loose = absurd loose
+loose_cut (Meets n w h right) loose = absurd loose
+loose_cut (Joins h left right pace) loose = absurd loose
+
+-- a call that has no node goes on to a stage without a node
+from_loose : (l : Layout) (f : Facts) (s t : Stage) (x : ℕ) → IsLoose s → placed_in t ≡ None → is_cut t ≡ false → Effect l f f.list s x t None
+from_loose l f s t x loose placed cut = stays (loose_counted s loose) (placed ∙ sym (loose_placed s loose)) (cut ∙ sym (loose_cut s loose)) refl
+
+gives_up : (l : Layout) (f : Facts) (s : Stage) (x : ℕ) (r : Option (Once Placed)) → IsLoose s → GivesUp r → Effect l f f.list s x Idle r
+gives_up l f s x None loose up = from_loose l f s Idle x loose refl refl
+gives_up l f s x (Some (once.Again why)) loose up = ends (loose_counted s loose) (λ no. no) (loose_placed s loose) refl
+gives_up l f s x (Some (once.Done placed)) loose up = absurd up
+gives_up l f s x (Some (once.Spent clock)) loose up = absurd up
+gives_up l f s x (Some (once.Worn n word)) loose up = absurd up
+
+-- it isn't ready to count
+unready : (n w : ℕ) (h : Held) → h.ready ≡ false → counted (Holds n w h) ≡ None
+unready n w h is = subst (λ b. elim b [ true ↦ h.pending | false ↦ None ] ≡ None) (sym is) refl
+
+-- other words in its grips leave it as far as it is
+same_phase : (left left' fresh fresh' : Grip) (phase : Phase) → is_cut (Splits left' fresh' phase) ≡ is_cut (Splits left fresh phase)
+same_phase left left' fresh fresh' (Filling lit) = refl
+same_phase left left' fresh fresh' Linked = refl
+same_phase left left' fresh fresh' Parted = refl
+
+answer_does : (l : Layout) (f : Facts) (n w x : ℕ) (h : Held) (r : Once Placed) → counted (Holds n w h) ≡ None → Answers l h r → Effect l f f.list (Holds n w h) x Idle (Some r)
+answer_does l f n w x h r none (writes placed old) = is_done none tt refl
+answer_does l f n w x h r none (reads unplaced time old) = is_done none tt refl
+answer_does l f n w x h r none (is_spent unplaced time) = ends none (λ no. no) unplaced refl
+answer_does l f n w x h r none (has_no_room unplaced time old full) = ends none (λ no. no) unplaced refl
+answer_does l f n w x h r none (refuses unplaced is) = ends none (λ no. no) unplaced refl
+
+module _ {l : Layout} {g : ℕ} (f : Facts) (list : IsList l f) (caller index since : ℕ) where
+  look_does : {s : Stage} {a : Action} {x : ℕ} {t : Stage} {r : Option (Once Placed)} → Look l g s a x t r → Sure l g f caller index since s → Effect l f f.list s x t r
+  look_does (turns_back {s = s} {n = n} {x = x} loose here busy) knows = ends (loose_counted s loose) (λ no. no) (loose_placed s loose) refl
+  look_does (wears {s = s} {n = n} {x = x} loose here free worn) knows = from_loose l f s (Wears n x) x loose refl refl
+  look_does (roams has) knows = stays refl refl refl refl
+  look_does (roams_status here) knows = stays refl refl refl refl
+  look_does (is_worn has) knows = ends refl (λ no. no) refl refl
+  look_does (sees {s = s} {n = n} {x = x} {w = w} loose here free unworn lock) knows = from_loose l f s (Saw n x w _) x loose refl refl
+  look_does (finds_live here is) knows = stays refl refl refl refl
+  look_does (watches has positive live next learnt) knows = stays refl refl refl refl
+  look_does (watches_next has low high ne live live' next leads learnt) knows = stays refl refl refl refl
+  look_does (turns_away {s = s} {x = x} {r = r} loose here up) knows = gives_up l f s x r loose up
+  look_does (steps_back {s = s} {x = x} {r = r} loose here up) knows = gives_up l f s x r loose up
+  look_does (wanders {s = s} {x = x} {r = r} loose here up) knows = gives_up l f s x r loose up
+  look_does (peeks {n = n} {w = w} {h = h} here is) knows = stays (unready n w h is) refl refl refl
+  look_does (peeks_status {n = n} {w = w} {h = h} here is) knows = stays (unready n w h is) refl refl refl
+  look_does (eyes {n = n} {w = w} {h = h} clean durable here nonzero free unworn lock) knows = stays (unready n w h clean.ready) refl refl refl
+  look_does (eyes_free here is) knows = stays refl refl refl refl
+  look_does (passes {n = n} {w = w} {h = h} here) knows = stays refl refl refl refl
+  look_does (loses here other) knows = stays refl refl refl refl
+  look_does (misses other) knows = ends refl (λ no. no) refl refl
+  look_does (times {n = n} {w = w} {h = h} clean below) knows = stays (unready n w h clean.ready) refl refl refl
+  look_does (learns {n = n} {w = w} {h = h} has positive is learnt) knows = stays (unready n w h is) refl refl refl
+  look_does (decides {n = n} {w = w} {h = h} has positive clean durable about learnt decided) knows = stays (unready n w h clean.ready) refl refl refl
+  look_does (glances {n = n} {w = w} {h = h} has is) knows = stays (unready n w h is) refl refl refl
+
+  pub step_does : (name : List ℕ) {s : Stage} {a : Action} {x : ℕ} {t : Stage} {r : Option (Once Placed)} → (k : Step l g s a x t r) → IsFor name s → IsFor name t → Sure l g f caller index since s → Effect l f (fact_after k f caller index).list s x t r
+  step_does name (looks look) one other knows = look_does look knows
+  step_does name (locks same named live between) one other knows = stays refl refl refl refl
+  step_does name (stores {n = n} {w = w} {h = h} has content small clean soils learnt means) one other knows = stays (unready n w h clean.ready) refl refl refl
+  step_does name (commits {n = n} {w = w} {h = h} has content small clean durable soiled old about learnt means) one other knows = stays (unready n w h clean.ready) refl refl refl
+  step_does name (drains {n = n} {w = w} {h = h} has small is hand cleans) one other knows = stays (unready n w h is) refl refl refl
+  step_does name (counts {h = h} {c = c} durable ready pending unplaced) one other knows =
+      adds {c = c} (subst (λ b. elim b [ true ↦ h.pending | false ↦ None ] ≡ Some c) (sym ready) pending) unplaced refl refl refl refl
+  step_does name (unlocks {n = n} {w = w} {x = x} {h = h} {r = r} next pending durable is answers) one other knows = answer_does l f n w x h r (unready n w h is) answers
+  step_does name (claims may here same) one other knows = stays refl (sym may.unplaced) refl refl
+  step_does name (publishes next left fresh) one other knows = stays refl refl refl refl
+  step_does name (leaves next) one other knows = ends refl (λ no. no) refl refl
+  step_does name (splits (fills has positive small within soils told)) one other knows = stays refl refl refl refl
+  step_does name (splits (lights here leads)) one other knows = stays refl refl refl refl
+  step_does name (splits (switches {left = left} {fresh = fresh} {seen = seen} {dirty = dirty} here small durable soiled cut told means)) one other knows =
+      let is = cut_now l g f left fresh knows cut in
+      cuts refl refl refl refl refl (record {
+        left = left;
+        fresh = fresh;
+        is = refl;
+        inside = knows.at.asked.inside;
+        had = knows.at.asked.had;
+        lower = range_left l f list left.node fresh.node knows.at.listed knows.at.unlisted knows.new.here (map_now f) is ∙ ap (below_key (range_of l f left.node)) is.anchored;
+        upper = range_fresh l f list left.node fresh.node knows.at.listed knows.at.unlisted knows.new.here (map_now f) is ∙ ap (from_key (range_of l f left.node)) is.anchored;
+        halved = record {
+          node = left.node;
+          fresh = fresh.node;
+          listed = knows.at.listed;
+          unlisted = knows.at.unlisted;
+          anchor = is.anchor;
+          named = is.named;
+          inside = is.inside;
+          had = is.had;
+          full = is.full;
+          means = knows.at.settled.means;
+          half = ap (λ key. names_in l.slots (below_key (range_of l f left.node) key) (f.now left.node)) (sym is.anchored) ∙ is.half;
+          longer = λ i. with_member left.node (record { node = fresh.node; anchor = is.anchored i }) 0 f.list;
+        };
+      })
+  step_does name (splits (glances_left {x = x} {offset = offset} {left = left} {fresh = fresh} {phase = phase} {seen = seen} has learnt)) one other knows = stays refl refl (same_phase left (record left { seen = seen; hand = Some (offset, x) }) fresh fresh phase) refl
+  step_does name (splits (glances_fresh {x = x} {offset = offset} {left = left} {fresh = fresh} {phase = phase} has)) one other knows = stays refl refl (same_phase left left fresh (record fresh { hand = Some (offset, x) }) phase) refl
+  step_does name (splits (drains_left {left = left} {fresh = fresh} {phase = phase} {dirty = dirty} has small hand cleans)) one other knows = stays refl refl (same_phase left (record left { dirty = dirty; hand = None }) fresh fresh phase) refl
+  step_does name (splits (drains_fresh {left = left} {fresh = fresh} {phase = phase} {dirty = dirty} has small hand cleans)) one other knows = stays refl refl (same_phase left left fresh (record fresh { dirty = dirty; hand = None }) phase) refl
+  step_does name (splits (trims here small durable soiled anchor told means)) one other knows = stays refl refl refl refl
+  step_does name (merges (meets here same may next)) one other knows = absurd other
+  step_does name (merges (knows_own has positive learnt)) one other knows = absurd one
+  step_does name (merges (knows_right has positive told)) one other knows = absurd one
+  step_does name (merges (copies has content small soils learnt means)) one other knows = absurd one
+  step_does name (merges (takes_up has)) one other knows = absurd one
+  step_does name (merges (puts_down has small hand cleans)) one other knows = absurd one
+  step_does name (merges (parts next)) one other knows = absurd one
+  step_does name (merges (gathers small durable soiled told gathered)) one other knows = absurd one
+  step_does name (merges (joins small durable soiled next told)) one other knows = absurd one
+  step_does name (merges (glances_joined has learnt)) one other knows = absurd one
+  step_does name (merges (drains_joined has small hand cleans)) one other knows = absurd one
+  step_does name (merges (retires durable)) one other knows = absurd one
+  step_does name (merges (yields next durable)) one other knows = absurd one
+
+-- after an answer it relies on nothing
+look_idle : {l : Layout} {g : ℕ} {s : Stage} {a : Action} {x : ℕ} {t : Stage} {r : Option (Once Placed)} {answer : Once Placed} → Look l g s a x t r → r ≡ Some answer → t ≡ Idle
+look_idle (turns_back loose here busy) is = refl
+look_idle (wears loose here free worn) is = absurd (cc)
+look_idle (roams has) is = absurd (cc)
+look_idle (roams_status here) is = absurd (cc)
+look_idle (is_worn has) is = refl
+look_idle (sees loose here free unworn lock) is = absurd (cc)
+look_idle (finds_live here live) is = absurd (cc)
+look_idle (watches has positive live next learnt) is = absurd (cc)
+look_idle (watches_next has low high ne live live' next leads learnt) is = absurd (cc)
+look_idle (turns_away loose here up) is = refl
+look_idle (steps_back loose here up) is = refl
+look_idle (wanders loose here up) is = refl
+look_idle (peeks here unready) is = absurd (cc)
+look_idle (peeks_status here unready) is = absurd (cc)
+look_idle (eyes clean durable here nonzero free unworn lock) is = absurd (cc)
+look_idle (eyes_free here free) is = absurd (cc)
+look_idle (passes here) is = absurd (cc)
+look_idle (loses here other) is = absurd (cc)
+look_idle (misses other) is = refl
+look_idle (times clean below) is = absurd (cc)
+look_idle (learns has positive unready learnt) is = absurd (cc)
+look_idle (decides has positive clean durable about learnt decided) is = absurd (cc)
+look_idle (glances has unready) is = absurd (cc)
+
+pub answers_idle : {l : Layout} {g : ℕ} {s : Stage} {a : Action} {x : ℕ} {t : Stage} {r : Option (Once Placed)} {answer : Once Placed} → Step l g s a x t r → r ≡ Some answer → t ≡ Idle
+answers_idle (looks look) is = look_idle look is
+answers_idle (locks same named live between) is = absurd (cc)
+answers_idle (stores has content small clean soils learnt means) is = absurd (cc)
+answers_idle (commits has content small clean durable soiled old about learnt means) is = absurd (cc)
+answers_idle (drains has small unready hand cleans) is = absurd (cc)
+answers_idle (counts durable ready pending unplaced) is = absurd (cc)
+answers_idle (unlocks next pending durable unready answers) is = refl
+answers_idle (claims may here same) is = absurd (cc)
+answers_idle (publishes next left fresh) is = absurd (cc)
+answers_idle (leaves next) is = refl
+answers_idle (splits k) is = absurd (cc)
+answers_idle (merges k) is = absurd (cc)

@@ -1,0 +1,246 @@
+-- Where the machine of a lone call is after a turn.
+use Rattle.std.proofs.Common.{◌≡◌, ◌≢◌, ℕ, ◌+◌, true, false, cond, ltb, List, refl}
+use Rattle.std.specs.Prelude.{Option, Some, None}
+use Rattle.pm_words.specs.declared.layout.Layout.{Layout}
+use Rattle.pm_words.specs.declared.again.Again.TheVariants as again
+use Rattle.pm_words.specs.declared.machine.Turn.{Turn}
+use Rattle.pm_words.specs.declared.machine.Turn.TheVariants.{Go, Done}
+use Rattle.pm_words.specs.Rows.{acted, got}
+use Rattle.data_node.specs.Bits.{lowest_clear}
+use Rattle.call_stages.specs.declared.once.Once.{Once}
+use Rattle.call_stages.specs.declared.once.Once.TheVariants as once
+use Rattle.call_stages.specs.declared.once.Placed.{Placed}
+use Rattle.call_stages.specs.Stages.{Stage, Holds, placed_in}
+use Rattle.data_list.specs.Still.{IsQuietList}
+use Rattle.node_ops.specs.declared.call.Call.{Call}
+use Rattle.node_ops.specs.declared.lookup.Hit.{Hit}
+use Rattle.node_ops.specs.declared.lookup.Found.{Found}
+use Rattle.node_ops.specs.declared.lookup.Looked.{Looked}
+use Rattle.node_ops.specs.declared.lookup.Looked.TheVariants as looked
+use Rattle.node_ops.specs.declared.lookup.Lookup.{Lookup}
+use Rattle.node_ops.specs.declared.fence.Fence.{Fence}
+use Rattle.node_ops.specs.declared.fill.Fill.{Fill}
+use Rattle.node_ops.specs.declared.fill.FillAt.{FillAt}
+use Rattle.node_ops.specs.declared.fill.FillAt.TheVariants as fill_at
+use Rattle.node_ops.specs.declared.finish.Finish.{Finish}
+use Rattle.node_ops.specs.declared.finish.FinishAt.{FinishAt}
+use Rattle.node_ops.specs.declared.finish.FinishAt.TheVariants as finish_at
+use Rattle.node_ops.specs.declared.get.Get.{Get}
+use Rattle.node_ops.specs.declared.put.Put.{Put}
+use Rattle.node_ops.specs.declared.put.Put.TheVariants as put
+use Rattle.node_ops.specs.declared.del.Del.{Del}
+use Rattle.node_ops.specs.declared.del.Del.TheVariants as del
+use Rattle.node_ops.specs.declared.running.Running.{Running}
+use Rattle.node_ops.specs.declared.running.Running.TheVariants.{Getting, Putting, Deleting}
+use Rattle.node_ops.specs.LookupSteps.{lookup_turned, lookup_asks}
+use Rattle.node_ops.specs.FenceSteps.{fence_next}
+use Rattle.node_ops.specs.FinishSteps.{finish_turned, finish_at_turned, finish_fenced}
+use Rattle.node_ops.specs.FillSteps.{fill_turned, fill_at_turned, slot_fenced, print_fenced}
+use Rattle.node_ops.specs.GetSteps.{IsGet, get_call, get_asks, get_turned}
+use Rattle.node_ops.specs.PutSteps.{IsPut, put_call, put_asks, put_turned, put_looked, put_into, put_full, put_filled, put_finished}
+use Rattle.node_ops.specs.DelSteps.{IsDel, del_call, del_asks, del_turned, del_looked, del_hit, del_finished}
+use Rattle.node_ops.specs.RunningSteps.{IsRunning, running_call, running_asks, running_turned, wrapped}
+use Rattle.node_ops.specs.CallStages.{stage_of, get_stage, put_stage, del_stage}
+use Rattle.lone_law.specs.There.{nodes_in, IsAtNode, EndsEarly, LookedStands}
+use Rattle.lone_law.specs.LoneCalls.{GetIsThere, PutIsThere, DelIsThere, IsThere}
+use Rattle.lone_law.proofs.There.{looks_come_there}
+use Rattle.node_ops.specs.declared.get.Get.TheVariants as get
+use Rattle.node_ops.specs.GetSteps.{get_looked}
+
+-- the limit that its clock was below
+abbrev pub limit_in : Stage → Option ℕ
+limit_in (Holds n w h) = h.limit
+limit_in _ = None
+
+-- where a get is after a turn
+abbrev pub GetWent : Layout → ℕ → List ℕ → List ℕ → Call → Option ℕ → Turn Get (Once Placed) → Type 0
+GetWent l g words0 words call limit (Go next) = GetIsThere l words0 words next
+GetWent l g words0 words call limit (Done (once.Done placed)) = IsAtNode l words0 call × (placed.hops ≡ call.hops) × (limit ≡ call.limit)
+GetWent l g words0 words call limit (Done (once.Worn node word)) = EndsEarly l g words0 call (once.Worn node word)
+GetWent l g words0 words call limit (Done (once.Spent clock)) = EndsEarly l g words0 call (once.Spent clock)
+GetWent l g words0 words call limit (Done (once.Again why)) = ⊥
+
+early_went : (l : Layout) (g : ℕ) (words0 words : List ℕ) (call : Call) (limit : Option ℕ) (answer : Once Placed) → EndsEarly l g words0 call answer → GetWent l g words0 words call limit (Done answer)
+early_went l g words0 words call limit (once.Done placed) is = absurd is
+early_went l g words0 words call limit (once.Worn node word) is = is
+early_went l g words0 words call limit (once.Spent clock) is = is
+early_went l g words0 words call limit (once.Again why) is = absurd is
+
+pub get_went : (machine : Get) (words0 words : List ℕ) (x : ℕ) → IsGet machine
+    → IsQuietList (get_call machine).view.layout (get_call machine).view.generation (nodes_in (get_call machine).view.layout words0)
+    → GetIsThere (get_call machine).view.layout words0 words machine → x ≡ got (get_call machine).view.layout words (get_asks machine)
+    → GetWent (get_call machine).view.layout (get_call machine).view.generation words0 (acted (get_call machine).view.layout words (get_asks machine)) (get_call machine) (limit_in (get_stage machine)) (get_turned machine x)
+get_went (get.Looking lookup) words0 words x sound still stands told = at (lookup_turned lookup x) (looks_come_there lookup words0 words x sound still stands told)
+  where
+    at : (turn : Turn Lookup Looked) → LookedStands lookup.call.view.layout lookup.call.view.generation words0 (acted lookup.call.view.layout words (lookup_asks lookup)) lookup.call turn
+        → GetWent lookup.call.view.layout lookup.call.view.generation words0 (acted lookup.call.view.layout words (lookup_asks lookup)) lookup.call (limit_in (get_stage (get.Looking lookup))) (get_looked lookup.call turn)
+    at (Go next) is = is
+    at (Done (looked.Early answer)) is = early_went lookup.call.view.layout lookup.call.view.generation words0 (acted lookup.call.view.layout words (lookup_asks lookup)) lookup.call (limit_in (get_stage (get.Looking lookup))) answer is
+    at (Done (looked.Found found)) is = is
+get_went (get.Unlocking call hold old) words0 words x sound still stands told = (stands, refl, refl)
+
+-- an answer of a machine: one that wrote had a place
+abbrev pub HasEnded : Layout → ℕ → List ℕ → Call → (Option ℕ → Type 0) → Type 0 → Option ℕ → Option ℕ → Once Placed → Type 0
+HasEnded l g words0 call P R place limit (once.Done placed) = IsAtNode l words0 call × (placed.hops ≡ call.hops) × P place × (limit ≡ call.limit)
+HasEnded l g words0 call P R place limit (once.Worn node word) = EndsEarly l g words0 call (once.Worn node word)
+HasEnded l g words0 call P R place limit (once.Spent clock) = EndsEarly l g words0 call (once.Spent clock)
+HasEnded l g words0 call P R place limit (once.Again why) = IsAtNode l words0 call × (why ≡ again.NoFree) × R × (limit ≡ call.limit)
+
+early : (l : Layout) (g : ℕ) (words0 : List ℕ) (call : Call) (P : Option ℕ → Type 0) (R : Type 0) (place limit : Option ℕ) (answer : Once Placed) → EndsEarly l g words0 call answer → HasEnded l g words0 call P R place limit answer
+early l g words0 call P R place limit (once.Done placed) is = absurd is
+early l g words0 call P R place limit (once.Worn node word) is = is
+early l g words0 call P R place limit (once.Spent clock) is = is
+early l g words0 call P R place limit (once.Again why) is = absurd is
+
+-- it has a place
+abbrev pub IsGiven : Option ℕ → Type 0
+IsGiven place = place ≢ None
+
+module _ (l : Layout) (g : ℕ) (words0 words : List ℕ) (R : Type 0) where
+  abbrev PutWent : Call → Option ℕ → Option ℕ → Turn Put (Once Placed) → Type 0
+  PutWent call place limit (Go next) = PutIsThere l words0 words next
+  PutWent call place limit (Done answer) = HasEnded l g words0 call IsGiven R place limit answer
+
+  abbrev DelWent : Call → Option ℕ → Option ℕ → Turn Del (Once Placed) → Type 0
+  DelWent call place limit (Go next) = DelIsThere l words0 words next
+  DelWent call place limit (Done answer) = HasEnded l g words0 call IsGiven R place limit answer
+
+  abbrev FinishWent : Call → Option ℕ → Option ℕ → Turn Finish (Once Placed) → Type 0
+  FinishWent call place limit (Go next) = IsAtNode l words0 next.call
+  FinishWent call place limit (Done answer) = HasEnded l g words0 call IsGiven R place limit answer
+
+  finish_went : (finish : Finish) (x : ℕ) → IsAtNode l words0 finish.call → FinishWent finish.call (placed_in (put_stage (put.Finishing finish))) (limit_in (put_stage (put.Finishing finish))) (finish_turned finish x)
+  finish_went finish x stands = at finish.at
+    where
+      fenced : (o : Option Fence) (place limit : Option ℕ) → FinishWent finish.call place limit (finish_fenced finish o)
+      fenced (Some fence) place limit = stands
+      fenced None place limit = stands
+
+      at : (at : FinishAt) → FinishWent finish.call (placed_in (put_stage (put.Finishing (record finish { at = at })))) (limit_in (put_stage (put.Finishing (record finish { at = at })))) (finish_at_turned finish at x)
+      at (finish_at.Fence fence) = fenced (fence_next fence x) None finish.call.limit
+      at finish_at.Add = stands
+      at (finish_at.Unlock place) = (stands, refl, (λ e. cc), refl)
+
+  abbrev FillWent : Turn Fill Finish → Type 0
+  FillWent (Go next) = IsAtNode l words0 next.call
+  FillWent (Done finish) = IsAtNode l words0 finish.call
+
+  fill_went : (fill : Fill) (x : ℕ) → IsAtNode l words0 fill.call → FillWent (fill_turned fill x)
+  fill_went fill x stands = at fill.at
+    where
+      slot_on : (o : Option Fence) → FillWent (slot_fenced fill o)
+      slot_on (Some fence) = stands
+      slot_on None = stands
+
+      print_on : (o : Option Fence) → FillWent (print_fenced fill o)
+      print_on (Some fence) = stands
+      print_on None = stands
+
+      at : (at : FillAt) → FillWent (fill_at_turned fill at x)
+      at (fill_at.Word k) = elim (ltb (k + 1) 4) as (λ b. FillWent (cond b (Go (record fill { at = fill_at.Word (k + 1) })) (Go (record fill { at = fill_at.Print })))) [ true ↦ stands | false ↦ stands ]
+      at fill_at.Print = stands
+      at (fill_at.FenceSlot fence) = slot_on (fence_next fence x)
+      at (fill_at.FencePrint fence) = print_on (fence_next fence x)
+      at fill_at.Bitmap = stands
+
+  full_stands : (call : Call) (found : Found) (hit : Option Hit) (value : ℕ) → IsAtNode l words0 call → PutIsThere l words0 words (put_full call found.hold found.directory.bitmap hit value)
+  full_stands call found (Some hit) value stands = stands
+  full_stands call found None value stands = stands
+
+  into_stands : (call : Call) (found : Found) (value : ℕ) (clear : Option ℕ) → IsAtNode l words0 call → PutIsThere l words0 words (put_into call found value clear)
+  into_stands call found value (Some slot) stands = stands
+  into_stands call found value None stands = full_stands call found found.hit value stands
+
+  put_looked_went : (call : Call) (value : ℕ) (place limit : Option ℕ) (turn : Turn Lookup Looked) → LookedStands l g words0 words call turn → PutWent call place limit (put_looked call value turn)
+  put_looked_went call value place limit (Go next) is = is
+  put_looked_went call value place limit (Done (looked.Early answer)) is = early l g words0 call IsGiven R place limit answer is
+  put_looked_went call value place limit (Done (looked.Found found)) is = into_stands call found value (lowest_clear found.directory.bitmap call.view.layout.slots) is
+
+  hit_stands : (call : Call) (found : Found) (hit : Option Hit) → IsAtNode l words0 call → DelIsThere l words0 words (del_hit call found.hold found.directory.bitmap hit)
+  hit_stands call found (Some hit) stands = stands
+  hit_stands call found None stands = stands
+
+  del_looked_went : (call : Call) (place limit : Option ℕ) (turn : Turn Lookup Looked) → LookedStands l g words0 words call turn → DelWent call place limit (del_looked call turn)
+  del_looked_went call place limit (Go next) is = is
+  del_looked_went call place limit (Done (looked.Early answer)) is = early l g words0 call IsGiven R place limit answer is
+  del_looked_went call place limit (Done (looked.Found found)) is = hit_stands call found found.hit is
+
+  put_filled_went : (call : Call) (place limit : Option ℕ) (turn : Turn Fill Finish) → FillWent turn → PutWent call place limit (put_filled turn)
+  put_filled_went call place limit (Go next) is = is
+  put_filled_went call place limit (Done finish) is = is
+
+  put_finished_went : (call : Call) (place limit : Option ℕ) (turn : Turn Finish (Once Placed)) → FinishWent call place limit turn → PutWent call place limit (put_finished turn)
+  put_finished_went call place limit (Go next) is = is
+  put_finished_went call place limit (Done answer) is = is
+
+  del_finished_went : (call : Call) (place limit : Option ℕ) (turn : Turn Finish (Once Placed)) → FinishWent call place limit turn → DelWent call place limit (del_finished turn)
+  del_finished_went call place limit (Go next) is = is
+  del_finished_went call place limit (Done answer) is = is
+
+-- a get needs no place
+abbrev pub NeedsPlace : Running → Option ℕ → Type 0
+NeedsPlace (Getting machine) place = Unit {0}
+NeedsPlace (Putting machine) place = IsGiven place
+NeedsPlace (Deleting machine) place = IsGiven place
+
+-- only a put may find no room
+abbrev pub MayLackRoom : Running → Type 0
+MayLackRoom (Getting machine) = ⊥
+MayLackRoom (Putting machine) = Unit {0}
+MayLackRoom (Deleting machine) = ⊥
+
+abbrev pub Went : Layout → ℕ → List ℕ → List ℕ → Running → Turn Running (Once Placed) → Type 0
+Went l g words0 words machine (Go next) = IsThere l words0 words next
+Went l g words0 words machine (Done answer) = HasEnded l g words0 (running_call machine) (NeedsPlace machine) (MayLackRoom machine) (placed_in (stage_of machine)) (limit_in (stage_of machine)) answer
+
+put_went : (machine : Put) (words0 words : List ℕ) (x : ℕ) → IsPut machine
+    → IsQuietList (put_call machine).view.layout (put_call machine).view.generation (nodes_in (put_call machine).view.layout words0)
+    → PutIsThere (put_call machine).view.layout words0 words machine → x ≡ got (put_call machine).view.layout words (put_asks machine)
+    → PutWent (put_call machine).view.layout (put_call machine).view.generation words0 (acted (put_call machine).view.layout words (put_asks machine)) (Unit {0}) (put_call machine) (placed_in (put_stage machine)) (limit_in (put_stage machine)) (put_turned machine x)
+put_went (put.Looking lookup value) words0 words x sound still stands told =
+    put_looked_went _ _ words0 _ (Unit {0}) lookup.call value (placed_in (put_stage (put.Looking lookup value))) (limit_in (put_stage (put.Looking lookup value))) (lookup_turned lookup x) (looks_come_there lookup words0 words x sound.0 still stands told)
+put_went (put.Filling fill) words0 words x sound still stands told = put_filled_went _ _ words0 _ (Unit {0}) fill.call None fill.call.limit (fill_turned fill x) (fill_went _ fill.call.view.generation words0 words (Unit {0}) fill x stands)
+put_went (put.Replacing call hold bitmap hit value) words0 words x sound still stands told = stands
+put_went (put.Finishing finish) words0 words x sound still stands told =
+    put_finished_went _ _ words0 _ (Unit {0}) finish.call (placed_in (put_stage (put.Finishing finish))) (limit_in (put_stage (put.Finishing finish))) (finish_turned finish x) (finish_went _ _ words0 words (Unit {0}) finish x stands)
+put_went (put.Refusing call hold bitmap value) words0 words x sound still stands told = (stands, refl, tt, refl)
+
+del_went : (machine : Del) (words0 words : List ℕ) (x : ℕ) → IsDel machine
+    → IsQuietList (del_call machine).view.layout (del_call machine).view.generation (nodes_in (del_call machine).view.layout words0)
+    → DelIsThere (del_call machine).view.layout words0 words machine → x ≡ got (del_call machine).view.layout words (del_asks machine)
+    → DelWent (del_call machine).view.layout (del_call machine).view.generation words0 (acted (del_call machine).view.layout words (del_asks machine)) ⊥ (del_call machine) (placed_in (del_stage machine)) (limit_in (del_stage machine)) (del_turned machine x)
+del_went (del.Looking lookup) words0 words x sound still stands told =
+    del_looked_went _ _ words0 _ ⊥ lookup.call (placed_in (del_stage (del.Looking lookup))) (limit_in (del_stage (del.Looking lookup))) (lookup_turned lookup x) (looks_come_there lookup words0 words x sound still stands told)
+del_went (del.Clearing call hold bitmap hit) words0 words x sound still stands told = stands
+del_went (del.Finishing finish) words0 words x sound still stands told =
+    del_finished_went _ _ words0 _ ⊥ finish.call (placed_in (put_stage (put.Finishing finish))) (limit_in (put_stage (put.Finishing finish))) (finish_turned finish x) (finish_went _ _ words0 words ⊥ finish x stands)
+
+pub machine_went : (machine : Running) (words0 words : List ℕ) (x : ℕ) → IsRunning machine
+    → IsQuietList (running_call machine).view.layout (running_call machine).view.generation (nodes_in (running_call machine).view.layout words0)
+    → IsThere (running_call machine).view.layout words0 words machine → x ≡ got (running_call machine).view.layout words (running_asks machine)
+    → Went (running_call machine).view.layout (running_call machine).view.generation words0 (acted (running_call machine).view.layout words (running_asks machine)) machine (running_turned machine x)
+machine_went (Getting machine) words0 words x sound still stands told = at (get_turned machine x) (get_went machine words0 words x sound still stands told)
+  where
+    ended : (answer : Once Placed) → GetWent (get_call machine).view.layout (get_call machine).view.generation words0 (acted (get_call machine).view.layout words (get_asks machine)) (get_call machine) (limit_in (get_stage machine)) (Done answer)
+        → HasEnded (get_call machine).view.layout (get_call machine).view.generation words0 (get_call machine) (λ place. Unit {0}) ⊥ (placed_in (stage_of (Getting machine))) (limit_in (stage_of (Getting machine))) answer
+    ended (once.Done placed) is = (is.0, is.1, tt, is.2)
+    ended (once.Worn node word) is = is
+    ended (once.Spent clock) is = is
+    ended (once.Again why) is = absurd is
+
+    at : (turn : Turn Get (Once Placed)) → GetWent (get_call machine).view.layout (get_call machine).view.generation words0 (acted (get_call machine).view.layout words (get_asks machine)) (get_call machine) (limit_in (get_stage machine)) turn
+        → Went (get_call machine).view.layout (get_call machine).view.generation words0 (acted (get_call machine).view.layout words (get_asks machine)) (Getting machine) (wrapped Getting turn)
+    at (Go next) is = is
+    at (Done answer) is = ended answer is
+machine_went (Putting machine) words0 words x sound still stands told = at (put_turned machine x) (put_went machine words0 words x sound still stands told)
+  where
+    at : (turn : Turn Put (Once Placed)) → PutWent (put_call machine).view.layout (put_call machine).view.generation words0 (acted (put_call machine).view.layout words (put_asks machine)) (Unit {0}) (put_call machine) (placed_in (put_stage machine)) (limit_in (put_stage machine)) turn
+        → Went (put_call machine).view.layout (put_call machine).view.generation words0 (acted (put_call machine).view.layout words (put_asks machine)) (Putting machine) (wrapped Putting turn)
+    at (Go next) is = is
+    at (Done answer) is = is
+machine_went (Deleting machine) words0 words x sound still stands told = at (del_turned machine x) (del_went machine words0 words x sound still stands told)
+  where
+    at : (turn : Turn Del (Once Placed)) → DelWent (del_call machine).view.layout (del_call machine).view.generation words0 (acted (del_call machine).view.layout words (del_asks machine)) ⊥ (del_call machine) (placed_in (del_stage machine)) (limit_in (del_stage machine)) turn
+        → Went (del_call machine).view.layout (del_call machine).view.generation words0 (acted (del_call machine).view.layout words (del_asks machine)) (Deleting machine) (wrapped Deleting turn)
+    at (Go next) is = is
+    at (Done answer) is = is

@@ -1,0 +1,8 @@
+use Rattle.lone_law.proofs.There.{rest_is_still, looks_come_there}
+use Rattle.lone_law.proofs.laws.looks_come_there.Goals as goal
+
+pub returns-clause-still : goal.returns-clause-still
+returns-clause-still c = rest_is_still
+
+pub returns-clause-comes : goal.returns-clause-comes
+returns-clause-comes c = looks_come_there

@@ -1,0 +1,75 @@
+-- How often nodes can still be locked, and what a call that is made with no other in flight takes of that.
+use Rattle.std.specs.Prelude.{◌≡◌, ◌≢◌, ℕ, zero, suc, ◌+◌, ◌-◌, ◌<◌, ◌≤◌, min, Option, None, Some}
+use mathlib.Core.Option.{some}
+use lib.ListN.{get_elem?}
+use Rattle.pm_words.specs.declared.action.Action.{Action}
+use Rattle.pm_words.specs.Rows.{got}
+use Rattle.version_lock.specs.declared.TheConstants.{LAST_COUNT}
+use Rattle.version_lock.specs.Versions.{generation_of, kept_count, locked_word, IsWorn}
+use Rattle.call_stages.specs.declared.once.Once.{Once}
+use Rattle.call_stages.specs.declared.once.Placed.{Placed}
+use Rattle.call_stages.specs.Stages.{Stage, Idle, Saw, Wears, Holds}
+use Rattle.call_stages.specs.Kinds.{Step}
+use Rattle.index_law.specs.Worlds.{Party, World, facts, stepped}
+use Rattle.index_law.specs.Lawful.{Lawful}
+
+-- How many more times the lock of a node with this version word can be taken in the run of this generation.
+abbrev pub locks_of : ℕ → ℕ → ℕ
+locks_of g word = LAST_COUNT - kept_count word g
+
+-- The fewest that any of the first so many nodes has.
+abbrev pub fewest_locks : ℕ → (ℕ → ℕ) → ℕ → ℕ
+fewest_locks g version zero = LAST_COUNT
+fewest_locks g version (suc n) = min (locks_of g (version n)) (fewest_locks g version n)
+
+abbrev pub locks_in : World → ℕ
+locks_in w = fewest_locks w.generation (facts w).version w.layout.nodes
+
+-- Of the node n, whose version word was free and not worn, the lock is taken with the word w. The others' words are as
+-- before.
+pub record IsLockedOnce (g : ℕ) (before now : ℕ → ℕ) (n w : ℕ) : Type 0 where
+  pub known : generation_of (before n) ≤ g
+  pub unworn : IsWorn (before n) g → ⊥
+  pub lock : w ≡ locked_word g (kept_count (before n) g)
+  pub others : (m : ℕ) → m ≢ n → now m ≡ before m
+
+-- The version words at this stage of a try that began with those before. A try that holds two nodes has none of these.
+abbrev pub HasLocked : ℕ → (ℕ → ℕ) → (ℕ → ℕ) → Stage → Type 0
+HasLocked g before now Idle = (m : ℕ) → now m ≡ before m
+HasLocked g before now (Saw n v w k) = (m : ℕ) → now m ≡ before m
+HasLocked g before now (Wears n v) = (m : ℕ) → now m ≡ before m
+HasLocked g before now (Holds n w h) = IsLockedOnce g before now n w
+HasLocked g before now _ = ⊥
+
+-- It holds one node at most.
+abbrev pub HoldsOne : Stage → Type 0
+HoldsOne Idle = Unit {0}
+HoldsOne (Saw n v w k) = Unit {0}
+HoldsOne (Wears n v) = Unit {0}
+HoldsOne (Holds n w h) = Unit {0}
+HoldsOne _ = ⊥
+
+-- After a step that isn't answered the words are those of its stage; after one that is, each node has lost one lock at
+-- most.
+abbrev pub AfterLocks : ℕ → (ℕ → ℕ) → (ℕ → ℕ) → Stage → Option (Once Placed) → Type 0
+AfterLocks g before now next None = HasLocked g before now next
+AfterLocks g before now next (Some answer) = (m : ℕ) → locks_of g (before m) ≤ locks_of g (now m) + 1
+
+-- A try that holds one node at most takes one lock of one node at most.
+abbrev pub LocksGo : Type 0
+LocksGo = (before : ℕ → ℕ) (w : World) (i : ℕ) (p : Party) (action : Action) (x : ℕ) (next : Stage)
+    (answer : Option (Once Placed)) → Lawful w →
+    get_elem? w.parties i ≡ some p → HasLocked w.generation before (facts w).version p.stage → HoldsOne next →
+    Step w.layout w.generation p.stage action x next answer →
+    x ≡ got w.layout w.words action →
+    AfterLocks w.generation before (facts (stepped w i p action next)).version next answer
+
+-- Where each node has lost one at most, so have the fewest.
+abbrev pub FewestLose : Type 0
+FewestLose = (g : ℕ) (before now : ℕ → ℕ) (nodes : ℕ) → ((m : ℕ) → locks_of g (before m) ≤ locks_of g (now m) + 1) →
+    fewest_locks g before nodes ≤ fewest_locks g now nodes + 1
+
+-- A node that is worn has none left.
+abbrev pub WornHasNone : Type 0
+WornHasNone = (g : ℕ) (version : ℕ → ℕ) (n nodes : ℕ) → n < nodes → IsWorn (version n) g →
+    fewest_locks g version nodes ≡ 0

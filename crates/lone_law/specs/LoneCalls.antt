@@ -1,0 +1,147 @@
+-- A whole try of any call, with no other in flight.
+use Rattle.std.specs.Prelude.{◌≡◌, ℕ, ◌<◌, ◌≤◌, ◌^◌, List, ◌++◌, length, Option, None, IfSome, IsTrue}
+use mathlib.Core.Option.{some}
+use lib.ListN.{get_elem?}
+use Rattle.pm_words.specs.declared.layout.Layout.{Layout}
+use Rattle.pm_words.specs.declared.again.Again.TheVariants as again
+use Rattle.pm_words.specs.declared.machine.Turn.{Turn}
+use Rattle.pm_words.specs.declared.machine.Turn.TheVariants.{Go, Done}
+use Rattle.pm_words.specs.Rows.{got}
+use Rattle.version_lock.specs.Versions.{IsWorn}
+use Rattle.cat_history.specs.Maps.{at}
+use Rattle.cat_history.specs.Records.{change_of}
+use Rattle.cat_history.specs.declared.op.Op.{Op}
+use Rattle.cat_history.specs.declared.op.Op.TheVariants as op
+use Rattle.data_node.specs.Lists.{key_of}
+use Rattle.call_stages.specs.declared.once.Once.{Once}
+use Rattle.call_stages.specs.declared.once.Once.TheVariants as once
+use Rattle.call_stages.specs.declared.once.Placed.{Placed}
+use Rattle.call_stages.specs.Stages.{Idle}
+use Rattle.data_list.specs.Still.{position_from}
+use Rattle.cat_key.specs.Names.{IsName}
+use Rattle.node_ops.specs.declared.call.View.{View}
+use Rattle.node_ops.specs.Calls.{IsView, new_call}
+use Rattle.node_ops.specs.declared.get.Get.{Get}
+use Rattle.node_ops.specs.declared.get.Get.TheVariants as get
+use Rattle.node_ops.specs.declared.put.Put.{Put}
+use Rattle.node_ops.specs.declared.put.Put.TheVariants as put
+use Rattle.node_ops.specs.declared.del.Del.{Del}
+use Rattle.node_ops.specs.declared.del.Del.TheVariants as del
+use Rattle.node_ops.specs.declared.running.Running.{Running}
+use Rattle.node_ops.specs.declared.running.Running.TheVariants.{Getting, Putting, Deleting}
+use Rattle.node_ops.specs.Asked.{IsOf, name_asked}
+use Rattle.node_ops.specs.LookupSteps.{starts, is_spent}
+use Rattle.node_ops.specs.RunningSteps.{Sound, running_call, running_asks, running_turned}
+use Rattle.node_ops.specs.CallStages.{stage_of}
+use Rattle.index_law.specs.Facts.{map_now}
+use Rattle.index_law.specs.Worlds.{Party, World, facts, stepped, started, moved_on, written}
+use Rattle.index_law.specs.Laws.{IsAtRest}
+use Rattle.lone_law.specs.There.{IsAtNode, LookupStands}
+use Rattle.lone_law.specs.Locks.{HoldsOne}
+use Rattle.lone_law.specs.Tries.{Trying}
+use Rattle.lone_law.specs.Rooms.{target_node, target_names}
+
+-- Where a get stands.
+abbrev pub GetIsThere : Layout → List ℕ → List ℕ → Get → Type 0
+GetIsThere l words0 words (get.Looking lookup) = LookupStands l words0 words lookup.call lookup.at
+GetIsThere l words0 words (get.Unlocking call hold old) = IsAtNode l words0 call
+
+abbrev pub PutIsThere : Layout → List ℕ → List ℕ → Put → Type 0
+PutIsThere l words0 words (put.Looking lookup value) = LookupStands l words0 words lookup.call lookup.at
+PutIsThere l words0 words (put.Filling fill) = IsAtNode l words0 fill.call
+PutIsThere l words0 words (put.Replacing call hold bitmap hit value) = IsAtNode l words0 call
+PutIsThere l words0 words (put.Finishing finish) = IsAtNode l words0 finish.call
+PutIsThere l words0 words (put.Refusing call hold bitmap value) = IsAtNode l words0 call
+
+abbrev pub DelIsThere : Layout → List ℕ → List ℕ → Del → Type 0
+DelIsThere l words0 words (del.Looking lookup) = LookupStands l words0 words lookup.call lookup.at
+DelIsThere l words0 words (del.Clearing call hold bitmap hit) = IsAtNode l words0 call
+DelIsThere l words0 words (del.Finishing finish) = IsAtNode l words0 finish.call
+
+abbrev pub IsThere : Layout → List ℕ → List ℕ → Running → Type 0
+IsThere l words0 words (Getting machine) = GetIsThere l words0 words machine
+IsThere l words0 words (Putting machine) = PutIsThere l words0 words machine
+IsThere l words0 words (Deleting machine) = DelIsThere l words0 words machine
+
+-- A call of this op and limit is in flight, as the index was w0 when it began, and no other.
+pub record LoneCall (w0 : World) (i : ℕ) (asked : Op) (limit : Option ℕ) (w : World) (p : Party) (machine : Running) :
+    Type 0 where
+  pub trying : Trying (name_asked asked) (change_of asked) w0 i w p
+  pub stage : p.stage ≡ stage_of machine
+  pub sound : Sound w.layout w.generation machine
+  pub of : IsOf asked machine
+  pub limited : (running_call machine).limit ≡ limit
+  pub stands : IsThere w0.layout w0.words w.words machine
+
+-- It is a put of a name that the map lacks, and the target of the name has as many names as slots.
+abbrev pub FindsFull : World → Op → Type 0
+FindsFull w (op.Put name value) = (at (map_now (facts w)) name ≡ None) × (target_names w name ≡ w.layout.slots)
+FindsFull w (op.Get name) = ⊥
+FindsFull w (op.Del name) = ⊥
+
+-- No lock can be taken any more from the version word of the target of its name.
+abbrev pub FindsWorn : World → Op → Type 0
+FindsWorn w asked = IsWorn ((facts w).version (target_node w (name_asked asked))) w.generation
+
+-- The history is as long as its limit, if it has one.
+abbrev pub IsLate : World → Option ℕ → Type 0
+IsLate w limit = IsTrue (is_spent limit (length w.history))
+
+-- How it is answered, by its cause in the index before it, and what it leaves: of the four causes exactly one holds.
+abbrev pub IsAnswered : World → Op → Option ℕ → World → Party → Once Placed → Type 0
+IsAnswered w0 asked limit w p (once.Worn node word) =
+    FindsWorn w0 asked × (node ≡ target_node w0 (name_asked asked)) × (word ≡ (facts w0).version node)
+    × (w.history ≡ w0.history) × ((facts w).list ≡ (facts w0).list)
+IsAnswered w0 asked limit w p (once.Spent clock) =
+    ¬ FindsWorn w0 asked × IsLate w0 limit × (clock ≡ length w0.history) × (w.history ≡ w0.history) ×
+    ((facts w).list ≡ (facts w0).list)
+IsAnswered w0 asked limit w p (once.Again again.NoFree) =
+    ¬ FindsWorn w0 asked × ¬ IsLate w0 limit × FindsFull w0 asked × (w.history ≡ w0.history) ×
+    ((facts w).list ≡ (facts w0).list)
+IsAnswered w0 asked limit w p (once.Done placed) =
+    (¬ FindsWorn w0 asked × ¬ IsLate w0 limit × ¬ FindsFull w0 asked)
+    × (placed.old ≡ at (map_now (facts w0)) (name_asked asked)) × (placed.place ≡ length w0.history)
+    × (placed.hops ≡ position_from (facts w0).list (key_of (name_asked asked)))
+    × (w.history ≡ w0.history ++ written p.caller p.index (change_of asked)) × ((facts w).list ≡ (facts w0).list)
+IsAnswered w0 asked limit w p (once.Again why) = ⊥
+
+abbrev pub AfterCall : World → ℕ → Op → Option ℕ → World → Party → Running → Turn Running (Once Placed) → Type 0
+AfterCall w0 i asked limit w p machine (Go next) =
+    LoneCall w0 i asked limit (stepped w i p (running_asks machine) (stage_of next)) (moved_on p (stage_of next)) next
+AfterCall w0 i asked limit w p machine (Done answer) =
+    IsAtRest (stepped w i p (running_asks machine) Idle) ×
+    IsAnswered w0 asked limit (stepped w i p (running_asks machine) Idle) p answer
+
+abbrev pub LoneCallsGo : Type 0
+LoneCallsGo = (w0 : World) (i : ℕ) (asked : Op) (limit : Option ℕ) (w : World) (p : Party) (machine : Running) (x : ℕ) →
+    LoneCall w0 i asked limit w p machine → IsAtRest w0 →
+    x ≡ got w.layout w.words (running_asks machine) → length w.history < 2 ^ 63 →
+    AfterCall w0 i asked limit w p machine (running_turned machine x)
+
+-- The machine of a call as it begins.
+abbrev pub machine_for : Op → View → Option ℕ → Running
+machine_for (op.Get name) view limit = Getting (get.Looking (starts (new_call view name limit)))
+machine_for (op.Put name value) view limit = Putting (put.Looking (starts (new_call view name limit)) value)
+machine_for (op.Del name) view limit = Deleting (del.Looking (starts (new_call view name limit)))
+
+abbrev pub ValueFits : Op → Type 0
+ValueFits (op.Get name) = Unit {0}
+ValueFits (op.Put name value) = value < 2 ^ 64
+ValueFits (op.Del name) = Unit {0}
+
+-- A call of a party of an index in which nothing is in flight, as it begins.
+abbrev pub LoneCallsBegin : Type 0
+LoneCallsBegin = (w0 : World) (i : ℕ) (asked : Op) (limit : Option ℕ) (p : Party) (index : ℕ) (view : View) →
+    IsAtRest w0 → get_elem? w0.parties i ≡ some p →
+    IsView view → view.layout ≡ w0.layout → view.generation ≡ w0.generation → IsName (name_asked asked) →
+    IfSome limit (λ most. most ≤ 2 ^ 62) → ValueFits asked →
+    LoneCall w0 i asked limit (started w0 i p index) (record {
+      caller = p.caller;
+      index = index;
+      since = length w0.history;
+      stage = Idle;
+    }) (machine_for asked view limit)
+
+-- A get, put or delete holds one node at most.
+abbrev pub MachinesHoldOne : Type 0
+MachinesHoldOne = (machine : Running) → HoldsOne (stage_of machine)

@@ -1,0 +1,70 @@
+-- Where a call stands that nobody disturbs.
+use Rattle.std.specs.Prelude.{◌≡◌, ℕ, List, IsTrue}
+use Rattle.pm_words.specs.declared.layout.Layout.{Layout}
+use Rattle.pm_words.specs.declared.machine.Turn.{Turn}
+use Rattle.pm_words.specs.declared.machine.Turn.TheVariants.{Go, Done}
+use Rattle.pm_words.specs.Rows.{acted, got}
+use Rattle.version_lock.specs.Versions.{IsWorn}
+use Rattle.data_node.specs.Lists.{target_from, key_of}
+use Rattle.call_stages.specs.declared.once.Once.{Once}
+use Rattle.call_stages.specs.declared.once.Once.TheVariants as once
+use Rattle.call_stages.specs.declared.once.Placed.{Placed}
+use Rattle.data_list.specs.Still.{Nodes, position_from, IsQuietList, IsOnWay}
+use Rattle.node_ops.specs.declared.call.Call.{Call}
+use Rattle.node_ops.specs.declared.lookup.Looked.{Looked}
+use Rattle.node_ops.specs.declared.lookup.Looked.TheVariants as looked
+use Rattle.node_ops.specs.declared.lookup.Lookup.{Lookup}
+use Rattle.node_ops.specs.declared.lookup.LookupAt.{LookupAt}
+use Rattle.node_ops.specs.declared.lookup.LookupAt.TheVariants as at
+use Rattle.node_ops.specs.Calls.{name_in}
+use Rattle.node_ops.specs.LookupSteps.{is_spent, IsLookup, lookup_asks, lookup_turned}
+use Rattle.index_law.specs.Facts.{version_in, status_in, spot_in, list_in}
+use Rattle.index_law.specs.Worlds.{World}
+use Rattle.index_law.specs.Laws.{IsAtRest}
+
+abbrev pub nodes_in : Layout → List ℕ → Nodes
+nodes_in l words = record {
+  version = version_in l words;
+  status = status_in l words;
+  now = spot_in l words;
+  list = list_in l words;
+}
+
+-- The call is at the target of its name, by as many hops as there are nodes of the list before that.
+pub record IsAtNode (l : Layout) (words : List ℕ) (call : Call) : Type 0 where
+  pub node : call.node ≡ target_from 0 (list_in l words) (key_of (name_in call))
+  pub hops : call.hops ≡ position_from (list_in l words) (key_of (name_in call))
+  pub unworn : IsWorn (version_in l words call.node) call.view.generation → ⊥
+
+-- A look-up is on its way there, with the words as they were, or has come there.
+abbrev pub LookupStands : Layout → List ℕ → List ℕ → Call → LookupAt → Type 0
+LookupStands l words0 words call (at.Walk walk) = (words ≡ words0) × IsOnWay l (nodes_in l words0) walk
+LookupStands l words0 words call (at.Lock seen locked) = (words ≡ words0) × IsAtNode l words0 call ×
+    (seen.version ≡ version_in l words0 call.node)
+LookupStands l words0 words call _ = IsAtNode l words0 call
+
+-- It ends early only because its target is worn, or its limit is reached.
+abbrev pub EndsEarly : Layout → ℕ → List ℕ → Call → Once Placed → Type 0
+EndsEarly l g words0 call (once.Worn node word) =
+    (node ≡ target_from 0 (list_in l words0) (key_of (name_in call))) × (word ≡ version_in l words0 node) ×
+    IsWorn word g
+EndsEarly l g words0 call (once.Spent clock) = IsTrue (is_spent call.limit clock) × IsAtNode l words0 call
+EndsEarly l g words0 call (once.Again why) = ⊥
+EndsEarly l g words0 call (once.Done placed) = ⊥
+
+abbrev pub LookedStands : Layout → ℕ → List ℕ → List ℕ → Call → Turn Lookup Looked → Type 0
+LookedStands l g words0 words call (Go lookup) = LookupStands l words0 words lookup.call lookup.at
+LookedStands l g words0 words call (Done (looked.Early answer)) = EndsEarly l g words0 call answer
+LookedStands l g words0 words call (Done (looked.Found found)) = IsAtNode l words0 call
+
+abbrev pub LooksComeThere : Type 0
+LooksComeThere = (lookup : Lookup) (words0 words : List ℕ) (x : ℕ) → IsLookup lookup →
+    IsQuietList lookup.call.view.layout lookup.call.view.generation (nodes_in lookup.call.view.layout words0) →
+    LookupStands lookup.call.view.layout words0 words lookup.call lookup.at →
+    x ≡ got lookup.call.view.layout words (lookup_asks lookup) →
+    LookedStands lookup.call.view.layout lookup.call.view.generation words0
+    (acted lookup.call.view.layout words (lookup_asks lookup)) lookup.call (lookup_turned lookup x)
+
+-- With nothing in flight nobody changes the list.
+abbrev pub RestIsStill : Type 0
+RestIsStill = (w : World) → IsAtRest w → IsQuietList w.layout w.generation (nodes_in w.layout w.words)

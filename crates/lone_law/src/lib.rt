@@ -1,0 +1,4 @@
+//! Calls that are made with no other in flight.
+#![tactic(auto)]
+
+pub mod laws;

@@ -1,0 +1,334 @@
+-- What an answer says of the call that it ends.
+use Rattle.std.proofs.Common.{◌≡◌, ◌≢◌, ℕ, ◌+◌, ◌≤◌, true, false, cond, ltb, Option, Some, None, refl, sym, subst, ◌∙◌, arith}
+use Rattle.std.specs.Prelude.{IsSomeAnd, ◌==◌}
+use Rattle.std.proofs.lemmas.Bool.{leb-true}
+use Rattle.pm_words.specs.declared.again.Again.{Again}
+use Rattle.pm_words.specs.declared.again.Again.TheVariants as again
+use Rattle.pm_words.specs.declared.machine.Turn.{Turn}
+use Rattle.pm_words.specs.declared.machine.Turn.TheVariants.{Go, Done}
+use Rattle.cat_history.specs.Records.{change_of}
+use Rattle.data_node.specs.Bits.{lowest_clear}
+use Rattle.call_stages.specs.declared.once.Once.{Once}
+use Rattle.call_stages.specs.declared.once.Once.TheVariants as once
+use Rattle.call_stages.specs.declared.once.Placed.{Placed}
+use Rattle.call_stages.specs.Stages.{Stage, Idle, Saw, Wears, Holds, Eyes, Splits, Leaves, Meets, Joins, IsLoose, counted, placed_in}
+use Rattle.data_list.specs.declared.target.Target.{Target}
+use Rattle.data_list.specs.declared.walk.Walk.{Walk}
+use Rattle.data_list.specs.declared.walk.WalkAt.{WalkAt}
+use Rattle.data_list.specs.declared.target.Walked.{Walked}
+use Rattle.data_list.specs.declared.target.Walked.TheVariants as walked
+use Rattle.data_list.specs.Walks.{sighting_of, walk_turned}
+use Rattle.data_list.specs.Hops.{CanGiveUp as WalkGivesUp, HopsAt}
+use Rattle.data_list.proofs.HopLaw.{walks_hop}
+use Rattle.data_list.specs.WalkStages.{is_worn_word, walk_stage}
+use Rattle.data_list.proofs.WalkLaw.{walk_loose}
+use Rattle.node_ops.specs.declared.call.Call.{Call}
+use Rattle.node_ops.specs.declared.lookup.Hold.{Hold}
+use Rattle.node_ops.specs.declared.lookup.Hit.{Hit}
+use Rattle.node_ops.specs.declared.lookup.Directory.{Directory}
+use Rattle.node_ops.specs.declared.lookup.Found.{Found}
+use Rattle.node_ops.specs.declared.lookup.Looked.{Looked}
+use Rattle.node_ops.specs.declared.lookup.Looked.TheVariants as looked
+use Rattle.node_ops.specs.declared.lookup.Lookup.{Lookup}
+use Rattle.node_ops.specs.declared.lookup.LookupAt.{LookupAt}
+use Rattle.node_ops.specs.declared.lookup.LookupAt.TheVariants as look
+use Rattle.node_ops.specs.declared.fence.Fence.{Fence}
+use Rattle.node_ops.specs.declared.fill.Fill.{Fill}
+use Rattle.node_ops.specs.declared.fill.FillAt.{FillAt}
+use Rattle.node_ops.specs.declared.fill.FillAt.TheVariants as fill_at
+use Rattle.node_ops.specs.declared.finish.Finish.{Finish}
+use Rattle.node_ops.specs.declared.finish.FinishAt.{FinishAt}
+use Rattle.node_ops.specs.declared.finish.FinishAt.TheVariants as finish_at
+use Rattle.node_ops.specs.declared.get.Get.{Get}
+use Rattle.node_ops.specs.declared.get.Get.TheVariants as get
+use Rattle.node_ops.specs.declared.put.Put.{Put}
+use Rattle.node_ops.specs.declared.put.Put.TheVariants as put
+use Rattle.node_ops.specs.declared.del.Del.{Del}
+use Rattle.node_ops.specs.declared.del.Del.TheVariants as del
+use Rattle.node_ops.specs.declared.running.Running.{Running}
+use Rattle.node_ops.specs.declared.running.Running.TheVariants.{Getting, Putting, Deleting}
+use Rattle.version_lock.specs.Versions.{kept_count, locked_word}
+use Rattle.node_ops.specs.Calls.{at_node}
+use Rattle.node_ops.specs.FenceSteps.{fence_next}
+use Rattle.node_ops.specs.LookupSteps.{value_of, is_spent, candidate_turned, came_to, walked_on, goes_to, ends, lookup_turned, lookup_at_turned, IsLookupAt}
+use Rattle.node_ops.specs.FinishSteps.{finish_asks, finish_turned, finish_at_turned, finish_fenced}
+use Rattle.node_ops.specs.FillSteps.{fill_turned, fill_at_turned, slot_fenced, print_fenced}
+use Rattle.node_ops.specs.GetSteps.{get_looked}
+use Rattle.node_ops.specs.PutSteps.{put_looked, put_into, put_full, put_filled, put_finished}
+use Rattle.node_ops.specs.DelSteps.{del_looked, del_hit, del_finished}
+use Rattle.node_ops.specs.RunningSteps.{IsRunning, running_call, running_asks, running_turned, wrapped}
+use Rattle.node_ops.specs.Asked.{op_in, op_of_finish}
+use Rattle.node_ops.specs.CallStages.{stage_of, lookup_at_stage, lookup_stage, finish_at_held, finish_stage}
+use Rattle.node_ops.specs.Endings.{place_for, limit_in, IsPutOp, IsDone, DoneIsCounted, IsSpent, SpentIsLate, NoFreeIsOfPuts, RefusedIsUncounted, GoesOn, TurnsKeepPlace, LastCountsNothing, PlacedIsInTime}
+use Rattle.node_ops.proofs.OpLaw.{lookup_counts}
+
+-- a stage that holds no node has no place
+loose_placed : (s : Stage) → IsLoose s → placed_in s ≡ None
+loose_placed Idle loose = refl
+loose_placed (Saw n v w k) loose = refl
+loose_placed (Wears n v) loose = refl
+loose_placed (Holds n w h) loose = absurd loose
+loose_placed (Eyes n w h m v u free) loose = absurd loose
+loose_placed (Splits left fresh phase) loose = absurd loose
+loose_placed (Leaves left) loose = absurd loose
+loose_placed (Meets n w h right) loose = absurd loose
+loose_placed (Joins h left right pace) loose = absurd loose
+
+-- nor has a look-up
+lookup_placed : (call : Call) (at : LookupAt) → placed_in (lookup_at_stage call at) ≡ None
+lookup_placed call (look.Walk walk) = loose_placed (walk_stage walk) (walk_loose walk.generation walk.node walk.at)
+lookup_placed call (look.Lock seen locked) = refl
+lookup_placed call (look.Clock locked) = refl
+lookup_placed call (look.Spent hold) = refl
+lookup_placed call (look.Bitmap hold) = refl
+lookup_placed call (look.Prints hold bitmap prints k) = refl
+lookup_placed call (look.Name hold directory left slot k) = refl
+lookup_placed call (look.Value hold directory slot) = refl
+
+pub reached : (limit : Option ℕ) (clock : ℕ) → is_spent limit clock ≡ true → IsSomeAnd limit (λ most. most ≤ clock)
+reached None clock e = absurd (cc)
+reached (Some most) clock e = leb-true most clock e
+
+-- how a look-up ends a call
+abbrev EndsEarly : Option ℕ → Once Placed → Type 0
+EndsEarly limit (once.Done placed) = ⊥
+EndsEarly limit (once.Spent clock) = IsSomeAnd limit (λ most. most ≤ clock)
+EndsEarly limit (once.Worn node word) = Unit {0}
+EndsEarly limit (once.Again why) = why ≢ again.NoFree
+
+abbrev LooksEnd : Option ℕ → Turn Lookup Looked → Type 0
+LooksEnd limit (Go lookup) = Unit {0}
+LooksEnd limit (Done (looked.Early answer)) = EndsEarly limit answer
+LooksEnd limit (Done (looked.Found found)) = Unit {0}
+
+not_no_free : (walk : Walk) (x : ℕ) (why : Again) → WalkGivesUp walk x why → why ≢ again.NoFree
+not_no_free walk x again.NoFree gives = absurd gives
+not_no_free walk x (again.Locked node word) gives = λ is. cc
+not_no_free walk x (again.Hops count) gives = λ is. cc
+not_no_free walk x (again.Moved node first second) gives = absurd gives
+not_no_free walk x (again.NeedsSplit node) gives = absurd gives
+not_no_free walk x again.LogFull gives = absurd gives
+not_no_free walk x (again.Held word) gives = absurd gives
+not_no_free walk x (again.Epoch first second) gives = absurd gives
+
+module _ (call : Call) where
+  abbrev Ends : Turn Lookup Looked → Type 0
+  Ends = LooksEnd call.limit
+
+  came : (target : Target) → Ends (came_to call target)
+  came target =
+      let g = call.view.generation in
+      elim (is_worn_word target.version g) as (λ b. Ends (cond b (ends (once.Worn target.node target.version))
+      (goes_to (at_node call target.node target.hops) (look.Lock (sighting_of target) (locked_word g (kept_count target.version g)))))) [ true ↦ tt | false ↦ tt ]
+
+  walked_so : (walk : Walk) (at : WalkAt) (x : ℕ) (turn : Turn Walk Walked) → HopsAt walk at x turn → Ends (walked_on call turn)
+  walked_so walk at x (Go next) hops = tt
+  walked_so walk at x (Done (walked.Again why)) hops = not_no_free walk x why hops
+  walked_so walk at x (Done (walked.Target target)) hops = came target
+
+  compared : (hold : Hold) (directory : Directory) (left : ℕ) (slot : Option ℕ) → Ends (candidate_turned call hold directory left slot)
+  compared hold directory left None = tt
+  compared hold directory left (Some slot) = tt
+
+  pub looks_end : (at : LookupAt) (x : ℕ) → IsLookupAt call at → Ends (lookup_at_turned call at x)
+  looks_end (look.Walk walk) x here = walked_so walk walk.at x (walk_turned walk x) (walks_hop walk x here.sound)
+  looks_end (look.Lock seen locked) x here = elim (x == seen.version) as (λ b. Ends (cond b (goes_to call (look.Clock locked)) (ends (once.Again (again.Moved call.node seen.version x))))) [
+    | true ↦ tt
+    | false ↦ λ is. cc
+  ]
+  looks_end (look.Clock locked) x here =
+      let hold : Hold = record { locked = locked; clock = x } in
+      elim (is_spent call.limit x) as (λ b. Ends (cond b (goes_to call (look.Spent hold)) (goes_to call (look.Bitmap hold)))) [ true ↦ tt | false ↦ tt ]
+  looks_end (look.Spent hold) x here = reached call.limit hold.clock here.1
+  looks_end (look.Bitmap hold) x here = tt
+  looks_end (look.Prints hold bitmap prints k) x here = grind (arith, compared)
+  looks_end (look.Name hold directory left slot k) x here = grind (arith, compared)
+  looks_end (look.Value hold directory slot) x here = tt
+
+-- how a call comes to its answer
+abbrev EndsBy : Running → Once Placed → Type 0
+EndsBy running (once.Done placed) = IsDone running placed
+EndsBy running (once.Spent clock) = IsSpent running clock
+EndsBy running (once.Worn node word) = placed_in (stage_of running) ≡ None
+EndsBy running (once.Again why) = (placed_in (stage_of running) ≡ None) × (why ≡ again.NoFree → IsPutOp (op_in running))
+
+-- a turn that goes on, or ends the call
+abbrev pub Turns : Running → ℕ → Turn Running (Once Placed) → Type 0
+Turns running x (Go next) = GoesOn (running_call running).view.layout (stage_of running) (running_asks running) x (stage_of next) (counted (stage_of running))
+Turns running x (Done answer) = EndsBy running answer × (counted (stage_of running) ≡ None)
+
+-- it has no place, nor has what it goes on as
+keeps_none : (running : Running) (x : ℕ) (next : Running) → counted (stage_of running) ≡ None → placed_in (stage_of running) ≡ None → placed_in (stage_of next) ≡ None → Turns running x (Go next)
+keeps_none running x next uncounted unplaced still = subst (GoesOn (running_call running).view.layout (stage_of running) (running_asks running) x (stage_of next)) (sym uncounted) (still ∙ sym unplaced)
+
+ends_early : (running : Running) (x : ℕ) (limit : Option ℕ) (answer : Once Placed) → counted (stage_of running) ≡ None → placed_in (stage_of running) ≡ None → limit ≡ (running_call running).limit
+    → EndsEarly limit answer → Turns running x (Done answer)
+ends_early running x limit (once.Done placed) uncounted unplaced same early = absurd early
+ends_early running x limit (once.Spent clock) uncounted unplaced same early =
+    (record { unplaced = unplaced; reached = subst (λ (o : Option ℕ). IsSomeAnd o (λ most. most ≤ clock)) same early }, uncounted)
+ends_early running x limit (once.Worn node word) uncounted unplaced same early = (unplaced, uncounted)
+ends_early running x limit (once.Again why) uncounted unplaced same early = ((unplaced, λ is. absurd (early is)), uncounted)
+
+lookup_uncounted : (lookup : Lookup) → counted (lookup_stage lookup) ≡ None
+lookup_uncounted lookup = lookup_counts lookup.call lookup.at
+
+lookup_unplaced : (lookup : Lookup) → placed_in (lookup_stage lookup) ≡ None
+lookup_unplaced lookup = lookup_placed lookup.call lookup.at
+
+get_turns : (get : Get) (x : ℕ) → IsRunning (Getting get) → Turns (Getting get) x (running_turned (Getting get) x)
+get_turns (get.Looking lookup) x is = at (lookup_turned lookup x) (looks_end lookup.call lookup.at x is.here)
+  where
+    at : (turn : Turn Lookup Looked) → LooksEnd lookup.call.limit turn → Turns (Getting (get.Looking lookup)) x (wrapped Getting (get_looked lookup.call turn))
+    at (Go next) early = keeps_none (Getting (get.Looking lookup)) x (Getting (get.Looking next)) (lookup_uncounted lookup) (lookup_unplaced lookup) (lookup_unplaced next)
+    at (Done (looked.Early answer)) early = ends_early (Getting (get.Looking lookup)) x lookup.call.limit answer (lookup_uncounted lookup) (lookup_unplaced lookup) refl early
+    at (Done (looked.Found found)) early = keeps_none (Getting (get.Looking lookup)) x (Getting (get.Unlocking lookup.call found.hold (value_of found.hit))) (lookup_uncounted lookup) (lookup_unplaced lookup) refl
+get_turns (get.Unlocking call hold old) x is = (record { place = refl; limit = refl; hops = refl }, refl)
+
+-- what a write has left to do once its store is made
+abbrev FillTurns : Turn Fill Finish → Type 0
+FillTurns (Go fill) = Unit {0}
+FillTurns (Done finish) = placed_in (finish_stage finish) ≡ None
+
+fill_turns : (fill : Fill) (x : ℕ) → FillTurns (fill_turned fill x)
+fill_turns fill x = at fill.at
+  where
+    slot_fence : (o : Option Fence) → FillTurns (slot_fenced fill o)
+    slot_fence (Some fence) = tt
+    slot_fence None = tt
+
+    print_fence : (o : Option Fence) → FillTurns (print_fenced fill o)
+    print_fence (Some fence) = tt
+    print_fence None = tt
+
+    at : (at : FillAt) → FillTurns (fill_at_turned fill at x)
+    at (fill_at.Word k) = elim (ltb (k + 1) 4) as (λ b. FillTurns (cond b (Go (record fill { at = fill_at.Word (k + 1) })) (Go (record fill { at = fill_at.Print })))) [ true ↦ tt | false ↦ tt ]
+    at fill_at.Print = tt
+    at (fill_at.FenceSlot fence) = slot_fence (fence_next fence x)
+    at (fill_at.FencePrint fence) = print_fence (fence_next fence x)
+    at fill_at.Bitmap = refl
+
+-- the end of a write: its change is counted, and then told at its place
+abbrev FinishTurns : Finish → ℕ → Turn Finish (Once Placed) → Type 0
+FinishTurns finish x (Go next) = GoesOn finish.call.view.layout (finish_stage finish) (finish_asks finish) x (finish_stage next) (counted (finish_stage finish))
+FinishTurns finish x (Done (once.Done placed)) =
+    (placed_in (finish_stage finish) ≡ place_for (change_of (op_of_finish finish finish.new)) placed.place)
+    × (limit_in (finish_stage finish) ≡ finish.call.limit) × (placed.hops ≡ finish.call.hops) × (counted (finish_stage finish) ≡ None)
+FinishTurns finish x (Done _) = ⊥
+
+finish_turns : (finish : Finish) (x : ℕ) → FinishTurns finish x (finish_turned finish x)
+finish_turns finish x = at finish.at
+  where
+    fenced : (fence : Fence) (o : Option Fence) → FinishTurns (record finish { at = finish_at.Fence fence }) x (finish_fenced (record finish { at = finish_at.Fence fence }) o)
+    fenced fence (Some next) = refl
+    fenced fence None = refl
+
+    writes : (new : Option ℕ) (place : ℕ) → Some place ≡ place_for (change_of (op_of_finish finish new)) place
+    writes (Some value) place = refl
+    writes None place = refl
+
+    at : (at : FinishAt) → FinishTurns (record finish { at = at }) x (finish_at_turned (record finish { at = at }) at x)
+    at (finish_at.Fence fence) = fenced fence (fence_next fence x)
+    at finish_at.Add = (refl, refl, refl)
+    at (finish_at.Unlock place) = (writes finish.new place, refl, refl, refl)
+
+put_turns : (put : Put) (x : ℕ) → IsRunning (Putting put) → Turns (Putting put) x (running_turned (Putting put) x)
+put_turns (put.Looking lookup value) x is = at (lookup_turned lookup x) (looks_end lookup.call lookup.at x is.0.here)
+  where
+    full : (found : Found) (hit : Option Hit) → placed_in (stage_of (Putting (put_full lookup.call found.hold found.directory.bitmap hit value))) ≡ None
+    full found (Some hit) = refl
+    full found None = refl
+
+    into : (found : Found) (clear : Option ℕ) → placed_in (stage_of (Putting (put_into lookup.call found value clear))) ≡ None
+    into found (Some slot) = refl
+    into found None = full found found.hit
+
+    at : (turn : Turn Lookup Looked) → LooksEnd lookup.call.limit turn → Turns (Putting (put.Looking lookup value)) x (wrapped Putting (put_looked lookup.call value turn))
+    at (Go next) early = keeps_none (Putting (put.Looking lookup value)) x (Putting (put.Looking next value)) (lookup_uncounted lookup) (lookup_unplaced lookup) (lookup_unplaced next)
+    at (Done (looked.Early answer)) early = ends_early (Putting (put.Looking lookup value)) x lookup.call.limit answer (lookup_uncounted lookup) (lookup_unplaced lookup) refl early
+    at (Done (looked.Found found)) early =
+        let clear = lowest_clear found.directory.bitmap lookup.call.view.layout.slots in
+        keeps_none (Putting (put.Looking lookup value)) x (Putting (put_into lookup.call found value clear)) (lookup_uncounted lookup) (lookup_unplaced lookup) (into found clear)
+put_turns (put.Filling fill) x is = at (fill_turned fill x) (fill_turns fill x)
+  where
+    at : (turn : Turn Fill Finish) → FillTurns turn → Turns (Putting (put.Filling fill)) x (wrapped Putting (put_filled turn))
+    at (Go next) turns = refl
+    at (Done finish) turns = turns
+put_turns (put.Replacing call hold bitmap hit value) x is = refl
+put_turns (put.Finishing finish) x is = at (finish_turned finish x) (finish_turns finish x)
+  where
+    at : (turn : Turn Finish (Once Placed)) → FinishTurns finish x turn → Turns (Putting (put.Finishing finish)) x (wrapped Putting (put_finished turn))
+    at (Go next) turns = turns
+    at (Done (once.Done placed)) turns = (record { place = turns.0; limit = turns.1; hops = turns.2 }, turns.3)
+    at (Done (once.Spent clock)) turns = absurd turns
+    at (Done (once.Worn node word)) turns = absurd turns
+    at (Done (once.Again why)) turns = absurd turns
+put_turns (put.Refusing call hold bitmap value) x is = ((refl, λ same. tt), refl)
+
+del_turns : (del : Del) (x : ℕ) → IsRunning (Deleting del) → Turns (Deleting del) x (running_turned (Deleting del) x)
+del_turns (del.Looking lookup) x is = at (lookup_turned lookup x) (looks_end lookup.call lookup.at x is.here)
+  where
+    hits : (found : Found) (hit : Option Hit) → placed_in (stage_of (Deleting (del_hit lookup.call found.hold found.directory.bitmap hit))) ≡ None
+    hits found (Some hit) = refl
+    hits found None = refl
+
+    at : (turn : Turn Lookup Looked) → LooksEnd lookup.call.limit turn → Turns (Deleting (del.Looking lookup)) x (wrapped Deleting (del_looked lookup.call turn))
+    at (Go next) early = keeps_none (Deleting (del.Looking lookup)) x (Deleting (del.Looking next)) (lookup_uncounted lookup) (lookup_unplaced lookup) (lookup_unplaced next)
+    at (Done (looked.Early answer)) early = ends_early (Deleting (del.Looking lookup)) x lookup.call.limit answer (lookup_uncounted lookup) (lookup_unplaced lookup) refl early
+    at (Done (looked.Found found)) early =
+        keeps_none (Deleting (del.Looking lookup)) x (Deleting (del_hit lookup.call found.hold found.directory.bitmap found.hit)) (lookup_uncounted lookup) (lookup_unplaced lookup) (hits found found.hit)
+del_turns (del.Clearing call hold bitmap hit) x is = refl
+del_turns (del.Finishing finish) x is = at (finish_turned finish x) (finish_turns finish x)
+  where
+    at : (turn : Turn Finish (Once Placed)) → FinishTurns finish x turn → Turns (Deleting (del.Finishing finish)) x (wrapped Deleting (del_finished turn))
+    at (Go next) turns = turns
+    at (Done (once.Done placed)) turns = (record { place = turns.0; limit = turns.1; hops = turns.2 }, turns.3)
+    at (Done (once.Spent clock)) turns = absurd turns
+    at (Done (once.Worn node word)) turns = absurd turns
+    at (Done (once.Again why)) turns = absurd turns
+
+turns : (running : Running) (x : ℕ) → IsRunning running → Turns running x (running_turned running x)
+turns (Getting get) x is = get_turns get x is
+turns (Putting put) x is = put_turns put x is
+turns (Deleting del) x is = del_turns del x is
+
+ended : (running : Running) (x : ℕ) (answer : Once Placed) → IsRunning running → running_turned running x ≡ Done answer → EndsBy running answer × (counted (stage_of running) ≡ None)
+ended running x answer is ends = subst (Turns running x) ends (turns running x is)
+
+pub done_is_counted : DoneIsCounted
+done_is_counted running x placed is last = (ended running x (once.Done placed) is last).0
+
+pub spent_is_late : SpentIsLate
+spent_is_late running x clock is last = (ended running x (once.Spent clock) is last).0
+
+pub no_free_is_of_puts : NoFreeIsOfPuts
+no_free_is_of_puts running x is last = (ended running x (once.Again again.NoFree) is last).0.1 refl
+
+pub refused_is_uncounted : RefusedIsUncounted
+refused_is_uncounted running x (once.Done placed) refused is ends_so = absurd refused
+refused_is_uncounted running x (once.Spent clock) refused is ends_so = absurd refused
+refused_is_uncounted running x (once.Worn node word) refused is ends_so = (ended running x (once.Worn node word) is ends_so).0
+refused_is_uncounted running x (once.Again why) refused is ends_so = (ended running x (once.Again why) is ends_so).0.0
+
+pub turns_keep_place : TurnsKeepPlace
+turns_keep_place running next x is goes = subst (Turns running x) goes (turns running x is)
+
+pub last_counts_nothing : LastCountsNothing
+last_counts_nothing running x answer is last = (ended running x answer is last).1
+
+-- a write in its place is below its limit
+finish_in_time : (finish : Finish) (at : FinishAt) → (finish_at_held finish at).limit ≡ finish.call.limit
+finish_in_time finish (finish_at.Fence fence) = refl
+finish_in_time finish finish_at.Add = refl
+finish_in_time finish (finish_at.Unlock place) = refl
+
+pub placed_is_in_time : PlacedIsInTime
+placed_is_in_time (Getting (get.Looking lookup)) placed = absurd (placed (lookup_unplaced lookup))
+placed_is_in_time (Getting (get.Unlocking call hold old)) placed = refl
+placed_is_in_time (Putting (put.Looking lookup value)) placed = absurd (placed (lookup_unplaced lookup))
+placed_is_in_time (Putting (put.Filling fill)) placed = refl
+placed_is_in_time (Putting (put.Replacing call hold bitmap hit value)) placed = refl
+placed_is_in_time (Putting (put.Finishing finish)) placed = finish_in_time finish finish.at
+placed_is_in_time (Putting (put.Refusing call hold bitmap value)) placed = refl
+placed_is_in_time (Deleting (del.Looking lookup)) placed = absurd (placed (lookup_unplaced lookup))
+placed_is_in_time (Deleting (del.Clearing call hold bitmap hit)) placed = refl
+placed_is_in_time (Deleting (del.Finishing finish)) placed = finish_in_time finish finish.at

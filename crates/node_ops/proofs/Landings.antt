@@ -1,0 +1,198 @@
+-- A call comes by its node and its hops from its walk, and keeps them.
+use Rattle.std.proofs.Common.{◌≡◌, ℕ, ◌+◌, true, false, cond, ltb, Option, Some, None, refl, subst, arith}
+use Rattle.std.specs.Prelude.{◌==◌}
+use Rattle.pm_words.specs.declared.again.Again.TheVariants.{Moved}
+use Rattle.pm_words.specs.declared.machine.Turn.{Turn}
+use Rattle.pm_words.specs.declared.machine.Turn.TheVariants.{Go, Done}
+use Rattle.version_lock.specs.Versions.{kept_count, locked_word}
+use Rattle.data_node.specs.Bits.{lowest_clear}
+use Rattle.call_stages.specs.declared.once.Once.{Once}
+use Rattle.call_stages.specs.declared.once.Once.TheVariants as once
+use Rattle.call_stages.specs.declared.once.Placed.{Placed}
+use Rattle.data_list.specs.declared.target.Walked.{Walked}
+use Rattle.data_list.specs.declared.target.Walked.TheVariants as walked
+use Rattle.data_list.specs.declared.walk.Walk.{Walk}
+use Rattle.data_list.specs.Walks.{sighting_of, walk_turned}
+use Rattle.data_list.specs.WalkStages.{is_worn_word}
+use Rattle.node_ops.specs.declared.call.Call.{Call}
+use Rattle.node_ops.specs.declared.lookup.Hold.{Hold}
+use Rattle.node_ops.specs.declared.lookup.Hit.{Hit}
+use Rattle.node_ops.specs.declared.lookup.Directory.{Directory}
+use Rattle.node_ops.specs.declared.lookup.Found.{Found}
+use Rattle.node_ops.specs.declared.lookup.Looked.{Looked}
+use Rattle.node_ops.specs.declared.lookup.Looked.TheVariants as looked
+use Rattle.node_ops.specs.declared.lookup.Lookup.{Lookup}
+use Rattle.node_ops.specs.declared.lookup.LookupAt.{LookupAt}
+use Rattle.node_ops.specs.declared.lookup.LookupAt.TheVariants as look
+use Rattle.node_ops.specs.declared.fence.Fence.{Fence}
+use Rattle.node_ops.specs.declared.fill.Fill.{Fill}
+use Rattle.node_ops.specs.declared.fill.FillAt.{FillAt}
+use Rattle.node_ops.specs.declared.fill.FillAt.TheVariants as fill_at
+use Rattle.node_ops.specs.declared.finish.Finish.{Finish}
+use Rattle.node_ops.specs.declared.finish.FinishAt.{FinishAt}
+use Rattle.node_ops.specs.declared.finish.FinishAt.TheVariants as finish_at
+use Rattle.node_ops.specs.declared.get.Get.{Get}
+use Rattle.node_ops.specs.declared.get.Get.TheVariants as get
+use Rattle.node_ops.specs.declared.put.Put.{Put}
+use Rattle.node_ops.specs.declared.put.Put.TheVariants as put
+use Rattle.node_ops.specs.declared.del.Del.{Del}
+use Rattle.node_ops.specs.declared.del.Del.TheVariants as del
+use Rattle.node_ops.specs.declared.running.Running.{Running}
+use Rattle.node_ops.specs.declared.running.Running.TheVariants.{Getting, Putting, Deleting}
+use Rattle.node_ops.specs.Calls.{at_node}
+use Rattle.node_ops.specs.FenceSteps.{fence_next}
+use Rattle.node_ops.specs.LookupSteps.{is_spent, candidate_turned, walked_on, goes_to, ends, lookup_turned, lookup_at_turned}
+use Rattle.node_ops.specs.FinishSteps.{finish_turned, finish_at_turned, finish_fenced}
+use Rattle.node_ops.specs.FillSteps.{fill_turned, fill_at_turned, slot_fenced, print_fenced}
+use Rattle.node_ops.specs.GetSteps.{get_looked}
+use Rattle.node_ops.specs.PutSteps.{put_call, put_looked, put_into, put_full, put_filled, put_finished}
+use Rattle.node_ops.specs.DelSteps.{del_call, del_looked, del_hit, del_finished}
+use Rattle.node_ops.specs.RunningSteps.{running_call, running_turned, wrapped}
+use Rattle.node_ops.specs.Landings.{lookup_walk, walk_in, LandsBy, Lands, TurnsLand}
+
+-- after a turn of a look-up that was on this walk, if on any
+abbrev LooksLand : Call → ℕ → Option Walk → Turn Lookup Looked → Type 0
+LooksLand call x walk (Go lookup) = Lands call x walk lookup.call
+LooksLand call x walk (Done (looked.Early answer)) = Unit {0}
+LooksLand call x walk (Done (looked.Found found)) = Lands call x walk call
+
+abbrev WalksLand : Call → Turn Walk Walked → Turn Lookup Looked → Type 0
+WalksLand call turn (Go lookup) = LandsBy call lookup.call turn
+WalksLand call turn (Done (looked.Early answer)) = Unit {0}
+WalksLand call turn (Done (looked.Found found)) = ⊥
+
+module _ (call : Call) where
+  walks_land : (turn : Turn Walk Walked) → WalksLand call turn (walked_on call turn)
+  walks_land (Go walk) = refl
+  walks_land (Done (walked.Again why)) = tt
+  walks_land (Done (walked.Target target)) =
+      let g = call.view.generation in
+      elim (is_worn_word target.version g) as (λ b. WalksLand call (Done (walked.Target target)) (cond b (ends (once.Worn target.node target.version))
+      (goes_to (at_node call target.node target.hops) (look.Lock (sighting_of target) (locked_word g (kept_count target.version g)))))) [ true ↦ tt | false ↦ refl ]
+
+  walked_land : (walk : Walk) (x : ℕ) (turn : Turn Lookup Looked) → WalksLand call (walk_turned walk x) turn → LooksLand call x (Some walk) turn
+  walked_land walk x (Go lookup) lands = lands
+  walked_land walk x (Done (looked.Early answer)) lands = tt
+  walked_land walk x (Done (looked.Found found)) lands = absurd lands
+
+  compared : (x : ℕ) (hold : Hold) (directory : Directory) (left : ℕ) (slot : Option ℕ) → LooksLand call x None (candidate_turned call hold directory left slot)
+  compared x hold directory left None = refl
+  compared x hold directory left (Some slot) = refl
+
+  looks_land : (at : LookupAt) (x : ℕ) → LooksLand call x (lookup_walk at) (lookup_at_turned call at x)
+  looks_land (look.Walk walk) x = walked_land walk x (walked_on call (walk_turned walk x)) (walks_land (walk_turned walk x))
+  looks_land (look.Lock seen locked) x = elim (x == seen.version) as (λ b. LooksLand call x None (cond b (goes_to call (look.Clock locked)) (ends (once.Again (Moved call.node seen.version x))))) [
+    | true ↦ refl
+    | false ↦ tt
+  ]
+  looks_land (look.Clock locked) x =
+      let hold : Hold = record { locked = locked; clock = x } in
+      elim (is_spent call.limit x) as (λ b. LooksLand call x None (cond b (goes_to call (look.Spent hold)) (goes_to call (look.Bitmap hold)))) [ true ↦ refl | false ↦ refl ]
+  looks_land (look.Spent hold) x = tt
+  looks_land (look.Bitmap hold) x = refl
+  looks_land (look.Prints hold bitmap prints k) x = grind (arith, compared)
+  looks_land (look.Name hold directory left slot k) x = grind (arith, compared)
+  looks_land (look.Value hold directory slot) x = refl
+
+abbrev CallAfter : Call → Turn Fill Finish → Type 0
+CallAfter call (Go fill) = fill.call ≡ call
+CallAfter call (Done finish) = finish.call ≡ call
+
+fill_keeps : (fill : Fill) (x : ℕ) → CallAfter fill.call (fill_turned fill x)
+fill_keeps fill x = at fill.at
+  where
+    slot_fence : (o : Option Fence) → CallAfter fill.call (slot_fenced fill o)
+    slot_fence (Some fence) = refl
+    slot_fence None = refl
+
+    print_fence : (o : Option Fence) → CallAfter fill.call (print_fenced fill o)
+    print_fence (Some fence) = refl
+    print_fence None = refl
+
+    at : (at : FillAt) → CallAfter fill.call (fill_at_turned fill at x)
+    at (fill_at.Word k) = elim (ltb (k + 1) 4) as (λ b. CallAfter fill.call (cond b (Go (record fill { at = fill_at.Word (k + 1) })) (Go (record fill { at = fill_at.Print })))) [ true ↦ refl | false ↦ refl ]
+    at fill_at.Print = refl
+    at (fill_at.FenceSlot fence) = slot_fence (fence_next fence x)
+    at (fill_at.FencePrint fence) = print_fence (fence_next fence x)
+    at fill_at.Bitmap = refl
+
+abbrev CallStays : Call → Turn Finish (Once Placed) → Type 0
+CallStays call (Go finish) = finish.call ≡ call
+CallStays call (Done answer) = Unit {0}
+
+finish_keeps : (finish : Finish) (x : ℕ) → CallStays finish.call (finish_turned finish x)
+finish_keeps finish x = at finish.at
+  where
+    fenced : (o : Option Fence) → CallStays finish.call (finish_fenced finish o)
+    fenced (Some fence) = refl
+    fenced None = refl
+
+    at : (at : FinishAt) → CallStays finish.call (finish_at_turned finish at x)
+    at (finish_at.Fence fence) = fenced (fence_next fence x)
+    at finish_at.Add = refl
+    at (finish_at.Unlock place) = tt
+
+abbrev LandsAfter : Running → ℕ → Turn Running (Once Placed) → Type 0
+LandsAfter running x (Go next) = Lands (running_call running) x (walk_in running) (running_call next)
+LandsAfter running x (Done answer) = Unit {0}
+
+get_lands : (get : Get) (x : ℕ) → LandsAfter (Getting get) x (running_turned (Getting get) x)
+get_lands (get.Looking lookup) x = at (lookup_turned lookup x) (looks_land lookup.call lookup.at x)
+  where
+    at : (turn : Turn Lookup Looked) → LooksLand lookup.call x (lookup_walk lookup.at) turn → LandsAfter (Getting (get.Looking lookup)) x (wrapped Getting (get_looked lookup.call turn))
+    at (Go next) lands = lands
+    at (Done (looked.Early answer)) lands = tt
+    at (Done (looked.Found found)) lands = lands
+get_lands (get.Unlocking call hold old) x = tt
+
+put_lands : (put : Put) (x : ℕ) → LandsAfter (Putting put) x (running_turned (Putting put) x)
+put_lands (put.Looking lookup value) x = at (lookup_turned lookup x) (looks_land lookup.call lookup.at x)
+  where
+    full : (found : Found) (hit : Option Hit) → lookup.call ≡ put_call (put_full lookup.call found.hold found.directory.bitmap hit value)
+    full found (Some hit) = refl
+    full found None = refl
+
+    into : (found : Found) (clear : Option ℕ) → lookup.call ≡ put_call (put_into lookup.call found value clear)
+    into found (Some slot) = refl
+    into found None = full found found.hit
+
+    at : (turn : Turn Lookup Looked) → LooksLand lookup.call x (lookup_walk lookup.at) turn → LandsAfter (Putting (put.Looking lookup value)) x (wrapped Putting (put_looked lookup.call value turn))
+    at (Go next) lands = lands
+    at (Done (looked.Early answer)) lands = tt
+    at (Done (looked.Found found)) lands =
+        subst (Lands lookup.call x (lookup_walk lookup.at)) (into found (lowest_clear found.directory.bitmap lookup.call.view.layout.slots)) lands
+put_lands (put.Filling fill) x = at (fill_turned fill x) (fill_keeps fill x)
+  where
+    at : (turn : Turn Fill Finish) → CallAfter fill.call turn → LandsAfter (Putting (put.Filling fill)) x (wrapped Putting (put_filled turn))
+    at (Go next) same = same
+    at (Done finish) same = same
+put_lands (put.Replacing call hold bitmap hit value) x = refl
+put_lands (put.Finishing finish) x = at (finish_turned finish x) (finish_keeps finish x)
+  where
+    at : (turn : Turn Finish (Once Placed)) → CallStays finish.call turn → LandsAfter (Putting (put.Finishing finish)) x (wrapped Putting (put_finished turn))
+    at (Go next) same = same
+    at (Done answer) same = tt
+put_lands (put.Refusing call hold bitmap value) x = tt
+
+del_lands : (del : Del) (x : ℕ) → LandsAfter (Deleting del) x (running_turned (Deleting del) x)
+del_lands (del.Looking lookup) x = at (lookup_turned lookup x) (looks_land lookup.call lookup.at x)
+  where
+    hits : (found : Found) (hit : Option Hit) → lookup.call ≡ del_call (del_hit lookup.call found.hold found.directory.bitmap hit)
+    hits found (Some hit) = refl
+    hits found None = refl
+
+    at : (turn : Turn Lookup Looked) → LooksLand lookup.call x (lookup_walk lookup.at) turn → LandsAfter (Deleting (del.Looking lookup)) x (wrapped Deleting (del_looked lookup.call turn))
+    at (Go next) lands = lands
+    at (Done (looked.Early answer)) lands = tt
+    at (Done (looked.Found found)) lands = subst (Lands lookup.call x (lookup_walk lookup.at)) (hits found found.hit) lands
+del_lands (del.Clearing call hold bitmap hit) x = refl
+del_lands (del.Finishing finish) x = at (finish_turned finish x) (finish_keeps finish x)
+  where
+    at : (turn : Turn Finish (Once Placed)) → CallStays finish.call turn → LandsAfter (Deleting (del.Finishing finish)) x (wrapped Deleting (del_finished turn))
+    at (Go next) same = same
+    at (Done answer) same = tt
+
+pub turns_land : TurnsLand
+turns_land (Getting get) next x goes = subst (LandsAfter (Getting get) x) goes (get_lands get x)
+turns_land (Putting put) next x goes = subst (LandsAfter (Putting put) x) goes (put_lands put x)
+turns_land (Deleting del) next x goes = subst (LandsAfter (Deleting del) x) goes (del_lands del x)
