@@ -1,0 +1,16 @@
+pub mod KeyLemmas
+pub mod LayerLemmas
+pub mod Pigeons
+pub mod CountLemmas
+pub mod LeafRows
+pub mod ChangeLaw
+pub mod ChangeSteps
+pub mod ChangeTurns
+pub mod ChangeSound
+pub mod ChangeActions
+pub mod ChangeAlone
+pub mod FloorTold
+pub mod FloorAlone
+pub mod Acting
+pub mod Fresh
+pub mod RunLaw

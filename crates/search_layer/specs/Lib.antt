@@ -1,0 +1,11 @@
+pub mod Layers
+pub mod Keys
+pub mod Leaves
+pub mod Reading
+pub mod FloorSteps
+pub mod Fences
+pub mod ChangeSteps
+pub mod SetSteps
+pub mod ChangeStages
+pub mod Laws
+pub mod Runs

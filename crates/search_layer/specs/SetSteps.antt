@@ -1,0 +1,59 @@
+-- Set and unset: a change to a node, and a change to none.
+use Rattle.std.specs.Prelude.{◌≡◌, ◌≢◌, ℕ, ◌^◌, ◌<◌, ◌+◌, List}
+use Rattle.pm_words.specs.declared.layout.Layout.{Layout}
+use Rattle.pm_words.specs.declared.action.Action.{Action}
+use Rattle.pm_words.specs.declared.machine.Turn.{Turn}
+use Rattle.pm_words.specs.declared.machine.Turn.TheVariants.{Go, Done}
+use Rattle.search_layer.specs.declared.change.Change.{Change}
+use Rattle.search_layer.specs.declared.set.Set.{Set}
+use Rattle.search_layer.specs.declared.set.Unset.{Unset}
+use Rattle.search_layer.specs.Keys.{key_number}
+use Rattle.search_layer.specs.ChangeSteps.{IsChange, change_starts, change_asks, change_turned, change_left}
+
+abbrev pub set_starts : Layout → List ℕ → ℕ → Set
+set_starts l key node = record { change = change_starts l key (node + 1) }
+
+abbrev pub set_of : Turn Change (Unit {0}) → Turn Set (Unit {0})
+set_of (Go change) = Go (record { change = change })
+set_of (Done answer) = Done answer
+
+abbrev pub set_asks : Set → Action
+set_asks set = change_asks set.change
+
+abbrev pub set_turned : Set → ℕ → Turn Set (Unit {0})
+set_turned set got = set_of (change_turned set.change got)
+
+pub record IsSet (set : Set) : Type 0 where
+  pub change : IsChange set.change
+  pub word : set.change.word ≢ 0
+
+abbrev pub set_takes : Set → ℕ → Type 0
+set_takes set got = IsSet set × (got < 2 ^ 64)
+
+abbrev pub set_left : Set → ℕ
+set_left set = change_left set.change
+
+abbrev pub unset_starts : Layout → List ℕ → Unset
+unset_starts l key = record { change = change_starts l key 0 }
+
+abbrev pub unset_of : Turn Change (Unit {0}) → Turn Unset (Unit {0})
+unset_of (Go change) = Go (record { change = change })
+unset_of (Done answer) = Done answer
+
+abbrev pub unset_asks : Unset → Action
+unset_asks unset = change_asks unset.change
+
+abbrev pub unset_turned : Unset → ℕ → Turn Unset (Unit {0})
+unset_turned unset got = unset_of (change_turned unset.change got)
+
+-- the zero key isn't taken out
+pub record IsUnset (unset : Unset) : Type 0 where
+  pub change : IsChange unset.change
+  pub word : unset.change.word ≡ 0
+  pub key : key_number unset.change.key ≢ 0
+
+abbrev pub unset_takes : Unset → ℕ → Type 0
+unset_takes unset got = IsUnset unset × (got < 2 ^ 64)
+
+abbrev pub unset_left : Unset → ℕ
+unset_left unset = change_left unset.change
