@@ -1,0 +1,4 @@
+pub mod Claims
+pub mod Events
+pub mod ClaimStages
+pub mod Laws

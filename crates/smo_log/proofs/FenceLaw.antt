@@ -1,0 +1,48 @@
+-- Each turn of a fence of a line is a step on the line.
+use Rattle.std.proofs.Common.{◌≡◌, ℕ, ◌+◌, ◌-◌, ◌^◌, ◌<◌, ◌≤◌, true, false, cond, ltb, List, [], ◌∷◌, Option, Some, None, inl, inr, refl, arith}
+use Rattle.std.proofs.lemmas.Bool.{cases_eq, ltb-true, ltb-false}
+use Rattle.pm_words.specs.declared.layout.Layout.{Layout}
+use Rattle.pm_words.specs.declared.action.Action.{Action}
+use Rattle.call_stages.specs.Kinds.{Cleans}
+use Rattle.call_stages.specs.Lines.{Notes, looks_up, keeps_safe}
+use Rattle.smo_log.specs.declared.fence.Fence.{Fence}
+use Rattle.smo_log.specs.declared.fence.FenceAt.{FenceAt}
+use Rattle.smo_log.specs.declared.fence.FenceAt.TheVariants as at
+use Rattle.smo_log.specs.Fences.{IsFence, IsFenceAt, fence_asks, fence_at_asks, fence_next, fence_at_next}
+use Rattle.smo_log.specs.LogLines.{numbered_address, settled, fenced}
+
+-- A fence that goes on has one word fewer to make durable; at its end all are.
+abbrev pub Fences : Layout → ℕ → List (ℕ × ℕ) → Action → ℕ → Fence → Option Fence → Type 0
+Fences l line seen action x before (Some fence) = Notes l (Some (fenced line seen before)) action x (Some (fenced line seen fence)) × IsFence fence
+Fences l line seen action x before None = Notes l (Some (fenced line seen before)) action x (Some (settled line seen))
+
+-- with the word in hand durable the rest is one word shorter
+rest_shrinks : (word : ℕ) → Cleans ((word, 8 - word) ∷ []) word ((word + 1, 8 - (word + 1)) ∷ [])
+rest_shrinks word offset (inr none) = absurd none
+rest_shrinks word offset (inl within) =
+    let low : word ≤ offset = within.0 in
+    let high : offset < word + (8 - word) = within.1 in
+    elim (cases_eq offset word) [
+      | inl same ↦ inl same
+      | inr other ↦ inr (inl (omega arith, omega arith))
+    ]
+
+rest_ends : (word : ℕ) → word < 8 → 8 ≤ word + 1 → Cleans ((word, 8 - word) ∷ []) word []
+rest_ends word small last offset (inr none) = absurd none
+rest_ends word small last offset (inl within) =
+    let low : word ≤ offset = within.0 in
+    let high : offset < word + (8 - word) = within.1 in
+    inl (omega arith)
+
+pub fence_leads : (l : Layout) (line : ℕ) (seen : List (ℕ × ℕ)) (fence : Fence) (x : ℕ) → IsFence fence → x < 2 ^ 64
+    → Fences l line seen (fence_asks (numbered_address l line fence.word) fence) x fence (fence_next fence x)
+fence_leads l line seen fence x is fits = leads fence.at is.value
+  where
+    leads : (at : FenceAt) → IsFenceAt at → Fences l line seen (fence_at_asks (numbered_address l line fence.word) at) x (record fence { at = at }) (fence_at_next fence at x)
+    leads at.Load value = (looks_up is.word (λ s told e. told), record { word = is.word; value = fits })
+    leads (at.Drain y) value =
+        elim (ltb (fence.word + 1) 8) as (λ b. ltb (fence.word + 1) 8 ≡ b →
+        Fences l line seen (fence_at_asks (numbered_address l line fence.word) (at.Drain y)) x (record fence { at = at.Drain y }) (cond b (Some (record { word = fence.word + 1; at = at.Load })) None)) [
+          | true ↦ λ more. (keeps_safe is.word value refl (rest_shrinks fence.word), record { word = ltb-true _ _ more; value = tt })
+          | false ↦ λ last. keeps_safe is.word value refl (rest_ends fence.word is.word (ltb-false _ _ last))
+        ] refl

@@ -1,0 +1,3 @@
+pub mod FenceLaw
+pub mod LineLaw
+pub mod Staying

@@ -1,0 +1,336 @@
+-- Each turn on a log line is a step on a line, and answers follow from what was told.
+use Rattle.std.proofs.Common.{◌≡◌, ◌≢◌, ℕ, zero, suc, ◌+◌, ◌*◌, ◌^◌, ◌<◌, ◌≤◌, ◌==◌, Bool, true, false, cond, ltb, List, [], ◌∷◌, Option, Some, None, inl, inr, ⊎_elim, refl, sym, ◌∙◌, subst, ap, arith}
+use Rattle.std.specs.Prelude.{slice_index, slice_set}
+use Rattle.std.proofs.lemmas.Bool.{cases_eq, eqb-true, eqb-false, ltb-true, ltb-false}
+use Rattle.std.proofs.lemmas.List.{get_or-set_same, get_or-set_other}
+use Rattle.std.proofs.Math.ListN.{length-set}
+use lib.ListN.{get_or}
+use Rattle.cat_key.specs.Names.{words_of}
+use Rattle.cat_key.proofs.Packing.{get_or-words_of_below, name_bytes}
+use Rattle.pm_words.specs.declared.layout.Layout.{Layout}
+use Rattle.pm_words.specs.declared.action.Action.{Action}
+use Rattle.pm_words.specs.declared.action.Action.TheVariants.{Load, Store}
+use Rattle.pm_words.specs.declared.machine.Turn.{Turn}
+use Rattle.pm_words.specs.declared.machine.Turn.TheVariants.{Go, Done}
+use Rattle.data_node.specs.Spots.{Spot, updated}
+use Rattle.data_node.proofs.SpotLemmas.{updated-same, updated-other}
+use Rattle.call_stages.specs.Stages.{IsAmong, Tells}
+use Rattle.call_stages.specs.Kinds.{Soils}
+use Rattle.call_stages.specs.Lines.{HeldLine, IsEntry, IsFitLine, TellsDurably, line_address, Notes, passes_line, takes, notes}
+use Rattle.smo_log.specs.declared.fence.Fence.{Fence}
+use Rattle.smo_log.specs.declared.line.Entry.{Entry}
+use Rattle.smo_log.specs.declared.take.Taken.{Taken}
+use Rattle.smo_log.specs.declared.take.Taken.TheVariants.{Full}
+use Rattle.smo_log.specs.declared.take.Take.{Take}
+use Rattle.smo_log.specs.declared.take.TakeAt.{TakeAt}
+use Rattle.smo_log.specs.declared.take.TakeAt.TheVariants as take_at
+use Rattle.smo_log.specs.declared.open.Open.{Open}
+use Rattle.smo_log.specs.declared.open.OpenAt.{OpenAt}
+use Rattle.smo_log.specs.declared.open.OpenAt.TheVariants as open_at
+use Rattle.smo_log.specs.declared.state.Ready.{Ready}
+use Rattle.smo_log.specs.declared.state.ReadyAt.{ReadyAt}
+use Rattle.smo_log.specs.declared.state.ReadyAt.TheVariants as ready_at
+use Rattle.smo_log.specs.Fences.{IsFence, fence_start, fence_next, fence_asks}
+use Rattle.smo_log.specs.LogLines.{caller_of, index_of, numbered_address, field_of, IsEntryOf, fields, settled, fenced}
+use Rattle.smo_log.specs.Takes.{take_line, take_at_asks, saw_state, take_fenced, take_at_turned, IsTakeAt, IsTake, take_at_held, TakeNotes}
+use Rattle.smo_log.specs.Opens.{opens_on, open_at_asks, fields_fenced, state_fenced, open_at_turned, IsOpenAt, IsOpen, stored, filled_line, open_at_held, OpenNotes}
+use Rattle.smo_log.specs.States.{ready_at_asks, ready_fenced, ready_at_turned, IsReadyAt, IsReady, ready_at_held, ReadyNotes}
+use Rattle.smo_log.specs.Laws.{TakesAreNotes, OpensAreNotes, ReadiesAreNotes, ClearsAreNotes, ReadsAreNotes, NoneEmpty, HasLooked, TakeHeeds, TakesHeed, ReadsHeed}
+use Rattle.smo_log.specs.Reads.{ReadNotes, ReadsOn, seen_in}
+use Rattle.smo_log.proofs.FenceLaw.{Fences, fence_leads}
+
+start_is : IsFence fence_start
+start_is = record { word = omega arith; value = tt }
+
+-- the caller of a line is one of the layout's, and has eight lines
+caller_within : (line callers : ℕ) → line < 8 * callers → caller_of line < callers
+caller_within line callers within = omega arith
+
+index_within : (line : ℕ) → index_of line < 8
+index_within line = omega arith
+
+-- ---- the look for a line
+
+module _ (take : Take) (sound : IsTake take) where
+  abbrev line : ℕ
+  line = take_line take
+
+  line_within : line < 8 * take.layout.callers
+  line_within = let c : take.caller < take.layout.callers = sound.caller in let i : take.index < 8 = sound.index in omega arith
+
+  own : caller_of line ≡ take.caller
+  own = let i : take.index < 8 = sound.index in omega arith
+
+  abbrev Took : Option HeldLine → Action → ℕ → Turn Take Taken → Type 0
+  Took = TakeNotes take.layout take.caller
+
+  here : caller_of line < take.layout.callers
+  here = caller_within line take.layout.callers line_within
+
+  at_state : (x : ℕ) → Took None (Load (numbered_address take.layout line 0)) x (saw_state (record take { at = take_at.State }) x)
+  at_state x =
+      elim (x == 0) as (λ b. (x == 0) ≡ b → Took None (Load (numbered_address take.layout line 0)) x
+      (cond b (Go (record take { at = take_at.Fence fence_start })) (cond (ltb (take.index + 1) 8) (Go (record take { index = take.index + 1; at = take_at.State })) (Done Full)))) [
+        | true ↦ λ is. (
+          subst (λ v. Notes take.layout None (Load (numbered_address take.layout line 0)) x (Some (record { caller = caller_of line; number = index_of line; seen = (0, v) ∷ []; dirty = (0, 8) ∷ []; hand = None })))
+              (eqb-true x 0 is) (takes here (index_within line)),
+          record { layout = sound.layout; caller = sound.caller; index = sound.index; here = start_is },
+          refl,
+          refl,
+        )
+        | false ↦ λ other. elim (ltb (take.index + 1) 8) as (λ b. ltb (take.index + 1) 8 ≡ b → Took None (Load (numbered_address take.layout line 0)) x
+            (cond b (Go (record take { index = take.index + 1; at = take_at.State })) (Done Full))) [
+              | true ↦ λ more. (passes_line here (index_within line) (omega arith), record { layout = sound.layout; caller = sound.caller; index = ltb-true _ _ more; here = tt }, refl, refl)
+              | false ↦ λ last. passes_line here (index_within line) (omega arith)
+            ] refl
+      ] refl
+
+  take_leads : (at : TakeAt) (x : ℕ) → IsTakeAt at → x < 2 ^ 64 → Took (take_at_held line at) (take_at_asks take.layout line at) x (take_at_turned (record take { at = at }) at x)
+  take_leads take_at.State x is fits = at_state x
+  take_leads (take_at.Fence fence) x is fits = after (fence_next fence x) (fence_leads take.layout line ((0, 0) ∷ []) fence x is fits)
+    where
+      after : (next : Option Fence) → Fences take.layout line ((0, 0) ∷ []) (fence_asks (numbered_address take.layout line fence.word) fence) x fence next
+          → Took (Some (fenced line ((0, 0) ∷ []) fence)) (fence_asks (numbered_address take.layout line fence.word) fence) x (take_fenced (record take { at = take_at.Fence fence }) next)
+      after (Some next) leads = (leads.0, record { layout = sound.layout; caller = sound.caller; index = sound.index; here = leads.1 }, refl, refl)
+      after None leads = (leads, own, line_within)
+
+  module _ (told : ℕ → ℕ) where
+    one_more : NoneEmpty told take.index → told take.index ≢ 0 → NoneEmpty told (take.index + 1)
+    one_more none some k within = ⊎_elim (λ same. λ z. some (sym (ap told same) ∙ z)) (λ other. none k (omega arith)) (cases_eq k take.index)
+
+    heeds : (at : TakeAt) (x : ℕ) → (at ≡ take_at.State → x ≡ told take.index) → HasLooked told take.index at → TakeHeeds take.caller told take.index (take_at_turned (record take { at = at }) at x)
+    heeds take_at.State x is looked =
+        let same : x ≡ told take.index = is refl in
+        elim (x == 0) as (λ b. (x == 0) ≡ b → TakeHeeds take.caller told take.index
+        (cond b (Go (record take { at = take_at.Fence fence_start })) (cond (ltb (take.index + 1) 8) (Go (record take { index = take.index + 1; at = take_at.State })) (Done Full)))) [
+          | true ↦ λ empty. (looked, sym same ∙ eqb-true x 0 empty)
+          | false ↦ λ other.
+              let more = one_more looked (λ z. eqb-false x 0 other (same ∙ z)) in
+              elim (ltb (take.index + 1) 8) as (λ b. ltb (take.index + 1) 8 ≡ b → TakeHeeds take.caller told take.index
+              (cond b (Go (record take { index = take.index + 1; at = take_at.State })) (Done Full))) [
+                | true ↦ λ on. more
+                | false ↦ λ last. let end = ltb-false _ _ last in λ k within. more k (omega arith)
+              ] refl
+        ] refl
+    heeds (take_at.Fence fence) x is looked = after (fence_next fence x)
+      where
+        after : (next : Option Fence) → TakeHeeds take.caller told take.index (take_fenced (record take { at = take_at.Fence fence }) next)
+        after (Some next) = looked
+        after None = (refl, sound.index, looked.1, looked.0)
+
+pub takes_are_notes : TakesAreNotes
+takes_are_notes take x sound fits = take_leads take sound take.at x sound.here fits
+
+pub takes_heed : TakesHeed
+takes_heed take told x sound is looked = heeds take sound told take.at x is looked
+
+-- ---- its opening
+
+-- fields that are stored stay as they are when another word is stored
+fields_stay : (entry : Entry) (n offset y : ℕ) (s : Spot) → ((k : ℕ) → 1 ≤ k → k ≤ n → k ≢ offset) → Tells (fields entry n) s → Tells (fields entry n) (updated s offset y)
+fields_stay entry zero offset y s apart told = tt
+fields_stay entry (suc n) offset y s apart told = (updated-other s offset y (suc n) (apart (suc n) (omega arith) (omega arith)) ∙ told.0, fields_stay entry n offset y s (λ k low high. apart k low (omega arith)) told.1)
+
+-- the stores of the fields may be durable or not
+stored_soils : (n : ℕ) → suc n < 8 → Soils (stored n) (suc n) (stored (suc n))
+stored_soils zero small = record { stored = inl (omega arith, omega arith); others = λ other among. absurd among }
+stored_soils (suc n) small = record { stored = inl (omega arith, omega arith); others = λ other among. ⊎_elim (λ within. inl (within.0, let high : other < 1 + suc n = within.1 in omega arith)) (λ none. absurd none) among }
+
+last_soils : (n : ℕ) → suc n < 8 → Soils (stored n) (suc n) ((0, 8) ∷ [])
+last_soils zero small = record { stored = inl (omega arith, omega arith); others = λ other among. absurd among }
+last_soils (suc n) small = record { stored = inl (omega arith, omega arith); others = λ other among. ⊎_elim (λ within. inl (omega arith, let high : other < 1 + suc n = within.1 in omega arith)) (λ none. absurd none) among }
+
+-- the state isn't among them
+spared : (n : ℕ) → IsAmong (stored n) 0 → ⊥
+spared zero among = among
+spared (suc n) among = ⊎_elim (λ within. let low : 1 ≤ 0 = within.0 in absurd (omega arith)) (λ none. none) among
+
+-- fields that are durable are as known
+durable_fields : (entry : Entry) (n : ℕ) (s : Spot) → TellsDurably [] (fields entry n) s → Tells (fields entry n) s
+durable_fields entry zero s told = tt
+durable_fields entry (suc n) s told = (⊎_elim (λ none. absurd none) (λ is. is) told.0, durable_fields entry n s told.1)
+
+-- with these fields and an OPEN or READY state it is in order
+fit_entry : (l : Layout) (entry : Entry) (state : ℕ) (s : Spot) → IsEntryOf l entry → state ≤ 2 → s 0 ≡ state → Tells (fields entry 7) s → IsEntry l s
+fit_entry l entry state s is small at told = record {
+  state = let a : s 0 ≡ state = at in omega arith;
+  kind = ⊎_elim (λ one. inl (told.1.1.1.1.1.1.0 ∙ one)) (λ two. inr (told.1.1.1.1.1.1.0 ∙ two)) is.kind;
+  node = let node : s 2 ≡ entry.node = told.1.1.1.1.1.0 in let low = is.node.0 in let high = is.node.1 in (omega arith, omega arith);
+  name = is.name;
+  is_name = is.is_name;
+  anchor = (λ k. told.1.1.1.1.0 k ∷ told.1.1.1.0 k ∷ told.1.1.0 k ∷ []) ∙ is.anchor;
+  left = let left : s 6 ≡ entry.left = told.1.0 in let high = is.left in omega arith;
+  zero = told.0;
+}
+
+pick : {x y : ℕ} (b : Bool) → x < 2 ^ 64 → y < 2 ^ 64 → cond b x y < 2 ^ 64
+pick true one other = one
+pick false one other = other
+
+module _ (machine : Open) (sound : IsOpen machine) where
+  abbrev l : Layout
+  l = machine.layout
+
+  abbrev number : ℕ
+  number = machine.line
+
+  abbrev entry : Entry
+  entry = machine.entry
+
+  abbrev Opened : HeldLine → Action → ℕ → Turn Open (Unit {0}) → Type 0
+  Opened = OpenNotes l number entry
+
+  on : (held : HeldLine) (action : Action) (x : ℕ) (at : OpenAt) → Notes l (Some held) action x (Some (open_at_held number entry at)) → IsOpenAt at → Opened held action x (opens_on machine at)
+  on held action x at note is = (note, record { layout = sound.layout; line = sound.line; entry = sound.entry; here = is }, refl, refl, refl)
+
+  field_fits : (n : ℕ) → field_of entry (suc n) < 2 ^ 64
+  field_fits n =
+      let is = sound.entry in
+      let nodes : l.nodes ≤ 4096 = sound.layout.nodes.1 in
+      let kind : entry.kind < 2 ^ 64 = ⊎_elim (λ one. let k : entry.kind ≡ 1 = one in omega arith) (λ two. let k : entry.kind ≡ 2 = two in omega arith) is.kind in
+      let node : entry.node < 2 ^ 64 = let high : entry.node < l.nodes = is.node.1 in omega arith in
+      let left : entry.left < 2 ^ 64 = let high : entry.left < l.nodes = is.left in omega arith in
+      pick (suc n == 1) kind (pick (suc n == 2) node (pick (suc n == 3) (anchor_fits 0 (λ k. slice_index (is.anchor k) 0)) (pick (suc n == 4) (anchor_fits 1 (λ k. slice_index (is.anchor k) 1))
+      (pick (suc n == 5) (anchor_fits 2 (λ k. slice_index (is.anchor k) 2)) (pick (suc n == 6) left (omega arith))))))
+    where
+      anchor_fits : (k : ℕ) {word : ℕ} → word ≡ slice_index (words_of sound.entry.name) k → word < 2 ^ 64
+      anchor_fits k same = let below : get_or (words_of sound.entry.name) k 0 < 2 ^ 64 = get_or-words_of_below sound.entry.name (name_bytes sound.entry.name sound.entry.is_name) k in subst (λ v. v < 2 ^ 64) (sym same) below
+
+  abbrev field_store : ℕ → Action
+  field_store n = Store (numbered_address l number (suc n)) (field_of entry (suc n))
+
+  field_told : (n : ℕ) (s : Spot) → Tells ((0, 0) ∷ fields entry n) s → Tells ((0, 0) ∷ fields entry (suc n)) (updated s (suc n) (field_of entry (suc n)))
+  field_told n s told = (
+    updated-other s (suc n) (field_of entry (suc n)) 0 (λ z. omega arith) ∙ told.0,
+    (updated-same s (suc n) (field_of entry (suc n)), fields_stay entry n (suc n) (field_of entry (suc n)) s (λ k low high z. omega arith) told.1),
+  )
+
+  field_fit : (n : ℕ) (s : Spot) → TellsDurably (stored n) ((0, 0) ∷ fields entry n) s → IsFitLine l s → IsFitLine l (updated s (suc n) (field_of entry (suc n)))
+  field_fit n s told fit = inl (updated-other s (suc n) (field_of entry (suc n)) 0 (λ z. omega arith) ∙ ⊎_elim (λ among. absurd (spared n among)) (λ is. is) told.0)
+
+  field_note : (n x : ℕ) → suc n < 8 → Notes l (Some (filled_line number entry n)) (field_store n) x (Some (filled_line number entry (suc n)))
+  field_note n x small = notes small (field_fits n) (stored_soils n small) (field_told n) (field_fit n)
+
+  last_note : (n x : ℕ) → suc n ≡ 7 → Notes l (Some (filled_line number entry n)) (field_store n) x (Some (fenced number ((0, 0) ∷ fields entry 7) fence_start))
+  last_note n x last =
+      subst (λ k. Notes l (Some (filled_line number entry n)) (field_store n) x (Some (fenced number ((0, 0) ∷ fields entry k) fence_start))) last
+      (notes (omega arith) (field_fits n) (last_soils n (omega arith)) (field_told n) (field_fit n))
+
+  at_field : (n x : ℕ) → suc n < 8 → Opened (filled_line number entry n) (field_store n) x (open_at_turned machine (open_at.Field (suc n)) x)
+  at_field n x small =
+      elim (ltb (suc n + 1) 8) as (λ b. ltb (suc n + 1) 8 ≡ b → Opened (filled_line number entry n) (field_store n) x
+      (cond b (opens_on machine (open_at.Field (suc n + 1))) (opens_on machine (open_at.FenceFields fence_start)))) [
+        | true ↦ λ more. let next : suc n + 1 ≡ suc (suc n) = omega arith in
+            subst (λ k. Opened (filled_line number entry n) (field_store n) x (opens_on machine (open_at.Field k))) (sym next)
+            (on (filled_line number entry n) (field_store n) x (open_at.Field (suc (suc n))) (field_note n x small) (omega arith, let small : suc n + 1 < 8 = ltb-true _ _ more in omega arith))
+        | false ↦ λ last. on (filled_line number entry n) (field_store n) x (open_at.FenceFields fence_start) (last_note n x (let end : 8 ≤ suc n + 1 = ltb-false _ _ last in omega arith)) start_is
+      ] refl
+
+  at_open : (x : ℕ) → Opened (settled number ((0, 0) ∷ fields entry 7)) (Store (numbered_address l number 0) 1) x (opens_on machine (open_at.FenceState fence_start))
+  at_open x = on (settled number ((0, 0) ∷ fields entry 7)) (Store (numbered_address l number 0) 1) x (open_at.FenceState fence_start)
+      (notes (omega arith) (omega arith) (record { stored = inl (omega arith, omega arith); others = λ other among. absurd among })
+      (λ s told. (updated-same s 0 1, fields_stay entry 7 0 1 s (λ k low high z. omega arith) told.1))
+      (λ s told fit. inr (fit_entry l entry 1 (updated s 0 1) sound.entry (omega arith) (updated-same s 0 1)
+      (fields_stay entry 7 0 1 s (λ k low high z. omega arith) (durable_fields entry 7 s told.1)))))
+      start_is
+
+  open_leads : (at : OpenAt) (x : ℕ) → IsOpenAt at → x < 2 ^ 64 → Opened (open_at_held number entry at) (open_at_asks l number entry at) x (open_at_turned machine at x)
+  open_leads (open_at.Field zero) x is fits = let low : 1 ≤ 0 = is.0 in absurd (omega arith)
+  open_leads (open_at.Field (suc n)) x is fits = at_field n x is.1
+  open_leads (open_at.FenceFields fence) x is fits = after (fence_next fence x) (fence_leads l number ((0, 0) ∷ fields entry 7) fence x is fits)
+    where
+      after : (next : Option Fence) → Fences l number ((0, 0) ∷ fields entry 7) (fence_asks (numbered_address l number fence.word) fence) x fence next
+          → Opened (fenced number ((0, 0) ∷ fields entry 7) fence) (fence_asks (numbered_address l number fence.word) fence) x (fields_fenced machine next)
+      after (Some next) leads = on (fenced number ((0, 0) ∷ fields entry 7) fence) (fence_asks (numbered_address l number fence.word) fence) x (open_at.FenceFields next) leads.0 leads.1
+      after None leads = on (fenced number ((0, 0) ∷ fields entry 7) fence) (fence_asks (numbered_address l number fence.word) fence) x open_at.State leads tt
+  open_leads open_at.State x is fits = at_open x
+  open_leads (open_at.FenceState fence) x is fits = after (fence_next fence x) (fence_leads l number ((0, 1) ∷ fields entry 7) fence x is fits)
+    where
+      after : (next : Option Fence) → Fences l number ((0, 1) ∷ fields entry 7) (fence_asks (numbered_address l number fence.word) fence) x fence next
+          → Opened (fenced number ((0, 1) ∷ fields entry 7) fence) (fence_asks (numbered_address l number fence.word) fence) x (state_fenced machine next)
+      after (Some next) leads = on (fenced number ((0, 1) ∷ fields entry 7) fence) (fence_asks (numbered_address l number fence.word) fence) x (open_at.FenceState next) leads.0 leads.1
+      after None leads = leads
+
+pub opens_are_notes : OpensAreNotes
+opens_are_notes machine x sound fits = open_leads machine sound machine.at x sound.here fits
+
+-- ---- its other states
+
+module _ (ready : Ready) (entry : Entry) (sound : IsReady ready) where
+  ready_stays : (s : Spot) → IsEntry ready.layout s → IsEntry ready.layout (updated s 0 2)
+  ready_stays s is =
+      let stays : (k : ℕ) → k ≢ 0 → updated s 0 2 k ≡ s k = λ k other. updated-other s 0 2 k other in
+      record {
+        state = let at : updated s 0 2 0 ≡ 2 = updated-same s 0 2 in omega arith;
+        kind = ⊎_elim (λ one. inl (stays 1 (λ z. omega arith) ∙ one)) (λ two. inr (stays 1 (λ z. omega arith) ∙ two)) is.kind;
+        node = let same = stays 2 (λ z. omega arith) in let low = is.node.0 in let high = is.node.1 in (omega arith, omega arith);
+        name = is.name;
+        is_name = is.is_name;
+        anchor = (λ k. stays 3 (λ z. omega arith) k ∷ stays 4 (λ z. omega arith) k ∷ stays 5 (λ z. omega arith) k ∷ []) ∙ is.anchor;
+        left = let same = stays 6 (λ z. omega arith) in let high = is.left in omega arith;
+        zero = stays 7 (λ z. omega arith) ∙ is.zero;
+      }
+
+  ready_leads : (at : ReadyAt) (x : ℕ) → IsReadyAt at → x < 2 ^ 64
+      → ReadyNotes ready.layout ready.line entry (ready_at_held ready.line entry at) (ready_at_asks ready.layout ready.line at) x (ready_at_turned ready at x)
+  ready_leads ready_at.State x is fits = (
+    notes (omega arith) (omega arith) (record { stored = inl (omega arith, omega arith); others = λ other among. absurd among })
+        (λ s told. (updated-same s 0 2, fields_stay entry 7 0 2 s (λ k low high z. omega arith) told.1))
+        (λ s told fit. ⊎_elim
+        (λ empty. let open_ : s 0 ≡ 1 = ⊎_elim (λ none. absurd none) (λ is. is) told.0 in absurd (omega arith))
+        (λ is. inr (ready_stays s is)) fit),
+    record { layout = sound.layout; line = sound.line; here = start_is },
+    refl,
+    refl,
+  )
+  ready_leads (ready_at.Fence fence) x is fits = after (fence_next fence x) (fence_leads ready.layout ready.line ((0, 2) ∷ fields entry 7) fence x is fits)
+    where
+      after : (next : Option Fence) → Fences ready.layout ready.line ((0, 2) ∷ fields entry 7) (fence_asks (numbered_address ready.layout ready.line fence.word) fence) x fence next
+          → ReadyNotes ready.layout ready.line entry (fenced ready.line ((0, 2) ∷ fields entry 7) fence) (fence_asks (numbered_address ready.layout ready.line fence.word) fence) x (ready_fenced ready next)
+      after (Some next) leads = (leads.0, record { layout = sound.layout; line = sound.line; here = leads.1 }, refl, refl)
+      after None leads = leads
+
+pub readies_are_notes : ReadiesAreNotes
+readies_are_notes ready entry x sound fits = ready_leads ready entry sound ready.at x sound.here fits
+
+pub clears_are_notes : ClearsAreNotes
+clears_are_notes clear held x sound caller number =
+    subst (λ (p : ℕ × ℕ). Notes clear.layout (Some held) (Store (line_address clear.layout p.0 p.1 0) 0) x (Some (record { caller = p.0; number = p.1; seen = (0, 0) ∷ []; dirty = (0, 1) ∷ held.dirty; hand = None })))
+    (λ k. (caller k, number k))
+    (notes (omega arith) (omega arith) (record { stored = inl (omega arith, omega arith); others = λ other among. inr among })
+    (λ s told. (updated-same s 0 0, tt)) (λ s told fit. inl (updated-same s 0 0)))
+
+pub reads_are_notes : ReadsAreNotes
+reads_are_notes read x sound =
+    let here = caller_within read.line read.layout.callers sound.line in
+    let small = sound.offset in
+    let note : Notes read.layout None (Load (numbered_address read.layout read.line read.offset)) x None = passes_line here (index_within read.line) (omega arith) in
+    elim (ltb (read.offset + 1) 7) as (λ b. ltb (read.offset + 1) 7 ≡ b → ReadNotes read.layout read.line (Load (numbered_address read.layout read.line read.offset)) x
+    (cond b (Go (record read { offset = read.offset + 1; words = slice_set read.words read.offset x })) (Done (seen_in (slice_set read.words read.offset x))))) [
+      | true ↦ λ more. (note, record { layout = sound.layout; line = sound.line; offset = ltb-true _ _ more }, refl, refl)
+      | false ↦ λ last. note
+    ] refl
+
+pub reads_heed : ReadsHeed
+reads_heed read told sound has =
+    elim (ltb (read.offset + 1) 7) as (λ b. ltb (read.offset + 1) 7 ≡ b → ReadsOn told
+    (cond b (Go (record read { offset = read.offset + 1; words = words })) (Done (seen_in words)))) [
+      | true ↦ λ more. record { size = length-set read.words read.offset (told read.offset) ∙ has.size; same = same }
+      | false ↦ λ last. let end : 7 ≤ read.offset + 1 = ltb-false _ _ last in record {
+        state = same 0 (omega arith);
+        kind = same 1 (omega arith);
+        node = same 2 (omega arith);
+        anchor = λ k. same 3 (omega arith) k ∷ same 4 (omega arith) k ∷ same 5 (omega arith) k ∷ [];
+        left = same 6 (omega arith);
+      }
+    ] refl
+  where
+    words : List ℕ
+    words = slice_set read.words read.offset (told read.offset)
+
+    same : (offset : ℕ) → offset < read.offset + 1 → slice_index words offset ≡ told offset
+    same offset within = ⊎_elim
+        (λ (here : offset ≡ read.offset). let small : read.offset < 7 = sound.offset in let size = has.size in
+        ap (slice_index words) here ∙ get_or-set_same read.words read.offset (told read.offset) 0 (omega arith) ∙ sym (ap told here))
+        (λ (other : offset ≢ read.offset). get_or-set_other read.words read.offset offset (told read.offset) 0 other ∙ has.same offset (omega arith))
+        (cases_eq offset read.offset)

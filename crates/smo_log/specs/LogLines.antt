@@ -1,0 +1,74 @@
+-- Log lines by their numbers, and what they say.
+use Rattle.std.specs.Prelude.{◌≡◌, ℕ, zero, suc, ◌-◌, ◌/◌, ◌%◌, ◌<◌, ◌≤◌, ◌==◌, ◌⊎◌, if◌then◌else◌, List, [], ◌∷◌}
+use Rattle.std.specs.Prelude.{slice_index, Option, Some, None}
+use Rattle.pm_words.specs.declared.layout.Layout.{Layout}
+use Rattle.cat_key.specs.Names.{IsName, words_of}
+use Rattle.call_stages.specs.Lines.{HeldLine, line_address}
+use Rattle.smo_log.specs.declared.line.Entry.{Entry}
+use Rattle.smo_log.specs.declared.fence.Fence.{Fence}
+use Rattle.smo_log.specs.declared.fence.FenceAt.{FenceAt}
+use Rattle.smo_log.specs.declared.fence.FenceAt.TheVariants as fence
+
+-- The caller of a line, and which of the caller's lines it is.
+abbrev pub caller_of : ℕ → ℕ
+caller_of line = line / 8
+
+abbrev pub index_of : ℕ → ℕ
+index_of line = line % 8
+
+abbrev pub numbered_address : Layout → ℕ → ℕ → ℕ
+numbered_address l line offset = line_address l (caller_of line) (index_of line) offset
+
+-- The word that is to stand at this offset behind the state.
+abbrev pub field_of : Entry → ℕ → ℕ
+field_of entry offset =
+    if offset == 1 then entry.kind
+    else (if offset == 2 then entry.node
+    else (if offset == 3 then slice_index entry.anchor 0
+    else (if offset == 4 then slice_index entry.anchor 1
+    else (if offset == 5 then slice_index entry.anchor 2
+    else (if offset == 6 then entry.left else 0)))))
+
+-- A split or a merge of two nodes, with a name as the anchor of the new or the merged one.
+pub record IsEntryOf (l : Layout) (entry : Entry) : Type 0 where
+  pub kind : (entry.kind ≡ 1) ⊎ (entry.kind ≡ 2)
+  pub node : (1 ≤ entry.node) × (entry.node < l.nodes)
+  pub name : List ℕ
+  pub is_name : IsName name
+  pub anchor : slice_index entry.anchor 0 ∷ slice_index entry.anchor 1 ∷ slice_index entry.anchor 2 ∷ [] ≡ words_of name
+  pub left : entry.left < l.nodes
+
+-- The first so many words behind the state, by offset.
+abbrev pub fields : Entry → ℕ → List (ℕ × ℕ)
+fields entry zero = []
+fields entry (suc n) = (suc n, field_of entry (suc n)) ∷ fields entry n
+
+-- What a party knows of a line that it has, all of which is durable.
+abbrev pub settled : ℕ → List (ℕ × ℕ) → HeldLine
+settled line seen = record { caller = caller_of line; number = index_of line; seen = seen; dirty = []; hand = None }
+
+abbrev pub hand_of : ℕ → FenceAt → Option (ℕ × ℕ)
+hand_of word fence.Load = None
+hand_of word (fence.Drain value) = Some (word, value)
+
+-- And of one that it makes durable.
+abbrev pub fenced : ℕ → List (ℕ × ℕ) → Fence → HeldLine
+fenced line seen fence =
+    record {
+      caller = caller_of line;
+      number = index_of line;
+      seen = seen;
+      dirty = (fence.word, 8 - fence.word) ∷ [];
+      hand = hand_of fence.word fence.at;
+    }
+
+-- What it knows of a line that it has just taken: it is EMPTY; of one that it opened: it is OPEN, and says this; and of
+-- one that is READY.
+abbrev pub empty_line : ℕ → HeldLine
+empty_line line = settled line ((0, 0) ∷ [])
+
+abbrev pub open_line : ℕ → Entry → HeldLine
+open_line line entry = settled line ((0, 1) ∷ fields entry 7)
+
+abbrev pub ready_line : ℕ → Entry → HeldLine
+ready_line line entry = settled line ((0, 2) ∷ fields entry 7)

@@ -1,0 +1,21 @@
+//! The laws of log lines.
+
+ghost use Rattle.smo_log.specs.Laws.{TakesAreNotes, OpensAreNotes, ReadiesAreNotes, ClearsAreNotes, ReadsAreNotes};
+ghost use Rattle.smo_log.specs.Laws.{TakesHeed, ReadsHeed};
+
+/// Each turn on a line, whatever it is told, is a step on a line. A line that is taken is durably EMPTY, one that is
+/// opened is durably OPEN with all that it says, and one that is made READY is durably READY.
+pub fn turns_are_notes()
+    ensures takes { TakesAreNotes }
+    ensures opens { OpensAreNotes }
+    ensures readies { ReadiesAreNotes }
+    ensures clears { ClearsAreNotes }
+    ensures reads { ReadsAreNotes }
+{}
+
+/// A look for a line answers the first that it was told is EMPTY, or that none is; a read answers the words that it was
+/// told.
+pub fn answers_heed()
+    ensures takes { TakesHeed }
+    ensures reads { ReadsHeed }
+{}

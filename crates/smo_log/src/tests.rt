@@ -1,0 +1,197 @@
+ghost use Rattle.std.specs.Prelude.{◌≡◌};
+ghost use Rattle.pm_words.specs.Layouts.{IsLayout};
+ghost use Rattle.smo_log.specs.Takes.{IsTake};
+ghost use Rattle.smo_log.specs.Opens.{IsOpen};
+ghost use Rattle.smo_log.specs.States.{IsReady};
+ghost use Rattle.smo_log.specs.Reads.{IsRead};
+
+use super::*;
+use pm_words::{Action, Layout, Machine, Turn};
+use std::process::Abort;
+use std::test::Fail;
+
+/// Words enough for the rows of all tests.
+const ROW: usize = 5000;
+
+/// A row of words on which one party runs alone.
+#[derive(Drop)]
+struct Row {
+    layout: Layout,
+    words: Vec<u64>,
+    ghost in_range: { IsLayout layout },
+}
+
+impl Row {
+    /// Does an action; it tells what that gives.
+    fn act(&mut self, rt: &impl Abort, action: Action) -> u64
+        ensures { self.new.layout ≡ self.old.layout }
+    {
+        let image = self.layout.image_words();
+        let (address, word) = match action {
+            Action::Load(address) => (address, None),
+            Action::Store(address, word) => (address, Some(word)),
+            Action::Drain(address, word) => (
+                address.checked_add(image).expect(rt, "a drain's address"),
+                Some(word),
+            ),
+            _ => (u64::MAX, None),
+        };
+        assert!(rt; (address as usize) < self.words.len(), "{action:?}");
+        match word {
+            Some(word) => {
+                self.words[address as usize] = word;
+                0
+            }
+            None => self.words[address as usize],
+        }
+    }
+
+    /// The cached and the durable twin of a line's word.
+    fn twins(&self, rt: &impl Abort, line: u64, offset: u64) -> (u64, u64) {
+        assert!(rt; line < 8 * self.layout.callers() && offset < 8, "{line}");
+        let word = self.layout.line_word(line / 8, line % 8, offset);
+        let cached = self.layout.cached(word) as usize;
+        let durable = self.layout.durable(word) as usize;
+        assert!(rt;
+            cached < self.words.len() && durable < self.words.len(),
+            "{offset}"
+        );
+        (self.words[cached], self.words[durable])
+    }
+}
+
+fn take(rt: &impl Abort, row: &mut Row, machine: Take) -> Taken
+    requires { IsTake machine }
+    ensures { row.new.layout ≡ row.old.layout }
+{
+    let mut turn = Turn::Go(machine);
+    'turns: loop {
+        match turn {
+            Turn::Done(answer) => return answer,
+            Turn::Go(next) => {
+                let got = row.act(rt, next.action());
+                turn = next.resume(got);
+            }
+        }
+    }
+}
+
+fn open(rt: &impl Abort, row: &mut Row, machine: Open) -> ()
+    requires { IsOpen machine }
+    ensures { row.new.layout ≡ row.old.layout }
+{
+    let mut turn = Turn::Go(machine);
+    'turns: loop {
+        match turn {
+            Turn::Done(answer) => return answer,
+            Turn::Go(next) => {
+                let got = row.act(rt, next.action());
+                turn = next.resume(got);
+            }
+        }
+    }
+}
+
+fn make_ready(rt: &impl Abort, row: &mut Row, machine: Ready) -> ()
+    requires { IsReady machine }
+    ensures { row.new.layout ≡ row.old.layout }
+{
+    let mut turn = Turn::Go(machine);
+    'turns: loop {
+        match turn {
+            Turn::Done(answer) => return answer,
+            Turn::Go(next) => {
+                let got = row.act(rt, next.action());
+                turn = next.resume(got);
+            }
+        }
+    }
+}
+
+fn read(rt: &impl Abort, row: &mut Row, machine: ReadLine) -> LineSeen
+    requires { IsRead machine }
+    ensures { row.new.layout ≡ row.old.layout }
+{
+    let mut turn = Turn::Go(machine);
+    'turns: loop {
+        match turn {
+            Turn::Done(answer) => return answer,
+            Turn::Go(next) => {
+                let got = row.act(rt, next.action());
+                turn = next.resume(got);
+            }
+        }
+    }
+}
+
+/// The words of the line in both rows, the state first.
+fn rows(rt: &impl Abort, row: &Row, line: u64) -> ([u64; 8], [u64; 8]) {
+    let (mut cached, mut durable) = ([0; 8], [0; 8]);
+    for offset in 0..8 {
+        let twins = row.twins(rt, line, offset);
+        cached[offset as usize] = twins.0;
+        durable[offset as usize] = twins.1;
+    }
+    (cached, durable)
+}
+
+/// A line of caller 1 is taken, opened, made READY and read; the other lines stay. What an EMPTY line held at its last
+/// word is gone once it is open.
+#[test]
+fn one_line(rt: HostRuntime) -> Result<(), Fail> {
+    let layout = Layout::new(3, 4, 2)?;
+    let mut row = Row {
+        layout,
+        words: vec![in rt.alloc(); 0u64; ROW]?,
+    };
+    // The first two lines are in use, and the third one holds a 5 at its last word, which isn't durable.
+    for (index, offset, word) in [(0, 0, 1), (1, 0, 2), (2, 7, 5)] {
+        assert!(rt; index < 8 && offset < 8, "{index}");
+        let address = layout.cached(layout.line_word(1, index, offset));
+        row.act(&rt, Action::Store(address, word));
+    }
+    assert_eq!(rt;
+        take(&rt, &mut row, Take::new(layout, 1)),
+        Taken::Line { line: 10 }
+    );
+    let empty = [0, 0, 0, 0, 0, 0, 0, 5];
+    assert_eq!(rt; rows(&rt, &row, 10), (empty, empty));
+    let entry = Entry {
+        kind: KIND_SPLIT,
+        node: 2,
+        anchor: [0x63 << 56, 0, 0],
+        left: 1,
+    };
+    open(&rt, &mut row, Open::new(layout, 10, entry));
+    let words = [1, 1, 2, 0x63 << 56, 0, 0, 1, 0];
+    assert_eq!(rt; rows(&rt, &row, 10), (words, words));
+    make_ready(&rt, &mut row, Ready::new(layout, 10));
+    let seen = read(&rt, &mut row, ReadLine::new(layout, 10));
+    assert_eq!(rt; seen, LineSeen { state: 2, entry });
+    assert_eq!(rt; row.twins(&rt, 10, 0), (2, 2));
+    assert_eq!(rt; row.twins(&rt, 9, 0), (2, 0));
+    Ok(())
+}
+
+/// Eight lines that aren't EMPTY leave none, and a line that is cleared is taken again.
+#[test]
+fn full_and_cleared(rt: HostRuntime) -> Result<(), Fail> {
+    let layout = Layout::new(2, 4, 1)?;
+    let mut row = Row {
+        layout,
+        words: vec![in rt.alloc(); 0u64; ROW]?,
+    };
+    for line in 0..8 {
+        let address = layout.cached(layout.line_word(0, line, 0));
+        row.act(&rt, Action::Store(address, 2));
+    }
+    assert_eq!(rt; take(&rt, &mut row, Take::new(layout, 0)), Taken::Full);
+    let clear = Clear::new(layout, 5);
+    row.act(&rt, clear.action());
+    assert_eq!(rt; row.twins(&rt, 5, 0), (0, 0));
+    assert_eq!(rt;
+        take(&rt, &mut row, Take::new(layout, 0)),
+        Taken::Line { line: 5 }
+    );
+    Ok(())
+}

@@ -1,0 +1,4 @@
+pub mod Moves
+pub mod SplitSteps
+pub mod MoveStages
+pub mod Laws

@@ -1,0 +1,322 @@
+ghost use Rattle.std.specs.Prelude.{◌≡◌, ◌+◌, ◌*◌, ◌<◌};
+ghost use Rattle.pm_words.specs.Layouts.{IsLayout};
+
+use pm_words::offsets::{line, node, volatile};
+use pm_words::{Action, KEY, LINE, Layout, Machine, Turn};
+use smo_log::{Entry, Fence, KIND_SPLIT, Open, Ready};
+use version_lock::freed_of;
+
+/// The words of the largest node.
+pub const NODE_WORDS: usize = 272;
+
+/// The status of a node that is in use.
+const LIVE: u64 = 1;
+
+/// The state of a log line that says nothing.
+const EMPTY: u64 = 0;
+
+/// What a split does: the full node and the fresh one with their locked words, the line that was taken, the words that
+/// the fresh node is to have by offset, and the bitmap that the full node keeps.
+#[derive(Clone, Copy)]
+pub struct Plan {
+    pub layout: Layout,
+    pub node: u64,
+    pub locked: u64,
+    pub fresh: u64,
+    pub fresh_locked: u64,
+    pub line: u64,
+    pub words: [u64; NODE_WORDS],
+    pub keep: u64,
+}
+
+/// It moves the upper half of a full node's names into a fresh node, and gives both back.
+#[derive(Clone, Copy)]
+pub struct Move {
+    pub plan: Plan,
+    pub at: MoveAt,
+}
+
+/// What it does next.
+#[derive(Clone, Copy)]
+pub enum MoveAt {
+    /// It stores a word of the fresh node's slots, counted from the first.
+    Slot { word: u64 },
+    /// A word of its fingerprints.
+    Print { word: u64 },
+    Bitmap,
+    Anchor { word: u64 },
+    Next,
+    /// It makes the fresh node's line from this offset on durable.
+    FenceFresh { first: u64, fence: Fence },
+    Open { open: Open },
+    Prev,
+    Light,
+    Switch,
+    FenceSwitch { fence: Fence },
+    /// It stores the prev of the node behind the fresh one.
+    NextPrev,
+    Trim,
+    FenceTrim { fence: Fence },
+    Ready { ready: Ready },
+    Clear,
+    UnlockFresh,
+    Unlock,
+}
+
+impl Machine for Move {
+    ghost use Rattle.split_merge.specs.Moves.{IsMove, move_asks, move_turned, move_takes, move_left};
+
+    type Answer = ();
+
+    ghost fits = { IsMove };
+
+    ghost asks = { move_asks };
+
+    ghost turned = { move_turned };
+
+    ghost takes = { move_takes };
+
+    ghost left = { move_left };
+
+    fn action(&self) -> Action {
+        let plan = &self.plan;
+        match self.at {
+            MoveAt::Slot { word } => plan.fill(node::SLOTS + word),
+            MoveAt::Print { word } => plan.fill(node::PRINTS + word),
+            MoveAt::Bitmap => plan.fill(node::BITMAP),
+            MoveAt::Anchor { word } => plan.fill(node::ANCHOR + word),
+            MoveAt::Next => plan.fill(node::NEXT),
+            MoveAt::FenceFresh { first, fence } => {
+                fence.action(plan.address(plan.fresh, first + fence.word))
+            }
+            MoveAt::Open { open } => open.action(),
+            MoveAt::Prev => Action::Store(
+                plan.layout.node_volatile(plan.fresh, volatile::PREV),
+                plan.node,
+            ),
+            MoveAt::Light => {
+                Action::Store(
+                    plan.layout.node_volatile(plan.fresh, volatile::STATUS),
+                    LIVE,
+                )
+            }
+            MoveAt::Switch => Action::Store(plan.address(plan.node, node::NEXT), plan.fresh),
+            MoveAt::FenceSwitch { fence } | MoveAt::FenceTrim { fence } => {
+                fence.action(plan.address(plan.node, fence.word))
+            }
+            MoveAt::NextPrev => Action::Store(
+                plan.layout.node_volatile(plan.next(), volatile::PREV),
+                plan.fresh,
+            ),
+            MoveAt::Trim => Action::Store(plan.address(plan.node, node::BITMAP), plan.keep),
+            MoveAt::Ready { ready } => ready.action(),
+            MoveAt::Clear => Action::Store(plan.line_address(line::STATE), EMPTY),
+            MoveAt::UnlockFresh => Action::Store(
+                plan.address(plan.fresh, node::VERSION),
+                freed_of(plan.fresh_locked),
+            ),
+            MoveAt::Unlock => {
+                Action::Store(
+                    plan.address(plan.node, node::VERSION),
+                    freed_of(plan.locked),
+                )
+            }
+        }
+    }
+
+    fn resume(self, got: u64) -> Turn<Move, ()> {
+        match self.at {
+            MoveAt::Slot { word } => self.goes_to(self.plan.after_slot(word)),
+            MoveAt::Print { word } => self.goes_to(self.plan.after_print(word)),
+            MoveAt::Bitmap => self.goes_to(MoveAt::Anchor { word: 0 }),
+            MoveAt::Anchor { word } => self.goes_to(if word + 1 < KEY as u64 {
+                MoveAt::Anchor { word: word + 1 }
+            } else {
+                MoveAt::Next
+            }),
+            MoveAt::Next => self.goes_to(MoveAt::FenceFresh {
+                first: 0,
+                fence: Fence::new(),
+            }),
+            MoveAt::FenceFresh { first, fence } => {
+                self.goes_to(self.plan.after_fence(first, fence.next(got)))
+            }
+            MoveAt::Open { open } => match open.resume(got) {
+                Turn::Go(open) => self.goes_to(MoveAt::Open { open }),
+                Turn::Done(()) => self.goes_to(MoveAt::Prev),
+            },
+            MoveAt::Prev => self.goes_to(MoveAt::Light),
+            MoveAt::Light => self.goes_to(MoveAt::Switch),
+            MoveAt::Switch => self.goes_to(MoveAt::FenceSwitch {
+                fence: Fence::new(),
+            }),
+            MoveAt::FenceSwitch { fence } => self.goes_to(self.plan.after_switch(fence.next(got))),
+            MoveAt::NextPrev => self.goes_to(MoveAt::Trim),
+            MoveAt::Trim => self.goes_to(MoveAt::FenceTrim {
+                fence: Fence::new(),
+            }),
+            MoveAt::FenceTrim { fence } => self.goes_to(self.plan.after_trim(fence.next(got))),
+            MoveAt::Ready { ready } => match ready.resume(got) {
+                Turn::Go(ready) => self.goes_to(MoveAt::Ready { ready }),
+                Turn::Done(()) => self.goes_to(MoveAt::Clear),
+            },
+            MoveAt::Clear => self.goes_to(MoveAt::UnlockFresh),
+            MoveAt::UnlockFresh => self.goes_to(MoveAt::Unlock),
+            MoveAt::Unlock => Turn::Done(()),
+        }
+    }
+}
+
+impl Move {
+    ghost use Rattle.split_merge.specs.Moves.{moves_on};
+
+    /// It goes on there.
+    fn goes_to(self, at: MoveAt) -> Turn<Move, ()>
+        ensures { result ≡ moves_on self at }
+    {
+        Turn::Go(Move { at, ..self })
+    }
+}
+
+impl Plan {
+    ghost use Rattle.std.specs.Prelude.{◌≡◌, ◌+◌, ◌*◌, ◌<◌, ◌≤◌, Option};
+    ghost use Rattle.pm_words.specs.Locations.{node_words};
+    ghost use Rattle.call_stages.specs.Kinds.{word_address};
+    ghost use Rattle.smo_log.specs.LogLines.{numbered_address};
+    ghost use Rattle.split_merge.specs.Moves.{IsPlan, plan_word, fills, entry_in, next_in, after_slot, after_print};
+    ghost use Rattle.split_merge.specs.Moves.{after_fence, after_switch, after_trim};
+
+    /// The address of a node's word.
+    fn address(&self, node: u64, offset: u64) -> u64
+        requires plan { IsPlan self.now }
+        requires node { node < self.now.layout.nodes }
+        requires offset { offset < node_words self.now.layout }
+        ensures { result ≡ word_address self.now.layout node offset }
+    {
+        self.layout.cached(self.layout.node_word(node, offset))
+    }
+
+    /// The address of the line's word.
+    fn line_address(&self, offset: u64) -> u64
+        requires plan { IsPlan self.now }
+        requires offset { offset < 8 }
+        ensures { result ≡ numbered_address self.now.layout self.now.line offset }
+    {
+        let word = self.layout.line_word(self.line / 8, self.line % 8, offset);
+        self.layout.cached(word)
+    }
+
+    /// The word that the fresh node is to have at this offset.
+    fn word(&self, offset: u64) -> u64
+        requires { offset < 272 }
+        ensures { result ≡ plan_word self.now offset }
+    {
+        self.words[offset as usize]
+    }
+
+    /// The node behind the fresh one; 0 is none.
+    fn next(&self) -> u64
+        ensures { result ≡ next_in self.now }
+    {
+        self.words[node::NEXT as usize]
+    }
+
+    /// What the line is to say.
+    fn entry(&self) -> Entry
+        ensures { result ≡ entry_in self.now }
+    {
+        Entry {
+            kind: KIND_SPLIT,
+            node: self.fresh,
+            anchor: [self.words[3], self.words[4], self.words[5]],
+            left: self.node,
+        }
+    }
+
+    /// The store of the fresh node's word with this offset.
+    fn fill(&self, offset: u64) -> Action
+        requires plan { IsPlan self.now }
+        requires offset { offset < node_words self.now.layout }
+        ensures { result ≡ fills self.now offset }
+    {
+        Action::Store(self.address(self.fresh, offset), self.word(offset))
+    }
+
+    /// After this word of the slots.
+    fn after_slot(&self, word: u64) -> MoveAt
+        requires plan { IsPlan self.now }
+        requires word { word < 272 }
+        ensures { result ≡ after_slot self.now word }
+    {
+        if word + 1 < 4 * (self.layout.slots() / 2) {
+            MoveAt::Slot { word: word + 1 }
+        } else {
+            MoveAt::Print { word: 0 }
+        }
+    }
+
+    /// After this word of the fingerprints.
+    fn after_print(&self, word: u64) -> MoveAt
+        requires plan { IsPlan self.now }
+        requires word { word < 272 }
+        ensures { result ≡ after_print self.now word }
+    {
+        if word + 1 < (self.layout.slots() / 2 - 1) / 8 + 1 {
+            MoveAt::Print { word: word + 1 }
+        } else {
+            MoveAt::Bitmap
+        }
+    }
+
+    /// After a turn of a fence of the line from `first` on.
+    fn after_fence(&self, first: u64, fence: Option<Fence>) -> MoveAt
+        requires plan { IsPlan self.now }
+        requires first { first < 272 }
+        ensures { result ≡ after_fence self.now first fence }
+    {
+        match fence {
+            Some(fence) => MoveAt::FenceFresh { first, fence },
+            None => {
+                if first + LINE < node::SLOTS + 4 * (self.layout.slots() / 2) {
+                    MoveAt::FenceFresh {
+                        first: first + LINE,
+                        fence: Fence::new(),
+                    }
+                } else {
+                    MoveAt::Open {
+                        open: Open::new(self.layout, self.line, self.entry()),
+                    }
+                }
+            }
+        }
+    }
+
+    /// After a turn of the fence behind the switch.
+    fn after_switch(&self, fence: Option<Fence>) -> MoveAt
+        ensures { result ≡ after_switch self.now fence }
+    {
+        match fence {
+            Some(fence) => MoveAt::FenceSwitch { fence },
+            None => {
+                if self.next() == 0 {
+                    MoveAt::Trim
+                } else {
+                    MoveAt::NextPrev
+                }
+            }
+        }
+    }
+
+    /// After a turn of the fence behind the store of the full node's bitmap.
+    fn after_trim(&self, fence: Option<Fence>) -> MoveAt
+        requires { IsPlan self.now }
+        ensures { result ≡ after_trim self.now fence }
+    {
+        match fence {
+            Some(fence) => MoveAt::FenceTrim { fence },
+            None => MoveAt::Ready {
+                ready: Ready::new(self.layout, self.line),
+            },
+        }
+    }
+}
