@@ -1,0 +1,252 @@
+-- Each step of a machine keeps the table's rule, by the core's law on a step of a party's machine.
+use Rattle.std.proofs.Common.{◌≡◌, ◌≢◌, ℕ, zero, suc, ◌+◌, ◌<◌, ◌≤◌, ◌%◌, ◌^◌, ⊎_elim, List, [], ◌∷◌, ◌++◌, length, set, refl, sym, ap, ◌∙◌, subst, arith}
+use Rattle.std.specs.Prelude.{Option, Some, None, slice_index}
+use mathlib.Core.Option.{some, some-injective, some-ne-none}
+use lib.ListN.{get_elem?}
+use Rattle.cat_history.specs.Maps.{map_of}
+use Rattle.cat_history.specs.declared.op.Change.{Change}
+use Rattle.cat_history.specs.declared.op.Write.{Write}
+use Rattle.pm_words.specs.declared.action.Action.{Action}
+use Rattle.pm_words.specs.declared.action.Action.TheVariants.{Load, Store, Exchange, Add, Drain}
+use Rattle.pm_words.specs.declared.layout.Layout.{Layout}
+use Rattle.pm_words.specs.declared.machine.Turn.{Turn}
+use Rattle.pm_words.specs.declared.machine.Turn.TheVariants.{Go, Done}
+use Rattle.pm_words.specs.Locations.{row_words}
+use Rattle.pm_words.specs.Rows.{given, action_address, word_after, CanChange, MayName}
+use Rattle.call_stages.specs.declared.once.Once.{Once}
+use Rattle.call_stages.specs.declared.once.Placed.{Placed}
+use Rattle.call_stages.specs.Stages.{counted}
+use Rattle.node_ops.specs.declared.running.Running.{Running}
+use Rattle.node_ops.specs.Asked.{op_in}
+use Rattle.node_ops.specs.RunningSteps.{running_asks, running_turned, running_call, IsRunning}
+use Rattle.node_ops.specs.CallStages.{stage_of}
+use Rattle.index_law.specs.Worlds.{written}
+use Rattle.index_law.specs.Laws.{Counts}
+use Rattle.index_law.proofs.Parties.{at_set, set_here, set_else}
+use Rattle.index_core.specs.declared.party.CoreCall.{CoreCall}
+use Rattle.index_core.specs.declared.party.PartyState.{PartyState}
+use Rattle.index_core.specs.Answers.{SaysOf}
+use Rattle.index_core.specs.CoreCalls.{machine_of}
+use Rattle.index_core.specs.PartyStates.{state_with, state_after, stepped_of}
+use Rattle.index_core.specs.MachineLaws.{ReadyAfter, showing, showing_after}
+use Rattle.cat_history.specs.declared.op.Op.{Op}
+use Rattle.index_law.specs.Weights.{weight_sum}
+use Rattle.index_core.specs.Indexes.{Index, IsIndex, world, view_of, started_index, stepped_index}
+use Rattle.index_core.proofs.Lists.{some_same}
+use Rattle.index_core.proofs.MachineLaw.{machine_law, begin_law}
+use Rattle.atomic_table.specs.Table.{State, Me, keeps}
+use Rattle.pac_index.specs.declared.rule.About.{About}
+use Rattle.pac_index.specs.declared.rule.Member.{Member}
+use Rattle.pac_index.specs.Kept.{index_of, placed_by, noted, Fits, AllFit, times_in, times_in_all, Kept, added_now, Goes, Tells, Starts, May, party, IsLone, machine_in, calling}
+use Rattle.pac_index.proofs.Lists.{begins_more, begins_self, begins_le, placed_append, own_placed, others_keep, times_there, times_two, times_set, added_set}
+
+after_caller : (e : PartyState) (turn : Turn Running (Once Placed)) → (state_after e turn).caller ≡ e.caller
+after_caller e (Go m) = refl
+after_caller e (Done answer) = refl
+
+-- what a party shows after a turn, with what that added
+showing_is : (e : PartyState) (o : Op) (turn : Turn Running (Once Placed)) → showing_after o turn ≡ added_now o turn + showing (state_after e turn).machine
+showing_is e o (Go m) = omega arith
+showing_is e o (Done answer) = omega arith
+
+-- the write that a step counts has the place that it was told
+told_place : (l : Layout) (n x c i : ℕ) (a : Action) (o : Option Change) → Counts l n a x o → noted n (written c i o) ≡ noted x (written c i o)
+told_place l n x c i a None counts = refl
+told_place l n x c i a (Some change) counts = ap (λ (k : ℕ). noted k (written c i (Some change))) (sym counts.1)
+
+-- the only party of a view of one
+alone : (P : Member → Type 0) (w : Member) → P w → (k : ℕ) (u : Member) → get_elem? (w ∷ []) k ≡ some u → P u
+alone P w is zero u at = subst P (some-injective w u at) is
+alone P w is (suc k) u at = absurd (some-ne-none u (sym at))
+
+-- what a party knows is kept where another one's state changes and the history grows by that one's writes
+grown : (about : About) (states : List PartyState) (h : List Write) (e now : PartyState) (o : Option Change) (u : Member) → e.caller ≢ u.state.caller → Fits about states h u
+    → Fits about (set states e.caller now) (h ++ written e.caller e.index o) u
+grown about states h e now o u apart f = record {
+  same = f.same;
+  there = set_else states e.caller u.state.caller now (λ same. apart (sym same)) ∙ f.there;
+  seen = begins_more u.seen h (written e.caller e.index o) f.seen;
+  own = others_keep u.state.caller e.caller e.index h o apart ∙ f.own;
+}
+
+-- two parties of two seats have two numbers
+apart : (n : ℕ) (views : List (List Member)) (i j : ℕ) (v u : Member) (view : List Member) (k : ℕ) → times_in_all n views ≤ 1 → v.state.caller ≡ n → get_elem? views i ≡ some (v ∷ []) → j ≢ i → get_elem? views j ≡ some view → get_elem? view k ≡ some u
+    → n ≢ u.state.caller
+apart n views i j v u view k once mine at other there here same =
+    let two = times_two n views i j (v ∷ []) view (λ e. other (sym e)) at there in
+    let one = times_there n (v ∷ []) 0 v refl mine in
+    let more = times_there n view k u here (sym same) in
+    omega arith
+
+-- what a step of the party's machine leaves
+record Stepped (about : About) (s : State (Unit {0}) (List Member)) (id : ℕ) (v : Member) (m : Running) (words : List ℕ) (x : ℕ) : Type 0 where
+  now : Member
+  kept : Kept about (record { words = words; homes = s.homes; views = set s.views id (now ∷ []) })
+  goes : Goes m v x now
+
+module _ (about : About) (id : ℕ) (v : Member) (m : Running) (f : ℕ → ℕ) (is : v.state.machine ≡ Some m) (same : (n : ℕ) → n < 2 ^ 64 → CanChange (running_asks m) n → f n ≡ word_after (running_asks m) n) where
+  done : (s : State (Unit {0}) (List Member)) → Kept about s → get_elem? s.views id ≡ some (v ∷ []) → slice_index s.words (action_address about.layout (running_asks m)) < 2 ^ 64
+      → Stepped about s id v m (set s.words (action_address about.layout (running_asks m)) (f (slice_index s.words (action_address about.layout (running_asks m))))) (given (running_asks m) (slice_index s.words (action_address about.layout (running_asks m))))
+  done s kept at fits =
+      let h = kept.history in
+      let old = index_of about s.words kept.states h in
+      let own = kept.fits id (v ∷ []) at 0 v refl in
+      let c = v.state.caller in
+      let step = machine_law old c v.state m kept.index own.there is in
+      let a = running_asks m in
+      let place = action_address about.layout a in
+      let n = slice_index s.words place in
+      let x = given a n in
+      let turn = running_turned m x in
+      let now = state_after v.state turn in
+      let more = written c v.state.index (counted (stage_of m)) in
+      let w : Member = record { about = v.about; state = now; seen = h ++ more; told = v.told ++ x ∷ []; taken = v.taken + 1; added = v.added + added_now (op_in m) turn } in
+      let words' = set s.words place (f n) in
+      let states' = set kept.states c now in
+      let change = same n fits step.can.1 in
+      let path : Path Index (stepped_index old c v.state m 0) (index_of about words' states' (h ++ more)) =
+      λ k. record { layout = about.layout; generation = about.generation; words = set s.words place (sym change k); states = states'; base = about.base; history = h ++ more; spare = 0 } in
+      let index' = subst IsIndex path step.kept in
+      let caller = after_caller v.state turn in
+      let there' : get_elem? states' now.caller ≡ some now = ap (get_elem? states') caller ∙ set_here kept.states c now v.state own.there in
+      let placed : placed_by c (h ++ more) ≡ placed_by c h ++ noted x more =
+      placed_append c 0 h more ∙ ap (λ (l : List (ℕ × Write)). placed_by c h ++ l) (own_placed c v.state.index (0 + length h) (counted (stage_of m)) ∙ ap (λ (k : ℕ). noted k more) (let z : 0 + length h ≡ length h = omega arith in z)
+      ∙ told_place about.layout (length h) x c v.state.index a (counted (stage_of m)) step.counts) in
+      let fit : Fits about states' (h ++ more) w = record { same = own.same; there = there'; seen = begins_self (h ++ more); own = refl } in
+      record {
+        now = w;
+        kept = record {
+          states = states';
+          history = h ++ more;
+          index = index';
+          fits = λ j view there. ⊎_elim
+              (λ (t : (j ≡ id) × (w ∷ [] ≡ view)). subst (AllFit about states' (h ++ more)) t.1 (alone (Fits about states' (h ++ more)) w fit))
+              (λ (t : (j ≢ id) × (get_elem? s.views j ≡ some view)) k u here. grown about kept.states h v.state now (counted (stage_of m)) u (apart c s.views id j v u view k (kept.once c) refl at t.0 t.1 here) (kept.fits j view t.1 k u here))
+              (at_set s.views id j (w ∷ []) view there);
+          once = λ number. let moved = times_set number s.views id (v ∷ []) (w ∷ []) at in let before = kept.once number in let alike = ap (λ (k : ℕ). times_in number (record w { state = record now { caller = k } } ∷ [])) caller in omega arith;
+          weight =
+              let heavier = step.weighs in
+              let same_weight = ap (λ (s' : Index). weight_sum (world s')) path in
+              let moved = added_set s.views id (v ∷ []) (w ∷ []) at in
+              let flies = ap showing is in
+              let shows_now = showing_is v.state (op_in m) turn in
+              let before = kept.weight in
+              omega arith;
+        };
+        goes = record {
+          takes = step.takes;
+          about = refl;
+          state = refl;
+          told = refl;
+          taken = refl;
+          added = refl;
+          seen = begins_more v.seen h more own.seen;
+          own = placed ∙ ap (λ (l : List (ℕ × Write)). l ++ noted x more) own.own;
+          says = subst (λ (b : About). SaysOf b.layout.slots (map_of b.base) (h ++ more) v.state (op_in m) (running_call m).limit (stepped_of turn)) (sym own.same) step.says;
+          op_on = step.keeps_op;
+          call_on = step.keeps_call;
+          ready = subst (λ (b : About). ReadyAfter b.layout b.generation turn) (sym own.same) step.ready;
+        };
+      }
+
+-- an action that may be named is on a word of the row
+pub place_inside : (l : Layout) (action : Action) → MayName l action → action_address l action < row_words l
+place_inside l (Load place) may = may
+place_inside l (Store place value) may = may.0
+place_inside l (Exchange place old new) may = may.0
+place_inside l (Add place) may = may.0
+place_inside l (Drain place value) may = let top = may.0.1 in omega arith
+
+-- Whatever the table is, the word of the action becomes what the action makes of it.
+pub allows : (about : About) (words slots id : ℕ) (me : Me (Unit {0}) (List Member)) (m : Running) → IsLone me → (party me).state.machine ≡ Some m → action_address about.layout (running_asks m) < words
+    → May about words slots id me (running_asks m) Tells
+allows about words slots id me m lone is within = (
+  within,
+  λ f told same tells s kept count at fits.
+      let n = slice_index s.words (action_address about.layout (running_asks m)) in
+      let v = party me in
+      let d = done about id v m f is same s kept (at ∙ ap (λ (q : Me (Unit {0}) (List Member)). some q.0) lone) fits in (
+        d.now ∷ [],
+        keeps,
+        tt,
+        d.kept,
+        (λ m' is'.
+            let one : m ≡ m' = some_same (sym is ∙ is') in (
+              ap (λ (q : Me (Unit {0}) (List Member)). (d.now ∷ [], q.1)) lone,
+              subst (λ (x : Running). Goes x v (given (running_asks x) (told n)) d.now) one (subst (λ (x : ℕ). Goes m v x d.now) (sym (tells n)) d.goes),
+            )),
+      ),
+)
+
+set_twice : (l : List (List Member)) (i : ℕ) (a b : List Member) → set (set l i a) i b ≡ set l i b
+set_twice [] i a b = refl
+set_twice (x ∷ xs) zero a b = refl
+set_twice (x ∷ xs) (suc i) a b = ap (λ (t : List (List Member)). x ∷ t) (set_twice xs i a b)
+
+-- the parties and the views once a party has begun its call
+begun : (about : About) (id : ℕ) (v : Member) (c : CoreCall) (index : ℕ) (s : State (Unit {0}) (List Member)) (kept : Kept about s) → get_elem? s.views id ≡ some (v ∷ []) → v.state.machine ≡ None → IsRunning (machine_in v c)
+    → Kept about (record { words = s.words; homes = s.homes; views = set s.views id (calling v c index (length kept.history) ∷ []) })
+begun about id v c index s kept at idle here =
+    let h = kept.history in
+    let old = index_of about s.words kept.states h in
+    let own = kept.fits id (v ∷ []) at 0 v refl in
+    let i = v.state.caller in
+    let u = calling v c index (length h) in
+    let machine : machine_of (view_of old i) c ≡ machine_in v c = ap (λ (b : About). machine_of (record { layout = b.layout; generation = b.generation; caller = i }) c) (sym own.same) in
+    let begins = begin_law old i v.state index c kept.index own.there idle (subst IsRunning (sym machine) here) in
+    let path : Path Index (started_index old i (record v.state { index = index }) c 0) (index_of about s.words (set kept.states i u.state) h) =
+    λ k. record { layout = about.layout; generation = about.generation; words = s.words; states = set kept.states i (state_with (record v.state { index = index }) (length h) (machine k)); base = about.base; history = h; spare = 0 } in
+    let fit : Fits about (set kept.states i u.state) h u = record { same = own.same; there = set_here kept.states i u.state v.state own.there; seen = own.seen; own = own.own } in
+    record {
+      states = set kept.states i u.state;
+      history = h;
+      index = subst IsIndex path begins.kept;
+      fits = λ j view there. ⊎_elim
+          (λ (t : (j ≡ id) × (u ∷ [] ≡ view)). subst (AllFit about (set kept.states i u.state) h) t.1 (alone (Fits about (set kept.states i u.state) h) u fit))
+          (λ (t : (j ≢ id) × (get_elem? s.views j ≡ some view)) k d found.
+          let f = kept.fits j view t.1 k d found in
+          let other = apart i s.views id j v d view k (kept.once i) refl at t.0 t.1 found in
+          record { same = f.same; there = set_else kept.states i d.state.caller u.state (λ same. other (sym same)) ∙ f.there; seen = f.seen; own = f.own })
+          (at_set s.views id j (u ∷ []) view there);
+      once = λ number. let moved = times_set number s.views id (v ∷ []) (u ∷ []) at in let before = kept.once number in omega arith;
+      weight =
+          let same_weight = ap (λ (s' : Index). weight_sum (world s')) path in
+          let as_before = begins.weighs in
+          let moved = added_set s.views id (v ∷ []) (u ∷ []) at in
+          let was = ap showing idle in
+          let now = ap (λ (q : Running). showing (Some q)) (sym machine) ∙ begins.shows_none in
+          let before = kept.weight in
+          omega arith;
+    }
+
+-- the same where the step begins the call
+pub allows_first : (about : About) (words slots id : ℕ) (me : Me (Unit {0}) (List Member)) (c : CoreCall) (index : ℕ) → IsLone me → (party me).state.machine ≡ None → IsRunning (machine_in (party me) c)
+    → action_address about.layout (running_asks (machine_in (party me) c)) < words → May about words slots id me (running_asks (machine_in (party me) c)) (Starts c index)
+allows_first about words slots id me c index lone idle here within = (
+  within,
+  λ f told same tells s kept count at fits.
+      let v = party me in
+      let m = machine_in v c in
+      let at' = at ∙ ap (λ (q : Me (Unit {0}) (List Member)). some q.0) lone in
+      let own = kept.fits id (v ∷ []) at' 0 v refl in
+      let u = calling v c index (length kept.history) in
+      let s' : State (Unit {0}) (List Member) = record { words = s.words; homes = s.homes; views = set s.views id (u ∷ []) } in
+      let kept' : Kept about s' = begun about id v c index s kept at' idle here in
+      let place = action_address about.layout (running_asks m) in
+      let n = slice_index s.words place in
+      let d = done about id u m f refl same s' kept' (set_here s.views id (u ∷ []) me.0 at) fits in (
+        d.now ∷ [],
+        keeps,
+        tt,
+        subst (λ (l : List (List Member)). Kept about (record { words = set s.words place (f n); homes = s.homes; views = l })) (set_twice s.views id (u ∷ []) (d.now ∷ [])) d.kept,
+        record {
+          since = length kept.history;
+          later = begins_le v.seen kept.history own.seen;
+          lone = ap (λ (q : Me (Unit {0}) (List Member)). (d.now ∷ [], q.1)) lone;
+          goes = subst (λ (x : ℕ). Goes m u x d.now) (sym (tells n)) d.goes;
+        },
+      ),
+)
+
+pub small_mod : (n : ℕ) → n < 2 ^ 63 → (n + 1) % 2 ^ 64 ≡ n + 1
+small_mod n small = omega arith

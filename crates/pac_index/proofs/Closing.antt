@@ -1,0 +1,129 @@
+-- The one index in which all callers have met.
+use Rattle.std.proofs.Common.{suc, ◌≡◌, ℕ, ◌<◌, List, map, length, get_or, refl, sym, ap, ◌∙◌, subst, arith, ◌≢◌, ◌+◌, ◌≤◌, [], ◌∷◌}
+use Rattle.std.specs.Prelude.{Some, slice_get, slice_index, None}
+use mathlib.Core.Option.{some, some-injective}
+use lib.ListN.{get_elem?}
+use Rattle.cat_history.specs.declared.op.Write.{Write}
+use Rattle.call_stages.specs.Kinds.{clock_address}
+use Rattle.index_core.specs.declared.party.PartyState.{PartyState}
+use Rattle.index_core.specs.Indexes.{Index, IsIndex, parties_of}
+use Rattle.index_core.specs.Lone.{IsQuiet}
+use Rattle.index_core.proofs.Lists.{map_there, there_is, within}
+use Rattle.atomic_table.specs.Table.{Final, Seen}
+use Rattle.pac_index.specs.declared.rule.About.{About}
+use Rattle.pac_index.specs.declared.caller.Caller.{Caller}
+use Rattle.pac_index.specs.declared.shared.Shared.{Shared}
+use Rattle.pm_words.specs.declared.layout.Layout.{Layout}
+use Rattle.pac_index.specs.Stamps.{stamp_in, SettlesTo}
+use Rattle.pac_index.specs.Kept.{index_of, placed_by, Begins, Fits, added_in, opening_weight, Kept}
+use Rattle.pac_index.proofs.Lists.{times_there, times_two, added_only}
+use Rattle.index_core.specs.Weights.{weight_of}
+use Rattle.pac_index.specs.declared.rule.Member.{Member}
+use Rattle.index_core.specs.MachineLaws.{showing}
+use Rattle.pac_index.specs.Callers.{AreWritesOf, HasCallers, Meeting, added_by_all, pairs, kept_by, seen_by}
+use Rattle.index_core.specs.MachineLaws.{AreIdle}
+use Rattle.index_core.proofs.MachineLaw.{with_idle, idle_weigh}
+use Rattle.pac_index.proofs.Gathered.{or_is, writes_gathered}
+use Rattle.pm_words.specs.Locations.{Clock}
+use Rattle.pm_words.proofs.Apart.{addresses_within}
+
+pub record IsClosed (s : Shared) (callers : List Caller) (words : List ℕ) : Type 0 where
+  pub history : List Write
+  pub index : (states : List PartyState) → AreIdle states (parties_of s.about.layout) → IsIndex (index_of s.about words states history)
+  pub seen : (i : ℕ) (c : Caller) → get_elem? callers i ≡ some c → Begins (seen_by c).seen history
+  pub own : (i : ℕ) (c : Caller) → get_elem? callers i ≡ some c → placed_by i history ≡ pairs c.kept.items
+  pub own_seen : (i : ℕ) (c : Caller) → get_elem? callers i ≡ some c → placed_by i history ≡ placed_by i (seen_by c).seen
+  pub writers : (place : ℕ) (w : Write) → slice_get history place ≡ Some w → w.caller < length callers
+  pub weight : weight_of (index_of s.about words [] history) ≤ opening_weight s.about + added_by_all callers
+
+-- what callers show who are idle
+added_idle : (callers : List Caller) → ((i : ℕ) (c : Caller) → get_elem? callers i ≡ some c → (seen_by c).state.machine ≡ None) → added_in (map seen_by callers) ≡ added_by_all callers
+added_idle [] idle = refl
+added_idle (c ∷ cs) idle = let here = ap showing (idle 0 c refl) in let rest = added_idle cs (λ i d at. idle (suc i) d at) in omega arith
+
+pub closes : (s : Shared) (callers : List Caller) (id : ℕ) (words : List ℕ) (slots : List (Unit {0})) → HasCallers s (parties_of s.about.layout) callers → Final (Seen (Kept s.table.shared.key) id (map seen_by callers)) words slots
+    → IsClosed s callers words
+closes s callers id words slots has final =
+    let key = s.table.shared.key in
+    let st = final.0 in
+    let kept = final.1.0 in
+    let h = kept.history in
+    let old = index_of key st.words kept.states h in
+    let same : key ≡ s.about = s.key in
+    let fit : (i : ℕ) (c : Caller) → get_elem? callers i ≡ some c → Fits key kept.states h (seen_by c) = λ i c at. kept.fits id (map seen_by callers) final.1.1 i (seen_by c) (map_there seen_by callers i c at) in
+    let number : (i : ℕ) (c : Caller) → get_elem? callers i ≡ some c → (seen_by c).state.caller ≡ i = λ i c at. (has.each i c at).number ∙ has.numbers i c at in
+    let count : parties_of key.layout ≡ length callers = ap (λ (b : About). parties_of b.layout) same ∙ sym has.count in
+    let quiet : IsQuiet old = λ i e at.
+    let less = within kept.states i e at in
+    let many = kept.index.parties in
+    let here = there_is callers i (omega arith) in
+    let there : get_elem? kept.states i ≡ some (seen_by here.0).state = ap (get_elem? kept.states) (sym (number i here.0 here.1)) ∙ (fit i here.0 here.1).there in
+    let one : e ≡ (seen_by here.0).state = some-injective _ _ (sym at ∙ there) in
+    ap (λ (d : PartyState). d.machine) one ∙ (has.each i here.0 here.1).idle in
+    record {
+      history = h;
+      index = λ states idle. subst IsIndex (λ k. index_of (same k) (final.2 k) states h) (with_idle old states kept.index quiet (subst (λ (n : ℕ). AreIdle states n) (ap (λ (b : About). parties_of b.layout) (sym same)) idle));
+      seen = λ i c at. (fit i c at).seen;
+      own = λ i c at. subst (λ (n : ℕ). placed_by n h ≡ pairs c.kept.items) (number i c at)
+          ((fit i c at).own ∙ subst (λ (n : ℕ). placed_by (seen_by c).state.caller (seen_by c).seen ≡ placed_by n (seen_by c).seen) (has.each i c at).number refl ∙ sym (has.each i c at).kept);
+      own_seen = λ i c at. subst (λ (n : ℕ). placed_by n h ≡ placed_by n (seen_by c).seen) (number i c at) (fit i c at).own;
+      writers = λ place w at. let less = kept.index.bounded.writers place w at in omega arith;
+      weight =
+          -- each party stands in the one view, so the others are empty
+          let others : (j : ℕ) (u : List Member) → j ≢ id → get_elem? st.views j ≡ some u → u ≡ [] = (λ j u away at. empty u (λ m first.
+          let mine = kept.fits j u at 0 m first in
+          let less = within kept.states m.state.caller m.state mine.there in
+          let many = kept.index.parties in
+          let here = there_is callers m.state.caller (omega arith) in
+          let one = times_there m.state.caller (map seen_by callers) m.state.caller (seen_by here.0) (map_there seen_by callers m.state.caller here.0 here.1) (number m.state.caller here.0 here.1) in
+          let two = times_there m.state.caller u 0 m first refl in
+          let both = times_two m.state.caller st.views id j (map seen_by callers) u (λ e. away (sym e)) final.1.1 at in
+          let once = kept.once m.state.caller in
+          omega arith)) in
+          let all = added_only st.views id (map seen_by callers) final.1.1 others in
+          let added = added_idle callers (λ i c at. (has.each i c at).idle) in
+          let sum = kept.weight in
+          let as_weight = idle_weigh old quiet in
+          let weighs : weight_of old ≤ opening_weight key + added_by_all callers = omega arith in
+          subst (λ (q : About × List ℕ). weight_of (index_of q.0 q.1 [] h) ≤ opening_weight q.0 + added_by_all callers) (λ k. (same k, final.2 k)) weighs;
+    }
+  where
+    empty : (u : List Member) → ((m : Member) → get_elem? u 0 ≡ some m → ⊥) → u ≡ []
+    empty [] none = refl
+    empty (m ∷ ms) none = absurd (none m refl)
+
+-- all that the callers have kept are the writes of that history
+pub closed_writes : (s : Shared) (callers : List Caller) (words : List ℕ) (z : IsClosed s callers words) → AreWritesOf (kept_by callers) z.history
+closed_writes s callers words z = writes_gathered callers z.history (λ i c at. sym (z.own i c at)) (λ place w at. there_is callers w.caller (z.writers place w at))
+
+-- whose length the clock tells
+pub closed_clock : (s : Shared) (callers : List Caller) (words : List ℕ) (z : IsClosed s callers words) (states : List PartyState) → AreIdle states (parties_of s.about.layout) → slice_index words 0 ≡ length z.history
+closed_clock s callers words z states idle = let place : clock_address s.about.layout ≡ 0 = omega arith in ap (slice_index words) (sym place) ∙ (z.index states idle).lawful.clock
+
+pub closed_word : (s : Shared) (callers : List Caller) (words : List ℕ) (z : IsClosed s callers words) (states : List PartyState) → AreIdle states (parties_of s.about.layout) → (d : ℕ) → length z.history ≡ get_or words 0 d
+closed_word s callers words z states idle d =
+    let row = (z.index states idle).lawful.row in
+    let whole = row.whole in
+    let some_words = addresses_within s.about.layout Clock tt in
+    let here = there_is words 0 (omega arith) in
+    sym (closed_clock s callers words z states idle) ∙ or_is words 0 here.0 0 here.1 ∙ sym (or_is words 0 here.0 d here.1)
+
+pub meeting_in : (s : Shared) (callers : List Caller) (words settled : List ℕ) (z : IsClosed s callers words) (states : List PartyState) (core : Index) → AreIdle states (parties_of s.about.layout)
+    → SettlesTo s.about.layout words settled → core ≡ record (index_of s.about settled states z.history) { spare = core.spare } → IsIndex core → Meeting s callers core
+meeting_in s callers words settled z states core idle settles is index =
+    let history : core.history ≡ z.history = ap (λ (i : Index). i.history) is in
+    record {
+      layout = ap (λ (i : Index). i.layout) is;
+      generation = ap (λ (i : Index). i.generation) is;
+      base = ap (λ (i : Index). i.base) is;
+      weight = subst (λ (n : ℕ). n ≤ opening_weight s.about + added_by_all callers) (sym (ap weight_of is ∙ settles.weighs (index_of s.about settled states z.history))) z.weight;
+      index = index;
+      quiet = λ i e at. idle.idle i e (ap (λ (i' : Index). get_elem? i'.states i) (sym is) ∙ at);
+      seen = λ i c at. subst (Begins (seen_by c).seen) (sym history) (z.seen i c at);
+      own = λ i c at. ap (placed_by i) history ∙ z.own_seen i c at;
+      clock = index.lawful.clock;
+      stamps = λ n low.
+          let one : stamp_in s.about.layout settled n ≤ 1 = let small = settles.stamps n (subst (λ (l : Layout). n < l.nodes) (ap (λ (i : Index). i.layout) is) low) in omega arith in
+          subst (λ (i : Index). stamp_in i.layout i.words n ≤ 1) (sym is) one;
+      writers = λ place w at. z.writers place w (ap (λ (l : List Write). slice_get l place) (sym history) ∙ at);
+    }

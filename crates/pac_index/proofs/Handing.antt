@@ -1,0 +1,92 @@
+-- Callers as they are made.
+use Rattle.std.proofs.Common.{◌≡◌, ℕ, suc, ◌+◌, ◌<◌, ⊎_elim, List, [], ◌∷◌, ◌++◌, drop, length, refl, sym, ap, ◌∙◌, subst, arith}
+use Rattle.std.proofs.lemmas.List.{length-append}
+use mathlib.Core.Option.{some}
+use lib.ListN.{get_elem?}
+use Rattle.index_core.specs.PartyStates.{idle_state}
+use Rattle.index_core.specs.Indexes.{parties_of}
+use Rattle.index_core.proofs.Lists.{at_end, end_there}
+use Rattle.atomic_table.specs.Table.{Me}
+use Rattle.pac_index.specs.declared.rule.Member.{Member}
+use Rattle.pac_index.specs.declared.caller.Caller.{Caller}
+use Rattle.pac_index.specs.declared.shared.Shared.{Shared}
+use Rattle.pac_index.specs.Kept.{IsLone, party, member_of, first_view, first_of, rest_of, placed_by}
+use Rattle.pac_index.specs.Callers.{IsCallerOf, HasCallers, AreNew, seen_by, pairs}
+use Rattle.pac_index.proofs.Seats.{next_first}
+use Rattle.pac_index.proofs.Gathered.{at_front}
+
+-- a seat of one party
+pub party_is : (me : Me (Unit {0}) (List Member)) (m : Member) → me ≡ (m ∷ [], []) → party me ≡ m
+party_is me m e = ap party e
+
+pub lone_is : (me : Me (Unit {0}) (List Member)) (m : Member) → me ≡ (m ∷ [], []) → IsLone me
+lone_is me m e = e ∙ ap (λ (x : Member). (x ∷ [], [])) (sym (party_is me m e))
+
+-- what is left of the first parties
+pub left_first : (s : Shared) (i : ℕ) → i < parties_of s.about.layout → rest_of (drop i (first_view s.about)) ≡ drop (suc i) (first_view s.about)
+left_first s i less = ap rest_of (next_first s.about (parties_of s.about.layout) i less)
+
+-- one caller more
+pub handed : (s : Shared) (i : ℕ) (callers : List Caller) (c : Caller) → i < parties_of s.about.layout → HasCallers s i callers → AreNew callers → c.seat.table_id ≡ s.table.shared.table_id
+    → c.seat.me ≡ (first_of (drop i (first_view s.about)), []) → c.number ≡ i → c.index ≡ 0 → c.kept.items ≡ [] → HasCallers s (i + 1) (callers ++ c ∷ []) × AreNew (callers ++ c ∷ [])
+handed s i callers c less has fresh table me number index kept =
+    let m : Member = member_of s.about (idle_state i) in
+    let is : c.seat.me ≡ (m ∷ [], []) = me ∙ ap (λ (v : List Member). (first_of v, [])) (next_first s.about (parties_of s.about.layout) i less) in
+    let who : party c.seat.me ≡ m = party_is c.seat.me m is in
+    let one : IsCallerOf s c = record {
+      table = table;
+      lone = lone_is c.seat.me m is;
+      about = ap (λ (x : Member). x.about) who;
+      idle = ap (λ (x : Member). x.state.machine) who;
+      number = ap (λ (x : Member). x.state.caller) who ∙ sym number;
+      within = omega arith;
+      kept = ap pairs kept ∙ ap (λ (x : Member). placed_by c.number x.seen) (sym who);
+    } in
+    let long = length-append callers (c ∷ []) in
+    let count = has.count in (
+      record {
+        count = omega arith;
+        each = λ j d at. ⊎_elim
+            (λ (before : get_elem? callers j ≡ some d). has.each j d before)
+            (λ (last : (j ≡ length callers) × (c ≡ d)). subst (IsCallerOf s) last.1 one)
+            (at_end callers c d j at);
+        numbers = λ j d at. ⊎_elim
+            (λ (before : get_elem? callers j ≡ some d). has.numbers j d before)
+            (λ (last : (j ≡ length callers) × (c ≡ d)). ap (λ (x : Caller). x.number) (sym last.1) ∙ number ∙ sym count ∙ sym last.0)
+            (at_end callers c d j at);
+      },
+      (λ j d at. ⊎_elim
+          (λ (before : get_elem? callers j ≡ some d). fresh j d before)
+          (λ (last : (j ≡ length callers) × (c ≡ d)). (
+            ap (λ (x : Caller). (seen_by x).seen) (sym last.1) ∙ ap (λ (x : Member). x.seen) who,
+            ap (λ (x : Caller). x.index) (sym last.1) ∙ index,
+            ap (λ (x : Caller). (seen_by x).taken) (sym last.1) ∙ ap (λ (x : Member). x.taken) who,
+            ap (λ (x : Caller). (seen_by x).added) (sym last.1) ∙ ap (λ (x : Member). x.added) who,
+          ))
+          (at_end callers c d j at)),
+    )
+
+-- the last caller, and those before it
+pub record Popped (s : Shared) (front : List Caller) (c : Caller) : Type 0 where
+  pub last : IsCallerOf s c
+  pub number : c.number ≡ length front
+  pub rest : HasCallers s (length front) front
+
+pub popped : (s : Shared) (n : ℕ) (front : List Caller) (c : Caller) (all : List Caller) → all ≡ front ++ c ∷ [] → HasCallers s n all → Popped s front c
+popped s n front c all is has =
+    let there = subst (λ (l : List Caller). get_elem? l (length front) ≡ some c) (sym is) (end_there front c) in record {
+      last = has.each (length front) c there;
+      number = has.numbers (length front) c there;
+      rest = record {
+        count = refl;
+        each = λ i d at. has.each i d (subst (λ (l : List Caller). get_elem? l i ≡ some d) (sym is) (at_front front (c ∷ []) i d at));
+        numbers = λ i d at. has.numbers i d (subst (λ (l : List Caller). get_elem? l i ≡ some d) (sym is) (at_front front (c ∷ []) i d at));
+      };
+    }
+
+pub pushed : (s : Shared) (front : List Caller) (c : Caller) → HasCallers s (length front) front → IsCallerOf s c → c.number ≡ length front → HasCallers s (length (front ++ c ∷ [])) (front ++ c ∷ [])
+pushed s front c has one number = record {
+  count = refl;
+  each = λ i d at. ⊎_elim (λ (before : get_elem? front i ≡ some d). has.each i d before) (λ (last : (i ≡ length front) × (c ≡ d)). subst (IsCallerOf s) last.1 one) (at_end front c d i at);
+  numbers = λ i d at. ⊎_elim (λ (before : get_elem? front i ≡ some d). has.numbers i d before) (λ (last : (i ≡ length front) × (c ≡ d)). ap (λ (x : Caller). x.number) (sym last.1) ∙ number ∙ sym last.0) (at_end front c d i at);
+}

@@ -1,0 +1,8 @@
+pub mod Lists
+pub mod Allowed
+pub mod Running
+pub mod Seats
+pub mod Handing
+pub mod Gathered
+pub mod Closing
+mod Settling

@@ -1,0 +1,195 @@
+-- How a call goes on by one step, and what it is answered at its end.
+use Rattle.std.proofs.Common.{◌≡◌, ℕ, ◌+◌, ◌<◌, ◌≤◌, List, [], ◌∷◌, ◌++◌, length, refl, sym, ap, ◌∙◌, subst, arith}
+use Rattle.std.proofs.lemmas.List.{append_assoc, append-nil, length-append}
+use Rattle.std.specs.Prelude.{Option, Some, None, IfSome}
+use Rattle.cat_history.specs.Maps.{Map, map_of}
+use Rattle.cat_history.specs.Records.{change_of}
+use Rattle.cat_history.specs.declared.op.Change.{Change}
+use Rattle.cat_history.specs.declared.op.Op.{Op}
+use Rattle.cat_history.specs.declared.op.Write.{Write}
+use Rattle.pm_words.specs.declared.machine.Turn.{Turn}
+use Rattle.pm_words.specs.declared.machine.Turn.TheVariants.{Go, Done}
+use Rattle.pm_words.specs.Turns.{GoesBelow}
+use Rattle.call_stages.specs.declared.once.Once.{Once}
+use Rattle.call_stages.specs.declared.once.Once.TheVariants as once
+use Rattle.call_stages.specs.declared.once.Placed.{Placed}
+use Rattle.call_stages.specs.Stages.{counted, placed_in}
+use Rattle.node_ops.specs.declared.call.Call.{Call}
+use Rattle.node_ops.specs.declared.running.Running.{Running}
+use Rattle.node_ops.specs.Asked.{IsOf, IsOfAfter, op_in, name_asked}
+use Rattle.node_ops.specs.Calls.{IsSame, at_node}
+use Rattle.node_ops.specs.RunningSteps.{running_call, running_left, running_turned, IsRunning, Sound}
+use Rattle.node_ops.specs.CallStages.{stage_of}
+use Rattle.node_ops.proofs.OpLaw.{counts_own_change, op_told}
+use Rattle.index_law.specs.Worlds.{written}
+use Rattle.index_law.specs.Lawful.{HasWriteAt}
+use Rattle.index_core.specs.declared.party.CoreCall.{CoreCall}
+use Rattle.index_core.specs.declared.party.CoreCall.TheVariants as call
+use Rattle.index_core.specs.declared.party.PartyState.{PartyState}
+use Rattle.index_core.specs.Answers.{FoundNoRoom, SaysOf, IsAnswerOf}
+use Rattle.index_core.specs.CoreCalls.{machine_of, op_of, limit_of}
+use Rattle.index_core.specs.PartyStates.{state_after, stepped_of}
+use Rattle.index_core.specs.Indexes.{MakesCall}
+use Rattle.pac_index.specs.declared.rule.About.{About}
+use Rattle.pac_index.specs.declared.rule.Member.{Member}
+use Rattle.pac_index.specs.Kept.{placed_by, noted, Goes, view_in, machine_in, calling, added_now}
+use Rattle.pac_index.specs.Calls.{own_at, run_of, began, Runs, Answers, turn_left}
+use Rattle.index_core.specs.MachineLaws.{ReadyAfter, place_now, place_next}
+use Rattle.index_core.proofs.MachineLaw.{first_ready, places_follow}
+use Rattle.pac_index.proofs.Lists.{begins_self, begins_trans}
+
+-- the writes of a call after a step
+own_after : (c i x : ℕ) (m : Running) → IsRunning m → IsOf (op_in m) m
+    → own_at c i (change_of (op_in m)) (place_now (change_of (op_in m)) (running_turned m x)) ≡ own_at c i (change_of (op_in m)) (placed_in (stage_of m)) ++ noted x (written c i (counted (stage_of m)))
+own_after c i x m running of =
+    let after = places_follow m x running in
+    ap (own_at c i (change_of (op_in m))) after.0 ∙ at (counted (stage_of m)) (counts_own_change (op_in m) m of) after.1
+  where
+    at : (o : Option Change) → IfSome o (λ d. change_of (op_in m) ≡ Some d) → IfSome o (λ d. placed_in (stage_of m) ≡ None)
+        → own_at c i (change_of (op_in m)) (place_next (placed_in (stage_of m)) x o) ≡ own_at c i (change_of (op_in m)) (placed_in (stage_of m)) ++ noted x (written c i o)
+    at None asks unplaced = sym (append-nil (own_at c i (change_of (op_in m)) (placed_in (stage_of m))))
+    at (Some d) asks unplaced = ap (λ (o : Option Change). noted x (written c i o)) asks ∙ ap (λ (p : Option ℕ). own_at c i (change_of (op_in m)) p ++ noted x (written c i (Some d))) (sym unplaced)
+
+-- what is said of a call is said of the same call, as of an earlier beginning
+below_earlier : (limit : Option ℕ) (since earlier : ℕ) → earlier ≤ since → IfSome limit (λ most. since < most) → IfSome limit (λ most. earlier < most)
+below_earlier None since earlier le below = tt
+below_earlier (Some most) since earlier le below = omega arith
+
+answer_by : (slots : ℕ) (base : Map) (h : List Write) (e d : PartyState) (op : Op) (limit : Option ℕ) (answer : Once Placed) → e.caller ≡ d.caller → e.index ≡ d.index → d.since ≤ e.since
+    → IsAnswerOf slots base h e op limit answer → IsAnswerOf slots base h d op limit answer
+answer_by slots base h e d op limit (once.Done placed) caller index le is =
+    let later = is.later in
+    record {
+      later = omega arith;
+      within = is.within;
+      below = below_earlier limit e.since d.since le is.below;
+      old = is.old;
+      write = subst (λ (q : ℕ × ℕ). IfSome (change_of op) (λ change. HasWriteAt h q.0 q.1 (name_asked op) placed.place)) (λ k. (caller k, index k)) is.write;
+    }
+answer_by slots base h e d op limit (once.Spent clock) caller index le is = let later = is.later in record { reached = is.reached; later = omega arith; within = is.within }
+answer_by slots base h e d op limit (once.Worn node word) caller index le is = tt
+answer_by slots base h e d op limit (once.Again why) caller index le is = λ none.
+    let room : FoundNoRoom slots base h e.since (length h) (name_asked op) = (is none).1 in
+    let later = room.later in
+    ((is none).0, record { clock = room.clock; later = omega arith; within = room.within; lacked = room.lacked; many = room.many })
+
+says_by : (slots : ℕ) (base : Map) (h : List Write) (e d : PartyState) (op : Op) (limit : Option ℕ) (turn : Turn Running (Once Placed)) → e.caller ≡ d.caller → e.index ≡ d.index → d.since ≤ e.since
+    → SaysOf slots base h e op limit (stepped_of turn) → SaysOf slots base h d op limit (stepped_of turn)
+says_by slots base h e d op limit (Go m) caller index le is = tt
+says_by slots base h e d op limit (Done answer) caller index le is = answer_by slots base h e d op limit answer caller index le is
+
+after_after : (e : PartyState) (m : Running) (turn : Turn Running (Once Placed)) → state_after (state_after e (Go m)) turn ≡ state_after e turn
+after_after e m (Go next) = refl
+after_after e m (Done answer) = refl
+
+first_limit : (v : Member) (c : CoreCall) → (running_call (machine_in v c)).limit ≡ limit_of c
+first_limit v (call.Put name value limit) = refl
+first_limit v (call.Get name) = refl
+first_limit v (call.Del name limit) = refl
+
+first_op : (v : Member) (c : CoreCall) → IsOf (op_of c) (machine_in v c) → IsOf (op_of c) (machine_in v c)
+first_op v c of = of
+
+first_unplaced : (v : Member) (c : CoreCall) → placed_in (stage_of (machine_in v c)) ≡ None
+first_unplaced v (call.Put name value limit) = refl
+first_unplaced v (call.Get name) = refl
+first_unplaced v (call.Del name limit) = refl
+
+-- a call that begins
+pub runs_first : (c : CoreCall) (n : ℕ) (old : Member) (since : ℕ) → length old.seen ≤ since → IsRunning (machine_in old c) → IsOf (op_of c) (machine_in old c) → Runs c n old (Go (machine_in old c)) (calling old c n since)
+runs_first c n old since later here of = record {
+  since = since;
+  later = later;
+  about = refl;
+  state = refl;
+  ran = refl;
+  taken = omega arith;
+  added = omega arith;
+  op = of;
+  call_is = refl;
+  seen = begins_self old.seen;
+  own = sym (append-nil (placed_by old.state.caller old.seen)) ∙ ap (λ (p : Option ℕ). placed_by old.state.caller old.seen ++ own_at old.state.caller n (change_of (op_of c)) p) (sym (first_unplaced old c));
+  says = tt;
+  ready = first_ready (view_in old) c here;
+}
+
+-- what goes on with the call that goes on with another one
+same_on : (first call : Call) (turn : Turn Running (Once Placed)) → IsSame first call → MakesCall call turn → MakesCall first turn
+same_on first call (Go m) one other = other ∙ ap (λ (k : Call). at_node k (running_call m).node (running_call m).hops) one
+same_on first call (Done answer) one other = tt
+
+gone : (n m : Running) → ◌≡◌ {A = Turn Running (Once Placed)} (Go n) (Go m) → n ≡ m
+gone n m e = cc
+
+run_none : (t : Turn Running (Once Placed)) → run_of t [] ≡ t
+run_none (Go m) = refl
+run_none (Done answer) = refl
+
+-- one number more
+run_more : (t : Turn Running (Once Placed)) (told : List ℕ) (m : Running) (x : ℕ) → run_of t told ≡ Go m → run_of t (told ++ x ∷ []) ≡ running_turned m x
+run_more (Done answer) told m x is = absurd (cc)
+run_more (Go n) [] m x is = let same : n ≡ m = gone n m is in ap (λ (q : Running). run_of (running_turned q x) []) same ∙ run_none (running_turned m x)
+run_more (Go n) (y ∷ ys) m x is = run_more (running_turned n y) ys m x is
+
+-- a call goes on by one step
+pub runs_on : (c : CoreCall) (n : ℕ) (old v w : Member) (turn : Turn Running (Once Placed)) (m : Running) (x : ℕ) → Runs c n old turn v → turn ≡ Go m → Goes m v x w → Runs c n old (running_turned m x) w
+runs_on c n old v w turn m x runs is goes =
+    let i = old.state.caller in
+    let op = op_of c in
+    let of : IsOf op m = subst (IsOfAfter op) is runs.op in
+    let same : op_in m ≡ op = op_told op m of in
+    let call_is : IsSame (running_call (machine_in old c)) (running_call m) = subst (MakesCall (running_call (machine_in old c))) is runs.call_is in
+    let sound : Sound old.about.layout old.about.generation m = (subst (ReadyAfter old.about.layout old.about.generation) is runs.ready).sound in
+    let limit : (running_call m).limit ≡ limit_of c = ap (λ (k : Call). k.limit) call_is ∙ first_limit old c in
+    let state : v.state ≡ state_after (began c n old runs.since) (Go m) = runs.state ∙ ap (state_after (began c n old runs.since)) is in
+    let caller : v.state.caller ≡ i = ap (λ (e : PartyState). e.caller) state in
+    let index : v.state.index ≡ n = ap (λ (e : PartyState). e.index) state in
+    let turn' = running_turned m x in
+    let more : placed_by i w.seen ≡ placed_by i v.seen ++ noted x (written i n (counted (stage_of m))) =
+    subst (λ (q : ℕ × ℕ). placed_by q.0 w.seen ≡ placed_by q.0 v.seen ++ noted x (written q.0 q.1 (counted (stage_of m)))) (λ k. (caller k, index k)) goes.own in
+    let was : placed_by i v.seen ≡ placed_by i old.seen ++ own_at i n (change_of op) (placed_in (stage_of m)) = runs.own ∙ ap (λ (t : Turn Running (Once Placed)). placed_by i old.seen ++ own_at i n (change_of op) (place_now (change_of op) t)) is in
+    let own : own_at i n (change_of op) (place_now (change_of op) turn') ≡ own_at i n (change_of op) (placed_in (stage_of m)) ++ noted x (written i n (counted (stage_of m))) =
+    subst (λ (o : Op). own_at i n (change_of o) (place_now (change_of o) turn') ≡ own_at i n (change_of o) (placed_in (stage_of m)) ++ noted x (written i n (counted (stage_of m)))) same (own_after i n x m sound.here (subst (λ (o : Op). IsOf o m) (sym same) of)) in
+    record {
+      since = runs.since;
+      later = runs.later;
+      about = goes.about ∙ runs.about;
+      state = goes.state ∙ ap (λ (e : PartyState). state_after e turn') state ∙ after_after (began c n old runs.since) m turn';
+      ran = ap (run_of (Go (machine_in old c))) goes.told ∙ run_more (Go (machine_in old c)) v.told m x (runs.ran ∙ is);
+      taken = let was = runs.taken in let one = goes.taken in let long = ap length goes.told ∙ length-append v.told (x ∷ []) in omega arith;
+      added = let was = runs.added ∙ ap (λ (t : Turn Running (Once Placed)). old.added + added_now op t) is in let now = goes.added ∙ ap (λ (o : Op). v.added + added_now o turn') same in omega arith;
+      op = subst (λ (o : Op). IsOfAfter o turn') same (goes.op_on);
+      call_is = same_on (running_call (machine_in old c)) (running_call m) turn' call_is goes.call_on;
+      seen = begins_trans old.seen v.seen w.seen runs.seen goes.seen;
+      own = more ∙ ap (λ (l : List (ℕ × Write)). l ++ noted x (written i n (counted (stage_of m)))) was ∙ append_assoc (placed_by i old.seen) (own_at i n (change_of op) (placed_in (stage_of m))) (noted x (written i n (counted (stage_of m))))
+          ∙ ap (λ (l : List (ℕ × Write)). placed_by i old.seen ++ l) (sym own);
+      says = says_by old.about.layout.slots (map_of old.about.base) w.seen v.state (began c n old runs.since) op (limit_of c) turn' caller index (subst (λ (e : PartyState). runs.since ≤ e.since) (sym state) (let le : runs.since ≤ runs.since = omega arith in le))
+          (subst (λ (q : Op × Option ℕ × About). SaysOf q.2.layout.slots (map_of q.2.base) w.seen v.state q.0 q.1 (stepped_of turn')) (λ k. (same k, limit k, runs.about k)) goes.says);
+      ready = subst (λ (b : About). ReadyAfter b.layout b.generation turn') runs.about goes.ready;
+    }
+
+-- the answer that it ends with
+pub ends_so : (c : CoreCall) (n : ℕ) (old v : Member) (turn : Turn Running (Once Placed)) (answer : Once Placed) → Runs c n old turn v → turn ≡ Done answer → Answers c n old answer v
+ends_so c n old v turn answer runs is =
+    let i = old.state.caller in
+    let state : v.state ≡ state_after (began c n old runs.since) (Done answer) = runs.state ∙ ap (state_after (began c n old runs.since)) is in
+    record {
+      about = runs.about;
+      idle = ap (λ (e : PartyState). e.machine) state;
+      caller = ap (λ (e : PartyState). e.caller) state;
+      ran = runs.ran ∙ is;
+      taken = runs.taken;
+      added = runs.added ∙ ap (λ (t : Turn Running (Once Placed)). old.added + added_now (op_of c) t) is;
+      seen = runs.seen;
+      own = runs.own ∙ ap (λ (t : Turn Running (Once Placed)). placed_by i old.seen ++ own_at i n (change_of (op_of c)) (place_now (change_of (op_of c)) t)) is;
+      says = answer_by old.about.layout.slots (map_of old.about.base) v.seen (began c n old runs.since) (record old.state { index = n; since = length old.seen }) (op_of c) (limit_of c) answer refl refl runs.later
+          (subst (λ (t : Turn Running (Once Placed)). SaysOf old.about.layout.slots (map_of old.about.base) v.seen (began c n old runs.since) (op_of c) (limit_of c) (stepped_of t)) is runs.says);
+    }
+
+pub lessens : (m : Running) (turn : Turn Running (Once Placed)) → GoesBelow running_left (running_left m) turn → turn_left turn < turn_left (Go m)
+lessens m (Go n) less = omega arith
+lessens m (Done a) less = omega arith
+
+-- the machine that the code makes is the party's
+pub machine_here : (v : Member) (about : About) (number : ℕ) (c : CoreCall) (m : Running) → v.about ≡ about → v.state.caller ≡ number → m ≡ machine_of (record { layout = about.layout; generation = about.generation; caller = number }) c → m ≡ machine_in v c
+machine_here v about number c m same caller made = made ∙ (λ k. machine_of (record { layout = (sym same k).layout; generation = (sym same k).generation; caller = sym caller k }) c)

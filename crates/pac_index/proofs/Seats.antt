@@ -1,0 +1,182 @@
+-- How the rule begins, and how seats part and meet.
+use Rattle.std.proofs.Common.{◌≡◌, ◌≢◌, ℕ, zero, suc, ◌+◌, ◌<◌, ◌≤◌, ⊎_elim, eq-eqb, ne_eqb, List, [], ◌∷◌, ◌++◌, map, drop, set, refl, sym, ap, ◌∙◌, subst, arith}
+use Rattle.std.proofs.lemmas.Bool.{cases_eq}
+use Rattle.std.specs.Prelude.{◌==◌}
+use mathlib.Core.Option.{some, some-injective, some-ne-none}
+use lib.ListN.{get_elem?}
+use Rattle.cat_history.specs.declared.op.Write.{Write}
+use Rattle.index_law.proofs.Parties.{set_else, each_set, each_snoc}
+use Rattle.index_core.specs.declared.party.PartyState.{PartyState}
+use Rattle.index_core.specs.PartyStates.{idle_state, idle_states}
+use Rattle.index_core.specs.Indexes.{Index, IsIndex, world, parties_of}
+use Rattle.index_core.specs.Lone.{IsQuiet}
+use Rattle.index_core.proofs.Stepping.{respare}
+use Rattle.index_core.proofs.Lists.{map_from, map_there, there_is, idle-length, idle-each}
+use Rattle.atomic_table.specs.Table.{Me, opening, Splits, Joins, Enters}
+use Rattle.atomic_table.proofs.Lists.{drop_at}
+use Rattle.index_law.specs.Weights.{weight_sum}
+use Rattle.pac_index.specs.declared.rule.About.{About}
+use Rattle.pac_index.specs.declared.rule.Member.{Member}
+use Rattle.pac_index.specs.Callers.{about_in}
+use Rattle.index_core.specs.MachineLaws.{AreIdle}
+use Rattle.index_core.proofs.MachineLaw.{with_idle, idle_weigh}
+use Rattle.pac_index.specs.Kept.{index_of, Fits, AllFit, one_if, times_in, added_in, opening_weight, Kept, member_of, first_view, first_of, rest_of}
+use Rattle.pac_index.proofs.Lists.{times_append, times_set, times_snoc, added_append, added_set, added_snoc}
+
+pub none_idle : (n : ℕ) → AreIdle (idle_states n) n
+none_idle n = record {
+  count = idle-length n;
+  numbers = λ i e at. ap (λ (d : PartyState). d.caller) (idle-each n i e at);
+  idle = λ i e at. ap (λ (d : PartyState). d.machine) (idle-each n i e at);
+  begun = λ i e at. ap (λ (d : PartyState). d.since) (idle-each n i e at);
+}
+
+map-snoc : (f : PartyState → Member) (l : List PartyState) (e : PartyState) → map f (l ++ e ∷ []) ≡ map f l ++ f e ∷ []
+map-snoc f [] e = refl
+map-snoc f (x ∷ xs) e = ap (λ (t : List Member). f x ∷ t) (map-snoc f xs e)
+
+-- how often a number stands among the first parties
+times_first : (about : About) (k n : ℕ) → times_in n (map (member_of about) (idle_states (suc k))) ≡ times_in n (map (member_of about) (idle_states k)) + one_if (k == n)
+times_first about k n =
+    let split = ap (times_in n) (map-snoc (member_of about) (idle_states k) (idle_state k)) ∙ times_append n (map (member_of about) (idle_states k)) (member_of about (idle_state k) ∷ []) in
+    let one : times_in n (member_of about (idle_state k) ∷ []) ≡ one_if (k == n) = omega arith in
+    omega arith
+
+none_yet : (about : About) (k n : ℕ) → k ≤ n → times_in n (map (member_of about) (idle_states k)) ≡ 0
+none_yet about zero n le = refl
+none_yet about (suc k) n le =
+    let split = times_first about k n in
+    let before = none_yet about k n (omega arith) in
+    let other : one_if (k == n) ≡ 0 = ap one_if (ne_eqb k n (λ e. omega arith)) in
+    omega arith
+
+one_most : (about : About) (k n : ℕ) → times_in n (map (member_of about) (idle_states k)) ≤ 1
+one_most about zero n = omega arith
+one_most about (suc k) n = ⊎_elim
+    (λ (same : k ≡ n). let split = times_first about k n in let before = none_yet about k n (omega arith) in let here : one_if (k == n) ≡ 1 = ap one_if (eq-eqb k n same) in omega arith)
+    (λ (apart : k ≢ n). let split = times_first about k n in let before = one_most about k n in let other : one_if (k == n) ≡ 0 = ap one_if (ne_eqb k n apart) in omega arith)
+    (cases_eq k n)
+
+none_at : {A : Type 0} (P : Type 0) (i : ℕ) (a : A) → get_elem? [] i ≡ some a → P
+none_at P i a at = absurd (some-ne-none a (sym at))
+
+sole_view : (P : List Member → Type 0) (v : List Member) → P v → (i : ℕ) (u : List Member) → get_elem? (v ∷ []) i ≡ some u → P u
+sole_view P v is zero u at = subst P (some-injective v u at) is
+sole_view P v is (suc i) u at = absurd (some-ne-none u (sym at))
+
+-- the rule holds as the table is made
+pub opens : (s : Index) → IsIndex s → IsQuiet s → s.history ≡ [] → Kept (about_in s) (opening s.words [] (first_view (about_in s)))
+opens s is quiet none =
+    let about = about_in s in
+    let n = parties_of s.layout in
+    let states = idle_states n in
+    let index = with_idle s states is quiet (none_idle n) in
+    record {
+      states = states;
+      history = [];
+      index = subst IsIndex (λ k. record { layout = s.layout; generation = s.generation; words = s.words; states = states; base = s.base; history = none k; spare = 0 }) (respare (record s { states = states }) 0 index);
+      fits = sole_view (AllFit about states []) (first_view about) (λ k m at.
+          let from = map_from (member_of about) states k m at in
+          subst (Fits about states []) from.2 (record {
+            same = refl;
+            there = ap (get_elem? states) ((none_idle n).numbers k from.0 from.1) ∙ from.1;
+            seen = ([], refl);
+            own = refl;
+          }));
+      once = λ number. let most = one_most about n number in omega arith;
+      weight =
+          let o : Index = index_of about s.words states [] in
+          let as_weight : weight_sum (world o) ≡ opening_weight about = idle_weigh o (none_idle n).idle in
+          omega arith;
+    }
+
+-- a view is cut in two
+pub divides : (about : About) (id : ℕ) (v : List Member) → Splits (Kept about) id v (rest_of v) (first_of v)
+divides about id v s kept at = record {
+  states = kept.states;
+  history = kept.history;
+  index = kept.index;
+  fits = each_snoc (AllFit about kept.states kept.history) (set s.views id (rest_of v)) (first_of v)
+      (each_set (AllFit about kept.states kept.history) s.views id (rest_of v) (λ j u other there. kept.fits j u there) (behind v (kept.fits id v at)))
+      (front v (kept.fits id v at));
+  once = λ n.
+      let set_is = times_set n s.views id v (rest_of v) at in
+      let snoc_is = times_snoc n (set s.views id (rest_of v)) (first_of v) in
+      let parts = both_of n v in
+      let before = kept.once n in
+      omega arith;
+  weight =
+      let set_is = added_set s.views id v (rest_of v) at in
+      let snoc_is = added_snoc (set s.views id (rest_of v)) (first_of v) in
+      let parts = both_added v in
+      let before = kept.weight in
+      omega arith;
+}
+  where
+    behind : (v : List Member) → AllFit about kept.states kept.history v → AllFit about kept.states kept.history (rest_of v)
+    behind [] all k m at = absurd (some-ne-none m (sym at))
+    behind (x ∷ xs) all k m at = all (suc k) m at
+
+    front : (v : List Member) → AllFit about kept.states kept.history v → AllFit about kept.states kept.history (first_of v)
+    front [] all k m at = absurd (some-ne-none m (sym at))
+    front (x ∷ xs) all zero m at = all 0 m at
+    front (x ∷ xs) all (suc k) m at = absurd (some-ne-none m (sym at))
+
+    both_of : (n : ℕ) (v : List Member) → times_in n (rest_of v) + times_in n (first_of v) ≡ times_in n v
+    both_of n [] = omega arith
+    both_of n (x ∷ xs) = omega arith
+
+    both_added : (v : List Member) → added_in (rest_of v) + added_in (first_of v) ≡ added_in v
+    both_added [] = omega arith
+    both_added (x ∷ xs) = omega arith
+
+all_append : (about : About) (states : List PartyState) (h : List Write) (v w : List Member) → AllFit about states h v → AllFit about states h w → AllFit about states h (v ++ w)
+all_append about states h [] w left right k m at = right k m at
+all_append about states h (x ∷ xs) w left right zero m at = left 0 m at
+all_append about states h (x ∷ xs) w left right (suc k) m at = all_append about states h xs w (λ j. left (suc j)) right k m at
+
+-- two views are made one
+pub meets : (about : About) (id : ℕ) (v : List Member) (other : ℕ) (w : List Member) → Joins (Kept about) id v other w (v ++ w) []
+meets about id v other w s kept at apart there =
+    let found : get_elem? s.views other ≡ some w = sym (set_else s.views id other (v ++ w) apart) ∙ there in
+    record {
+      states = kept.states;
+      history = kept.history;
+      index = kept.index;
+      fits = each_set (AllFit about kept.states kept.history) (set s.views id (v ++ w)) other []
+          (λ j u away at'. each_set (AllFit about kept.states kept.history) s.views id (v ++ w) (λ i d off at''. kept.fits i d at'') (all_append about kept.states kept.history v w (kept.fits id v at) (kept.fits other w found)) j u at')
+          (λ k m at'. absurd (some-ne-none m (sym at')));
+      once = λ n.
+          let one = times_set n s.views id v (v ++ w) at in
+          let two = times_set n (set s.views id (v ++ w)) other w [] there in
+          let sum = times_append n v w in
+          let before = kept.once n in
+          omega arith;
+      weight =
+          let one = added_set s.views id v (v ++ w) at in
+          let two = added_set (set s.views id (v ++ w)) other w [] there in
+          let sum = added_append v w in
+          let before = kept.weight in
+          omega arith;
+    }
+
+-- the next of the first parties
+pub next_first : (about : About) (n i : ℕ) → i < n → drop i (map (member_of about) (idle_states n)) ≡ member_of about (idle_state i) ∷ drop (suc i) (map (member_of about) (idle_states n))
+next_first about n i less =
+    let here = there_is (idle_states n) i (subst (λ (k : ℕ). i < k) (sym (idle-length n)) less) in
+    drop_at (map (member_of about) (idle_states n)) i (member_of about (idle_state i)) (map_there (member_of about) (idle_states n) i (idle_state i) (here.1 ∙ ap some (idle-each n i here.0 here.1)))
+
+-- a seat comes that has no party
+pub enters : (about : About) (slots i : ℕ) → Enters (Kept about) slots i (λ n w. ◌≡◌ {A = Me (Unit {0}) (List Member)} (w, []) ([], []))
+enters about slots i s kept count fits = (
+  [],
+  record {
+    states = kept.states;
+    history = kept.history;
+    index = kept.index;
+    fits = each_snoc (AllFit about kept.states kept.history) s.views [] (λ j v at. kept.fits j v at) (λ k m at. absurd (some-ne-none m (sym at)));
+    once = λ n. let snoc = times_snoc n s.views [] in let before = kept.once n in omega arith;
+    weight = let snoc = added_snoc s.views [] in let before = kept.weight in omega arith;
+  },
+  refl,
+)

@@ -1,0 +1,5 @@
+use Rattle.index_core.specs.MachineLaws.{AreIdle}
+use Rattle.pac_index.proofs.meeting.idle_states.Given as goal
+
+abbrev pub invariant-loop-number : goal.invariant-loop-number
+invariant-loop-number l = AreIdle l.states.items l.number

@@ -1,0 +1,6 @@
+use Rattle.std.proofs.Common.{◌≡◌, take}
+use Rattle.std.specs.Mem.Slots.{slots_items}
+use Rattle.pac_index.proofs.meeting.read_words.Given as goal
+
+abbrev pub invariant-loop-address : goal.invariant-loop-address
+invariant-loop-address l = l.words.items ≡ take l.address (slots_items l.fn.closed.words)

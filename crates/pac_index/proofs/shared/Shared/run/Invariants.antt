@@ -1,0 +1,10 @@
+use Rattle.std.proofs.Common.{◌≡◌}
+use Rattle.pac_index.specs.Kept.{IsLone, party}
+use Rattle.pac_index.specs.Calls.{Runs, turn_left}
+use Rattle.pac_index.proofs.shared.Shared.run.Given as goal
+
+abbrev pub invariant-steps : goal.invariant-steps
+invariant-steps g l = ((l.seat.table_id ≡ l.fn.seat.table_id) × (l.seat.id ≡ l.fn.seat.id)) × IsLone l.seat.me × Runs l.fn.call l.fn.index (party l.fn.seat.me) l.turn (party l.seat.me)
+
+abbrev pub decreases-steps : goal.decreases-steps
+decreases-steps g l = turn_left l.turn

@@ -1,0 +1,8 @@
+use Rattle.std.proofs.Common.{◌≡◌, drop}
+use Rattle.std.specs.Prelude.{[]}
+use Rattle.pac_index.specs.Kept.{first_view}
+use Rattle.pac_index.specs.Callers.{HasCallers, AreNew}
+use Rattle.pac_index.proofs.shared.Shared.seat_callers.Given as goal
+
+abbrev pub invariant-loop-number : goal.invariant-loop-number
+invariant-loop-number l = (l.all.table_id ≡ l.fn.self.table.shared.table_id) × (l.all.me ≡ (drop l.number (first_view l.fn.self.about), [])) × HasCallers l.fn.self l.number l.callers.items × AreNew l.callers.items

@@ -1,0 +1,101 @@
+-- A caller of a shared index.
+use Rattle.std.specs.Prelude.{◌≡◌, ℕ, ◌+◌, ◌-◌, ◌<◌, ◌≤◌, List, [], ◌∷◌, ◌++◌, length, map, slice_get, None, Some}
+use Rattle.std.specs.Prelude.{vec_len, vec_capacity}
+use mathlib.Core.Option.{some}
+use lib.ListN.{get_elem?}
+use Rattle.index_core.specs.Indexes.{Index}
+use Rattle.pac_index.specs.declared.rule.About.{About}
+use Rattle.cat_history.specs.declared.op.Write.{Write}
+use Rattle.pac_index.specs.declared.rule.Member.{Member}
+use Rattle.pac_index.specs.declared.caller.Caller.{Caller}
+use Rattle.pac_index.specs.declared.caller.PlacedWrite.{PlacedWrite}
+use Rattle.pac_index.specs.declared.shared.Shared.{Shared}
+use Rattle.pm_words.specs.Locations.{Clock, at}
+use Rattle.index_core.specs.Indexes.{IsIndex, parties_of}
+use Rattle.index_core.specs.Lone.{IsQuiet}
+use Rattle.pac_index.specs.Stamps.{stamp_in}
+use Rattle.pac_index.specs.Kept.{IsLone, party, placed_by, Begins, opening_weight}
+use Rattle.index_core.specs.Weights.{weight_of}
+
+-- What it knows.
+abbrev pub seen_by : Caller → Member
+seen_by c = party c.seat.me
+
+-- For how many more writes it has room.
+abbrev pub spare_of : Caller → ℕ
+spare_of c = vec_capacity c.kept - vec_len c.kept
+
+abbrev pub pair_of : PlacedWrite → ℕ × Write
+pair_of p = (p.place, p.write)
+
+abbrev pub pairs : List PlacedWrite → List (ℕ × Write)
+pairs l = map {B = ℕ × Write} pair_of l
+
+-- The caller is one of this index, with no call in flight, and keeps the writes that it placed.
+pub record IsCallerOf (s : Shared) (c : Caller) : Type 0 where
+  pub table : c.seat.table_id ≡ s.table.shared.table_id
+  pub lone : IsLone c.seat.me
+  pub about : (party c.seat.me).about ≡ s.about
+  pub idle : (party c.seat.me).state.machine ≡ None
+  pub number : (party c.seat.me).state.caller ≡ c.number
+  pub within : c.number < parties_of s.about.layout
+  pub kept : pairs c.kept.items ≡ placed_by c.number (party c.seat.me).seen
+
+-- The callers of this index from number 0 on, each at the place of its number.
+pub record HasCallers (s : Shared) (n : ℕ) (callers : List Caller) : Type 0 where
+  pub count : length callers ≡ n
+  pub each : (i : ℕ) (c : Caller) → get_elem? callers i ≡ some c → IsCallerOf s c
+  pub numbers : (i : ℕ) (c : Caller) → get_elem? callers i ≡ some c → c.number ≡ i
+
+-- They have made no call yet.
+abbrev pub AreNew : List Caller → Type 0
+AreNew callers = (i : ℕ) (c : Caller) → get_elem? callers i ≡ some c → ((seen_by c).seen ≡ []) × (c.index ≡ 0) ×
+    ((seen_by c).taken ≡ 0) × ((seen_by c).added ≡ 0)
+
+abbrev pub about_in : Index → About
+about_in core = record {
+  layout = core.layout;
+  generation = core.generation;
+  base = core.base;
+  opened =
+      record { layout = core.layout; words = core.words };
+}
+
+-- What a core is made into: its callers and the updater's, which is the last, none of which has made a call.
+pub record Opened (core : Index) (s : Shared) (callers : List Caller) : Type 0 where
+  pub about : s.about ≡ about_in core
+  pub callers_of : HasCallers s (parties_of core.layout) callers
+  pub fresh : AreNew callers
+
+-- All that the callers have kept.
+abbrev pub kept_by : List Caller → List PlacedWrite
+kept_by [] = []
+kept_by (c ∷ cs) = c.kept.items ++ kept_by cs
+
+-- These are the writes of the history, each with its place.
+pub record AreWritesOf (kept : List PlacedWrite) (history : List Write) : Type 0 where
+  pub right : (k : ℕ) (p : PlacedWrite) → get_elem? kept k ≡ some p → slice_get history p.place ≡ Some p.write
+  pub all : (place : ℕ) (w : Write) → slice_get history place ≡ Some w → (k : ℕ) ×
+      (get_elem? kept k ≡ some (record { place = place; write = w }))
+
+-- How many names their puts have added.
+abbrev pub added_by_all : List Caller → ℕ
+added_by_all [] = 0
+added_by_all (c ∷ cs) = (seen_by c).added + added_by_all cs
+
+-- What all callers meet in: an index with no call in flight, whose history begins with what each has seen and has of
+-- each just the writes that it has seen itself place, each once and in this order.
+pub record Meeting (s : Shared) (callers : List Caller) (core : Index) : Type 0 where
+  pub layout : core.layout ≡ s.about.layout
+  pub generation : core.generation ≡ s.about.generation
+  pub base : core.base ≡ s.about.base
+  -- it weighs no more than as it was opened and the puts that added a name
+  pub weight : weight_of core ≤ opening_weight s.about + added_by_all callers
+  pub index : IsIndex core
+  pub quiet : IsQuiet core
+  pub seen : (i : ℕ) (c : Caller) → get_elem? callers i ≡ some c → Begins (seen_by c).seen core.history
+  pub own : (i : ℕ) (c : Caller) → get_elem? callers i ≡ some c →
+      placed_by i core.history ≡ placed_by i (seen_by c).seen
+  pub writers : (place : ℕ) (w : Write) → slice_get core.history place ≡ Some w → w.caller < length callers
+  pub clock : at core.layout core.words Clock ≡ length core.history
+  pub stamps : (n : ℕ) → n < core.layout.nodes → stamp_in core.layout core.words n ≤ 1

@@ -1,0 +1,226 @@
+-- What the table keeps, and what one step tells.
+use Rattle.std.specs.Prelude.{◌≡◌, ℕ, ◌+◌, ◌<◌, ◌≤◌, ◌^◌, ◌==◌, Bool, true, false, if◌then◌else◌, List, [], ◌∷◌, ◌++◌}
+use Rattle.std.specs.Prelude.{length, map, Some, None}
+use mathlib.Core.Option.{some}
+use lib.ListN.{get_elem?}
+use Rattle.cat_history.specs.Maps.{map_of}
+use Rattle.cat_history.specs.declared.op.Write.{Write}
+use Rattle.pm_words.specs.declared.action.Action.{Action}
+use Rattle.pm_words.specs.Rows.{given, action_address, word_after, CanChange}
+use Rattle.call_stages.specs.Stages.{counted}
+use Rattle.pm_words.specs.declared.machine.Turn.{Turn}
+use Rattle.pm_words.specs.declared.machine.Turn.TheVariants.{Go, Done}
+use Rattle.call_stages.specs.declared.once.Once.{Once}
+use Rattle.call_stages.specs.declared.once.Placed.{Placed}
+use Rattle.node_ops.specs.declared.call.View.{View}
+use Rattle.node_ops.specs.declared.running.Running.{Running}
+use Rattle.node_ops.specs.Asked.{IsOfAfter, op_in}
+use Rattle.node_ops.specs.RunningSteps.{running_asks, running_turned, running_takes, running_call}
+use Rattle.node_ops.specs.CallStages.{stage_of}
+use Rattle.index_law.specs.Worlds.{written}
+use Rattle.index_core.specs.declared.party.PartyState.{PartyState}
+use Rattle.index_core.specs.declared.party.CoreCall.{CoreCall}
+use Rattle.index_core.specs.Answers.{SaysOf}
+use Rattle.index_core.specs.CoreCalls.{machine_of}
+use Rattle.index_core.specs.PartyStates.{idle_states, state_with, state_after, stepped_of}
+use Rattle.index_core.specs.Indexes.{Index, IsIndex, MakesCall, world, parties_of}
+use Rattle.index_core.specs.MachineLaws.{ReadyAfter, showing}
+use Rattle.index_core.specs.Weights.{added_by}
+use Rattle.index_law.specs.Facts.{facts_of}
+use Rattle.index_law.specs.Weights.{index_weight, weight_sum}
+use Rattle.cat_history.specs.declared.op.Op.{Op}
+use Rattle.atomic_table.specs.Table.{State, Me, Allows}
+use Rattle.pac_index.specs.declared.rule.About.{About}
+use Rattle.pac_index.specs.declared.rule.Member.{Member}
+
+-- The index of which these are the words, the parties and the history.
+abbrev pub index_of : About → List ℕ → List PartyState → List Write → Index
+index_of about words states history =
+    record {
+      layout = about.layout;
+      generation = about.generation;
+      words = words;
+      states = states;
+      base = about.base;
+      history = history;
+      spare = 0;
+    }
+
+-- The writes of a caller, each with its place, where the first of the list stands at this one.
+abbrev pub placed_from : ℕ → ℕ → List Write → List (ℕ × Write)
+placed_from caller place [] = []
+placed_from caller place (w ∷ ws) =
+    if w.caller == caller then (place, w) ∷ placed_from caller (place + 1) ws else placed_from caller (place + 1) ws
+
+abbrev pub placed_by : ℕ → List Write → List (ℕ × Write)
+placed_by caller history = placed_from caller 0 history
+
+-- Writes, each with this place.
+abbrev pub noted : ℕ → List Write → List (ℕ × Write)
+noted place [] = []
+noted place (w ∷ ws) = (place, w) ∷ noted place ws
+
+-- The second list begins with the first.
+abbrev pub Begins : List Write → List Write → Type 0
+Begins xs ys = (rest : List Write) × (xs ++ rest ≡ ys)
+
+-- What a seat knows of one of its parties holds: the party stands at its number, what it has seen is a beginning of the
+-- history, and the history has no other writes of it than those that it has seen.
+pub record Fits (about : About) (states : List PartyState) (history : List Write) (m : Member) : Type 0 where
+  pub same : m.about ≡ about
+  pub there : get_elem? states m.state.caller ≡ some m.state
+  pub seen : Begins m.seen history
+  pub own : placed_by m.state.caller history ≡ placed_by m.state.caller m.seen
+
+abbrev pub AllFit : About → List PartyState → List Write → List Member → Type 0
+AllFit about states history view = (k : ℕ) (m : Member) → get_elem? view k ≡ some m → Fits about states history m
+
+-- How often a number stands among the parties of a view, and of all views.
+abbrev pub one_if : Bool → ℕ
+one_if true = 1
+one_if false = 0
+
+abbrev pub times_in : ℕ → List Member → ℕ
+times_in n [] = 0
+times_in n (m ∷ ms) = one_if (m.state.caller == n) + times_in n ms
+
+abbrev pub times_in_all : ℕ → List (List Member) → ℕ
+times_in_all n [] = 0
+times_in_all n (v ∷ vs) = times_in n v + times_in_all n vs
+
+-- How many names the parties of a view have added, with those that their calls in flight show.
+abbrev pub added_in : List Member → ℕ
+added_in [] = 0
+added_in (m ∷ ms) = (m.added + showing m.state.machine) + added_in ms
+
+abbrev pub added_in_all : List (List Member) → ℕ
+added_in_all [] = 0
+added_in_all (v ∷ vs) = added_in v + added_in_all vs
+
+-- What the index weighed as the run began.
+abbrev pub opening_weight : About → ℕ
+opening_weight about = index_weight about.layout (facts_of about.layout about.opened.words (map_of about.base) [])
+
+-- There are parties and a history with which the words are an index, as the core has it, and each view fits them. No
+-- party stands in two views, nor twice in one.
+pub record Kept (about : About) (s : State (Unit {0}) (List Member)) : Type 0 where
+  pub states : List PartyState
+  pub history : List Write
+  pub index : IsIndex (index_of about s.words states history)
+  pub fits : (i : ℕ) (view : List Member) → get_elem? s.views i ≡ some view → AllFit about states history view
+  pub once : (n : ℕ) → times_in_all n s.views ≤ 1
+  -- it weighs no more than as it was opened and the puts that the views count as having added a name
+  pub weight : weight_sum (world (index_of about s.words states history)) ≤ opening_weight about + added_in_all s.views
+
+-- The first view has all parties, which are idle.
+abbrev pub member_of : About → PartyState → Member
+member_of about state = record { about = about; state = state; seen = []; told = []; taken = 0; added = 0 }
+
+abbrev pub first_view : About → List Member
+first_view about = map (member_of about) (idle_states (parties_of about.layout))
+
+-- The party of a seat that has one.
+abbrev pub nobody : Member
+nobody = record {
+  about = record {
+    layout = record { nodes = 1; slots = 4; callers = 1 };
+    generation = 0;
+    base = [];
+    opened =
+        record { layout = record { nodes = 1; slots = 4; callers = 1 }; words = [] };
+  };
+  state = record { caller = 0; index = 0; since = 0; machine = None };
+  seen = [];
+  told = [];
+  taken = 0;
+  added = 0;
+}
+
+abbrev pub head_of : List Member → Member
+head_of [] = nobody
+head_of (m ∷ ms) = m
+
+abbrev pub rest_of : List Member → List Member
+rest_of [] = []
+rest_of (m ∷ ms) = ms
+
+-- a view is cut behind its first party
+abbrev pub first_of : List Member → List Member
+first_of [] = []
+first_of (m ∷ ms) = m ∷ []
+
+abbrev pub party : Me (Unit {0}) (List Member) → Member
+party me = head_of me.0
+
+-- The seat has one party, and no slot.
+abbrev pub IsLone : Me (Unit {0}) (List Member) → Type 0
+IsLone me = me ≡ (party me ∷ [], [])
+
+-- One where a turn ends a put that added its name.
+abbrev pub added_now : Op → Turn Running (Once Placed) → ℕ
+added_now op (Go m) = 0
+added_now op (Done answer) = added_by op answer
+
+-- What a party's step with its machine, which is told this number, leaves and shows.
+pub record Goes (m : Running) (v : Member) (x : ℕ) (w : Member) : Type 0 where
+  pub takes : running_takes m x
+  pub about : w.about ≡ v.about
+  pub state : w.state ≡ state_after v.state (running_turned m x)
+  pub told : w.told ≡ v.told ++ x ∷ []
+  pub taken : w.taken ≡ v.taken + 1
+  pub added : w.added ≡ v.added + added_now (op_in m) (running_turned m x)
+  pub seen : Begins v.seen w.seen
+  -- of its writes just the one that the step counts is added, if it counts one, and at the place that it was told
+  pub own : placed_by v.state.caller w.seen ≡ placed_by v.state.caller v.seen ++ noted x
+      (written v.state.caller v.state.index (counted (stage_of m)))
+  pub says : SaysOf v.about.layout.slots (map_of v.about.base) w.seen v.state (op_in m) (running_call m).limit
+      (stepped_of (running_turned m x))
+  -- it goes on with the same call
+  pub op_on : IsOfAfter (op_in m) (running_turned m x)
+  pub call_on : MakesCall (running_call m) (running_turned m x)
+  pub ready : ReadyAfter v.about.layout v.about.generation (running_turned m x)
+
+-- The step of the machine that is in flight.
+abbrev pub Tells : Me (Unit {0}) (List Member) → ℕ → Me (Unit {0}) (List Member) → Type 0
+Tells me found after = (m : Running) → (party me).state.machine ≡ Some m → IsLone after ×
+    Goes m (party me) (given (running_asks m) found) (party after)
+
+-- The machine of a party's call, before its first action.
+abbrev pub view_in : Member → View
+view_in v = record { layout = v.about.layout; generation = v.about.generation; caller = v.state.caller }
+
+abbrev pub machine_in : Member → CoreCall → Running
+machine_in v call = machine_of (view_in v) call
+
+-- The party once it has begun its call.
+abbrev pub calling : Member → CoreCall → ℕ → ℕ → Member
+calling v call index since = record v {
+  state = state_with (record v.state { index = index }) since (machine_in v call);
+  told = [];
+}
+
+-- The first step of a call.
+pub record Starts (call : CoreCall) (index : ℕ) (me : Me (Unit {0}) (List Member)) (found : ℕ)
+    (after : Me (Unit {0}) (List Member)) : Type 0 where
+  pub since : ℕ
+  pub later : length (party me).seen ≤ since
+  pub lone : IsLone after
+  pub goes : Goes (machine_in (party me) call) (calling (party me) call index since)
+      (given (running_asks (machine_in (party me) call)) found) (party after)
+
+-- Whatever the table is, the seat may do the action, in whatever form the table has it, and is told this.
+abbrev pub May : About → ℕ → ℕ → ℕ → Me (Unit {0}) (List Member) → Action →
+    (Me (Unit {0}) (List Member) → ℕ → Me (Unit {0}) (List Member) → Type 0) → Type 0
+May about words slots id me action tells =
+    (action_address about.layout action < words)
+    × ((f told : ℕ → ℕ) → ((n : ℕ) → n < 2 ^ 64 → CanChange action n → f n ≡ word_after action n) →
+    ((n : ℕ) → given action (told n) ≡ given action n)
+    → Allows (Kept about) slots id me (action_address about.layout action) f (λ n. tells me (told n)))
+
+-- What the seat was told at an action that gave this number.
+pub record WasTold (tells : Me (Unit {0}) (List Member) → ℕ → Me (Unit {0}) (List Member) →
+    Type 0) (me : Me (Unit {0}) (List Member)) (action : Action) (x : ℕ) (after : Me (Unit {0}) (List Member)) : Type 0
+  where
+    pub found : ℕ
+    pub is : x ≡ given action found
+    pub heard : tells me found after

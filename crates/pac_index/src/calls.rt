@@ -1,0 +1,181 @@
+ghost use Rattle.pac_index.specs.declared.shared.Shared.{Shared};
+ghost use Rattle.std.specs.Prelude.{OnOk, IfSome, ◌≡◌, ◌+◌, ◌++◌, ◌≤◌, ◌<◌, ◌^◌, length};
+ghost use Rattle.cat_history.specs.Records.{change_of};
+ghost use Rattle.index_core.specs.CoreCalls.{LimitFits, op_of, most_writes};
+ghost use Rattle.index_core.specs.declared.party.CoreCall.TheVariants as call;
+ghost use Rattle.index_core.specs.MachineLaws.{place_told};
+ghost use Rattle.pac_index.specs.Calls.{Answers, IsAnswered, own_at, own_of, counted_index};
+ghost use Rattle.pac_index.specs.Callers.{IsCallerOf, spare_of, seen_by, pairs};
+
+use crate::caller::{Caller, PlacedWrite};
+use crate::gate::{Gate, OpenGate};
+use crate::shared::Shared;
+use crate::tried::Tried;
+use call_stages::{Once, Placed};
+use cat_history::{Change, Write};
+use cat_key::Name;
+use index_core::CoreCall;
+use pm_words::NoMemory;
+use std::marker::Brand;
+
+impl Shared {
+    /// One try of a put by one of the callers before the last, which is the updater's. It is refused as spent where the
+    /// clock, loaded under the lock of its node, has reached `limit`, and takes one of `Caller::spare` where it is
+    /// placed.
+    pub fn put_once(
+        &self,
+        caller: &mut Caller,
+        name: &Name,
+        value: u64,
+        limit: u64,
+    ) -> Tried<Placed>
+        requires caller { IsCallerOf self.now caller.old }
+        requires worker { caller.old.number < self.now.about.layout.callers }
+        requires limit { limit ≤ 2 ^ 62 }
+        requires spare { 1 ≤ spare_of caller.old }
+        ensures caller { IsCallerOf self.now caller.new }
+        ensures number { caller.new.number ≡ caller.old.number }
+        ensures index { IsAnswered result (λ answer. caller.new.index ≡ counted_index caller.old.index answer) }
+        ensures answered { IsAnswered result (λ answer. Answers (call.Put name.now value limit) caller.old.index
+            (seen_by caller.old) answer (seen_by caller.new)) }
+        ensures spare { IsAnswered result (λ answer. spare_of caller.old ≤ spare_of caller.new + length
+            (own_of caller.old (call.Put name.now value limit) answer)) }
+    {
+        let name = *name;
+        self.try_call(caller, CoreCall::Put { name, value, limit }, &OpenGate)
+    }
+
+    /// One try of a get by one of the callers before the last.
+    pub fn get_once(&self, caller: &mut Caller, name: &Name) -> Tried<Placed>
+        requires caller { IsCallerOf self.now caller.old }
+        requires worker { caller.old.number < self.now.about.layout.callers }
+        ensures caller { IsCallerOf self.now caller.new }
+        ensures number { caller.new.number ≡ caller.old.number }
+        ensures index { IsAnswered result (λ answer. caller.new.index ≡ counted_index caller.old.index answer) }
+        ensures answered { IsAnswered result (λ answer. Answers (call.Get name.now) caller.old.index
+            (seen_by caller.old) answer (seen_by caller.new)) }
+        ensures spare { spare_of caller.old ≤ spare_of caller.new }
+    {
+        self.try_call(caller, CoreCall::Get { name: *name }, &OpenGate)
+    }
+
+    /// One try of a delete by one of the callers before the last, refused and placed as a put is.
+    pub fn del_once(&self, caller: &mut Caller, name: &Name, limit: u64) -> Tried<Placed>
+        requires caller { IsCallerOf self.now caller.old }
+        requires worker { caller.old.number < self.now.about.layout.callers }
+        requires limit { limit ≤ 2 ^ 62 }
+        requires spare { 1 ≤ spare_of caller.old }
+        ensures caller { IsCallerOf self.now caller.new }
+        ensures number { caller.new.number ≡ caller.old.number }
+        ensures index { IsAnswered result (λ answer. caller.new.index ≡ counted_index caller.old.index answer) }
+        ensures answered { IsAnswered result (λ answer. Answers (call.Del name.now limit) caller.old.index
+            (seen_by caller.old) answer (seen_by caller.new)) }
+        ensures spare { IsAnswered result (λ answer. spare_of caller.old ≤ spare_of caller.new + length
+            (own_of caller.old (call.Del name.now limit) answer)) }
+    {
+        let name = *name;
+        self.try_call(caller, CoreCall::Del { name, limit }, &OpenGate)
+    }
+
+    /// One try of a call, with the gate before its first step and between its steps.
+    pub(crate) fn try_call<G: Gate>(
+        &self,
+        caller: &mut Caller,
+        call: CoreCall,
+        gate: &G,
+    ) -> Tried<Placed>
+        requires caller { IsCallerOf self.now caller.old }
+        requires worker { caller.old.number < self.now.about.layout.callers }
+        requires limit { LimitFits call }
+        requires spare { most_writes call ≤ spare_of caller.old }
+        ensures caller { IsCallerOf self.now caller.new }
+        ensures number { caller.new.number ≡ caller.old.number }
+        ensures index { IsAnswered result (λ answer. caller.new.index ≡ counted_index caller.old.index answer) }
+        ensures answered { IsAnswered result (λ answer. Answers call caller.old.index (seen_by caller.old) answer
+            (seen_by caller.new)) }
+        ensures spare { IsAnswered result (λ answer. spare_of caller.old ≤ spare_of caller.new + length
+            (own_of caller.old call answer)) }
+    {
+        let change = change_of(&call);
+        let answer = self.run::<Brand, G>(
+            &mut caller.seat,
+            caller.number,
+            caller.index,
+            call,
+            gate,
+        );
+        caller.keep(change, answer);
+        Tried::Answered(answer)
+    }
+}
+
+impl Caller {
+    /// For how many more writes it has room.
+    pub fn spare(&self) -> u64
+        ensures { result ≡ spare_of self.now }
+    {
+        (self.kept.capacity() - self.kept.len()) as u64
+    }
+
+    /// Makes room for so many writes, of which `spare` tells. Nothing else changes, on `NoMemory` either.
+    pub fn reserve(&mut self, writes: u64) -> Result<(), NoMemory>
+        ensures ok { OnOk result (writes ≤ spare_of self.new) }
+        ensures spare { spare_of self.old ≤ spare_of self.new }
+        ensures same { (self.new.seat ≡ self.old.seat) × (self.new.number ≡ self.old.number) ×
+            (self.new.index ≡ self.old.index) × (self.new.kept.items ≡ self.old.kept.items) }
+        ensures caller { (s : Shared) → IsCallerOf s self.old → IsCallerOf s self.new }
+    {
+        self.kept.reserve(writes as usize)
+    }
+
+    /// Counts a call that was answered, and keeps its write if it was placed.
+    fn keep(&mut self, change: Option<Change>, answer: Once<Placed>)
+        requires { IfSome change (λ _. 1 ≤ spare_of self.old) }
+        ensures seat { (self.new.seat ≡ self.old.seat) × (self.new.number ≡ self.old.number) }
+        ensures index { self.new.index ≡ counted_index self.old.index answer }
+        ensures kept { pairs self.new.kept.items ≡ pairs self.old.kept.items ++ own_at self.old.number self.old.index
+            change (place_told change answer) }
+        ensures spare { spare_of self.old ≤ spare_of self.new + length
+            (own_at self.old.number self.old.index change (place_told change answer)) }
+    {
+        if let Once::Done(placed) = answer
+            && let Some(change) = change
+        {
+            let write = Write {
+                caller: self.number,
+                index: self.index,
+                change,
+            };
+            let Ok(()) = self.kept.push(PlacedWrite {
+                place: placed.place,
+                write,
+            })
+            else {
+                unreachable!()
+            };
+        }
+        self.index = index_after(self.index, answer);
+    }
+}
+
+/// The change that a call makes, if it is a put or a delete.
+fn change_of(call: &CoreCall) -> Option<Change>
+    ensures change { result ≡ change_of (op_of call.now) }
+    ensures writes { IfSome result (λ _. most_writes call.now ≡ 1) }
+{
+    match *call {
+        CoreCall::Put { name, value, .. } => Some(Change::Put { name, value }),
+        CoreCall::Get { .. } => None,
+        CoreCall::Del { name, .. } => Some(Change::Del { name }),
+    }
+}
+
+/// The index of the next call: one that is turned back uses up none, nor one that finds the node worn.
+fn index_after(index: u64, answer: Once<Placed>) -> u64
+    ensures { result ≡ counted_index index answer }
+{
+    match answer {
+        Once::Again(_) | Once::Worn { .. } => index,
+        _ => index.saturating_add(1),
+    }
+}

@@ -1,0 +1,30 @@
+//! An index whose words threads share: callers make calls on it, each in a thread of its own, and none of them waits
+//! for another.
+//!
+//! `Shared::new` takes a core apart into the table of its words and a caller for each party, and `Shared::close` puts
+//! them together again. Between the two each step of a call is one atomic action on one word, and the table keeps the
+//! very law that the core keeps: its words, the calls in flight and what callers have seen are at each moment an index
+//! of the core.
+#![tactic(auto)]
+
+mod caller;
+mod calls;
+mod gate;
+mod making;
+mod meeting;
+mod rule;
+mod shared;
+mod stamps;
+mod tried;
+
+pub use caller::{Caller, PlacedWrite};
+pub use gate::Gate;
+pub use rule::{
+    About, BeginsCall, ByOutcome, FirstStep, JoinAll, Member, Members, NextStep, Outcome, Ruled,
+    SplitFirst,
+};
+pub use shared::Shared;
+pub use tried::Tried;
+
+#[cfg(test)]
+mod tests;

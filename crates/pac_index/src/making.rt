@@ -1,0 +1,69 @@
+ghost use Rattle.std.specs.Prelude.{◌≡◌, [], IfOk};
+ghost use Rattle.index_core.specs.Indexes.{parties_of};
+ghost use Rattle.index_core.specs.Lone.{IsQuiet};
+ghost use Rattle.pac_index.specs.Kept.{first_view};
+ghost use Rattle.pac_index.specs.Callers.{Opened, HasCallers, AreNew};
+
+use crate::caller::Caller;
+use crate::rule::{About, Members, SplitFirst};
+use crate::shared::Shared;
+use atomic_table::{Seat, Table};
+use index_core::{Core, Parts};
+use pm_words::NoMemory;
+use std::alloc::Global;
+
+impl Shared {
+    /// An index whose words threads share, with its callers, from a core in which no call is in flight and nothing is
+    /// written.
+    pub fn new(alloc: Global, core: Core) -> Result<(Shared, Vec<Caller>), NoMemory>
+        requires quiet { IsQuiet core }
+        requires start { core.history ≡ [] }
+        ensures opened { IfOk result (λ made. Opened core made.0 made.1.items) }
+    {
+        let Parts {
+            memory,
+            generation,
+            states: _,
+            base,
+            history: _,
+        } = core.parts();
+        let layout = memory.layout();
+        let about = About {
+            layout,
+            generation,
+            base,
+            opened: memory,
+        };
+        let (table, all) = Table::of_words(alloc, about.opened.words(), &about)?;
+        let _count = table.word_count();
+        let shared = Shared { table, about };
+        let callers = shared.seat_callers(alloc, all)?;
+        Ok((shared, callers))
+    }
+
+    /// A caller for each party of the seat, which has them all.
+    fn seat_callers(
+        &self,
+        alloc: Global,
+        mut all: Seat<(), Members>,
+    ) -> Result<Vec<Caller>, NoMemory>
+        requires table { all.table_id ≡ self.now.table.shared.table_id }
+        requires all { all.me ≡ (first_view self.now.about, []) }
+        ensures callers { IfOk result (λ callers. HasCallers self.now (parties_of self.now.about.layout) callers.items) }
+        ensures fresh { IfOk result (λ callers. AreNew callers.items) }
+    {
+        let count = self.about.layout.callers() + 1;
+        let mut callers = Vec::with_capacity(alloc, count as usize)?;
+        for number in 0..count {
+            let seat = self.table.shared.split_seat::<SplitFirst>(&mut all);
+            let kept = Vec::new(alloc);
+            callers.push(Caller {
+                seat,
+                number,
+                index: 0,
+                kept,
+            })?;
+        }
+        Ok(callers)
+    }
+}
