@@ -1,1 +1,2 @@
 pub mod MoveLaw
+pub mod Staying

@@ -5,3 +5,6 @@ pub mod laws;
 mod moving;
 
 pub use moving::{Move, MoveAt, NODE_WORDS, Plan};
+
+#[cfg(test)]
+mod tests;

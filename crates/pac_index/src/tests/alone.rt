@@ -5,18 +5,24 @@ ghost use Rattle.pm_words.specs.Layouts.{IsLayout};
 ghost use Rattle.pac_index.specs.Callers.{IsCallerOf};
 
 use super::*;
+use pm_words::Again;
 
-/// One after another: a put, another put of the name, a get, a delete, a get, what they answer and their places.
-fn answers(shared: &Shared, caller: Caller, name: Name) -> (Caller, [Option<Once<Placed>>; 5])
+/// One call after another, each of its name, and what each is answered.
+fn answers(
+    shared: &Shared,
+    caller: Caller,
+    calls: [(Name, Asks); 5],
+) -> (Caller, [Option<Once<Placed>>; 5])
     requires { IsCallerOf shared.now caller × (caller.number < shared.now.about.layout.callers) }
     ensures { IsCallerOf shared.now result.0 × (result.0.number ≡ caller.number) }
 {
     let mut caller = caller;
-    let first = once(shared, &mut caller, name, Asks::Put(1));
-    let second = once(shared, &mut caller, name, Asks::Put(2));
-    let third = once(shared, &mut caller, name, Asks::Get);
-    let fourth = once(shared, &mut caller, name, Asks::Del);
-    let fifth = once(shared, &mut caller, name, Asks::Get);
+    let [first, second, third, fourth, fifth] = calls;
+    let first = once(shared, &mut caller, first.0, first.1);
+    let second = once(shared, &mut caller, second.0, second.1);
+    let third = once(shared, &mut caller, third.0, third.1);
+    let fourth = once(shared, &mut caller, fourth.0, fourth.1);
+    let fifth = once(shared, &mut caller, fifth.0, fifth.1);
     (caller, [first, second, third, fourth, fifth])
 }
 
@@ -24,7 +30,7 @@ fn answers(shared: &Shared, caller: Caller, name: Name) -> (Caller, [Option<Once
 fn left(
     alloc: Global,
     layout: Layout,
-    name: Name,
+    calls: [(Name, Asks); 5],
 ) -> Result<(Core, [Option<Once<Placed>>; 5]), NoMemory>
     requires layout { IsLayout layout }
     requires one { layout.callers ≡ 1 }
@@ -33,24 +39,32 @@ fn left(
     let (shared, mut callers) = Shared::new(alloc, core)?;
     let updater = take_last(&shared, &mut callers);
     let caller = take_last(&shared, &mut callers);
-    let (caller, told) = answers(&shared, caller, name);
+    let (caller, told) = answers(&shared, caller, calls);
     put_back(&shared, &mut callers, caller)?;
     put_back(&shared, &mut callers, updater)?;
     let core = shared.close(alloc, callers)?;
     Ok((core, told))
 }
 
+fn done(old: Option<u64>, place: u64) -> Option<Once<Placed>> {
+    Some(Once::Done(Placed {
+        old,
+        place,
+        hops: 0,
+    }))
+}
+
 #[test]
 fn a_caller_alone_is_answered_as_by_a_map(rt: HostRuntime) -> Result<(), Fail> {
     let name = Name::read(b"a").ok().ok_or("a")?;
-    let (core, told) = left(rt.alloc(), Layout::new(2, 4, 1)?, name)?;
-    let done = |old, place| {
-        Some(Once::Done(Placed {
-            old,
-            place,
-            hops: 0,
-        }))
-    };
+    let calls = [
+        (name, Asks::Put(1)),
+        (name, Asks::Put(2)),
+        (name, Asks::Get),
+        (name, Asks::Del),
+        (name, Asks::Get),
+    ];
+    let (core, told) = left(rt.alloc(), Layout::new(2, 4, 1)?, calls)?;
     assert_eq!(rt;
         told,
         [
@@ -67,5 +81,30 @@ fn a_caller_alone_is_answered_as_by_a_map(rt: HostRuntime) -> Result<(), Fail> {
     for (write, index) in core.history().iter().zip(indexes) {
         assert_eq!(rt; (write.caller, write.index), (0, index));
     }
+    Ok(())
+}
+
+/// The fifth name finds no room on one node of 4 slots, and leaves no write.
+#[test]
+fn a_put_into_a_full_node_is_turned_back(rt: HostRuntime) -> Result<(), Fail> {
+    let calls = [
+        (Name::read(b"a").ok().ok_or("a")?, Asks::Put(1)),
+        (Name::read(b"b").ok().ok_or("b")?, Asks::Put(2)),
+        (Name::read(b"c").ok().ok_or("c")?, Asks::Put(3)),
+        (Name::read(b"d").ok().ok_or("d")?, Asks::Put(4)),
+        (Name::read(b"e").ok().ok_or("e")?, Asks::Put(5)),
+    ];
+    let (core, told) = left(rt.alloc(), Layout::new(1, 4, 1)?, calls)?;
+    assert_eq!(rt;
+        told,
+        [
+            done(None, 0),
+            done(None, 1),
+            done(None, 2),
+            done(None, 3),
+            Some(Once::Again(Again::NoFree))
+        ]
+    );
+    assert_eq!(rt; core.history().len(), 4);
     Ok(())
 }
