@@ -1,5 +1,5 @@
 -- Keys, and the numbers of their words.
-use Rattle.std.proofs.Common.{◌≡◌, ℕ, ◌^◌, ◌<◌, List, [], ◌∷◌, slice_index, refl, sym, ap, ◌∙◌, arith}
+use Rattle.std.proofs.Common.{◌≡◌, ℕ, ◌^◌, ◌<◌, List, [], ◌∷◌, All, slice_index, refl, sym, ap, ◌∙◌, arith}
 use Rattle.std.proofs.lemmas.List.Elements.{All-weaker}
 use Rattle.cat_key.specs.Names.{IsName, IsNameByte, AreNameWords, words_of}
 use Rattle.cat_key.proofs.Digits.{IsByte}
@@ -7,13 +7,13 @@ use Rattle.cat_key.proofs.Packing.{get_or-words_of_below, byte_of_name}
 use Rattle.data_node.specs.Spots.{Spot}
 use Rattle.data_node.specs.Lists.{three_words, number_of, key_of, anchor_in, anchor_words}
 
--- the words of a name are three, each of 64 bits
-three : (name : List ℕ) → words_of name ≡ slice_index (words_of name) 0 ∷ slice_index (words_of name) 1 ∷ slice_index (words_of name) 2 ∷ []
+-- the words of a text are three, each of 64 bits
+pub three : (text : List ℕ) → words_of text ≡ slice_index (words_of text) 0 ∷ slice_index (words_of text) 1 ∷ slice_index (words_of text) 2 ∷ []
 unfolding words_of
-three name = refl
+three text = refl
 
-word_fits : (name : List ℕ) → IsName name → (k : ℕ) → slice_index (words_of name) k < 2 ^ 64
-word_fits name is k = get_or-words_of_below name (All-weaker IsNameByte IsByte byte_of_name name is.bytes) k
+pub word_fits : (text : List ℕ) → All IsNameByte text → (k : ℕ) → slice_index (words_of text) k < 2 ^ 64
+word_fits text bytes k = get_or-words_of_below text (All-weaker IsNameByte IsByte byte_of_name text bytes) k
 
 pub key-number : (name : List ℕ) → key_of name ≡ number_of (words_of name)
 unfolding key_of
@@ -40,7 +40,7 @@ named_anchor s name fits is same = (
   name,
   is,
   three name ∙ same_words (slice_index (words_of name) 0) (slice_index (words_of name) 1) (slice_index (words_of name) 2) (s 3) (s 4) (s 5)
-      (word_fits name is 1) (word_fits name is 2) (fits 4) (fits 5) (sym (key-number name) ∙ sym same ∙ anchor-number s),
+      (word_fits name is.bytes 1) (word_fits name is.bytes 2) (fits 4) (fits 5) (sym (key-number name) ∙ sym same ∙ anchor-number s),
 )
 
 -- an anchor is zero exactly where its words are

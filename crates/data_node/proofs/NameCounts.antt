@@ -10,6 +10,7 @@ use Rattle.cat_history.specs.declared.op.Change.{Change}
 use Rattle.cat_history.specs.declared.op.Change.TheVariants.{Put, Del}
 use Rattle.cat_history.proofs.ChangeLemmas.{at-changed_other, changed_found}
 use Rattle.data_node.specs.Spots.{Spot, bitmap_offset, IsLiveIn, name_words, value_in, Finds, IsTidy, Means}
+use Rattle.data_node.specs.Lists.{StaysIn}
 use Rattle.data_node.specs.Weights.{has_name_in, names_in}
 use Rattle.data_node.proofs.SpotLemmas.{same_name, at_found, remove_absent}
 
@@ -178,6 +179,29 @@ same_names slots range s t m from to =
     let up = names_within slots range s t m m from to (λ name h. h) in
     let down = names_within slots range t s m m to from (λ name h. h) in
     omega arith
+
+-- With the same bitmap a node has no more names of a range, where its live slots had no name out of the range.
+pub names_by_bits : (slots : ℕ) (range : List ℕ → Bool) (s t : Spot) → IsTidy slots s → StaysIn slots range s → t bitmap_offset ≡ s bitmap_offset → names_in slots range t ≤ names_in slots range s
+names_by_bits slots range s t tidy stays bits = to slots (omega arith)
+  where
+    had : (slot : ℕ) → slot < slots → has_name_in range t slot ≡ true → has_name_in range s slot ≡ true
+    had slot within is =
+        let parts = and_parts (bit_at (t bitmap_offset) slot == 1) (range (bytes_of (name_words t slot))) is in
+        let live : IsLiveIn s slot = subst (λ bitmap. bit_at bitmap slot ≡ 1) bits (eqb-true (bit_at (t bitmap_offset) slot) 1 parts.0) in
+        let named = tidy.named slot within live in
+        elim (range named.0) as (λ b. range named.0 ≡ b → has_name_in range s slot ≡ true) [
+          | true ↦ λ inside. name_counts range s slot named.0 named.1 inside live (sym named.2)
+          | false ↦ λ out. absurd (stays named.0 named.1 out slot within live (sym named.2))
+        ] refl
+
+    to : (n : ℕ) → n ≤ slots → names_in n range t ≤ names_in n range s
+    to zero few = omega arith
+    to (suc n) few =
+        let rest = to n (omega arith) in
+        elim (has_name_in range t n) as (λ b. has_name_in range t n ≡ b → one_if b + names_in n range t ≤ one_if (has_name_in range s n) + names_in n range s) [
+          | true ↦ λ is. let here : one_if (has_name_in range s n) ≡ 1 = ap one_if (had n (omega arith) is) in omega arith
+          | false ↦ λ _. omega arith
+        ] refl
 
 -- another name is there after a change as it was before
 kept : (range : List ℕ → Bool) (m : Map) (c : Change) (other : List ℕ) → other ≢ name_of c → HasIn range m other → HasIn range (changed m c) other

@@ -69,6 +69,7 @@ fn sort_slots(entries: &[[u64; SLOT_WORDS]; MAX_SLOTS as usize], slots: &mut [u8
 /// one name in rising order.
 pub fn sort_order(entries: &[[u64; 4]; 64], bitmap: u64, slots: u64) -> Order
     requires { slots ≤ MAX_SLOTS }
+    ensures len { result.len ≤ slots }
     ensures live { IsPermutation (live_slots bitmap slots) (listed result) }
     ensures rising { IsSortedBy (comes_before entries.now) (listed result) }
 {

@@ -96,7 +96,7 @@ pub at-set_other : (l : Layout) (words : List ℕ) (p q : Location) (word : ℕ)
     at l (slice_set words (address_of l p) word) q ≡ at l words q
 at-set_other l words p q word has has' other = get_or-set_other words (address_of l p) (address_of l q) word 0 (λ e. other (addresses_apart l q p has' has e))
 
--- a address has the word that was stored there
+-- a location has the word that was stored there
 pub at-set_same : (l : Layout) (words : List ℕ) (p : Location) (word : ℕ) → length words ≡ row_words l → HasLocation l p →
     at l (slice_set words (address_of l p) word) p ≡ word
 at-set_same l words p word whole has = get_or-set_same words (address_of l p) word 0 (let within = addresses_within l p has in omega arith)

@@ -117,7 +117,7 @@ evicted_row_by l words word cached durable found row inside cached_is durable_is
     let after : found ≡ slice_index words (cached_address l word) = found_is ∙ ap (slice_index words) cached_is in
     subst (IsRow l) (sym (λ x. slice_set words (durable_is x) (after x))) (evicted_row l words word row inside)
 
--- a address by another name than those of the header's twins
+-- a location other than the header's twins
 pub outside_header : (l : Layout) (p : Location) → HasLocation l p →
     ((k : ℕ) → k < 5 → (p ≢ Cached (Header k)) × (p ≢ Durable (Header k))) → IsOutsideHeader l (address_of l p)
 outside_header l p has other k lt =

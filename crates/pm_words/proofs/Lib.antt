@@ -1,4 +1,5 @@
 pub mod Apart
+pub mod Fencing
 pub mod Kept
 pub mod Made
 pub mod Parts

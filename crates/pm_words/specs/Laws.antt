@@ -1,12 +1,14 @@
 -- Laws of addresses, rows and images. Each is proved; crates above cite its proof by the lemma's name.
-use Rattle.std.specs.Prelude.{◌≡◌, ◌≢◌, ℕ, ◌<◌, List, length, slice_set}
+use Rattle.std.specs.Prelude.{◌≡◌, ◌≢◌, ℕ, ◌<◌, ◌^◌, List, length, slice_set, IfSome}
 use Rattle.pm_words.specs.declared.layout.Layout.{Layout}
 use Rattle.pm_words.specs.declared.action.Action.{Action}
 use Rattle.pm_words.specs.declared.action.Action.TheVariants.{Drain}
+use Rattle.pm_words.specs.declared.fence.Fence.{Fence}
 use Rattle.pm_words.specs.Layouts.{IsLayout}
 use Rattle.pm_words.specs.Locations.{Word, Header, Location, Cached, Durable, node_words, slot_offset, image_words}
 use Rattle.pm_words.specs.Locations.{word_number, HasWord, word_at, row_words, address_of, HasLocation, IsVolatile, at}
 use Rattle.pm_words.specs.Images.{IsImage, fresh_words, fresh_word}
+use Rattle.pm_words.specs.Fences.{IsFence, fence_asks, fence_next, FenceTurn}
 use Rattle.pm_words.specs.Rows.{IsRow, IsOutsideHeader, KeepsHeader, IsCached, CanAct, action_address, acted, evicted}
 use Rattle.pm_words.specs.Rows.{durable_row, row_of}
 
@@ -32,12 +34,12 @@ abbrev pub SlotsApart : Type 0
 SlotsApart = (slot k slot' k' : ℕ) → k < 4 → k' < 4 → slot_offset slot k ≡ slot_offset slot' k' → (slot ≡ slot') ×
     (k ≡ k')
 
--- a address has the word that was stored there
+-- a location has the word that was stored there
 abbrev pub StoreStands : Type 0
 StoreStands = (l : Layout) (words : List ℕ) (p : Location) (word : ℕ) → length words ≡ row_words l → HasLocation l p →
     at l (slice_set words (address_of l p) word) p ≡ word
 
--- a store at one address leaves the word at any other
+-- a store at one location leaves the word at any other
 abbrev pub StoreLeaves : Type 0
 StoreLeaves = (l : Layout) (words : List ℕ) (p q : Location) (word : ℕ) → HasLocation l p → HasLocation l q → q ≢ p →
     at l (slice_set words (address_of l p) word) q ≡ at l words q
@@ -50,7 +52,7 @@ DrainsTwin = (l : Layout) (w : Word) (value : ℕ) →
 abbrev pub NamesCached : Type 0
 NamesCached = (l : Layout) (w : Word) → HasWord l w → IsCached l (address_of l (Cached w))
 
--- an action may name every address that is no header word's, and a drain of it may give any value
+-- an action may name the address of every location that is no header word's, and a drain of it may give any value
 abbrev pub OutsideHeader : Type 0
 OutsideHeader = (l : Layout) (p : Location) → HasLocation l p →
     ((k : ℕ) → k < 5 → (p ≢ Cached (Header k)) × (p ≢ Durable (Header k))) →
@@ -95,3 +97,11 @@ FreshIsImage = (l : Layout) → IsLayout l → IsImage l (fresh_words l)
 
 abbrev pub FreshByName : Type 0
 FreshByName = (l : Layout) (w : Word) → HasWord l w → word_at l (fresh_words l) w ≡ fresh_word l w
+
+-- each turn of a fence is one of its three, and its fields stay in range
+abbrev pub FencesTurn : Type 0
+FencesTurn = (address : ℕ) (fence : Fence) (x : ℕ) → IsFence fence → x < 2 ^ 64 →
+    FenceTurn address x fence (fence_asks address fence) (fence_next fence x)
+
+abbrev pub FencesStay : Type 0
+FencesStay = (fence : Fence) (x : ℕ) → IsFence fence → x < 2 ^ 64 → IfSome (fence_next fence x) IsFence

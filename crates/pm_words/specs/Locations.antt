@@ -1,4 +1,4 @@
--- The words of an image and the addresses of a row by name, and their numbers.
+-- The words of an image and the locations of a row by name, and their numbers.
 use Rattle.std.specs.Prelude.{ℕ, ◌+◌, ◌-◌, ◌*◌, ◌<◌, ◌≤◌, List, [], ◌∷◌, sum, take, slice_index}
 use Rattle.pm_words.specs.declared.layout.Layout.{Layout}
 
@@ -11,7 +11,7 @@ pub data Word : Type 0 where
   Leaf : ℕ → ℕ → Word  -- the leaf's number
   Cell : ℕ → ℕ → ℕ → Word  -- the cell's kind, and its number among those of the kind
 
--- a address of the row: a volatile word, or a twin of an image word
+-- a location of the row: a volatile word, or a twin of an image word
 pub data Location : Type 0 where
   Clock : Location
   Updater : Location  -- the updater lock
@@ -113,11 +113,11 @@ behind_start l (Mark kind k) = (kind - 1) * leaf_count l + k
 behind_start l (Cached w) = word_number l w
 behind_start l (Durable w) = word_number l w
 
--- a address's number
+-- the address of a location
 abbrev pub address_of : Layout → Location → ℕ
 address_of l p = start_of (row_parts l) (part_of_address p) + behind_start l p
 
--- the addresses that a row of this layout has
+-- the locations that a row of this layout has
 abbrev pub HasLocation : Layout → Location → Type 0
 HasLocation l Clock = Unit {0}
 HasLocation l Updater = Unit {0}
@@ -126,11 +126,11 @@ HasLocation l (Mark kind k) = (1 ≤ kind) × (kind ≤ 5) × (k < leaf_count l)
 HasLocation l (Cached w) = HasWord l w
 HasLocation l (Durable w) = HasWord l w
 
--- a address in front of the cached twins
+-- a location in front of the cached twins
 abbrev pub IsVolatile : Location → Type 0
 IsVolatile p = part_of_address p < 3
 
--- the word at a address
+-- the word at a location
 abbrev pub at : Layout → List ℕ → Location → ℕ
 at l words p = slice_index words (address_of l p)
 

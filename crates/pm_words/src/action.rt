@@ -1,4 +1,4 @@
-/// One action on one word. A address is a number in the row of the volatile words, the cached and the durable twins.
+/// One action on one word. An address is a number in the row of the volatile words, the cached and the durable twins.
 #[derive(Clone, Copy, PartialEq, Eq, Debug)]
 pub enum Action {
     Load(u64),

@@ -4,7 +4,7 @@ ghost use Rattle.pm_words.specs.Laws.{WordsWithin, WordsApart, AddressesWithin, 
 ghost use Rattle.pm_words.specs.Laws.{SlotsApart, StoreStands, StoreLeaves, DrainsTwin, NamesCached, OutsideHeader};
 ghost use Rattle.pm_words.specs.Laws.{DrainsFreely, ActKeepsRow, EvictionKeepsRow, CrashLeavesImage};
 ghost use Rattle.pm_words.specs.Laws.{CrashLeavesDurable, ImageMakesRow, TwinsAreImage, VolatileIsZero, FreshIsImage};
-ghost use Rattle.pm_words.specs.Laws.{FreshByName};
+ghost use Rattle.pm_words.specs.Laws.{FreshByName, FencesTurn, FencesStay};
 
 /// Named words are within an image, and no two have one number.
 pub fn words_apart()
@@ -12,7 +12,7 @@ pub fn words_apart()
     ensures apart { WordsApart }
 {}
 
-/// Named addresses are within a row, and no two have one number.
+/// Locations are within a row, and no two have one address.
 pub fn addresses_apart()
     ensures within { AddressesWithin }
     ensures apart { AddressesApart }
@@ -61,4 +61,11 @@ pub fn rows_made()
 pub fn fresh_image()
     ensures image { FreshIsImage }
     ensures words { FreshByName }
+{}
+
+/// Each turn of a fence loads its word, or gives the word in hand to the durable twin and goes on to the next word, or
+/// is done with the last.
+pub fn fences_turn()
+    ensures turn { FencesTurn }
+    ensures stay { FencesStay }
 {}

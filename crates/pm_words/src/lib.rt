@@ -5,6 +5,7 @@
 mod action;
 mod again;
 mod bytes;
+mod fence;
 mod image;
 pub mod laws;
 mod layout;
@@ -16,6 +17,7 @@ mod steps;
 pub use action::Action;
 pub use again::Again;
 pub use bytes::ImageFault;
+pub use fence::{Fence, FenceAt, line_of};
 pub use image::Image;
 pub use layout::{Field, Layout, LayoutFault};
 pub use machine::{Machine, Turn};

@@ -21,7 +21,7 @@ pub trait Machine: Sized {
     /// What it is done with.
     type Answer;
 
-    /// What its fields keep, as that the addresses which it names are in range.
+    /// What its fields keep, such as that the addresses which it names are in range.
     ghost fits: { Self → Type 0 };
 
     /// The action that it asks for.

@@ -14,7 +14,7 @@ use std::marker::Model;
 use std::sync::ledger::Ledger;
 
 /// The rows of words in simulated persistent memory: the volatile words, then the cached twins of the image words, then
-/// their durable twins. A address is a number in this order.
+/// their durable twins. An address is a number in this order.
 #[derive(Drop)]
 pub struct Memory {
     layout: Layout,

@@ -139,8 +139,7 @@ fn drain<L: Ledger>(memory: &mut Memory, word: u64, value: u64, steps: &mut Step
     memory.act(Action::Drain(address, value), steps)
 }
 
-/// A store into one node's bitmap leaves each word of another node: told by the names of the addresses, with no
-/// arithmetic.
+/// A store into one node's bitmap leaves each word of another node: told by the locations, with no arithmetic.
 fn store_bitmap<L: Ledger>(memory: &mut Memory, node: u64, bitmap: u64, steps: &mut Steps<L>)
     requires { node < memory.old.layout.nodes }
     ensures stored { at memory.new.layout memory.new.words (Cached (Node node 1)) ≡ bitmap }

@@ -7,8 +7,7 @@ use Rattle.pm_words.specs.Locations.{leaf_count}
 use Rattle.search_layer.specs.declared.change.Change.{Change}
 use Rattle.search_layer.specs.declared.change.ChangeAt.{ChangeAt}
 use Rattle.search_layer.specs.declared.change.ChangeAt.TheVariants as at
-use Rattle.search_layer.specs.declared.fence.FenceAt.{FenceAt}
-use Rattle.search_layer.specs.declared.fence.FenceAt.TheVariants as fence_at
+use Rattle.pm_words.specs.declared.fence.Fence.{Fence}
 use Rattle.search_layer.specs.declared.reader.ReaderAt.{ReaderAt}
 use Rattle.search_layer.specs.declared.reader.ReaderAt.TheVariants as reads
 use Rattle.search_layer.specs.declared.reader.Read.TheVariants as read
@@ -16,7 +15,8 @@ use Rattle.search_layer.specs.declared.set.Set.{Set}
 use Rattle.search_layer.specs.declared.set.Unset.{Unset}
 use Rattle.search_layer.specs.Keys.{key_number, key_of}
 use Rattle.search_layer.specs.Reading.{IsReaderAt, reads_leaf, read_at}
-use Rattle.search_layer.specs.Fences.{fence_of, fence_at_next}
+use Rattle.pm_words.specs.Fences.{IsFence, fence_start, fence_next}
+use Rattle.pm_words.proofs.Fencing.{fence_stays}
 use Rattle.search_layer.specs.ChangeSteps.{first_unused, change_to, change_fills, change_ends, change_past, change_read, change_turned, change_at_turned, leaf_drained, switch_drained, IsChangeAt, IsChange}
 use Rattle.search_layer.specs.SetSteps.{IsSet, set_of, IsUnset, unset_of}
 use Rattle.search_layer.specs.ChangeStages.{Aim}
@@ -54,34 +54,27 @@ module _ (change : Change) (sound : IsChange change) where
         | false ↦ past_sound unused leaf within
       ]
 
-  leaf_drained_sound : (leaf word : ℕ) (part : FenceAt) (x : ℕ) → leaf < leaf_count change.layout → word < 8 → x < 2 ^ 64
-      → SoundAfter change.layout (aim_of change) (leaf_drained change leaf (fence_at_next (record { leaf = leaf; word = word; at = part }) part x))
-  leaf_drained_sound leaf word fence_at.Load x here small fits = on (at.DrainingLeaf (record { leaf = leaf; word = word; at = fence_at.Drain x })) (record { leaf = here; word = small; value = fits })
-  leaf_drained_sound leaf word (fence_at.Drain value) x here small fits =
-      elim (ltb (word + 1) 8) as (λ b. ltb (word + 1) 8 ≡ b → SoundAfter change.layout (aim_of change) (leaf_drained change leaf (cond b (Some (record { leaf = leaf; word = word + 1; at = fence_at.Load })) None))) [
-        | true ↦ λ more. on (at.DrainingLeaf (record { leaf = leaf; word = word + 1; at = fence_at.Load })) (record { leaf = here; word = ltb-true _ _ more; value = tt })
-        | false ↦ λ last. on (at.Switching leaf) here
-      ] refl
+  leaf_drained_sound : (leaf : ℕ) (next : Option Fence) → leaf < leaf_count change.layout → IfSome next IsFence → SoundAfter change.layout (aim_of change) (leaf_drained change leaf next)
+  leaf_drained_sound leaf (Some fence) here is = on (at.DrainingLeaf leaf fence) (here, is)
+  leaf_drained_sound leaf None here is = on (at.Switching leaf) here
 
-  switch_drained_sound : (leaf word : ℕ) (part : FenceAt) (x : ℕ) → leaf < leaf_count change.layout → word < 8 → x < 2 ^ 64
-      → SoundAfter change.layout (aim_of change) (switch_drained change (fence_at_next (record { leaf = leaf; word = word; at = part }) part x))
-  switch_drained_sound leaf word fence_at.Load x here small fits = on (at.DrainingSwitch (record { leaf = leaf; word = word; at = fence_at.Drain x })) (record { leaf = here; word = small; value = fits })
-  switch_drained_sound leaf word (fence_at.Drain value) x here small fits =
-      elim (ltb (word + 1) 8) as (λ b. ltb (word + 1) 8 ≡ b → SoundAfter change.layout (aim_of change) (switch_drained change (cond b (Some (record { leaf = leaf; word = word + 1; at = fence_at.Load })) None))) [
-        | true ↦ λ more. on (at.DrainingSwitch (record { leaf = leaf; word = word + 1; at = fence_at.Load })) (record { leaf = here; word = ltb-true _ _ more; value = tt })
-        | false ↦ λ last. tt
-      ] refl
+  switch_drained_sound : (leaf : ℕ) (next : Option Fence) → leaf < leaf_count change.layout → IfSome next IsFence → SoundAfter change.layout (aim_of change) (switch_drained change leaf next)
+  switch_drained_sound leaf (Some fence) here is = on (at.DrainingSwitch leaf fence) (here, is)
+  switch_drained_sound leaf None here is = tt
+
+  starts : IsFence fence_start
+  starts = record { word = omega arith; value = tt }
 
   stays_at : (at : ChangeAt) (x : ℕ) → IsChangeAt change.layout at → x < 2 ^ 64 → SoundAfter change.layout (aim_of change) (change_at_turned change at x)
   stays_at (at.Looking unused reader) x here fits = read_sound unused reader.leaf reader.at x here.0.leaf here.0.here here.1
   stays_at (at.Filling leaf word) x here fits =
-      elim (ltb word 6) as (λ b. ltb word 6 ≡ b → SoundAfter change.layout (aim_of change) (cond b (change_to change (at.Filling leaf (word + 1))) (change_to change (at.DrainingLeaf (fence_of leaf))))) [
+      elim (ltb word 6) as (λ b. ltb word 6 ≡ b → SoundAfter change.layout (aim_of change) (cond b (change_to change (at.Filling leaf (word + 1))) (change_to change (at.DrainingLeaf leaf fence_start)))) [
         | true ↦ λ more. let below = ltb-true _ _ more in on (at.Filling leaf (word + 1)) (here.0, omega arith)
-        | false ↦ λ last. on (at.DrainingLeaf (fence_of leaf)) (record { leaf = here.0; word = omega arith; value = tt })
+        | false ↦ λ last. on (at.DrainingLeaf leaf fence_start) (here.0, starts)
       ] refl
-  stays_at (at.DrainingLeaf fence) x here fits = leaf_drained_sound fence.leaf fence.word fence.at x here.leaf here.word fits
-  stays_at (at.Switching leaf) x here fits = on (at.DrainingSwitch (fence_of leaf)) (record { leaf = here; word = omega arith; value = tt })
-  stays_at (at.DrainingSwitch fence) x here fits = switch_drained_sound fence.leaf fence.word fence.at x here.leaf here.word fits
+  stays_at (at.DrainingLeaf leaf fence) x here fits = leaf_drained_sound leaf (fence_next fence x) here.0 (fence_stays fence x here.1 fits)
+  stays_at (at.Switching leaf) x here fits = on (at.DrainingSwitch leaf fence_start) (here, starts)
+  stays_at (at.DrainingSwitch leaf fence) x here fits = switch_drained_sound leaf (fence_next fence x) here.0 (fence_stays fence x here.1 fits)
 
 pub changes_stay_sound : ChangesStaySound
 changes_stay_sound change x sound fits = stays_at change sound change.at x sound.here fits

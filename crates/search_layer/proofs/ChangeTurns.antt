@@ -2,21 +2,23 @@
 use Rattle.std.proofs.Common.{◌≡◌, ◌≢◌, ℕ, ◌+◌, ◌^◌, ◌⊎◌, ◌<◌, ◌≤◌, ◌==◌, true, false, cond, ltb, Option, Some, None, IfSome, slice_index, inl, inr, refl, sym, subst, ap, ap₂, ◌∙◌, arith}
 use Rattle.std.proofs.lemmas.Bool.{cases_eq, eqb-true, eqb-false, ltb-true, ltb-false}
 use Rattle.pm_words.specs.declared.layout.Layout.{Layout}
+use Rattle.pm_words.specs.declared.action.Action.{Action}
 use Rattle.pm_words.specs.declared.action.Action.TheVariants.{Load, Store, Drain}
 use Rattle.pm_words.specs.declared.machine.Turn.TheVariants.{Done}
 use Rattle.pm_words.specs.Locations.{leaf_count}
 use Rattle.search_layer.specs.declared.change.Change.{Change}
 use Rattle.search_layer.specs.declared.change.ChangeAt.{ChangeAt}
 use Rattle.search_layer.specs.declared.change.ChangeAt.TheVariants as at
-use Rattle.search_layer.specs.declared.fence.FenceAt.{FenceAt}
-use Rattle.search_layer.specs.declared.fence.FenceAt.TheVariants as fence_at
+use Rattle.pm_words.specs.declared.fence.Fence.{Fence}
 use Rattle.search_layer.specs.declared.reader.ReaderAt.{ReaderAt}
 use Rattle.search_layer.specs.declared.reader.ReaderAt.TheVariants as reads
 use Rattle.search_layer.specs.declared.reader.Read.TheVariants as read
 use Rattle.search_layer.specs.Keys.{key_number, key_of}
 use Rattle.search_layer.specs.Leaves.{LayerWords, leaf_place, key_in, has_key}
 use Rattle.search_layer.specs.Reading.{IsReaderAt, reads_leaf, offset_read, read_at}
-use Rattle.search_layer.specs.Fences.{IsFenceAt, fence_of, fence_at_next}
+use Rattle.pm_words.specs.Fences.{fence_start, FenceTurn}
+use Rattle.pm_words.specs.Fences as turn
+use Rattle.pm_words.proofs.Fencing.{fence_turns}
 use Rattle.search_layer.specs.ChangeSteps.{filled, filling, first_unused, change_at_asks, change_to, change_fills, change_ends, change_past, change_read, change_at_turned, leaf_drained, switch_drained, IsChangeAt, IsChange}
 use Rattle.search_layer.specs.ChangeStages.{Sight, Sees, Aim, Looks, Fills, CanSwitch, Switched, Changed, sees, finds, finds_none, has_none, has_no_room, glances, glances_switch, ChangeStep, looks, fills, drains, drains_last, switches, drains_switch, drains_switch_last}
 use Rattle.search_layer.specs.Laws.{sight_of, hand_of, change_at_stage, aim_of, stage_after, ChangesAreSteps}
@@ -132,20 +134,20 @@ module _ (change : Change) (sound : IsChange change) where
   -- a word of the leaf that is filled
   filling_step : (leaf word x : ℕ) → leaf < count → word < 7
       → ChangeStep l aim (Fills leaf (filled word) 0 None) (Store (leaf_place l leaf (filled word)) (filling change.key word)) x
-      (stage_after (cond (ltb word 6) (change_to change (at.Filling leaf (word + 1))) (change_to change (at.DrainingLeaf (fence_of leaf)))))
+      (stage_after (cond (ltb word 6) (change_to change (at.Filling leaf (word + 1))) (change_to change (at.DrainingLeaf leaf fence_start))))
   filling_step leaf word x here small =
       elim (ltb word 3) as (λ b. ltb word 3 ≡ b
       → ChangeStep l aim (Fills leaf (cond b word (word + 1)) 0 None) (Store (leaf_place l leaf (cond b word (word + 1))) (cond b (slice_index change.key word) 0)) x
-      (stage_after (cond (ltb word 6) (change_to change (at.Filling leaf (word + 1))) (change_to change (at.DrainingLeaf (fence_of leaf)))))) [
+      (stage_after (cond (ltb word 6) (change_to change (at.Filling leaf (word + 1))) (change_to change (at.DrainingLeaf leaf fence_start))))) [
         | true ↦ λ low. let lower = ltb-true _ _ low in
             elim (ltb word 6) as (λ b. ltb word 6 ≡ b → ChangeStep l aim (Fills leaf word 0 None) (Store (leaf_place l leaf word) (slice_index change.key word)) x
-            (stage_after (cond b (change_to change (at.Filling leaf (word + 1))) (change_to change (at.DrainingLeaf (fence_of leaf)))))) [
+            (stage_after (cond b (change_to change (at.Filling leaf (word + 1))) (change_to change (at.DrainingLeaf leaf fence_start))))) [
               | true ↦ λ more. fills here (omega arith) (omega arith) (sound.key.fits word) (λ lt. refl) (λ lt. absurd (omega arith)) (key_stands word lower)
               | false ↦ λ last. absurd (let past = ltb-false _ _ last in omega arith)
             ] refl
         | false ↦ λ high. let higher = ltb-false _ _ high in
             elim (ltb word 6) as (λ b. ltb word 6 ≡ b → ChangeStep l aim (Fills leaf (word + 1) 0 None) (Store (leaf_place l leaf (word + 1)) 0) x
-            (stage_after (cond b (change_to change (at.Filling leaf (word + 1))) (change_to change (at.DrainingLeaf (fence_of leaf)))))) [
+            (stage_after (cond b (change_to change (at.Filling leaf (word + 1))) (change_to change (at.DrainingLeaf leaf fence_start))))) [
               | true ↦ λ more. fills here (omega arith) (omega arith) (omega arith) (λ lt. absurd (omega arith)) (λ lt. refl) (zero_stands word higher)
               | false ↦ λ last. let past = ltb-false _ _ last in fills here (omega arith) (omega arith) (omega arith) (λ lt. absurd (omega arith)) (λ lt. refl) (λ o lt ne. one_more o (word + 1) (omega arith))
             ] refl
@@ -166,36 +168,28 @@ module _ (change : Change) (sound : IsChange change) where
         | false ↦ λ e lt ne. one_more o (word + 1) lt
       ] refl
 
-  draining_step : (leaf word : ℕ) (part : FenceAt) (x : ℕ) → leaf < count → word < 8 → IsFenceAt part
-      → ChangeStep l aim (Fills leaf 8 word (hand_of part)) (change_at_asks change (at.DrainingLeaf (record { leaf = leaf; word = word; at = part }))) x
-      (stage_after (leaf_drained change leaf (fence_at_next (record { leaf = leaf; word = word; at = part }) part x)))
-  draining_step leaf word fence_at.Load x here small fits = looks (glances here small)
-  draining_step leaf word (fence_at.Drain value) x here small fits =
-      elim (ltb (word + 1) 8) as (λ b. ltb (word + 1) 8 ≡ b → ChangeStep l aim (Fills leaf 8 word (Some value)) (Drain (leaf_place l leaf word) value) x
-      (stage_after (leaf_drained change leaf (cond b (Some (record { leaf = leaf; word = word + 1; at = fence_at.Load })) None)))) [
-        | true ↦ λ more. drains here small fits
-        | false ↦ λ last. let past = ltb-false _ _ last in let seven : 7 ≡ word = omega arith in
-            subst (λ n. ChangeStep l aim (Fills leaf 8 n (Some value)) (Drain (leaf_place l leaf n) value) x (CanSwitch leaf)) seven (drains_last here fits (omega arith))
-      ] refl
+  draining_step : (leaf x : ℕ) → leaf < count → (before : Fence) (action : Action) (after : Option Fence) → FenceTurn (leaf_place l leaf before.word) x before action after
+      → ChangeStep l aim (Fills leaf 8 before.word (hand_of before.at)) action x (stage_after (leaf_drained change leaf after))
+  draining_step leaf x here before action after (turn.loads small fits) = looks (glances here small)
+  draining_step leaf x here before action after (turn.drains more value) = drains here (omega arith) value
+  draining_step leaf x here before action after (turn.drains_last {word} {value = y} last value) =
+      let seven : 7 ≡ word = omega arith in
+      subst (λ n. ChangeStep l aim (Fills leaf 8 n (Some y)) (Drain (leaf_place l leaf n) y) x (CanSwitch leaf)) seven (drains_last here value (omega arith))
 
-  switched_step : (leaf word : ℕ) (part : FenceAt) (x : ℕ) → leaf < count → word < 8 → IsFenceAt part
-      → ChangeStep l aim (Switched leaf word (hand_of part)) (change_at_asks change (at.DrainingSwitch (record { leaf = leaf; word = word; at = part }))) x
-      (stage_after (switch_drained change (fence_at_next (record { leaf = leaf; word = word; at = part }) part x)))
-  switched_step leaf word fence_at.Load x here small fits = looks (glances_switch here small)
-  switched_step leaf word (fence_at.Drain value) x here small fits =
-      elim (ltb (word + 1) 8) as (λ b. ltb (word + 1) 8 ≡ b → ChangeStep l aim (Switched leaf word (Some value)) (Drain (leaf_place l leaf word) value) x
-      (stage_after (switch_drained change (cond b (Some (record { leaf = leaf; word = word + 1; at = fence_at.Load })) None)))) [
-        | true ↦ λ more. drains_switch here small fits
-        | false ↦ λ last. let past = ltb-false _ _ last in let seven : 7 ≡ word = omega arith in
-            subst (λ n. ChangeStep l aim (Switched leaf n (Some value)) (Drain (leaf_place l leaf n) value) x Changed) seven (drains_switch_last here fits)
-      ] refl
+  switched_step : (leaf x : ℕ) → leaf < count → (before : Fence) (action : Action) (after : Option Fence) → FenceTurn (leaf_place l leaf before.word) x before action after
+      → ChangeStep l aim (Switched leaf before.word (hand_of before.at)) action x (stage_after (switch_drained change leaf after))
+  switched_step leaf x here before action after (turn.loads small fits) = looks (glances_switch here small)
+  switched_step leaf x here before action after (turn.drains more value) = drains_switch here (omega arith) value
+  switched_step leaf x here before action after (turn.drains_last {word} {value = y} last value) =
+      let seven : 7 ≡ word = omega arith in
+      subst (λ n. ChangeStep l aim (Switched leaf n (Some y)) (Drain (leaf_place l leaf n) y) x Changed) seven (drains_switch_last here value)
 
   step_at : (at : ChangeAt) (x : ℕ) → IsChangeAt l at → x < 2 ^ 64 → ChangeStep l aim (change_at_stage at) (change_at_asks change at) x (stage_after (change_at_turned change at x))
   step_at (at.Looking unused reader) x here small = looking_step unused reader.leaf reader.at x here.0.leaf here.0.here here.1
   step_at (at.Filling leaf word) x here small = filling_step leaf word x here.0 here.1
-  step_at (at.DrainingLeaf fence) x here small = draining_step fence.leaf fence.word fence.at x here.leaf here.word here.value
+  step_at (at.DrainingLeaf leaf fence) x here small = draining_step leaf x here.0 fence _ _ (fence_turns (leaf_place l leaf fence.word) fence x here.1 small)
   step_at (at.Switching leaf) x here small = switches here
-  step_at (at.DrainingSwitch fence) x here small = switched_step fence.leaf fence.word fence.at x here.leaf here.word here.value
+  step_at (at.DrainingSwitch leaf fence) x here small = switched_step leaf x here.0 fence _ _ (fence_turns (leaf_place l leaf fence.word) fence x here.1 small)
 
 pub changes_are_steps : ChangesAreSteps
 changes_are_steps change x sound small = step_at change sound change.at x sound.here small

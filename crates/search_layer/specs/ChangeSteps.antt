@@ -11,13 +11,13 @@ use Rattle.pm_words.specs.Locations.{leaf_count}
 use Rattle.search_layer.specs.declared.change.Change.{Change}
 use Rattle.search_layer.specs.declared.change.ChangeAt.{ChangeAt}
 use Rattle.search_layer.specs.declared.change.ChangeAt.TheVariants as at
-use Rattle.search_layer.specs.declared.fence.Fence.{Fence}
+use Rattle.pm_words.specs.declared.fence.Fence.{Fence}
 use Rattle.search_layer.specs.declared.reader.Read.{Read}
 use Rattle.search_layer.specs.declared.reader.Read.TheVariants as read
 use Rattle.search_layer.specs.Keys.{key_number, IsKey}
 use Rattle.search_layer.specs.Leaves.{leaf_place}
 use Rattle.search_layer.specs.Reading.{IsReader, reads_leaf, reader_asks, read_at, reader_left}
-use Rattle.search_layer.specs.Fences.{IsFence, fence_of, fence_asks, fence_next, fence_left}
+use Rattle.pm_words.specs.Fences.{IsFence, fence_start, fence_asks, fence_next, fence_left}
 
 abbrev pub change_starts : Layout → List ℕ → ℕ → Change
 change_starts l key word = record { layout = l; key = key; word = word; at = at.Looking None (reads_leaf 0) }
@@ -38,9 +38,9 @@ abbrev pub change_at_asks : Change → ChangeAt → Action
 change_at_asks change (at.Looking unused reader) = reader_asks change.layout reader
 change_at_asks change (at.Filling leaf word) =
     Store (leaf_place change.layout leaf (filled word)) (filling change.key word)
-change_at_asks change (at.DrainingLeaf fence) = fence_asks change.layout fence
+change_at_asks change (at.DrainingLeaf leaf fence) = fence_asks (leaf_place change.layout leaf fence.word) fence
 change_at_asks change (at.Switching leaf) = Store (leaf_place change.layout leaf 3) change.word
-change_at_asks change (at.DrainingSwitch fence) = fence_asks change.layout fence
+change_at_asks change (at.DrainingSwitch leaf fence) = fence_asks (leaf_place change.layout leaf fence.word) fence
 
 abbrev pub change_asks : Change → Action
 change_asks change = change_at_asks change change.at
@@ -71,21 +71,21 @@ change_read change unused leaf (read.Used node key) =
     else change_past change unused leaf
 
 abbrev pub leaf_drained : Change → ℕ → Option Fence → Turn Change (Unit {0})
-leaf_drained change leaf (Some fence) = change_to change (at.DrainingLeaf fence)
+leaf_drained change leaf (Some fence) = change_to change (at.DrainingLeaf leaf fence)
 leaf_drained change leaf None = change_to change (at.Switching leaf)
 
-abbrev pub switch_drained : Change → Option Fence → Turn Change (Unit {0})
-switch_drained change (Some fence) = change_to change (at.DrainingSwitch fence)
-switch_drained change None = Done tt
+abbrev pub switch_drained : Change → ℕ → Option Fence → Turn Change (Unit {0})
+switch_drained change leaf (Some fence) = change_to change (at.DrainingSwitch leaf fence)
+switch_drained change leaf None = Done tt
 
 abbrev pub change_at_turned : Change → ChangeAt → ℕ → Turn Change (Unit {0})
 change_at_turned change (at.Looking unused reader) got = change_read change unused reader.leaf (read_at reader.at got)
 change_at_turned change (at.Filling leaf word) got =
     if nat_lt word 6 then change_to change (at.Filling leaf (word + 1))
-    else change_to change (at.DrainingLeaf (fence_of leaf))
-change_at_turned change (at.DrainingLeaf fence) got = leaf_drained change fence.leaf (fence_next fence got)
-change_at_turned change (at.Switching leaf) got = change_to change (at.DrainingSwitch (fence_of leaf))
-change_at_turned change (at.DrainingSwitch fence) got = switch_drained change (fence_next fence got)
+    else change_to change (at.DrainingLeaf leaf fence_start)
+change_at_turned change (at.DrainingLeaf leaf fence) got = leaf_drained change leaf (fence_next fence got)
+change_at_turned change (at.Switching leaf) got = change_to change (at.DrainingSwitch leaf fence_start)
+change_at_turned change (at.DrainingSwitch leaf fence) got = switch_drained change leaf (fence_next fence got)
 
 abbrev pub change_turned : Change → ℕ → Turn Change (Unit {0})
 change_turned change got = change_at_turned change change.at got
@@ -93,9 +93,9 @@ change_turned change got = change_at_turned change change.at got
 abbrev pub IsChangeAt : Layout → ChangeAt → Type 0
 IsChangeAt l (at.Looking unused reader) = IsReader l reader × IfSome unused (λ leaf. leaf < leaf_count l)
 IsChangeAt l (at.Filling leaf word) = (leaf < leaf_count l) × (word < 7)
-IsChangeAt l (at.DrainingLeaf fence) = IsFence l fence
+IsChangeAt l (at.DrainingLeaf leaf fence) = (leaf < leaf_count l) × IsFence fence
 IsChangeAt l (at.Switching leaf) = leaf < leaf_count l
-IsChangeAt l (at.DrainingSwitch fence) = IsFence l fence
+IsChangeAt l (at.DrainingSwitch leaf fence) = (leaf < leaf_count l) × IsFence fence
 
 pub record IsChange (change : Change) : Type 0 where
   pub layout : IsLayout change.layout
@@ -109,9 +109,9 @@ change_takes change got = IsChange change × (got < 2 ^ 64)
 abbrev pub change_at_left : Layout → ChangeAt → ℕ
 change_at_left l (at.Looking unused reader) = 4 * (leaf_count l - (reader.leaf + 1)) + reader_left reader.at + 40
 change_at_left l (at.Filling leaf word) = 40 - word
-change_at_left l (at.DrainingLeaf fence) = fence_left fence + 17
+change_at_left l (at.DrainingLeaf leaf fence) = fence_left fence + 17
 change_at_left l (at.Switching leaf) = 17
-change_at_left l (at.DrainingSwitch fence) = fence_left fence
+change_at_left l (at.DrainingSwitch leaf fence) = fence_left fence
 
 abbrev pub change_left : Change → ℕ
 change_left change = change_at_left change.layout change.at

@@ -13,8 +13,8 @@ use Rattle.pm_words.specs.Rows.{CanAct, acted, got, evicted, row_of}
 use Rattle.search_layer.specs.declared.change.Change.{Change}
 use Rattle.search_layer.specs.declared.change.ChangeAt.{ChangeAt}
 use Rattle.search_layer.specs.declared.change.ChangeAt.TheVariants as at
-use Rattle.search_layer.specs.declared.fence.FenceAt.{FenceAt}
-use Rattle.search_layer.specs.declared.fence.FenceAt.TheVariants as fence
+use Rattle.pm_words.specs.declared.fence.FenceAt.{FenceAt}
+use Rattle.pm_words.specs.declared.fence.FenceAt.TheVariants as fence
 use Rattle.search_layer.specs.declared.floor.Floor.{Floor}
 use Rattle.search_layer.specs.declared.reader.Reader.{Reader}
 use Rattle.search_layer.specs.declared.reader.ReaderAt.{ReaderAt}
@@ -97,9 +97,9 @@ hand_of (fence.Drain value) = Some value
 abbrev pub change_at_stage : ChangeAt → Changing
 change_at_stage (at.Looking unused reader) = Looks (sight_of unused reader)
 change_at_stage (at.Filling leaf word) = Fills leaf (filled word) 0 None
-change_at_stage (at.DrainingLeaf fence) = Fills fence.leaf 8 fence.word (hand_of fence.at)
+change_at_stage (at.DrainingLeaf leaf fence) = Fills leaf 8 fence.word (hand_of fence.at)
 change_at_stage (at.Switching leaf) = CanSwitch leaf
-change_at_stage (at.DrainingSwitch fence) = Switched fence.leaf fence.word (hand_of fence.at)
+change_at_stage (at.DrainingSwitch leaf fence) = Switched leaf fence.word (hand_of fence.at)
 
 abbrev pub stage_of : Change → Changing
 stage_of change = change_at_stage change.at

@@ -3,7 +3,6 @@ pub mod Keys
 pub mod Leaves
 pub mod Reading
 pub mod FloorSteps
-pub mod Fences
 pub mod ChangeSteps
 pub mod SetSteps
 pub mod ChangeStages

@@ -1,11 +1,10 @@
 ghost use Rattle.std.specs.Prelude.{◌≡◌, ◌^◌, ◌<◌};
 ghost use Rattle.search_layer.specs.ChangeSteps.{filled, first_unused};
 
-use crate::fence::Fence;
 use crate::key::{Key, is_same};
 use crate::reader::{Read, Reader, ReaderAt};
 use pm_words::offsets::leaf;
-use pm_words::{Action, Layout, Machine, Turn};
+use pm_words::{Action, Fence, Layout, Machine, Turn};
 
 /// Sets one key of the layer to a node, or takes it out: what `Set` and `Unset` are made of.
 ///
@@ -30,11 +29,11 @@ pub enum ChangeAt {
     /// It fills the leaf: the words of the key, and then the words behind the node word, which get 0.
     Filling { leaf: u64, word: u64 },
     /// It makes the filled leaf durable.
-    DrainingLeaf { fence: Fence },
+    DrainingLeaf { leaf: u64, fence: Fence },
     /// It stores the node word.
     Switching { leaf: u64 },
     /// It makes the stored node word durable.
-    DrainingSwitch { fence: Fence },
+    DrainingSwitch { leaf: u64, fence: Fence },
 }
 
 impl Machine for Change {
@@ -63,8 +62,8 @@ impl Machine for Change {
                     value,
                 )
             }
-            ChangeAt::DrainingLeaf { fence } | ChangeAt::DrainingSwitch { fence } => {
-                fence.action(&layout)
+            ChangeAt::DrainingLeaf { leaf, fence } | ChangeAt::DrainingSwitch { leaf, fence } => {
+                fence.action(layout.cached(layout.leaf_word(leaf, fence.word)))
             }
             ChangeAt::Switching { leaf } => {
                 Action::Store(layout.cached(layout.leaf_word(leaf, leaf::NODE)), self.word)
@@ -94,19 +93,19 @@ impl Machine for Change {
                         word: word + 1,
                     });
                 }
-                let fence = Fence::of(leaf);
-                self.goes_to(ChangeAt::DrainingLeaf { fence })
+                let fence = Fence::new();
+                self.goes_to(ChangeAt::DrainingLeaf { leaf, fence })
             }
-            ChangeAt::DrainingLeaf { fence } => match fence.next(got) {
-                Some(fence) => self.goes_to(ChangeAt::DrainingLeaf { fence }),
-                None => self.goes_to(ChangeAt::Switching { leaf: fence.leaf }),
+            ChangeAt::DrainingLeaf { leaf, fence } => match fence.next(got) {
+                Some(fence) => self.goes_to(ChangeAt::DrainingLeaf { leaf, fence }),
+                None => self.goes_to(ChangeAt::Switching { leaf }),
             },
             ChangeAt::Switching { leaf } => {
-                let fence = Fence::of(leaf);
-                self.goes_to(ChangeAt::DrainingSwitch { fence })
+                let fence = Fence::new();
+                self.goes_to(ChangeAt::DrainingSwitch { leaf, fence })
             }
-            ChangeAt::DrainingSwitch { fence } => match fence.next(got) {
-                Some(fence) => self.goes_to(ChangeAt::DrainingSwitch { fence }),
+            ChangeAt::DrainingSwitch { leaf, fence } => match fence.next(got) {
+                Some(fence) => self.goes_to(ChangeAt::DrainingSwitch { leaf, fence }),
                 None => Turn::Done(()),
             },
         }

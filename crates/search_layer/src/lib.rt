@@ -7,7 +7,6 @@
 
 mod alone;
 mod change;
-mod fence;
 mod floor;
 mod key;
 pub mod laws;
@@ -16,7 +15,6 @@ mod set;
 
 pub use alone::{floor_alone, set_alone, unset_alone};
 pub use change::{Change, ChangeAt};
-pub use fence::{Fence, FenceAt};
 pub use floor::{Entry, Floor};
 pub use key::Key;
 pub use reader::{Read, Reader, ReaderAt};

@@ -1,5 +1,6 @@
 -- The lowest number of which something holds: how a loop finds it, and how it moves from slots to offsets and words.
-use Rattle.std.proofs.Common.{◌≡◌, ℕ, ◌+◌, ◌<◌, Option, Some, None, inl, inr, sym, subst, arith}
+use Rattle.std.proofs.Common.{◌≡◌, ℕ, ◌+◌, ◌<◌, ◌≤◌, Option, Some, None, inl, inr, sym, subst, arith}
+use Rattle.std.specs.Option.{MatchOption}
 use Rattle.std.proofs.lemmas.Bool.{cases_lt}
 use Rattle.sound_image.specs.Lowest.{IsLowest}
 
@@ -35,3 +36,9 @@ lowest-some P Q position number result moves is lowest = subst (λ n. IsLowest Q
       let at = moves.from there holds in
       lowest.1 at.0 (moves.rises at.0 number (subst (λ n. n < position number) (sym at.2) below)) at.1,
 )
+
+-- the first number of a range of which P holds, where it holds of none beyond
+pub lowest_from_range : (P : ℕ → Type 0) (count : ℕ) (result : Option ℕ) → ((number : ℕ) → P number → number < count)
+    → MatchOption result ((k : ℕ) → 0 ≤ k → k < count → ¬ P k) (λ i. (0 ≤ i) × (i < count) × P i × ((k : ℕ) → 0 ≤ k → k < i → ¬ P k)) → IsLowest P result
+lowest_from_range P count None within none = λ number holds. none number (omega arith) (within number holds) holds
+lowest_from_range P count (Some i) within is = (is.2, λ lower below. is.3 lower (omega arith) below)

@@ -40,7 +40,7 @@ target_in l image name = target_from 0 (image_list l image) (key_of name)
 abbrev pub image_range : Layout → List ℕ → ℕ → List ℕ → Bool
 image_range l image n = range_in (image_list l image) n
 
--- A live slot, of so many, with these words in position of a name.
+-- A live slot, of so many, with these words where its name stands.
 pub record HasWords (slots : ℕ) (s : Spot) (words : List ℕ) (slot : ℕ) : Type 0 where
   pub within : slot < slots
   pub live : IsLiveIn s slot

@@ -167,21 +167,22 @@ fn is_misprinted(image: &Image, node: u64, slot: u64) -> bool
     }
 }
 
-/// Whether two slots are live and have the same words in position of a name.
+/// Whether two slots are live and have the same words where their names stand.
 fn are_alike(image: &Image, node: u64, lower: u64, slot: u64) -> bool
     requires node { node < image.now.layout.nodes }
     requires lower { lower < image.now.layout.slots }
     requires slot { slot < image.now.layout.slots }
     ensures { IsTrue result ↔ (IsLiveIn (image_spot image.now.layout image.now.words node) lower
         × IsLiveIn (image_spot image.now.layout image.now.words node) slot
-        × (name_words (image_spot image.now.layout image.now.words node) lower ≡ name_words (image_spot image.now.layout image.now.words node) slot)) }
+        × (name_words (image_spot image.now.layout image.now.words node) lower
+        ≡ name_words (image_spot image.now.layout image.now.words node) slot)) }
 {
     is_live_in(image, node, lower)
         && is_live_in(image, node, slot)
         && name_in(image, node, lower) == name_in(image, node, slot)
 }
 
-/// Whether a slot is live and has these words in position of a name.
+/// Whether a slot is live and has these words where its name stands.
 fn has_words(image: &Image, node: u64, slot: u64, words: [u64; WORDS]) -> bool
     requires node { node < image.now.layout.nodes }
     requires slot { slot < image.now.layout.slots }
@@ -191,18 +192,13 @@ fn has_words(image: &Image, node: u64, slot: u64, words: [u64; WORDS]) -> bool
     is_live_in(image, node, slot) && name_in(image, node, slot) == words
 }
 
-/// The lowest live slot that has these words in position of a name.
+/// The lowest live slot that has these words where its name stands.
 pub(crate) fn slot_with(image: &Image, node: u64, words: [u64; WORDS]) -> Option<u64>
     requires { node < image.now.layout.nodes }
     ensures lowest { IsLowest (HasWords image.now.layout.slots (image_spot image.now.layout image.now.words node)
         words) result }
 {
-    for slot in 0..slots_of(image) {
-        if has_words(image, node, slot, words) {
-            return Some(slot);
-        }
-    }
-    None
+    (0..slots_of(image)).find(|slot| has_words(image, node, *slot, words))
 }
 
 /// The value in a slot.
@@ -235,12 +231,7 @@ pub(crate) fn nameless_slot(image: &Image, node: u64) -> Option<u64>
         result }
     ensures bound { IfSome result (λ slot. slot < 64) }
 {
-    for slot in 0..slots_of(image) {
-        if is_nameless(image, node, slot) {
-            return Some(slot);
-        }
-    }
-    None
+    (0..slots_of(image)).find(|slot| is_nameless(image, node, *slot))
 }
 
 /// The lowest live slot with another fingerprint than that of its name.
@@ -250,12 +241,7 @@ pub(crate) fn misprinted_slot(image: &Image, node: u64) -> Option<u64>
         result }
     ensures bound { IfSome result (λ slot. slot < 64) }
 {
-    for slot in 0..slots_of(image) {
-        if is_misprinted(image, node, slot) {
-            return Some(slot);
-        }
-    }
-    None
+    (0..slots_of(image)).find(|slot| is_misprinted(image, node, *slot))
 }
 
 /// The lowest live slot whose name a lower live slot has.
@@ -265,10 +251,5 @@ pub(crate) fn repeated_slot(image: &Image, node: u64) -> Option<u64>
         result }
     ensures bound { IfSome result (λ slot. slot < 64) }
 {
-    for slot in 0..slots_of(image) {
-        if is_repeated(image, node, slot) {
-            return Some(slot);
-        }
-    }
-    None
+    (0..slots_of(image)).find(|slot| is_repeated(image, node, *slot))
 }

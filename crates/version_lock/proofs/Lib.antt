@@ -1,2 +1,3 @@
 pub mod VersionFacts
 pub mod HistoryFacts
+pub mod WordTests

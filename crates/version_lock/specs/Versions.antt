@@ -1,6 +1,7 @@
 -- What a node's version word says: bit 0 is its lock, bits 1 to 39 count the times that it was freed,
 -- and bits 40 to 63 are the generation, the run of the index that wrote it.
-use Rattle.std.specs.Prelude.{◌≡◌, ℕ, ◌+◌, ◌*◌, ◌/◌, ◌%◌, ◌<◌, ◌≤◌, ◌⊎◌, if◌then◌else◌, nat_lt}
+use Rattle.std.specs.Prelude.{◌≡◌, ℕ, ◌+◌, ◌*◌, ◌/◌, ◌%◌, ◌<◌, ◌≤◌, ◌⊎◌, ◌==◌, ◌&&◌, ◌||◌, ◌↔◌, ◌^◌, if◌then◌else◌, nat_lt}
+use Rattle.std.specs.Prelude.{Bool, IsTrue}
 use Rattle.version_lock.specs.declared.TheConstants.{GENERATION_UNIT, GENERATION_LIMIT, LAST_COUNT}
 
 -- the generation in bits 40 to 63
@@ -43,3 +44,23 @@ kept_count word generation = if nat_lt (generation_of word) generation then 0 el
 -- the count of this generation has come to its end, so no lock can be taken any more
 abbrev pub IsWorn : ℕ → ℕ → Type 0
 IsWorn word generation = (generation_of word ≡ generation) × (count_of word ≡ LAST_COUNT)
+
+-- the same as tests
+abbrev pub is_free_word : ℕ → ℕ → Bool
+is_free_word word generation = nat_lt (generation_of word) generation || word % 2 == 0
+
+abbrev pub is_worn_word : ℕ → ℕ → Bool
+is_worn_word word generation = generation_of word == generation && count_of word == LAST_COUNT
+
+-- each says what it tests
+abbrev pub FreeWordsTold : Type 0
+FreeWordsTold = (word generation : ℕ) → IsTrue (is_free_word word generation) ↔ IsFree word generation
+
+abbrev pub WornWordsTold : Type 0
+WornWordsTold = (word generation : ℕ) → IsTrue (is_worn_word word generation) ↔ IsWorn word generation
+
+-- A word with which a party has a node locked, and which it can give back.
+pub record IsLockWord (word : ℕ) : Type 0 where
+  pub locked : IsLocked word
+  pub unworn : count_of word < LAST_COUNT
+  pub fits : word < 2 ^ 64

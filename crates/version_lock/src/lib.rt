@@ -10,7 +10,7 @@
 
 ghost use Rattle.std.specs.Prelude.{◌≡◌, ◌+◌, ◌^◌, ◌<◌, ◌≤◌, ◌↔◌, IsTrue, IsNone, IfSome};
 ghost use Rattle.version_lock.specs.Versions.{generation_of, count_of, kept_count, version_word, locked_word, IsLocked};
-ghost use Rattle.version_lock.specs.Versions.{IsFree, IsWorn};
+ghost use Rattle.version_lock.specs.Versions.{IsFree, IsWorn, FreeWordsTold, WornWordsTold};
 ghost use Rattle.version_lock.specs.Histories.{WordsRise};
 
 /// What one generation adds to a word: the generation stands from bit 40 on.
@@ -77,6 +77,12 @@ pub fn freed_of(word: u64) -> u64
 /// The law of the words of a node in one generation: each is greater than all that were there before.
 pub fn words_rise()
     ensures { WordsRise }
+{}
+
+/// The law of the tests of a word, whether it is free and whether it is worn.
+pub fn words_told()
+    ensures free { FreeWordsTold }
+    ensures worn { WornWordsTold }
 {}
 
 #[cfg(test)]

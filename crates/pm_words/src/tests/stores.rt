@@ -1,4 +1,4 @@
-//! The laws of addresses, used where no number of an address is known.
+//! The laws of locations, used where no address is known.
 ghost use Rattle.std.specs.Prelude.{◌≡◌, ◌≢◌, ℕ, ◌<◌, IfOk};
 ghost use Rattle.pm_words.specs.Layouts.{IsLayout};
 ghost use Rattle.pm_words.specs.Locations.{HasWord, Node, Cached, address_of, at};
