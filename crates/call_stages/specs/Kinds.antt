@@ -61,10 +61,14 @@ HasWordAt l n offset = (n < l.nodes) × (offset < node_words l)
 abbrev pub IsContent : ℕ → Type 0
 IsContent offset = (offset ≡ bitmap_offset) ⊎ (8 ≤ offset)
 
--- A number that an action may give: a version word is of no later generation.
+-- A number that an action may give: a version word is of no later generation, and node 0 is LIVE, has the anchor zero,
+-- and leads to one of the layout's nodes if it leads to any.
 pub record Told (l : Layout) (g : ℕ) (action : Action) (x : ℕ) : Type 0 where
   pub fits : x < 2 ^ 64
-  pub known : (n : ℕ) → action ≡ Load (version_address l n) → generation_of x ≤ g
+  pub known : (n : ℕ) → n < l.nodes → action ≡ Load (version_address l n) → generation_of x ≤ g
+  pub first_live : action ≡ Load (status_address l 0) → x ≡ live_status
+  pub first_anchor : (offset : ℕ) → 3 ≤ offset → offset ≤ 5 → action ≡ Load (word_address l 0 offset) → x ≡ 0
+  pub first_next : action ≡ Load (word_address l 0 next_offset) → x ≢ 0 → x < l.nodes
 
 -- A node that was LIVE or that is held leads to one of the layout's.
 pub record LeadsWithin (l : Layout) (stage : Stage) (action : Action) (x : ℕ) : Type 0 where

@@ -212,3 +212,15 @@ counted (Leaves left) = None
 counted (Meets n w h right) = None
 counted (Joins h left right pace) = None
 counted (Wears n v) = None
+
+-- The party holds the node.
+abbrev pub HoldsNode : Stage → ℕ → Type 0
+HoldsNode Idle n = ⊥
+HoldsNode (Saw m v w k) n = ⊥
+HoldsNode (Holds m w h) n = m ≡ n
+HoldsNode (Eyes m w h k v u free) n = m ≡ n
+HoldsNode (Splits left fresh phase) n = (left.node ≡ n) ⊎ (fresh.node ≡ n)
+HoldsNode (Leaves left) n = left.node ≡ n
+HoldsNode (Wears m v) n = ⊥
+HoldsNode (Meets m w h right) n = (m ≡ n) ⊎ (right.node ≡ n)
+HoldsNode (Joins h left right pace) n = (left.node ≡ n) ⊎ (right.node ≡ n)

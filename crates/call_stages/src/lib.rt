@@ -5,5 +5,7 @@
 #![tactic(auto)]
 
 mod once;
+mod view;
 
 pub use once::{Once, Placed};
+pub use view::View;

@@ -1,5 +1,5 @@
 -- What a party may do can be done.
-use Rattle.std.proofs.Common.{◌≡◌, ◌≢◌, ⊎_elim, ℕ, ◌<◌, ◌≤◌, ◌^◌, true, List, length, slice_index, refl, sym, ap, ◌∙◌, subst, arith}
+use Rattle.std.proofs.Common.{◌≡◌, ◌≢◌, inl, ⊎_elim, ℕ, ◌<◌, ◌≤◌, ◌^◌, true, List, length, slice_index, refl, sym, ap, ◌∙◌, subst, arith}
 use Rattle.std.proofs.lemmas.Nat.{same_from_place}
 use Rattle.pm_words.specs.declared.layout.Layout.{Layout}
 use Rattle.pm_words.specs.declared.action.Action.{Action}
@@ -16,13 +16,14 @@ use Rattle.data_node.proofs.ListLemmas.{all_member}
 use Rattle.index_law.proofs.Switch.{leads_on, inside_listed}
 use Rattle.cat_history.specs.Maps.{Map}
 use Rattle.cat_history.specs.declared.op.Write.{Write}
-use Rattle.data_node.specs.Lists.{next_offset}
-use Rattle.call_stages.specs.Kinds.{Told, HasWordAt, clock_address, word_address, version_address, status_address, prev_address}
-use Rattle.index_law.specs.Facts.{Facts, facts_of, version_in}
+use Rattle.data_node.specs.Spots.{Spot}
+use Rattle.data_node.specs.Lists.{next_offset, anchor_in}
+use Rattle.call_stages.specs.Kinds.{Told, HasWordAt, live_status, clock_address, word_address, version_address, status_address, prev_address, LeadsWithin}
+use Rattle.index_law.specs.Facts.{Facts, IsListed, facts_of, version_in}
 use Rattle.index_law.specs.Worlds.{World, facts}
-use Rattle.index_law.specs.Lawful.{IsList, Sure, SureSaw, SureHolds}
+use Rattle.index_law.specs.Lawful.{AreLive, IsList, Sure, SureSaw, SureHolds}
 use Rattle.index_law.specs.Laws.{Allowed, loads_clock, loads_word, loads_status, loads_prev, exchanges, stores_word, stores_status, drains_word, adds, claims_node, frees_fresh, frees_left, frees_met, frees_right, frees, AllowedMayName, AllowedCanAct}
-use Rattle.index_law.proofs.Rows.{version_in-here, spot_in-here}
+use Rattle.index_law.proofs.Rows.{version_in-here, status_in-here, spot_in-here}
 use Rattle.index_law.proofs.Versions.{own_lock, lock_fits}
 
 -- the clock and the words of a node stand beside the header
@@ -89,13 +90,47 @@ given_fits (Drain place value) word small = omega arith
 version_alone : (l : Layout) (n offset m : ℕ) → HasWordAt l n offset → word_address l n offset ≡ version_address l m → (n ≡ m) × (offset ≡ 0)
 version_alone l n offset m has same = same_from_place n offset m 0 (node_words l) has.1 (omega arith) (omega arith)
 
--- every action may be told 0
-pub zero_told : (l : Layout) (g : ℕ) (a : Action) → Told l g a 0
-zero_told l g a = record { fits = omega arith; known = λ n is. omega arith }
-
 abbrev loaded_from : Action → ℕ
 loaded_from (Load place) = place
 loaded_from _ = 0
+
+-- some number may be told by every action: that of node 0's status is 1, and each other one may be 0, a word of a node
+-- among them
+pub some_told : (l : Layout) (g : ℕ) (a : Action) → (x : ℕ) × Told l g a x × ((n offset : ℕ) → a ≡ Load (word_address l n offset) → x ≡ 0)
+some_told l g a = ⊎_elim
+    (λ (first : loaded_from a ≡ status_address l 0). (
+      1,
+      record {
+        fits = omega arith;
+        known = λ n here is. omega arith;
+        first_live = λ is. refl;
+        first_anchor = λ offset least most is. absurd (apart 0 offset first (ap loaded_from is));
+        first_next = λ is some. absurd (apart 0 next_offset first (ap loaded_from is));
+      },
+      λ n offset is. absurd (apart n offset first (ap loaded_from is)),
+    ))
+    (λ (other : loaded_from a ≢ status_address l 0). (
+      0,
+      record {
+        fits = omega arith;
+        known = λ n here is. omega arith;
+        first_live = λ is. absurd (other (ap loaded_from is));
+        first_anchor = λ offset least most is. refl;
+        first_next = λ is some. absurd (some refl);
+      },
+      λ n offset is. refl,
+    ))
+    (cases_eq (loaded_from a) (status_address l 0))
+  where
+    apart : (n offset : ℕ) → loaded_from a ≡ status_address l 0 → loaded_from a ≡ word_address l n offset → ⊥
+    apart n offset status word = let place : status_address l 0 ≡ word_address l n offset = sym status ∙ word in absurd (omega arith)
+
+-- and by it each node leads to one of the layout's
+pub some_leads : (l : Layout) (g : ℕ) (s : Stage) (a : Action) → 0 < l.nodes → LeadsWithin l s a (some_told l g a).0
+some_leads l g s a nodes = record {
+  live = λ n v w k here is live load. let zero_told = (some_told l g a).2 n next_offset load in omega arith;
+  held = λ n w h here is load. let zero_told = (some_told l g a).2 n next_offset load in omega arith;
+}
 
 -- a version word that is loaded is of no later run
 told_known : (l : Layout) (g : ℕ) (ws : List ℕ) (s : Stage) (a : Action) → Allowed l s a → ((n : ℕ) → n < l.nodes → generation_of (version_in l ws n) ≤ g)
@@ -126,7 +161,7 @@ clock_room w s a allowed clock room is =
     subst (λ (b : Action). slice_index w.words (action_address w.layout b) < 2 ^ 63) (sym is) (omega (arith, clock))
 
 -- a node that was LIVE leads to one of the layout's
-told_leads : (l : Layout) (g : ℕ) (ws : List ℕ) (base : Map) (history : List Write) (caller index since : ℕ) (s : Stage) (a : Action)
+pub told_leads : (l : Layout) (g : ℕ) (ws : List ℕ) (base : Map) (history : List Write) (caller index since : ℕ) (s : Stage) (a : Action)
     → Sure l g (facts_of l ws base history) caller index since s
     → (n v w : ℕ) (k : Sight) → n < l.nodes → s ≡ Saw n v w k → k.live ≡ true → a ≡ Load (word_address l n next_offset) → got l ws a < l.nodes
 told_leads l g ws base history caller index since s a knows n v w k here at live is =
@@ -134,22 +169,57 @@ told_leads l g ws base history caller index since s a knows n v w k here at live
     let has : HasWordAt l n next_offset = (here, omega arith) in
     subst (λ (b : Action). got l ws b < l.nodes) (sym is) (subst (λ (x : ℕ). x < l.nodes) (spot_in-here l ws n next_offset has (omega arith)) (sure.leads live))
 
--- and so does one that is held
-told_held : (l : Layout) (g : ℕ) (ws : List ℕ) (base : Map) (history : List Write) (caller index since : ℕ) (s : Stage) (a : Action) → IsList l (facts_of l ws base history)
+-- so does a listed one
+leads_within : (l : Layout) (f : Facts) → 0 < l.nodes → IsList l f → (n : ℕ) → IsListed f n → f.now n next_offset < l.nodes
+leads_within l f nodes list n listed =
+    let to : ℕ = f.now n next_offset in
+    ⊎_elim
+    (λ (last : to ≡ 0). omega arith)
+    (λ (ne : to ≢ 0). ⊎_elim
+    (λ (first : to ≡ 0). absurd (ne first))
+    (λ among. all_member (λ k. k < l.nodes) f.list to list.within among)
+    (leads_on l f list n listed ne))
+    (cases_eq to 0)
+
+-- and one that is held
+pub told_held : (l : Layout) (g : ℕ) (ws : List ℕ) (base : Map) (history : List Write) (caller index since : ℕ) (s : Stage) (a : Action) → IsList l (facts_of l ws base history)
     → Sure l g (facts_of l ws base history) caller index since s → (n w : ℕ) (h : Held) → n < l.nodes → s ≡ Holds n w h → a ≡ Load (word_address l n next_offset) → got l ws a < l.nodes
 told_held l g ws base history caller index since s a list knows n w h here at is =
     let f = facts_of l ws base history in
     let sure : SureHolds l g f caller index since n w h = subst (Sure l g f caller index since) at knows in
     let has : HasWordAt l n next_offset = (here, omega arith) in
-    let to : ℕ = f.now n next_offset in
-    let within : to < l.nodes = ⊎_elim
-    (λ (last : to ≡ 0). omega arith)
-    (λ (ne : to ≢ 0). ⊎_elim
-    (λ (first : to ≡ 0). absurd (ne first))
-    (λ among. all_member (λ k. k < l.nodes) f.list to list.within among)
-    (leads_on l f list n (inside_listed l f list n h.name sure.inside) ne))
-    (cases_eq to 0) in
+    let within : f.now n next_offset < l.nodes = leads_within l f (omega arith) list n (inside_listed l f list n h.name sure.inside) in
     subst (λ (b : Action). got l ws b < l.nodes) (sym is) (subst (λ (x : ℕ). x < l.nodes) (spot_in-here l ws n next_offset has (omega arith)) within)
+
+-- an anchor of zero has three zero words
+anchor_zero : (s : Spot) → anchor_in s ≡ 0 → (offset : ℕ) → 3 ≤ offset → offset ≤ 5 → s offset ≡ 0
+unfolding anchor_in
+anchor_zero s zero offset least most = ⊎_elim
+    (λ (is : offset ≡ 3). ap s is ∙ omega (arith, zero))
+    (λ past. ⊎_elim
+    (λ (is : offset ≡ 4). ap s is ∙ omega (arith, zero))
+    (λ last. let is : offset ≡ 5 = omega (arith, past, last) in ap s is ∙ omega (arith, zero))
+    (cases_eq offset 4))
+    (cases_eq offset 3)
+
+-- node 0 is listed
+module _ (l : Layout) (g : ℕ) (ws : List ℕ) (base : Map) (history : List Write) (a : Action) (some : 0 < l.nodes) (list : IsList l (facts_of l ws base history)) where
+  abbrev f : Facts
+  f = facts_of l ws base history
+
+  first_live : AreLive l g f → a ≡ Load (status_address l 0) → got l ws a ≡ live_status
+  first_live live is = subst (λ (b : Action). got l ws b ≡ live_status) (sym is) (sym (status_in-here l ws 0 some) ∙ live.live 0 (inl refl))
+
+  first_anchor : (offset : ℕ) → 3 ≤ offset → offset ≤ 5 → a ≡ Load (word_address l 0 offset) → got l ws a ≡ 0
+  first_anchor offset least most is =
+      let has : HasWordAt l 0 offset = (some, omega arith) in
+      subst (λ (b : Action). got l ws b ≡ 0) (sym is) (sym (spot_in-here l ws 0 offset has (omega arith)) ∙ anchor_zero (f.now 0) list.lowest offset least most)
+
+  first_next : a ≡ Load (word_address l 0 next_offset) → got l ws a ≢ 0 → got l ws a < l.nodes
+  first_next is leads =
+      let has : HasWordAt l 0 next_offset = (some, omega arith) in
+      let loads : got l ws a ≡ f.now 0 next_offset = ap (got l ws) is ∙ sym (spot_in-here l ws 0 next_offset has (omega arith)) in
+      subst (λ (x : ℕ). x < l.nodes) (sym loads) (leads_within l f some list 0 (inl refl))
 
 pub action_law : AllowedCanAct
 action_law w i p a lawful there allowed room = record {
@@ -160,7 +230,10 @@ action_law w i p a lawful there allowed room = record {
   );
   told = record {
     fits = given_fits a (slice_index w.words (action_address w.layout a)) (lawful.row.fits (action_address w.layout a));
-    known = told_known w.layout w.generation w.words p.stage a allowed lawful.versions;
+    known = λ n here is. told_known w.layout w.generation w.words p.stage a allowed lawful.versions n is;
+    first_live = first_live w.layout w.generation w.words w.base w.history a lawful.row.layout.nodes.0 lawful.list lawful.live;
+    first_anchor = first_anchor w.layout w.generation w.words w.base w.history a lawful.row.layout.nodes.0 lawful.list;
+    first_next = first_next w.layout w.generation w.words w.base w.history a lawful.row.layout.nodes.0 lawful.list;
   };
   leads = record {
     live = told_leads w.layout w.generation w.words w.base w.history p.caller p.index p.since p.stage a (lawful.sure i p there);

@@ -1,15 +1,14 @@
 -- Texts by the numbers of their words: order, and back.
-use Rattle.std.proofs.Common.{◌≡◌, ℕ, ◌*◌, ◌/◌, ◌%◌, ◌^◌, ◌<◌, ◌≤◌, ⊎_elim, true, false, cond, ◌==◌, nat_lt, Ordering, Less, Equal, Greater, nat_cmp, is_lt, List, [], ◌∷◌, length, All, slice_index, refl, sym, ap, ap₂, ◌∙◌, arith}
+use Rattle.std.proofs.Common.{◌≡◌, ℕ, ◌*◌, ◌/◌, ◌%◌, ◌^◌, ◌<◌, ◌≤◌, ⊎_elim, true, false, cond, ◌==◌, nat_lt, Ordering, Less, Equal, Greater, nat_cmp, is_lt, List, [], ◌∷◌, length, All, slice_index, sym, ap, ap₂, ◌∙◌, arith}
 use Rattle.std.proofs.lemmas.Bool.{lt-ltb, le-ltb, ltb-true, ltb-false, eqb-true, eqb-false}
 use Rattle.std.specs.Ordering.{ordering_then}
 use Rattle.std.specs.Cmp.Lexicographic.{slice_cmp}
 use Rattle.cat_key.specs.Names.{IsName, IsNameByte, words_of, bytes_of}
 use Rattle.cat_key.specs.declared.TheConstants.{WORDS}
-use Rattle.cat_key.proofs.Digits.{IsByte}
-use Rattle.cat_key.proofs.Packing.{get_or-words_of_below, byte_of_name, bytes_of-words_of}
+use Rattle.cat_key.proofs.Packing.{bytes_of-words_of}
 use Rattle.cat_key.proofs.WordOrder.{words_keep_text_order}
-use Rattle.std.proofs.lemmas.List.Elements.{All-weaker}
 use Rattle.data_node.specs.Lists.{three_words, key_of}
+use Rattle.data_node.proofs.KeyLemmas.{three, word_fits}
 use Rattle.shapes.specs.Anchors.{below}
 use Rattle.shapes.proofs.Orders.{true_or_false}
 use Rattle.index_law.specs.Anchors.{text_of_key}
@@ -24,14 +23,6 @@ named-text name is = record { fits = is.fits; bytes = is.bytes }
 
 pub empty-text : IsText []
 empty-text = record { fits = omega arith; bytes = λ k d within. absurd (omega (arith, within)) }
-
--- three words, as a text has
-three : (text : List ℕ) → words_of text ≡ slice_index (words_of text) 0 ∷ slice_index (words_of text) 1 ∷ slice_index (words_of text) 2 ∷ []
-unfolding words_of
-three text = refl
-
-pub word_fits : (text : List ℕ) → IsText text → (k : ℕ) → slice_index (words_of text) k < 2 ^ 64
-word_fits text is k = get_or-words_of_below text (All-weaker IsNameByte IsByte byte_of_name text is.bytes) k
 
 by-word : (x y : ℕ) (later : Ordering) (p q : ℕ) → (x < y → p < q) → (y < x → q ≤ p) → (x ≡ y → is_lt later ≡ nat_lt p q) → is_lt (ordering_then (nat_cmp x y) later) ≡ nat_lt p q
 by-word x y later p q less more same =
@@ -68,7 +59,7 @@ unfolding key_of
 key-order a b ta tb =
     ap is_lt (sym (words_keep_text_order a b ta.fits tb.fits ta.bytes tb.bytes) ∙ ap₂ (slice_cmp nat_cmp) (three a) (three b))
     ∙ words-order (slice_index (words_of a) 0) (slice_index (words_of a) 1) (slice_index (words_of a) 2) (slice_index (words_of b) 0) (slice_index (words_of b) 1) (slice_index (words_of b) 2)
-    (word_fits a ta 1) (word_fits a ta 2) (word_fits b tb 1) (word_fits b tb 2)
+    (word_fits a ta.bytes 1) (word_fits a ta.bytes 2) (word_fits b tb.bytes 1) (word_fits b tb.bytes 2)
 
 -- a name by its number
 pub key-back : (name : List ℕ) → IsName name → text_of_key (key_of name) ≡ name
@@ -77,8 +68,8 @@ key-back name is =
     let a : ℕ = slice_index (words_of name) 0 in
     let b : ℕ = slice_index (words_of name) 1 in
     let c : ℕ = slice_index (words_of name) 2 in
-    let fb : b < 2 ^ 64 = word_fits name (named-text name is) 1 in
-    let fc : c < 2 ^ 64 = word_fits name (named-text name is) 2 in
+    let fb : b < 2 ^ 64 = word_fits name is.bytes 1 in
+    let fc : c < 2 ^ 64 = word_fits name is.bytes 2 in
     let first : three_words a b c / 2 ^ 64 / 2 ^ 64 ≡ a = omega (arith, fb, fc) in
     let second : three_words a b c / 2 ^ 64 % 2 ^ 64 ≡ b = omega (arith, fb, fc) in
     let third : three_words a b c % 2 ^ 64 ≡ c = omega (arith, fb, fc) in

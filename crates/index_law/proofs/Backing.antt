@@ -19,7 +19,8 @@ use Rattle.call_stages.specs.Stages.{Knows, KnowsDurable, IsAmong, Held, Grip, P
 use Rattle.call_stages.specs.Kinds.{IsContent, Cleans, finds_live, watches, watches_next, turns_away, steps_back, wanders, Split, fills, lights, switches, glances_left, glances_fresh, drains_left, drains_fresh, trims, splits, Merge, meets, knows_own, knows_right, copies, takes_up, puts_down, parts, gathers, joins, glances_joined, drains_joined, retires, yields, merges, peeks, peeks_status, eyes, eyes_free, passes, loses, claims, publishes, leaves}
 use Rattle.call_stages.specs.Kinds.{Look, turns_back, is_worn, wears, roams, roams_status, sees, misses, times, learns, decides, glances, Step, looks, locks, stores, commits, drains, counts, unlocks}
 use Rattle.index_law.specs.Facts.{Facts, map_now, range_of, durable_spot}
-use Rattle.index_law.specs.Lawful.{HoldsNode, IsList, Sure}
+use Rattle.index_law.specs.Lawful.{IsList, Sure}
+use Rattle.call_stages.specs.Stages.{HoldsNode}
 use Rattle.index_law.specs.Twins.{IsMix, IsBacked, IsCleanBut, IsBackedLeft, IsBackedFresh, BacksSplit, IsBackedJoin, BacksStage, AreDurable}
 use Rattle.index_law.proofs.Bystanders.{IsLater, IsSteady, pended_alike}
 use Rattle.index_law.proofs.Locks.{cut_now, steadies, steady_else, goes_on, own_of, holds_or, look_freed, split_freed}

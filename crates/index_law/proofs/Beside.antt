@@ -14,7 +14,7 @@ use Rattle.index_law.specs.Beside.{NodesLeaveOthers, PrevsKeep}
 use Rattle.index_law.proofs.Joint.{fit_same}
 use Rattle.index_law.proofs.Noting.{beside_law, store_leaves}
 use Rattle.index_law.proofs.Rows.{facts-elsewhere}
-use Rattle.index_law.proofs.Twins.{store_closer}
+use Rattle.index_law.proofs.Twins.{nearer, store_closer}
 
 stays : (l : Layout) (words words' : List ℕ) (p : Location) → words' ≡ words → at l words' p ≡ at l words p
 stays l words words' p same = ap (λ v. at l v p) same
@@ -56,7 +56,7 @@ prevs_keep w n y lawful fit prevs here within =
     record {
       kept = beside_law w words lawful (acted_row l w.words (Store (prev_address l n) y) lawful.row can)
           (facts-elsewhere l w.words w.base w.history (Volatile n 1) y has (λ m o e. cc, λ m e. let no : 1 ≡ 0 = ap offset_of e in omega arith))
-          (store_closer l w.words (Volatile n 1) y has (λ v e. cc))
+          (nearer l w.words words (store_closer l w.words (Volatile n 1) y has (λ v e. cc)))
           (at-set_other l w.words (Volatile n 1) Clock y has tt (λ e. cc))
           (λ v there none. at-set_other l w.words (Volatile n 1) (Cached v) y has there (λ e. cc));
       fit = fit_same l w.words words (store_leaves l w.words (Volatile n 1) y has (λ c j o. (λ e. cc, λ e. cc))) fit;

@@ -15,7 +15,8 @@ use Rattle.version_lock.specs.Versions.{IsFree, IsWorn}
 use Rattle.data_node.specs.Lists.{next_offset, StaysIn}
 use Rattle.call_stages.specs.Stages.{Knows, Held, Sight, Grip, Tells, Phase, Filling, Linked, Parted, Pace, Gathered, Joined, Gone, Stage, Idle, Saw, Wears, Holds, Eyes, Splits, Leaves, Meets, Joins, pended}
 use Rattle.index_law.specs.Facts.{Facts, map_now, range_of, cached_word, IsListed}
-use Rattle.index_law.specs.Lawful.{HoldsNode, IsTime, HasWriteAt, IsPlaced, map_before, IsSettled, IsAsked, Stands, SureHolds, SureGrip, IsAtPhase, IsList, SureCounted, IsAtPace, Sure}
+use Rattle.index_law.specs.Lawful.{IsTime, HasWriteAt, IsPlaced, map_before, IsSettled, IsAsked, Stands, SureHolds, SureGrip, IsAtPhase, IsList, SureCounted, IsAtPace, Sure}
+use Rattle.call_stages.specs.Stages.{HoldsNode}
 use Rattle.index_law.proofs.Switch.{one_range, leads_on}
 use Rattle.index_law.proofs.Stays.{both_true}
 use Rattle.call_stages.specs.Kinds.{from_key}

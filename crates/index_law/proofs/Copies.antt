@@ -16,7 +16,7 @@ use Rattle.call_stages.specs.Kinds.{from_key}
 abbrev pub slot_key : Spot → ℕ → ℕ
 slot_key s slot = three_words (s (slot_offset slot 0)) (s (slot_offset slot 1)) (s (slot_offset slot 2))
 
-slot_key-is : (s : Spot) (slot : ℕ) (name : List ℕ) → name_words s slot ≡ words_of name → slot_key s slot ≡ key_of name
+pub slot_key-is : (s : Spot) (slot : ℕ) (name : List ℕ) → name_words s slot ≡ words_of name → slot_key s slot ≡ key_of name
 unfolding key_of
 slot_key-is s slot name same = ap (λ (ws : List ℕ). three_words (slice_index ws 0) (slice_index ws 1) (slice_index ws 2)) same
 

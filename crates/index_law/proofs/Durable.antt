@@ -18,7 +18,8 @@ use Rattle.call_stages.specs.Stages.{Held, Grip, Filling, Linked, Parted, Gather
 use Rattle.index_law.specs.Facts.{Facts, map_now, range_of, durable_spot, IsListed}
 use Rattle.index_law.specs.Twins.{BacksStage}
 use Rattle.index_law.specs.Worlds.{Party, World, facts}
-use Rattle.index_law.specs.Lawful.{HoldsNode, IsHeld, Sure, Lawful}
+use Rattle.index_law.specs.Lawful.{IsHeld, Sure, Lawful}
+use Rattle.call_stages.specs.Stages.{HoldsNode}
 use Rattle.index_law.specs.Laws.{HasJoined, MeansDurably, durable_list, DurablesAreAList}
 use Rattle.data_node.proofs.ListLemmas.{target_in, chain_is, members_few}
 use Rattle.index_law.proofs.Rows.{anchor-alike}

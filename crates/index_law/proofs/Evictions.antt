@@ -12,7 +12,7 @@ use Rattle.index_law.specs.Twins.{AreDurable}
 use Rattle.index_law.specs.Lawful.{IsList, AreLive, AreKnown, AreSure, AreSettled, AreFreeOrHeld, AreBacked}
 use Rattle.index_law.specs.Laws.{EvictKeeps}
 use Rattle.index_law.proofs.Rows.{facts-apart}
-use Rattle.index_law.proofs.Twins.{IsCloser, evict_closer, evict_cached, closer_stage, closer_durable, closer_versions, closer_front, cached_front}
+use Rattle.index_law.proofs.Twins.{IsNearer, nearer, evict_closer, evict_cached, closer_stage, closer_durable, closer_versions, closer_front, cached_front}
 
 -- the words of the nodes stand in front of the durable twins
 before_durable : (l : Layout) (word n offset : ℕ) → HasWordAt l n offset → word_address l n offset ≢ durable_address l word
@@ -29,7 +29,7 @@ evict_law w word lawful within =
     let g = w.generation in
     let x : ℕ = slice_index w.words (cached_address l word) in
     let same = evict_facts w word in
-    let closer : IsCloser l w.words (evicted_world w word).words = evict_closer l w.words word lawful.row.whole within in
+    let closer : IsNearer l w.words (evicted_world w word).words = nearer l w.words (evicted_world w word).words (evict_closer l w.words word lawful.row.whole within) in
     record {
       named = lawful.named;
       list = subst (IsList l) (sym same) lawful.list;

@@ -25,7 +25,7 @@ use Rattle.index_law.specs.Lawful.{IsList, AreLive, IsSettled, AreKnown}
 use Rattle.index_law.specs.Twins.{IsFront}
 use Rattle.data_node.proofs.ListLemmas.{chain_is}
 use Rattle.index_law.proofs.Actions.{status_outside}
-use Rattle.index_law.proofs.Twins.{IsCloser, store_closer, closer_spot, closer_versions, closer_front, cached_front}
+use Rattle.index_law.proofs.Twins.{IsNearer, nearer, store_closer, closer_spot, closer_versions, closer_front, cached_front}
 use Rattle.index_law.specs.Laws.{fresh_row, FreshIsAtRest, fresh_world}
 use Rattle.index_law.proofs.Rows.{in_spot, in_spot-true, version_in-here, status_in-here, spot_in-here, with_status, facts-status}
 
@@ -119,8 +119,8 @@ module _ (l : Layout) (parties : List Party) (layout : IsLayout l) where
       let has : HasWordAt l 0 1 = (some, omega arith) in
       spot_in-here l row 0 1 has (omega arith) ∙ fresh_zero l 0 1 layout has
 
-  closer : IsCloser l row (fresh_world l parties).words
-  closer = store_closer l row (Volatile 0 0) live_status (some, omega arith) (λ w alike. cc)
+  closer : IsNearer l row (fresh_world l parties).words
+  closer = nearer l row (fresh_world l parties).words (store_closer l row (Volatile 0 0) live_status (some, omega arith) (λ w alike. cc))
 
   settled_lit : (n : ℕ) → IsListed lit n → IsSettled l lit n
   settled_lit n (inl e) = subst (IsSettled l lit) (sym e) (record {

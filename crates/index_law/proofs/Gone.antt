@@ -11,7 +11,8 @@ use Rattle.call_stages.specs.Stages.{Stage}
 use Rattle.call_stages.specs.Kinds.{Step, Merge}
 use Rattle.call_stages.specs.Kinds as kinds
 use Rattle.index_law.specs.Facts.{Facts, IsListed}
-use Rattle.index_law.specs.Lawful.{HoldsNode, IsList, AreLive, Sure}
+use Rattle.index_law.specs.Lawful.{IsList, AreLive, Sure}
+use Rattle.call_stages.specs.Stages.{HoldsNode}
 use Rattle.index_law.specs.Prevs.{IsGone}
 use Rattle.index_law.proofs.Bystanders.{IsSteady}
 use Rattle.index_law.proofs.Locks.{own_of, steady_else, look_before, split_before}

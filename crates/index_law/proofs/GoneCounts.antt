@@ -11,7 +11,7 @@ use Rattle.call_stages.specs.Kinds as kinds
 use Rattle.index_law.specs.Facts.{Facts}
 use Rattle.index_law.specs.Worlds.{facts}
 use Rattle.index_law.specs.Lawful.{Sure}
-use Rattle.index_law.specs.Prevs.{IsRetire}
+use Rattle.call_stages.specs.Prevs.{IsRetire}
 use Rattle.index_law.specs.Anchors.{gone_nodes}
 use Rattle.index_law.specs.LoneShapes.{StepCountsGone}
 use Rattle.index_law.proofs.Moves.{fact_after, split_after, merge_after, facts_step}

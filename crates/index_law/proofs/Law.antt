@@ -21,14 +21,15 @@ use Rattle.call_stages.specs.Stages.{Held, Stage, Idle, Saw, Wears, Holds, Eyes,
 use Rattle.call_stages.specs.Kinds.{clock_address, Look, turns_back, is_worn, wears, roams, roams_status, sees, misses, times, learns, decides, glances, finds_live, watches, watches_next, turns_away, steps_back, wanders, fills, lights, switches, glances_left, glances_fresh, drains_left, drains_fresh, trims, splits, meets, knows_own, knows_right, copies, takes_up, puts_down, parts, gathers, joins, glances_joined, drains_joined, retires, yields, merges, peeks, peeks_status, eyes, eyes_free, passes, loses, claims, publishes, leaves, Step, looks, locks, stores, commits, drains, counts, unlocks}
 use Rattle.index_law.specs.Facts.{Facts}
 use Rattle.index_law.specs.Worlds.{Party, World, facts, written, counted_write, moved_on}
-use Rattle.index_law.specs.Lawful.{HasNames, IsList, AreLive, HoldsNode, Sure, Each, AreAlone, IsHeld, AreKnown, AreSettled, AreFreeOrHeld, Lawful}
+use Rattle.index_law.specs.Lawful.{HasNames, IsList, AreLive, Sure, Each, AreAlone, IsHeld, AreKnown, AreSettled, AreFreeOrHeld, Lawful}
+use Rattle.call_stages.specs.Stages.{HoldsNode}
 use Rattle.index_law.specs.Twins.{BacksStage, AreDurable}
 use Rattle.index_law.specs.Laws.{Counts, IsLegal, StepKeeps}
 use Rattle.index_law.proofs.Maps.{after_all-push, changed_names}
 use Rattle.index_law.proofs.Actions.{action_law}
 use Rattle.index_law.proofs.Backing.{Drained, backs_mine, backs_others, free_backs}
 use Rattle.index_law.proofs.Closer.{step_closer, step_cached, step_drained}
-use Rattle.index_law.proofs.Twins.{IsCloser, closer_stage, closer_durable, closer_versions, closer_front, cached_front}
+use Rattle.index_law.proofs.Twins.{IsNearer, nearer, closer_stage, closer_durable, closer_versions, closer_front, cached_front}
 use Rattle.index_law.proofs.Locks.{own_of, others, stays_known, settles, lock_after, lock_before}
 use Rattle.index_law.proofs.Moves.{fact_after, Gives, gives, facts_step, clock_step}
 use Rattle.index_law.proofs.Own.{allow_law, sure_within, mine, legal}
@@ -217,7 +218,7 @@ step_law w i p a x t r lawful there k told room =
     let same = facts_step w.words w.base w.history p.caller p.index p.since k lawful.row lawful.list told known in
     let after = mine f p.caller p.index p.since (lawful.begun i p there) lawful.versions lawful.list lawful.live lawful.settled k given known in
     let words = acted l w.words a in
-    let closer : IsCloser l w.words words = step_closer w.words w.base w.history p.caller p.index p.since lawful.row k told known in
+    let closer : IsNearer l w.words words = nearer l w.words words (step_closer w.words w.base w.history p.caller p.index p.since lawful.row k told known) in
     let drained = step_drained w.words w.base w.history p.caller p.index p.since lawful.row k known in
     let durable = closer_durable l w.words words w.base w.history closer g lawful.durable in
     let backed : Each (λ d. BacksStage l f words d.stage) w.parties =

@@ -49,3 +49,5 @@ pub mod Whole
 pub mod Gone
 pub mod Images
 pub mod Claims
+pub mod AnySteps
+pub mod Footings

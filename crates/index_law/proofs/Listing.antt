@@ -14,7 +14,8 @@ use Rattle.call_stages.specs.declared.once.Placed.{Placed}
 use Rattle.call_stages.specs.Stages.{Stage}
 use Rattle.call_stages.specs.Kinds.{Step, looks, locks, stores, commits, drains, counts, unlocks, splits, claims, publishes, leaves, live_status, Split, fills, lights, switches, glances_left, glances_fresh, drains_left, drains_fresh, trims, gone_status, Merge, meets, knows_own, knows_right, copies, takes_up, puts_down, parts, gathers, joins, glances_joined, drains_joined, retires, yields, merges}
 use Rattle.index_law.specs.Facts.{Facts, map_now, IsListed}
-use Rattle.index_law.specs.Lawful.{HoldsNode, IsList, AreLive, Sure}
+use Rattle.index_law.specs.Lawful.{IsList, AreLive, Sure}
+use Rattle.call_stages.specs.Stages.{HoldsNode}
 use Rattle.data_node.proofs.ListLemmas.{chain_same}
 use Rattle.index_law.proofs.Locks.{cut_now, own_of, holds_or, steady_else, given_back, lead}
 use Rattle.index_law.proofs.Moves.{fact_after, split_after, merge_after}

@@ -19,7 +19,8 @@ use Rattle.call_stages.specs.Stages.{Held, Grip, Tells, Filling, Stage, Idle, Sa
 use Rattle.call_stages.specs.Kinds.{IsContent, IsCut, live_status, gone_status, finds_live, watches, watches_next, turns_away, steps_back, wanders, Look, Split, fills, lights, switches, glances_left, glances_fresh, drains_left, drains_fresh, trims, splits, Merge, meets, knows_own, knows_right, copies, takes_up, puts_down, parts, gathers, joins, glances_joined, drains_joined, retires, yields, merges, peeks, peeks_status, eyes, eyes_free, passes, loses, claims, publishes, leaves}
 use Rattle.call_stages.specs.Kinds.{turns_back, is_worn, wears, roams, roams_status, sees, misses, times, learns, decides, glances, Step, looks, locks, stores, commits, drains, counts, unlocks}
 use Rattle.index_law.specs.Facts.{Facts, map_now, range_of, IsListed}
-use Rattle.index_law.specs.Lawful.{HoldsNode, IsOwnLock, IsList, IsSettled, AreKnown, AreSettled, SureHolds, SureSplits, Sure}
+use Rattle.index_law.specs.Lawful.{IsOwnLock, IsList, IsSettled, AreKnown, AreSettled, SureHolds, SureSplits, Sure}
+use Rattle.call_stages.specs.Stages.{HoldsNode}
 use Rattle.std.proofs.lemmas.List.{append-nil}
 use Rattle.index_law.proofs.Switch.{range_other, listed_still, listed_after, inside_listed, leads_on}
 use Rattle.index_law.proofs.Past.{range_past, listed_was, listed_else}

@@ -23,7 +23,7 @@ use Rattle.index_law.specs.Worlds.{facts, stepped}
 use Rattle.index_law.specs.Lawful.{IsList, map_before, SureSplits, SureCounted, SureJoins, Sure}
 use Rattle.index_law.specs.Anchors.{anchors_of, anchors_in, members_most, DropsMember}
 use Rattle.index_law.specs.LoneShapes.{SwitchIsPut, SwitchIsDelete, NoSwitchIsPut, NoSwitchIsDelete, IsCrowded, HasLastDeleted, Merges, DelStands, has_merged, IsOut, StepSplits, StepKeepsPut, StepKeepsDel, PutEnds, PutEndsFull, DelEnds}
-use Rattle.index_law.specs.Shapes.{IsJoin}
+use Rattle.call_stages.specs.Prevs.{IsJoin}
 use Rattle.index_law.proofs.MergedOnce.{step_merges_once}
 use Rattle.index_law.proofs.Dropping.{step_moves_anchors, no_next, has_next, names_of_both}
 use Rattle.index_law.proofs.Anchored.{ranges_are_members, list_has_anchors, and_false}

@@ -11,7 +11,7 @@ use Rattle.call_stages.specs.declared.once.Placed.{Placed}
 use Rattle.call_stages.specs.Kinds.{clock_address, GivesUp}
 use Rattle.call_stages.specs.Stages.{Stage, Idle, Saw, Wears, Holds, Eyes, Splits, Leaves, Meets, Joins, IsLoose, counted}
 use Rattle.index_law.specs.Facts.{Facts}
-use Rattle.index_law.specs.Lawful.{HoldsNode}
+use Rattle.call_stages.specs.Stages.{HoldsNode}
 use Rattle.index_law.specs.Laws.{Counts, IsLegal, IsLegalUnheld}
 use Rattle.index_law.specs.Weights.{lowered_in}
 

@@ -11,7 +11,7 @@ use Rattle.call_stages.specs.Kinds as kinds
 use Rattle.index_law.specs.Facts.{Facts}
 use Rattle.index_law.specs.Worlds.{facts}
 use Rattle.index_law.specs.Lawful.{Sure}
-use Rattle.index_law.specs.Shapes.{IsJoin}
+use Rattle.call_stages.specs.Prevs.{IsJoin}
 use Rattle.index_law.specs.LoneShapes.{has_merged, IsOut, StepMergesOnce}
 
 abbrev Once_at : Stage → Stage → Type 0

@@ -24,7 +24,7 @@ use Rattle.index_law.specs.Twins.{IsMix, AreDurable}
 use Rattle.index_law.specs.Lines.{line_in, safe_line, AreFit, SureLine, NotesKeep, NodesLeaveLines, EvictFits}
 use Rattle.index_law.proofs.Backing.{known_mix, before_store, before_mix, after_mix, without_mix}
 use Rattle.index_law.proofs.Rows.{facts-elsewhere}
-use Rattle.index_law.proofs.Twins.{spare_word, IsCloser, evict_closer, evict_cached, store_closer, closer_stage, closer_durable, closer_versions, closer_front}
+use Rattle.index_law.proofs.Twins.{spare_word, IsCloser, IsNearer, nearer, evict_closer, evict_cached, store_closer, closer_stage, closer_durable, closer_versions, closer_front}
 
 -- the words that belong to a line
 abbrev in_line : Layout → ℕ → ℕ → ℕ → Bool
@@ -41,7 +41,7 @@ has_line l c j offset e =
     (ltb-true c l.callers outer.0, ltb-true j 8 inner.0, ltb-true offset 8 inner.1)
 
 -- rows in which a line's words are the same
-line-alike : (l : Layout) (words words' : List ℕ) (c j offset : ℕ) → (HasWord l (Line c j offset) → at l words' (Cached (Line c j offset)) ≡ at l words (Cached (Line c j offset)))
+pub line-alike : (l : Layout) (words words' : List ℕ) (c j offset : ℕ) → (HasWord l (Line c j offset) → at l words' (Cached (Line c j offset)) ≡ at l words (Cached (Line c j offset)))
     → line_in l words' c j offset ≡ line_in l words c j offset
 unfolding line_in
 line-alike l words words' c j offset same =
@@ -133,7 +133,7 @@ no_line l (Leaf k o) is c j offset e = is
 no_line l (Cell kind k o) is c j offset e = is
 
 -- a lawful index stays so where only words of lines change, durable ones to no other than the cached
-pub beside_law : (w : World) (words : List ℕ) → Lawful w → IsRow w.layout words → facts (record w { words = words }) ≡ facts w → IsCloser w.layout w.words words
+pub beside_law : (w : World) (words : List ℕ) → Lawful w → IsRow w.layout words → facts (record w { words = words }) ≡ facts w → IsNearer w.layout w.words words
     → at w.layout words Clock ≡ at w.layout w.words Clock
     → ((v : Word) → HasWord w.layout v → ((c j offset : ℕ) → v ≡ Line c j offset → ⊥) → at w.layout words (Cached v) ≡ at w.layout w.words (Cached v)) → Lawful (record w { words = words })
 beside_law w words lawful row same closer clock cached =
@@ -228,7 +228,7 @@ module _ (w : World) (lawful : Lawful w) (fit : AreFit w.layout w.words) (e : He
         (acted_row w.layout w.words (Store (line_address w.layout e.caller e.number offset) y) lawful.row
         ((addresses_within w.layout (Cached (Line e.caller e.number offset)) has, outside_header w.layout (Cached (Line e.caller e.number offset)) has (λ k lt. (λ d. cc, λ d. cc))), fits))
         (facts-elsewhere w.layout w.words w.base w.history (Cached (Line e.caller e.number offset)) y has (λ n o d. cc, λ n d. cc))
-        (store_closer w.layout w.words (Cached (Line e.caller e.number offset)) y has (λ v d. cc))
+        (nearer w.layout w.words stored (store_closer w.layout w.words (Cached (Line e.caller e.number offset)) y has (λ v d. cc)))
         (at-set_other w.layout w.words (Cached (Line e.caller e.number offset)) Clock y has tt (λ d. cc))
         (λ v there none. at-set_other w.layout w.words (Cached (Line e.caller e.number offset)) (Cached v) y has there (λ d. none e.caller e.number offset (ap word_in d)))
 
@@ -319,7 +319,7 @@ notes_law w e a x next lawful fit sure (keeps_safe {y = y} {offset = offset} {di
       kept = beside_law w words lawful
           (acted_row l w.words (Drain address y) lawful.row ((names_cached l (Line e.caller e.number offset) has, keeps_header l (Line e.caller e.number offset) y has (λ k lt d. cc)), fits))
           (ap (λ z. facts (record w { words = z })) at_durable ∙ facts-elsewhere l w.words w.base w.history (Durable (Line e.caller e.number offset)) y has (λ n o d. cc, λ n d. cc))
-          closer
+          (nearer l w.words words closer)
           (ap (λ z. at l z Clock) at_durable ∙ at-set_other l w.words (Durable (Line e.caller e.number offset)) Clock y has tt (λ d. cc))
           (λ v there none. cached v there);
       fit = fits_closer l w.words words line near fit;

@@ -26,10 +26,13 @@ use Rattle.call_stages.specs.Kinds.{Step, gone_status, live_status, clock_addres
 use Rattle.call_stages.specs.Kinds as kinds
 use Rattle.index_law.specs.Facts.{Facts, IsListed}
 use Rattle.index_law.specs.Worlds.{Party, World, facts, moved_on, stepped, evicted_world}
-use Rattle.index_law.specs.Lawful.{Lawful, HoldsNode, IsList, Sure, SureJoins}
+use Rattle.index_law.specs.Lawful.{Lawful, IsList, Sure, SureJoins}
+use Rattle.call_stages.specs.Stages.{HoldsNode}
 use Rattle.index_law.specs.Laws.{Allowed, loads_clock, loads_word, loads_status, loads_prev, exchanges, stores_word, stores_status, drains_word, adds, claims_node, frees_fresh, frees_left, frees_met, frees_right, frees}
-use Rattle.index_law.specs.Shapes.{IsSwitch, IsJoin}
-use Rattle.index_law.specs.Prevs.{prev_in, Debt, no_debt, Leads, IsRetire, Deals, keeps, forgets, ends, switches, joins, Prevs, names, pays, renews, Traced, IsOwed, IsOneOf, Ordered, IsGone, AreInOrder, StandOnce, IsTraced, StepTraces, PrevTraces, EvictTraces, StartTraces, ComesOut, GoneComeOut, PrevsAreNodes, RestIsTraced, IdleFollow}
+use Rattle.call_stages.specs.Prevs.{IsSwitch, IsJoin}
+use Rattle.call_stages.specs.Orders.{IsOneOf, Ordered, StandOnce, AreInOrder}
+use Rattle.index_law.specs.Prevs.{prev_in, Traced, IsOwed, IsGone, IsTraced, StepTraces, PrevTraces, EvictTraces, StartTraces, ComesOut, GoneComeOut, PrevsAreNodes, RestIsTraced, IdleFollow}
+use Rattle.call_stages.specs.Prevs.{Debt, no_debt, Leads, IsRetire, Deals, keeps, forgets, ends, switches, joins, Prevs, names, pays, renews}
 use Rattle.index_law.proofs.Bystanders.{IsSteady}
 use Rattle.index_law.proofs.Law.{step_law}
 use Rattle.data_node.proofs.ListLemmas.{not_behind, rise_at}
@@ -43,7 +46,7 @@ use Rattle.index_law.proofs.Shapes.{step_shapes}
 use Rattle.index_law.proofs.Starts.{listed_within, start_law, rest_law}
 use Rattle.index_law.proofs.Evictions.{evict_facts, evict_law}
 use Rattle.index_law.proofs.Switch.{rise_from, leads_on}
-use Rattle.index_law.proofs.Twins.{store_closer}
+use Rattle.index_law.proofs.Twins.{nearer, store_closer}
 
 -- prev words are elsewhere than what a step on nodes stores into
 pub store_prev : (l : Layout) (words : List ℕ) (p : Location) (y : ℕ) → HasLocation l p → ((n : ℕ) → Volatile n 1 ≢ p) → (n : ℕ) → prev_in l (slice_set words (address_of l p) y) n ≡ prev_in l words n
@@ -391,7 +394,7 @@ module _ (l : Layout) (g : ℕ) (f f' : Facts) (caller index since : ℕ) (prev 
   retire_known s t d d' b (switches one fresh_known none) q = absurd (let no = q.is in cc)
   retire_known s t d d' b (joins one none) q = absurd (let no = q.is in cc)
 
-  order_after : (s t : Stage) (d d' : Debt) → Step' s t d → Deals s t d d' → Goes s t f f' → ((n : ℕ) → IsListed f' n → f'.status n ≡ live_status) → AreInOrder l.nodes f prev → AreInOrder l.nodes f' prev'
+  order_after : (s t : Stage) (d d' : Debt) → Step' s t d → Deals s t d d' → Goes s t f f' → ((n : ℕ) → IsListed f' n → f'.status n ≡ live_status) → AreInOrder l.nodes (IsGone f) prev → AreInOrder l.nodes (IsGone f') prev'
   order_after s t d d' b deals (inl fewer) live was = record {
     order = was.order;
     all = λ n gone. was.all n (fewer n gone);
@@ -565,7 +568,7 @@ module _ (z : Traced) (i : ℕ) (p : Party) (d d' : Debt) (m y : ℕ) (traced : 
   stored_lawful = beside_law z.world words' traced.lawful
       (acted_row l z.world.words (Store (prev_address l m) y) traced.lawful.row ((addresses_within l (Volatile m 1) has, outside_header l (Volatile m 1) has (λ k lt. (λ e. cc, λ e. cc))), small))
       facts_same
-      (store_closer l z.world.words (Volatile m 1) y has (λ v alike. cc))
+      (nearer l z.world.words words' (store_closer l z.world.words (Volatile m 1) y has (λ v alike. cc)))
       (at-set_other l z.world.words (Volatile m 1) Clock y has tt (λ e. cc))
       (λ v is other. at-set_other l z.world.words (Volatile m 1) (Cached v) y has is (λ e. cc))
 
@@ -575,7 +578,7 @@ module _ (z : Traced) (i : ℕ) (p : Party) (d d' : Debt) (m y : ℕ) (traced : 
   same_here : prev' m ≡ y
   same_here = prev_here l z.world.words m y traced.lawful.row.whole here
 
-  stored_order : AreInOrder l.nodes f prev'
+  stored_order : AreInOrder l.nodes (IsGone f) prev'
   stored_order = record {
     order = traced.order.order;
     all = traced.order.all;
@@ -623,7 +626,7 @@ module _ (z : Traced) (i : ℕ) (p : Party) (d d' : Debt) (m y : ℕ) (traced : 
         (λ (first : (j ≢ i) × (get_elem? z.debts j ≡ some e)). traced.owes j e q first.1 at_p)
         (at_set z.debts i j d' e at_d));
     prevs = subst (λ (φ : Facts). (n : ℕ) → IsListed φ n → φ.now n next_offset ≢ 0 → (prev' (φ.now n next_offset) ≡ n) ⊎ IsOwed z' n) (sym facts_same) prevs;
-    order = subst (λ (φ : Facts). AreInOrder l.nodes φ prev') (sym facts_same) stored_order;
+    order = subst (λ (φ : Facts). AreInOrder l.nodes (IsGone φ) prev') (sym facts_same) stored_order;
     below = λ n. ⊎_elim
         (λ (e : n ≡ m). let is = ap prev' e ∙ same_here in let low = listed_within l f traced.lawful.list traced.lawful.row.layout y listed in omega arith)
         (λ (other : n ≢ m). let is = same_else n other in let low = traced.below n in omega arith)
@@ -732,7 +735,7 @@ evict_traces z word traced within =
           (λ e. inl ((λ i. alike i (f.now n next_offset)) ∙ e))
           (λ owed. inr (record { number = owed.number; debt = owed.debt; party = owed.party; there = owed.there; at = owed.at; is = owed.is }))
           (traced.prevs n listed ne));
-      order = subst (λ (φ : Facts). AreInOrder z.world.layout.nodes φ prev') (sym same) (subst (AreInOrder z.world.layout.nodes f) (sym alike) traced.order);
+      order = subst (λ (φ : Facts). AreInOrder z.world.layout.nodes (IsGone φ) prev') (sym same) (subst (AreInOrder z.world.layout.nodes (IsGone f)) (sym alike) traced.order);
       below = λ n. let is : prev' n ≡ prev n = (λ i. alike i n) in let low = traced.below n in omega arith;
     }
 

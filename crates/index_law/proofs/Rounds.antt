@@ -14,14 +14,14 @@ use Rattle.index_law.specs.Lawful.{IsList, AreLive, IsSettled, AreKnown}
 use Rattle.index_law.specs.Laws.{NextRoundIsAtRest, next_round}
 use Rattle.index_law.proofs.Actions.{clock_outside}
 use Rattle.index_law.proofs.Rows.{facts-elsewhere}
-use Rattle.index_law.proofs.Twins.{IsCloser, store_closer, closer_spot, closer_versions, closer_front, cached_front}
+use Rattle.index_law.proofs.Twins.{IsNearer, nearer, store_closer, closer_spot, closer_versions, closer_front, cached_front}
 
 pub round_law : NextRoundIsAtRest
 round_law w parties rest idle begun =
     let l = w.layout in
     let base : Map = map_now (facts w) in
     let same : facts (next_round w parties) ≡ facts_of l w.words base [] = facts-elsewhere l w.words base [] Clock 0 tt (λ n offset e. cc, λ n e. cc) in
-    let closer : IsCloser l w.words (next_round w parties).words = store_closer l w.words Clock 0 tt (λ v e. cc) in
+    let closer : IsNearer l w.words (next_round w parties).words = nearer l w.words (next_round w parties).words (store_closer l w.words Clock 0 tt (λ v e. cc)) in
     let can : CanAct l w.words (Store (clock_address l) 0) = ((addresses_within l Clock tt, clock_outside l), omega arith) in
     record {
       named = rest.named;

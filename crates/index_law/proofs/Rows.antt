@@ -52,7 +52,7 @@ cached_word-here l words base history n offset has = ⊎_elim
     (cases_eq offset 0)
 
 -- rows with the same version words have the same versions
-version_in-alike : (l : Layout) (words words' : List ℕ) (n : ℕ) → (n < l.nodes → slice_index words' (version_address l n) ≡ slice_index words (version_address l n)) → version_in l words' n ≡ version_in l words n
+pub version_in-alike : (l : Layout) (words words' : List ℕ) (n : ℕ) → (n < l.nodes → slice_index words' (version_address l n) ≡ slice_index words (version_address l n)) → version_in l words' n ≡ version_in l words n
 unfolding version_in
 version_in-alike l words words' n same =
     cond_both (nat_lt n l.nodes) (slice_index words' (version_address l n)) 0 (λ (x : ℕ). x ≡ cond (nat_lt n l.nodes) (slice_index words (version_address l n)) 0)
@@ -70,7 +70,7 @@ pub status_in-here : (l : Layout) (words : List ℕ) (n : ℕ) → n < l.nodes �
 unfolding status_in
 status_in-here l words n here = rw (lt-ltb n l.nodes here) refl
 
-status_in-alike : (l : Layout) (words words' : List ℕ) (n : ℕ) → (n < l.nodes → slice_index words' (status_address l n) ≡ slice_index words (status_address l n)) → status_in l words' n ≡ status_in l words n
+pub status_in-alike : (l : Layout) (words words' : List ℕ) (n : ℕ) → (n < l.nodes → slice_index words' (status_address l n) ≡ slice_index words (status_address l n)) → status_in l words' n ≡ status_in l words n
 unfolding status_in
 status_in-alike l words words' n same =
     cond_both (nat_lt n l.nodes) (slice_index words' (status_address l n)) 0 (λ (x : ℕ). x ≡ cond (nat_lt n l.nodes) (slice_index words (status_address l n)) 0)

@@ -17,7 +17,8 @@ use Rattle.index_law.proofs.Stays.{means_less}
 use Rattle.index_law.proofs.Totals.{names_parts}
 use Rattle.data_node.proofs.NameCounts.{same_names}
 use Rattle.call_stages.specs.Stages.{Held, Grip, Gathered}
-use Rattle.index_law.specs.Shapes.{IsHalved, IsSwitch, IsMerged, IsJoin, StepShapes}
+use Rattle.index_law.specs.Shapes.{IsHalved, IsMerged, StepShapes}
+use Rattle.call_stages.specs.Prevs.{IsSwitch, IsJoin}
 use Rattle.index_law.specs.Worlds.{facts}
 use Rattle.index_law.proofs.Locks.{cut_now}
 use Rattle.index_law.proofs.Moves.{fact_after, split_after, merge_after, facts_step}

@@ -10,7 +10,8 @@ use Rattle.pm_words.specs.declared.layout.Layout.{Layout}
 use Rattle.pm_words.specs.Layouts.{IsLayout}
 use Rattle.index_law.specs.Facts.{Facts, IsListed}
 use Rattle.data_node.proofs.ListLemmas.{all_member}
-use Rattle.index_law.specs.Lawful.{IsList, HoldsNode, Sure, IsHeld, Lawful}
+use Rattle.index_law.specs.Lawful.{IsList, Sure, IsHeld, Lawful}
+use Rattle.call_stages.specs.Stages.{HoldsNode}
 use Rattle.index_law.specs.Laws.{StartKeeps, JoinKeeps, RestIsLawful, IdleIsAtRest}
 use Rattle.index_law.proofs.Parties.{at_set, at_snoc, at_longer, each_snoc, set_else, each_set}
 

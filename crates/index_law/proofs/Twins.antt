@@ -25,6 +25,18 @@ use Rattle.index_law.proofs.Rows.{in_spot, in_spot-true, version_in-here}
 abbrev pub IsCloser : Layout → List ℕ → List ℕ → Type 0
 IsCloser l words words' = (w : Word) → HasWord l w → (at l words' (Durable w) ≡ at l words (Durable w)) ⊎ (at l words' (Durable w) ≡ at l words (Cached w))
 
+-- so are those but of log lines
+abbrev pub IsOfLine : Word → Type 0
+IsOfLine (Line c j offset) = Unit {0}
+IsOfLine _ = ⊥
+
+abbrev pub IsNearer : Layout → List ℕ → List ℕ → Type 0
+IsNearer l words words' = (w : Word) → HasWord l w → (IsOfLine w → ⊥) →
+    (at l words' (Durable w) ≡ at l words (Durable w)) ⊎ (at l words' (Durable w) ≡ at l words (Cached w))
+
+pub nearer : (l : Layout) (words words' : List ℕ) → IsCloser l words words' → IsNearer l words words'
+nearer l words words' closer w has other = closer w has
+
 -- so are they once a word is copied
 pub evict_closer : (l : Layout) (words : List ℕ) (word : ℕ) → length words ≡ row_words l → word < image_words l → IsCloser l words (evicted l words word)
 evict_closer l words word whole within w has =
@@ -52,13 +64,13 @@ pub store_closer : (l : Layout) (words : List ℕ) (p : Location) (x : ℕ) → 
 store_closer l words p x has other w has_word = inl (at-set_other l words p (Durable w) x has has_word (other w))
 
 -- the durable words of a node
-pub closer_spot : (l : Layout) (words words' : List ℕ) → IsCloser l words words' → (n offset : ℕ)
+pub closer_spot : (l : Layout) (words words' : List ℕ) → IsNearer l words words' → (n offset : ℕ)
     → (durable_spot l words' n offset ≡ durable_spot l words n offset) ⊎ (durable_spot l words' n offset ≡ spot_in l words n offset)
 unfolding durable_spot spot_in
 closer_spot l words words' closer n offset =
     elim (in_spot l n offset) as (λ b. in_spot l n offset ≡ b → (cond b (at l words' (Durable (Node n offset))) 0 ≡ cond b (at l words (Durable (Node n offset))) 0)
     ⊎ (cond b (at l words' (Durable (Node n offset))) 0 ≡ cond b (at l words (Cached (Node n offset))) 0)) [
-      | true ↦ λ is. closer (Node n offset) (in_spot-true l n offset is).0
+      | true ↦ λ is. closer (Node n offset) (in_spot-true l n offset is).0 (λ line. line)
       | false ↦ λ is. inl refl
     ] refl
 
@@ -104,7 +116,7 @@ closer_join l f d d' left right Joined closer backed = (
 )
 closer_join l f d d' left right Gone closer backed = λ offset. ⊎_elim (λ stays. stays ∙ backed offset) (λ is. is) (closer offset)
 
-module _ (l : Layout) (words words' : List ℕ) (base : Map) (history : List Write) (closer : IsCloser l words words') where
+module _ (l : Layout) (words words' : List ℕ) (base : Map) (history : List Write) (closer : IsNearer l words words') where
   abbrev f : Facts
   f = facts_of l words base history
 
@@ -141,7 +153,7 @@ module _ (l : Layout) (words words' : List ℕ) (base : Map) (history : List Wri
       (λ (stays : at l words' (Durable (Node n 0)) ≡ at l words (Durable (Node n 0))). subst (λ (v : ℕ). generation_of v ≤ g) (sym stays) (durably n here))
       (λ (is : at l words' (Durable (Node n 0)) ≡ at l words (Cached (Node n 0))).
       subst (λ (v : ℕ). generation_of v ≤ g) (version_in-here l words n here ∙ sym is) (known n here))
-      (closer (Node n 0) has)
+      (closer (Node n 0) has (λ line. line))
 
 -- spare words are words, and no node's
 pub spare_word : (l : Layout) (w : Word) → IsSpare w → HasWord l w × ((n offset : ℕ) → w ≡ Node n offset → ⊥)
@@ -152,11 +164,20 @@ spare_word l (Line c j o) is = absurd is
 spare_word l (Leaf k o) is = absurd is
 spare_word l (Cell kind k o) is = absurd is
 
+-- nor a line's
+no_line_spare : (l : Layout) (w : Word) → IsSpare w → IsOfLine w → ⊥
+no_line_spare l (Line c j o) is line = is
+no_line_spare l (Header o) is line = line
+no_line_spare l (Root o) is line = line
+no_line_spare l (Node n o) is line = line
+no_line_spare l (Leaf k o) is line = line
+no_line_spare l (Cell kind k o) is line = line
+
 -- and the words in front of the nodes stay
-pub closer_front : (l : Layout) (g : ℕ) (words words' : List ℕ) → IsCloser l words words' → IsFront l g words Cached → IsFront l g words Durable → IsFront l g words' Durable
+pub closer_front : (l : Layout) (g : ℕ) (words words' : List ℕ) → IsNearer l words words' → IsFront l g words Cached → IsFront l g words Durable → IsFront l g words' Durable
 closer_front l g words words' closer cached durable = record {
-  generation = ⊎_elim (λ stays. stays ∙ durable.generation) (λ is. is ∙ cached.generation) (closer (Header 5) (omega arith));
-  spare = λ w spare. ⊎_elim (λ stays. stays ∙ durable.spare w spare) (λ is. is ∙ cached.spare w spare) (closer w (spare_word l w spare).0);
+  generation = ⊎_elim (λ stays. stays ∙ durable.generation) (λ is. is ∙ cached.generation) (closer (Header 5) (omega arith) (λ line. line));
+  spare = λ w spare. ⊎_elim (λ stays. stays ∙ durable.spare w spare) (λ is. is ∙ cached.spare w spare) (closer w (spare_word l w spare).0 (no_line_spare l w spare));
 }
 
 pub cached_front : (l : Layout) (g : ℕ) (words words' : List ℕ) → ((w : Word) → HasWord l w → ((n offset : ℕ) → w ≡ Node n offset → ⊥) → at l words' (Cached w) ≡ at l words (Cached w))

@@ -7,6 +7,7 @@ use mathlib.Core.Option.{some, some-injective, some-ne-none}
 use lib.ListN.{get_elem?}
 use Rattle.pm_words.specs.declared.layout.Layout.{Layout}
 use Rattle.pm_words.specs.declared.action.Action.{Action}
+use Rattle.pm_words.specs.declared.action.Action.TheVariants.{Store}
 use Rattle.version_lock.specs.Versions.{IsFree}
 use Rattle.cat_key.specs.Names.{IsName}
 use Rattle.cat_history.specs.Maps.{Map, at}
@@ -15,7 +16,7 @@ use Rattle.cat_history.specs.declared.op.Change.{Change}
 use Rattle.cat_history.specs.declared.op.Change.TheVariants.{Put, Del}
 use Rattle.data_node.specs.Spots.{Spot, Means}
 use Rattle.data_node.specs.Weights.{names_in, node_weight}
-use Rattle.data_node.proofs.NameCounts.{same_names, put_keeps_names, put_adds_one, put_over_keeps_names, del_takes_one, del_keeps_names}
+use Rattle.data_node.proofs.NameCounts.{same_names, names_by_bits, put_keeps_names, put_adds_one, put_over_keeps_names, del_takes_one, del_keeps_names}
 use Rattle.call_stages.specs.declared.once.Once.{Once}
 use Rattle.call_stages.specs.declared.once.Placed.{Placed}
 use Rattle.data_node.specs.Spots.{bitmap_offset}
@@ -24,7 +25,8 @@ use Rattle.call_stages.specs.Stages.{Held, Gathered, Joined, Gone, Stage, Idle, 
 use Rattle.call_stages.specs.Kinds.{Look, turns_back, is_worn, wears, roams, roams_status, sees, misses, times, learns, decides, glances, finds_live, watches, watches_next, turns_away, steps_back, wanders, from_key, below_key, Merge, meets, knows_own, knows_right, copies, takes_up, puts_down, parts, gathers, joins, glances_joined, drains_joined, retires, yields, merges, Split, fills, lights, switches, glances_left, glances_fresh, drains_left, drains_fresh, trims, splits, peeks, peeks_status, eyes, eyes_free, passes, loses, claims, publishes, leaves, Step, looks, locks, stores, commits, drains, counts, unlocks, word_address}
 use Rattle.index_law.specs.Facts.{Facts, map_now, range_of, durable_spot, IsListed}
 use Rattle.index_law.specs.Worlds.{Party, World, facts, moved_on}
-use Rattle.index_law.specs.Lawful.{Lawful, IsLinked, IsList, Each, HoldsNode, IsHeld, SureHolds, Sure, map_before}
+use Rattle.index_law.specs.Lawful.{Lawful, IsLinked, IsList, Each, IsHeld, SureHolds, Sure, map_before}
+use Rattle.call_stages.specs.Stages.{HoldsNode}
 use Rattle.index_law.specs.Twins.{IsBacked, BacksSplit, BacksStage}
 use Rattle.data_node.specs.Weights.{total}
 use Rattle.index_law.specs.Weights.{weight_at, listed_weight, gone_weight, index_weight, lowered_by, lowered_in, lowered_sum, weight_sum, AddsName, RisesBy, StepWeighs, StartWeighs, JoinWeighs, EvictWeighs, IdleWeighs, CrashWeighs}
@@ -41,7 +43,7 @@ use Rattle.call_stages.specs.Stages.{Grip, Filling, Linked, Parted}
 use Rattle.data_node.specs.Lists.{target_from}
 use Rattle.index_law.proofs.Moves.{fact_after, split_after, merge_after, Gave, Gives, gives, facts_step}
 use Rattle.index_law.proofs.Own.{clean_means, old_is, mine}
-use Rattle.index_law.proofs.Rows.{with_word, with_next, with_past, new_member, set_else}
+use Rattle.index_law.proofs.Rows.{with_word, with_next, with_past, new_member, set_else, set_other}
 use Rattle.index_law.proofs.Evictions.{evict_facts}
 
 -- a name taken away weighed where so many are left
@@ -297,7 +299,7 @@ module _ {l : Layout} {g : ℕ} (f : Facts) (caller index since : ℕ) where
   merge_weighs list (yields next durable) knows after = omega arith
 
   own_weighs : IsList l f → {s : Stage} {a : Action} {x : ℕ} {t : Stage} {r : Option (Once Placed)} → (k : Step l g s a x t r) → Gives k f → Sure l g f caller index since s
-      → Sure l g (fact_after k f caller index) caller index since t → RisesBy (AddsName s a t) (own_sum l f s) (own_sum l (fact_after k f caller index) t)
+      → Sure l g (fact_after k f caller index) caller index since t → RisesBy (AddsName l s a t) (own_sum l f s) (own_sum l (fact_after k f caller index) t)
   own_weighs list (looks look) e knows after = let same = look_lowers look e knows after in inl (omega arith)
   own_weighs list (locks same named live between) e knows after = inl (omega arith)
   own_weighs list (stores {n = n} {y = y} {offset = offset} {h = h} has content small clean soils learnt means) e knows after =
@@ -322,6 +324,8 @@ module _ {l : Layout} {g : ℕ} (f : Facts) (caller index since : ℕ) where
       (λ (more : IsNewPut c old × (node_weight l.slots (range_of l f n) (φ.now n) + lowered_by l.slots (names_in l.slots (range_of l f n) (φ.now n)) (Some c) (Some old) ≤ node_weight l.slots (range_of l f n) (f.now n) + 1)).
       let put = more.0 in
       let most = more.1 in
+      ⊎_elim
+      (λ (bits : offset ≡ bitmap_offset).
       inr (
         record {
           node = n;
@@ -336,12 +340,18 @@ module _ {l : Layout} {g : ℕ} (f : Facts) (caller index since : ℕ) where
           name = put.name;
           value = put.value;
           shows = ap Some put.put;
-          address = word_address l n offset;
-          word = y;
-          stores = refl;
+          bitmap = y;
+          stores = ap (λ o. Store (word_address l n o) y) bits;
         },
         omega arith,
       ))
+      (λ (other : offset ≢ bitmap_offset).
+      -- no other store adds a name
+      let few = names_by_bits l.slots (range_of l f n) (f.now n) (φ.now n) (clean_means f caller index since n w h knows clean.pending).tidy knows.stays
+      (set_other f.now n offset y n bitmap_offset (λ _ e. other (sym e))) in
+      let none : lowered_by l.slots (names_in l.slots (range_of l f n) (φ.now n)) (Some c) (Some old) ≡ 0 = ap (λ d. lowered_by l.slots (names_in l.slots (range_of l f n) (φ.now n)) (Some d) (Some old)) put.put in
+      inl (omega arith))
+      (cases_eq offset bitmap_offset))
       weighs
   own_weighs list (drains has small unready hand cleans) e knows after = inl (omega arith)
   own_weighs list (counts durable ready pending unplaced) e knows after = inl (omega arith)
@@ -449,7 +459,7 @@ step_weighs w i p a x t r lawful there k told =
     let sums = sum_set l f φ w.parties i p (moved_on p t) there (λ j d other at.
     lowered_alike l f φ d.stage (λ n holds.
     (steadies f p.caller p.index p.since k given lawful.list known d.caller d.index d.since d.stage (λ m mine theirs. other (lawful.alone j i m d p at there theirs mine)) (lawful.sure j d at) n holds))) in
-    subst (λ (ψ : Facts). RisesBy (AddsName p.stage a t) (weight_sum w) (index_weight l ψ + lowered_sum l ψ (set w.parties i (moved_on p t)))) (sym same)
+    subst (λ (ψ : Facts). RisesBy (AddsName l p.stage a t) (weight_sum w) (index_weight l ψ + lowered_sum l ψ (set w.parties i (moved_on p t)))) (sym same)
     (⊎_elim
     (λ fewer. ⊎_elim
     (λ less. inl (omega arith))

@@ -17,9 +17,12 @@ use Rattle.call_stages.specs.Stages.{Stage}
 use Rattle.call_stages.specs.Lines.{HeldLine, line_address, Notes, passes_line, takes, looks_up, notes, keeps_safe}
 use Rattle.index_law.specs.Facts.{Facts, facts_of, IsListed}
 use Rattle.index_law.specs.Worlds.{Party, facts}
-use Rattle.index_law.specs.Lawful.{Lawful, HoldsNode, Sure}
+use Rattle.index_law.specs.Lawful.{Lawful, Sure}
+use Rattle.call_stages.specs.Stages.{HoldsNode}
 use Rattle.index_law.specs.Joint.{Joint, IsJoint}
-use Rattle.index_law.specs.Prevs.{prev_in, Debt, Prevs, names, pays, renews, Traced, IsOwed, AreInOrder, IsTraced}
+use Rattle.index_law.specs.Prevs.{prev_in, Traced, IsOwed, IsGone, IsTraced}
+use Rattle.call_stages.specs.Prevs.{Debt, Prevs, names, pays, renews}
+use Rattle.call_stages.specs.Orders.{AreInOrder}
 use Rattle.index_law.specs.Whole.{NodeStepKeepsAll, LineStepKeepsAll, PrevStepKeepsAll}
 use Rattle.index_law.proofs.Joint.{sure_same, fit_same, node_step, line_step}
 use Rattle.index_law.proofs.Noting.{LinesStay, store_leaves}
@@ -73,7 +76,7 @@ traced_same z words traced lawful same prevs =
           (λ e. inl (prevs (f.now n next_offset) ∙ e))
           (λ owed. inr (record { number = owed.number; debt = owed.debt; party = owed.party; there = owed.there; at = owed.at; is = owed.is }))
           (traced.prevs n listed ne));
-      order = subst (λ (φ : Facts). AreInOrder z.world.layout.nodes φ prev') (sym same) (subst (AreInOrder z.world.layout.nodes f) (sym alike) traced.order);
+      order = subst (λ (φ : Facts). AreInOrder z.world.layout.nodes (IsGone φ) prev') (sym same) (subst (AreInOrder z.world.layout.nodes (IsGone f)) (sym alike) traced.order);
       below = λ n. let is = prevs n in let low = traced.below n in omega arith;
     }
 
@@ -89,7 +92,7 @@ joint_same z words joint lawful stay = record {
 }
 
 -- a store of a prev leaves lines
-prev_leaves : (z : Traced) (i : ℕ) (p : Party) (s : Stage) (a : Action) (d d' : Debt) → IsTraced z → get_elem? z.world.parties i ≡ some p → get_elem? z.debts i ≡ some d
+pub prev_leaves : (z : Traced) (i : ℕ) (p : Party) (s : Stage) (a : Action) (d d' : Debt) → IsTraced z → get_elem? z.world.parties i ≡ some p → get_elem? z.debts i ≡ some d
     → Sure z.world.layout z.world.generation (facts z.world) p.caller p.index p.since s → Prevs z.world.layout s d a d'
     → (c j offset : ℕ) → LinesStay z.world.layout z.world.words (acted z.world.layout z.world.words a) c j offset
 prev_leaves z i p s a d d' traced there owing sure (names {left = left} {fresh = fresh}) c j offset =

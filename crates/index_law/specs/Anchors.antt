@@ -20,7 +20,7 @@ use Rattle.call_stages.specs.Kinds.{Step, gone_status}
 use Rattle.index_law.specs.Facts.{Facts, map_now, range_of, IsListed}
 use Rattle.index_law.specs.Worlds.{Party, World, facts, stepped}
 use Rattle.index_law.specs.Lawful.{Lawful, IsList, Each}
-use Rattle.index_law.specs.Shapes.{IsSwitch, IsJoin}
+use Rattle.call_stages.specs.Prevs.{IsSwitch, IsJoin}
 use Rattle.index_law.specs.Weights.{index_weight}
 
 -- The text whose three words make this number.

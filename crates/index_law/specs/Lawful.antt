@@ -20,22 +20,10 @@ use Rattle.data_node.specs.Weights.{names_in}
 use Rattle.call_stages.specs.Kinds.{IsStill, clock_address, free_status, live_status, gone_status, from_key}
 use Rattle.call_stages.specs.Stages.{Knows, Held, Sight, Sees, Grip, Tells, Phase, Filling, Linked, Parted, Pace}
 use Rattle.call_stages.specs.Stages.{Gathered, Joined, Gone, Stage, Idle, Saw, Wears, Holds, Eyes, Splits, Leaves}
-use Rattle.call_stages.specs.Stages.{Meets, Joins, pended}
+use Rattle.call_stages.specs.Stages.{Meets, Joins, HoldsNode, pended}
 use Rattle.index_law.specs.Facts.{Facts, map_now, range_of, cached_word, IsListed}
 use Rattle.index_law.specs.Twins.{BacksStage, AreDurable, AreDurablyKnown, IsFront}
 use Rattle.index_law.specs.Worlds.{Party, World, facts}
-
--- The party holds the node.
-abbrev pub HoldsNode : Stage → ℕ → Type 0
-HoldsNode Idle n = ⊥
-HoldsNode (Saw m v w k) n = ⊥
-HoldsNode (Holds m w h) n = m ≡ n
-HoldsNode (Eyes m w h k v u free) n = m ≡ n
-HoldsNode (Splits left fresh phase) n = (left.node ≡ n) ⊎ (fresh.node ≡ n)
-HoldsNode (Leaves left) n = left.node ≡ n
-HoldsNode (Wears m v) n = ⊥
-HoldsNode (Meets m w h right) n = (m ≡ n) ⊎ (right.node ≡ n)
-HoldsNode (Joins h left right pace) n = (left.node ≡ n) ⊎ (right.node ≡ n)
 
 -- The words of the nodes make the list. It reads where the nodes lead, and the anchors of those that are listed.
 abbrev pub IsList : Layout → Facts → Type 0

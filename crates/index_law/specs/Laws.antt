@@ -33,7 +33,8 @@ use Rattle.call_stages.specs.Kinds.{version_address, status_address, prev_addres
 use Rattle.index_law.specs.Facts.{Facts, map_now, range_of, durable_spot, IsListed}
 use Rattle.index_law.specs.Twins.{AreDurablyKnown, IsFront}
 use Rattle.index_law.specs.Worlds.{Party, World, facts, stepped, started, joined, evicted_world}
-use Rattle.index_law.specs.Lawful.{Lawful, HasNames, Each, HasWriteAt, ClockCounts, AreKnown, HaveBegun, HoldsNode}
+use Rattle.index_law.specs.Lawful.{Lawful, HasNames, Each, HasWriteAt, ClockCounts, AreKnown, HaveBegun}
+use Rattle.call_stages.specs.Stages.{HoldsNode}
 use Rattle.index_law.specs.Lawful.{IsList, AreLive, IsSettled}
 
 -- The actions that a party may do at its stage: which word it may change, and the right under which it may.

@@ -15,3 +15,5 @@ pub mod LoneShapes
 pub mod Whole
 pub mod Images
 pub mod Claims
+pub mod AnySteps
+pub mod Footings

@@ -30,8 +30,8 @@ use Rattle.data_node.specs.Lists.{next_offset}
 use Rattle.data_node.specs.Weights.{names_in}
 use Rattle.index_law.specs.Worlds.{Party, World, facts, stepped}
 use Rattle.index_law.specs.Lawful.{Lawful, Each, IsList, IsSettled}
-use Rattle.index_law.specs.Shapes.{IsSwitch, IsJoin}
-use Rattle.index_law.specs.Prevs.{IsRetire}
+use Rattle.call_stages.specs.Prevs.{IsSwitch, IsJoin}
+use Rattle.call_stages.specs.Prevs.{IsRetire}
 use Rattle.index_law.specs.Weights.{index_weight}
 use Rattle.index_law.specs.Anchors.{anchors_of, anchors_in, gone_nodes, members_most, CutsMember}
 

@@ -1,94 +1,30 @@
 -- The prev words of the nodes, beside the law of the nodes: a listed node's prev is the one before it, but where a
 -- party owes that; and from node to node by their prevs no way through GONE nodes comes back.
-use Rattle.std.specs.Prelude.{◌≡◌, ◌≢◌, ℕ, zero, suc, ◌<◌, ◌≤◌, ◌^◌, ◌⊎◌, Bool, true, nat_lt, if◌then◌else◌, List, []}
-use Rattle.std.specs.Prelude.{◌∷◌, length, slice_set, Option, Some, None, IfSome}
-use Rattle.std.specs.List.{AllByRecursion}
+use Rattle.std.specs.Prelude.{◌≡◌, ◌≢◌, ℕ, zero, suc, ◌<◌, ◌≤◌, ◌^◌, ◌⊎◌, nat_lt, if◌then◌else◌, List}
+use Rattle.std.specs.Prelude.{length, slice_set, Option, Some, IfSome}
 use mathlib.Core.Option.{some}
 use lib.ListN.{get_elem?}
 use Rattle.pm_words.specs.declared.layout.Layout.{Layout}
 use Rattle.pm_words.specs.declared.action.Action.{Action}
-use Rattle.pm_words.specs.declared.action.Action.TheVariants.{Load, Store}
+use Rattle.pm_words.specs.declared.action.Action.TheVariants.{Load}
 use Rattle.pm_words.specs.Locations.{Volatile, at, image_words}
 use Rattle.pm_words.specs.Rows.{acted, got}
-use Rattle.data_node.specs.Spots.{Spot}
 use Rattle.data_node.specs.Lists.{next_offset}
 use Rattle.call_stages.specs.declared.once.Once.{Once}
 use Rattle.call_stages.specs.declared.once.Placed.{Placed}
-use Rattle.call_stages.specs.Stages.{Held, Grip, Tells, Filling, Linked, Gathered, Joined, Gone, Stage, Idle, Splits}
-use Rattle.call_stages.specs.Stages.{Joins}
+use Rattle.call_stages.specs.Stages.{Stage, Idle}
 use Rattle.call_stages.specs.Kinds.{Step, gone_status, prev_address}
+use Rattle.call_stages.specs.Prevs.{Debt, no_debt, Deals, Prevs}
+use Rattle.call_stages.specs.Orders.{AreInOrder}
 use Rattle.index_law.specs.Facts.{Facts, IsListed}
 use Rattle.index_law.specs.Worlds.{Party, World, facts, stepped, started, evicted_world}
-use Rattle.index_law.specs.Lawful.{Lawful, HoldsNode, Each}
+use Rattle.index_law.specs.Lawful.{Lawful, Each}
+use Rattle.call_stages.specs.Stages.{HoldsNode}
 use Rattle.index_law.specs.Laws.{IsAtRest}
-use Rattle.index_law.specs.Shapes.{IsSwitch, IsJoin}
 
 -- The prev of a node of the layout.
 unfoldable pub prev_in : Layout → List ℕ → ℕ → ℕ
 prev_in l words n = if nat_lt n l.nodes then at l words (Volatile n 1) else 0
-
--- What a party knows of the prev of a node that it holds, which isn't listed: it is the second. And of this node, which
--- it holds, the one that it leads to may have another prev.
-pub record Debt : Type 0 where
-  pub known : Option (ℕ × ℕ)
-  pub owes : Option ℕ
-
-abbrev pub no_debt : Debt
-no_debt = record { known = None; owes = None }
-
--- By what it knows of its words this node, which the stage holds, leads to that one.
-abbrev pub Leads : Stage → ℕ → ℕ → Type 0
-Leads (Splits left fresh phase) n y = (fresh.node ≡ n) × ((s : Spot) → Tells fresh.seen s → s next_offset ≡ y)
-Leads (Joins h left right pace) n y = (left.node ≡ n) × ((s : Spot) → Tells left.seen s → s next_offset ≡ y)
-Leads _ n y = ⊥
-
--- The step makes the right node of a merge GONE.
-pub record IsRetire (stage next : Stage) : Type 0 where
-  pub held : Held
-  pub left : Grip
-  pub right : Grip
-  pub was : stage ≡ Joins held left right Joined
-  pub is : next ≡ Joins held left right Gone
-
--- What becomes of a party's debt as it goes from one stage to another.
-pub data Deals : Stage → Stage → Debt → Debt → Type 0 where
-  -- it stays; before a node becomes GONE its prev is known
-  keeps : {s t : Stage} {d : Debt} → (IsSwitch s t → ⊥) → (IsJoin s t → ⊥) →
-      ((q : IsRetire s t) → d.known ≡ Some (q.right.node, q.left.node)) →
-      IfSome d.known (λ k. HoldsNode t k.0) → IfSome d.owes (HoldsNode t) → Deals s t d d
-  -- what is known is let go
-  forgets : {s t : Stage} {d : Debt} → (IsSwitch s t → ⊥) → (IsJoin s t → ⊥) → (IsRetire s t → ⊥) →
-      IfSome d.owes (HoldsNode t) → Deals s t d (record d { known = None })
-  -- the node leads to none
-  ends : {s t : Stage} {d : Debt} {n : ℕ} → (IsSwitch s t → ⊥) → (IsJoin s t → ⊥) → (IsRetire s t → ⊥) →
-      d.owes ≡ Some n → Leads s n 0 → Deals s t d no_debt
-  -- a fresh node comes between a full one and the next
-  switches : {left after fresh : Grip} {d : Debt} → left.node ≡ after.node → d.known ≡ Some (fresh.node, left.node) →
-      d.owes ≡ None →
-      Deals (Splits left fresh (Filling true)) (Splits after fresh Linked) d (record {
-        known = None;
-        owes = Some fresh.node;
-      })
-  -- a node goes from between two
-  joins : {h : Held} {left after right : Grip} {d : Debt} → left.node ≡ after.node → d.owes ≡ None →
-      Deals (Joins h left right Gathered) (Joins h after right Joined) d (record {
-        known = Some (right.node, left.node);
-        owes = Some left.node;
-      })
-
--- The stores of prevs, which change no stage.
-pub data Prevs (l : Layout) : Stage → Debt → Action → Debt → Type 0 where
-  -- that of a fresh node
-  names : {left fresh : Grip} {lit : Bool} {d : Debt} →
-      Prevs l (Splits left fresh (Filling lit)) d (Store (prev_address l fresh.node) left.node) (record d {
-        known = Some (fresh.node, left.node);
-      })
-  -- that of the node after the fresh one, or after the right one
-  pays : {s : Stage} {d : Debt} {n y : ℕ} → d.owes ≡ Some n → Leads s n y → y ≢ 0 → n < l.nodes →
-      Prevs l s d (Store (prev_address l y) n) (record d { owes = None })
-  -- that of the right one
-  renews : {h : Held} {left right : Grip} {d : Debt} → d.known ≡ Some (right.node, left.node) →
-      Prevs l (Joins h left right Gone) d (Store (prev_address l right.node) left.node) d
 
 -- The world with the debt of each party.
 pub record Traced : Type 0 where
@@ -104,31 +40,8 @@ pub record IsOwed (z : Traced) (n : ℕ) : Type 0 where
   pub at : get_elem? z.world.parties number ≡ some party
   pub is : debt.owes ≡ Some n
 
--- A number is one of these.
-abbrev pub IsOneOf : List ℕ → ℕ → Type 0
-IsOneOf [] n = ⊥
-IsOneOf (k ∷ later) n = (n ≡ k) ⊎ IsOneOf later n
-
--- The prev of each of these that is GONE, if that is GONE too, is a later one.
-abbrev pub Ordered : (ℕ → Type 0) → (ℕ → ℕ) → List ℕ → Type 0
-Ordered gone prev [] = Unit {0}
-Ordered gone prev (n ∷ later) = (gone n → gone (prev n) → IsOneOf later (prev n)) × Ordered gone prev later
-
 abbrev pub IsGone : Facts → ℕ → Type 0
 IsGone f n = f.status n ≡ gone_status
-
--- Each stands there once.
-abbrev pub StandOnce : List ℕ → Type 0
-StandOnce [] = Unit {0}
-StandOnce (n ∷ later) = (IsOneOf later n → ⊥) × StandOnce later
-
--- The GONE nodes in an order in which the prev of each leads to a later one or to a node that isn't GONE.
-pub record AreInOrder (most : ℕ) (f : Facts) (prev : ℕ → ℕ) : Type 0 where
-  pub order : List ℕ
-  pub all : (n : ℕ) → IsGone f n → IsOneOf order n
-  pub ordered : Ordered (IsGone f) prev order
-  pub within : AllByRecursion (λ n. n < most) order
-  pub once : StandOnce order
 
 pub record IsTraced (z : Traced) : Type 0 where
   pub lawful : Lawful z.world
@@ -140,7 +53,7 @@ pub record IsTraced (z : Traced) : Type 0 where
   -- a listed node's prev is the one before it, or a party owes that
   pub prevs : (n : ℕ) → IsListed (facts z.world) n → (facts z.world).now n next_offset ≢ 0 →
       (prev_in z.world.layout z.world.words ((facts z.world).now n next_offset) ≡ n) ⊎ IsOwed z n
-  pub order : AreInOrder z.world.layout.nodes (facts z.world) (prev_in z.world.layout z.world.words)
+  pub order : AreInOrder z.world.layout.nodes (IsGone (facts z.world)) (prev_in z.world.layout z.world.words)
   pub below : (n : ℕ) → prev_in z.world.layout z.world.words n < z.world.layout.nodes
 
 -- A step on nodes keeps this,
@@ -199,7 +112,7 @@ abbrev pub RestIsTraced : Type 0
 RestIsTraced = (z : Traced) → IsAtRest z.world → ((i : ℕ) (d : Debt) → get_elem? z.debts i ≡ some d → d ≡ no_debt) →
     ((n : ℕ) → IsListed (facts z.world) n → (facts z.world).now n next_offset ≢ 0 →
     prev_in z.world.layout z.world.words ((facts z.world).now n next_offset) ≡ n) →
-    AreInOrder z.world.layout.nodes (facts z.world) (prev_in z.world.layout z.world.words) →
+    AreInOrder z.world.layout.nodes (IsGone (facts z.world)) (prev_in z.world.layout z.world.words) →
     ((n : ℕ) → prev_in z.world.layout z.world.words n < z.world.layout.nodes) → IsTraced z
 
 -- and where all parties are idle, prevs follow the list.

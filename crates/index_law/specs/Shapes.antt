@@ -12,9 +12,10 @@ use Rattle.data_node.specs.Lists.{ListNode, next_offset, key_of, with_member, wi
 use Rattle.data_node.specs.Weights.{names_in}
 use Rattle.call_stages.specs.declared.once.Once.{Once}
 use Rattle.call_stages.specs.declared.once.Placed.{Placed}
-use Rattle.call_stages.specs.Stages.{Held, Grip, Filling, Linked, Gathered, Joined, Stage, Splits, Joins}
+use Rattle.call_stages.specs.Stages.{Stage}
 use Rattle.call_stages.specs.Kinds.{Step, below_key}
 use Rattle.index_law.specs.Facts.{Facts, map_now, range_of, IsListed}
+use Rattle.call_stages.specs.Prevs.{IsSwitch, IsJoin}
 use Rattle.index_law.specs.Worlds.{Party, World, facts, stepped}
 use Rattle.index_law.specs.Lawful.{Lawful}
 
@@ -34,14 +35,6 @@ pub record IsHalved (l : Layout) (f : Facts) (list : List ListNode) : Type 0 whe
   pub half : names_in l.slots (below_key (range_of l f node) (key_of anchor)) (f.now node) ≡ l.slots / 2
   pub longer : list ≡ with_member node (record { node = fresh; anchor = key_of anchor }) 0 f.list
 
--- The step is the switch of a split.
-pub record IsSwitch (stage next : Stage) : Type 0 where
-  pub left : Grip
-  pub fresh : Grip
-  pub after : Grip
-  pub was : stage ≡ Splits left fresh (Filling true)
-  pub is : next ≡ Splits after fresh Linked
-
 -- A member goes, whose names join those of the one before it; they have no more together than half as many as a node
 -- has slots.
 pub record IsMerged (l : Layout) (f : Facts) (list : List ListNode) : Type 0 where
@@ -56,15 +49,6 @@ pub record IsMerged (l : Layout) (f : Facts) (list : List ListNode) : Type 0 whe
   pub few : names_in l.slots (range_of l f node) (f.now node) + names_in l.slots (range_of l f right) (f.now right) ≤
       l.slots / 2
   pub shorter : list ≡ without_member right f.list
-
--- The step is the switch of a merge.
-pub record IsJoin (stage next : Stage) : Type 0 where
-  pub held : Held
-  pub left : Grip
-  pub right : Grip
-  pub after : Grip
-  pub was : stage ≡ Joins held left right Gathered
-  pub is : next ≡ Joins held after right Joined
 
 -- A step leaves the list as it is, or it is the switch of a split, which cuts one full member in two, or that of a
 -- merge, with which a member joins the one before it.

@@ -14,7 +14,8 @@ use Rattle.call_stages.specs.declared.once.Once.{Once}
 use Rattle.call_stages.specs.declared.once.Placed.{Placed}
 use Rattle.call_stages.specs.Stages.{Held, Pace, Gathered, Joined, Gone, Stage, Idle, Saw, Wears, Holds, Eyes, Splits}
 use Rattle.call_stages.specs.Stages.{Leaves, Meets, Joins}
-use Rattle.call_stages.specs.Kinds.{Step, gone_status}
+use Rattle.data_node.specs.Spots.{bitmap_offset}
+use Rattle.call_stages.specs.Kinds.{Step, gone_status, word_address}
 use Rattle.index_law.specs.Facts.{Facts, range_of, durable_spot}
 use Rattle.index_law.specs.Laws.{durable_list}
 use Rattle.index_law.specs.Worlds.{Party, World, facts, stepped, started, joined, evicted_world}
@@ -70,9 +71,9 @@ lowered_sum l f (p ∷ parties) = lowered_in l f p.stage + lowered_sum l f parti
 abbrev pub weight_sum : World → ℕ
 weight_sum w = index_weight w.layout (facts w) + lowered_sum w.layout (facts w) w.parties
 
--- The store by which a put adds a name: before it the call has neither a change in its node nor a place, and after it
--- the node shows the put of a name that wasn't there.
-pub record AddsName (stage : Stage) (action : Action) (next : Stage) : Type 0 where
+-- The store by which a put adds a name: that of its node's bitmap. Before it the call has neither a change in its node
+-- nor a place, and after it the node shows the put of a name that wasn't there.
+pub record AddsName (l : Layout) (stage : Stage) (action : Action) (next : Stage) : Type 0 where
   pub node : ℕ
   pub lock : ℕ
   pub before : Held
@@ -85,9 +86,8 @@ pub record AddsName (stage : Stage) (action : Action) (next : Stage) : Type 0 wh
   pub name : List ℕ
   pub value : ℕ
   pub shows : after.pending ≡ Some (Put name value)
-  pub address : ℕ
-  pub word : ℕ
-  pub stores : action ≡ Store address word
+  pub bitmap : ℕ
+  pub stores : action ≡ Store (word_address l node bitmap_offset) bitmap
 
 -- The second number is no more than the first, or one more where there is a reason.
 abbrev pub RisesBy : Type 0 → ℕ → ℕ → Type 0
@@ -99,7 +99,7 @@ StepWeighs = (w : World) (i : ℕ) (p : Party) (action : Action) (x : ℕ) (next
     Lawful w →
     get_elem? w.parties i ≡ some p → Step w.layout w.generation p.stage action x next answer →
     x ≡ got w.layout w.words action →
-    RisesBy (AddsName p.stage action next) (weight_sum w) (weight_sum (stepped w i p action next))
+    RisesBy (AddsName w.layout p.stage action next) (weight_sum w) (weight_sum (stepped w i p action next))
 
 -- A start leaves the sum as it is,
 abbrev pub StartWeighs : Type 0

@@ -11,7 +11,8 @@ use Rattle.call_stages.specs.Kinds.{Step}
 use Rattle.call_stages.specs.Lines.{HeldLine, Notes}
 use Rattle.index_law.specs.Worlds.{Party, World, stepped}
 use Rattle.index_law.specs.Joint.{IsJoint}
-use Rattle.index_law.specs.Prevs.{Debt, Deals, Prevs, IsTraced}
+use Rattle.index_law.specs.Prevs.{IsTraced}
+use Rattle.call_stages.specs.Prevs.{Debt, Deals, Prevs}
 
 pub record Whole : Type 0 where
   pub world : World

@@ -206,3 +206,25 @@ pub fn claim_law()
 pub fn line_law()
     ensures { CleanLinesAreDurable }
 {}
+
+ghost use Rattle.index_law.specs.AnySteps.{AnyIsAllowed, AnyCanAct, BesideKeeps, AnyStepKeeps, AnyStepWeighs};
+
+/// A step beside nodes, on a log line or a prev, leaves what is said of nodes. So all steps of a party, on nodes or
+/// beside them, are by actions that can be done, keep the index lawful, have legal answers, and raise the weight sum
+/// only where a put adds a name.
+pub fn any_step_law()
+    ensures allowed { AnyIsAllowed }
+    ensures can { AnyCanAct }
+    ensures beside { BesideKeeps }
+    ensures keeps { AnyStepKeeps }
+    ensures weighs { AnyStepWeighs }
+{}
+
+ghost use Rattle.index_law.specs.Footings.{FootStepIsAny, FootStepKeeps};
+
+/// A step of a party that has a log line, or knows or owes prevs, is one of all steps; and with the index it keeps what
+/// all parties have of lines and prevs, and that each log line is EMPTY or in some party's hand.
+pub fn foot_law()
+    ensures any { FootStepIsAny }
+    ensures keeps { FootStepKeeps }
+{}

@@ -7,12 +7,10 @@ use Rattle.pm_words.specs.declared.action.Action.TheVariants.{Load, Exchange}
 use Rattle.pm_words.specs.declared.again.Again.TheVariants.{Locked, Moved}
 use Rattle.pm_words.specs.declared.machine.Turn.{Turn}
 use Rattle.pm_words.specs.declared.machine.Turn.TheVariants.{Go, Done}
-use Rattle.version_lock.specs.Versions.{generation_of, IsFree, IsWorn}
+use Rattle.version_lock.specs.Versions.{generation_of, IsFree, IsWorn, is_free_word, is_worn_word}
 use Rattle.call_stages.specs.Stages.{Held, Stage, Holds, Eyes, just_held}
 use Rattle.call_stages.specs.Kinds.{version_address, status_address, free_status, Told, Look, peeks, peeks_status, eyes, eyes_free, passes as passes_by, loses, claims}
-use Rattle.data_list.specs.Walks.{is_free_word}
-use Rattle.data_list.specs.WalkStages.{is_worn_word}
-use Rattle.data_list.proofs.WalkLaw.{free_word, taken_word, worn_word, fresh_word}
+use Rattle.version_lock.proofs.WordTests.{free_word, taken_word, worn_word, fresh_word}
 use Rattle.pm_alloc.specs.declared.claim.Claimed.{Claimed}
 use Rattle.pm_alloc.specs.declared.claim.Claimed.TheVariants as claimed
 use Rattle.pm_alloc.specs.declared.claim.Claim.{Claim}
@@ -102,7 +100,7 @@ module _ (claim : Claim) (sound : IsClaim claim) where
     claim_leads : (at : ClaimAt) (x : ℕ) → IsClaimAt g m at → Told l g (claim_at_asks l m at) x
         → Leads (claim_at_stage g n w h m at) (claim_at_asks l m at) x (claim_at_turned claim at x)
     claim_leads at.Nowhere x here told = peeks sound.node may.still.ready
-    claim_leads at.Version x here told = on (Holds n w h) (Load (version_address l m)) x (at.Status x) (saw x here (told.known m refl)) (here, told.known m refl)
+    claim_leads at.Version x here told = on (Holds n w h) (Load (version_address l m)) x (at.Status x) (saw x here (told.known m sound.node refl)) (here, told.known m sound.node refl)
     claim_leads (at.Status version) x here told = at_status version x here.0 here.1
     claim_leads (at.Lock version locked) x here told = at_lock version locked x here.0
 
@@ -164,7 +162,7 @@ module _ (claim : Claim) (sound : IsClaim claim) where
 
     claim_heeds : (at : ClaimAt) → IsClaimAt g m at → Told l g (claim_at_asks l m at) (heard_at h m at) → HasHeard l g h m at → Heed (claim_at_turned claim at (heard_at h m at))
     claim_heeds at.Nowhere here told heard = λ k positive within. let one : l.nodes ≡ 1 = heard in absurd (let no : 1 ≤ 0 = omega arith in omega arith)
-    claim_heeds at.Version here told heard = goes (at.Status (h.version m)) (here, told.known m refl) (heard, refl)
+    claim_heeds at.Version here told heard = goes (at.Status (h.version m)) (here, told.known m sound.node refl) (heard, refl)
     claim_heeds (at.Status version) here told heard = heeds_status version here.0 here.1 heard.0 heard.1
     claim_heeds (at.Lock version locked) here told heard = heeds_found version locked here.0 here.1 heard.0 heard.1 heard.2
 

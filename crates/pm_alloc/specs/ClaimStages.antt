@@ -1,8 +1,7 @@
 -- What a claim relies on, which a party makes that holds a full node.
 use Rattle.std.specs.Prelude.{ℕ, true, false, if◌then◌else◌}
 use Rattle.call_stages.specs.Stages.{Held, Stage, Holds, Eyes}
-use Rattle.data_list.specs.Walks.{is_free_word}
-use Rattle.data_list.specs.WalkStages.{is_worn_word}
+use Rattle.version_lock.specs.Versions.{is_free_word, is_worn_word}
 use Rattle.pm_alloc.specs.declared.claim.Claim.{Claim}
 use Rattle.pm_alloc.specs.declared.claim.ClaimAt.{ClaimAt}
 use Rattle.pm_alloc.specs.declared.claim.ClaimAt.TheVariants as at

@@ -8,10 +8,9 @@ use Rattle.pm_words.specs.declared.machine.Turn.{Turn}
 use Rattle.pm_words.specs.declared.machine.Turn.TheVariants.{Go, Done}
 use Rattle.pm_words.specs.Layouts.{IsLayout}
 use Rattle.version_lock.specs.declared.TheConstants.{GENERATION_LIMIT}
-use Rattle.version_lock.specs.Versions.{generation_of, kept_count, locked_word, IsFree, IsWorn}
+use Rattle.version_lock.specs.Versions.{generation_of, kept_count, locked_word, IsFree, IsWorn, is_free_word}
+use Rattle.version_lock.specs.Versions.{is_worn_word}
 use Rattle.call_stages.specs.Kinds.{version_address, status_address, free_status, Told}
-use Rattle.data_list.specs.Walks.{is_free_word}
-use Rattle.data_list.specs.WalkStages.{is_worn_word}
 use Rattle.pm_alloc.specs.declared.claim.Claimed.{Claimed}
 use Rattle.pm_alloc.specs.declared.claim.Claimed.TheVariants as claimed
 use Rattle.pm_alloc.specs.declared.claim.Claim.{Claim}

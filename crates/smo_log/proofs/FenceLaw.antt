@@ -1,14 +1,14 @@
 -- Each turn of a fence of a line is a step on the line.
-use Rattle.std.proofs.Common.{◌≡◌, ℕ, ◌+◌, ◌-◌, ◌^◌, ◌<◌, ◌≤◌, true, false, cond, ltb, List, [], ◌∷◌, Option, Some, None, inl, inr, refl, arith}
-use Rattle.std.proofs.lemmas.Bool.{cases_eq, ltb-true, ltb-false}
+use Rattle.std.proofs.Common.{ℕ, ◌+◌, ◌-◌, ◌^◌, ◌<◌, ◌≤◌, List, [], ◌∷◌, Option, Some, None, inl, inr, refl, arith}
+use Rattle.std.proofs.lemmas.Bool.{cases_eq}
 use Rattle.pm_words.specs.declared.layout.Layout.{Layout}
 use Rattle.pm_words.specs.declared.action.Action.{Action}
 use Rattle.call_stages.specs.Kinds.{Cleans}
 use Rattle.call_stages.specs.Lines.{Notes, looks_up, keeps_safe}
-use Rattle.smo_log.specs.declared.fence.Fence.{Fence}
-use Rattle.smo_log.specs.declared.fence.FenceAt.{FenceAt}
-use Rattle.smo_log.specs.declared.fence.FenceAt.TheVariants as at
-use Rattle.smo_log.specs.Fences.{IsFence, IsFenceAt, fence_asks, fence_at_asks, fence_next, fence_at_next}
+use Rattle.pm_words.specs.declared.fence.Fence.{Fence}
+use Rattle.pm_words.specs.Fences.{IsFence, fence_asks, fence_next, FenceTurn}
+use Rattle.pm_words.specs.Fences as turn
+use Rattle.pm_words.proofs.Fencing.{fence_turns}
 use Rattle.smo_log.specs.LogLines.{numbered_address, settled, fenced}
 
 -- A fence that goes on has one word fewer to make durable; at its end all are.
@@ -36,13 +36,9 @@ rest_ends word small last offset (inl within) =
 
 pub fence_leads : (l : Layout) (line : ℕ) (seen : List (ℕ × ℕ)) (fence : Fence) (x : ℕ) → IsFence fence → x < 2 ^ 64
     → Fences l line seen (fence_asks (numbered_address l line fence.word) fence) x fence (fence_next fence x)
-fence_leads l line seen fence x is fits = leads fence.at is.value
+fence_leads l line seen fence x is fits = leads fence _ _ (fence_turns (numbered_address l line fence.word) fence x is fits)
   where
-    leads : (at : FenceAt) → IsFenceAt at → Fences l line seen (fence_at_asks (numbered_address l line fence.word) at) x (record fence { at = at }) (fence_at_next fence at x)
-    leads at.Load value = (looks_up is.word (λ s told e. told), record { word = is.word; value = fits })
-    leads (at.Drain y) value =
-        elim (ltb (fence.word + 1) 8) as (λ b. ltb (fence.word + 1) 8 ≡ b →
-        Fences l line seen (fence_at_asks (numbered_address l line fence.word) (at.Drain y)) x (record fence { at = at.Drain y }) (cond b (Some (record { word = fence.word + 1; at = at.Load })) None)) [
-          | true ↦ λ more. (keeps_safe is.word value refl (rest_shrinks fence.word), record { word = ltb-true _ _ more; value = tt })
-          | false ↦ λ last. keeps_safe is.word value refl (rest_ends fence.word is.word (ltb-false _ _ last))
-        ] refl
+    leads : (before : Fence) (action : Action) (after : Option Fence) → FenceTurn (numbered_address l line before.word) x before action after → Fences l line seen action x before after
+    leads before action after (turn.loads {word} small fits) = (looks_up small (λ s told e. told), record { word = small; value = fits })
+    leads before action after (turn.drains {word} more value) = (keeps_safe (omega arith) value refl (rest_shrinks word), record { word = more; value = tt })
+    leads before action after (turn.drains_last {word} last value) = keeps_safe (omega arith) value refl (rest_ends word (omega arith) (omega arith))

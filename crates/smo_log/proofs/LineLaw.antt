@@ -16,8 +16,9 @@ use Rattle.data_node.specs.Spots.{Spot, updated}
 use Rattle.data_node.proofs.SpotLemmas.{updated-same, updated-other}
 use Rattle.call_stages.specs.Stages.{IsAmong, Tells}
 use Rattle.call_stages.specs.Kinds.{Soils}
-use Rattle.call_stages.specs.Lines.{HeldLine, IsEntry, IsFitLine, TellsDurably, line_address, Notes, passes_line, takes, notes}
-use Rattle.smo_log.specs.declared.fence.Fence.{Fence}
+use Rattle.call_stages.specs.Lines.{HeldLine, IsEntry, IsFitLine, TellsDurably, line_address, Notes, passes_line, takes, looks_up, notes, keeps_safe}
+use Rattle.call_stages.specs.AnySteps.{loads_line, stores_line, drains_line}
+use Rattle.pm_words.specs.declared.fence.Fence.{Fence}
 use Rattle.smo_log.specs.declared.line.Entry.{Entry}
 use Rattle.smo_log.specs.declared.take.Taken.{Taken}
 use Rattle.smo_log.specs.declared.take.Taken.TheVariants.{Full}
@@ -30,12 +31,12 @@ use Rattle.smo_log.specs.declared.open.OpenAt.TheVariants as open_at
 use Rattle.smo_log.specs.declared.state.Ready.{Ready}
 use Rattle.smo_log.specs.declared.state.ReadyAt.{ReadyAt}
 use Rattle.smo_log.specs.declared.state.ReadyAt.TheVariants as ready_at
-use Rattle.smo_log.specs.Fences.{IsFence, fence_start, fence_next, fence_asks}
+use Rattle.pm_words.specs.Fences.{IsFence, fence_start, fence_next, fence_asks}
 use Rattle.smo_log.specs.LogLines.{caller_of, index_of, numbered_address, field_of, IsEntryOf, fields, settled, fenced}
 use Rattle.smo_log.specs.Takes.{take_line, take_at_asks, saw_state, take_fenced, take_at_turned, IsTakeAt, IsTake, take_at_held, TakeNotes}
 use Rattle.smo_log.specs.Opens.{opens_on, open_at_asks, fields_fenced, state_fenced, open_at_turned, IsOpenAt, IsOpen, stored, filled_line, open_at_held, OpenNotes}
 use Rattle.smo_log.specs.States.{ready_at_asks, ready_fenced, ready_at_turned, IsReadyAt, IsReady, ready_at_held, ReadyNotes}
-use Rattle.smo_log.specs.Laws.{TakesAreNotes, OpensAreNotes, ReadiesAreNotes, ClearsAreNotes, ReadsAreNotes, NoneEmpty, HasLooked, TakeHeeds, TakesHeed, ReadsHeed}
+use Rattle.smo_log.specs.Laws.{TakesAreNotes, OpensAreNotes, ReadiesAreNotes, ClearsAreNotes, ReadsAreNotes, NoneEmpty, HasLooked, TakeHeeds, TakesHeed, ReadsHeed, NotesAreBeside}
 use Rattle.smo_log.specs.Reads.{ReadNotes, ReadsOn, seen_in}
 use Rattle.smo_log.proofs.FenceLaw.{Fences, fence_leads}
 
@@ -43,10 +44,10 @@ start_is : IsFence fence_start
 start_is = record { word = omega arith; value = tt }
 
 -- the caller of a line is one of the layout's, and has eight lines
-caller_within : (line callers : ℕ) → line < 8 * callers → caller_of line < callers
+pub caller_within : (line callers : ℕ) → line < 8 * callers → caller_of line < callers
 caller_within line callers within = omega arith
 
-index_within : (line : ℕ) → index_of line < 8
+pub index_within : (line : ℕ) → index_of line < 8
 index_within line = omega arith
 
 -- ---- the look for a line
@@ -334,3 +335,11 @@ reads_heed read told sound has =
         ap (slice_index words) here ∙ get_or-set_same read.words read.offset (told read.offset) 0 (omega arith) ∙ sym (ap told here))
         (λ (other : offset ≢ read.offset). get_or-set_other read.words read.offset offset (told read.offset) 0 other ∙ has.same offset (omega arith))
         (cases_eq offset read.offset)
+
+-- a step on a line of the layout is one beside nodes
+pub notes_beside : NotesAreBeside
+notes_beside l line after a x here (passes_line caller low small) = loads_line (caller, low, small)
+notes_beside l line after a x here (takes caller low) = loads_line (caller, low, omega arith)
+notes_beside l line after a x here (looks_up small learnt) = loads_line (here.0, here.1, small)
+notes_beside l line after a x here (notes small fits soils told keeps) = stores_line (here.0, here.1, small) fits
+notes_beside l line after a x here (keeps_safe small fits hand cleans) = drains_line (here.0, here.1, small) fits

@@ -1,8 +1,11 @@
 -- What every turn on a log line is.
-use Rattle.std.specs.Prelude.{◌≡◌, ◌≢◌, ℕ, ◌+◌, ◌*◌, ◌^◌, ◌<◌, Some}
+use Rattle.std.specs.Prelude.{◌≡◌, ◌≢◌, ℕ, ◌+◌, ◌*◌, ◌^◌, ◌<◌, Option, Some, IfSome}
+use Rattle.pm_words.specs.declared.layout.Layout.{Layout}
+use Rattle.pm_words.specs.declared.action.Action.{Action}
 use Rattle.pm_words.specs.declared.machine.Turn.{Turn}
 use Rattle.pm_words.specs.declared.machine.Turn.TheVariants.{Go, Done}
 use Rattle.call_stages.specs.Lines.{HeldLine, Notes}
+use Rattle.call_stages.specs.AnySteps.{IsBeside}
 use Rattle.smo_log.specs.declared.line.Entry.{Entry}
 use Rattle.smo_log.specs.declared.take.Taken.{Taken}
 use Rattle.smo_log.specs.declared.take.Taken.TheVariants.{Line, Full}
@@ -74,3 +77,8 @@ TakesHeed = (take : Take) (told : ℕ → ℕ) (x : ℕ) → IsTake take → (ta
 abbrev pub ReadsHeed : Type 0
 ReadsHeed = (read : ReadLine) (told : ℕ → ℕ) → IsRead read → HasRead told read.words read.offset →
     ReadsOn told (read_turned read (told read.offset))
+
+-- Each of these steps on a line, of a line that is the layout's, is one beside nodes.
+abbrev pub NotesAreBeside : Type 0
+NotesAreBeside = (l : Layout) (line after : Option HeldLine) (action : Action) (x : ℕ) →
+    IfSome line (λ e. (e.caller < l.callers) × (e.number < 8)) → Notes l line action x after → IsBeside l action

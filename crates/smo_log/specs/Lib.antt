@@ -1,4 +1,3 @@
-pub mod Fences
 pub mod LogLines
 pub mod Takes
 pub mod Opens

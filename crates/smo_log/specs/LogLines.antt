@@ -1,13 +1,12 @@
 -- Log lines by their numbers, and what they say.
 use Rattle.std.specs.Prelude.{◌≡◌, ℕ, zero, suc, ◌-◌, ◌/◌, ◌%◌, ◌<◌, ◌≤◌, ◌==◌, ◌⊎◌, if◌then◌else◌, List, [], ◌∷◌}
-use Rattle.std.specs.Prelude.{slice_index, Option, Some, None}
+use Rattle.std.specs.Prelude.{slice_index, None}
 use Rattle.pm_words.specs.declared.layout.Layout.{Layout}
 use Rattle.cat_key.specs.Names.{IsName, words_of}
 use Rattle.call_stages.specs.Lines.{HeldLine, line_address}
 use Rattle.smo_log.specs.declared.line.Entry.{Entry}
-use Rattle.smo_log.specs.declared.fence.Fence.{Fence}
-use Rattle.smo_log.specs.declared.fence.FenceAt.{FenceAt}
-use Rattle.smo_log.specs.declared.fence.FenceAt.TheVariants as fence
+use Rattle.pm_words.specs.declared.fence.Fence.{Fence}
+use Rattle.pm_words.specs.Fences.{hand_of}
 
 -- The caller of a line, and which of the caller's lines it is.
 abbrev pub caller_of : ℕ → ℕ
@@ -46,10 +45,6 @@ fields entry (suc n) = (suc n, field_of entry (suc n)) ∷ fields entry n
 -- What a party knows of a line that it has, all of which is durable.
 abbrev pub settled : ℕ → List (ℕ × ℕ) → HeldLine
 settled line seen = record { caller = caller_of line; number = index_of line; seen = seen; dirty = []; hand = None }
-
-abbrev pub hand_of : ℕ → FenceAt → Option (ℕ × ℕ)
-hand_of word fence.Load = None
-hand_of word (fence.Drain value) = Some (word, value)
 
 -- And of one that it makes durable.
 abbrev pub fenced : ℕ → List (ℕ × ℕ) → Fence → HeldLine

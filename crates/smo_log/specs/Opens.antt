@@ -9,12 +9,12 @@ use Rattle.pm_words.specs.declared.machine.Turn.{Turn}
 use Rattle.pm_words.specs.declared.machine.Turn.TheVariants.{Go, Done}
 use Rattle.pm_words.specs.Layouts.{IsLayout}
 use Rattle.call_stages.specs.Lines.{HeldLine, Notes}
-use Rattle.smo_log.specs.declared.fence.Fence.{Fence}
+use Rattle.pm_words.specs.declared.fence.Fence.{Fence}
 use Rattle.smo_log.specs.declared.line.Entry.{Entry}
 use Rattle.smo_log.specs.declared.open.Open.{Open}
 use Rattle.smo_log.specs.declared.open.OpenAt.{OpenAt}
 use Rattle.smo_log.specs.declared.open.OpenAt.TheVariants as at
-use Rattle.smo_log.specs.Fences.{fence_start, IsFence, fence_asks, fence_next, fence_left}
+use Rattle.pm_words.specs.Fences.{fence_start, IsFence, fence_asks, fence_next, fence_left}
 use Rattle.smo_log.specs.LogLines.{caller_of, index_of, numbered_address, field_of, IsEntryOf, fields, settled, fenced}
 use Rattle.smo_log.specs.LogLines.{open_line}
 

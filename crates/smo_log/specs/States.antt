@@ -7,13 +7,13 @@ use Rattle.pm_words.specs.declared.machine.Turn.{Turn}
 use Rattle.pm_words.specs.declared.machine.Turn.TheVariants.{Go, Done}
 use Rattle.pm_words.specs.Layouts.{IsLayout}
 use Rattle.call_stages.specs.Lines.{HeldLine, Notes}
-use Rattle.smo_log.specs.declared.fence.Fence.{Fence}
+use Rattle.pm_words.specs.declared.fence.Fence.{Fence}
 use Rattle.smo_log.specs.declared.line.Entry.{Entry}
 use Rattle.smo_log.specs.declared.state.Ready.{Ready}
 use Rattle.smo_log.specs.declared.state.ReadyAt.{ReadyAt}
 use Rattle.smo_log.specs.declared.state.ReadyAt.TheVariants as at
 use Rattle.smo_log.specs.declared.state.Clear.{Clear}
-use Rattle.smo_log.specs.Fences.{fence_start, IsFence, fence_asks, fence_next, fence_left}
+use Rattle.pm_words.specs.Fences.{fence_start, IsFence, fence_asks, fence_next, fence_left}
 use Rattle.smo_log.specs.LogLines.{caller_of, index_of, numbered_address, fields, fenced, open_line, ready_line}
 
 abbrev pub ready_from : Layout → ℕ → Ready

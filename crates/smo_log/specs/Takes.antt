@@ -8,13 +8,13 @@ use Rattle.pm_words.specs.declared.machine.Turn.{Turn}
 use Rattle.pm_words.specs.declared.machine.Turn.TheVariants.{Go, Done}
 use Rattle.pm_words.specs.Layouts.{IsLayout}
 use Rattle.call_stages.specs.Lines.{HeldLine, Notes}
-use Rattle.smo_log.specs.declared.fence.Fence.{Fence}
+use Rattle.pm_words.specs.declared.fence.Fence.{Fence}
 use Rattle.smo_log.specs.declared.take.Taken.{Taken}
 use Rattle.smo_log.specs.declared.take.Taken.TheVariants.{Line, Full}
 use Rattle.smo_log.specs.declared.take.Take.{Take}
 use Rattle.smo_log.specs.declared.take.TakeAt.{TakeAt}
 use Rattle.smo_log.specs.declared.take.TakeAt.TheVariants as at
-use Rattle.smo_log.specs.Fences.{fence_start, IsFence, fence_asks, fence_next, fence_left}
+use Rattle.pm_words.specs.Fences.{fence_start, IsFence, fence_asks, fence_next, fence_left}
 use Rattle.smo_log.specs.LogLines.{caller_of, numbered_address, fenced, empty_line}
 
 abbrev pub take_from : Layout → ℕ → Take

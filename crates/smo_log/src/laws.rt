@@ -19,3 +19,10 @@ pub fn answers_heed()
     ensures takes { TakesHeed }
     ensures reads { ReadsHeed }
 {}
+
+ghost use Rattle.smo_log.specs.Laws.{NotesAreBeside};
+
+/// Each step on a log line of the layout is one beside nodes.
+pub fn notes_are_beside()
+    ensures { NotesAreBeside }
+{}

@@ -4,7 +4,6 @@
 //! its own. What a line says is durable before its state says that it is so.
 #![tactic(auto)]
 
-mod fence;
 pub mod laws;
 mod line;
 mod open;
@@ -12,7 +11,6 @@ mod read;
 mod state;
 mod take;
 
-pub use fence::{Fence, FenceAt};
 pub use line::{Entry, KIND_MERGE, KIND_SPLIT};
 pub use open::{Open, OpenAt};
 pub use read::{LineSeen, ReadLine};

@@ -1,9 +1,8 @@
 ghost use Rattle.std.specs.Prelude.{◌≡◌, ◌<◌};
 
-use crate::fence::Fence;
 use crate::line::{Entry, OPEN, line_address};
 use pm_words::offsets::line;
-use pm_words::{Action, LINE, Layout, Machine, Turn};
+use pm_words::{Action, Fence, LINE, Layout, Machine, Turn};
 
 /// It stores what a line is to say, all seven words behind the state, and makes them durable; then the state OPEN, and
 /// makes that durable. The last word is to be 0, and an EMPTY line may hold anything there.

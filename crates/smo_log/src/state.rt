@@ -1,9 +1,8 @@
 ghost use Rattle.std.specs.Prelude.{◌≡◌, ◌<◌};
 
-use crate::fence::Fence;
 use crate::line::{EMPTY, READY, line_address};
 use pm_words::offsets::line;
-use pm_words::{Action, Layout, Machine, Turn};
+use pm_words::{Action, Fence, Layout, Machine, Turn};
 
 /// It makes the state READY of an open line durable.
 #[derive(Clone, Copy)]

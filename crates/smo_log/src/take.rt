@@ -1,8 +1,7 @@
 ghost use Rattle.std.specs.Prelude.{◌≡◌, ◌<◌};
 
-use crate::fence::Fence;
 use crate::line::{EMPTY, line_address};
-use pm_words::{Action, LINES, Layout, Machine, Turn};
+use pm_words::{Action, Fence, LINES, Layout, Machine, Turn};
 
 /// How the look for a line ended.
 #[derive(Clone, Copy, PartialEq, Eq, Debug)]

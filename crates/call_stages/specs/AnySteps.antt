@@ -1,0 +1,30 @@
+-- All steps of a party: those on nodes, and those beside them, on words of log lines and on prevs, which say nothing of
+-- nodes.
+use Rattle.std.specs.Prelude.{◌≡◌, ℕ, ◌<◌, ◌^◌, Option, None}
+use Rattle.pm_words.specs.declared.layout.Layout.{Layout}
+use Rattle.pm_words.specs.declared.action.Action.{Action}
+use Rattle.pm_words.specs.declared.action.Action.TheVariants.{Load, Store, Drain}
+use Rattle.call_stages.specs.declared.once.Once.{Once}
+use Rattle.call_stages.specs.declared.once.Placed.{Placed}
+use Rattle.call_stages.specs.Stages.{Stage, counted}
+use Rattle.call_stages.specs.Kinds.{Step, prev_address}
+use Rattle.call_stages.specs.Lines.{line_address}
+
+-- The line j of the caller c and the offset are of this layout.
+abbrev pub HasLineWord : Layout → ℕ → ℕ → ℕ → Type 0
+HasLineWord l c j offset = (c < l.callers) × (j < 8) × (offset < 8)
+
+-- An action on a word of a log line, or the store of a prev.
+pub data IsBeside (l : Layout) : Action → Type 0 where
+  loads_line : {c j offset : ℕ} → HasLineWord l c j offset → IsBeside l (Load (line_address l c j offset))
+  stores_line : {c j offset y : ℕ} → HasLineWord l c j offset → y < 2 ^ 64 →
+      IsBeside l (Store (line_address l c j offset) y)
+  drains_line : {c j offset y : ℕ} → HasLineWord l c j offset → y < 2 ^ 64 →
+      IsBeside l (Drain (line_address l c j offset) y)
+  stores_prev : {n y : ℕ} → n < l.nodes → y < 2 ^ 64 → IsBeside l (Store (prev_address l n) y)
+
+-- A step on nodes, or one beside them of a party that isn't about to count a change. That one leaves its stage.
+pub data AnyStep (l : Layout) (g : ℕ) : Stage → Action → ℕ → Stage → Option (Once Placed) → Type 0 where
+  on_nodes : {s : Stage} {a : Action} {x : ℕ} {t : Stage} {r : Option (Once Placed)} → Step l g s a x t r →
+      AnyStep l g s a x t r
+  beside : {s : Stage} {a : Action} {x : ℕ} → counted s ≡ None → IsBeside l a → AnyStep l g s a x s None

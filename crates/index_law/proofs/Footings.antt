@@ -1,0 +1,177 @@
+-- The steps of a party on nodes, lines and prevs keep all that an index has.
+use Rattle.std.proofs.Common.{◌≡◌, ◌≢◌, ℕ, ◌<◌, ◌⊎◌, inl, inr, ⊎_elim, List, slice_set, refl, sym, ap, ◌∙◌, subst}
+use Rattle.std.specs.Prelude.{Option, Some, None, IfSome}
+use Rattle.std.proofs.lemmas.Bool.{cases_eq}
+use Rattle.std.proofs.lemmas.List.{set-get_or}
+use mathlib.Core.Option.{some, some-injective}
+use lib.ListN.{get_elem?}
+use Rattle.pm_words.specs.declared.layout.Layout.{Layout}
+use Rattle.pm_words.specs.declared.action.Action.{Action}
+use Rattle.pm_words.specs.Locations.{Location, Line, Cached, Durable, at}
+use Rattle.pm_words.proofs.Apart.{at-set_other}
+use Rattle.data_node.specs.Spots.{Spot}
+use Rattle.pm_words.specs.Rows.{acted}
+use Rattle.pm_words.proofs.Kept.{action_address-drain}
+use Rattle.call_stages.specs.Stages.{Stage, Tells, counted}
+use Rattle.call_stages.specs.Kinds.{Step}
+use Rattle.call_stages.specs.Lines.{HeldLine, line_address, Notes, passes_line, takes, looks_up, notes, keeps_safe}
+use Rattle.call_stages.specs.AnySteps.{IsBeside, on_nodes, beside}
+use Rattle.index_law.specs.Worlds.{Party, World, facts, stepped}
+use Rattle.index_law.specs.Laws.{Allowed}
+use Rattle.index_law.specs.Lines.{line_in}
+use Rattle.call_stages.specs.Prevs.{Debt, Deals, Prevs}
+use Rattle.index_law.specs.Whole.{Whole, IsWhole}
+use Rattle.index_law.specs.Footings.{FootStepIsAny, IsInHand, AreTended, stepped_whole, FootStepKeeps}
+use Rattle.call_stages.specs.Footings.{Footing, KeepsOrEmpties, FootStep}
+use Rattle.call_stages.specs.Footings as foot
+use Rattle.index_law.proofs.AnySteps.{set_own, beside_keeps}
+use Rattle.index_law.proofs.Noting.{line-alike, nodes_leave_lines}
+use Rattle.index_law.proofs.Own.{allow_law, sure_within}
+use Rattle.index_law.proofs.Parties.{set_here, set_else}
+use Rattle.index_law.proofs.Whole.{prev_leaves, whole_node, whole_line, whole_prev}
+
+pub foot_any : FootStepIsAny
+foot_any l g c f t a x r (foot.on_nodes kept k deals) = on_nodes k
+foot_any l g c f t a x r (foot.on_line none is k own) = beside none is
+foot_any l g c f t a x r (foot.on_prev none is k) = beside none is
+
+-- a step on a line leaves the words of every other line
+abbrev caller_in : Location → ℕ
+caller_in (Cached (Line c j o)) = c
+caller_in _ = 0
+
+abbrev number_in : Location → ℕ
+number_in (Cached (Line c j o)) = j
+number_in _ = 0
+
+other_stays : (l : Layout) (words : List ℕ) (line : Option HeldLine) (a : Action) (x : ℕ) (after : Option HeldLine) → IfSome line (λ e. (e.caller < l.callers) × (e.number < 8))
+    → Notes l line a x after → (c j offset : ℕ) → IfSome line (λ e. (c ≢ e.caller) ⊎ (j ≢ e.number)) → line_in l (acted l words a) c j offset ≡ line_in l words c j offset
+other_stays l words line a x after here (passes_line {c = d} {j = k} {offset = o} caller low small) c j offset other = ap (λ v. line_in l v c j offset) (set-get_or words (line_address l d k o) 0)
+other_stays l words line a x after here (takes {c = d} {j = k} caller low) c j offset other = ap (λ v. line_in l v c j offset) (set-get_or words (line_address l d k 0) 0)
+other_stays l words line a x after here (looks_up {offset = o} {e = e} small learnt) c j offset other = ap (λ v. line_in l v c j offset) (set-get_or words (line_address l e.caller e.number o) 0)
+other_stays l words line a x after here (notes {y = y} {offset = o} {e = e} small fits soils told keeps) c j offset other =
+    line-alike l words (slice_set words (line_address l e.caller e.number o) y) c j offset (λ there.
+    at-set_other l words (Cached (Line e.caller e.number o)) (Cached (Line c j offset)) y (here.0, here.1, small) there
+    (λ same. ⊎_elim (λ n. n (ap caller_in same)) (λ n. n (ap number_in same)) other))
+other_stays l words line a x after here (keeps_safe {y = y} {offset = o} {e = e} small fits hand cleans) c j offset other =
+    line-alike l words (acted l words a) c j offset (λ there.
+    ap (λ q. at l (slice_set words q y) (Cached (Line c j offset))) (action_address-drain l (Line e.caller e.number o) y)
+    ∙ at-set_other l words (Durable (Line e.caller e.number o)) (Cached (Line c j offset)) y (here.0, here.1, small) there (λ same. cc))
+
+-- a step on a line doesn't let it go
+line_kept : (l : Layout) (e : HeldLine) (a : Action) (x : ℕ) (after : Option HeldLine) → Notes l (Some e) a x after
+    → (d : HeldLine) × (after ≡ Some d) × (d.caller ≡ e.caller) × (d.number ≡ e.number)
+line_kept l e a x after (looks_up {x = y} {offset = o} {seen = seen} small learnt) = (record e { seen = seen; hand = Some (o, y) }, refl, refl, refl)
+line_kept l e a x after (notes {seen = seen} {dirty = dirty} small fits soils told keeps) = (record e { seen = seen; dirty = dirty; hand = None }, refl, refl, refl)
+line_kept l e a x after (keeps_safe {dirty = dirty} small fits hand cleans) = (record e { dirty = dirty; hand = None }, refl, refl, refl)
+
+abbrev caller_at : Option HeldLine → ℕ
+caller_at None = 0
+caller_at (Some e) = e.caller
+
+abbrev number_at : Option HeldLine → ℕ
+number_at None = 0
+number_at (Some e) = e.number
+
+cases_both : (c j : ℕ) (e : HeldLine) → ((c ≡ e.caller) × (j ≡ e.number)) ⊎ ((c ≢ e.caller) ⊎ (j ≢ e.number))
+cases_both c j e = ⊎_elim
+    (λ (one : c ≡ e.caller). ⊎_elim (λ (two : j ≡ e.number). inl (one, two)) (λ other. inr (inr other)) (cases_eq j e.number))
+    (λ other. inr (inl other))
+    (cases_eq c e.caller)
+
+module _ (z : Whole) (i : ℕ) (p : Party) (whole : IsWhole z) (tended : AreTended z) (there : get_elem? z.world.parties i ≡ some p) where
+  abbrev l : Layout
+  l = z.world.layout
+
+  -- what is in a hand stays there, if the party keeps its line
+  still : (line after : Option HeldLine) (w : World) (debts : List Debt) → get_elem? z.lines i ≡ some line → (c j : ℕ)
+      → ((e : HeldLine) → line ≡ Some e → e.caller ≡ c → e.number ≡ j → (d : HeldLine) × (after ≡ Some d) × (d.caller ≡ c) × (d.number ≡ j))
+      → IsInHand z c j → IsInHand (record { world = w; lines = slice_set z.lines i after; debts = debts }) c j
+  still line after w debts at c j kept hand = ⊎_elim
+      (λ (same : hand.number ≡ i).
+      let own : line ≡ Some hand.line = some-injective _ _ (sym at ∙ ap (get_elem? z.lines) (sym same) ∙ hand.there) in
+      let d = kept hand.line own hand.caller hand.index in
+      record { number = i; line = d.0; there = set_here z.lines i after line at ∙ ap some d.1; caller = d.2; index = d.3 })
+      (λ (other : hand.number ≢ i). record { number = hand.number; line = hand.line; there = set_else z.lines i hand.number after other ∙ hand.there; caller = hand.caller; index = hand.index })
+      (cases_eq hand.number i)
+
+  -- a step that leaves all lines
+  tended_same : (line after : Option HeldLine) (w : World) (debts : List Debt) → w.layout ≡ l → get_elem? z.lines i ≡ some line → KeepsOrEmpties line after
+      → ((c j : ℕ) → line_in l w.words c j 0 ≡ line_in l z.world.words c j 0)
+      → AreTended (record { world = w; lines = slice_set z.lines i after; debts = debts })
+  tended_same line after w debts same at kept stays c j here low = elim kept [
+    | inl keeps ↦ go (λ hand. inr (still line after w debts at c j (λ e is caller number. (e, keeps ∙ is, caller, number)) hand))
+    | inr empties ↦ go (λ hand. ⊎_elim
+        (λ (own : hand.number ≡ i).
+        let is : line ≡ Some hand.line = some-injective _ _ (sym at ∙ ap (get_elem? z.lines) (sym own) ∙ hand.there) in
+        let empty : (s : Spot) → Tells hand.line.seen s → s 0 ≡ 0 = subst (λ (o : Option HeldLine). IfSome o (λ e. (s : Spot) → Tells e.seen s → s 0 ≡ 0)) is empties.1 in
+        let sure = whole.joint.sure hand.number hand.line hand.there in
+        let zero_there : line_in l z.world.words hand.line.caller hand.line.number 0 ≡ 0 = empty (line_in l z.world.words hand.line.caller hand.line.number) sure.seen in
+        inl (word c j ∙ (λ k. line_in l z.world.words (sym hand.caller k) (sym hand.index k) 0) ∙ zero_there))
+        (λ (other : hand.number ≢ i). inr (record { number = hand.number; line = hand.line; there = set_else z.lines i hand.number after other ∙ hand.there; caller = hand.caller; index = hand.index }))
+        (cases_eq hand.number i))
+  ]
+    where
+      word : (c j : ℕ) → line_in w.layout w.words c j 0 ≡ line_in l z.world.words c j 0
+      word c j = ap (λ (k : Layout). line_in k w.words c j 0) same ∙ stays c j
+
+      go : (IsInHand z c j → (line_in w.layout w.words c j 0 ≡ 0) ⊎ IsInHand (record { world = w; lines = slice_set z.lines i after; debts = debts }) c j)
+          → (line_in w.layout w.words c j 0 ≡ 0) ⊎ IsInHand (record { world = w; lines = slice_set z.lines i after; debts = debts }) c j
+      go from = ⊎_elim (λ empty. inl (word c j ∙ empty)) from (tended c j (subst (λ (k : Layout). c < k.callers) same here) low)
+
+-- where a step beside nodes leaves the world but for words
+beside_parties : (z : Whole) (i : ℕ) (p : Party) (a : Action) → IsWhole z → get_elem? z.world.parties i ≡ some p → counted p.stage ≡ None → IsBeside z.world.layout a
+    → stepped z.world i p a p.stage ≡ record (z.world) { words = acted z.world.layout z.world.words a }
+beside_parties z i p a whole there none is = (beside_keeps z.world i p a whole.joint.lawful there none is).world
+
+pub foot_keeps : FootStepKeeps
+foot_keeps z i p f t a x r whole tended there at owing stage (foot.on_nodes {stage = s} {next = next} {line = line} {after = after} {debt = d} {debt' = d'} kept k deals) told room =
+    let w = z.world in
+    let k' = subst (λ (u : Stage). Step w.layout w.generation u a x next r) (sym stage) k in
+    let deals' = subst (λ (u : Stage). Deals u next d d') (sym stage) deals in
+    let kept' : (after ≡ line) ⊎ (after ≡ None) = ⊎_elim (λ keeps. inl keeps) (λ empties. inr empties.0) kept in
+    let sure = whole.joint.lawful.sure i p there in
+    let allowed : Allowed w.layout p.stage a = allow_law w.layout w.generation p.stage a x next r (sure_within w.layout w.generation (facts w) p.caller p.index p.since p.stage sure) k' in (
+      whole_node z i p a x next r line after d d' whole there at owing kept' k' told room deals',
+      tended_same z i p whole tended there line after (stepped w i p a next) (slice_set z.debts i d') refl at kept (λ c j. (nodes_leave_lines w.layout w.words p.stage a c j 0 allowed).0),
+    )
+foot_keeps z i p f t a x r whole tended there at owing stage (foot.on_line {stage = s} {line = line} {after = after} {debt = d} none is k own) told room =
+    let w = z.world in
+    let none' : counted p.stage ≡ None = ap counted stage ∙ none in
+    let world : stepped w i p a s ≡ record w { words = acted w.layout w.words a } = ap (stepped w i p a) (sym stage) ∙ beside_parties z i p a whole there none' is in
+    let debts : slice_set z.debts i d ≡ z.debts = set_own z.debts i d owing in
+    let same : Path Whole (record { world = record w { words = acted w.layout w.words a }; lines = slice_set z.lines i after; debts = z.debts }) (stepped_whole z i p a t) =
+    λ n. record { world = sym world n; lines = slice_set z.lines i after; debts = sym debts n } in (
+      subst IsWhole same (whole_line z i p a x line after whole there at k own told),
+      subst AreTended same (on_line line at k),
+    )
+  where
+    on_line : (line : Option HeldLine) → get_elem? z.lines i ≡ some line → Notes z.world.layout line a x after
+        → AreTended (record { world = record (z.world) { words = acted z.world.layout z.world.words a }; lines = slice_set z.lines i after; debts = z.debts })
+    on_line None at k c j here low = ⊎_elim
+        (λ empty. inl (other_stays z.world.layout z.world.words None a x after tt k c j 0 tt ∙ empty))
+        (λ hand. inr (still z i p whole tended there None after (record (z.world) { words = acted z.world.layout z.world.words a }) z.debts at c j (λ e is. absurd (cc)) hand))
+        (tended c j here low)
+    on_line (Some e) at k c j here low =
+        let kept = line_kept z.world.layout e a x after k in
+        let sure = whole.joint.sure i e at in
+        ⊎_elim
+        (λ (own : (c ≡ e.caller) × (j ≡ e.number)). inr (record { number = i; line = kept.0; there = set_here z.lines i after (Some e) at ∙ ap some kept.1; caller = kept.2 ∙ sym own.0; index = kept.3 ∙ sym own.1 }))
+        (λ (other : (c ≢ e.caller) ⊎ (j ≢ e.number)). ⊎_elim
+        (λ empty. inl (other_stays z.world.layout z.world.words (Some e) a x after sure.here k c j 0 other ∙ empty))
+        (λ hand. inr (still z i p whole tended there (Some e) after (record (z.world) { words = acted z.world.layout z.world.words a }) z.debts at c j
+        (λ d is caller number. (kept.0, kept.1, kept.2 ∙ ap (λ (o : Option HeldLine). caller_at o) is ∙ caller, kept.3 ∙ ap (λ (o : Option HeldLine). number_at o) is ∙ number)) hand))
+        (tended c j here low))
+        (cases_both c j e)
+foot_keeps z i p f t a x r whole tended there at owing stage (foot.on_prev {stage = s} {line = line} {debt = d} {debt' = d'} none is k) told room =
+    let w = z.world in
+    let none' : counted p.stage ≡ None = ap counted stage ∙ none in
+    let k' : Prevs w.layout p.stage d a d' = subst (λ (u : Stage). Prevs w.layout u d a d') (sym stage) k in
+    let world : stepped w i p a s ≡ record w { words = acted w.layout w.words a } = ap (stepped w i p a) (sym stage) ∙ beside_parties z i p a whole there none' is in
+    let lines : slice_set z.lines i line ≡ z.lines = set_own z.lines i line at in
+    let same : Path Whole (record { world = record w { words = acted w.layout w.words a }; lines = z.lines; debts = slice_set z.debts i d' }) (stepped_whole z i p a t) =
+    λ n. record { world = sym world n; lines = sym lines n; debts = slice_set z.debts i d' } in
+    let stays = prev_leaves (record { world = w; debts = z.debts }) i p p.stage a d d' whole.traced there owing (whole.traced.lawful.sure i p there) k' in (
+      subst IsWhole same (whole_prev z i p a d d' whole there owing k'),
+      tended_same z i p whole tended there line line (stepped w i p a s) (slice_set z.debts i d') refl at (inl refl) (λ c j. (stays c j 0).0),
+    )
