@@ -1,4 +1,5 @@
 pub mod WalkLaw
+pub mod Comings
 pub mod StillWalk
 pub mod HopLaw
 pub mod KeyLemmas

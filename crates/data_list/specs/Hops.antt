@@ -1,21 +1,17 @@
 -- Where a walk goes: it stays at its node, or makes one hop to another.
-use Rattle.std.specs.Prelude.{◌≡◌, ℕ, ◌+◌, ◌*◌, ◌⊎◌, nat_lt, if◌then◌else◌}
-use Rattle.pm_words.specs.declared.layout.Layout.{Layout}
+use Rattle.std.specs.Prelude.{◌≡◌, ◌≢◌, ℕ, ◌+◌, ◌*◌, ◌⊎◌}
 use Rattle.pm_words.specs.declared.again.Again.{Again}
 use Rattle.pm_words.specs.declared.again.Again.TheVariants as again
 use Rattle.pm_words.specs.declared.machine.Turn.{Turn}
 use Rattle.pm_words.specs.declared.machine.Turn.TheVariants.{Go, Done}
 use Rattle.version_lock.specs.Versions.{IsFree}
+use Rattle.call_stages.specs.Kinds.{Told}
 use Rattle.data_list.specs.declared.target.Walked.{Walked}
 use Rattle.data_list.specs.declared.target.Walked.TheVariants as walked
 use Rattle.data_list.specs.declared.walk.Walk.{Walk}
 use Rattle.data_list.specs.declared.walk.WalkAt.{WalkAt}
 use Rattle.data_list.specs.declared.walk.WalkAt.TheVariants as at
-use Rattle.data_list.specs.Walks.{IsWalk, walk_turned}
-
--- The node of this number, or node 0 where there is none.
-abbrev pub node_of : Layout → ℕ → ℕ
-node_of l number = if nat_lt number l.nodes then number else 0
+use Rattle.data_list.specs.Walks.{landing, IsWalk, walk_at_asks, walk_turned}
 
 -- The number of the node to which it hops as it is told x: the one that it loads as the node before, the next node, or
 -- node 0.
@@ -29,11 +25,14 @@ pub record Stays (before after : Walk) : Type 0 where
   pub node : after.node ≡ before.node
   pub hops : after.hops ≡ before.hops
 
--- As it was to make this load, and was told x, it made a hop, and begins anew at the node to which it came.
+-- As it was to make this load, and was told x, it made a hop, and begins anew at the node to which it came. That is
+-- another one, if the load may give x.
 pub record Hopped (before : Walk) (load : WalkAt) (x : ℕ) (after : Walk) : Type 0 where
-  pub node : after.node ≡ node_of before.layout (hop_from load x)
+  pub node : after.node ≡ landing before (hop_from load x)
   pub hops : after.hops ≡ before.hops + 1
   pub anew : after.at ≡ at.Version
+  pub changed : Told before.layout before.generation (walk_at_asks before.layout before.node load) x →
+      after.node ≢ before.node
 
 -- Why a walk gives up: the version word of its node, which it was told, is not free; or its last hop made them 2 *
 -- nodes.
@@ -47,7 +46,8 @@ HopsAt walk at x (Go next) = Stays walk next ⊎ Hopped walk at x next
 HopsAt walk at x (Done (walked.Target target)) = (target.node ≡ walk.node) × (target.hops ≡ walk.hops)
 HopsAt walk at x (Done (walked.Again why)) = CanGiveUp walk x why
 
--- Each turn of a walk, whatever it is told, keeps node and hops, or makes one hop; it tells as many hops as it made,
--- and gives up for want of a free version word or exactly at 2 * nodes hops.
+-- Each turn of a walk, whatever it is told, keeps node and hops, or makes one hop, which changes the node whatever
+-- number it is told of those that its load may give; it tells as many hops as it made, and gives up for want of a free
+-- version word or exactly at 2 * nodes hops.
 abbrev pub WalksHop : Type 0
 WalksHop = (walk : Walk) (x : ℕ) → IsWalk walk → HopsAt walk walk.at x (walk_turned walk x)

@@ -4,7 +4,7 @@ use Rattle.pm_words.specs.declared.layout.Layout.{Layout}
 use Rattle.pm_words.specs.declared.action.Action.{Action}
 use Rattle.pm_words.specs.declared.machine.Turn.{Turn}
 use Rattle.pm_words.specs.declared.machine.Turn.TheVariants.{Go, Done}
-use Rattle.version_lock.specs.Versions.{kept_count, locked_word}
+use Rattle.version_lock.specs.Versions.{kept_count, locked_word, is_worn_word}
 use Rattle.data_node.specs.Spots.{Spot}
 use Rattle.data_node.specs.Lists.{IsBetween}
 use Rattle.call_stages.specs.declared.once.Once.TheVariants as once
@@ -19,7 +19,7 @@ use Rattle.data_list.specs.declared.target.Walked.TheVariants as walked
 use Rattle.data_list.specs.declared.walk.Walk.{Walk}
 use Rattle.data_list.specs.Keys.{key_number, key_words, words_in, IsNameOf}
 use Rattle.data_list.specs.Walks.{LeadsOn, sighting_of, WasFree, IsWalk, walk_asks, walk_turned}
-use Rattle.data_list.specs.WalkStages.{is_worn_word, walk_stage, sight_in}
+use Rattle.data_list.specs.WalkStages.{walk_stage, sight_in}
 
 -- What a walk saw of its target. While the version word stands, the key belongs there.
 pub record IsSighting (g : ℕ) (key : KeyWords) (seen : Sighting) : Type 0 where

@@ -1,7 +1,6 @@
 -- What a walk relies on.
-use Rattle.std.specs.Prelude.{ℕ, ◌==◌, ◌&&◌, Bool, true, if◌then◌else◌, List, [], ◌∷◌, Option, Some, None}
-use Rattle.version_lock.specs.declared.TheConstants.{LAST_COUNT}
-use Rattle.version_lock.specs.Versions.{generation_of, count_of, kept_count, locked_word}
+use Rattle.std.specs.Prelude.{ℕ, true, if◌then◌else◌, List, [], ◌∷◌, Option, Some, None}
+use Rattle.version_lock.specs.Versions.{kept_count, locked_word, is_worn_word}
 use Rattle.data_node.specs.Lists.{next_offset}
 use Rattle.call_stages.specs.Stages.{Sight, no_sight, Stage, Idle, Saw, Wears}
 use Rattle.data_list.specs.declared.key.KeyWords.{KeyWords}
@@ -11,9 +10,6 @@ use Rattle.data_list.specs.declared.walk.Walk.{Walk}
 use Rattle.data_list.specs.declared.walk.WalkAt.{WalkAt}
 use Rattle.data_list.specs.declared.walk.WalkAt.TheVariants as at
 use Rattle.data_list.specs.Keys.{key_words}
-
-abbrev pub is_worn_word : ℕ → ℕ → Bool
-is_worn_word word generation = generation_of word == generation && count_of word == LAST_COUNT
 
 -- what was seen of a node whose version word was free
 abbrev pub saw_stage : ℕ → ℕ → ℕ → Sight → Stage

@@ -1,5 +1,5 @@
 -- The walk to the node of a key, step by step.
-use Rattle.std.specs.Prelude.{◌≢◌, ℕ, ◌+◌, ◌-◌, ◌*◌, ◌%◌, ◌<◌, ◌≤◌, ◌==◌, ◌||◌, Bool, nat_lt, if◌then◌else◌, List}
+use Rattle.std.specs.Prelude.{◌≡◌, ◌≢◌, ℕ, ◌+◌, ◌-◌, ◌*◌, ◌<◌, ◌≤◌, ◌==◌, nat_lt, if◌then◌else◌, List}
 use Rattle.std.specs.Prelude.{Option, Some, None}
 use Rattle.pm_words.specs.declared.layout.Layout.{Layout}
 use Rattle.pm_words.specs.declared.action.Action.{Action}
@@ -8,9 +8,10 @@ use Rattle.pm_words.specs.declared.again.Again.TheVariants.{Locked, Hops}
 use Rattle.pm_words.specs.declared.machine.Turn.{Turn}
 use Rattle.pm_words.specs.declared.machine.Turn.TheVariants.{Go, Done}
 use Rattle.pm_words.specs.Layouts.{IsLayout}
-use Rattle.version_lock.specs.Versions.{generation_of, IsFree}
+use Rattle.version_lock.specs.Versions.{generation_of, IsFree, is_free_word}
 use Rattle.data_node.specs.Lists.{next_offset}
-use Rattle.call_stages.specs.Kinds.{word_address, version_address, status_address, prev_address, live_status, Told}
+use Rattle.call_stages.specs.Kinds.{word_address, version_address, status_address, prev_address, live_status}
+use Rattle.call_stages.specs.Kinds.{gone_status, Told}
 use Rattle.data_list.specs.declared.key.KeyWords.{KeyWords}
 use Rattle.data_list.specs.declared.target.Next.{Next}
 use Rattle.data_list.specs.declared.target.Sighting.{Sighting}
@@ -21,10 +22,6 @@ use Rattle.data_list.specs.declared.walk.Walk.{Walk}
 use Rattle.data_list.specs.declared.walk.WalkAt.{WalkAt}
 use Rattle.data_list.specs.declared.walk.WalkAt.TheVariants as at
 use Rattle.data_list.specs.Keys.{key_number, key_words, words_in, name_kept}
-
--- the status of a node that was merged into another
-abbrev pub gone_status : ℕ
-gone_status = 2
 
 abbrev pub walk_from : Layout → ℕ → ℕ → KeyWords → Walk
 walk_from layout generation hint key = record {
@@ -55,20 +52,21 @@ walk_asks walk = walk_at_asks walk.layout walk.node walk.at
 abbrev pub loads_at : Walk → WalkAt → Turn Walk Walked
 loads_at walk at = Go (record walk { at = at })
 
--- it goes on at this node, or at node 0 where there is none of this number
+-- the node of this number; node 0 where there is none, or where the walk is at that node already
+abbrev pub landing : Walk → ℕ → ℕ
+landing walk number =
+    if number == walk.node then 0 else (if nat_lt number walk.layout.nodes then number else 0)
+
+-- it goes on there
 abbrev pub hops_to : Walk → ℕ → Turn Walk Walked
 hops_to walk node =
     if nat_lt (walk.hops + 1) (2 * walk.layout.nodes)
     then Go (record walk {
-      node = if nat_lt node walk.layout.nodes then node else 0;
+      node = landing walk node;
       hops = walk.hops + 1;
       at = at.Version;
     })
     else Done (walked.Again (Hops (walk.hops + 1)))
-
--- nobody has the node locked in this generation
-abbrev pub is_free_word : ℕ → ℕ → Bool
-is_free_word word generation = nat_lt (generation_of word) generation || word % 2 == 0
 
 abbrev pub saw_version : Walk → ℕ → Turn Walk Walked
 saw_version walk word =
@@ -162,12 +160,20 @@ IsWalkAt l g key (at.HighSecond version low next first) = WasFree g version × I
 IsWalkAt l g key (at.HighThird version low next first second) = WasFree g version × IsAbove key low × LeadsOn l next
 IsWalkAt l g key at.Prev = Unit {0}
 
+-- node 0 was LIVE and has the anchor zero, so it doesn't go back from there
+abbrev pub KnowsFirst : ℕ → WalkAt → Type 0
+KnowsFirst n (at.Second version first) = n ≡ 0 → first ≡ 0
+KnowsFirst n (at.Third version first second) = n ≡ 0 → (first ≡ 0) × (second ≡ 0)
+KnowsFirst n at.Prev = n ≢ 0
+KnowsFirst n _ = Unit {0}
+
 -- what its fields keep
 pub record IsWalk (walk : Walk) : Type 0 where
   pub layout : IsLayout walk.layout
   pub node : walk.node < walk.layout.nodes
   pub hops : walk.hops < 2 * walk.layout.nodes
   pub here : IsWalkAt walk.layout walk.generation walk.key walk.at
+  pub first : KnowsFirst walk.node walk.at
 
 abbrev pub walk_takes : Walk → ℕ → Type 0
 walk_takes walk got = IsWalk walk × Told walk.layout walk.generation (walk_asks walk) got

@@ -3,6 +3,7 @@
 ghost use Rattle.std.specs.Prelude.{◌≡◌};
 
 use cat_key::{Name, WORDS};
+use data_node::is_below;
 
 /// The words of a key or of an anchor, the first the highest.
 #[derive(Clone, Copy)]
@@ -44,12 +45,6 @@ impl KeyWords {
     pub(crate) fn is_below(self, other: KeyWords) -> bool
         ensures { result ≡ nat_lt (key_number self) (key_number other) }
     {
-        if self.first != other.first {
-            return self.first < other.first;
-        }
-        if self.second != other.second {
-            return self.second < other.second;
-        }
-        self.third < other.third
+        is_below(&self.words(), &other.words())
     }
 }

@@ -7,18 +7,25 @@ pub fn walks_are_looks()
     ensures { WalksAreLooks }
 {}
 
-ghost use Rattle.data_list.specs.Still.{BeginsOnWay, WalksComeThere};
+ghost use Rattle.data_list.specs.Still.{FirstComes, EachComes, ComesOnce, ComesSoon, BeginsOnWay, WalksComeThere};
+ghost use Rattle.data_list.specs.Still.{WalksAnswer};
 
-/// A walk that nobody disturbs comes to the target of its key.
+/// A walk that nobody disturbs ends, from each node, at the target of its key, and tells how many hops it made. That is
+/// one number, which is below that of the nodes; from node 0 it is the position of the target in the list.
 pub fn walks_come_there()
+    ensures first { FirstComes }
+    ensures each { EachComes }
+    ensures once { ComesOnce }
+    ensures soon { ComesSoon }
     ensures begins { BeginsOnWay }
     ensures goes { WalksComeThere }
+    ensures answers { WalksAnswer }
 {}
 
 ghost use Rattle.data_list.specs.Hops.{WalksHop};
 
-/// Each turn of a walk keeps node and hops, or makes one hop; it gives up only at a version word that isn't free, and
-/// exactly where it has made twice as many hops as there are nodes.
+/// Each turn of a walk keeps node and hops, or changes the node and adds one hop; it gives up only at a version word
+/// that isn't free, and exactly where it has made twice as many hops as there are nodes.
 pub fn walks_hop()
     ensures { WalksHop }
 {}

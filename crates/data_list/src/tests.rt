@@ -89,10 +89,25 @@ fn store_node(rt: &impl Abort, row: &mut Row, of: Node)
     row.store(rt, layout.node_volatile(of.node, volatile::PREV), of.prev);
 }
 
-/// In the last generation a walk may be told any word.
-fn may_tell(layout: &Layout, action: Action, got: u64)
+/// In the last generation a walk may be told any word, but for some of node 0.
+fn may_tell(rt: &impl Abort, layout: &Layout, action: Action, got: u64)
+    requires { IsLayout layout.now }
     ensures { Told layout.now (2 ^ 24 - 1) action got }
-{}
+{
+    let Action::Load(address) = action else {
+        return;
+    };
+    let anchor = layout.cached(layout.node_word(0, node::ANCHOR));
+    if address == layout.node_volatile(0, volatile::STATUS) {
+        assert_eq!(rt; got, LIVE);
+    }
+    if address >= anchor && address < anchor + WORDS as u64 {
+        assert_eq!(rt; got, 0);
+    }
+    if address == layout.cached(layout.node_word(0, node::NEXT)) {
+        assert!(rt; got < layout.nodes(), "{got}");
+    }
+}
 
 /// Walks to the node of a key, and counts the loads.
 fn run(rt: &impl Abort, row: &mut Row, hint: u64, key: [u64; WORDS]) -> Walked
@@ -107,7 +122,7 @@ fn run(rt: &impl Abort, row: &mut Row, hint: u64, key: [u64; WORDS]) -> Walked
             Turn::Go(walk) => {
                 let action = walk.action();
                 let got = row.load(rt, action);
-                may_tell(&row.layout, action, got);
+                may_tell(rt, &row.layout, action, got);
                 turn = walk.resume(got);
             }
         }
@@ -143,15 +158,37 @@ fn three_nodes(rt: &impl Abort, words: Vec<u64>) -> Row {
     row
 }
 
+/// A walk from a hint to a key's letter, or to the zero key by 0, comes to this node; the letters of its bounds, the
+/// hops and the loads.
+type Way = (u64, u8, u64, u8, u8, u64, u64);
+
+fn comes(rt: &impl Abort, row: &mut Row, way: Way)
+    ensures { row.new.layout ≡ row.old.layout }
+{
+    let (hint, letter, node, low, high, hops, loads) = way;
+    let walked = run(rt, row, hint, key(letter));
+    let Walked::Target(target) = walked else {
+        panic!(rt; "{hint} {letter}");
+    };
+    assert_eq!(rt; target.node, node, "{hint} {letter}");
+    assert_eq!(rt; target.version, 0, "{hint} {letter}");
+    assert_eq!(rt; target.low, key(low), "{hint} {letter}");
+    assert_eq!(rt; target.hops, hops, "{hint} {letter}");
+    let end = match target.high {
+        None => 0,
+        Some(end) => end.byte(0),
+    };
+    assert_eq!(rt; end, high, "{hint} {letter}");
+    assert_eq!(rt; row.loads, loads, "{hint} {letter}");
+}
+
 /// A walk loads version and status of a node, the three words of its anchor, its next, and where there is one the three
 /// words of that node's anchor: 9 loads, and 6 at the last node. It leaves a GONE node after 3, a FREE one after 2, and
 /// one whose anchor is past the key after 6.
 #[test]
 fn walks_on_three_nodes(rt: HostRuntime) -> Result<(), Fail> {
     let mut row = three_nodes(&rt, vec![in rt.alloc(); 0u64; ROW]?);
-    // The hint, the key's letter, or 0 for the zero key; the target, the letters of its bounds, its hops, and the
-    // loads.
-    let walks = [
+    let ways = [
         (0, 0, 0, 0, b'g', 0, 9),
         (0, b'a', 0, 0, b'g', 0, 9),
         (0, b'g', 2, b'g', b'p', 1, 9 + 9),
@@ -165,21 +202,34 @@ fn walks_on_three_nodes(rt: HostRuntime) -> Result<(), Fail> {
         (4, b'a', 0, 0, b'g', 1, 2 + 9),
         (4, b'z', 1, b'p', 0, 3, 2 + 9 + 9 + 6),
     ];
-    for (hint, letter, node, low, high, hops, loads) in walks {
-        let walked = run(&rt, &mut row, hint, key(letter));
-        let Walked::Target(target) = walked else {
-            panic!(rt; "{hint} {letter}");
-        };
-        assert_eq!(rt; target.node, node, "{hint} {letter}");
-        assert_eq!(rt; target.version, 0, "{hint} {letter}");
-        assert_eq!(rt; target.low, key(low), "{hint} {letter}");
-        assert_eq!(rt; target.hops, hops, "{hint} {letter}");
-        let end = match target.high {
-            None => 0,
-            Some(end) => end.byte(0),
-        };
-        assert_eq!(rt; end, high, "{hint} {letter}");
-        assert_eq!(rt; row.loads, loads, "{hint} {letter}");
+    for way in ways {
+        comes(&rt, &mut row, way);
+    }
+    Ok(())
+}
+
+/// Node 3 was merged into node 1, and before that node 4 into node 3. From there a walk meets all nodes at most.
+#[test]
+fn walks_through_merged_nodes(rt: HostRuntime) -> Result<(), Fail> {
+    let mut row = three_nodes(&rt, vec![in rt.alloc(); 0u64; ROW]?);
+    let gone = |node: u64, prev: u64| Node {
+        node,
+        version: 0,
+        status: GONE,
+        prev,
+        anchor: key(b'z'),
+        next: 0,
+    };
+    store_node(&rt, &mut row, gone(3, 1));
+    store_node(&rt, &mut row, gone(4, 3));
+    let ways = [
+        (3, b'z', 1, b'p', 0, 1, 3 + 6),
+        (4, b'z', 1, b'p', 0, 2, 3 + 3 + 6),
+        (4, b'h', 2, b'g', b'p', 3, 3 + 3 + 6 + 9),
+        (4, b'a', 0, 0, b'g', 4, 3 + 3 + 6 + 6 + 9),
+    ];
+    for way in ways {
+        comes(&rt, &mut row, way);
     }
     Ok(())
 }
@@ -262,7 +312,7 @@ fn locked_worn_and_nameless_nodes_on_the_way(rt: HostRuntime) -> Result<(), Fail
         Walked::Target(first),
         9,
     );
-    // It leads to itself: each hop after the first comes there again, until there are twice as many as nodes.
+    // It leads to itself, so a walk hops from it to node 0 and back, until it made twice as many hops as there are nodes.
     let circle = Node { next: 2, ..node };
     let answer = Walked::Again(Again::Hops { count: 10 });
     with_node_2(
@@ -272,6 +322,20 @@ fn locked_worn_and_nameless_nodes_on_the_way(rt: HostRuntime) -> Result<(), Fail
         b'z',
         answer,
         10 * 9,
+    );
+    // It is GONE, with itself as the node before.
+    let gone = Node {
+        status: GONE,
+        prev: 2,
+        ..node
+    };
+    with_node_2(
+        &rt,
+        vec![in rt.alloc(); 0u64; ROW]?,
+        gone,
+        b'z',
+        answer,
+        5 * (9 + 3),
     );
     Ok(())
 }

@@ -11,7 +11,8 @@
 //! | `Prev` | the node before, or the one into which a GONE node was merged | a hop there |
 //!
 //! A hop begins anew at `Version` of the other node, and nothing that was loaded before it is relied on. A number that
-//! is none of a node leads to node 0.
+//! is none of a node, or the walk's own, leads to node 0. That one is LIVE and has the anchor zero, so a walk doesn't
+//! hop from it to itself.
 
 ghost use Rattle.std.specs.Prelude.{◌≡◌, ℕ, ◌+◌, ◌*◌, ◌^◌, ◌<◌, ◌≤◌};
 
@@ -187,8 +188,8 @@ impl Walk {
     ghost use Rattle.pm_words.specs.Locations.{node_words};
     ghost use Rattle.call_stages.specs.Kinds.{word_address};
     ghost use Rattle.data_list.specs.Keys.{key_words};
-    ghost use Rattle.data_list.specs.Walks.{IsWalk, walk_from, target, loads_at, hops_to, saw_version, saw_status};
-    ghost use Rattle.data_list.specs.Walks.{saw_anchor, saw_next, saw_high};
+    ghost use Rattle.data_list.specs.Walks.{IsWalk, walk_from, target, loads_at, landing, hops_to, saw_version};
+    ghost use Rattle.data_list.specs.Walks.{saw_status, saw_anchor, saw_next, saw_high};
 
     /// A walk to the node of a key, in this generation, that begins at the node `hint`.
     pub fn new(layout: Layout, generation: u64, hint: u64, key: [u64; WORDS]) -> Walk
@@ -207,7 +208,7 @@ impl Walk {
         }
     }
 
-    /// The node that it is at.
+    /// The node that it is at. Each `resume` keeps node and hops, or changes the node and adds one hop.
     pub fn node(&self) -> u64
         ensures { result ≡ self.now.node }
     {
@@ -237,17 +238,29 @@ impl Walk {
         Turn::Go(Walk { at, ..self })
     }
 
-    /// It goes on at this node, or at node 0 where there is none of this number.
+    /// The node of this number; node 0 where there is none, or where it is at that node already.
+    fn landing(self, number: u64) -> u64
+        ensures { result ≡ landing self number }
+    {
+        if number == self.node {
+            0
+        } else if number < self.layout.nodes() {
+            number
+        } else {
+            0
+        }
+    }
+
+    /// It goes on at the node of this number.
     fn hops_to(self, node: u64) -> Turn<Walk, Walked>
         requires layout { IsLayout self.layout }
         requires hops { self.hops < 2 * self.layout.nodes }
         ensures { result ≡ hops_to self node }
     {
-        let nodes = self.layout.nodes();
         let hops = self.hops + 1;
-        if hops < 2 * nodes {
+        if hops < 2 * self.layout.nodes() {
             Turn::Go(Walk {
-                node: if node < nodes { node } else { 0 },
+                node: self.landing(node),
                 hops,
                 at: WalkAt::Version,
                 ..self
