@@ -1,2 +1,12 @@
 pub mod MoveLaw
 pub mod Staying
+pub mod OfSplits
+pub mod Measures
+pub mod Sorting
+pub mod Halving
+pub mod PlanWords
+pub mod CutLaw
+pub mod SplitStaying
+pub mod SplitLaw
+pub mod Made
+pub mod Heeding

@@ -13,13 +13,14 @@ use Rattle.data_node.proofs.SpotLemmas.{updated-same, updated-other}
 use Rattle.call_stages.specs.Stages.{Tells, Grip, Phase, Filling, Linked, Parted, Stage, Idle, Splits, Leaves, Joins, Gathered, Joined, Gone}
 use Rattle.call_stages.specs.Kinds.{HasWordAt, Soils, Cleans, word_address, Step, splits, publishes, leaves, fills as fills_word, lights, switches, glances_left, glances_fresh, drains_left, drains_fresh, trims}
 use Rattle.call_stages.specs.Lines.{HeldLine, Notes}
-use Rattle.index_law.specs.Lawful.{HoldsNode}
-use Rattle.index_law.specs.Shapes.{IsSwitch, IsJoin}
-use Rattle.index_law.specs.Prevs.{Debt, no_debt, IsRetire, Deals, keeps, ends, switches as deals_switch, names, pays}
+use Rattle.call_stages.specs.Stages.{HoldsNode, counted}
+use Rattle.call_stages.specs.AnySteps.{stores_prev}
+use Rattle.call_stages.specs.Prevs.{IsSwitch, IsJoin}
+use Rattle.call_stages.specs.Prevs.{Debt, no_debt, IsRetire, Deals, keeps, ends, switches as deals_switch, names, pays}
 use Rattle.index_law.proofs.Stays.{means_beside}
-use Rattle.smo_log.specs.declared.fence.Fence.{Fence}
-use Rattle.smo_log.specs.declared.fence.FenceAt.{FenceAt}
-use Rattle.smo_log.specs.declared.fence.FenceAt.TheVariants as fence_at
+use Rattle.pm_words.specs.declared.fence.Fence.{Fence}
+use Rattle.pm_words.specs.declared.fence.FenceAt.{FenceAt}
+use Rattle.pm_words.specs.declared.fence.FenceAt.TheVariants as fence_at
 use Rattle.smo_log.specs.declared.open.Open.{Open}
 use Rattle.smo_log.specs.declared.open.OpenAt.TheVariants as open_at
 use Rattle.smo_log.specs.declared.open.OpenAt.{OpenAt}
@@ -27,17 +28,18 @@ use Rattle.smo_log.specs.declared.state.ReadyAt.{ReadyAt}
 use Rattle.smo_log.specs.declared.state.ReadyAt.TheVariants as ready_at
 use Rattle.smo_log.specs.declared.line.Entry.{Entry}
 use Rattle.smo_log.specs.declared.state.Ready.{Ready}
-use Rattle.smo_log.specs.Fences.{IsFence, IsFenceAt, fence_start, fence_asks, fence_at_asks, fence_next, fence_at_next}
-use Rattle.smo_log.specs.LogLines.{caller_of, open_line, ready_line}
+use Rattle.pm_words.specs.Fences.{IsFence, IsFenceAt, fence_start, fence_asks, fence_at_asks, fence_next, fence_at_next}
+use Rattle.smo_log.specs.LogLines.{caller_of, index_of, open_line, ready_line}
 use Rattle.smo_log.specs.Opens.{IsOpen, open_asks, open_turned, open_at_held, open_held, OpenNotes}
 use Rattle.smo_log.specs.States.{IsReady, ready_asks, ready_turned, ready_at_held, ready_held, ReadyNotes}
-use Rattle.smo_log.proofs.LineLaw.{opens_are_notes, readies_are_notes, clears_are_notes}
-use Rattle.split_merge.specs.declared.moving.Plan.{Plan}
+use Rattle.smo_log.proofs.LineLaw.{opens_are_notes, readies_are_notes, clears_are_notes, caller_within, index_within, notes_beside}
+use Rattle.split_merge.specs.declared.planning.Plan.{Plan}
 use Rattle.split_merge.specs.declared.moving.Move.{Move}
 use Rattle.split_merge.specs.declared.moving.MoveAt.{MoveAt}
 use Rattle.split_merge.specs.declared.moving.MoveAt.TheVariants as at
-use Rattle.split_merge.specs.Moves.{plan_word, next_in, entry_in, moved_in, slot_count, print_count, filled_end, fills, after_slot, after_print, after_anchor, after_fence, after_switch, after_trim, move_at_asks, move_at_turned, moves_on, opened, readied, IsMoveAt, IsMove}
-use Rattle.split_merge.specs.SplitSteps.{Footing, SplitStep, on_nodes, on_line, on_prev}
+use Rattle.split_merge.specs.Plans.{plan_word, next_in, entry_in, moved_in}
+use Rattle.split_merge.specs.Moves.{slot_count, print_count, filled_end, fills, after_slot, after_print, after_anchor, after_fence, after_switch, after_trim, move_at_asks, move_at_turned, moves_on, opened, readied, IsMoveAt, IsMove}
+use Rattle.call_stages.specs.Footings.{Footing, FootStep, on_nodes, on_line, on_prev}
 use Rattle.split_merge.specs.MoveStages.{Known, words_onto, slots_seen, prints_seen, anchor_seen, fresh_seen, fresh_of, left_of, full_left, slot_dirty, filling, move_at_stage, move_at_line, move_at_debt, knows_prev, owes_prev, cut_key}
 use Rattle.split_merge.specs.Laws.{Cuts, Moves, MovesAreSteps}
 
@@ -49,13 +51,9 @@ tells_apart : (offset y : ℕ) (seen : List (ℕ × ℕ)) (t : Spot) → Apart o
 tells_apart offset y [] t apart told = tt
 tells_apart offset y (w ∷ seen) t apart told = (updated-other t offset y w.0 apart.0 ∙ told.0, tells_apart offset y seen t apart.1 told.1)
 
-apart_onto : (plan : Plan) (offset first n : ℕ) (others : List (ℕ × ℕ)) → ((k : ℕ) → k < n → first + k ≢ offset) → Apart offset others → Apart offset (words_onto plan first n others)
-apart_onto plan offset first zero others far apart = apart
-apart_onto plan offset first (suc n) others far apart = (far n (omega arith), apart_onto plan offset first n others (λ k small. far k (omega arith)) apart)
-
-told_onto : (plan : Plan) (first n : ℕ) (others : List (ℕ × ℕ)) (t : Spot) → Tells (words_onto plan first n others) t → Tells others t
-told_onto plan first zero others t told = told
-told_onto plan first (suc n) others t told = told_onto plan first n others t told.1
+apart_onto : (word : ℕ → ℕ) (offset first n : ℕ) (others : List (ℕ × ℕ)) → ((k : ℕ) → k < n → first + k ≢ offset) → Apart offset others → Apart offset (words_onto word first n others)
+apart_onto word offset first zero others far apart = apart
+apart_onto word offset first (suc n) others far apart = (far n (omega arith), apart_onto word offset first n others (λ k small. far k (omega arith)) apart)
 
 phase_of : Stage → Phase
 phase_of (Splits left fresh phase) = phase
@@ -103,6 +101,17 @@ open_caller line entry (open_at.FenceFields fence) = refl
 open_caller line entry open_at.State = refl
 open_caller line entry (open_at.FenceState fence) = refl
 
+open_number : (line : ℕ) (entry : Entry) (at : OpenAt) → (open_at_held line entry at).number ≡ index_of line
+open_number line entry (open_at.Field zero) = refl
+open_number line entry (open_at.Field (suc n)) = refl
+open_number line entry (open_at.FenceFields fence) = refl
+open_number line entry open_at.State = refl
+open_number line entry (open_at.FenceState fence) = refl
+
+ready_number : (line : ℕ) (entry : Entry) (at : ReadyAt) → (ready_at_held line entry at).number ≡ index_of line
+ready_number line entry ready_at.State = refl
+ready_number line entry (ready_at.Fence fence) = refl
+
 ready_caller : (line : ℕ) (entry : Entry) (at : ReadyAt) → (ready_at_held line entry at).caller ≡ caller_of line
 ready_caller line entry ready_at.State = refl
 ready_caller line entry (ready_at.Fence fence) = refl
@@ -123,8 +132,18 @@ module _ (move : Move) (sound : IsMove move) (g : ℕ) (known : Known) (cuts : C
   abbrev footing : MoveAt → Footing
   footing at = record { stage = move_at_stage plan known at; line = move_at_line plan at; debt = move_at_debt plan at }
 
-  on : (before : Footing) (action : Action) (x : ℕ) (at : MoveAt) → SplitStep l g c before action x (footing at) None → IsMoveAt plan at → Leads_to before action x (moves_on move at)
+  on : (before : Footing) (action : Action) (x : ℕ) (at : MoveAt) → FootStep l g c before action x (footing at) None → IsMoveAt plan at → Leads_to before action x (moves_on move at)
   on before action x at step here = (step, record { plan = sound.plan; here = here }, refl)
+
+  -- a step on its line
+  line_step : {stage : Stage} {e : HeldLine} {after : Option HeldLine} {debt : Debt} {a : Action} {x : ℕ} → counted stage ≡ None → Notes l (Some e) a x after
+      → (e.caller ≡ c) × (e.number ≡ index_of plan.line) → IfSome after (λ d. d.caller ≡ c)
+      → FootStep l g c (record { stage = stage; line = Some e; debt = debt }) a x (record { stage = stage; line = after; debt = debt }) None
+  line_step {e = e} {after = after} {a = a} {x = x} none note own after_own =
+      let low = caller_within plan.line l.callers sound.plan.line in
+      let index = index_within plan.line in
+      let here : (e.caller < l.callers) × (e.number < 8) = (let is = own.0 in omega arith, let is = own.1 in omega arith) in
+      on_line none (notes_beside l (Some e) after a x here note) note after_own
 
   sizes : (2 ≤ moved_in plan) × (moved_in plan ≤ 32) × (filled_end plan ≤ 16 + 4 * l.slots) × (print_count plan ≤ 8)
   sizes = let low : 4 ≤ l.slots = sound.plan.layout.slots.0 in let high : l.slots ≤ 64 = sound.plan.layout.slots.1 in
@@ -149,7 +168,7 @@ module _ (move : Move) (sound : IsMove move) (g : ℕ) (known : Known) (cuts : C
   slot_soils (suc n) within = soils_more (16 + suc n) within
 
   slot_told : (n : ℕ) (t : Spot) → Tells (slots_seen plan n) t → Tells (slots_seen plan (suc n)) (updated t (16 + n) (plan_word plan (16 + n)))
-  slot_told n t told = (updated-same t (16 + n) (plan_word plan (16 + n)), tells_apart (16 + n) (plan_word plan (16 + n)) (slots_seen plan n) t (apart_onto plan (16 + n) 16 n [] (λ k small. λ z. omega arith) tt) told)
+  slot_told n t told = (updated-same t (16 + n) (plan_word plan (16 + n)), tells_apart (16 + n) (plan_word plan (16 + n)) (slots_seen plan n) t (apart_onto (plan_word plan) (16 + n) 16 n [] (λ k small. λ z. omega arith) tt) told)
 
   at_slot : (n x : ℕ) → n < slot_count plan → Leads_to (footing (at.Slot n)) (fills plan (16 + n)) x (moves_on move (after_slot plan n))
   at_slot n x small =
@@ -175,7 +194,7 @@ module _ (move : Move) (sound : IsMove move) (g : ℕ) (known : Known) (cuts : C
   print_told n t small told = (
     updated-same t (8 + n) (plan_word plan (8 + n)),
     tells_apart (8 + n) (plan_word plan (8 + n)) (prints_seen plan n) t
-        (apart_onto plan (8 + n) 8 n (slots_seen plan (slot_count plan)) (λ k low. λ z. omega arith) (apart_onto plan (8 + n) 16 (slot_count plan) [] (λ k low. λ z. omega arith) tt)) told,
+        (apart_onto (plan_word plan) (8 + n) 8 n (slots_seen plan (slot_count plan)) (λ k low. λ z. omega arith) (apart_onto (plan_word plan) (8 + n) 16 (slot_count plan) [] (λ k low. λ z. omega arith) tt)) told,
   )
 
   at_print : (n x : ℕ) → n < print_count plan → Leads_to (footing (at.Print n)) (fills plan (8 + n)) x (moves_on move (after_print plan n))
@@ -200,7 +219,7 @@ module _ (move : Move) (sound : IsMove move) (g : ℕ) (known : Known) (cuts : C
 
   -- none of the slots and of the fingerprints is below 8
   apart_prints : (offset : ℕ) → offset < 8 → Apart offset (prints_seen plan (print_count plan))
-  apart_prints offset small = apart_onto plan offset 8 (print_count plan) (slots_seen plan (slot_count plan)) (λ k low. λ z. omega arith) (apart_onto plan offset 16 (slot_count plan) [] (λ k low. λ z. omega arith) tt)
+  apart_prints offset small = apart_onto (plan_word plan) offset 8 (print_count plan) (slots_seen plan (slot_count plan)) (λ k low. λ z. omega arith) (apart_onto (plan_word plan) offset 16 (slot_count plan) [] (λ k low. λ z. omega arith) tt)
 
   at_bitmap : (x : ℕ) → Leads_to (footing at.Bitmap) (fills plan 1) x (moves_on move (at.Anchor 0))
   at_bitmap x = on (footing at.Bitmap) (fills plan 1) x (at.Anchor 0)
@@ -212,7 +231,7 @@ module _ (move : Move) (sound : IsMove move) (g : ℕ) (known : Known) (cuts : C
   anchor_told n t small told = (
     updated-same t (3 + n) (plan_word plan (3 + n)),
     tells_apart (3 + n) (plan_word plan (3 + n)) (anchor_seen plan n) t
-        (apart_onto plan (3 + n) 3 n ((1, plan_word plan 1) ∷ prints_seen plan (print_count plan)) (λ k low. λ z. omega arith) (λ z. omega arith, apart_prints (3 + n) (omega arith))) told,
+        (apart_onto (plan_word plan) (3 + n) 3 n ((1, plan_word plan 1) ∷ prints_seen plan (print_count plan)) (λ k low. λ z. omega arith) (λ z. omega arith, apart_prints (3 + n) (omega arith))) told,
   )
 
   at_anchor : (n x : ℕ) → n < 3 → Leads_to (footing (at.Anchor n)) (fills plan (3 + n)) x (moves_on move (after_anchor n))
@@ -235,7 +254,7 @@ module _ (move : Move) (sound : IsMove move) (g : ℕ) (known : Known) (cuts : C
   next_told t told = (
     updated-same t 2 (plan_word plan 2),
     tells_apart 2 (plan_word plan 2) (anchor_seen plan 3) t
-        (apart_onto plan 2 3 3 ((1, plan_word plan 1) ∷ prints_seen plan (print_count plan)) (λ k low. λ z. omega arith) (λ z. omega arith, apart_prints 2 (omega arith))) told,
+        (apart_onto (plan_word plan) 2 3 3 ((1, plan_word plan 1) ∷ prints_seen plan (print_count plan)) (λ k low. λ z. omega arith) (λ z. omega arith, apart_prints 2 (omega arith))) told,
   )
 
   at_next : (x : ℕ) → Leads_to (footing at.Next) (fills plan 2) x (moves_on move (at.FenceFresh 0 fence_start))
@@ -313,13 +332,13 @@ module _ (move : Move) (sound : IsMove move) (g : ℕ) (known : Known) (cuts : C
 
       after : (turn : Turn Open (Unit {0})) → OpenNotes machine.layout machine.line machine.entry (open_held machine) (open_asks machine) x turn → Leads_to (footing (at.Open machine)) (open_asks machine) x (opened move turn)
       after (Go next) note = on (footing (at.Open machine)) (open_asks machine) x (at.Open next)
-          (on_line (noted (Some (open_held next)) note.0) (open_caller next.line next.entry next.at ∙ ap caller_of (note.3 ∙ line)))
+          (line_step refl (noted (Some (open_held next)) note.0) (open_caller machine.line machine.entry machine.at ∙ ap caller_of line, open_number machine.line machine.entry machine.at ∙ ap index_of line) (open_caller next.line next.entry next.at ∙ ap caller_of (note.3 ∙ line)))
           (note.1, note.2 ∙ layout, note.3 ∙ line, note.4 ∙ entry)
       after (Done answer) note = on (footing (at.Open machine)) (open_asks machine) x at.Prev
-          (on_line (subst (λ (p : ℕ × Entry). Notes l (Some (open_held machine)) (open_asks machine) x (Some (open_line p.0 p.1))) (λ k. (line k, entry k)) (noted (Some (open_line machine.line machine.entry)) note)) refl) tt
+          (line_step refl (subst (λ (p : ℕ × Entry). Notes l (Some (open_held machine)) (open_asks machine) x (Some (open_line p.0 p.1))) (λ k. (line k, entry k)) (noted (Some (open_line machine.line machine.entry)) note)) (open_caller machine.line machine.entry machine.at ∙ ap caller_of line, open_number machine.line machine.entry machine.at ∙ ap index_of line) refl) tt
 
   at_prev : (x : ℕ) → Leads_to (footing at.Prev) (move_at_asks plan at.Prev) x (moves_on move at.Light)
-  at_prev x = on (footing at.Prev) (move_at_asks plan at.Prev) x at.Light (on_prev names) tt
+  at_prev x = on (footing at.Prev) (move_at_asks plan at.Prev) x at.Light (on_prev refl (stores_prev sound.plan.fresh (let low = sound.plan.node in let most : l.nodes ≤ 4096 = sound.plan.layout.nodes.1 in omega arith)) names) tt
 
   at_light : (x : ℕ) → Leads_to (footing at.Light) (move_at_asks plan at.Light) x (moves_on move at.Switch)
   at_light x = on (footing at.Light) (move_at_asks plan at.Light) x at.Switch
@@ -334,7 +353,7 @@ module _ (move : Move) (sound : IsMove move) (g : ℕ) (known : Known) (cuts : C
 
   at_next_prev : (x : ℕ) → next_in plan ≢ 0 → Leads_to (footing at.NextPrev) (move_at_asks plan at.NextPrev) x (moves_on move at.Trim)
   at_next_prev x some = on (footing at.NextPrev) (move_at_asks plan at.NextPrev) x at.Trim
-      (on_prev (pays refl (refl, λ s told. told.0) some sound.plan.fresh)) tt
+      (on_prev refl (stores_prev sound.plan.next (let low = sound.plan.fresh in let most : l.nodes ≤ 4096 = sound.plan.layout.nodes.1 in omega arith)) (pays refl (refl, λ s told. told.0) some sound.plan.fresh)) tt
 
   anchored : (t : Spot) → Tells (fresh_seen plan) t → anchor_in t ≡ cut_key plan
   unfolding anchor_in
@@ -349,7 +368,7 @@ module _ (move : Move) (sound : IsMove move) (g : ℕ) (known : Known) (cuts : C
 
   at_unlock_fresh : (x : ℕ) → Leads_to (footing at.UnlockFresh) (move_at_asks plan at.UnlockFresh) x (moves_on move at.Unlock)
   at_unlock_fresh x = on (footing at.UnlockFresh) (move_at_asks plan at.UnlockFresh) x at.Unlock
-      (on_nodes (inr refl) (publishes refl refl refl)
+      (on_nodes (inr (refl, λ s told. told.0)) (publishes refl refl refl)
       (keeps (λ q. absurd (let e : Leaves (left_of plan known [] [] None) ≡ Splits q.after q.fresh Linked = q.is in cc))
       (no_join (left_of plan known [] [] None) (fresh_of plan (fresh_seen plan) [] None) Parted (Leaves (left_of plan known [] [] None)))
       (λ q. absurd (no_retire (left_of plan known [] [] None) (fresh_of plan (fresh_seen plan) [] None) Parted (Leaves (left_of plan known [] [] None)) q)) tt tt)) tt
@@ -444,14 +463,14 @@ module _ (move : Move) (sound : IsMove move) (g : ℕ) (known : Known) (cuts : C
 
       after : (turn : Turn Ready (Unit {0})) → ReadyNotes ready.layout ready.line (entry_in plan) (ready_held (entry_in plan) ready) (ready_asks ready) x turn → Leads_to (footing (at.Ready ready)) (ready_asks ready) x (readied move turn)
       after (Go next) note = on (footing (at.Ready ready)) (ready_asks ready) x (at.Ready next)
-          (on_line (noted (Some (ready_held (entry_in plan) next)) note.0) (ready_caller next.line (entry_in plan) next.at ∙ ap caller_of (note.3 ∙ line)))
+          (line_step refl (noted (Some (ready_held (entry_in plan) next)) note.0) (ready_caller ready.line (entry_in plan) ready.at ∙ ap caller_of line, ready_number ready.line (entry_in plan) ready.at ∙ ap index_of line) (ready_caller next.line (entry_in plan) next.at ∙ ap caller_of (note.3 ∙ line)))
           (note.1, note.2 ∙ layout, note.3 ∙ line)
       after (Done answer) note = on (footing (at.Ready ready)) (ready_asks ready) x at.Clear
-          (on_line (subst (λ k. Notes l (Some (ready_held (entry_in plan) ready)) (ready_asks ready) x (Some (ready_line k (entry_in plan)))) line (noted (Some (ready_line ready.line (entry_in plan))) note)) refl) tt
+          (line_step refl (subst (λ k. Notes l (Some (ready_held (entry_in plan) ready)) (ready_asks ready) x (Some (ready_line k (entry_in plan)))) line (noted (Some (ready_line ready.line (entry_in plan))) note)) (ready_caller ready.line (entry_in plan) ready.at ∙ ap caller_of line, ready_number ready.line (entry_in plan) ready.at ∙ ap index_of line) refl) tt
 
   at_clear : (x : ℕ) → Leads_to (footing at.Clear) (move_at_asks plan at.Clear) x (moves_on move at.UnlockFresh)
   at_clear x = on (footing at.Clear) (move_at_asks plan at.Clear) x at.UnlockFresh
-      (on_line (clears_are_notes (record { layout = plan.layout; line = plan.line }) (ready_line plan.line (entry_in plan)) x (record { layout = sound.plan.layout; line = sound.plan.line }) refl refl) refl) tt
+      (line_step refl (clears_are_notes (record { layout = plan.layout; line = plan.line }) (ready_line plan.line (entry_in plan)) x (record { layout = sound.plan.layout; line = sound.plan.line }) refl refl) (refl, refl) refl) tt
 
   move_leads : (at : MoveAt) (x : ℕ) → IsMoveAt plan at → x < 2 ^ 64 → Leads_to (footing at) (move_at_asks plan at) x (move_at_turned move at x)
   move_leads (at.Slot word) x here fits = at_slot word x here

@@ -3,33 +3,34 @@ use Rattle.std.proofs.Common.{◌≡◌, ℕ, ◌+◌, ◌%◌, ◌^◌, ◌<◌
 use Rattle.std.proofs.lemmas.Bool.{eqb-false, ltb-true}
 use Rattle.pm_words.specs.declared.machine.Turn.{Turn}
 use Rattle.pm_words.specs.declared.machine.Turn.TheVariants.{Go, Done}
-use Rattle.smo_log.specs.declared.fence.Fence.{Fence}
-use Rattle.smo_log.specs.declared.fence.FenceAt.{FenceAt}
-use Rattle.smo_log.specs.declared.fence.FenceAt.TheVariants as fence_at
+use Rattle.pm_words.specs.declared.fence.Fence.{Fence}
+use Rattle.pm_words.specs.declared.fence.FenceAt.{FenceAt}
+use Rattle.pm_words.specs.declared.fence.FenceAt.TheVariants as fence_at
 use Rattle.smo_log.specs.declared.open.Open.{Open}
 use Rattle.smo_log.specs.declared.open.OpenAt.TheVariants as open_at
 use Rattle.smo_log.specs.declared.state.ReadyAt.TheVariants as ready_at
 use Rattle.smo_log.specs.declared.state.Ready.{Ready}
-use Rattle.smo_log.specs.Fences.{IsFence, IsFenceAt, fence_start, fence_next, fence_at_next}
+use Rattle.pm_words.specs.Fences.{IsFence, IsFenceAt, fence_start, fence_next, fence_at_next}
 use Rattle.smo_log.specs.Opens.{IsOpen, open_asks, open_turned, open_held, OpenNotes}
 use Rattle.smo_log.specs.States.{IsReady, ready_asks, ready_turned, ready_held, ReadyNotes}
 use Rattle.smo_log.proofs.LineLaw.{opens_are_notes, readies_are_notes}
 use Rattle.smo_log.proofs.Staying.{StaysSo}
-use Rattle.split_merge.specs.declared.moving.Plan.{Plan}
+use Rattle.split_merge.specs.declared.planning.Plan.{Plan}
 use Rattle.split_merge.specs.declared.moving.Move.{Move}
 use Rattle.split_merge.specs.declared.moving.MoveAt.{MoveAt}
 use Rattle.split_merge.specs.declared.moving.MoveAt.TheVariants as at
-use Rattle.split_merge.specs.Moves.{next_in, entry_in, slot_count, print_count, filled_end, after_slot, after_print, after_anchor, after_fence, after_switch, after_trim, moves_on, opened, readied, move_at_turned, move_turned, IsMove, IsMoveAt}
+use Rattle.split_merge.specs.Plans.{next_in, entry_in}
+use Rattle.split_merge.specs.Moves.{slot_count, print_count, filled_end, after_slot, after_print, after_anchor, after_fence, after_switch, after_trim, moves_on, opened, readied, move_at_turned, move_turned, IsMove, IsMoveAt}
 
 module _ (move : Move) (sound : IsMove move) where
   abbrev plan : Plan
   plan = move.plan
 
   abbrev Stays : Turn Move (Unit {0}) → Type 0
-  Stays turn = StaysSo IsMove turn
+  Stays turn = StaysSo (λ next. IsMove next × (next.plan ≡ move.plan)) turn
 
   on : (at : MoveAt) → IsMoveAt plan at → Stays (moves_on move at)
-  on at here = record { plan = sound.plan; here = here }
+  on at here = (record { plan = sound.plan; here = here }, refl)
 
   at_slot : (word : ℕ) → Stays (moves_on move (after_slot plan word))
   at_slot word =
@@ -140,6 +141,13 @@ module _ (move : Move) (sound : IsMove move) where
   stays at.UnlockFresh x here fits = on at.Unlock tt
   stays at.Unlock x here fits = tt
 
--- A move goes on as one whose fields keep the same, whatever word it is told.
+-- A move goes on by the same plan, whatever word it is told, and its fields keep the same.
+pub move_goes_on : (move : Move) (x : ℕ) → IsMove move → x < 2 ^ 64 → StaysSo (λ next. IsMove next × (next.plan ≡ move.plan)) (move_turned move x)
+move_goes_on move x sound fits = stays move sound move.at x sound.here fits
+
 pub move_stays : (move : Move) (x : ℕ) → IsMove move → x < 2 ^ 64 → StaysSo IsMove (move_turned move x)
-move_stays move x sound fits = stays move sound move.at x sound.here fits
+move_stays move x sound fits = of (move_turned move x) (move_goes_on move x sound fits)
+  where
+    of : (turn : Turn Move (Unit {0})) → StaysSo (λ next. IsMove next × (next.plan ≡ move.plan)) turn → StaysSo IsMove turn
+    of (Go next) is = is.0
+    of (Done answer) is = tt

@@ -10,12 +10,12 @@ use Rattle.data_node.specs.Lists.{next_offset, StaysIn}
 use Rattle.call_stages.specs.declared.once.Once.TheVariants as once
 use Rattle.call_stages.specs.Stages.{Tells, Idle}
 use Rattle.call_stages.specs.Kinds.{below_key, IsCut}
-use Rattle.index_law.specs.Prevs.{no_debt}
+use Rattle.call_stages.specs.Prevs.{no_debt}
 use Rattle.smo_log.specs.LogLines.{caller_of}
-use Rattle.split_merge.specs.declared.moving.Plan.{Plan}
+use Rattle.split_merge.specs.declared.planning.Plan.{Plan}
 use Rattle.split_merge.specs.declared.moving.Move.{Move}
 use Rattle.split_merge.specs.Moves.{IsMove, move_asks, move_turned}
-use Rattle.split_merge.specs.SplitSteps.{Footing, SplitStep}
+use Rattle.call_stages.specs.Footings.{Footing, FootStep}
 use Rattle.split_merge.specs.MoveStages.{Known, fresh_seen, move_footing, cut_key}
 
 -- By what the party knows of the full node the plan cuts it: the fresh node's words are its upper half, and with the
@@ -34,10 +34,10 @@ pub record Cuts (plan : Plan) (known : Known) : Type 0 where
 -- again.
 abbrev pub Moves : ℕ → Plan → Known → Footing → Action → ℕ → Turn Move (Unit {0}) → Type 0
 Moves g plan known footing action x (Go move) =
-    SplitStep plan.layout g (caller_of plan.line) footing action x (move_footing known move) None × IsMove move ×
+    FootStep plan.layout g (caller_of plan.line) footing action x (move_footing known move) None × IsMove move ×
     (move.plan ≡ plan)
 Moves g plan known footing action x (Done answer) =
-    SplitStep plan.layout g (caller_of plan.line) footing action x (record {
+    FootStep plan.layout g (caller_of plan.line) footing action x (record {
       stage = Idle;
       line = None;
       debt =

@@ -1,4 +1,9 @@
+pub mod Plans
 pub mod Moves
-pub mod SplitSteps
 pub mod MoveStages
+pub mod Splits
+pub mod SplitStages
 pub mod Laws
+pub mod SplitLaws
+pub mod OfSplits
+pub mod SplitEvents

@@ -3,38 +3,41 @@ use Rattle.std.specs.Prelude.{ℕ, zero, suc, ◌+◌, ◌-◌, Bool, true, fals
 use Rattle.data_node.specs.Lists.{three_words}
 use Rattle.call_stages.specs.Stages.{Grip, Phase, Filling, Linked, Parted, Stage, Splits, Leaves}
 use Rattle.call_stages.specs.Lines.{HeldLine}
-use Rattle.index_law.specs.Prevs.{Debt, no_debt}
-use Rattle.smo_log.specs.LogLines.{hand_of, empty_line, open_line, ready_line}
+use Rattle.call_stages.specs.Prevs.{Debt, no_debt}
+use Rattle.pm_words.specs.Fences.{hand_of}
+use Rattle.smo_log.specs.LogLines.{empty_line, open_line, ready_line}
 use Rattle.smo_log.specs.Opens.{open_held}
 use Rattle.smo_log.specs.States.{ready_held, cleared_line}
-use Rattle.split_merge.specs.declared.moving.Plan.{Plan}
+use Rattle.split_merge.specs.declared.planning.Plan.{Plan}
 use Rattle.split_merge.specs.declared.moving.Move.{Move}
 use Rattle.split_merge.specs.declared.moving.MoveAt.{MoveAt}
 use Rattle.split_merge.specs.declared.moving.MoveAt.TheVariants as at
-use Rattle.split_merge.specs.Moves.{plan_word, entry_in, slot_count, print_count, filled_end}
-use Rattle.split_merge.specs.SplitSteps.{Footing}
+use Rattle.split_merge.specs.Plans.{plan_word, entry_in}
+use Rattle.split_merge.specs.Moves.{slot_count, print_count, filled_end}
+use Rattle.call_stages.specs.Footings.{Footing}
 
 -- the name that the call is about, what it had, and words of the full node by offset, as the party knows them: before
--- the switch, and after it
+-- the switch, and after it; and the word of it that was loaded last
 pub record Known : Type 0 where
   pub name : List ℕ
   pub old : Option (Option ℕ)
   pub full : List (ℕ × ℕ)
   pub linked : List (ℕ × ℕ)
+  pub hand : Option (ℕ × ℕ)
 
--- so many words of the fresh node from an offset on, and others
-abbrev pub words_onto : Plan → ℕ → ℕ → List (ℕ × ℕ) → List (ℕ × ℕ)
-words_onto plan first zero others = others
-words_onto plan first (suc n) others = (first + n, plan_word plan (first + n)) ∷ words_onto plan first n others
+-- so many words from an offset on, and others
+abbrev pub words_onto : (ℕ → ℕ) → ℕ → ℕ → List (ℕ × ℕ) → List (ℕ × ℕ)
+words_onto word first zero others = others
+words_onto word first (suc n) others = (first + n, word (first + n)) ∷ words_onto word first n others
 
 abbrev pub slots_seen : Plan → ℕ → List (ℕ × ℕ)
-slots_seen plan n = words_onto plan 16 n []
+slots_seen plan n = words_onto (plan_word plan) 16 n []
 
 abbrev pub prints_seen : Plan → ℕ → List (ℕ × ℕ)
-prints_seen plan n = words_onto plan 8 n (slots_seen plan (slot_count plan))
+prints_seen plan n = words_onto (plan_word plan) 8 n (slots_seen plan (slot_count plan))
 
 abbrev pub anchor_seen : Plan → ℕ → List (ℕ × ℕ)
-anchor_seen plan n = words_onto plan 3 n ((1, plan_word plan 1) ∷ prints_seen plan (print_count plan))
+anchor_seen plan n = words_onto (plan_word plan) 3 n ((1, plan_word plan 1) ∷ prints_seen plan (print_count plan))
 
 -- all words of the fresh node
 abbrev pub fresh_seen : Plan → List (ℕ × ℕ)
@@ -65,7 +68,7 @@ left_of plan known seen dirty hand =
     }
 
 abbrev pub full_left : Plan → Known → Grip
-full_left plan known = left_of plan known known.full [] None
+full_left plan known = left_of plan known known.full [] known.hand
 
 -- the words of the slots that may differ from their durable twins: none before the first store
 abbrev pub slot_dirty : Plan → ℕ → List (ℕ × ℕ)

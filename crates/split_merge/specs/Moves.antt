@@ -1,48 +1,23 @@
 -- The move of a full node's upper half into a fresh node, step by step.
-use Rattle.std.specs.Prelude.{◌≡◌, ◌≢◌, ℕ, ◌+◌, ◌-◌, ◌*◌, ◌/◌, ◌%◌, ◌^◌, ◌<◌, ◌==◌, nat_lt, if◌then◌else◌, [], ◌∷◌}
-use Rattle.std.specs.Prelude.{slice_index, Option, Some, None}
+use Rattle.std.specs.Prelude.{◌≡◌, ◌≢◌, ℕ, ◌+◌, ◌-◌, ◌*◌, ◌/◌, ◌%◌, ◌^◌, ◌<◌, ◌==◌, nat_lt, if◌then◌else◌}
+use Rattle.std.specs.Prelude.{Option, Some, None}
 use Rattle.pm_words.specs.declared.action.Action.{Action}
 use Rattle.pm_words.specs.declared.action.Action.TheVariants.{Store}
 use Rattle.pm_words.specs.declared.machine.Turn.{Turn}
 use Rattle.pm_words.specs.declared.machine.Turn.TheVariants.{Go, Done}
-use Rattle.pm_words.specs.Layouts.{IsLayout}
-use Rattle.version_lock.specs.declared.TheConstants.{LAST_COUNT}
-use Rattle.version_lock.specs.Versions.{count_of, IsLocked}
 use Rattle.call_stages.specs.Kinds.{word_address, version_address, status_address, prev_address, live_status}
-use Rattle.smo_log.specs.declared.fence.Fence.{Fence}
-use Rattle.smo_log.specs.declared.line.Entry.{Entry}
+use Rattle.pm_words.specs.declared.fence.Fence.{Fence}
 use Rattle.smo_log.specs.declared.open.Open.{Open}
 use Rattle.smo_log.specs.declared.state.Ready.{Ready}
-use Rattle.smo_log.specs.Fences.{fence_start, IsFence, fence_asks, fence_next, fence_left}
-use Rattle.smo_log.specs.LogLines.{numbered_address, IsEntryOf}
+use Rattle.pm_words.specs.Fences.{fence_start, IsFence, fence_asks, fence_next, fence_left}
+use Rattle.smo_log.specs.LogLines.{numbered_address}
 use Rattle.smo_log.specs.Opens.{IsOpen, open_from, open_asks, open_turned, open_left}
 use Rattle.smo_log.specs.States.{IsReady, ready_from, ready_asks, ready_turned, ready_left}
-use Rattle.split_merge.specs.declared.moving.Plan.{Plan}
+use Rattle.split_merge.specs.declared.planning.Plan.{Plan}
 use Rattle.split_merge.specs.declared.moving.Move.{Move}
 use Rattle.split_merge.specs.declared.moving.MoveAt.{MoveAt}
 use Rattle.split_merge.specs.declared.moving.MoveAt.TheVariants as at
-
--- the word that the fresh node is to have at this offset
-abbrev pub plan_word : Plan → ℕ → ℕ
-plan_word plan offset = slice_index plan.words offset
-
--- the node behind it; 0 is none
-abbrev pub next_in : Plan → ℕ
-next_in plan = plan_word plan 2
-
--- what the line is to say
-abbrev pub entry_in : Plan → Entry
-entry_in plan = record {
-  kind = 1;
-  node = plan.fresh;
-  anchor =
-      plan_word plan 3 ∷ plan_word plan 4 ∷ plan_word plan 5 ∷ [];
-  left = plan.node;
-}
-
--- how many names move
-abbrev pub moved_in : Plan → ℕ
-moved_in plan = plan.layout.slots / 2
+use Rattle.split_merge.specs.Plans.{moved_in, plan_word, next_in, entry_in, IsPlan}
 
 -- how many words of slots and of fingerprints are stored, and where the words end that are made durable
 abbrev pub slot_count : Plan → ℕ
@@ -145,26 +120,6 @@ move_at_turned move at.Unlock got = Done tt
 
 abbrev pub move_turned : Move → ℕ → Turn Move (Unit {0})
 move_turned move got = move_at_turned move move.at got
-
--- a word that locks a node, and can be given back
-pub record IsLockWord (word : ℕ) : Type 0 where
-  pub locked : IsLocked word
-  pub unworn : count_of word < LAST_COUNT
-  pub fits : word < 2 ^ 64
-
--- what a plan keeps
-pub record IsPlan (plan : Plan) : Type 0 where
-  pub layout : IsLayout plan.layout
-  pub node : plan.node < plan.layout.nodes
-  pub fresh : plan.fresh < plan.layout.nodes
-  pub apart : plan.node ≢ plan.fresh
-  pub lock : IsLockWord plan.locked
-  pub fresh_lock : IsLockWord plan.fresh_locked
-  pub line : plan.line < 8 * plan.layout.callers
-  pub next : next_in plan < plan.layout.nodes
-  pub entry : IsEntryOf plan.layout (entry_in plan)
-  pub words : (offset : ℕ) → plan_word plan offset < 2 ^ 64
-  pub keep : plan.keep < 2 ^ 64
 
 abbrev pub IsMoveAt : Plan → MoveAt → Type 0
 IsMoveAt plan (at.Slot word) = word < slot_count plan

@@ -3,8 +3,12 @@
 
 pub mod laws;
 mod moving;
+mod planning;
+mod splitting;
 
-pub use moving::{Move, MoveAt, NODE_WORDS, Plan};
+pub use moving::{Move, MoveAt};
+pub use planning::{MAX_MOVED, NODE_WORDS, Plan};
+pub use splitting::{Share, Split, SplitAt, SplitDone};
 
 #[cfg(test)]
 mod tests;

@@ -1,33 +1,16 @@
-ghost use Rattle.std.specs.Prelude.{◌≡◌, ◌+◌, ◌*◌, ◌<◌};
-ghost use Rattle.pm_words.specs.Layouts.{IsLayout};
+ghost use Rattle.std.specs.Prelude.{◌≡◌};
 
+use crate::planning::Plan;
 use pm_words::offsets::{line, node, volatile};
-use pm_words::{Action, KEY, LINE, Layout, Machine, Turn};
-use smo_log::{Entry, Fence, KIND_SPLIT, Open, Ready};
+use pm_words::{Action, Fence, KEY, LINE, Machine, Turn};
+use smo_log::{Open, Ready};
 use version_lock::freed_of;
-
-/// The words of the largest node.
-pub const NODE_WORDS: usize = 272;
 
 /// The status of a node that is in use.
 const LIVE: u64 = 1;
 
 /// The state of a log line that says nothing.
 const EMPTY: u64 = 0;
-
-/// What a split does: the full node and the fresh one with their locked words, the line that was taken, the words that
-/// the fresh node is to have by offset, and the bitmap that the full node keeps.
-#[derive(Clone, Copy)]
-pub struct Plan {
-    pub layout: Layout,
-    pub node: u64,
-    pub locked: u64,
-    pub fresh: u64,
-    pub fresh_locked: u64,
-    pub line: u64,
-    pub words: [u64; NODE_WORDS],
-    pub keep: u64,
-}
 
 /// It moves the upper half of a full node's names into a fresh node, and gives both back.
 #[derive(Clone, Copy)]
@@ -179,12 +162,13 @@ impl Move {
 }
 
 impl Plan {
-    ghost use Rattle.std.specs.Prelude.{◌≡◌, ◌+◌, ◌*◌, ◌<◌, ◌≤◌, Option};
+    ghost use Rattle.std.specs.Prelude.{◌≡◌, ◌+◌, ◌*◌, ◌/◌, ◌<◌, ◌≤◌, Option};
     ghost use Rattle.pm_words.specs.Locations.{node_words};
     ghost use Rattle.call_stages.specs.Kinds.{word_address};
     ghost use Rattle.smo_log.specs.LogLines.{numbered_address};
-    ghost use Rattle.split_merge.specs.Moves.{IsPlan, plan_word, fills, entry_in, next_in, after_slot, after_print};
-    ghost use Rattle.split_merge.specs.Moves.{after_fence, after_switch, after_trim};
+    ghost use Rattle.split_merge.specs.Plans.{IsPlan};
+    ghost use Rattle.split_merge.specs.Moves.{filled_end, fills, after_slot, after_print, after_fence, after_switch};
+    ghost use Rattle.split_merge.specs.Moves.{after_trim};
 
     /// The address of a node's word.
     fn address(&self, node: u64, offset: u64) -> u64
@@ -206,37 +190,10 @@ impl Plan {
         self.layout.cached(word)
     }
 
-    /// The word that the fresh node is to have at this offset.
-    fn word(&self, offset: u64) -> u64
-        requires { offset < 272 }
-        ensures { result ≡ plan_word self.now offset }
-    {
-        self.words[offset as usize]
-    }
-
-    /// The node behind the fresh one; 0 is none.
-    fn next(&self) -> u64
-        ensures { result ≡ next_in self.now }
-    {
-        self.words[node::NEXT as usize]
-    }
-
-    /// What the line is to say.
-    fn entry(&self) -> Entry
-        ensures { result ≡ entry_in self.now }
-    {
-        Entry {
-            kind: KIND_SPLIT,
-            node: self.fresh,
-            anchor: [self.words[3], self.words[4], self.words[5]],
-            left: self.node,
-        }
-    }
-
     /// The store of the fresh node's word with this offset.
     fn fill(&self, offset: u64) -> Action
         requires plan { IsPlan self.now }
-        requires offset { offset < node_words self.now.layout }
+        requires offset { offset < filled_end self.now }
         ensures { result ≡ fills self.now offset }
     {
         Action::Store(self.address(self.fresh, offset), self.word(offset))
@@ -293,6 +250,7 @@ impl Plan {
 
     /// After a turn of the fence behind the switch.
     fn after_switch(&self, fence: Option<Fence>) -> MoveAt
+        requires { IsPlan self.now }
         ensures { result ≡ after_switch self.now fence }
     {
         match fence {
