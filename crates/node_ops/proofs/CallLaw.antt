@@ -16,8 +16,28 @@ use Rattle.data_node.proofs.SpotLemmas.{remove_absent}
 use Rattle.data_node.proofs.StoreLemmas.{means_valued, means_cleared}
 use Rattle.call_stages.specs.declared.once.Once.{Once}
 use Rattle.call_stages.specs.declared.once.Placed.{Placed}
-use Rattle.call_stages.specs.Stages.{Knows, Stage, Idle}
-use Rattle.call_stages.specs.Kinds.{Told, Step, commits, unlocks, reads, has_no_room}
+use Rattle.call_stages.specs.Stages.{Held, Knows, Stage, Idle, Saw, Wears, Holds, Eyes, Splits, Leaves, Meets, Joins, IsLoose}
+use Rattle.call_stages.specs.declared.once.Once.TheVariants as once
+use Rattle.call_stages.specs.declared.view.View.{View}
+use Rattle.call_stages.specs.AnySteps.{AnyStep}
+use Rattle.call_stages.specs.Prevs.{no_debt, Deals, keeps}
+use Rattle.call_stages.specs.Footings.{Footing, FootStep, on_nodes}
+use Rattle.pm_words.specs.declared.again.Again.TheVariants as again
+use Rattle.data_list.specs.WalkStages.{walk_stage}
+use Rattle.data_list.proofs.WalkLaw.{walk_loose}
+use Rattle.index_law.proofs.Footings.{foot_any}
+use Rattle.split_merge.specs.declared.splitting.Split.{Split}
+use Rattle.split_merge.specs.declared.splitting.SplitAt.{SplitAt}
+use Rattle.split_merge.specs.declared.splitting.SplitAt.TheVariants as split_at
+use Rattle.split_merge.specs.declared.splitting.SplitDone.{SplitDone}
+use Rattle.split_merge.specs.declared.splitting.SplitDone.TheVariants as done
+use Rattle.split_merge.specs.Splits.{LeadsIn, split_asks, split_at_asks, split_turned}
+use Rattle.split_merge.specs.SplitStages.{split_footing, split_at_footing, done_footing}
+use Rattle.split_merge.specs.SplitLaws.{MayBegin, SplitsSo}
+use Rattle.split_merge.proofs.SplitLaw.{splits_are_steps}
+use Rattle.node_ops.specs.declared.lookup.LookupAt.{LookupAt}
+use Rattle.node_ops.specs.declared.lookup.LookupAt.TheVariants as look
+use Rattle.call_stages.specs.Kinds.{Told, LeadsWithin, Step, commits, unlocks, reads}
 use Rattle.node_ops.specs.declared.call.Call.{Call}
 use Rattle.node_ops.specs.declared.lookup.Hold.{Hold}
 use Rattle.node_ops.specs.declared.lookup.Hit.{Hit}
@@ -37,16 +57,16 @@ use Rattle.node_ops.specs.declared.del.Del.TheVariants as del
 use Rattle.node_ops.specs.declared.running.Running.{Running}
 use Rattle.node_ops.specs.declared.running.Running.TheVariants.{Getting, Putting, Deleting}
 use Rattle.node_ops.specs.Calls.{IsCall, name_in}
-use Rattle.node_ops.specs.FenceSteps.{fence_of}
+use Rattle.pm_words.specs.Fences.{line_of, fence_start}
 use Rattle.node_ops.specs.LookupSteps.{IsHit, IsFoundBy, lookup_turned}
 use Rattle.node_ops.specs.FinishSteps.{finish_turned}
 use Rattle.node_ops.specs.FillSteps.{fill_turned}
 use Rattle.node_ops.specs.GetSteps.{IsGet, get_call, get_asks, get_turned, get_looked}
-use Rattle.node_ops.specs.PutSteps.{IsPut, put_call, put_asks, put_turned, put_looked, put_into, put_full, put_filled, put_finished, replaced}
+use Rattle.node_ops.specs.PutSteps.{IsPut, put_call, put_asks, put_turned, put_looked, put_into, put_full, put_filled, put_finished, replaced, put_split, IsSplitting}
 use Rattle.node_ops.specs.DelSteps.{IsDel, del_call, del_asks, del_turned, del_looked, del_hit, del_finished, cleared}
 use Rattle.node_ops.specs.RunningSteps.{running_call, running_asks, running_turned, wrapped, IsRunning}
-use Rattle.node_ops.specs.Laws.{TurnsAreSteps}
-use Rattle.node_ops.specs.CallStages.{words_from, nothing, knows, decided, fence_rest, seen_hit, seen_fill, get_stage, put_stage, del_stage, stage_of, stage_after, reply_of}
+use Rattle.node_ops.specs.Laws.{TurnsAreFootSteps, TurnsAreSteps, LeadsAreTaken}
+use Rattle.node_ops.specs.CallStages.{words_from, nothing, knows, decided, fence_rest, seen_hit, seen_fill, get_stage, put_stage, del_stage, stage_of, stage_after, reply_of, lookup_at_stage, found_full, footing_of, footing_after}
 use Rattle.node_ops.proofs.SeenLemmas.{Seen, Stand, seen_append, seen_front, seen_back, stand_whole, name_stands}
 use Rattle.node_ops.proofs.LookupLaw.{hit_words, found_known, Leads_found, Leads, lookup_leads}
 use Rattle.node_ops.proofs.FinishLaw.{Finishes, finish_leads}
@@ -168,7 +188,7 @@ module _ (call : Call) (sound : IsCall call) where
   replacing_leads hold bitmap hit value x is fits =
       let within : hit.slot < slots = is.within in
       commits {h = decided call hold (Some hit.value) (knows (seen_hit call bitmap (Some hit)))} {k = nothing}
-      {dirty = fence_rest (fence_of (slot_offset hit.slot 3)) ∷ []} {old = Some hit.value} {c = change.Put (name_in call) value}
+      {dirty = fence_rest (line_of (slot_offset hit.slot 3)) fence_start ∷ []} {old = Some hit.value} {c = change.Put (name_in call) value}
       (sound.node, (omega arith)) (inr (omega arith)) fits (record { pending = refl; ready = refl; placed = refl }) refl (inl (omega arith, omega arith)) refl refl
       (λ s tidy before. record { seen = tt; left = tt })
       (λ range s m in_range before old means.
@@ -199,7 +219,7 @@ module _ (call : Call) (sound : IsCall call) where
       (del_stage (del.Finishing (cleared call hold hit))) None
   clearing_leads hold bitmap hit x fits is =
       commits {h = decided call hold (Some hit.value) (knows (seen_hit call bitmap (Some hit)))} {k = nothing}
-      {dirty = fence_rest (fence_of bitmap_offset) ∷ []} {old = Some hit.value} {c = change.Del (name_in call)}
+      {dirty = fence_rest (line_of bitmap_offset) fence_start ∷ []} {old = Some hit.value} {c = change.Del (name_in call)}
       (sound.node, (omega arith)) (inl refl) (without_live_below 64 bitmap hit.slot fits) (record { pending = refl; ready = refl; placed = refl }) refl (inl (omega arith, omega arith)) refl refl
       (λ s tidy before. record { seen = tt; left = tt })
       (λ range s m in_range before old means.
@@ -211,20 +231,24 @@ get_leads : (get : Get) (x : ℕ) → IsGet get → Told (get_call get).view.lay
 get_leads (get.Looking lookup) x sound told = get_looked_leads lookup.call sound.call _ _ x (lookup_turned lookup x) (lookup_leads lookup.call sound.call lookup.at x sound.here told)
 get_leads (get.Unlocking call hold old) x sound told = unlocks refl refl refl refl (reads refl refl refl)
 
-put_leads : (put : Put) (x : ℕ) → IsPut put → Told (put_call put).view.layout (put_call put).view.generation (put_asks put) x
+-- it doesn't split
+abbrev IsWhole : Put → Type 0
+IsWhole (put.Splitting call hold bitmap value split) = ⊥
+IsWhole _ = Unit {0}
+
+put_leads : (put : Put) (x : ℕ) → IsWhole put → IsPut put → Told (put_call put).view.layout (put_call put).view.generation (put_asks put) x
     → Puts (put_call put) (put_stage put) (put_asks put) x (put_turned put x)
-put_leads (put.Looking lookup value) x sound told =
+put_leads (put.Looking lookup value) x whole sound told =
     put_looked_leads lookup.call sound.0.call _ _ x value (lookup_turned lookup x) (lookup_stays lookup x sound.0 told) (lookup_leads lookup.call sound.0.call lookup.at x sound.0.here told)
-put_leads (put.Filling fill) x sound told = put_filled_leads fill.call sound.call _ _ x (fill_turned fill x) (fill_leads fill x sound)
-put_leads (put.Replacing call hold bitmap hit value) x sound told = replacing_leads call sound.call hold bitmap hit value x sound.hit sound.value
-put_leads (put.Finishing finish) x sound told = put_finished_leads finish.call sound.call _ _ x (finish_turned finish x) (finish_leads finish x sound)
-put_leads (put.Refusing call hold bitmap value) x sound told =
-    unlocks refl refl refl refl (has_no_room refl refl refl (λ s tidy known. subst (λ b. AreAllLive b call.view.layout.slots) (sym known.seen.0) sound.full))
+put_leads (put.Filling fill) x whole sound told = put_filled_leads fill.call sound.call _ _ x (fill_turned fill x) (fill_leads fill x sound told.fits)
+put_leads (put.Replacing call hold bitmap hit value) x whole sound told = replacing_leads call sound.call hold bitmap hit value x sound.hit sound.value
+put_leads (put.Finishing finish) x whole sound told = put_finished_leads finish.call sound.call _ _ x (finish_turned finish x) (finish_leads finish x sound told.fits)
+put_leads (put.Splitting call hold bitmap value split) x whole sound told = absurd whole
 
 del_leads : (del : Del) (x : ℕ) → IsDel del → Told (del_call del).view.layout (del_call del).view.generation (del_asks del) x → Dels (del_call del) (del_stage del) (del_asks del) x (del_turned del x)
 del_leads (del.Looking lookup) x sound told = del_looked_leads lookup.call sound.call _ _ x (lookup_turned lookup x) (lookup_leads lookup.call sound.call lookup.at x sound.here told)
 del_leads (del.Clearing call hold bitmap hit) x sound told = clearing_leads call sound.call hold bitmap hit x sound.fits sound.hit
-del_leads (del.Finishing finish) x sound told = del_finished_leads finish.call sound.call _ _ x (finish_turned finish x) (finish_leads finish x sound)
+del_leads (del.Finishing finish) x sound told = del_finished_leads finish.call sound.call _ _ x (finish_turned finish x) (finish_leads finish x sound told.fits)
 
 -- a part's step is the whole's
 as_get : (call : Call) (stage : Stage) (action : Action) (x : ℕ) (turn : Turn Get (Once Placed)) → Gets call stage action x turn
@@ -242,17 +266,205 @@ as_del : (call : Call) (stage : Stage) (action : Action) (x : ℕ) (turn : Turn 
 as_del call stage action x (Go del) step = step
 as_del call stage action x (Done answer) step = step
 
+-- a step on nodes of a call that has no line and no debt
+abbrev Plain : Layout → ℕ → ℕ → Stage → Action → ℕ → Turn Running (Once Placed) → Type 0
+Plain l g c stage action x turn = FootStep l g c (record { stage = stage; line = None; debt = no_debt }) action x (footing_after turn) (reply_of turn)
+
+-- the stage of a call that holds one node at most
+abbrev IsSingle : Stage → Type 0
+IsSingle (Splits left fresh phase) = ⊥
+IsSingle (Joins h left right pace) = ⊥
+IsSingle _ = Unit {0}
+
+single_deals : (s t : Stage) → IsSingle s → Deals s t no_debt no_debt
+single_deals s t single = keeps (λ q. subst IsSingle q.was single) (λ q. subst IsSingle q.was single) (λ q. absurd (subst IsSingle q.was single)) tt tt
+
+-- what it goes on with has neither
+abbrev IsPlainAfter : Turn Running (Once Placed) → Type 0
+IsPlainAfter turn = footing_after turn ≡ record { stage = stage_after turn; line = None; debt = no_debt }
+
+plain : (l : Layout) (g c : ℕ) (s : Stage) (action : Action) (x : ℕ) (turn : Turn Running (Once Placed)) → IsSingle s → IsPlainAfter turn
+    → Step l g s action x (stage_after turn) (reply_of turn) → Plain l g c s action x turn
+plain l g c s action x turn single after step =
+    subst (λ (f : Footing). FootStep l g c (record { stage = s; line = None; debt = no_debt }) action x f (reply_of turn)) (sym after)
+    (on_nodes (inl refl) step (single_deals s (stage_after turn) single))
+
+loose_single : (s : Stage) → IsLoose s → IsSingle s
+loose_single Idle loose = tt
+loose_single (Saw n v w k) loose = tt
+loose_single (Wears n v) loose = tt
+loose_single (Holds n w h) loose = tt
+loose_single (Eyes n w h m v u free) loose = tt
+loose_single (Splits left fresh phase) loose = absurd loose
+loose_single (Leaves left) loose = tt
+loose_single (Meets n w h right) loose = tt
+loose_single (Joins h left right pace) loose = absurd loose
+
+looks_single : (call : Call) (at : LookupAt) → IsSingle (lookup_at_stage call at)
+looks_single call (look.Walk walk) = loose_single (walk_stage walk) (walk_loose walk.generation walk.node walk.at)
+looks_single call (look.Lock seen locked) = tt
+looks_single call (look.Clock locked) = tt
+looks_single call (look.Spent hold) = tt
+looks_single call (look.Bitmap hold) = tt
+looks_single call (look.Prints hold bitmap prints k) = tt
+looks_single call (look.Name hold directory left slot k) = tt
+looks_single call (look.Value hold directory slot) = tt
+
+get_single : (get : Get) → IsSingle (get_stage get)
+get_single (get.Looking lookup) = looks_single lookup.call lookup.at
+get_single (get.Unlocking call hold old) = tt
+
+put_single : (put : Put) → IsWhole put → IsSingle (put_stage put)
+put_single (put.Looking lookup value) whole = looks_single lookup.call lookup.at
+put_single (put.Filling fill) whole = tt
+put_single (put.Replacing call hold bitmap hit value) whole = tt
+put_single (put.Finishing finish) whole = tt
+put_single (put.Splitting call hold bitmap value split) whole = absurd whole
+
+del_single : (del : Del) → IsSingle (del_stage del)
+del_single (del.Looking lookup) = looks_single lookup.call lookup.at
+del_single (del.Clearing call hold bitmap hit) = tt
+del_single (del.Finishing finish) = tt
+
+-- a get and a delete never have a line, and a put has none as it begins to split
+gets_plain : (turn : Turn Get (Once Placed)) → IsPlainAfter (wrapped Getting turn)
+gets_plain (Go get) = refl
+gets_plain (Done answer) = refl
+
+dels_plain : (turn : Turn Del (Once Placed)) → IsPlainAfter (wrapped Deleting turn)
+dels_plain (Go del) = refl
+dels_plain (Done answer) = refl
+
+puts_plain : (put : Put) (x : ℕ) → IsWhole put → IsPlainAfter (wrapped Putting (put_turned put x))
+puts_plain (put.Looking lookup value) x whole = at (lookup_turned lookup x)
+  where
+    full : (found : Found) (hit : Option Hit) → IsPlainAfter (Go (Putting (put_full lookup.call found.hold found.directory.bitmap hit value)))
+    full found (Some hit) = refl
+    full found None = refl
+
+    into : (found : Found) (clear : Option ℕ) → IsPlainAfter (Go (Putting (put_into lookup.call found value clear)))
+    into found (Some slot) = refl
+    into found None = full found found.hit
+
+    at : (turn : Turn Lookup Looked) → IsPlainAfter (wrapped Putting (put_looked lookup.call value turn))
+    at (Go next) = refl
+    at (Done (looked.Early answer)) = refl
+    at (Done (looked.Found found)) = into found (lowest_clear found.directory.bitmap lookup.call.view.layout.slots)
+puts_plain (put.Filling fill) x whole = at (fill_turned fill x)
+  where
+    at : (turn : Turn Fill Finish) → IsPlainAfter (wrapped Putting (put_filled turn))
+    at (Go next) = refl
+    at (Done finish) = refl
+puts_plain (put.Replacing call hold bitmap hit value) x whole = refl
+puts_plain (put.Finishing finish) x whole = at (finish_turned finish x)
+  where
+    at : (turn : Turn Finish (Once Placed)) → IsPlainAfter (wrapped Putting (put_finished turn))
+    at (Go next) = refl
+    at (Done answer) = refl
+puts_plain (put.Splitting call hold bitmap value split) x whole = absurd whole
+
+-- while it splits, its turns are those of the split
+module _ (call : Call) (hold : Hold) (bitmap value : ℕ) (split : Split) (sound : IsSplitting call hold bitmap split) (x : ℕ) where
+  abbrev held : Held
+  held = found_full call hold bitmap
+
+  abbrev machine : Running
+  machine = Putting (put.Splitting call hold bitmap value split)
+
+  abbrev Foots : View → Turn Running (Once Placed) → Type 0
+  Foots view turn = FootStep view.layout view.generation view.caller (split_footing held split) (split_asks split) x (footing_after turn) (reply_of turn)
+
+  begins : MayBegin split.view.layout.slots held
+  begins = record {
+    claim = record { still = record { pending = refl; ready = refl }; durable = refl; split = record { unplaced = refl; lacked = refl } };
+    full = subst (λ (v : View). AreAllLive bitmap v.layout.slots) (sym sound.view) sound.full;
+    clock = hold.clock;
+    timed = refl;
+  }
+
+  foots : (turn : Turn Split SplitDone) → SplitsSo split held x turn → Foots split.view (wrapped Putting (put_split call hold bitmap value turn))
+  foots (Go next) so = so.0
+  foots (Done (done.Done fresh)) so =
+      subst (λ (n : ℕ). FootStep split.view.layout split.view.generation split.view.caller (split_footing held split) (split_asks split) x done_footing (Some (once.Again (again.NeedsSplit n)))) sound.node so
+  foots (Done (done.Again why)) so = so
+
+  splitting_leads : Told call.view.layout call.view.generation (split_asks split) x → LeadsWithin call.view.layout (split_footing held split).stage (split_asks split) x
+      → Foots call.view (running_turned machine x)
+  splitting_leads told leads =
+      subst (λ (v : View). Foots v (running_turned machine x)) sound.view
+      (foots (split_turned split x) (splits_are_steps split held x sound.here begins
+      (subst (λ (v : View). Told v.layout v.generation (split_asks split) x) (sym sound.view) told)
+      (subst (λ (v : View). LeadsWithin v.layout (split_footing held split).stage (split_asks split) x) (sym sound.view) leads)))
+
+put_steps : (put : Put) (x : ℕ) → IsWhole put → IsPut put → Told (put_call put).view.layout (put_call put).view.generation (put_asks put) x
+    → Plain (put_call put).view.layout (put_call put).view.generation (put_call put).view.caller (put_stage put) (put_asks put) x (running_turned (Putting put) x)
+put_steps put x whole sound told =
+    plain _ _ _ (put_stage put) _ x (running_turned (Putting put) x) (put_single put whole) (puts_plain put x whole) (as_put (put_call put) _ _ x (put_turned put x) (put_leads put x whole sound told))
+
 own_steps : (running : Running) (x : ℕ) → IsRunning running → Told (running_call running).view.layout (running_call running).view.generation (running_asks running) x
-    → Step (running_call running).view.layout (running_call running).view.generation (stage_of running) (running_asks running) x
-    (stage_after (running_turned running x)) (reply_of (running_turned running x))
-own_steps (Getting get) x sound told = as_get (get_call get) _ _ x (get_turned get x) (get_leads get x sound told)
-own_steps (Putting put) x sound told = as_put (put_call put) _ _ x (put_turned put x) (put_leads put x sound told)
-own_steps (Deleting del) x sound told = as_del (del_call del) _ _ x (del_turned del x) (del_leads del x sound told)
+    → LeadsWithin (running_call running).view.layout (stage_of running) (running_asks running) x
+    → FootStep (running_call running).view.layout (running_call running).view.generation (running_call running).view.caller (footing_of running) (running_asks running) x
+    (footing_after (running_turned running x)) (reply_of (running_turned running x))
+own_steps (Getting get) x sound told leads =
+    plain _ _ _ (get_stage get) _ x (running_turned (Getting get) x) (get_single get) (gets_plain (get_turned get x)) (as_get (get_call get) _ _ x (get_turned get x) (get_leads get x sound told))
+own_steps (Putting (put.Splitting call hold bitmap value split)) x sound told leads = splitting_leads call hold bitmap value split sound x told leads
+own_steps (Putting (put.Looking lookup value)) x sound told leads = put_steps (put.Looking lookup value) x tt sound told
+own_steps (Putting (put.Filling fill)) x sound told leads = put_steps (put.Filling fill) x tt sound told
+own_steps (Putting (put.Replacing call hold bitmap hit value)) x sound told leads = put_steps (put.Replacing call hold bitmap hit value) x tt sound told
+own_steps (Putting (put.Finishing finish)) x sound told leads = put_steps (put.Finishing finish) x tt sound told
+own_steps (Deleting del) x sound told leads =
+    plain _ _ _ (del_stage del) _ x (running_turned (Deleting del) x) (del_single del) (dels_plain (del_turned del x)) (as_del (del_call del) _ _ x (del_turned del x) (del_leads del x sound told))
+
+pub turns_are_foot_steps : TurnsAreFootSteps
+turns_are_foot_steps l g running x sound told leads =
+    let at_layout = subst (λ (n : ℕ). Told l n (running_asks running) x) (sym sound.generation) told in
+    let own = own_steps running x sound.here (subst (λ (k : Layout). Told k (running_call running).view.generation (running_asks running) x) (sym sound.layout) at_layout)
+    (subst (λ (k : Layout). LeadsWithin k (stage_of running) (running_asks running) x) (sym sound.layout) leads) in
+    subst (λ (n : ℕ). FootStep l n (running_call running).view.caller (footing_of running) (running_asks running) x (footing_after (running_turned running x)) (reply_of (running_turned running x))) sound.generation
+    (subst (λ (k : Layout). FootStep k (running_call running).view.generation (running_call running).view.caller (footing_of running) (running_asks running) x (footing_after (running_turned running x)) (reply_of (running_turned running x)))
+    sound.layout own)
+
+-- the stage of what a call has
+pub footing_stage : (running : Running) → (footing_of running).stage ≡ stage_of running
+footing_stage (Getting get) = refl
+footing_stage (Putting (put.Looking lookup value)) = refl
+footing_stage (Putting (put.Filling fill)) = refl
+footing_stage (Putting (put.Replacing call hold bitmap hit value)) = refl
+footing_stage (Putting (put.Finishing finish)) = refl
+footing_stage (Putting (put.Splitting call hold bitmap value split)) = refl
+footing_stage (Deleting del) = refl
+
+pub after_stage : (turn : Turn Running (Once Placed)) → (footing_after turn).stage ≡ stage_after turn
+after_stage (Go running) = footing_stage running
+after_stage (Done answer) = refl
 
 pub turns_are_steps : TurnsAreSteps
-turns_are_steps l g running x sound told =
-    let at_layout = subst (λ (n : ℕ). Told l n (running_asks running) x) (sym sound.generation) told in
-    let own = own_steps running x sound.here (subst (λ (k : Layout). Told k (running_call running).view.generation (running_asks running) x) (sym sound.layout) at_layout) in
-    subst (λ (n : ℕ). Step l n (stage_of running) (running_asks running) x (stage_after (running_turned running x)) (reply_of (running_turned running x))) sound.generation
-    (subst (λ (k : Layout). Step k (running_call running).view.generation (stage_of running) (running_asks running) x (stage_after (running_turned running x)) (reply_of (running_turned running x)))
-    sound.layout own)
+turns_are_steps l g running x sound told leads =
+    let turn = running_turned running x in
+    subst (λ (q : Stage × Stage). AnyStep l g q.0 (running_asks running) x q.1 (reply_of turn)) (λ k. (footing_stage running k, after_stage turn k))
+    (foot_any l g (running_call running).view.caller (footing_of running) (footing_after turn) (running_asks running) x (reply_of turn) (turns_are_foot_steps l g running x sound told leads))
+
+-- a node that a split holds leads to one of the layout's
+pub leads_are_taken : LeadsAreTaken
+leads_are_taken l g (Getting get) x sound leads = tt
+leads_are_taken l g (Deleting del) x sound leads = tt
+leads_are_taken l g (Putting (put.Looking lookup value)) x sound leads = tt
+leads_are_taken l g (Putting (put.Filling fill)) x sound leads = tt
+leads_are_taken l g (Putting (put.Replacing call hold bitmap hit value)) x sound leads = tt
+leads_are_taken l g (Putting (put.Finishing finish)) x sound leads = tt
+leads_are_taken l g (Putting (put.Splitting call hold bitmap value split)) x sound leads = at split.at refl
+  where
+    layout : split.view.layout ≡ l
+    layout = ap (λ (v : View). v.layout) sound.here.view ∙ sound.layout
+
+    at : (at : SplitAt) → split.at ≡ at → LeadsIn split at x
+    at split_at.Next is =
+        let own : LeadsWithin split.view.layout (split_at_footing (found_full call hold bitmap) split split_at.Next).stage (split_at_asks split split_at.Next) x =
+        subst (λ (q : SplitAt). LeadsWithin split.view.layout (split_at_footing (found_full call hold bitmap) split q).stage (split_at_asks split q) x) is
+        (subst (λ (k : Layout). LeadsWithin k (split_footing (found_full call hold bitmap) split).stage (split_asks split) x) (sym layout) leads) in
+        own.held split.node split.word (found_full call hold bitmap) sound.here.here.node refl refl
+    at (split_at.Take next take) is = tt
+    at (split_at.Claim next line claim) is = tt
+    at (split_at.Read share full count) is = tt
+    at (split_at.Move moving) is = tt
+    at (split_at.Refuse next why) is = tt

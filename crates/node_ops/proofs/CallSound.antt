@@ -6,7 +6,7 @@ use Rattle.pm_words.specs.declared.machine.Turn.{Turn}
 use Rattle.pm_words.specs.declared.machine.Turn.TheVariants.{Go, Done}
 use Rattle.data_node.specs.Slots.{AreAllLive}
 use Rattle.data_node.specs.Bits.{lowest_clear}
-use Rattle.data_node.specs.Spots.{bitmap_offset, print_offset, slot_offset}
+use Rattle.data_node.specs.Spots.{bitmap_offset, slot_offset}
 use Rattle.data_node.proofs.BitLemmas.{lowest_clear-some, lowest_clear-none}
 use Rattle.call_stages.specs.declared.once.Once.{Once}
 use Rattle.call_stages.specs.declared.once.Placed.{Placed}
@@ -17,9 +17,7 @@ use Rattle.node_ops.specs.declared.lookup.Found.{Found}
 use Rattle.node_ops.specs.declared.lookup.Looked.{Looked}
 use Rattle.node_ops.specs.declared.lookup.Looked.TheVariants as looked
 use Rattle.node_ops.specs.declared.lookup.Lookup.{Lookup}
-use Rattle.node_ops.specs.declared.fence.Fence.{Fence}
-use Rattle.node_ops.specs.declared.fence.FenceAt.{FenceAt}
-use Rattle.node_ops.specs.declared.fence.FenceAt.TheVariants as fence_at
+use Rattle.pm_words.specs.declared.fence.Fence.{Fence}
 use Rattle.node_ops.specs.declared.finish.Finish.{Finish}
 use Rattle.node_ops.specs.declared.finish.FinishAt.{FinishAt}
 use Rattle.node_ops.specs.declared.finish.FinishAt.TheVariants as finish_at
@@ -35,28 +33,25 @@ use Rattle.node_ops.specs.declared.del.Del.TheVariants as del
 use Rattle.node_ops.specs.declared.running.Running.{Running}
 use Rattle.node_ops.specs.declared.running.Running.TheVariants.{Getting, Putting, Deleting}
 use Rattle.node_ops.specs.Calls.{IsCall, at_node, IsSame}
-use Rattle.node_ops.specs.FenceSteps.{IsFence, fence_of, fence_next, fence_at_next}
+use Rattle.pm_words.specs.Fences.{IsFence, line_of, fence_start, fence_next}
+use Rattle.pm_words.specs.Locations.{node_words}
+use Rattle.pm_words.proofs.Fencing.{fence_stays}
 use Rattle.node_ops.specs.LookupSteps.{IsHit, IsFoundBy, lookup_turned}
 use Rattle.node_ops.specs.FinishSteps.{IsFinish, IsFinishAt, finish_turned, finish_at_turned, finish_fenced}
 use Rattle.node_ops.specs.FillSteps.{IsFill, IsFillAt, fill_turned, fill_at_turned, slot_fenced, print_fenced}
 use Rattle.node_ops.specs.GetSteps.{IsGet, get_call, get_asks, get_turned, get_looked}
-use Rattle.node_ops.specs.PutSteps.{IsPut, put_call, put_asks, put_turned, put_looked, put_into, put_full, put_filled, put_finished}
+use Rattle.node_ops.specs.PutSteps.{IsPut, put_call, put_asks, put_turned, put_looked, put_into, put_full, put_filled, put_finished, put_split, put_leads}
+use Rattle.split_merge.specs.declared.splitting.Split.{Split}
+use Rattle.split_merge.specs.declared.splitting.SplitDone.{SplitDone}
+use Rattle.split_merge.specs.Splits.{split_asks, split_turned}
+use Rattle.split_merge.specs.SplitLaws.{SplitStays}
+use Rattle.split_merge.proofs.SplitStaying.{splits_stay}
+use Rattle.call_stages.specs.declared.view.View.{View}
 use Rattle.node_ops.specs.DelSteps.{IsDel, del_call, del_asks, del_turned, del_looked, del_hit, del_finished}
-use Rattle.node_ops.specs.RunningSteps.{running_call, running_asks, running_turned, wrapped, IsRunning}
+use Rattle.node_ops.specs.RunningSteps.{running_call, running_asks, running_turned, wrapped, IsRunning, running_leads}
 use Rattle.node_ops.specs.CallStages.{SoundAfter}
 use Rattle.node_ops.specs.Laws.{TurnsStaySound}
 use Rattle.node_ops.proofs.LookupSound.{SoundLooked, lookup_stays}
-
-fence_stays : (l : Layout) (fence : Fence) (x : ℕ) → IsFence l fence → x < 2 ^ 64 → IfSome (fence_next fence x) (IsFence l)
-fence_stays l fence x is fits = at fence.at
-  where
-    at : (at : FenceAt) → IfSome (fence_at_next fence at x) (IsFence l)
-    at fence_at.Load = record { within = is.within; word = is.word; value = fits }
-    at (fence_at.Drain value) =
-        elim (ltb (fence.word + 1) 8) as (λ b. ltb (fence.word + 1) 8 ≡ b → IfSome (cond b (Some (record fence { word = fence.word + 1; at = fence_at.Load })) None) (IsFence l)) [
-          | true ↦ λ more. record { within = is.within; word = ltb-true _ _ more; value = tt }
-          | false ↦ λ last. tt
-        ] refl
 
 -- the fields after a turn, and that the call is the same
 abbrev SoundFinish : Call → Turn Finish (Once Placed) → Type 0
@@ -66,28 +61,26 @@ SoundFinish call (Done answer) = Unit {0}
 finish_stays : (finish : Finish) (x : ℕ) → IsFinish finish → x < 2 ^ 64 → SoundFinish finish.call (finish_turned finish x)
 finish_stays finish x sound fits = at finish.at sound.here
   where
-    fenced : (o : Option Fence) → IfSome o (IsFence finish.call.view.layout) → SoundFinish finish.call (finish_fenced finish o)
-    fenced (Some fence) is = (record { call = sound.call; locked = sound.locked; here = is }, refl)
-    fenced None is = (record { call = sound.call; locked = sound.locked; here = tt }, refl)
+    fenced : (line : ℕ) (o : Option Fence) → line + 8 ≤ node_words finish.call.view.layout → IfSome o IsFence → SoundFinish finish.call (finish_fenced finish line o)
+    fenced line (Some fence) inside is = (record { call = sound.call; locked = sound.locked; here = (inside, is) }, refl)
+    fenced line None inside is = (record { call = sound.call; locked = sound.locked; here = tt }, refl)
 
     at : (at : FinishAt) → IsFinishAt finish.call at → SoundFinish finish.call (finish_at_turned finish at x)
-    at (finish_at.Fence fence) here = fenced (fence_next fence x) (fence_stays finish.call.view.layout fence x here fits)
+    at (finish_at.Fence line fence) here = fenced line (fence_next fence x) here.0 (fence_stays fence x here.1 fits)
     at finish_at.Add here = (record { call = sound.call; locked = sound.locked; here = tt }, refl)
     at (finish_at.Unlock place) here = tt
 
+starts : IsFence fence_start
+starts = record { word = omega arith; value = tt }
+
 -- the lines that are fenced are the node's
-bitmap_line : (call : Call) → IsFence call.view.layout (fence_of bitmap_offset)
-bitmap_line call = record { within = omega arith; word = omega arith; value = tt }
+bitmap_inside : (call : Call) → line_of bitmap_offset + 8 ≤ node_words call.view.layout
+bitmap_inside call = omega arith
 
-slot_line : (call : Call) (slot k : ℕ) → IsCall call → slot < call.view.layout.slots → k < 4 → IsFence call.view.layout (fence_of (slot_offset slot k))
-slot_line call slot k sound within small =
+value_inside : (call : Call) (slot : ℕ) → IsCall call → slot < call.view.layout.slots → line_of (slot_offset slot 3) + 8 ≤ node_words call.view.layout
+value_inside call slot sound within =
     let even : call.view.layout.slots % 2 ≡ 0 = sound.view.layout.slots.2 in
-    record { within = omega arith; word = omega arith; value = tt }
-
-print_line : (call : Call) (slot : ℕ) → IsCall call → slot < call.view.layout.slots → IsFence call.view.layout (fence_of (print_offset slot))
-print_line call slot sound within =
-    let few : call.view.layout.slots ≤ 64 = sound.view.layout.slots.1 in
-    record { within = omega arith; word = omega arith; value = tt }
+    omega arith
 
 abbrev SoundFill : Call → Turn Fill Finish → Type 0
 SoundFill call (Go fill) = IsFill fill × IsSame call fill.call
@@ -96,27 +89,27 @@ SoundFill call (Done finish) = IsFinish finish × IsSame call finish.call
 fill_stays : (fill : Fill) (x : ℕ) → IsFill fill → x < 2 ^ 64 → SoundFill fill.call (fill_turned fill x)
 fill_stays fill x sound fits = at fill.at sound.here
   where
-    on : (at : FillAt) → IsFillAt fill.call at → SoundFill fill.call (Go (record fill { at = at }))
+    on : (at : FillAt) → IsFillAt at → SoundFill fill.call (Go (record fill { at = at }))
     on at here = (record { call = sound.call; locked = sound.locked; bitmap = sound.bitmap; within = sound.within; clear = sound.clear; hit = sound.hit; value = sound.value; here = here }, refl)
 
-    slot_fence : (o : Option Fence) → IfSome o (IsFence fill.call.view.layout) → SoundFill fill.call (slot_fenced fill o)
+    slot_fence : (o : Option Fence) → IfSome o IsFence → SoundFill fill.call (slot_fenced fill o)
     slot_fence (Some fence) is = on (fill_at.FenceSlot fence) is
-    slot_fence None is = on (fill_at.FencePrint (fence_of (print_offset fill.slot))) (print_line fill.call fill.slot sound.call sound.within)
+    slot_fence None is = on (fill_at.FencePrint fence_start) starts
 
-    print_fence : (o : Option Fence) → IfSome o (IsFence fill.call.view.layout) → SoundFill fill.call (print_fenced fill o)
+    print_fence : (o : Option Fence) → IfSome o IsFence → SoundFill fill.call (print_fenced fill o)
     print_fence (Some fence) is = on (fill_at.FencePrint fence) is
     print_fence None is = on fill_at.Bitmap tt
 
-    at : (at : FillAt) → IsFillAt fill.call at → SoundFill fill.call (fill_at_turned fill at x)
+    at : (at : FillAt) → IsFillAt at → SoundFill fill.call (fill_at_turned fill at x)
     at (fill_at.Word k) here =
         elim (ltb (k + 1) 4) as (λ b. ltb (k + 1) 4 ≡ b → SoundFill fill.call (cond b (Go (record fill { at = fill_at.Word (k + 1) })) (Go (record fill { at = fill_at.Print })))) [
           | true ↦ λ more. on (fill_at.Word (k + 1)) (ltb-true _ _ more)
           | false ↦ λ last. on fill_at.Print tt
         ] refl
-    at fill_at.Print here = on (fill_at.FenceSlot (fence_of (slot_offset fill.slot 0))) (slot_line fill.call fill.slot 0 sound.call sound.within (omega arith))
-    at (fill_at.FenceSlot fence) here = slot_fence (fence_next fence x) (fence_stays fill.call.view.layout fence x here fits)
-    at (fill_at.FencePrint fence) here = print_fence (fence_next fence x) (fence_stays fill.call.view.layout fence x here fits)
-    at fill_at.Bitmap here = (record { call = sound.call; locked = sound.locked; here = bitmap_line fill.call }, refl)
+    at fill_at.Print here = on (fill_at.FenceSlot fence_start) starts
+    at (fill_at.FenceSlot fence) here = slot_fence (fence_next fence x) (fence_stays fence x here fits)
+    at (fill_at.FencePrint fence) here = print_fence (fence_next fence x) (fence_stays fence x here fits)
+    at fill_at.Bitmap here = (record { call = sound.call; locked = sound.locked; here = (bitmap_inside fill.call, starts) }, refl)
 
 -- a call of this layout and generation
 abbrev pub Stays : {M : Type 0} → (M → Type 0) → (M → Call) → Call → Turn M (Once Placed) → Type 0
@@ -132,13 +125,24 @@ get_stays (get.Looking lookup) x sound told = at (lookup_turned lookup x) (looku
     at (Done (looked.Found found)) is = ((sound.call, is.locked), refl)
 get_stays (get.Unlocking call hold old) x sound told = tt
 
-pub put_stays : (put : Put) (x : ℕ) → IsPut put → Told (put_call put).view.layout (put_call put).view.generation (put_asks put) x → Stays IsPut put_call (put_call put) (put_turned put x)
-put_stays (put.Looking lookup value) x sound told = at (lookup_turned lookup x) (lookup_stays lookup x sound.0 told)
+pub put_stays : (put : Put) (x : ℕ) → IsPut put → Told (put_call put).view.layout (put_call put).view.generation (put_asks put) x → put_leads put x → Stays IsPut put_call (put_call put) (put_turned put x)
+put_stays (put.Looking lookup value) x sound told leads = at (lookup_turned lookup x) (lookup_stays lookup x sound.0 told)
   where
     full : (found : Found) (hit : Option Hit) → IfSome hit (IsHit lookup.call.view.layout.slots found.directory.bitmap) → IsFoundBy lookup.call.view.layout.slots found
         → AreAllLive found.directory.bitmap lookup.call.view.layout.slots → Stays IsPut put_call lookup.call (Go (put_full lookup.call found.hold found.directory.bitmap hit value))
     full found (Some hit) is_hit is all = (record { call = sound.0.call; locked = is.locked; hit = is_hit; value = sound.1 }, refl)
-    full found None is_hit is all = (record { call = sound.0.call; locked = is.locked; full = all }, refl)
+    full found None is_hit is all = (
+      record {
+        call = sound.0.call;
+        locked = is.locked;
+        full = all;
+        here = record { view = sound.0.call.view; node = sound.0.call.node; lock = is.locked; here = tt };
+        view = refl;
+        node = refl;
+        word = refl;
+      },
+      refl,
+    )
 
     into : (found : Found) (clear : Option ℕ) → lowest_clear found.directory.bitmap lookup.call.view.layout.slots ≡ clear → IsFoundBy lookup.call.view.layout.slots found
         → Stays IsPut put_call lookup.call (Go (put_into lookup.call found value clear))
@@ -151,18 +155,36 @@ put_stays (put.Looking lookup value) x sound told = at (lookup_turned lookup x) 
     at (Go next) is = ((is.0, sound.1), is.1)
     at (Done (looked.Early answer)) is = tt
     at (Done (looked.Found found)) is = into found (lowest_clear found.directory.bitmap lookup.call.view.layout.slots) refl is
-put_stays (put.Filling fill) x sound told = at (fill_turned fill x) (fill_stays fill x sound told.fits)
+put_stays (put.Filling fill) x sound told leads = at (fill_turned fill x) (fill_stays fill x sound told.fits)
   where
     at : (turn : Turn Fill Finish) → SoundFill fill.call turn → Stays IsPut put_call fill.call (put_filled turn)
     at (Go next) is = is
     at (Done finish) is = is
-put_stays (put.Replacing call hold bitmap hit value) x sound told = (record { call = sound.call; locked = sound.locked; here = slot_line call hit.slot 3 sound.call sound.hit.within (omega arith) }, refl)
-put_stays (put.Finishing finish) x sound told = at (finish_turned finish x) (finish_stays finish x sound told.fits)
+put_stays (put.Replacing call hold bitmap hit value) x sound told leads = (record { call = sound.call; locked = sound.locked; here = (value_inside call hit.slot sound.call sound.hit.within, starts) }, refl)
+put_stays (put.Finishing finish) x sound told leads = at (finish_turned finish x) (finish_stays finish x sound told.fits)
   where
     at : (turn : Turn Finish (Once Placed)) → SoundFinish finish.call turn → Stays IsPut put_call finish.call (put_finished turn)
     at (Go next) is = is
     at (Done answer) is = tt
-put_stays (put.Refusing call hold bitmap value) x sound told = tt
+put_stays (put.Splitting call hold bitmap value split) x sound told leads = at (split_turned split x) (splits_stay split x (sound.here, own, leads))
+  where
+    own : Told split.view.layout split.view.generation (split_asks split) x
+    own = subst (λ (v : View). Told v.layout v.generation (split_asks split) x) (sym sound.view) told
+
+    at : (turn : Turn Split SplitDone) → SplitStays split turn → Stays IsPut put_call call (put_split call hold bitmap value turn)
+    at (Go next) is = (
+      record {
+        call = sound.call;
+        locked = sound.locked;
+        full = sound.full;
+        here = is.0;
+        view = is.1.view ∙ sound.view;
+        node = is.1.node ∙ sound.node;
+        word = is.1.word ∙ sound.word;
+      },
+      refl,
+    )
+    at (Done answer) is = tt
 
 pub del_stays : (del : Del) (x : ℕ) → IsDel del → Told (del_call del).view.layout (del_call del).view.generation (del_asks del) x → Stays IsDel del_call (del_call del) (del_turned del x)
 del_stays (del.Looking lookup) x sound told = at (lookup_turned lookup x) (lookup_stays lookup x sound told)
@@ -176,7 +198,7 @@ del_stays (del.Looking lookup) x sound told = at (lookup_turned lookup x) (looku
     at (Go next) is = is
     at (Done (looked.Early answer)) is = tt
     at (Done (looked.Found found)) is = hit found found.hit is.hit is
-del_stays (del.Clearing call hold bitmap hit) x sound told = (record { call = sound.call; locked = sound.locked; here = bitmap_line call }, refl)
+del_stays (del.Clearing call hold bitmap hit) x sound told = (record { call = sound.call; locked = sound.locked; here = (bitmap_inside call, starts) }, refl)
 del_stays (del.Finishing finish) x sound told = at (finish_turned finish x) (finish_stays finish x sound told.fits)
   where
     at : (turn : Turn Finish (Once Placed)) → SoundFinish finish.call turn → Stays IsDel del_call finish.call (del_finished turn)
@@ -197,13 +219,13 @@ as_whole sound of wrap l g call (Go machine) is_sound same layout generation sta
 as_whole sound of wrap l g call (Done answer) is_sound same layout generation stays = tt
 
 pub turns_stay_sound : TurnsStaySound
-turns_stay_sound l g running x sound told =
+turns_stay_sound l g running x sound told leads =
     let at_generation = subst (λ (n : ℕ). Told l n (running_asks running) x) (sym sound.generation) told in
     let own = subst (λ (k : Layout). Told k (running_call running).view.generation (running_asks running) x) (sym sound.layout) at_generation in
-    at running sound.layout sound.generation sound.here own
+    at running sound.layout sound.generation sound.here own leads
   where
     at : (running : Running) → (running_call running).view.layout ≡ l → (running_call running).view.generation ≡ g → IsRunning running
-        → Told (running_call running).view.layout (running_call running).view.generation (running_asks running) x → SoundAfter l g (running_turned running x)
-    at (Getting get) layout generation is own = as_whole IsGet get_call (λ (m : Get). Getting m) l g (get_call get) (get_turned get x) (λ m s. s) (λ m. refl) layout generation (get_stays get x is own)
-    at (Putting put) layout generation is own = as_whole IsPut put_call (λ (m : Put). Putting m) l g (put_call put) (put_turned put x) (λ m s. s) (λ m. refl) layout generation (put_stays put x is own)
-    at (Deleting del) layout generation is own = as_whole IsDel del_call (λ (m : Del). Deleting m) l g (del_call del) (del_turned del x) (λ m s. s) (λ m. refl) layout generation (del_stays del x is own)
+        → Told (running_call running).view.layout (running_call running).view.generation (running_asks running) x → running_leads running x → SoundAfter l g (running_turned running x)
+    at (Getting get) layout generation is own led = as_whole IsGet get_call (λ (m : Get). Getting m) l g (get_call get) (get_turned get x) (λ m s. s) (λ m. refl) layout generation (get_stays get x is own)
+    at (Putting put) layout generation is own led = as_whole IsPut put_call (λ (m : Put). Putting m) l g (put_call put) (put_turned put x) (λ m s. s) (λ m. refl) layout generation (put_stays put x is own led)
+    at (Deleting del) layout generation is own led = as_whole IsDel del_call (λ (m : Del). Deleting m) l g (del_call del) (del_turned del x) (λ m s. s) (λ m. refl) layout generation (del_stays del x is own)

@@ -20,7 +20,8 @@ use Rattle.data_list.specs.declared.target.Walked.TheVariants as walked
 use Rattle.data_list.specs.Walks.{sighting_of, walk_turned}
 use Rattle.data_list.specs.Hops.{CanGiveUp as WalkGivesUp, HopsAt}
 use Rattle.data_list.proofs.HopLaw.{walks_hop}
-use Rattle.data_list.specs.WalkStages.{is_worn_word, walk_stage}
+use Rattle.data_list.specs.WalkStages.{walk_stage}
+use Rattle.version_lock.specs.Versions.{is_worn_word, kept_count, locked_word}
 use Rattle.data_list.proofs.WalkLaw.{walk_loose}
 use Rattle.node_ops.specs.declared.call.Call.{Call}
 use Rattle.node_ops.specs.declared.lookup.Hold.{Hold}
@@ -32,7 +33,7 @@ use Rattle.node_ops.specs.declared.lookup.Looked.TheVariants as looked
 use Rattle.node_ops.specs.declared.lookup.Lookup.{Lookup}
 use Rattle.node_ops.specs.declared.lookup.LookupAt.{LookupAt}
 use Rattle.node_ops.specs.declared.lookup.LookupAt.TheVariants as look
-use Rattle.node_ops.specs.declared.fence.Fence.{Fence}
+use Rattle.pm_words.specs.declared.fence.Fence.{Fence}
 use Rattle.node_ops.specs.declared.fill.Fill.{Fill}
 use Rattle.node_ops.specs.declared.fill.FillAt.{FillAt}
 use Rattle.node_ops.specs.declared.fill.FillAt.TheVariants as fill_at
@@ -47,18 +48,24 @@ use Rattle.node_ops.specs.declared.del.Del.{Del}
 use Rattle.node_ops.specs.declared.del.Del.TheVariants as del
 use Rattle.node_ops.specs.declared.running.Running.{Running}
 use Rattle.node_ops.specs.declared.running.Running.TheVariants.{Getting, Putting, Deleting}
-use Rattle.version_lock.specs.Versions.{kept_count, locked_word}
 use Rattle.node_ops.specs.Calls.{at_node}
-use Rattle.node_ops.specs.FenceSteps.{fence_next}
+use Rattle.pm_words.specs.Fences.{fence_next}
 use Rattle.node_ops.specs.LookupSteps.{value_of, is_spent, candidate_turned, came_to, walked_on, goes_to, ends, lookup_turned, lookup_at_turned, IsLookupAt}
 use Rattle.node_ops.specs.FinishSteps.{finish_asks, finish_turned, finish_at_turned, finish_fenced}
 use Rattle.node_ops.specs.FillSteps.{fill_turned, fill_at_turned, slot_fenced, print_fenced}
 use Rattle.node_ops.specs.GetSteps.{get_looked}
-use Rattle.node_ops.specs.PutSteps.{put_looked, put_into, put_full, put_filled, put_finished}
+use Rattle.node_ops.specs.PutSteps.{put_looked, put_into, put_full, put_filled, put_finished, put_split}
 use Rattle.node_ops.specs.DelSteps.{del_looked, del_hit, del_finished}
 use Rattle.node_ops.specs.RunningSteps.{IsRunning, running_call, running_asks, running_turned, wrapped}
 use Rattle.node_ops.specs.Asked.{op_in, op_of_finish}
-use Rattle.node_ops.specs.CallStages.{stage_of, lookup_at_stage, lookup_stage, finish_at_held, finish_stage}
+use Rattle.node_ops.specs.CallStages.{stage_of, lookup_at_stage, lookup_stage, finish_at_held, finish_stage, found_full}
+use Rattle.split_merge.specs.declared.splitting.Split.{Split}
+use Rattle.split_merge.specs.declared.splitting.SplitDone.{SplitDone}
+use Rattle.split_merge.specs.Splits.{split_turned}
+use Rattle.split_merge.specs.SplitStages.{split_footing}
+use Rattle.split_merge.specs.OfSplits.{IsOfSplit}
+use Rattle.split_merge.proofs.OfSplits.{stages_are_of_splits}
+use Rattle.node_ops.proofs.SplitFacts.{split_uncounted, split_unplaced}
 use Rattle.node_ops.specs.Endings.{place_for, limit_in, IsPutOp, IsDone, DoneIsCounted, IsSpent, SpentIsLate, NoFreeIsOfPuts, RefusedIsUncounted, GoesOn, TurnsKeepPlace, LastCountsNothing, PlacedIsInTime}
 use Rattle.node_ops.proofs.OpLaw.{lookup_counts}
 
@@ -218,16 +225,16 @@ FinishTurns finish x (Done _) = ⊥
 finish_turns : (finish : Finish) (x : ℕ) → FinishTurns finish x (finish_turned finish x)
 finish_turns finish x = at finish.at
   where
-    fenced : (fence : Fence) (o : Option Fence) → FinishTurns (record finish { at = finish_at.Fence fence }) x (finish_fenced (record finish { at = finish_at.Fence fence }) o)
-    fenced fence (Some next) = refl
-    fenced fence None = refl
+    fenced : (line : ℕ) (fence : Fence) (o : Option Fence) → FinishTurns (record finish { at = finish_at.Fence line fence }) x (finish_fenced (record finish { at = finish_at.Fence line fence }) line o)
+    fenced line fence (Some next) = refl
+    fenced line fence None = refl
 
     writes : (new : Option ℕ) (place : ℕ) → Some place ≡ place_for (change_of (op_of_finish finish new)) place
     writes (Some value) place = refl
     writes None place = refl
 
     at : (at : FinishAt) → FinishTurns (record finish { at = at }) x (finish_at_turned (record finish { at = at }) at x)
-    at (finish_at.Fence fence) = fenced fence (fence_next fence x)
+    at (finish_at.Fence line fence) = fenced line fence (fence_next fence x)
     at finish_at.Add = (refl, refl, refl)
     at (finish_at.Unlock place) = (writes finish.new place, refl, refl, refl)
 
@@ -262,7 +269,14 @@ put_turns (put.Finishing finish) x is = at (finish_turned finish x) (finish_turn
     at (Done (once.Spent clock)) turns = absurd turns
     at (Done (once.Worn node word)) turns = absurd turns
     at (Done (once.Again why)) turns = absurd turns
-put_turns (put.Refusing call hold bitmap value) x is = ((refl, λ same. tt), refl)
+put_turns (put.Splitting call hold bitmap value split) x is = at (split_turned split x)
+  where
+    has : (m : Split) → IsOfSplit (found_full call hold bitmap) (split_footing (found_full call hold bitmap) m).stage
+    has m = stages_are_of_splits (found_full call hold bitmap) m
+
+    at : (turn : Turn Split SplitDone) → Turns (Putting (put.Splitting call hold bitmap value split)) x (wrapped Putting (put_split call hold bitmap value turn))
+    at (Go next) = keeps_none (Putting (put.Splitting call hold bitmap value split)) x (Putting (put.Splitting call hold bitmap value next)) (split_uncounted _ _ refl (has split)) (split_unplaced _ _ refl (has split)) (split_unplaced _ _ refl (has next))
+    at (Done answer) = ((split_unplaced _ _ refl (has split), λ same. tt), split_uncounted _ _ refl (has split))
 
 del_turns : (del : Del) (x : ℕ) → IsRunning (Deleting del) → Turns (Deleting del) x (running_turned (Deleting del) x)
 del_turns (del.Looking lookup) x is = at (lookup_turned lookup x) (looks_end lookup.call lookup.at x is.here)
@@ -317,7 +331,7 @@ last_counts_nothing running x answer is last = (ended running x answer is last).
 
 -- a write in its place is below its limit
 finish_in_time : (finish : Finish) (at : FinishAt) → (finish_at_held finish at).limit ≡ finish.call.limit
-finish_in_time finish (finish_at.Fence fence) = refl
+finish_in_time finish (finish_at.Fence line fence) = refl
 finish_in_time finish finish_at.Add = refl
 finish_in_time finish (finish_at.Unlock place) = refl
 
@@ -328,7 +342,8 @@ placed_is_in_time (Putting (put.Looking lookup value)) placed = absurd (placed (
 placed_is_in_time (Putting (put.Filling fill)) placed = refl
 placed_is_in_time (Putting (put.Replacing call hold bitmap hit value)) placed = refl
 placed_is_in_time (Putting (put.Finishing finish)) placed = finish_in_time finish finish.at
-placed_is_in_time (Putting (put.Refusing call hold bitmap value)) placed = refl
+placed_is_in_time (Putting (put.Splitting call hold bitmap value split)) placed =
+    absurd (placed (split_unplaced _ _ refl (stages_are_of_splits (found_full call hold bitmap) split)))
 placed_is_in_time (Deleting (del.Looking lookup)) placed = absurd (placed (lookup_unplaced lookup))
 placed_is_in_time (Deleting (del.Clearing call hold bitmap hit)) placed = refl
 placed_is_in_time (Deleting (del.Finishing finish)) placed = finish_in_time finish finish.at

@@ -22,14 +22,16 @@ use Rattle.call_stages.specs.Stages.{Knows, IsAmong, Held, Stage, Holds}
 use Rattle.call_stages.specs.Kinds.{Soils, Step, stores, commits}
 use Rattle.node_ops.specs.declared.call.Call.{Call}
 use Rattle.node_ops.specs.declared.lookup.Hit.{Hit}
-use Rattle.node_ops.specs.declared.fence.Fence.{Fence}
+use Rattle.pm_words.specs.declared.fence.Fence.{Fence}
 use Rattle.node_ops.specs.declared.fill.Fill.{Fill}
 use Rattle.node_ops.specs.declared.fill.FillAt.{FillAt}
 use Rattle.node_ops.specs.declared.fill.FillAt.TheVariants as fill_at
 use Rattle.node_ops.specs.declared.finish.Finish.{Finish}
-use Rattle.node_ops.specs.Calls.{name_in}
+use Rattle.node_ops.specs.Calls.{name_in, call_address}
+use Rattle.pm_words.specs.Locations.{node_words}
 use Rattle.node_ops.specs.LookupSteps.{value_of, IsHit}
-use Rattle.node_ops.specs.FenceSteps.{fence_of, fence_asks, fence_next}
+use Rattle.pm_words.specs.Fences.{line_of, fence_start, fence_asks, fence_next}
+use Rattle.node_ops.specs.FillSteps.{slot_line, print_line}
 use Rattle.node_ops.specs.FillSteps.{IsFill, IsFillAt, fill_word, bitmap_without, bitmap_after, fill_asks, fill_at_asks, fill_turned, fill_at_turned, slot_fenced, print_fenced}
 use Rattle.node_ops.specs.CallStages.{words_from, nothing, knows, decided, fence_rest, seen_hit, seen_fill, pair_words, slot_words, fill_stage, fill_at_held, finish_stage}
 use Rattle.node_ops.proofs.SeenLemmas.{Seen, Stand, seen_append, seen_front, seen_back, stand_taken, taken_stand, stand_whole, whole_stand, stand_updated, name_stands}
@@ -81,7 +83,7 @@ slot_behind slot (suc count) offset (inl within) = let low : slot_offset slot 0 
 slot_behind slot (suc count) offset (inr none) = absurd none
 
 -- the fingerprint is stored once the slot is, whose line the first fence is for
-print_soils : (slot : ℕ) → Soils (slot_words slot 4) (print_offset slot) (fence_rest (fence_of (slot_offset slot 0)) ∷ (print_offset slot, 1) ∷ [])
+print_soils : (slot : ℕ) → Soils (slot_words slot 4) (print_offset slot) (fence_rest (slot_line slot) fence_start ∷ (print_offset slot, 1) ∷ [])
 print_soils slot = record {
   stored = inr (inl (omega arith, omega arith));
   others = λ offset among. ⊎_elim (λ within.
@@ -91,7 +93,7 @@ print_soils slot = record {
 }
 
 -- the second fence is for the line of the fingerprint
-print_in_line : (slot offset : ℕ) → IsAmong ((print_offset slot, 1) ∷ []) offset → IsAmong (fence_rest (fence_of (print_offset slot)) ∷ []) offset
+print_in_line : (slot offset : ℕ) → IsAmong ((print_offset slot, 1) ∷ []) offset → IsAmong (fence_rest (print_line slot) fence_start ∷ []) offset
 print_in_line slot offset (inl within) =
     let low : print_offset slot ≤ offset = within.0 in
     let high : offset < print_offset slot + 1 = within.1 in
@@ -264,12 +266,12 @@ module _ (fill : Fill) (sound : IsFill fill) where
   written = decided fill.call fill.hold (value_of fill.hit) (knows (seen_fill fill (printed fill.prints fill.slot fill.call.print) 4))
 
   -- the first fence is followed by the second, and that by the bitmap
-  slot_fence : (x : ℕ) (stage : Stage) (action : Action) (o : Option Fence) → Fences fill.call fill.hold.locked written ((print_offset fill.slot, 1) ∷ []) stage action x o
+  slot_fence : (x : ℕ) (stage : Stage) (action : Action) (o : Option Fence) → Fences fill.call fill.hold.locked written (slot_line fill.slot) ((print_offset fill.slot, 1) ∷ []) stage action x o
       → Fills fill.call stage action x (slot_fenced fill o)
   slot_fence x stage action (Some fence) step = step
-  slot_fence x stage action None step = step (fence_rest (fence_of (print_offset fill.slot)) ∷ []) false (print_in_line fill.slot)
+  slot_fence x stage action None step = step (fence_rest (print_line fill.slot) fence_start ∷ []) false (print_in_line fill.slot)
 
-  print_fence : (x : ℕ) (stage : Stage) (action : Action) (o : Option Fence) → Fences fill.call fill.hold.locked written [] stage action x o → Fills fill.call stage action x (print_fenced fill o)
+  print_fence : (x : ℕ) (stage : Stage) (action : Action) (o : Option Fence) → Fences fill.call fill.hold.locked written (print_line fill.slot) [] stage action x o → Fills fill.call stage action x (print_fenced fill o)
   print_fence x stage action (Some fence) step = step
   print_fence x stage action None step = step [] false (λ offset none. none)
 
@@ -286,9 +288,16 @@ module _ (fill : Fill) (sound : IsFill fill) where
       let facts = durable s (slot_words fill.slot k) fill.prints k (slot_behind fill.slot k) before in
       means_slot_store slots range s m fill.slot k (fill_word fill k) limit small (subst (λ b. IsClear b fill.slot) (sym facts.1) sound.clear) means)
 
-  pub fill_at_leads : (at : FillAt) (x : ℕ) → IsFillAt fill.call at
+  -- the lines are the node's
+  slot_inside : slot_line fill.slot + 8 ≤ node_words fill.call.view.layout
+  slot_inside = let even : slots % 2 ≡ 0 = sound.call.view.layout.slots.2 in let within : fill.slot < slots = sound.within in omega arith
+
+  print_inside : print_line fill.slot + 8 ≤ node_words fill.call.view.layout
+  print_inside = let few = limit in let within : fill.slot < slots = sound.within in omega arith
+
+  pub fill_at_leads : (at : FillAt) (x : ℕ) → IsFillAt at → x < 2 ^ 64
       → Fills fill.call (Holds fill.call.node fill.hold.locked (fill_at_held fill at)) (fill_at_asks fill at) x (fill_at_turned fill at x)
-  fill_at_leads (fill_at.Word k) x small =
+  fill_at_leads (fill_at.Word k) x small fits =
       elim (ltb (k + 1) 4) as (λ b. ltb (k + 1) 4 ≡ b → Fills fill.call (Holds fill.call.node fill.hold.locked (fill_at_held fill (fill_at.Word k)))
       (fill_at_asks fill (fill_at.Word k)) x (cond b (Go (record fill { at = fill_at.Word (k + 1) })) (Go (record fill { at = fill_at.Print })))) [
         | true ↦ λ is. word_step k x small
@@ -297,7 +306,7 @@ module _ (fill : Fill) (sound : IsFill fill) where
             subst (λ (count : ℕ). Step fill.call.view.layout fill.call.view.generation
             (Holds fill.call.node fill.hold.locked (writing k)) (fill_at_asks fill (fill_at.Word k)) x (Holds fill.call.node fill.hold.locked (writing count)) None) last (word_step k x small)
       ] refl
-  fill_at_leads fill_at.Print x here =
+  fill_at_leads fill_at.Print x here fits =
       let small_slot : fill.slot < 64 = in_node in
       let word = printed fill.prints fill.slot fill.call.print in
       stores (sound.call.node, (omega arith)) (inr (omega arith)) (printed_below fill.prints fill.slot fill.call.print print_below) (record { pending = refl; ready = refl; placed = refl })
@@ -307,16 +316,16 @@ module _ (fill : Fill) (sound : IsFill fill) where
       let facts = durable s (slot_words fill.slot 4) fill.prints 4 (slot_behind fill.slot 4) before in
       subst (λ w. Means slots range (updated s (print_offset fill.slot) (printed w fill.slot fill.call.print)) m) facts.0
       (means_print_store s fill.slot fill.call.print in_node print_below slots range m (subst (λ b. IsClear b fill.slot) (sym facts.1) sound.clear) means))
-  fill_at_leads (fill_at.FenceSlot fence) x here = slot_fence x _ (fence_asks fill.call fence) (fence_next fence x)
-      (fence_leads fill.call fence fill.hold.locked written ((print_offset fill.slot, 1) ∷ []) x sound.call here refl)
-  fill_at_leads (fill_at.FencePrint fence) x here = print_fence x _ (fence_asks fill.call fence) (fence_next fence x)
-      (fence_leads fill.call fence fill.hold.locked written [] x sound.call here refl)
-  fill_at_leads fill_at.Bitmap x here =
+  fill_at_leads (fill_at.FenceSlot fence) x here fits = slot_fence x _ (fence_asks (call_address fill.call (slot_line fill.slot + fence.word)) fence) (fence_next fence x)
+      (fence_leads fill.call (slot_line fill.slot) fence fill.hold.locked written ((print_offset fill.slot, 1) ∷ []) x sound.call slot_inside here fits refl)
+  fill_at_leads (fill_at.FencePrint fence) x here fits = print_fence x _ (fence_asks (call_address fill.call (print_line fill.slot + fence.word)) fence) (fence_next fence x)
+      (fence_leads fill.call (print_line fill.slot) fence fill.hold.locked written [] x sound.call print_inside here fits refl)
+  fill_at_leads fill_at.Bitmap x here fits =
       let word = printed fill.prints fill.slot fill.call.print in
-      commits {h = written} {k = nothing} {dirty = fence_rest (fence_of bitmap_offset) ∷ []} {old = value_of fill.hit} {c = change.Put name fill.value}
+      commits {h = written} {k = nothing} {dirty = fence_rest (line_of bitmap_offset) fence_start ∷ []} {old = value_of fill.hit} {c = change.Put name fill.value}
       (sound.call.node, (omega arith)) (inl refl) bitmap_below (record { pending = refl; ready = refl; placed = refl }) refl (inl (omega arith, omega arith)) refl refl
       (λ s tidy before. record { seen = tt; left = tt })
       (λ range s m in_range before old means. means_filled range s m in_range (relies s word 4 (omega arith) before) old means)
 
-pub fill_leads : (fill : Fill) (x : ℕ) → IsFill fill → Fills fill.call (fill_stage fill) (fill_asks fill) x (fill_turned fill x)
-fill_leads fill x sound = fill_at_leads fill sound fill.at x sound.here
+pub fill_leads : (fill : Fill) (x : ℕ) → IsFill fill → x < 2 ^ 64 → Fills fill.call (fill_stage fill) (fill_asks fill) x (fill_turned fill x)
+fill_leads fill x sound fits = fill_at_leads fill sound fill.at x sound.here fits

@@ -1,6 +1,6 @@
 -- Each turn of a fence and of the end of a write is a step of a kind.
-use Rattle.std.proofs.Common.{◌≡◌, ℕ, ◌+◌, ◌-◌, ◌<◌, ◌≤◌, Bool, true, false, cond, ltb, List, [], ◌∷◌, Option, Some, None, inl, inr, refl, arith}
-use Rattle.std.proofs.lemmas.Bool.{cases_eq, ltb-false}
+use Rattle.std.proofs.Common.{◌≡◌, ℕ, ◌+◌, ◌-◌, ◌^◌, ◌<◌, ◌≤◌, Bool, true, false, List, [], ◌∷◌, Option, Some, None, inl, inr, refl, arith}
+use Rattle.std.proofs.lemmas.Bool.{cases_eq}
 use Rattle.pm_words.specs.declared.action.Action.{Action}
 use Rattle.pm_words.specs.declared.machine.Turn.{Turn}
 use Rattle.pm_words.specs.declared.machine.Turn.TheVariants.{Go, Done}
@@ -10,23 +10,23 @@ use Rattle.call_stages.specs.declared.once.Placed.{Placed}
 use Rattle.call_stages.specs.Stages.{IsAmong, Held, Stage, Idle, Holds}
 use Rattle.call_stages.specs.Kinds.{Cleans, Step, looks, glances, drains, counts, unlocks, writes}
 use Rattle.node_ops.specs.declared.call.Call.{Call}
-use Rattle.node_ops.specs.declared.fence.Fence.{Fence}
-use Rattle.node_ops.specs.declared.fence.FenceAt.{FenceAt}
-use Rattle.node_ops.specs.declared.fence.FenceAt.TheVariants as fence_at
+use Rattle.pm_words.specs.declared.fence.Fence.{Fence}
 use Rattle.node_ops.specs.declared.finish.Finish.{Finish}
 use Rattle.node_ops.specs.declared.finish.FinishAt.{FinishAt}
 use Rattle.node_ops.specs.declared.finish.FinishAt.TheVariants as finish_at
 use Rattle.node_ops.specs.Calls.{IsCall, call_address, name_in}
-use Rattle.node_ops.specs.FenceSteps.{IsFence, IsFenceAt, fence_asks, fence_at_asks, fence_next, fence_at_next}
+use Rattle.pm_words.specs.Fences.{IsFence, fence_asks, fence_next, FenceTurn}
+use Rattle.pm_words.specs.Fences as turn
+use Rattle.pm_words.proofs.Fencing.{fence_turns}
 use Rattle.node_ops.specs.FinishSteps.{IsFinish, IsFinishAt, finish_asks, finish_at_asks, finish_turned, finish_at_turned, finish_fenced}
 use Rattle.node_ops.specs.CallStages.{fencing, finish_stage, finish_at_held, changes, change_to}
 
 -- A fence that goes on has one word fewer to make durable. At its end only the other words may not be, and the call may
 -- be ready to count.
-abbrev pub Fences : Call → ℕ → Held → List (ℕ × ℕ) → Stage → Action → ℕ → Option Fence → Type 0
-Fences call word held others stage action x (Some fence) =
-    Step call.view.layout call.view.generation stage action x (Holds call.node word (fencing held fence others)) None
-Fences call word held others stage action x None =
+abbrev pub Fences : Call → ℕ → Held → ℕ → List (ℕ × ℕ) → Stage → Action → ℕ → Option Fence → Type 0
+Fences call word held line others stage action x (Some fence) =
+    Step call.view.layout call.view.generation stage action x (Holds call.node word (fencing held line fence others)) None
+Fences call word held line others stage action x None =
     (dirty : List (ℕ × ℕ)) (ready : Bool) → ((offset : ℕ) → IsAmong others offset → IsAmong dirty offset) →
     Step call.view.layout call.view.generation stage action x (Holds call.node word (record held { dirty = dirty; hand = None; ready = ready })) None
 
@@ -50,25 +50,16 @@ rest_ends line word others dirty small last kept offset (inl within) =
     let high : offset < line + word + (8 - word) = within.1 in
     inl (omega arith)
 
-pub fence_leads : (call : Call) (fence : Fence) (word : ℕ) (held : Held) (others : List (ℕ × ℕ)) (x : ℕ) → IsCall call → IsFence call.view.layout fence → held.ready ≡ false
-    → Fences call word held others (Holds call.node word (fencing held fence others)) (fence_asks call fence) x (fence_next fence x)
-fence_leads call fence word held others x sound is waits = at fence.at is.value
+pub fence_leads : (call : Call) (line : ℕ) (fence : Fence) (word : ℕ) (held : Held) (others : List (ℕ × ℕ)) (x : ℕ) → IsCall call → line + 8 ≤ node_words call.view.layout → IsFence fence → x < 2 ^ 64
+    → held.ready ≡ false → Fences call word held line others (Holds call.node word (fencing held line fence others)) (fence_asks (call_address call (line + fence.word)) fence) x (fence_next fence x)
+fence_leads call line fence word held others x sound inside is fits waits = leads fence _ _ (fence_turns (call_address call (line + fence.word)) fence x is fits)
   where
-    within : fence.line + fence.word < node_words call.view.layout
-    within = let last : fence.line + 8 ≤ node_words call.view.layout = is.within in let small : fence.word < 8 = is.word in omega arith
-
-    at : (at : FenceAt) → IsFenceAt at → Fences call word held others (Holds call.node word (fencing held (record fence { at = at }) others))
-        (fence_at_asks (call_address call (fence.line + fence.word)) at) x (fence_at_next fence at x)
-    at fence_at.Load fits = looks (glances (sound.node, within) waits)
-    at (fence_at.Drain value) fits =
-        elim (ltb (fence.word + 1) 8) as (λ b. ltb (fence.word + 1) 8 ≡ b →
-        Fences call word held others (Holds call.node word (fencing held (record fence { at = fence_at.Drain value }) others))
-        (fence_at_asks (call_address call (fence.line + fence.word)) (fence_at.Drain value)) x
-        (cond b (Some (record fence { word = fence.word + 1; at = fence_at.Load })) None)) [
-          | true ↦ λ more. drains (sound.node, within) fits waits refl (rest_shrinks fence.line fence.word others is.word)
-          | false ↦ λ last dirty ready kept. drains (sound.node, within) fits waits refl
-              (rest_ends fence.line fence.word others dirty is.word (ltb-false _ _ last) kept)
-        ] refl
+    leads : (before : Fence) (action : Action) (after : Option Fence) → FenceTurn (call_address call (line + before.word)) x before action after
+        → Fences call word held line others (Holds call.node word (fencing held line before others)) action x after
+    leads before action after (turn.loads {word = k} small told) = looks (glances (sound.node, omega arith) waits)
+    leads before action after (turn.drains {word = k} more value) = drains (sound.node, omega arith) value waits refl (rest_shrinks line k others (omega arith))
+    leads before action after (turn.drains_last {word = k} last value) = λ dirty ready kept. drains (sound.node, omega arith) value waits refl
+        (rest_ends line k others dirty (omega arith) (omega arith) kept)
 
 -- what is held while the bitmap's or the value's line is made durable
 abbrev stored : Finish → Held
@@ -79,16 +70,17 @@ abbrev pub Finishes : Call → Stage → Action → ℕ → Turn Finish (Once Pl
 Finishes call stage action x (Go finish) = Step call.view.layout call.view.generation stage action x (finish_stage finish) None
 Finishes call stage action x (Done answer) = Step call.view.layout call.view.generation stage action x Idle (Some answer)
 
-pub finish_leads : (finish : Finish) (x : ℕ) → IsFinish finish → Finishes finish.call (finish_stage finish) (finish_asks finish) x (finish_turned finish x)
-finish_leads finish x sound = at finish.at sound.here
+pub finish_leads : (finish : Finish) (x : ℕ) → IsFinish finish → x < 2 ^ 64 → Finishes finish.call (finish_stage finish) (finish_asks finish) x (finish_turned finish x)
+finish_leads finish x sound fits = at finish.at sound.here
   where
-    fenced : (stage : Stage) (action : Action) (o : Option Fence) → Fences finish.call finish.hold.locked (stored finish) [] stage action x o → Finishes finish.call stage action x (finish_fenced finish o)
-    fenced stage action (Some fence) step = step
-    fenced stage action None step = step [] true (λ offset none. none)
+    fenced : (line : ℕ) (stage : Stage) (action : Action) (o : Option Fence) → Fences finish.call finish.hold.locked (stored finish) line [] stage action x o
+        → Finishes finish.call stage action x (finish_fenced finish line o)
+    fenced line stage action (Some fence) step = step
+    fenced line stage action None step = step [] true (λ offset none. none)
 
     at : (at : FinishAt) → IsFinishAt finish.call at
         → Finishes finish.call (Holds finish.call.node finish.hold.locked (finish_at_held finish at)) (finish_at_asks finish at) x (finish_at_turned finish at x)
-    at (finish_at.Fence fence) here = fenced _ (fence_asks finish.call fence) (fence_next fence x)
-        (fence_leads finish.call fence finish.hold.locked (stored finish) [] x sound.call here refl)
+    at (finish_at.Fence line fence) here = fenced line _ (fence_asks (call_address finish.call (line + fence.word)) fence) (fence_next fence x)
+        (fence_leads finish.call line fence finish.hold.locked (stored finish) [] x sound.call here.0 here.1 fits refl)
     at finish_at.Add here = counts refl refl refl refl
     at (finish_at.Unlock place) here = unlocks refl refl refl refl (writes refl refl)

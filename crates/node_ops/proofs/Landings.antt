@@ -4,7 +4,7 @@ use Rattle.std.specs.Prelude.{◌==◌}
 use Rattle.pm_words.specs.declared.again.Again.TheVariants.{Moved}
 use Rattle.pm_words.specs.declared.machine.Turn.{Turn}
 use Rattle.pm_words.specs.declared.machine.Turn.TheVariants.{Go, Done}
-use Rattle.version_lock.specs.Versions.{kept_count, locked_word}
+use Rattle.version_lock.specs.Versions.{kept_count, locked_word, is_worn_word}
 use Rattle.data_node.specs.Bits.{lowest_clear}
 use Rattle.call_stages.specs.declared.once.Once.{Once}
 use Rattle.call_stages.specs.declared.once.Once.TheVariants as once
@@ -13,7 +13,6 @@ use Rattle.data_list.specs.declared.target.Walked.{Walked}
 use Rattle.data_list.specs.declared.target.Walked.TheVariants as walked
 use Rattle.data_list.specs.declared.walk.Walk.{Walk}
 use Rattle.data_list.specs.Walks.{sighting_of, walk_turned}
-use Rattle.data_list.specs.WalkStages.{is_worn_word}
 use Rattle.node_ops.specs.declared.call.Call.{Call}
 use Rattle.node_ops.specs.declared.lookup.Hold.{Hold}
 use Rattle.node_ops.specs.declared.lookup.Hit.{Hit}
@@ -24,7 +23,7 @@ use Rattle.node_ops.specs.declared.lookup.Looked.TheVariants as looked
 use Rattle.node_ops.specs.declared.lookup.Lookup.{Lookup}
 use Rattle.node_ops.specs.declared.lookup.LookupAt.{LookupAt}
 use Rattle.node_ops.specs.declared.lookup.LookupAt.TheVariants as look
-use Rattle.node_ops.specs.declared.fence.Fence.{Fence}
+use Rattle.pm_words.specs.declared.fence.Fence.{Fence}
 use Rattle.node_ops.specs.declared.fill.Fill.{Fill}
 use Rattle.node_ops.specs.declared.fill.FillAt.{FillAt}
 use Rattle.node_ops.specs.declared.fill.FillAt.TheVariants as fill_at
@@ -40,12 +39,15 @@ use Rattle.node_ops.specs.declared.del.Del.TheVariants as del
 use Rattle.node_ops.specs.declared.running.Running.{Running}
 use Rattle.node_ops.specs.declared.running.Running.TheVariants.{Getting, Putting, Deleting}
 use Rattle.node_ops.specs.Calls.{at_node}
-use Rattle.node_ops.specs.FenceSteps.{fence_next}
+use Rattle.pm_words.specs.Fences.{fence_next}
 use Rattle.node_ops.specs.LookupSteps.{is_spent, candidate_turned, walked_on, goes_to, ends, lookup_turned, lookup_at_turned}
 use Rattle.node_ops.specs.FinishSteps.{finish_turned, finish_at_turned, finish_fenced}
 use Rattle.node_ops.specs.FillSteps.{fill_turned, fill_at_turned, slot_fenced, print_fenced}
 use Rattle.node_ops.specs.GetSteps.{get_looked}
-use Rattle.node_ops.specs.PutSteps.{put_call, put_looked, put_into, put_full, put_filled, put_finished}
+use Rattle.node_ops.specs.PutSteps.{put_call, put_looked, put_into, put_full, put_filled, put_finished, put_split}
+use Rattle.split_merge.specs.declared.splitting.Split.{Split}
+use Rattle.split_merge.specs.declared.splitting.SplitDone.{SplitDone}
+use Rattle.split_merge.specs.Splits.{split_turned}
 use Rattle.node_ops.specs.DelSteps.{del_call, del_looked, del_hit, del_finished}
 use Rattle.node_ops.specs.RunningSteps.{running_call, running_turned, wrapped}
 use Rattle.node_ops.specs.Landings.{lookup_walk, walk_in, LandsBy, Lands, TurnsLand}
@@ -123,12 +125,12 @@ CallStays call (Done answer) = Unit {0}
 finish_keeps : (finish : Finish) (x : ℕ) → CallStays finish.call (finish_turned finish x)
 finish_keeps finish x = at finish.at
   where
-    fenced : (o : Option Fence) → CallStays finish.call (finish_fenced finish o)
-    fenced (Some fence) = refl
-    fenced None = refl
+    fenced : (line : ℕ) (o : Option Fence) → CallStays finish.call (finish_fenced finish line o)
+    fenced line (Some fence) = refl
+    fenced line None = refl
 
     at : (at : FinishAt) → CallStays finish.call (finish_at_turned finish at x)
-    at (finish_at.Fence fence) = fenced (fence_next fence x)
+    at (finish_at.Fence line fence) = fenced line (fence_next fence x)
     at finish_at.Add = refl
     at (finish_at.Unlock place) = tt
 
@@ -172,7 +174,11 @@ put_lands (put.Finishing finish) x = at (finish_turned finish x) (finish_keeps f
     at : (turn : Turn Finish (Once Placed)) → CallStays finish.call turn → LandsAfter (Putting (put.Finishing finish)) x (wrapped Putting (put_finished turn))
     at (Go next) same = same
     at (Done answer) same = tt
-put_lands (put.Refusing call hold bitmap value) x = tt
+put_lands (put.Splitting call hold bitmap value split) x = at (split_turned split x)
+  where
+    at : (turn : Turn Split SplitDone) → LandsAfter (Putting (put.Splitting call hold bitmap value split)) x (wrapped Putting (put_split call hold bitmap value turn))
+    at (Go next) = refl
+    at (Done answer) = tt
 
 del_lands : (del : Del) (x : ℕ) → LandsAfter (Deleting del) x (running_turned (Deleting del) x)
 del_lands (del.Looking lookup) x = at (lookup_turned lookup x) (looks_land lookup.call lookup.at x)

@@ -9,3 +9,4 @@ pub mod CallSound
 pub mod OpLaw
 pub mod Endings
 pub mod Landings
+pub mod SplitFacts

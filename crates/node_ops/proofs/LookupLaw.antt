@@ -15,7 +15,7 @@ use Rattle.pm_words.specs.declared.again.Again.TheVariants.{Moved}
 use Rattle.pm_words.specs.declared.machine.Turn.{Turn}
 use Rattle.pm_words.specs.declared.machine.Turn.TheVariants.{Go, Done}
 use Rattle.pm_words.specs.Locations.{node_words}
-use Rattle.version_lock.specs.Versions.{kept_count, locked_word}
+use Rattle.version_lock.specs.Versions.{kept_count, locked_word, is_worn_word}
 use Rattle.data_node.specs.Slots.{IsLive}
 use Rattle.data_node.specs.Bits.{without_live, lowest_live, candidate_bits}
 use Rattle.pm_words.specs.declared.layout.Layout.{Layout}
@@ -35,7 +35,7 @@ use Rattle.data_list.specs.declared.target.Walked.TheVariants as walked
 use Rattle.data_list.specs.declared.walk.Walk.{Walk}
 use Rattle.data_list.specs.Keys.{key_number, key_words}
 use Rattle.data_list.specs.Walks.{sighting_of, walk_asks, walk_turned}
-use Rattle.data_list.specs.WalkStages.{is_worn_word, walk_stage, sight_in}
+use Rattle.data_list.specs.WalkStages.{walk_stage, sight_in}
 use Rattle.data_list.specs.Laws.{IsSighting, IsTarget, EndsAt, Walks}
 use Rattle.data_list.proofs.WalkLaw.{walks_are_looks}
 use Rattle.node_ops.specs.declared.call.Call.{Call}

@@ -8,7 +8,7 @@ use Rattle.pm_words.specs.declared.again.Again.TheVariants.{Moved}
 use Rattle.pm_words.specs.declared.machine.Turn.{Turn}
 use Rattle.pm_words.specs.declared.machine.Turn.TheVariants.{Go, Done}
 use Rattle.version_lock.specs.declared.TheConstants.{LAST_COUNT, GENERATION_LIMIT}
-use Rattle.version_lock.specs.Versions.{generation_of, count_of, kept_count, locked_word, IsLocked}
+use Rattle.version_lock.specs.Versions.{generation_of, count_of, kept_count, locked_word, IsLocked, is_worn_word}
 use Rattle.version_lock.proofs.VersionFacts.{kept_count-earlier, kept_count-same, count_of-locked_word, count_of-le, IsLocked-locked_word}
 use Rattle.data_node.specs.Slots.{IsLive}
 use Rattle.data_node.specs.Bits.{without_live, lowest_live, candidate_bits}
@@ -24,7 +24,8 @@ use Rattle.node_ops.specs.declared.lookup.Looked.TheVariants as looked
 use Rattle.node_ops.specs.declared.lookup.LookupAt.{LookupAt}
 use Rattle.node_ops.specs.declared.lookup.LookupAt.TheVariants as look
 use Rattle.node_ops.specs.declared.lookup.Lookup.{Lookup}
-use Rattle.node_ops.specs.Calls.{IsCall, IsLockWord, at_node, IsSame}
+use Rattle.node_ops.specs.Calls.{IsCall, at_node, IsSame}
+use Rattle.version_lock.specs.Versions.{IsLockWord}
 use Rattle.node_ops.specs.LookupSteps.{walked_on, is_spent, goes_to, ends, saw_prints, saw_name, saw_directory, next_candidate, candidate_turned, lookup_asks, lookup_at_asks, lookup_turned, lookup_at_turned, IsLocking, IsDirectory, IsComparing, IsFoundBy, IsLookupAt, IsLookup}
 use Rattle.pm_words.specs.declared.action.Action.{Action}
 use Rattle.call_stages.specs.Stages.{Stage}
@@ -33,9 +34,9 @@ use Rattle.data_list.specs.declared.target.Walked.TheVariants as walked
 use Rattle.data_list.specs.declared.walk.Walk.{Walk}
 use Rattle.data_list.specs.Keys.{key_words}
 use Rattle.data_list.specs.Walks.{sighting_of, walk_asks, walk_turned}
-use Rattle.data_list.specs.WalkStages.{is_worn_word, walk_stage}
+use Rattle.data_list.specs.WalkStages.{walk_stage}
 use Rattle.data_list.specs.Laws.{IsTarget, Walks}
-use Rattle.data_list.proofs.WalkLaw.{fresh_word}
+use Rattle.version_lock.proofs.WordTests.{fresh_word}
 use Rattle.node_ops.proofs.LookupLaw.{own_walks}
 
 -- the fields after a turn, and that the call is the same, maybe at another node

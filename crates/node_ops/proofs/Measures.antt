@@ -15,7 +15,7 @@ use Rattle.node_ops.specs.declared.lookup.LookupAt.{LookupAt}
 use Rattle.node_ops.specs.declared.lookup.LookupAt.TheVariants as look
 use Rattle.node_ops.specs.declared.lookup.Lookup.{Lookup}
 use Rattle.node_ops.specs.declared.lookup.Looked.{Looked}
-use Rattle.node_ops.specs.declared.fence.Fence.{Fence}
+use Rattle.pm_words.specs.declared.fence.Fence.{Fence}
 use Rattle.node_ops.specs.declared.fill.Fill.{Fill}
 use Rattle.node_ops.specs.declared.fill.FillAt.{FillAt}
 use Rattle.node_ops.specs.declared.fill.FillAt.TheVariants as fill_at
@@ -23,7 +23,7 @@ use Rattle.node_ops.specs.declared.finish.Finish.{Finish}
 use Rattle.call_stages.specs.declared.once.Once.{Once}
 use Rattle.call_stages.specs.declared.once.Placed.{Placed}
 use Rattle.node_ops.specs.declared.running.Running.{Running}
-use Rattle.node_ops.specs.FenceSteps.{fence_next}
+use Rattle.pm_words.specs.Fences.{fence_next}
 use Rattle.node_ops.specs.RunningSteps.{running_left}
 use Rattle.node_ops.specs.LookupSteps.{IsLookup, IsLookupAt, IsComparing, lookup_left, lookup_at_left, saw_name, next_candidate, candidate_turned}
 use Rattle.node_ops.specs.FinishSteps.{finish_left}

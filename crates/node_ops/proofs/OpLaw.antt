@@ -22,7 +22,7 @@ use Rattle.node_ops.specs.declared.lookup.Looked.TheVariants as looked
 use Rattle.node_ops.specs.declared.lookup.Lookup.{Lookup}
 use Rattle.node_ops.specs.declared.lookup.LookupAt.{LookupAt}
 use Rattle.node_ops.specs.declared.lookup.LookupAt.TheVariants as look
-use Rattle.node_ops.specs.declared.fence.Fence.{Fence}
+use Rattle.pm_words.specs.declared.fence.Fence.{Fence}
 use Rattle.node_ops.specs.declared.fill.Fill.{Fill}
 use Rattle.node_ops.specs.declared.fill.FillAt.{FillAt}
 use Rattle.node_ops.specs.declared.fill.FillAt.TheVariants as fill_at
@@ -38,15 +38,21 @@ use Rattle.node_ops.specs.declared.del.Del.TheVariants as del
 use Rattle.node_ops.specs.declared.running.Running.{Running}
 use Rattle.node_ops.specs.declared.running.Running.TheVariants.{Getting, Putting, Deleting}
 use Rattle.node_ops.specs.Calls.{name_in}
-use Rattle.node_ops.specs.FenceSteps.{fence_next}
+use Rattle.pm_words.specs.Fences.{fence_next}
 use Rattle.node_ops.specs.LookupSteps.{lookup_turned}
 use Rattle.node_ops.specs.FinishSteps.{finish_turned, finish_at_turned, finish_fenced}
 use Rattle.node_ops.specs.FillSteps.{fill_turned, fill_at_turned, slot_fenced, print_fenced}
 use Rattle.node_ops.specs.GetSteps.{IsGet, get_call, get_turned}
-use Rattle.node_ops.specs.PutSteps.{IsPut, put_call, put_turned, put_looked, put_into, put_full, put_filled, put_finished}
+use Rattle.node_ops.specs.PutSteps.{IsPut, put_call, put_turned, put_looked, put_into, put_full, put_filled, put_finished, put_split}
 use Rattle.node_ops.specs.DelSteps.{IsDel, del_call, del_turned, del_looked, del_hit, del_finished}
-use Rattle.node_ops.specs.RunningSteps.{running_call, running_asks, running_turned, wrapped, IsRunning}
-use Rattle.node_ops.specs.CallStages.{lookup_at_stage, finish_at_held, change_to, stage_of}
+use Rattle.node_ops.specs.RunningSteps.{running_call, running_asks, running_turned, wrapped, IsRunning, running_leads}
+use Rattle.node_ops.specs.CallStages.{lookup_at_stage, finish_at_held, change_to, stage_of, found_full}
+use Rattle.split_merge.specs.declared.splitting.Split.{Split}
+use Rattle.split_merge.specs.declared.splitting.SplitDone.{SplitDone}
+use Rattle.split_merge.specs.Splits.{split_turned}
+use Rattle.split_merge.specs.SplitStages.{split_footing}
+use Rattle.split_merge.proofs.OfSplits.{stages_are_of_splits}
+use Rattle.node_ops.proofs.SplitFacts.{split_uncounted, split_unpending, split_about}
 use Rattle.cat_history.specs.Records.{change_of}
 use Rattle.node_ops.specs.Asked.{Gives, TakesOut, IsOf, IsOfAfter, IsAbout, op_of_finish}
 use Rattle.node_ops.specs.Laws.{TurnsKeepOp, CountsOwnChange, HoldsOwnName, PendingIsOwnChange, OpIsTold}
@@ -60,12 +66,12 @@ NewAfter new (Done answer) = Unit {0}
 finish_keeps : (finish : Finish) (x : ℕ) → NewAfter finish.new (finish_turned finish x)
 finish_keeps finish x = at finish.at
   where
-    fenced : (o : Option Fence) → NewAfter finish.new (finish_fenced finish o)
-    fenced (Some fence) = refl
-    fenced None = refl
+    fenced : (line : ℕ) (o : Option Fence) → NewAfter finish.new (finish_fenced finish line o)
+    fenced line (Some fence) = refl
+    fenced line None = refl
 
     at : (at : FinishAt) → NewAfter finish.new (finish_at_turned finish at x)
-    at (finish_at.Fence fence) = fenced (fence_next fence x)
+    at (finish_at.Fence line fence) = fenced line (fence_next fence x)
     at finish_at.Add = refl
     at (finish_at.Unlock place) = tt
 
@@ -121,7 +127,11 @@ put_keeps value (put.Finishing finish) x is = at (finish_turned finish x) (finis
     at : (turn : Turn Finish (Once Placed)) → NewAfter finish.new turn → GivesAfter value (put_finished turn)
     at (Go next) same = same ∙ is
     at (Done answer) same = tt
-put_keeps value (put.Refusing call hold bitmap number) x is = tt
+put_keeps value (put.Splitting call hold bitmap number split) x is = at (split_turned split x)
+  where
+    at : (turn : Turn Split SplitDone) → GivesAfter value (put_split call hold bitmap number turn)
+    at (Go next) = is
+    at (Done answer) = tt
 
 abbrev TakesOutAfter : Turn Del (Once Placed) → Type 0
 TakesOutAfter (Go del) = TakesOut del
@@ -158,22 +168,22 @@ del_of : (name : List ℕ) (call : Call) (turn : Turn Del (Once Placed)) → nam
 del_of name call (Go del) is stays out = (ap name_in stays.1 ∙ is, out)
 del_of name call (Done answer) is stays out = tt
 
-own_keep : (op : Op) (running : Running) (x : ℕ) → IsRunning running → Told (running_call running).view.layout (running_call running).view.generation (running_asks running) x → IsOf op running
+own_keep : (op : Op) (running : Running) (x : ℕ) → IsRunning running → Told (running_call running).view.layout (running_call running).view.generation (running_asks running) x → running_leads running x → IsOf op running
     → IsOfAfter op (running_turned running x)
-own_keep (op.Get name) (Getting get) x sound told is = get_of name (get_call get) (get_turned get x) is (get_stays get x sound told)
-own_keep (op.Get name) (Putting put) x sound told is = absurd is
-own_keep (op.Get name) (Deleting del) x sound told is = absurd is
-own_keep (op.Put name value) (Getting get) x sound told is = absurd is
-own_keep (op.Put name value) (Putting put) x sound told is = put_of name value (put_call put) (put_turned put x) is.0 (put_stays put x sound told) (put_keeps value put x is.1)
-own_keep (op.Put name value) (Deleting del) x sound told is = absurd is
-own_keep (op.Del name) (Getting get) x sound told is = absurd is
-own_keep (op.Del name) (Putting put) x sound told is = absurd is
-own_keep (op.Del name) (Deleting del) x sound told is = del_of name (del_call del) (del_turned del x) is.0 (del_stays del x sound told) (del_keeps del x is.1)
+own_keep (op.Get name) (Getting get) x sound told leads is = get_of name (get_call get) (get_turned get x) is (get_stays get x sound told)
+own_keep (op.Get name) (Putting put) x sound told leads is = absurd is
+own_keep (op.Get name) (Deleting del) x sound told leads is = absurd is
+own_keep (op.Put name value) (Getting get) x sound told leads is = absurd is
+own_keep (op.Put name value) (Putting put) x sound told leads is = put_of name value (put_call put) (put_turned put x) is.0 (put_stays put x sound told leads) (put_keeps value put x is.1)
+own_keep (op.Put name value) (Deleting del) x sound told leads is = absurd is
+own_keep (op.Del name) (Getting get) x sound told leads is = absurd is
+own_keep (op.Del name) (Putting put) x sound told leads is = absurd is
+own_keep (op.Del name) (Deleting del) x sound told leads is = del_of name (del_call del) (del_turned del x) is.0 (del_stays del x sound told) (del_keeps del x is.1)
 
 pub turns_keep_op : TurnsKeepOp
-turns_keep_op l g op running x sound told is =
+turns_keep_op l g op running x sound told leads is =
     let at_generation = subst (λ (n : ℕ). Told l n (running_asks running) x) (sym sound.generation) told in
-    own_keep op running x sound.here (subst (λ (k : Layout). Told k (running_call running).view.generation (running_asks running) x) (sym sound.layout) at_generation) is
+    own_keep op running x sound.here (subst (λ (k : Layout). Told k (running_call running).view.generation (running_asks running) x) (sym sound.layout) at_generation) leads is
 
 -- a stage that holds no node
 loose_counts : (s : Stage) → IsLoose s → counted s ≡ None
@@ -234,12 +244,12 @@ counts_nothing : (P : Change → Type 0) (o : Option Change) → o ≡ None → 
 counts_nothing P o is = subst (λ (c : Option Change). IfSome c P) (sym is) tt
 
 finish_counts : (P : Change → Type 0) (finish : Finish) (at : FinishAt) → P (change_to (name_in finish.call) finish.new) → IfSome (counted (Holds finish.call.node finish.hold.locked (finish_at_held finish at))) P
-finish_counts P finish (finish_at.Fence fence) holds = tt
+finish_counts P finish (finish_at.Fence line fence) holds = tt
 finish_counts P finish finish_at.Add holds = holds
 finish_counts P finish (finish_at.Unlock place) holds = tt
 
 finish_about : (finish : Finish) (at : FinishAt) → IsAbout (name_in finish.call) (Holds finish.call.node finish.hold.locked (finish_at_held finish at))
-finish_about finish (finish_at.Fence fence) = refl
+finish_about finish (finish_at.Fence line fence) = refl
 finish_about finish finish_at.Add = refl
 finish_about finish (finish_at.Unlock place) = refl
 
@@ -255,7 +265,8 @@ counts_own_change (op.Put name value) (Putting (put.Replacing call hold bitmap h
 counts_own_change (op.Put name value) (Putting (put.Finishing finish)) is =
     finish_counts (λ c. Some (change.Put name value) ≡ Some c) finish finish.at
     (ap Some (sym (ap (λ (n : Option ℕ). change_to (name_in finish.call) n) is.1 ∙ ap (λ (n : List ℕ). change.Put n value) is.0)))
-counts_own_change (op.Put name value) (Putting (put.Refusing call hold bitmap number)) is = tt
+counts_own_change (op.Put name value) (Putting (put.Splitting call hold bitmap number split)) is =
+    counts_nothing _ _ (split_uncounted _ _ refl (stages_are_of_splits (found_full call hold bitmap) split))
 counts_own_change (op.Put name value) (Deleting del) is = absurd is
 counts_own_change (op.Del name) (Getting get) is = absurd is
 counts_own_change (op.Del name) (Putting put) is = absurd is
@@ -276,7 +287,8 @@ holds_own_name (op.Put name value) (Putting (put.Filling fill)) is = is.0
 holds_own_name (op.Put name value) (Putting (put.Replacing call hold bitmap hit number)) is = is.0
 holds_own_name (op.Put name value) (Putting (put.Finishing finish)) is =
     subst (λ n. IsAbout n (Holds finish.call.node finish.hold.locked (finish_at_held finish finish.at))) is.0 (finish_about finish finish.at)
-holds_own_name (op.Put name value) (Putting (put.Refusing call hold bitmap number)) is = is.0
+holds_own_name (op.Put name value) (Putting (put.Splitting call hold bitmap number split)) is =
+    subst (λ n. IsAbout n (split_footing (found_full call hold bitmap) split).stage) is.0 (split_about _ _ (stages_are_of_splits (found_full call hold bitmap) split))
 holds_own_name (op.Put name value) (Deleting del) is = absurd is
 holds_own_name (op.Del name) (Getting get) is = absurd is
 holds_own_name (op.Del name) (Putting put) is = absurd is
@@ -296,7 +308,7 @@ lookup_pends call (look.Name hold directory left slot k) = refl
 lookup_pends call (look.Value hold directory slot) = refl
 
 finish_pends : (P : Change → Type 0) (finish : Finish) (at : FinishAt) → P (change_to (name_in finish.call) finish.new) → IfSome (finish_at_held finish at).pending P
-finish_pends P finish (finish_at.Fence fence) holds = holds
+finish_pends P finish (finish_at.Fence line fence) holds = holds
 finish_pends P finish finish_at.Add holds = holds
 finish_pends P finish (finish_at.Unlock place) holds = tt
 
@@ -312,7 +324,8 @@ pending_is_own (op.Put name value) (Putting (put.Replacing call hold bitmap hit 
 pending_is_own (op.Put name value) (Putting (put.Finishing finish)) is =
     finish_pends (λ c. Some (change.Put name value) ≡ Some c) finish finish.at
     (ap Some (sym (ap (λ (n : Option ℕ). change_to (name_in finish.call) n) is.1 ∙ ap (λ (n : List ℕ). change.Put n value) is.0)))
-pending_is_own (op.Put name value) (Putting (put.Refusing call hold bitmap number)) is = tt
+pending_is_own (op.Put name value) (Putting (put.Splitting call hold bitmap number split)) is =
+    counts_nothing _ _ (split_unpending _ _ refl (stages_are_of_splits (found_full call hold bitmap) split))
 pending_is_own (op.Put name value) (Deleting del) is = absurd is
 pending_is_own (op.Del name) (Getting get) is = absurd is
 pending_is_own (op.Del name) (Putting put) is = absurd is
@@ -323,7 +336,7 @@ pending_is_own (op.Del name) (Deleting (del.Finishing finish)) is =
     (ap Some (sym (ap (λ (n : Option ℕ). change_to (name_in finish.call) n) is.1 ∙ ap (λ (n : List ℕ). change.Del n) is.0)))
 
 finish_unplaced : (finish : Finish) (at : FinishAt) → IfSome (finish_at_held finish at).pending (λ c. (finish_at_held finish at).placed ≡ None)
-finish_unplaced finish (finish_at.Fence fence) = refl
+finish_unplaced finish (finish_at.Fence line fence) = refl
 finish_unplaced finish finish_at.Add = refl
 finish_unplaced finish (finish_at.Unlock place) = tt
 
@@ -335,7 +348,8 @@ pending_is_unplaced (Putting (put.Looking lookup number)) = counts_nothing _ _ (
 pending_is_unplaced (Putting (put.Filling fill)) = tt
 pending_is_unplaced (Putting (put.Replacing call hold bitmap hit number)) = tt
 pending_is_unplaced (Putting (put.Finishing finish)) = finish_unplaced finish finish.at
-pending_is_unplaced (Putting (put.Refusing call hold bitmap number)) = tt
+pending_is_unplaced (Putting (put.Splitting call hold bitmap number split)) =
+    counts_nothing _ _ (split_unpending _ _ refl (stages_are_of_splits (found_full call hold bitmap) split))
 pending_is_unplaced (Deleting (del.Looking lookup)) = counts_nothing _ _ (lookup_pends lookup.call lookup.at)
 pending_is_unplaced (Deleting (del.Clearing call hold bitmap hit)) = tt
 pending_is_unplaced (Deleting (del.Finishing finish)) = finish_unplaced finish finish.at
@@ -356,7 +370,7 @@ op_told (op.Put name value) (Putting (put.Looking lookup number)) is = λ k. op.
 op_told (op.Put name value) (Putting (put.Filling fill)) is = λ k. op.Put (is.0 k) (is.1 k)
 op_told (op.Put name value) (Putting (put.Replacing call hold bitmap hit number)) is = λ k. op.Put (is.0 k) (is.1 k)
 op_told (op.Put name value) (Putting (put.Finishing finish)) is = ap (op_of_finish finish) is.1 ∙ ap (λ (n : List ℕ). op.Put n value) is.0
-op_told (op.Put name value) (Putting (put.Refusing call hold bitmap number)) is = λ k. op.Put (is.0 k) (is.1 k)
+op_told (op.Put name value) (Putting (put.Splitting call hold bitmap number split)) is = λ k. op.Put (is.0 k) (is.1 k)
 op_told (op.Put name value) (Deleting del) is = absurd is
 op_told (op.Del name) (Getting get) is = absurd is
 op_told (op.Del name) (Putting put) is = absurd is

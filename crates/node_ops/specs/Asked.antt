@@ -31,7 +31,7 @@ Gives value (put.Looking lookup number) = number ≡ value
 Gives value (put.Filling fill) = fill.value ≡ value
 Gives value (put.Replacing call hold bitmap hit number) = number ≡ value
 Gives value (put.Finishing finish) = finish.new ≡ Some value
-Gives value (put.Refusing call hold bitmap number) = number ≡ value
+Gives value (put.Splitting call hold bitmap number split) = number ≡ value
 
 -- the delete leaves no value
 abbrev pub TakesOut : Del → Type 0
@@ -60,7 +60,7 @@ put_op (put.Looking lookup value) = op.Put (name_in lookup.call) value
 put_op (put.Filling fill) = op.Put (name_in fill.call) fill.value
 put_op (put.Replacing call hold bitmap hit value) = op.Put (name_in call) value
 put_op (put.Finishing finish) = op_of_finish finish finish.new
-put_op (put.Refusing call hold bitmap value) = op.Put (name_in call) value
+put_op (put.Splitting call hold bitmap value split) = op.Put (name_in call) value
 
 abbrev pub del_op : Del → Op
 del_op (del.Looking lookup) = op.Del (name_in lookup.call)

@@ -11,15 +11,17 @@ use Rattle.data_node.specs.Spots.{bitmap_offset, print_offset, slot_offset}
 use Rattle.call_stages.specs.declared.once.Once.{Once}
 use Rattle.call_stages.specs.declared.once.Placed.{Placed}
 use Rattle.call_stages.specs.Stages.{Known, Held, Stage, Idle, Saw, Holds, just_held}
+use Rattle.call_stages.specs.Prevs.{no_debt}
+use Rattle.call_stages.specs.Footings.{Footing}
+use Rattle.split_merge.specs.SplitStages.{split_footing}
 use Rattle.node_ops.specs.declared.call.Call.{Call}
 use Rattle.node_ops.specs.declared.lookup.Hold.{Hold}
 use Rattle.node_ops.specs.declared.lookup.Hit.{Hit}
 use Rattle.node_ops.specs.declared.lookup.LookupAt.{LookupAt}
 use Rattle.node_ops.specs.declared.lookup.LookupAt.TheVariants as look
 use Rattle.node_ops.specs.declared.lookup.Lookup.{Lookup}
-use Rattle.node_ops.specs.declared.fence.Fence.{Fence}
-use Rattle.node_ops.specs.declared.fence.FenceAt.{FenceAt}
-use Rattle.node_ops.specs.declared.fence.FenceAt.TheVariants as fence_at
+use Rattle.pm_words.specs.declared.fence.Fence.{Fence}
+use Rattle.pm_words.specs.Fences.{hand_of}
 use Rattle.node_ops.specs.declared.fill.Fill.{Fill}
 use Rattle.node_ops.specs.declared.fill.FillAt.{FillAt}
 use Rattle.node_ops.specs.declared.fill.FillAt.TheVariants as fill_at
@@ -37,6 +39,7 @@ use Rattle.node_ops.specs.declared.running.Running.TheVariants.{Getting, Putting
 use Rattle.data_list.specs.WalkStages.{walk_stage, sight_in}
 use Rattle.node_ops.specs.Calls.{name_in}
 use Rattle.node_ops.specs.LookupSteps.{value_of}
+use Rattle.node_ops.specs.FillSteps.{slot_line, print_line}
 use Rattle.node_ops.specs.RunningSteps.{Sound}
 
 -- words that stand one behind another, the first at this offset
@@ -122,21 +125,17 @@ has_place call old place = record {
   merged = false;
 }
 
--- the words that a fence has still to make durable: the rest of its line
-abbrev pub fence_rest : Fence → ℕ × ℕ
-fence_rest fence = (fence.line + fence.word, LINE - fence.word)
+-- the words that a fence of this line has still to make durable: the rest of it
+abbrev pub fence_rest : ℕ → Fence → ℕ × ℕ
+fence_rest line fence = (line + fence.word, LINE - fence.word)
 
--- the word that a fence has loaded to make it durable
-abbrev pub fence_at_hand : ℕ → FenceAt → Option (ℕ × ℕ)
-fence_at_hand offset fence_at.Load = None
-fence_at_hand offset (fence_at.Drain value) = Some (offset, value)
+-- the word that it has loaded to make it durable
+abbrev pub fence_hand : ℕ → Fence → Option (ℕ × ℕ)
+fence_hand line fence = hand_of (line + fence.word) fence.at
 
-abbrev pub fence_hand : Fence → Option (ℕ × ℕ)
-fence_hand fence = fence_at_hand (fence.line + fence.word) fence.at
-
--- while a fence is at work, and these words are for the next
-abbrev pub fencing : Held → Fence → List (ℕ × ℕ) → Held
-fencing held fence others = record held { dirty = fence_rest fence ∷ others; hand = fence_hand fence }
+-- while a fence of this line is at work, and these words are for the next
+abbrev pub fencing : Held → ℕ → Fence → List (ℕ × ℕ) → Held
+fencing held line fence others = record held { dirty = fence_rest line fence ∷ others; hand = fence_hand line fence }
 
 abbrev pub lookup_at_stage : Call → LookupAt → Stage
 lookup_at_stage call (look.Walk walk) = walk_stage walk
@@ -188,22 +187,22 @@ slot_words slot (suc count) = (slot_offset slot 0, suc count) ∷ []
 abbrev pub fill_at_dirty : ℕ → FillAt → List (ℕ × ℕ)
 fill_at_dirty slot (fill_at.Word k) = slot_words slot k
 fill_at_dirty slot fill_at.Print = slot_words slot 4
-fill_at_dirty slot (fill_at.FenceSlot fence) = fence_rest fence ∷ (print_offset slot, 1) ∷ []
-fill_at_dirty slot (fill_at.FencePrint fence) = fence_rest fence ∷ []
+fill_at_dirty slot (fill_at.FenceSlot fence) = fence_rest (slot_line slot) fence ∷ (print_offset slot, 1) ∷ []
+fill_at_dirty slot (fill_at.FencePrint fence) = fence_rest (print_line slot) fence ∷ []
 fill_at_dirty slot fill_at.Bitmap = []
 
-abbrev pub fill_at_hand : FillAt → Option (ℕ × ℕ)
-fill_at_hand (fill_at.Word k) = None
-fill_at_hand fill_at.Print = None
-fill_at_hand (fill_at.FenceSlot fence) = fence_hand fence
-fill_at_hand (fill_at.FencePrint fence) = fence_hand fence
-fill_at_hand fill_at.Bitmap = None
+abbrev pub fill_at_hand : ℕ → FillAt → Option (ℕ × ℕ)
+fill_at_hand slot (fill_at.Word k) = None
+fill_at_hand slot fill_at.Print = None
+fill_at_hand slot (fill_at.FenceSlot fence) = fence_hand (slot_line slot) fence
+fill_at_hand slot (fill_at.FencePrint fence) = fence_hand (print_line slot) fence
+fill_at_hand slot fill_at.Bitmap = None
 
 abbrev pub fill_at_held : Fill → FillAt → Held
 fill_at_held fill at =
     record (decided fill.call fill.hold (value_of fill.hit) (fill_at_known fill at)) {
       dirty = fill_at_dirty fill.slot at;
-      hand = fill_at_hand at;
+      hand = fill_at_hand fill.slot at;
     }
 
 abbrev pub fill_stage : Fill → Stage
@@ -215,8 +214,9 @@ change_to name (Some value) = change.Put name value
 change_to name None = change.Del name
 
 abbrev pub finish_at_held : Finish → FinishAt → Held
-finish_at_held finish (finish_at.Fence fence) =
-    fencing (changes finish.call finish.hold finish.old (change_to (name_in finish.call) finish.new) false) fence []
+finish_at_held finish (finish_at.Fence line fence) =
+    fencing (changes finish.call finish.hold finish.old (change_to (name_in finish.call) finish.new) false) line fence
+    []
 finish_at_held finish finish_at.Add =
     changes finish.call finish.hold finish.old (change_to (name_in finish.call) finish.new) true
 finish_at_held finish (finish_at.Unlock place) = has_place finish.call finish.old place
@@ -228,14 +228,17 @@ abbrev pub get_stage : Get → Stage
 get_stage (get.Looking lookup) = lookup_stage lookup
 get_stage (get.Unlocking call hold old) = Holds call.node hold.locked (decided call hold old nothing)
 
+-- no live slot has the name, and no slot is clear
+abbrev pub found_full : Call → Hold → ℕ → Held
+found_full call hold bitmap = decided call hold None (knows ((bitmap_offset, bitmap) ∷ []))
+
 abbrev pub put_stage : Put → Stage
 put_stage (put.Looking lookup value) = lookup_stage lookup
 put_stage (put.Filling fill) = fill_stage fill
 put_stage (put.Replacing call hold bitmap hit value) =
     Holds call.node hold.locked (decided call hold (Some hit.value) (knows (seen_hit call bitmap (Some hit))))
 put_stage (put.Finishing finish) = finish_stage finish
-put_stage (put.Refusing call hold bitmap value) =
-    Holds call.node hold.locked (decided call hold None (knows ((bitmap_offset, bitmap) ∷ [])))
+put_stage (put.Splitting call hold bitmap value split) = (split_footing (found_full call hold bitmap) split).stage
 
 abbrev pub del_stage : Del → Stage
 del_stage (del.Looking lookup) = lookup_stage lookup
@@ -247,6 +250,15 @@ abbrev pub stage_of : Running → Stage
 stage_of (Getting get) = get_stage get
 stage_of (Putting put) = put_stage put
 stage_of (Deleting del) = del_stage del
+
+-- with its log line, and what it knows and owes of prevs
+abbrev pub footing_of : Running → Footing
+footing_of (Putting (put.Splitting call hold bitmap value split)) = split_footing (found_full call hold bitmap) split
+footing_of running = record { stage = stage_of running; line = None; debt = no_debt }
+
+abbrev pub footing_after : Turn Running (Once Placed) → Footing
+footing_after (Go running) = footing_of running
+footing_after (Done answer) = record { stage = Idle; line = None; debt = no_debt }
 
 -- after a turn
 abbrev pub stage_after : Turn Running (Once Placed) → Stage

@@ -1,18 +1,10 @@
 -- What stays the same while a call is made.
 use Rattle.std.specs.Prelude.{◌≡◌, ℕ, ◌^◌, ◌<◌, ◌≤◌, List, Option, IfSome}
 use Rattle.cat_key.specs.Names.{words_of, bytes_of, fingerprint_of, IsPacked}
-use Rattle.pm_words.specs.Layouts.{IsLayout}
-use Rattle.version_lock.specs.declared.TheConstants.{GENERATION_LIMIT, LAST_COUNT}
-use Rattle.version_lock.specs.Versions.{count_of, IsLocked}
 use Rattle.call_stages.specs.Kinds.{word_address}
-use Rattle.node_ops.specs.declared.call.View.{View}
+use Rattle.call_stages.specs.declared.view.View.{View}
+use Rattle.call_stages.specs.Views.{IsView}
 use Rattle.node_ops.specs.declared.call.Call.{Call}
-
--- the layout, the generation and the caller are in range
-pub record IsView (v : View) : Type 0 where
-  pub layout : IsLayout v.layout
-  pub generation : v.generation < GENERATION_LIMIT
-  pub caller : v.caller < v.layout.callers
 
 -- the call works on a node of its layout, its words are those of a name, and its fingerprint is that name's
 pub record IsCall (call : Call) : Type 0 where
@@ -48,9 +40,3 @@ name_in call = bytes_of call.name
 -- the address of a word of the call's node
 abbrev pub call_address : Call → ℕ → ℕ
 call_address call offset = word_address call.view.layout call.node offset
-
--- a word with which a party has a node locked, and which it can give back
-pub record IsLockWord (word : ℕ) : Type 0 where
-  pub locked : IsLocked word
-  pub unworn : count_of word < LAST_COUNT
-  pub fits : word < 2 ^ 64

@@ -20,8 +20,9 @@ use Rattle.node_ops.specs.declared.finish.Finish.{Finish}
 use Rattle.node_ops.specs.declared.finish.FinishAt.TheVariants as finish_at
 use Rattle.node_ops.specs.declared.del.Del.{Del}
 use Rattle.node_ops.specs.declared.del.Del.TheVariants.{Looking, Clearing, Finishing}
-use Rattle.node_ops.specs.Calls.{IsCall, IsLockWord, call_address}
-use Rattle.node_ops.specs.FenceSteps.{fence_of}
+use Rattle.node_ops.specs.Calls.{IsCall, call_address}
+use Rattle.version_lock.specs.Versions.{IsLockWord}
+use Rattle.pm_words.specs.Fences.{line_of, fence_start}
 use Rattle.node_ops.specs.LookupSteps.{IsHit, IsLookup, lookup_asks, lookup_turned, lookup_left}
 use Rattle.node_ops.specs.FinishSteps.{IsFinish, finish_asks, finish_turned, finish_left}
 
@@ -62,7 +63,7 @@ cleared call hold hit = record {
   hold = hold;
   old = Some hit.value;
   new = None;
-  at = finish_at.Fence (fence_of bitmap_offset);
+  at = finish_at.Fence (line_of bitmap_offset) fence_start;
 }
 
 abbrev pub del_turned : Del → ℕ → Turn Del (Once Placed)

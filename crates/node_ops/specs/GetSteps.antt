@@ -14,7 +14,8 @@ use Rattle.node_ops.specs.declared.lookup.Looked.TheVariants as looked
 use Rattle.node_ops.specs.declared.lookup.Lookup.{Lookup}
 use Rattle.node_ops.specs.declared.get.Get.{Get}
 use Rattle.node_ops.specs.declared.get.Get.TheVariants.{Looking, Unlocking}
-use Rattle.node_ops.specs.Calls.{IsCall, IsLockWord, call_address}
+use Rattle.node_ops.specs.Calls.{IsCall, call_address}
+use Rattle.version_lock.specs.Versions.{IsLockWord}
 use Rattle.node_ops.specs.LookupSteps.{value_of, IsLookup, lookup_asks, lookup_turned, lookup_left}
 
 -- what stays the same while it is made

@@ -4,29 +4,43 @@ use Rattle.pm_words.specs.declared.layout.Layout.{Layout}
 use Rattle.cat_history.specs.declared.op.Op.{Op}
 use Rattle.cat_history.specs.declared.op.Change.{Change}
 use Rattle.call_stages.specs.Stages.{counted, pending_in, placed_in}
-use Rattle.call_stages.specs.Kinds.{Told, Step}
+use Rattle.call_stages.specs.Kinds.{Told, LeadsWithin}
+use Rattle.call_stages.specs.AnySteps.{AnyStep}
+use Rattle.call_stages.specs.Footings.{FootStep}
 use Rattle.node_ops.specs.declared.running.Running.{Running}
-use Rattle.node_ops.specs.RunningSteps.{running_asks, running_turned, Sound}
+use Rattle.node_ops.specs.RunningSteps.{running_call, running_asks, running_turned, running_leads, Sound}
 use Rattle.cat_history.specs.Records.{change_of}
 use Rattle.node_ops.specs.Asked.{IsOf, IsOfAfter, IsAbout, op_in, name_asked}
-use Rattle.node_ops.specs.CallStages.{stage_of, stage_after, reply_of, SoundAfter}
+use Rattle.node_ops.specs.CallStages.{stage_of, stage_after, footing_of, footing_after, reply_of, SoundAfter}
 
--- a turn is a step of a kind, with the answer of the turn
+-- a turn is a step of a kind, with the answer of the turn, of what the call has of nodes, of its log line and of prevs
+abbrev pub TurnsAreFootSteps : Type 0
+TurnsAreFootSteps = (l : Layout) (g : ℕ) (running : Running) (x : ℕ) → Sound l g running →
+    Told l g (running_asks running) x → LeadsWithin l (stage_of running) (running_asks running) x →
+    FootStep l g (running_call running).view.caller (footing_of running) (running_asks running) x
+    (footing_after (running_turned running x)) (reply_of (running_turned running x))
+
+-- so it is one of all steps, from stage to stage
 abbrev pub TurnsAreSteps : Type 0
 TurnsAreSteps = (l : Layout) (g : ℕ) (running : Running) (x : ℕ) → Sound l g running →
-    Told l g (running_asks running) x →
-    Step l g (stage_of running) (running_asks running) x (stage_after (running_turned running x))
+    Told l g (running_asks running) x → LeadsWithin l (stage_of running) (running_asks running) x →
+    AnyStep l g (stage_of running) (running_asks running) x (stage_after (running_turned running x))
     (reply_of (running_turned running x))
+
+-- where a node that it holds leads to one of the layout's, the number is one that it takes
+abbrev pub LeadsAreTaken : Type 0
+LeadsAreTaken = (l : Layout) (g : ℕ) (running : Running) (x : ℕ) → Sound l g running →
+    LeadsWithin l (stage_of running) (running_asks running) x → running_leads running x
 
 -- and leaves the call sound
 abbrev pub TurnsStaySound : Type 0
 TurnsStaySound = (l : Layout) (g : ℕ) (running : Running) (x : ℕ) → Sound l g running →
-    Told l g (running_asks running) x → SoundAfter l g (running_turned running x)
+    Told l g (running_asks running) x → running_leads running x → SoundAfter l g (running_turned running x)
 
 -- and a call of the same op
 abbrev pub TurnsKeepOp : Type 0
 TurnsKeepOp = (l : Layout) (g : ℕ) (op : Op) (running : Running) (x : ℕ) → Sound l g running →
-    Told l g (running_asks running) x → IsOf op running →
+    Told l g (running_asks running) x → running_leads running x → IsOf op running →
     IsOfAfter op (running_turned running x)
 
 -- what a call of an op counts is the change of that op

@@ -1,5 +1,4 @@
 pub mod Calls
-pub mod FenceSteps
 pub mod LookupSteps
 pub mod FinishSteps
 pub mod FillSteps

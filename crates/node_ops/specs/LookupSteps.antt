@@ -7,7 +7,7 @@ use Rattle.pm_words.specs.declared.action.Action.TheVariants.{Load, Store, Excha
 use Rattle.pm_words.specs.declared.again.Again.TheVariants.{Moved}
 use Rattle.pm_words.specs.declared.machine.Turn.{Turn}
 use Rattle.pm_words.specs.declared.machine.Turn.TheVariants.{Go, Done}
-use Rattle.version_lock.specs.Versions.{generation_of, kept_count, locked_word, IsFree, IsWorn}
+use Rattle.version_lock.specs.Versions.{generation_of, kept_count, locked_word, IsFree, IsWorn, is_worn_word}
 use Rattle.data_node.specs.declared.slots.TheConstants.{PRINT_WORDS}
 use Rattle.data_node.specs.Slots.{IsLive}
 use Rattle.data_node.specs.Bits.{without_live, lowest_live, candidate_bits}
@@ -33,9 +33,9 @@ use Rattle.data_list.specs.declared.target.Walked.TheVariants as walked
 use Rattle.data_list.specs.declared.walk.Walk.{Walk}
 use Rattle.data_list.specs.Keys.{key_words}
 use Rattle.data_list.specs.Walks.{sighting_of, walk_from, walk_asks, walk_turned, walk_left, IsWalk}
-use Rattle.data_list.specs.WalkStages.{is_worn_word}
 use Rattle.data_list.specs.Laws.{IsSighting}
-use Rattle.node_ops.specs.Calls.{IsCall, IsLockWord, call_address, at_node}
+use Rattle.node_ops.specs.Calls.{IsCall, call_address, at_node}
+use Rattle.version_lock.specs.Versions.{IsLockWord}
 
 -- what a name has, if a slot has it
 abbrev pub value_of : Option Hit → Option ℕ

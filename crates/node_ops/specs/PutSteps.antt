@@ -1,8 +1,9 @@
 -- A put, step by step.
-use Rattle.std.specs.Prelude.{ℕ, ◌+◌, ◌/◌, ◌^◌, ◌<◌, Option, Some, None, slice_index}
+use Rattle.std.specs.Prelude.{◌≡◌, ℕ, ◌+◌, ◌/◌, ◌^◌, ◌<◌, Option, Some, None, slice_index}
 use Rattle.pm_words.specs.declared.action.Action.{Action}
 use Rattle.pm_words.specs.declared.action.Action.TheVariants.{Store}
-use Rattle.pm_words.specs.declared.again.Again.TheVariants.{NoFree}
+use Rattle.pm_words.specs.declared.again.Again.{Again}
+use Rattle.pm_words.specs.declared.again.Again.TheVariants.{NeedsSplit}
 use Rattle.pm_words.specs.declared.machine.Turn.{Turn}
 use Rattle.pm_words.specs.declared.machine.Turn.TheVariants.{Go, Done}
 use Rattle.data_node.specs.Slots.{AreAllLive}
@@ -24,9 +25,14 @@ use Rattle.node_ops.specs.declared.finish.FinishAt.TheVariants as finish_at
 use Rattle.node_ops.specs.declared.fill.Fill.{Fill}
 use Rattle.node_ops.specs.declared.fill.FillAt.TheVariants as fill_at
 use Rattle.node_ops.specs.declared.put.Put.{Put}
-use Rattle.node_ops.specs.declared.put.Put.TheVariants.{Looking, Filling, Replacing, Finishing, Refusing}
-use Rattle.node_ops.specs.Calls.{IsCall, IsLockWord, call_address}
-use Rattle.node_ops.specs.FenceSteps.{fence_of}
+use Rattle.node_ops.specs.declared.put.Put.TheVariants.{Looking, Filling, Replacing, Finishing, Splitting}
+use Rattle.split_merge.specs.declared.splitting.Split.{Split}
+use Rattle.split_merge.specs.declared.splitting.SplitDone.{SplitDone}
+use Rattle.split_merge.specs.declared.splitting.SplitDone.TheVariants as done
+use Rattle.split_merge.specs.Splits.{IsSplit, LeadsIn, split_from, split_asks, split_turned, split_left}
+use Rattle.node_ops.specs.Calls.{IsCall, call_address}
+use Rattle.version_lock.specs.Versions.{IsLockWord}
+use Rattle.pm_words.specs.Fences.{line_of, fence_start}
 use Rattle.node_ops.specs.LookupSteps.{IsHit, IsLookup, lookup_asks, lookup_turned, lookup_left}
 use Rattle.node_ops.specs.FillSteps.{IsFill, fill_asks, fill_turned, fill_left}
 use Rattle.node_ops.specs.FinishSteps.{IsFinish, finish_asks, finish_turned, finish_left}
@@ -37,19 +43,20 @@ put_call (Looking lookup value) = lookup.call
 put_call (Filling fill) = fill.call
 put_call (Replacing call hold bitmap hit value) = call
 put_call (Finishing finish) = finish.call
-put_call (Refusing call hold bitmap value) = call
+put_call (Splitting call hold bitmap value split) = call
 
 abbrev pub put_asks : Put → Action
 put_asks (Looking lookup value) = lookup_asks lookup
 put_asks (Filling fill) = fill_asks fill
 put_asks (Replacing call hold bitmap hit value) = Store (call_address call (slot_offset hit.slot 3)) value
 put_asks (Finishing finish) = finish_asks finish
-put_asks (Refusing call hold bitmap value) = Store (call_address call 0) (hold.locked + 1)
+put_asks (Splitting call hold bitmap value split) = split_asks split
 
 -- no slot is clear
 abbrev pub put_full : Call → Hold → ℕ → Option Hit → ℕ → Put
 put_full call hold bitmap (Some hit) value = Replacing call hold bitmap hit value
-put_full call hold bitmap None value = Refusing call hold bitmap value
+put_full call hold bitmap None value =
+    Splitting call hold bitmap value (split_from call.view call.node hold.locked)
 
 -- the lowest clear slot takes the name, if there is one
 abbrev pub put_into : Call → Found → ℕ → Option ℕ → Put
@@ -90,15 +97,26 @@ replaced call hold hit value = record {
   hold = hold;
   old = Some hit.value;
   new = Some value;
-  at = finish_at.Fence (fence_of (slot_offset hit.slot 3));
+  at = finish_at.Fence (line_of (slot_offset hit.slot 3)) fence_start;
 }
+
+-- why the call is to be made again, once the split has ended
+abbrev pub split_done : ℕ → SplitDone → Again
+split_done node (done.Done fresh) = NeedsSplit node
+split_done node (done.Again why) = why
+
+-- after a turn of the split
+abbrev pub put_split : Call → Hold → ℕ → ℕ → Turn Split SplitDone → Turn Put (Once Placed)
+put_split call hold bitmap value (Go split) = Go (Splitting call hold bitmap value split)
+put_split call hold bitmap value (Done answer) = Done (once.Again (split_done call.node answer))
 
 abbrev pub put_turned : Put → ℕ → Turn Put (Once Placed)
 put_turned (Looking lookup value) got = put_looked lookup.call value (lookup_turned lookup got)
 put_turned (Filling fill) got = put_filled (fill_turned fill got)
 put_turned (Replacing call hold bitmap hit value) got = Go (Finishing (replaced call hold hit value))
 put_turned (Finishing finish) got = put_finished (finish_turned finish got)
-put_turned (Refusing call hold bitmap value) got = Done (once.Again NoFree)
+put_turned (Splitting call hold bitmap value split) got =
+    put_split call hold bitmap value (split_turned split got)
 
 -- no slot is clear, and the name is in this one
 pub record IsReplacing (of : Call) (hold : Hold) (bitmap : ℕ) (found : Hit) (number : ℕ) : Type 0 where
@@ -107,11 +125,15 @@ pub record IsReplacing (of : Call) (hold : Hold) (bitmap : ℕ) (found : Hit) (n
   pub hit : IsHit of.view.layout.slots bitmap found
   pub value : number < 2 ^ 64
 
--- no slot is clear, and none has the name
-pub record IsRefusing (of : Call) (hold : Hold) (bitmap : ℕ) : Type 0 where
+-- no slot is clear, and none has the name; the split is of the call's node
+pub record IsSplitting (of : Call) (hold : Hold) (bitmap : ℕ) (split : Split) : Type 0 where
   pub call : IsCall of
   pub locked : IsLockWord hold.locked
   pub full : AreAllLive bitmap of.view.layout.slots
+  pub here : IsSplit split
+  pub view : split.view ≡ of.view
+  pub node : split.node ≡ of.node
+  pub word : split.word ≡ hold.locked
 
 -- what its fields keep
 abbrev pub IsPut : Put → Type 0
@@ -119,14 +141,20 @@ IsPut (Looking lookup value) = IsLookup lookup × (value < 2 ^ 64)
 IsPut (Filling fill) = IsFill fill
 IsPut (Replacing call hold bitmap hit value) = IsReplacing call hold bitmap hit value
 IsPut (Finishing finish) = IsFinish finish
-IsPut (Refusing call hold bitmap value) = IsRefusing call hold bitmap
+IsPut (Splitting call hold bitmap value split) = IsSplitting call hold bitmap split
+
+-- where a node is split, it leads to one of the layout's
+abbrev pub put_leads : Put → ℕ → Type 0
+put_leads (Splitting call hold bitmap value split) got = LeadsIn split split.at got
+put_leads _ got = Unit {0}
 
 abbrev pub put_takes : Put → ℕ → Type 0
-put_takes put got = IsPut put × Told (put_call put).view.layout (put_call put).view.generation (put_asks put) got
+put_takes put got =
+    IsPut put × Told (put_call put).view.layout (put_call put).view.generation (put_asks put) got × put_leads put got
 
 abbrev pub put_left : Put → ℕ
-put_left (Looking lookup value) = lookup_left lookup + 57
+put_left (Looking lookup value) = lookup_left lookup + 30057
 put_left (Filling fill) = fill_left fill + 18
 put_left (Replacing call hold bitmap hit value) = 19
 put_left (Finishing finish) = finish_left finish
-put_left (Refusing call hold bitmap value) = 1
+put_left (Splitting call hold bitmap value split) = split_left split

@@ -4,20 +4,12 @@ ghost use Rattle.std.specs.Prelude.{◌≡◌, ◌^◌, ◌<◌, ◌≤◌, IfSo
 ghost use Rattle.pm_words.specs.Locations.{node_words};
 ghost use Rattle.data_node.specs.Spots.{slot_offset, print_offset};
 
+use call_stages::View;
 use cat_key::{Name, WORDS};
-use pm_words::Layout;
 use pm_words::offsets::node;
 
 /// The address of the clock, the first word of a row.
 pub(crate) const CLOCK: u64 = 0;
-
-/// What a call has of the index: its layout, the generation of this run, and the number of the caller.
-#[derive(Clone, Copy, PartialEq, Eq, Debug)]
-pub struct View {
-    pub layout: Layout,
-    pub generation: u64,
-    pub caller: u64,
-}
 
 /// What a call has: the node that it works on and how many hops its walk made to it, which stay the same once it is
 /// there, the words and the fingerprint of its name, and the limit that the clock has to be below, if there is one.
@@ -32,7 +24,8 @@ pub struct Call {
 }
 
 impl Call {
-    ghost use Rattle.node_ops.specs.Calls.{IsView, IsCall, new_call, call_address, name_in};
+    ghost use Rattle.call_stages.specs.Views.{IsView};
+    ghost use Rattle.node_ops.specs.Calls.{IsCall, new_call, call_address, name_in};
 
     /// A call that hasn't come to its node yet.
     pub(crate) fn new(view: View, name: &Name, limit: Option<u64>) -> Call

@@ -3,16 +3,15 @@
 
 ghost use Rattle.std.specs.Prelude.{◌≡◌, ℕ};
 
-use crate::call::{Call, View};
-use crate::fence::Fence;
+use crate::call::Call;
 use crate::finish::{Finish, FinishAt};
 use crate::lookup::{Found, Hit, Hold, Looked, Lookup};
-use call_stages::{Once, Placed};
+use call_stages::{Once, Placed, View};
 use cat_history::Op;
 use cat_key::Name;
 use data_node::without_live;
 use pm_words::offsets::node;
-use pm_words::{Action, Machine, Turn};
+use pm_words::{Action, Fence, Machine, Turn, line_of};
 
 /// A delete: it takes a name out of its node, and answers what the name had.
 #[derive(Clone, Copy)]
@@ -34,7 +33,8 @@ pub enum Del {
 
 impl Del {
     ghost use Rattle.std.specs.Prelude.{◌≡◌, ◌^◌, ◌≤◌, Some};
-    ghost use Rattle.node_ops.specs.Calls.{IsView, new_call};
+    ghost use Rattle.call_stages.specs.Views.{IsView};
+    ghost use Rattle.node_ops.specs.Calls.{new_call};
     ghost use Rattle.node_ops.specs.LookupSteps.{starts};
     ghost use Rattle.node_ops.specs.DelSteps.{IsDel, del_found};
 
@@ -156,7 +156,8 @@ impl Machine for Del {
                     old: Some(hit.value),
                     new: None,
                     at: FinishAt::Fence {
-                        fence: Fence::of(node::BITMAP),
+                        line: line_of(node::BITMAP),
+                        fence: Fence::new(),
                     },
                 },
             }),

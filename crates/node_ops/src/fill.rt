@@ -5,13 +5,12 @@
 ghost use Rattle.std.specs.Prelude.{◌≡◌, ℕ};
 
 use crate::call::{Call, print_word, slot_word};
-use crate::fence::Fence;
 use crate::finish::{Finish, FinishAt};
 use crate::lookup::{Hit, Hold};
 use cat_key::WORDS;
 use data_node::{with_live, with_print, without_live};
 use pm_words::offsets::node;
-use pm_words::{Action, Machine, Turn};
+use pm_words::{Action, Fence, Machine, Turn, line_of};
 
 /// Writes the call's name and value into a clear slot, with its fingerprint, and makes these durable. Then it stores the
 /// bitmap, once: the slot is live there, and the one that had the name before is clear. So the node shows the old number
@@ -63,8 +62,12 @@ impl Machine for Fill {
                 self.word(k),
             ),
             FillAt::Print => Action::Store(call.address(print_word(self.slot)), self.print()),
-            FillAt::FenceSlot { fence } => fence.action(call),
-            FillAt::FencePrint { fence } => fence.action(call),
+            FillAt::FenceSlot { fence } => {
+                fence.action(call.address(line_of(slot_word(self.slot, 0)) + fence.word))
+            }
+            FillAt::FencePrint { fence } => {
+                fence.action(call.address(line_of(print_word(self.slot)) + fence.word))
+            }
             FillAt::Bitmap => Action::Store(call.address(node::BITMAP), self.bitmap_after()),
         }
     }
@@ -79,12 +82,12 @@ impl Machine for Fill {
                 }
             }
             FillAt::Print => self.goes_to(FillAt::FenceSlot {
-                fence: Fence::of(slot_word(self.slot, 0)),
+                fence: Fence::new(),
             }),
             FillAt::FenceSlot { fence } => match fence.next(got) {
                 Some(fence) => self.goes_to(FillAt::FenceSlot { fence }),
                 None => self.goes_to(FillAt::FencePrint {
-                    fence: Fence::of(print_word(self.slot)),
+                    fence: Fence::new(),
                 }),
             },
             FillAt::FencePrint { fence } => match fence.next(got) {
@@ -97,7 +100,8 @@ impl Machine for Fill {
                 old: Hit::value_of(self.hit),
                 new: Some(self.value),
                 at: FinishAt::Fence {
-                    fence: Fence::of(node::BITMAP),
+                    line: line_of(node::BITMAP),
+                    fence: Fence::new(),
                 },
             }),
         }

@@ -4,12 +4,11 @@
 ghost use Rattle.std.specs.Prelude.{◌≡◌, ℕ};
 
 use crate::call::{CLOCK, Call};
-use crate::fence::Fence;
 use crate::lookup::Hold;
 use call_stages::{Once, Placed};
 use cat_history::{Change, Op};
 use pm_words::offsets::node;
-use pm_words::{Action, Machine, Turn};
+use pm_words::{Action, Fence, Machine, Turn};
 use version_lock::freed_of;
 
 /// The end of a write whose store is made: it makes the line of that store durable, takes its place from the clock, and
@@ -27,7 +26,8 @@ pub struct Finish {
 
 #[derive(Clone, Copy)]
 pub enum FinishAt {
-    Fence { fence: Fence },
+    /// The offset of the line's first word.
+    Fence { line: u64, fence: Fence },
     Add,
     Unlock { place: u64 },
 }
@@ -49,7 +49,7 @@ impl Machine for Finish {
 
     fn action(&self) -> Action {
         match self.at {
-            FinishAt::Fence { fence } => fence.action(&self.call),
+            FinishAt::Fence { line, fence } => fence.action(self.call.address(line + fence.word)),
             FinishAt::Add => Action::Add(CLOCK),
             FinishAt::Unlock { .. } => {
                 Action::Store(self.call.address(node::VERSION), freed_of(self.hold.locked))
@@ -59,8 +59,8 @@ impl Machine for Finish {
 
     fn resume(self, got: u64) -> Turn<Finish, Once<Placed>> {
         match self.at {
-            FinishAt::Fence { fence } => match fence.next(got) {
-                Some(fence) => self.goes_to(FinishAt::Fence { fence }),
+            FinishAt::Fence { line, fence } => match fence.next(got) {
+                Some(fence) => self.goes_to(FinishAt::Fence { line, fence }),
                 None => self.goes_to(FinishAt::Add),
             },
             FinishAt::Add => self.goes_to(FinishAt::Unlock { place: got }),

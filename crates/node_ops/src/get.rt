@@ -3,9 +3,9 @@
 
 ghost use Rattle.std.specs.Prelude.{◌≡◌, ℕ};
 
-use crate::call::{Call, View};
+use crate::call::Call;
 use crate::lookup::{Hit, Hold, Looked, Lookup};
-use call_stages::{Once, Placed};
+use call_stages::{Once, Placed, View};
 use cat_key::Name;
 use pm_words::offsets::node;
 use pm_words::{Action, Machine, Turn};
@@ -27,7 +27,8 @@ pub enum Get {
 
 impl Get {
     ghost use Rattle.std.specs.Prelude.{◌≡◌, None};
-    ghost use Rattle.node_ops.specs.Calls.{IsView, new_call};
+    ghost use Rattle.call_stages.specs.Views.{IsView};
+    ghost use Rattle.node_ops.specs.Calls.{new_call};
     ghost use Rattle.node_ops.specs.GetSteps.{IsGet};
     ghost use Rattle.node_ops.specs.LookupSteps.{starts};
 

@@ -1,11 +1,16 @@
 //! The laws of the machines, which the index rests on.
 
-ghost use Rattle.node_ops.specs.Laws.{TurnsAreSteps, TurnsStaySound, TurnsKeepOp, CountsOwnChange, HoldsOwnName};
+ghost use Rattle.node_ops.specs.Laws.{TurnsAreFootSteps, TurnsAreSteps, LeadsAreTaken, TurnsStaySound, TurnsKeepOp};
+ghost use Rattle.node_ops.specs.Laws.{CountsOwnChange, HoldsOwnName};
 ghost use Rattle.node_ops.specs.Laws.{PendingIsOwnChange, OpIsTold};
 
-/// Each turn of a sound call, whatever number it is told, is a step of one of the kinds, with the answer of the turn.
+/// Each turn of a sound call, whatever number it is told, is a step of one of the kinds, with the answer of the turn:
+/// on nodes, on a log line of its caller, or the store of a prev. Where a node that it holds leads to one of the
+/// layout's, the number is one that its machine takes.
 pub fn turns_are_steps()
-    ensures { TurnsAreSteps }
+    ensures feet { TurnsAreFootSteps }
+    ensures steps { TurnsAreSteps }
+    ensures taken { LeadsAreTaken }
 {}
 
 /// Each turn leaves a sound call sound.

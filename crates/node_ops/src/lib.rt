@@ -7,7 +7,6 @@
 
 mod call;
 mod del;
-mod fence;
 mod fill;
 mod finish;
 mod get;
@@ -16,9 +15,8 @@ mod lookup;
 mod put;
 mod running;
 
-pub use call::{Call, View};
+pub use call::Call;
 pub use del::Del;
-pub use fence::{Fence, FenceAt};
 pub use fill::{Fill, FillAt};
 pub use finish::{Finish, FinishAt};
 pub use get::Get;

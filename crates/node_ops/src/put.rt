@@ -2,22 +2,20 @@
 //!
 //! - where a slot is clear: `Filling` and `Finishing`;
 //! - where none is clear and one has the name: `Replacing`, the store of its value, and `Finishing`;
-//! - where none is clear and none has the name: `Refusing`, which gives the node back.
+//! - where none is clear and none has the name: `Splitting`, after which the call is to be made again, or was refused.
 
 ghost use Rattle.std.specs.Prelude.{◌≡◌, ℕ};
 
-use crate::call::{Call, View, slot_word};
-use crate::fence::Fence;
+use crate::call::{Call, slot_word};
 use crate::fill::{Fill, FillAt};
 use crate::finish::{Finish, FinishAt};
 use crate::lookup::{Found, Hit, Hold, Looked, Lookup};
-use call_stages::{Once, Placed};
+use call_stages::{Once, Placed, View};
 use cat_history::Op;
 use cat_key::{Name, WORDS};
 use data_node::clear_slot;
-use pm_words::offsets::node;
-use pm_words::{Action, Again, Machine, Turn};
-use version_lock::freed_of;
+use pm_words::{Action, Again, Fence, Machine, Turn, line_of};
+use split_merge::{Split, SplitDone};
 
 /// A put: it gives a name a value, and answers what the name had.
 #[derive(Clone, Copy)]
@@ -41,20 +39,22 @@ pub enum Put {
     Finishing {
         finish: Finish,
     },
-    /// No slot is clear and none has the name: it gives the node back.
-    Refusing {
+    /// No slot is clear and none has the name: it splits the node.
+    Splitting {
         call: Call,
         hold: Hold,
         bitmap: u64,
         value: u64,
+        split: Split,
     },
 }
 
 impl Put {
     ghost use Rattle.std.specs.Prelude.{◌≡◌, ◌^◌, ◌≤◌, Some};
-    ghost use Rattle.node_ops.specs.Calls.{IsView, IsCall, new_call};
+    ghost use Rattle.call_stages.specs.Views.{IsView};
+    ghost use Rattle.node_ops.specs.Calls.{IsCall, new_call};
     ghost use Rattle.node_ops.specs.LookupSteps.{IsFoundBy, starts};
-    ghost use Rattle.node_ops.specs.PutSteps.{IsPut, put_found};
+    ghost use Rattle.node_ops.specs.PutSteps.{IsPut, put_found, split_done};
 
     /// A put of this value under this name, which is refused where the clock has reached the limit.
     pub fn new(view: View, name: &Name, value: u64, limit: u64) -> Put
@@ -66,6 +66,16 @@ impl Put {
         Put::Looking {
             lookup: Lookup::new(Call::new(view, name, Some(limit))),
             value,
+        }
+    }
+
+    /// Why the call is to be made again, once its split has ended.
+    fn split_done(node: u64, done: SplitDone) -> Again
+        ensures { result ≡ split_done node done }
+    {
+        match done {
+            SplitDone::Done { .. } => Again::NeedsSplit { node },
+            SplitDone::Again(why) => why,
         }
     }
 
@@ -101,11 +111,12 @@ impl Put {
                 hit,
                 value,
             },
-            (None, None) => Put::Refusing {
+            (None, None) => Put::Splitting {
                 call,
                 hold,
                 bitmap,
                 value,
+                split: Split::new(call.view, call.node, hold.locked),
             },
         }
     }
@@ -124,7 +135,7 @@ impl Put {
             Put::Looking { lookup, .. } => lookup.call,
             Put::Filling { fill } => fill.call,
             Put::Finishing { finish } => finish.call,
-            Put::Replacing { call, .. } | Put::Refusing { call, .. } => call,
+            Put::Replacing { call, .. } | Put::Splitting { call, .. } => call,
         }
     }
 
@@ -137,7 +148,7 @@ impl Put {
             Put::Finishing { finish } => return finish.op(),
             Put::Looking { value, .. } => value,
             Put::Filling { fill } => fill.value,
-            Put::Replacing { value, .. } | Put::Refusing { value, .. } => value,
+            Put::Replacing { value, .. } | Put::Splitting { value, .. } => value,
         };
         Op::Put {
             name: self.call().name(),
@@ -172,10 +183,7 @@ impl Machine for Put {
                 ..
             } => Action::Store(call.address(slot_word(hit.slot, WORDS as u64)), value),
             Put::Finishing { finish } => finish.action(),
-            Put::Refusing { call, hold, .. } => Action::Store(
-                call.address(node::VERSION),
-                freed_of(hold.locked),
-            ),
+            Put::Splitting { split, .. } => split.action(),
         }
     }
 
@@ -203,7 +211,8 @@ impl Machine for Put {
                     old: Some(hit.value),
                     new: Some(value),
                     at: FinishAt::Fence {
-                        fence: Fence::of(slot_word(hit.slot, WORDS as u64)),
+                        line: line_of(slot_word(hit.slot, WORDS as u64)),
+                        fence: Fence::new(),
                     },
                 },
             }),
@@ -211,7 +220,22 @@ impl Machine for Put {
                 Turn::Go(finish) => Turn::Go(Put::Finishing { finish }),
                 Turn::Done(answer) => Turn::Done(answer),
             },
-            Put::Refusing { .. } => Turn::Done(Once::Again(Again::NoFree)),
+            Put::Splitting {
+                call,
+                hold,
+                bitmap,
+                value,
+                split,
+            } => match split.resume(got) {
+                Turn::Go(split) => Turn::Go(Put::Splitting {
+                    call,
+                    hold,
+                    bitmap,
+                    value,
+                    split,
+                }),
+                Turn::Done(done) => Turn::Done(Once::Again(Put::split_done(call.node, done))),
+            },
         }
     }
 }

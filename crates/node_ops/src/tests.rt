@@ -1,13 +1,14 @@
 ghost use Rattle.std.specs.Prelude.{◌≡◌, ℕ, IsTrue};
 ghost use Rattle.pm_words.specs.Layouts.{IsLayout};
 ghost use Rattle.call_stages.specs.Kinds.{Told, version_address};
-ghost use Rattle.node_ops.specs.RunningSteps.{Sound};
+ghost use Rattle.node_ops.specs.RunningSteps.{IsRunning, Sound, running_leads};
 
 use super::*;
-use call_stages::{Once, Placed};
+use call_stages::{Once, Placed, View};
 use cat_key::Name;
 use pm_words::offsets::{node, volatile};
 use pm_words::{Action, Again, Layout, Machine, Turn};
+use split_merge::SplitAt;
 use std::process::Abort;
 use std::test::Fail;
 use version_lock::{GENERATION_UNIT, LAST_COUNT};
@@ -130,14 +131,37 @@ fn is_version(layout: &Layout, address: u64) -> bool
     address >= first && (address - first) % (16 + 4 * layout.slots()) == 0
 }
 
-/// No version word is of a later run.
+/// No version word is of a later run; node 0 is LIVE, with the anchor zero, and leads to no node that there isn't.
 fn tell(rt: &impl Abort, layout: &Layout, action: Action, got: u64)
     requires { IsLayout layout.now }
     ensures { Told layout.now 1 action got }
 {
-    if let Action::Load(address) = action {
-        if is_version(layout, address) {
-            assert!(rt; got / GENERATION_UNIT <= 1, "{got}");
+    let Action::Load(address) = action else {
+        return;
+    };
+    if is_version(layout, address) {
+        assert!(rt; got / GENERATION_UNIT <= 1, "{got}");
+    }
+    let anchor = layout.cached(layout.node_word(0, node::ANCHOR));
+    if address == layout.node_volatile(0, volatile::STATUS) {
+        assert_eq!(rt; got, LIVE);
+    }
+    if address >= anchor && address < anchor + 3 {
+        assert_eq!(rt; got, 0);
+    }
+    if address == layout.cached(layout.node_word(0, node::NEXT)) {
+        assert!(rt; got < layout.nodes(), "{got}");
+    }
+}
+
+/// Looks whether the node that a split is told of is one, where it asked for that.
+fn see_next(rt: &impl Abort, call: &Running, got: u64)
+    requires { IsRunning call.now }
+    ensures { running_leads call.now got }
+{
+    if let Running::Putting(Put::Splitting { split, .. }) = call {
+        if let SplitAt::Next = split.at {
+            assert!(rt; got < split.view.layout.nodes(), "{got}");
         }
     }
 }
@@ -155,6 +179,7 @@ fn run(rt: &impl Abort, row: &mut Row, call: Running) -> Once<Placed>
                 let action = next.action();
                 let got = row.act(rt, action);
                 tell(rt, &row.layout, action, got);
+                see_next(rt, &next, got);
                 turn = next.resume(got);
             }
         }
@@ -213,7 +238,8 @@ fn done_after(old: Option<u64>, place: u64, hops: u64) -> Once<Placed> {
 /// A walk to the one node takes 6 loads: version, status, three words of the anchor, and next. A look-up takes 11
 /// actions more until the fingerprints are loaded, the lock, the clock, the bitmap and eight words of fingerprints, and
 /// three or four for each slot with the name's fingerprint. A write into a clear slot takes 5 stores, two fences of 16
-/// actions and the store of the bitmap, and its end a fence, the add and the unlock.
+/// actions and the store of the bitmap, and its end a fence, the add and the unlock. Where no slot is clear, the split
+/// loads next, takes a line by the load of its state and a fence, finds no free node by one load, and unlocks.
 #[test]
 fn one_caller_on_four_slots(rt: HostRuntime) -> Result<(), Fail> {
     let layout = Layout::new(1, 4, 1)?;
@@ -230,7 +256,7 @@ fn one_caller_on_four_slots(rt: HostRuntime) -> Result<(), Fail> {
         (put(b'c', 3), done(None, 2), 73),
         (put(b'd', 4), done(None, 3), 73),
         (put(b'a', 9), done(Some(1), 4), 40),
-        (put(b'e', 5), Once::Again(Again::NoFree), 18),
+        (put(b'e', 5), Once::Again(Again::NoFree), 37),
         (Ask::Get { letter: b'a' }, done(Some(9), 5), 22),
         (Ask::Get { letter: b'e' }, done(None, 5), 18),
         (
@@ -290,6 +316,56 @@ fn one_caller_on_four_slots(rt: HostRuntime) -> Result<(), Fail> {
         assert_eq!(rt; row.twins(&rt, 0, offset), (word, word), "{offset}");
     }
     assert_eq!(rt; row.twins(&rt, 0, node::VERSION).0, GENERATION_UNIT + 26);
+    Ok(())
+}
+
+/// A put that finds its node full splits it, and is to be made again: then it goes to the fresh node. The split takes 1
+/// load of next, 17 actions for a line, 3 for the claim, 24 loads of the node's words, 14 stores and three fences for the
+/// fresh node, 40 actions for the opened line, 3 stores up to the switch and its fence, a store and a fence for the
+/// bitmap, 17 actions for READY, and 3 stores.
+#[test]
+fn a_put_splits_its_full_node(rt: HostRuntime) -> Result<(), Fail> {
+    let layout = Layout::new(2, 4, 1)?;
+    let mut row = Row::new(layout, vec![in rt.alloc(); 0u64; ROW]?);
+    row.live(&rt, 0, 0);
+    let put = |letter: u8, value: u64| Ask::Put {
+        letter,
+        value,
+        limit: FAR,
+    };
+    let split = 1 + 17 + 3 + 24 + 14 + 48 + 40 + 3 + 16 + 17 + 17 + 3;
+    let calls = [
+        (put(b'c', 1), done(None, 0), 73),
+        (put(b'a', 2), done(None, 1), 73),
+        (put(b'd', 3), done(None, 2), 73),
+        (put(b'b', 4), done(None, 3), 73),
+        (
+            put(b'e', 5),
+            Once::Again(Again::NeedsSplit { node: 0 }),
+            17 + split,
+        ),
+        (put(b'e', 5), done_after(None, 4, 1), 9 + 6 + 67),
+        (
+            Ask::Get { letter: b'c' },
+            done_after(Some(1), 5, 1),
+            9 + 6 + 16,
+        ),
+        (Ask::Get { letter: b'b' }, done(Some(4), 5), 9 + 16),
+    ];
+    for (ask, answer, actions) in calls {
+        row.actions = 0;
+        let call = started(&rt, row.layout, ask);
+        assert_eq!(rt; run(&rt, &mut row, call), answer, "{ask:?}");
+        assert_eq!(rt; row.actions, actions, "{ask:?}");
+    }
+    let bitmaps = [(0, 0b1010), (1, 0b111)];
+    for (node, bitmap) in bitmaps {
+        assert_eq!(rt;
+            row.twins(&rt, node, node::BITMAP),
+            (bitmap, bitmap),
+            "{node}"
+        );
+    }
     Ok(())
 }
 

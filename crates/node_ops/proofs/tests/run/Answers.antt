@@ -15,4 +15,4 @@ turns-preserved g c =
     let told : Told layout 1 (running_asks c.in-Go.next) c.act-got.result =
     subst (λ (a : Action). Told layout 1 a c.act-got.result) c.action-action.ensures
     (subst (λ (l : Layout). Told l 1 c.action-action.result c.act-got.result) same c.tell.ensures) in
-    record { same = same; sound = subst (SoundAfter layout 1) (sym c.resume-turn.ensures.turned) (turns_stay_sound layout 1 c.in-Go.next c.act-got.result sound told) }
+    record { same = same; sound = subst (SoundAfter layout 1) (sym c.resume-turn.ensures.turned) (turns_stay_sound layout 1 c.in-Go.next c.act-got.result sound told c.see_next.ensures) }
