@@ -6,3 +6,5 @@ pub mod Went
 pub mod LoneCalls
 pub mod Targets
 pub mod Locks
+pub mod Shapes
+pub mod Splitting

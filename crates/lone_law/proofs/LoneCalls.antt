@@ -1,5 +1,5 @@
 -- A whole try of any call, with no other in flight.
-use Rattle.std.proofs.Common.{◌≡◌, ◌≢◌, ℕ, ◌<◌, ◌≤◌, ◌^◌, inl, ⊎_elim, cond, List, ◌++◌, length, refl, sym, ap, ◌∙◌, subst, arith}
+use Rattle.std.proofs.Common.{◌≡◌, ◌≢◌, ℕ, ◌<◌, ◌≤◌, ◌^◌, ◌⊎◌, inl, inr, ⊎_elim, true, false, cond, List, ◌++◌, length, refl, sym, ap, ◌∙◌, subst, arith}
 use Rattle.std.specs.Prelude.{Option, Some, None, IfSome, IsTrue, IsSome}
 use Rattle.std.specs.FinMap.{insert, get-insert}
 use Rattle.std.proofs.lemmas.Bool.{leb-true}
@@ -8,14 +8,13 @@ use mathlib.Core.Option.{some}
 use lib.ListN.{get_elem?}
 use Rattle.pm_words.specs.declared.layout.Layout.{Layout}
 use Rattle.pm_words.specs.declared.action.Action.{Action}
-use Rattle.pm_words.specs.declared.again.Again.{Again}
 use Rattle.pm_words.specs.declared.again.Again.TheVariants as again
 use Rattle.pm_words.specs.declared.machine.Turn.{Turn}
 use Rattle.pm_words.specs.declared.machine.Turn.TheVariants.{Go, Done}
 use Rattle.pm_words.specs.Rows.{acted, got}
 use Rattle.cat_key.specs.Names.{IsName, fingerprint_of}
 use Rattle.cat_key.proofs.Packing.{packed_from_name, bytes_of-words_of}
-use Rattle.version_lock.specs.Versions.{IsWorn}
+use Rattle.version_lock.specs.Versions.{IsWorn, is_free_word, is_worn_word}
 use Rattle.cat_history.specs.Maps.{Map, at}
 use Rattle.cat_history.specs.declared.op.Change.TheVariants as change
 use Rattle.cat_history.specs.Writes.{after_all}
@@ -31,10 +30,12 @@ use Rattle.call_stages.specs.declared.once.Once.{Once}
 use Rattle.call_stages.specs.declared.once.Once.TheVariants as once
 use Rattle.call_stages.specs.declared.once.Placed.{Placed}
 use Rattle.call_stages.specs.Stages.{Held, Stage, Idle, Saw, Wears, Holds, Eyes, Splits, Leaves, Meets, Joins, IsLoose, counted, placed_in}
-use Rattle.call_stages.specs.Kinds.{Told, Step}
+use Rattle.call_stages.specs.Kinds.{Told, LeadsWithin}
+use Rattle.call_stages.specs.AnySteps.{AnyStep}
 use Rattle.data_list.specs.Still.{position_from, IsQuietList, IsOnWay}
-use Rattle.data_list.specs.Keys.{key_words}
+use Rattle.data_list.specs.Keys.{key_number, key_words}
 use Rattle.data_list.specs.Walks.{walk_from}
+use Rattle.data_list.proofs.Comings.{first_comes}
 use Rattle.data_list.proofs.StillWalk.{begins_on_way}
 use Rattle.node_ops.specs.declared.call.Call.{Call}
 use Rattle.node_ops.specs.declared.get.Get.{Get}
@@ -50,15 +51,37 @@ use Rattle.node_ops.specs.declared.del.Del.{Del}
 use Rattle.node_ops.specs.declared.running.Running.{Running}
 use Rattle.node_ops.specs.declared.running.Running.TheVariants.{Getting, Putting, Deleting}
 use Rattle.node_ops.specs.Asked.{IsAbout, IsOf, IsOfAfter, name_asked}
-use Rattle.node_ops.specs.declared.call.View.{View}
-use Rattle.node_ops.specs.Calls.{IsView, new_call, name_in}
-use Rattle.node_ops.specs.LookupSteps.{starts, is_spent, IsLookup}
+use Rattle.call_stages.specs.declared.view.View.{View}
+use Rattle.node_ops.specs.Calls.{new_call, name_in}
+use Rattle.call_stages.specs.Views.{IsView}
+use Rattle.node_ops.specs.LookupSteps.{starts, is_spent, IsLookup, lookup_turned}
 use Rattle.node_ops.specs.GetSteps.{IsGet, get_call, get_turned}
-use Rattle.node_ops.specs.PutSteps.{IsPut, put_call, put_turned}
+use Rattle.node_ops.specs.PutSteps.{IsPut, put_call, put_turned, put_looked, put_into, put_full, put_filled, put_finished}
+use Rattle.node_ops.specs.FillSteps.{fill_turned}
+use Rattle.node_ops.specs.FinishSteps.{finish_turned}
+use Rattle.node_ops.specs.declared.fill.Fill.{Fill}
+use Rattle.node_ops.specs.declared.finish.Finish.{Finish}
+use Rattle.node_ops.specs.declared.lookup.Found.{Found}
+use Rattle.node_ops.specs.declared.lookup.Hit.{Hit}
+use Rattle.node_ops.specs.declared.lookup.Lookup.{Lookup}
+use Rattle.node_ops.specs.declared.lookup.Looked.{Looked}
+use Rattle.node_ops.specs.declared.lookup.Looked.TheVariants as looked
+use Rattle.data_node.specs.Bits.{lowest_clear}
+use Rattle.pm_alloc.specs.declared.claim.ClaimAt.{ClaimAt}
+use Rattle.pm_alloc.specs.declared.claim.ClaimAt.TheVariants as claim_at
+use Rattle.pm_alloc.specs.Claims.{lock_of}
+use Rattle.pm_alloc.specs.ClaimStages.{claim_stage, claim_at_stage}
+use Rattle.split_merge.specs.declared.splitting.Split.{Split}
+use Rattle.split_merge.specs.declared.splitting.SplitAt.{SplitAt}
+use Rattle.split_merge.specs.declared.splitting.SplitAt.TheVariants as split_at
+use Rattle.split_merge.specs.Splits.{IsSplitAt}
+use Rattle.split_merge.specs.SplitStages.{led, split_footing, split_at_footing}
+use Rattle.split_merge.specs.OfSplits.{IsOfSplit}
+use Rattle.split_merge.proofs.OfSplits.{stages_are_of_splits}
 use Rattle.node_ops.specs.DelSteps.{IsDel, del_call, del_turned}
-use Rattle.node_ops.specs.RunningSteps.{IsRunning, running_call, running_asks, running_turned, wrapped}
-use Rattle.node_ops.specs.CallStages.{lookup_at_stage, stage_of, stage_after, reply_of, SoundAfter}
-use Rattle.node_ops.proofs.CallLaw.{turns_are_steps}
+use Rattle.node_ops.specs.RunningSteps.{IsRunning, Sound, running_call, running_asks, running_turned, running_leads, wrapped}
+use Rattle.node_ops.specs.CallStages.{lookup_at_stage, stage_of, stage_after, reply_of, SoundAfter, found_full}
+use Rattle.node_ops.proofs.CallLaw.{turns_are_steps, leads_are_taken}
 use Rattle.node_ops.proofs.CallSound.{Stays, get_stays, put_stays, del_stays, turns_stay_sound}
 use Rattle.node_ops.proofs.OpLaw.{counts_own_change, holds_own_name, turns_keep_op}
 use Rattle.index_law.specs.Facts.{Facts, map_now, list_in}
@@ -66,21 +89,23 @@ use Rattle.index_law.specs.Worlds.{Party, World, facts, stepped, started, writte
 use Rattle.index_law.proofs.Starts.{start_law, rest_law}
 use Rattle.index_law.proofs.Parties.{set_here, set_else}
 use Rattle.index_law.specs.Lawful.{Sure}
-use Rattle.index_law.specs.Laws.{Allowed, IsLegal, HasNoRoom, IsAtRest}
-use Rattle.index_law.proofs.Law.{step_law}
-use Rattle.index_law.proofs.Actions.{action_law, zero_told}
-use Rattle.index_law.proofs.Own.{allow_law, sure_within}
+use Rattle.index_law.specs.Laws.{ActionLaw, IsLegal, HasNoRoom, IsAtRest}
+use Rattle.index_law.specs.AnySteps.{MayDo}
+use Rattle.index_law.proofs.AnySteps.{any_allowed, any_can, any_keeps}
+use Rattle.index_law.proofs.Actions.{some_told, some_leads}
+use Rattle.index_law.proofs.Own.{sure_within}
 use Rattle.index_law.proofs.Maps.{after_all-push}
 use Rattle.lone_law.specs.There.{nodes_in, IsAtNode}
 use Rattle.lone_law.specs.Rooms.{target_node}
-use Rattle.lone_law.specs.Locks.{HoldsOne}
-use Rattle.lone_law.specs.Tries.{IsFor, Trying, Says, LeavesHistory}
-use Rattle.lone_law.specs.LoneCalls.{MachinesHoldOne, IsThere, LoneCall, FindsFull, FindsWorn, IsLate, IsAnswered, AfterCall, LoneCallsGo, LoneCallsBegin}
+use Rattle.lone_law.specs.Locks.{MergesNone}
+use Rattle.lone_law.specs.Splitting.{AreEmpty, HasFree, LacksFree, HoldsAlone}
+use Rattle.lone_law.specs.Tries.{IsFor, IsHalvedSince, Trying, Says, LeavesHistory}
+use Rattle.lone_law.specs.LoneCalls.{MachinesMergeNone, HasClaimed, IsPast, IsThere, LoneCall, FindsFull, FindsWorn, IsLate, IsAnswered, AfterCall, LoneCallsGo, LoneCallsBegin}
 use Rattle.lone_law.proofs.There.{rest_is_still}
 use Rattle.lone_law.proofs.Went.{limit_in}
 use Rattle.lone_law.proofs.Tries.{tries_go, tries_end}
-use Rattle.lone_law.proofs.Rooms.{added_had_room, refused_was_full}
-use Rattle.lone_law.proofs.Went.{HasEnded, NeedsPlace, MayLackRoom, Went, machine_went}
+use Rattle.lone_law.proofs.Rooms.{added_had_room, refused_was_full, split_was_full}
+use Rattle.lone_law.proofs.Went.{HasEnded, NeedsPlace, MayLackRoom, KnowsOwn, Went, machine_went}
 
 -- the name that it is about
 of_name : (asked : Op) (machine : Running) → IsOf asked machine → name_in (running_call machine) ≡ name_asked asked
@@ -105,10 +130,10 @@ keeps_limit sound of wrap call (Go machine) same stays = ap (λ (c : Call). c.li
 keeps_limit sound of wrap call (Done answer) same stays = tt
 
 limit_kept : (machine : Running) (x : ℕ) → IsRunning machine → Told (running_call machine).view.layout (running_call machine).view.generation (running_asks machine) x
-    → KeepsLimit (running_call machine).limit (running_turned machine x)
-limit_kept (Getting m) x sound told = keeps_limit IsGet get_call (λ (k : Get). Getting k) (get_call m) (get_turned m x) (λ k. refl) (get_stays m x sound told)
-limit_kept (Putting m) x sound told = keeps_limit IsPut put_call (λ (k : Put). Putting k) (put_call m) (put_turned m x) (λ k. refl) (put_stays m x sound told)
-limit_kept (Deleting m) x sound told = keeps_limit IsDel del_call (λ (k : Del). Deleting k) (del_call m) (del_turned m x) (λ k. refl) (del_stays m x sound told)
+    → running_leads machine x → KeepsLimit (running_call machine).limit (running_turned machine x)
+limit_kept (Getting m) x sound told leads = keeps_limit IsGet get_call (λ (k : Get). Getting k) (get_call m) (get_turned m x) (λ k. refl) (get_stays m x sound told)
+limit_kept (Putting m) x sound told leads = keeps_limit IsPut put_call (λ (k : Put). Putting k) (put_call m) (put_turned m x) (λ k. refl) (put_stays m x sound told leads)
+limit_kept (Deleting m) x sound told leads = keeps_limit IsDel del_call (λ (k : Del). Deleting k) (del_call m) (del_turned m x) (λ k. refl) (del_stays m x sound told)
 
 -- a call that was refused for want of room held a full node
 record WasFull (l : Layout) (f : Facts) (since : ℕ) (name : List ℕ) : Type 0 where
@@ -164,6 +189,14 @@ still_there m name value other number is =
     subst IsSome (sym (get-insert nat_list_cmp_total m name value other))
     (by_names other name (λ b. IsSome (cond b (Some value) (at m other))) (λ _. refl) (λ _. subst IsSome (sym is) refl))
 
+-- it holds one node at most
+abbrev HoldsOne : Stage → Type 0
+HoldsOne Idle = Unit {0}
+HoldsOne (Saw n v w k) = Unit {0}
+HoldsOne (Wears n v) = Unit {0}
+HoldsOne (Holds n w h) = Unit {0}
+HoldsOne _ = ⊥
+
 loose_one : (s : Stage) → IsLoose s → HoldsOne s
 loose_one Idle loose = tt
 loose_one (Saw n v w k) loose = tt
@@ -185,20 +218,58 @@ looks_one call (look.Prints hold bitmap prints k) = tt
 looks_one call (look.Name hold directory left slot k) = tt
 looks_one call (look.Value hold directory slot) = tt
 
--- get, put and delete hold one node at most
-pub machines_hold_one : MachinesHoldOne
-machines_hold_one (Getting (get.Looking lookup)) = looks_one lookup.call lookup.at
-machines_hold_one (Getting (get.Unlocking call hold old)) = tt
-machines_hold_one (Putting (put.Looking lookup value)) = looks_one lookup.call lookup.at
-machines_hold_one (Putting (put.Filling fill)) = tt
-machines_hold_one (Putting (put.Replacing call hold bitmap hit value)) = tt
-machines_hold_one (Putting (put.Finishing finish)) = tt
-machines_hold_one (Putting (put.Refusing call hold bitmap value)) = tt
-machines_hold_one (Deleting (del.Looking lookup)) = looks_one lookup.call lookup.at
-machines_hold_one (Deleting (del.Clearing call hold bitmap hit)) = tt
-machines_hold_one (Deleting (del.Finishing finish)) = tt
+-- what splits merges nothing, and is for its name
+split_merges_none : (h : Held) (s : Stage) → IsOfSplit h s → MergesNone s
+split_merges_none h Idle is = tt
+split_merges_none h (Saw n v w k) is = tt
+split_merges_none h (Wears n v) is = tt
+split_merges_none h (Holds n w k) is = tt
+split_merges_none h (Eyes n w k m v u free) is = tt
+split_merges_none h (Splits left fresh phase) is = tt
+split_merges_none h (Leaves left) is = tt
+split_merges_none h (Meets n w k right) is = absurd is
+split_merges_none h (Joins k left right pace) is = absurd is
 
--- and so they split and merge nothing
+split_is_for : (h : Held) (name : List ℕ) (s : Stage) → h.name ≡ name → h.old ≡ Some None → IsOfSplit h s → IsFor name s
+split_is_for h name Idle named lacked is = absurd is
+split_is_for h name (Saw n v w k) named lacked is = absurd is
+split_is_for h name (Wears n v) named lacked is = absurd is
+split_is_for h name (Holds n w k) named lacked is = tt
+split_is_for h name (Eyes n w k m v u free) named lacked is = tt
+split_is_for h name (Splits left fresh phase) named lacked is = (is.0 ∙ named, is.1 ∙ lacked)
+split_is_for h name (Leaves left) named lacked is = tt
+split_is_for h name (Meets n w k right) named lacked is = absurd is
+split_is_for h name (Joins k left right pace) named lacked is = absurd is
+
+-- the stage of a call that doesn't split
+abbrev HasOne : Running → Type 0
+HasOne (Putting (put.Splitting call hold bitmap value split)) = ⊥
+HasOne _ = Unit {0}
+
+one_merges_none : (s : Stage) → HoldsOne s → MergesNone s
+one_merges_none Idle one = tt
+one_merges_none (Saw n v w k) one = tt
+one_merges_none (Wears n v) one = tt
+one_merges_none (Holds n w h) one = tt
+one_merges_none (Eyes n w h m v u free) one = tt
+one_merges_none (Splits left fresh phase) one = tt
+one_merges_none (Leaves left) one = tt
+one_merges_none (Meets n w h right) one = absurd one
+one_merges_none (Joins h left right pace) one = absurd one
+
+-- get, put and delete merge nothing
+pub machines_merge_none : MachinesMergeNone
+machines_merge_none (Getting (get.Looking lookup)) = one_merges_none _ (looks_one lookup.call lookup.at)
+machines_merge_none (Getting (get.Unlocking call hold old)) = tt
+machines_merge_none (Putting (put.Looking lookup value)) = one_merges_none _ (looks_one lookup.call lookup.at)
+machines_merge_none (Putting (put.Filling fill)) = tt
+machines_merge_none (Putting (put.Replacing call hold bitmap hit value)) = tt
+machines_merge_none (Putting (put.Finishing finish)) = tt
+machines_merge_none (Putting (put.Splitting call hold bitmap value split)) = split_merges_none _ _ (stages_are_of_splits (found_full call hold bitmap) split)
+machines_merge_none (Deleting (del.Looking lookup)) = one_merges_none _ (looks_one lookup.call lookup.at)
+machines_merge_none (Deleting (del.Clearing call hold bitmap hit)) = tt
+machines_merge_none (Deleting (del.Finishing finish)) = tt
+
 one_for : (name : List ℕ) (s : Stage) → HoldsOne s → IsFor name s
 one_for name Idle one = tt
 one_for name (Saw n v w k) one = tt
@@ -210,8 +281,126 @@ one_for name (Leaves left) one = absurd one
 one_for name (Meets n w h right) one = absurd one
 one_for name (Joins h left right pace) one = absurd one
 
-machine_for_any : (name : List ℕ) (m : Running) → IsFor name (stage_of m)
-machine_for_any name m = one_for name (stage_of m) (machines_hold_one m)
+-- what a call splits it splits for its name
+machine_for : (asked : Op) (m : Running) → IsOf asked m → IsFor (name_asked asked) (stage_of m)
+machine_for asked (Getting (get.Looking lookup)) of = one_for _ _ (looks_one lookup.call lookup.at)
+machine_for asked (Getting (get.Unlocking call hold old)) of = tt
+machine_for asked (Putting (put.Looking lookup value)) of = one_for _ _ (looks_one lookup.call lookup.at)
+machine_for asked (Putting (put.Filling fill)) of = tt
+machine_for asked (Putting (put.Replacing call hold bitmap hit value)) of = tt
+machine_for asked (Putting (put.Finishing finish)) of = tt
+machine_for (op.Put name number) (Putting (put.Splitting call hold bitmap value split)) of =
+    split_is_for (found_full call hold bitmap) name _ of.0 refl (stages_are_of_splits (found_full call hold bitmap) split)
+machine_for (op.Get name) (Putting (put.Splitting call hold bitmap value split)) of = absurd of
+machine_for (op.Del name) (Putting (put.Splitting call hold bitmap value split)) of = absurd of
+machine_for asked (Deleting (del.Looking lookup)) of = one_for _ _ (looks_one lookup.call lookup.at)
+machine_for asked (Deleting (del.Clearing call hold bitmap hit)) of = tt
+machine_for asked (Deleting (del.Finishing finish)) of = tt
+
+-- a turn leads to no split that has claimed a node
+abbrev IsNotPast : Turn Running (Once Placed) → Type 0
+IsNotPast (Go next) = IsPast next → ⊥
+IsNotPast (Done answer) = Unit {0}
+
+one_or_splits : (m : Running) → HasOne m ⊎ MayLackRoom m
+one_or_splits (Getting m) = inl tt
+one_or_splits (Deleting m) = inl tt
+one_or_splits (Putting (put.Looking lookup value)) = inl tt
+one_or_splits (Putting (put.Filling fill)) = inl tt
+one_or_splits (Putting (put.Replacing call hold bitmap hit value)) = inl tt
+one_or_splits (Putting (put.Finishing finish)) = inl tt
+one_or_splits (Putting (put.Splitting call hold bitmap value split)) = inr tt
+
+not_past : (m : Running) (x : ℕ) → HasOne m → IsNotPast (running_turned m x)
+not_past (Getting m) x one = of (get_turned m x)
+  where
+    of : (turn : Turn Get (Once Placed)) → IsNotPast (wrapped Getting turn)
+    of (Go next) = λ past. past
+    of (Done answer) = tt
+not_past (Deleting m) x one = of (del_turned m x)
+  where
+    of : (turn : Turn Del (Once Placed)) → IsNotPast (wrapped Deleting turn)
+    of (Go next) = λ past. past
+    of (Done answer) = tt
+not_past (Putting (put.Looking lookup value)) x one = of (lookup_turned lookup x)
+  where
+    full : (found : Found) (hit : Option Hit) → IsPast (Putting (put_full lookup.call found.hold found.directory.bitmap hit value)) → ⊥
+    full found (Some hit) past = past
+    full found None past = past
+
+    into : (found : Found) (clear : Option ℕ) → IsPast (Putting (put_into lookup.call found value clear)) → ⊥
+    into found (Some slot) past = past
+    into found None past = full found found.hit past
+
+    of : (turn : Turn Lookup Looked) → IsNotPast (wrapped Putting (put_looked lookup.call value turn))
+    of (Go next) = λ past. past
+    of (Done (looked.Early answer)) = tt
+    of (Done (looked.Found found)) = into found (lowest_clear found.directory.bitmap lookup.call.view.layout.slots)
+not_past (Putting (put.Filling fill)) x one = of (fill_turned fill x)
+  where
+    of : (turn : Turn Fill Finish) → IsNotPast (wrapped Putting (put_filled turn))
+    of (Go next) = λ past. past
+    of (Done finish) = λ past. past
+not_past (Putting (put.Replacing call hold bitmap hit value)) x one = λ past. past
+not_past (Putting (put.Finishing finish)) x one = of (finish_turned finish x)
+  where
+    of : (turn : Turn Finish (Once Placed)) → IsNotPast (wrapped Putting (put_finished turn))
+    of (Go next) = λ past. past
+    of (Done answer) = tt
+not_past (Putting (put.Splitting call hold bitmap value split)) x one = absurd one
+
+-- a split that has claimed no node knows that its clock was below its limit
+abbrev IsBelow : ℕ → Option ℕ → Type 0
+IsBelow since limit = IfSome limit (λ most. since < most)
+
+claims_below : (l : Layout) (g : ℕ) (f : Facts) (caller index since n w : ℕ) (k : Held) (m : ℕ) (at : ClaimAt) → Sure l g f caller index since (claim_at_stage g n w k m at) → IsBelow since k.limit
+claims_below l g f caller index since n w k m claim_at.Nowhere knows = knows.below
+claims_below l g f caller index since n w k m claim_at.Version knows = knows.below
+claims_below l g f caller index since n w k m (claim_at.Status version) knows_so =
+    elim (is_free_word version g) as (λ b. Sure l g f caller index since (cond b (cond (is_worn_word version g) (Holds n w k) (Eyes n w k m version (lock_of version g) false)) (Holds n w k)) → IsBelow since k.limit) [
+      | true ↦ elim (is_worn_word version g) as (λ b. Sure l g f caller index since (cond b (Holds n w k) (Eyes n w k m version (lock_of version g) false)) → IsBelow since k.limit) [
+        | true ↦ λ knows. knows.below
+        | false ↦ λ knows. knows.0.below
+      ]
+      | false ↦ λ knows. knows.below
+    ] knows_so
+claims_below l g f caller index since n w k m (claim_at.Lock version locked) knows = knows.0.below
+
+split_below : (l : Layout) (f : Facts) (caller index since : ℕ) (h : Held) (split : Split) (at : SplitAt) → IsSplitAt split.view split.node split.word at
+    → Sure l split.view.generation f caller index since (split_at_footing h split at).stage → HasClaimed at ⊎ IsBelow since h.limit
+split_below l f caller index since h split split_at.Next is knows = inr knows.below
+split_below l f caller index since h split (split_at.Take next take) is knows = inr knows.below
+split_below l f caller index since h split (split_at.Claim next line claim) is knows =
+    inr (claims_below l claim.generation f caller index since split.node split.word (led next h) claim.node claim.at
+    (subst (λ (g : ℕ). Sure l g f caller index since (claim_stage split.node split.word (led next h) claim)) (sym is.4) knows))
+split_below l f caller index since h split (split_at.Read share full count) is knows = inl tt
+split_below l f caller index since h split (split_at.Move moving) is knows = inl tt
+split_below l f caller index since h split (split_at.Refuse next why) is knows = inr knows.below
+
+-- and its node's version word is its own
+split_mine : (l : Layout) (f : Facts) (caller index since : ℕ) (h : Held) (split : Split) (at : SplitAt) → IsSplitAt split.view split.node split.word at
+    → Sure l split.view.generation f caller index since (split_at_footing h split at).stage → HoldsAlone at → f.version split.node ≡ split.word
+split_mine l f caller index since h split (split_at.Claim next line claim) is knows alone =
+    claims_mine l claim.generation f caller index since split.node split.word (led next h) claim.node claim.at
+    (subst (λ (g : ℕ). Sure l g f caller index since (claim_stage split.node split.word (led next h) claim)) (sym is.4) knows)
+  where
+    claims_mine : (l : Layout) (g : ℕ) (f : Facts) (caller index since n w : ℕ) (k : Held) (m : ℕ) (at : ClaimAt) → Sure l g f caller index since (claim_at_stage g n w k m at) → f.version n ≡ w
+    claims_mine l g f caller index since n w k m claim_at.Nowhere knows = knows.stands
+    claims_mine l g f caller index since n w k m claim_at.Version knows = knows.stands
+    claims_mine l g f caller index since n w k m (claim_at.Status version) knows_so =
+        elim (is_free_word version g) as (λ b. Sure l g f caller index since (cond b (cond (is_worn_word version g) (Holds n w k) (Eyes n w k m version (lock_of version g) false)) (Holds n w k)) → f.version n ≡ w) [
+          | true ↦ elim (is_worn_word version g) as (λ b. Sure l g f caller index since (cond b (Holds n w k) (Eyes n w k m version (lock_of version g) false)) → f.version n ≡ w) [
+            | true ↦ λ knows. knows.stands
+            | false ↦ λ knows. knows.0.stands
+          ]
+          | false ↦ λ knows. knows.stands
+        ] knows_so
+    claims_mine l g f caller index since n w k m (claim_at.Lock version locked) knows = knows.0.stands
+split_mine l f caller index since h split split_at.Next is knows alone = absurd alone
+split_mine l f caller index since h split (split_at.Take next take) is knows alone = absurd alone
+split_mine l f caller index since h split (split_at.Read share full count) is knows alone = absurd alone
+split_mine l f caller index since h split (split_at.Move moving) is knows alone = absurd alone
+split_mine l f caller index since h split (split_at.Refuse next why) is knows alone = absurd alone
 
 module _ (w0 : World) (i : ℕ) (asked : Op) (limit : Option ℕ) (w : World) (p : Party) (machine : Running) (x : ℕ) (o : LoneCall w0 i asked limit w p machine) (rest : IsAtRest w0)
     (told : x ≡ got w.layout w.words (running_asks machine)) (room : length w.history < 2 ^ 63) where
@@ -230,14 +419,26 @@ module _ (w0 : World) (i : ℕ) (asked : Op) (limit : Option ℕ) (w : World) (p
   sure : Sure l g (facts w) p.caller p.index p.since (stage_of machine)
   sure = subst (Sure l g (facts w) p.caller p.index p.since) o.stage (o.trying.lawful.sure i p o.trying.there)
 
-  allowed : Allowed l (stage_of machine) a
-  allowed = allow_law l g (stage_of machine) a 0 _ _ (sure_within l g (facts w) p.caller p.index p.since (stage_of machine) sure) (turns_are_steps l g machine 0 o.sound (zero_told l g a))
+  may : MayDo l (stage_of machine) a
+  may =
+      let some = some_told l g a in
+      any_allowed l g (stage_of machine) a some.0 _ _ (sure_within l g (facts w) p.caller p.index p.since (stage_of machine) sure)
+      (turns_are_steps l g machine some.0 o.sound some.1 (some_leads l g (stage_of machine) a o.trying.lawful.row.layout.nodes.0))
+
+  act : ActionLaw w p.stage a
+  act = any_can w i p a o.trying.lawful o.trying.there (subst (λ (s : Stage). MayDo l s a) (sym o.stage) may) room
 
   tells : Told l g a x
-  tells = subst (Told l g a) (sym told) (action_law w i p a o.trying.lawful o.trying.there (subst (λ (s : Stage). Allowed l s a) (sym o.stage) allowed) room).told
+  tells = subst (Told l g a) (sym told) act.told
 
-  step : Step l g p.stage a x (stage_after (running_turned machine x)) (reply_of (running_turned machine x))
-  step = subst (λ (s : Stage). Step l g s a x (stage_after (running_turned machine x)) (reply_of (running_turned machine x))) (sym o.stage) (turns_are_steps l g machine x o.sound tells)
+  leads : LeadsWithin l (stage_of machine) a x
+  leads = subst (λ (q : Stage × ℕ). LeadsWithin l q.0 a q.1) (λ k. (o.stage k, sym told k)) act.leads
+
+  takes : running_leads machine x
+  takes = leads_are_taken l g machine x o.sound leads
+
+  step : AnyStep l g p.stage a x (stage_after (running_turned machine x)) (reply_of (running_turned machine x))
+  step = subst (λ (s : Stage). AnyStep l g s a x (stage_after (running_turned machine x)) (reply_of (running_turned machine x))) (sym o.stage) (turns_are_steps l g machine x o.sound tells leads)
 
   mine : IfSome (counted p.stage) (λ change. own ≡ Some change)
   mine = subst (λ (s : Stage). IfSome (counted s) (λ change. own ≡ Some change)) (sym o.stage) (counts_own_change asked machine o.of)
@@ -245,9 +446,8 @@ module _ (w0 : World) (i : ℕ) (asked : Op) (limit : Option ℕ) (w : World) (p
   about : IsAbout (name_asked asked) p.stage
   about = subst (IsAbout (name_asked asked)) (sym o.stage) (holds_own_name asked machine o.of)
 
-  -- these machines make no split
   is_for : IsFor (name_asked asked) p.stage
-  is_for = subst (IsFor (name_asked asked)) (sym o.stage) (machine_for_any (name_asked asked) machine)
+  is_for = subst (IsFor (name_asked asked)) (sym o.stage) (machine_for asked machine o.of)
 
   layout_is : (running_call machine).view.layout ≡ w0.layout
   layout_is = o.sound.layout ∙ o.trying.layout
@@ -255,14 +455,33 @@ module _ (w0 : World) (i : ℕ) (asked : Op) (limit : Option ℕ) (w : World) (p
   generation_is : (running_call machine).view.generation ≡ w0.generation
   generation_is = o.sound.generation ∙ o.trying.generation
 
+  -- the version word of a node that it holds alone while it splits
+  mine_word : KnowsOwn l w.words machine
+  mine_word = of machine o.sound sure
+    where
+      of : (m : Running) → Sound l g m → Sure l g (facts w) p.caller p.index p.since (stage_of m) → KnowsOwn l w.words m
+      of (Getting m) is knows = tt
+      of (Deleting m) is knows = tt
+      of (Putting (put.Looking lookup value)) is knows = tt
+      of (Putting (put.Filling fill)) is knows = tt
+      of (Putting (put.Replacing call hold bitmap hit value)) is knows = tt
+      of (Putting (put.Finishing finish)) is knows = tt
+      of (Putting (put.Splitting call hold bitmap value split)) is knows = λ alone.
+          subst (λ (q : ℕ × ℕ). (facts w).version q.0 ≡ q.1) (λ k. (is.here.node k, is.here.word k))
+          (split_mine l (facts w) p.caller p.index p.since (found_full call hold bitmap) split split.at is.here.here.here
+          (subst (λ (n : ℕ). Sure l n (facts w) p.caller p.index p.since (split_footing (found_full call hold bitmap) split).stage) (sym (ap (λ (v : View). v.generation) is.here.view ∙ is.generation)) knows) alone)
+
   went : Went w0.layout w0.generation w0.words (acted w.layout w.words a) machine (running_turned machine x)
   went =
       let still = subst (λ (q : Layout × ℕ). IsQuietList q.0 q.1 (nodes_in q.0 w0.words)) (λ k. (sym layout_is k, sym generation_is k)) (rest_is_still w0 rest) in
       let stands = subst (λ (k : Layout). IsThere k w0.words w.words machine) (sym layout_is) o.stands in
       let own_told = subst (λ (k : Layout). x ≡ got k w.words a) (sym o.sound.layout) told in
+      let empty = subst (λ (k : Layout). AreEmpty k w0.words) (sym layout_is) o.empty in
+      let own_tells = subst (λ (q : Layout × ℕ). Told q.0 q.1 a x) (λ k. (sym o.sound.layout k, sym o.sound.generation k)) tells in
+      let own_mine = subst (λ (k : Layout). KnowsOwn k w.words machine) (sym o.sound.layout) mine_word in
       subst (λ (k : Layout). Went w0.layout w0.generation w0.words (acted k w.words a) machine (running_turned machine x)) o.sound.layout
       (subst (λ (q : Layout × ℕ). Went q.0 q.1 w0.words (acted (running_call machine).view.layout w.words a) machine (running_turned machine x)) (λ k. (layout_is k, generation_is k))
-      (machine_went machine w0.words w.words x o.sound.here still stands own_told))
+      (machine_went machine w0.words w.words x o.sound.here still empty own_tells own_mine stands own_told))
 
   name_is : name_in (running_call machine) ≡ name_asked asked
   name_is = of_name asked machine o.of
@@ -308,6 +527,38 @@ module _ (w0 : World) (i : ℕ) (asked : Op) (limit : Option ℕ) (w : World) (p
       let most : IfSome limit (λ most. length w0.history < most) = subst (λ (q : Option ℕ × ℕ). IfSome q.0 (λ most. q.1 < most)) (λ k. ((same ∙ o.limited) k, since_is k)) below in
       unspent limit (length w0.history) most late
 
+  -- and so it was while it split
+  split_late : (m : Running) → Sound l g m → Sure l g (facts w) p.caller p.index p.since (stage_of m) → (IsPast m → IsLate w0 limit → ⊥) → (running_call m).limit ≡ limit → MayLackRoom m
+      → IsLate w0 limit → ⊥
+  split_late (Putting (put.Splitting call hold bitmap value split)) is knows timely same splits late = ⊎_elim
+      (λ claimed. timely claimed late)
+      (λ below. unspent limit (length w0.history) (subst (λ (q : Option ℕ × ℕ). IfSome q.0 (λ most. q.1 < most)) (λ k. (same k, since_is k)) below) late)
+      (split_below l (facts w) p.caller p.index p.since (found_full call hold bitmap) split split.at is.here.here.here
+      (subst (λ (n : ℕ). Sure l n (facts w) p.caller p.index p.since (split_footing (found_full call hold bitmap) split).stage) (sym (ap (λ (v : View). v.generation) is.here.view ∙ is.generation)) knows))
+  split_late (Getting m) is knows timely same splits late = splits
+  split_late (Deleting m) is knows timely same splits late = splits
+  split_late (Putting (put.Looking lookup value)) is knows timely same splits late = splits
+  split_late (Putting (put.Filling fill)) is knows timely same splits late = splits
+  split_late (Putting (put.Replacing call hold bitmap hit value)) is knows timely same splits late = splits
+  split_late (Putting (put.Finishing finish)) is knows timely same splits late = splits
+
+  lacks : LacksFree w0.layout w0.generation w0.words → LacksFree w0.layout w0.generation w0.words
+  lacks is = is
+
+  has : HasFree w0.layout w0.generation w0.words → HasFree w0.layout w0.generation w0.words
+  has is = is
+
+  was_split : (d : Op) (m : Running) → IsOf d m → MayLackRoom m → IsHalvedSince (name_asked d) w0 w' → FindsFull w0 d
+  was_split (op.Put name value) (Putting m) is may cut = split_was_full w0 w' name rest o.trying.layout cut
+  was_split (op.Get name) (Getting m) is may cut = may
+  was_split (op.Del name) (Deleting m) is may cut = may
+  was_split (op.Get name) (Putting m) is may cut = absurd is
+  was_split (op.Get name) (Deleting m) is may cut = absurd is
+  was_split (op.Put name value) (Getting m) is may cut = absurd is
+  was_split (op.Put name value) (Deleting m) is may cut = absurd is
+  was_split (op.Del name) (Getting m) is may cut = absurd is
+  was_split (op.Del name) (Putting m) is may cut = absurd is
+
   fresh : IsAtNode w0.layout w0.words (running_call machine) → FindsWorn w0 asked → ⊥
   fresh stands worn =
       stands.unworn (subst (λ (q : ℕ × ℕ). IsWorn ((facts w0).version q.0) q.1) (λ k. (sym (stands.node ∙ ap (λ (n : List ℕ). target_node w0 n) name_is) k, sym generation_is k)) worn)
@@ -346,34 +597,45 @@ module _ (w0 : World) (i : ℕ) (asked : Op) (limit : Option ℕ) (w : World) (p
   answered (once.Worn node word) rest' says leaves legal ended =
       let node_is : node ≡ target_node w0 (name_asked asked) = ended.0 ∙ ap (λ (n : List ℕ). target_node w0 n) name_is in
       (subst (λ (v : ℕ). IsWorn v w0.generation) (ended.1 ∙ ap (facts w0).version node_is) ended.2, node_is, ended.1, says.0, says.1)
-  answered (once.Again why) rest' says leaves legal ended =
-      subst (λ (y : Again). IsAnswered w0 asked limit w' p (once.Again y)) (sym ended.1)
-      (let quiet : Says w0 w' (name_asked asked) (once.Again again.NoFree) = subst (λ (y : Again). Says w0 w' (name_asked asked) (once.Again y)) ended.1 says in
-      let is_legal = subst (λ (y : Again). IsLegal l g (facts w') p.caller p.index p.since p.stage (Some (once.Again y))) ended.1 legal in
-      (fresh ended.0, in_time ended.3, full asked machine o.of ended.2 rest' about is_legal quiet.0 quiet.1, quiet.0, quiet.1))
+  answered (once.Again again.NoFree) rest' says leaves legal ended =
+      (fresh ended.0, split_late machine o.sound sure o.timely o.limited ended.1, full asked machine o.of ended.1 rest' about legal says.0 says.1, lacks ended.2, says.0, says.1)
+  answered (once.Again (again.NeedsSplit node)) rest' says leaves legal ended =
+      (fresh ended.0, split_late machine o.sound sure o.timely o.limited ended.1, was_split asked machine o.of ended.1 says.1, has ended.2, says.0, says.1)
+  answered (once.Again (again.Locked n word)) rest' says leaves legal ended = absurd ended
+  answered (once.Again (again.Moved n first second)) rest' says leaves legal ended = absurd ended
+  answered (once.Again (again.Hops count)) rest' says leaves legal ended = absurd ended
+  answered (once.Again again.LogFull) rest' says leaves legal ended = absurd ended
+  answered (once.Again (again.Held word)) rest' says leaves legal ended = absurd ended
+  answered (once.Again (again.Epoch first second)) rest' says leaves legal ended = absurd ended
 
-  after_turn : (t : Turn Running (Once Placed)) → Step l g p.stage a x (stage_after t) (reply_of t) → SoundAfter l g t → IsOfAfter asked t → KeepsLimit (running_call machine).limit t
-      → Went w0.layout w0.generation w0.words (acted w.layout w.words a) machine t → AfterCall w0 i asked limit w p machine t
-  after_turn (Go next) k sound of keeps been = record {
-    trying = tries_go (name_asked asked) own w0 i w p a x (stage_of next) o.trying is_for (machine_for_any (name_asked asked) next) mine k told room;
+  after_turn : (t : Turn Running (Once Placed)) → AnyStep l g p.stage a x (stage_after t) (reply_of t) → SoundAfter l g t → IsOfAfter asked t → KeepsLimit (running_call machine).limit t
+      → (HasOne machine → IsNotPast t) → Went w0.layout w0.generation w0.words (acted w.layout w.words a) machine t → AfterCall w0 i asked limit w p machine t
+  after_turn (Go next) k sound of keeps begun been = record {
+    trying = tries_go (name_asked asked) own w0 i w p a x (stage_of next) o.trying is_for (machine_for asked next of) mine k told room;
     stage = refl;
     sound = sound;
     of = of;
     limited = keeps ∙ o.limited;
     stands = been;
+    empty = o.empty;
+    timely = λ past. ⊎_elim
+        (λ (one : HasOne machine). absurd (begun one past))
+        (λ (splits : MayLackRoom machine). split_late machine o.sound sure o.timely o.limited splits)
+        (one_or_splits machine);
   }
-  after_turn (Done answer) k sound of keeps been =
+  after_turn (Done answer) k sound of keeps begun been =
       let end = tries_end (name_asked asked) own w0 i w p a x Idle answer o.trying is_for about k told room in
-      let legal = (step_law w i p a x Idle (Some answer) o.trying.lawful o.trying.there k told room).legal in
+      let legal = (any_keeps w i p a x Idle (Some answer) o.trying.lawful o.trying.there k told room).legal in
       (end.0, answered answer end.0 end.1 end.2 legal been)
 
 pub lone_calls_go : LoneCallsGo
 lone_calls_go w0 i asked limit w p machine x o rest told room =
     let is_told = tells w0 i asked limit w p machine x o rest told room in
     let own_told = subst (λ (q : Layout × ℕ). Told q.0 q.1 (running_asks machine) x) (λ k. (sym o.sound.layout k, sym o.sound.generation k)) is_told in
+    let led = takes w0 i asked limit w p machine x o rest told room in
     after_turn w0 i asked limit w p machine x o rest told room (running_turned machine x) (step w0 i asked limit w p machine x o rest told room)
-    (turns_stay_sound w.layout w.generation machine x o.sound is_told) (turns_keep_op w.layout w.generation asked machine x o.sound is_told o.of)
-    (limit_kept machine x o.sound.here own_told) (went w0 i asked limit w p machine x o rest told room)
+    (turns_stay_sound w.layout w.generation machine x o.sound is_told led) (turns_keep_op w.layout w.generation asked machine x o.sound is_told led o.of)
+    (limit_kept machine x o.sound.here own_told led) (not_past machine x) (went w0 i asked limit w p machine x o rest told room)
 
 module _ (w0 : World) (i : ℕ) (limit : Option ℕ) (p : Party) (index : ℕ) (view : View) (name : List ℕ) (rest : IsAtRest w0) (there : get_elem? w0.parties i ≡ some p)
     (is_view : IsView view) (layout : view.layout ≡ w0.layout) (generation : view.generation ≡ w0.generation) (named : IsName name) (most : IfSome limit (λ m. m ≤ 2 ^ 62)) where
@@ -388,7 +650,7 @@ module _ (w0 : World) (i : ℕ) (limit : Option ℕ) (p : Party) (index : ℕ) (
       let nodes : 1 ≤ view.layout.nodes = is_view.layout.nodes.0 in
       record {
         call = record { view = is_view; node = omega arith; packed = packed_from_name name named; print = ap fingerprint_of (sym (bytes_of-words_of name named)); limit = most };
-        here = record { sound = record { layout = is_view.layout; node = omega arith; hops = omega arith; here = tt }; layout = refl; generation = refl; key = refl };
+        here = record { sound = record { layout = is_view.layout; node = omega arith; hops = omega arith; here = tt; first = tt }; layout = refl; generation = refl; key = refl };
       }
 
   tries : (own : Option Change) → Trying name own w0 i (started w0 i p index) begun
@@ -404,14 +666,20 @@ module _ (w0 : World) (i : ℕ) (limit : Option ℕ) (p : Party) (index : ℕ) (
     shape = inl (refl, refl);
   }
 
-  on_way : IsOnWay w0.layout (nodes_in w0.layout w0.words) (walk_from view.layout view.generation 0 (key_words call.name))
-  on_way = begins_on_way w0.layout w0.generation (nodes_in w0.layout w0.words) (walk_from view.layout view.generation 0 (key_words call.name)) (rest_is_still w0 rest) refl refl refl
+  on_way : IsOnWay w0.layout (nodes_in w0.layout w0.words) (position_from (list_in w0.layout w0.words) (key_number (key_words call.name))) (walk_from view.layout view.generation 0 (key_words call.name))
+  on_way =
+      let still = rest_is_still w0 rest in
+      begins_on_way w0.layout w0.generation (nodes_in w0.layout w0.words) (position_from (list_in w0.layout w0.words) (key_number (key_words call.name)))
+      (walk_from view.layout view.generation 0 (key_words call.name)) still rest.row.layout.nodes.0 refl refl
+      (first_comes w0.layout w0.generation (nodes_in w0.layout w0.words) (key_number (key_words call.name)) still)
 
   about_name : name_in call ≡ name
   about_name = bytes_of-words_of name named
 
 pub lone_calls_begin : LoneCallsBegin
-lone_calls_begin w0 i (op.Get name) limit p index view rest there is_view layout generation named most fits = record {
+lone_calls_begin w0 i (op.Get name) limit p index view rest there is_view layout generation named most fits empty = record {
+  empty = empty;
+  timely = λ past. absurd past;
   trying = tries w0 i limit p index view name rest there is_view layout generation named most None;
   stage = refl;
   sound = record { layout = layout; generation = generation; here = looks_sound w0 i limit p index view name rest there is_view layout generation named most };
@@ -419,7 +687,9 @@ lone_calls_begin w0 i (op.Get name) limit p index view rest there is_view layout
   limited = refl;
   stands = (refl, on_way w0 i limit p index view name rest there is_view layout generation named most);
 }
-lone_calls_begin w0 i (op.Put name value) limit p index view rest there is_view layout generation named most fits = record {
+lone_calls_begin w0 i (op.Put name value) limit p index view rest there is_view layout generation named most fits empty = record {
+  empty = empty;
+  timely = λ past. absurd past;
   trying = tries w0 i limit p index view name rest there is_view layout generation named most (Some (change.Put name value));
   stage = refl;
   sound = record { layout = layout; generation = generation; here = (looks_sound w0 i limit p index view name rest there is_view layout generation named most, fits) };
@@ -427,7 +697,9 @@ lone_calls_begin w0 i (op.Put name value) limit p index view rest there is_view 
   limited = refl;
   stands = (refl, on_way w0 i limit p index view name rest there is_view layout generation named most);
 }
-lone_calls_begin w0 i (op.Del name) limit p index view rest there is_view layout generation named most fits = record {
+lone_calls_begin w0 i (op.Del name) limit p index view rest there is_view layout generation named most fits empty = record {
+  empty = empty;
+  timely = λ past. absurd past;
   trying = tries w0 i limit p index view name rest there is_view layout generation named most (Some (change.Del name));
   stage = refl;
   sound = record { layout = layout; generation = generation; here = looks_sound w0 i limit p index view name rest there is_view layout generation named most };

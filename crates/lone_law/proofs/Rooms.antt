@@ -20,7 +20,7 @@ use Rattle.data_node.proofs.ListLemmas.{target_in}
 use Rattle.index_law.proofs.Copies.{full_names}
 use Rattle.lone_law.specs.Rooms.{target_node, target_names, AddedHadRoom, RefusedWasFull, SplitWasFull, CutHasRoom, IsBetweenTries, OneSplit, FullIsFirst}
 
-names_most : (count : ℕ) (range : List ℕ → Bool) (s : Spot) → names_in count range s ≤ count
+pub names_most : (count : ℕ) (range : List ℕ → Bool) (s : Spot) → names_in count range s ≤ count
 names_most zero range s = omega arith
 names_most (suc slot) range s =
     let rest = names_most slot range s in
@@ -158,6 +158,7 @@ one_split_only w0 w1 w name rest between layout base history cut =
     let first = full_is_first w0 w1 name between full.1 in
     let since : IsHalvedSince name w0 w = record {
       before = cut.before;
+      chain = cut.chain;
       list = cut.list ∙ first;
       map = cut.map ∙ map_between name w0 w1 between;
       halved = cut.halved;

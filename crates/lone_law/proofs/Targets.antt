@@ -18,7 +18,7 @@ use Rattle.data_list.proofs.WalkLaw.{anchor_is}
 use Rattle.index_law.specs.Facts.{Facts, range_of, IsListed}
 use Rattle.index_law.specs.Worlds.{World, facts}
 use Rattle.index_law.specs.Lawful.{Lawful, Stands, SureSaw, Sure}
-use Rattle.index_law.proofs.AnchorTexts.{word_fits, named-text}
+use Rattle.data_node.proofs.KeyLemmas.{word_fits}
 use Rattle.data_node.proofs.ListLemmas.{between_target, chain_closed, all_member}
 use Rattle.index_law.proofs.Rows.{spot_in-here}
 use Rattle.index_law.proofs.Switch.{rise_from, inside_between, between_inside}
@@ -32,7 +32,7 @@ words_told a b c x y z fb fc fy fz same = (omega (arith, fb, fc, fy, fz), omega 
 pub name_words : (k : KeyWords) (name : List ℕ) → IsName name → k.second < 2 ^ 64 → k.third < 2 ^ 64 → key_number k ≡ key_of name → words_of name ≡ words_in k
 unfolding key_of
 name_words k name named small smaller same =
-    let fits = word_fits name (named-text name named) in
+    let fits = word_fits name named.bytes in
     let told = words_told (slice_index (words_of name) 0) (slice_index (words_of name) 1) (slice_index (words_of name) 2) k.first k.second k.third (fits 1) (fits 2) small smaller (sym same) in
     three (words_of name) k (length-words_of name) told.0 told.1 told.2
 

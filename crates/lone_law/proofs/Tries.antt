@@ -24,6 +24,8 @@ use Rattle.index_law.specs.Worlds.{Party, World, facts, stepped, moved_on, writt
 use Rattle.index_law.specs.Lawful.{Lawful, Sure, IsPlaced, HasWriteAt}
 use Rattle.index_law.specs.Laws.{IsLegal}
 use Rattle.index_law.specs.Shapes.{IsHalved}
+use Rattle.call_stages.specs.AnySteps.{on_nodes, beside}
+use Rattle.index_law.proofs.AnySteps.{beside_keeps}
 use Rattle.index_law.proofs.Law.{step_law}
 use Rattle.index_law.proofs.Moves.{facts_step}
 use Rattle.index_law.proofs.Starts.{idle_law}
@@ -164,6 +166,7 @@ module _ (name : List ℕ) (own : Option Change) (w0 : World) (i : ℕ) (w : Wor
         cut ∙ was.0,
         record {
           before = was.1.before;
+          chain = was.1.chain;
           list = was.1.list;
           map = was.1.map;
           halved = halved_on same was.1.halved;
@@ -206,7 +209,7 @@ module _ (name : List ℕ) (own : Option Change) (w0 : World) (i : ℕ) (w : Wor
       let asks : (c : Cuts w.layout (facts w) (facts w').list p.stage) → (c.left.name ≡ name) × (c.left.old ≡ Some None) = λ c. subst (IsFor name) c.is for in
       let history = unwritten none ∙ unplaced before in
       keeps kept (inl (after_it, history))
-      (inr (cut, record { before = facts w; list = list_uncut uncut; map = λ k. after_all (o.base k) (unplaced before k); halved = halved.halved; lower = halved.lower; upper = halved.upper; inside = subst (λ n. range_of w.layout (facts w) halved.halved.node n ≡ true) (asks halved).0 halved.inside; lacks = ap (at (map_now (facts w))) (sym (asks halved).0) ∙ subst (λ (q : Option (Option ℕ)). IfSome q (λ old. at (map_now (facts w)) halved.left.name ≡ old)) (asks halved).1 halved.had }, history))
+      (inr (cut, record { before = facts w; chain = o.lawful.list; list = list_uncut uncut; map = λ k. after_all (o.base k) (unplaced before k); halved = halved.halved; lower = halved.lower; upper = halved.upper; inside = subst (λ n. range_of w.layout (facts w) halved.halved.node n ≡ true) (asks halved).0 halved.inside; lacks = ap (at (map_now (facts w))) (sym (asks halved).0) ∙ subst (λ (q : Option (Option ℕ)). IfSome q (λ old. at (map_now (facts w)) halved.left.name ≡ old)) (asks halved).1 halved.had }, history))
   goes kept for mine is (ends none other before same) = absurd (cc)
   goes kept for mine is (is_done none done same) = absurd (cc)
 
@@ -265,6 +268,7 @@ module _ (name : List ℕ) (own : Option Change) (w0 : World) (i : ℕ) (w : Wor
               (λ (was : (is_cut p.stage ≡ true) × IsHalvedSince name w0 w × (w.history ≡ w0.history)).
               record {
                 before = was.1.before;
+                chain = was.1.chain;
                 list = was.1.list;
                 map = was.1.map;
                 halved = halved_on same was.1.halved;
@@ -327,11 +331,14 @@ module _ (name : List ℕ) (own : Option Change) (w0 : World) (i : ℕ) (w : Wor
     says_so is (is_done {r = r} none done same) = took_effect none same (subst IsDone (sym (some_same is)) done)
 
 pub tries_go : TriesGo
-tries_go name own w0 i w p action x next o for for_next mine step told room =
+tries_go name own w0 i w p action x next o for for_next mine (on_nodes step) told room =
     goes name own w0 i w p action x next o (step_law w i p action x next None o.lawful o.there step told room).kept for mine refl (does name own w0 i w p action x next o for for_next step told)
+tries_go name own w0 i w p action x next o for for_next mine (beside none is) told room =
+    let law = beside_keeps w i p action o.lawful o.there none is in
+    goes name own w0 i w p action x p.stage o law.kept for mine refl (stays none refl refl (ap (λ (f : Facts). f.list) law.facts))
 
 pub tries_end : TriesEnd
-tries_end name own w0 i w p action x next answer o for about step told room =
+tries_end name own w0 i w p action x next answer o for about (on_nodes step) told room =
     let for_idle : IsFor name next = subst (IsFor name) (sym (answers_idle step refl)) tt in
     let law = step_law w i p action x next (Some answer) o.lawful o.there step told room in (
       idle_law (stepped w i p action next) law.kept (each_set (λ (q : Party). q.stage ≡ Idle) w.parties i (moved_on p next) (λ j q other at. o.others j q other at) (answers_idle step refl)),

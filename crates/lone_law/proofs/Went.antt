@@ -1,5 +1,5 @@
 -- Where the machine of a lone call is after a turn.
-use Rattle.std.proofs.Common.{◌≡◌, ◌≢◌, ℕ, ◌+◌, true, false, cond, ltb, List, refl}
+use Rattle.std.proofs.Common.{◌≡◌, ◌≢◌, ℕ, ◌+◌, true, false, cond, ltb, List, inl, refl, sym, subst}
 use Rattle.std.specs.Prelude.{Option, Some, None}
 use Rattle.pm_words.specs.declared.layout.Layout.{Layout}
 use Rattle.pm_words.specs.declared.again.Again.TheVariants as again
@@ -18,7 +18,7 @@ use Rattle.node_ops.specs.declared.lookup.Found.{Found}
 use Rattle.node_ops.specs.declared.lookup.Looked.{Looked}
 use Rattle.node_ops.specs.declared.lookup.Looked.TheVariants as looked
 use Rattle.node_ops.specs.declared.lookup.Lookup.{Lookup}
-use Rattle.node_ops.specs.declared.fence.Fence.{Fence}
+use Rattle.pm_words.specs.declared.fence.Fence.{Fence}
 use Rattle.node_ops.specs.declared.fill.Fill.{Fill}
 use Rattle.node_ops.specs.declared.fill.FillAt.{FillAt}
 use Rattle.node_ops.specs.declared.fill.FillAt.TheVariants as fill_at
@@ -33,15 +33,29 @@ use Rattle.node_ops.specs.declared.del.Del.TheVariants as del
 use Rattle.node_ops.specs.declared.running.Running.{Running}
 use Rattle.node_ops.specs.declared.running.Running.TheVariants.{Getting, Putting, Deleting}
 use Rattle.node_ops.specs.LookupSteps.{lookup_turned, lookup_asks}
-use Rattle.node_ops.specs.FenceSteps.{fence_next}
+use Rattle.pm_words.specs.Fences.{fence_next}
 use Rattle.node_ops.specs.FinishSteps.{finish_turned, finish_at_turned, finish_fenced}
 use Rattle.node_ops.specs.FillSteps.{fill_turned, fill_at_turned, slot_fenced, print_fenced}
 use Rattle.node_ops.specs.GetSteps.{IsGet, get_call, get_asks, get_turned}
-use Rattle.node_ops.specs.PutSteps.{IsPut, put_call, put_asks, put_turned, put_looked, put_into, put_full, put_filled, put_finished}
+use Rattle.node_ops.specs.PutSteps.{IsPut, put_call, put_asks, put_turned, put_looked, put_into, put_full, put_filled, put_finished, put_split, IsSplitting}
 use Rattle.node_ops.specs.DelSteps.{IsDel, del_call, del_asks, del_turned, del_looked, del_hit, del_finished}
 use Rattle.node_ops.specs.RunningSteps.{IsRunning, running_call, running_asks, running_turned, wrapped}
 use Rattle.node_ops.specs.CallStages.{stage_of, get_stage, put_stage, del_stage}
-use Rattle.lone_law.specs.There.{nodes_in, IsAtNode, EndsEarly, LookedStands}
+use Rattle.lone_law.specs.There.{nodes_in, IsAtNode, IsUnmoved, EndsEarly, LookedStands}
+use Rattle.lone_law.specs.Splitting.{AreEmpty, HasFree, LacksFree, SplitStands, SplitWent, IsReadyToSplit, HoldsAlone}
+use Rattle.lone_law.proofs.Splitting.{splits_come_there}
+use Rattle.index_law.specs.Facts.{version_in, list_in}
+use Rattle.data_node.specs.Lists.{IsIn, key_of}
+use Rattle.data_node.proofs.ListLemmas.{target_in}
+use Rattle.call_stages.specs.Kinds.{Told}
+use Rattle.call_stages.specs.declared.view.View.{View}
+use Rattle.split_merge.specs.declared.splitting.Split.{Split}
+use Rattle.split_merge.specs.declared.splitting.SplitDone.{SplitDone}
+use Rattle.split_merge.specs.declared.splitting.SplitDone.TheVariants as done
+use Rattle.split_merge.specs.Splits.{split_asks, split_turned}
+use Rattle.pm_words.specs.declared.again.Again.{Again}
+use Rattle.node_ops.specs.declared.lookup.Hold.{Hold}
+use Rattle.node_ops.specs.Calls.{name_in}
 use Rattle.lone_law.specs.LoneCalls.{GetIsThere, PutIsThere, DelIsThere, IsThere}
 use Rattle.lone_law.proofs.There.{looks_come_there}
 use Rattle.node_ops.specs.declared.get.Get.TheVariants as get
@@ -76,7 +90,7 @@ get_went (get.Looking lookup) words0 words x sound still stands told = at (looku
         → GetWent lookup.call.view.layout lookup.call.view.generation words0 (acted lookup.call.view.layout words (lookup_asks lookup)) lookup.call (limit_in (get_stage (get.Looking lookup))) (get_looked lookup.call turn)
     at (Go next) is = is
     at (Done (looked.Early answer)) is = early_went lookup.call.view.layout lookup.call.view.generation words0 (acted lookup.call.view.layout words (lookup_asks lookup)) lookup.call (limit_in (get_stage (get.Looking lookup))) answer is
-    at (Done (looked.Found found)) is = is
+    at (Done (looked.Found found)) is = is.0
 get_went (get.Unlocking call hold old) words0 words x sound still stands told = (stands, refl, refl)
 
 -- an answer of a machine: one that wrote had a place
@@ -84,7 +98,9 @@ abbrev pub HasEnded : Layout → ℕ → List ℕ → Call → (Option ℕ → T
 HasEnded l g words0 call P R place limit (once.Done placed) = IsAtNode l words0 call × (placed.hops ≡ call.hops) × P place × (limit ≡ call.limit)
 HasEnded l g words0 call P R place limit (once.Worn node word) = EndsEarly l g words0 call (once.Worn node word)
 HasEnded l g words0 call P R place limit (once.Spent clock) = EndsEarly l g words0 call (once.Spent clock)
-HasEnded l g words0 call P R place limit (once.Again why) = IsAtNode l words0 call × (why ≡ again.NoFree) × R × (limit ≡ call.limit)
+HasEnded l g words0 call P R place limit (once.Again again.NoFree) = IsAtNode l words0 call × R × LacksFree l g words0
+HasEnded l g words0 call P R place limit (once.Again (again.NeedsSplit node)) = IsAtNode l words0 call × R × HasFree l g words0
+HasEnded l g words0 call P R place limit (once.Again why) = ⊥
 
 early : (l : Layout) (g : ℕ) (words0 : List ℕ) (call : Call) (P : Option ℕ → Type 0) (R : Type 0) (place limit : Option ℕ) (answer : Once Placed) → EndsEarly l g words0 call answer → HasEnded l g words0 call P R place limit answer
 early l g words0 call P R place limit (once.Done placed) is = absurd is
@@ -112,12 +128,12 @@ module _ (l : Layout) (g : ℕ) (words0 words : List ℕ) (R : Type 0) where
   finish_went : (finish : Finish) (x : ℕ) → IsAtNode l words0 finish.call → FinishWent finish.call (placed_in (put_stage (put.Finishing finish))) (limit_in (put_stage (put.Finishing finish))) (finish_turned finish x)
   finish_went finish x stands = at finish.at
     where
-      fenced : (o : Option Fence) (place limit : Option ℕ) → FinishWent finish.call place limit (finish_fenced finish o)
-      fenced (Some fence) place limit = stands
-      fenced None place limit = stands
+      fenced : (line : ℕ) (o : Option Fence) (place limit : Option ℕ) → FinishWent finish.call place limit (finish_fenced finish line o)
+      fenced line (Some fence) place limit = stands
+      fenced line None place limit = stands
 
       at : (at : FinishAt) → FinishWent finish.call (placed_in (put_stage (put.Finishing (record finish { at = at })))) (limit_in (put_stage (put.Finishing (record finish { at = at })))) (finish_at_turned finish at x)
-      at (finish_at.Fence fence) = fenced (fence_next fence x) None finish.call.limit
+      at (finish_at.Fence line fence) = fenced line (fence_next fence x) None finish.call.limit
       at finish_at.Add = stands
       at (finish_at.Unlock place) = (stands, refl, (λ e. cc), refl)
 
@@ -143,12 +159,14 @@ module _ (l : Layout) (g : ℕ) (words0 words : List ℕ) (R : Type 0) where
       at (fill_at.FencePrint fence) = print_on (fence_next fence x)
       at fill_at.Bitmap = stands
 
-  full_stands : (call : Call) (found : Found) (hit : Option Hit) (value : ℕ) → IsAtNode l words0 call → PutIsThere l words0 words (put_full call found.hold found.directory.bitmap hit value)
-  full_stands call found (Some hit) value stands = stands
+  full_stands : (call : Call) (found : Found) (hit : Option Hit) (value : ℕ) → IsAtNode l words0 call × IsUnmoved l words0 words call.node
+      → PutIsThere l words0 words (put_full call found.hold found.directory.bitmap hit value)
+  full_stands call found (Some hit) value stands = stands.0
   full_stands call found None value stands = stands
 
-  into_stands : (call : Call) (found : Found) (value : ℕ) (clear : Option ℕ) → IsAtNode l words0 call → PutIsThere l words0 words (put_into call found value clear)
-  into_stands call found value (Some slot) stands = stands
+  into_stands : (call : Call) (found : Found) (value : ℕ) (clear : Option ℕ) → IsAtNode l words0 call × IsUnmoved l words0 words call.node
+      → PutIsThere l words0 words (put_into call found value clear)
+  into_stands call found value (Some slot) stands = stands.0
   into_stands call found value None stands = full_stands call found found.hit value stands
 
   put_looked_went : (call : Call) (value : ℕ) (place limit : Option ℕ) (turn : Turn Lookup Looked) → LookedStands l g words0 words call turn → PutWent call place limit (put_looked call value turn)
@@ -163,7 +181,7 @@ module _ (l : Layout) (g : ℕ) (words0 words : List ℕ) (R : Type 0) where
   del_looked_went : (call : Call) (place limit : Option ℕ) (turn : Turn Lookup Looked) → LookedStands l g words0 words call turn → DelWent call place limit (del_looked call turn)
   del_looked_went call place limit (Go next) is = is
   del_looked_went call place limit (Done (looked.Early answer)) is = early l g words0 call IsGiven R place limit answer is
-  del_looked_went call place limit (Done (looked.Found found)) is = hit_stands call found found.hit is
+  del_looked_went call place limit (Done (looked.Found found)) is = hit_stands call found found.hit is.0
 
   put_filled_went : (call : Call) (place limit : Option ℕ) (turn : Turn Fill Finish) → FillWent turn → PutWent call place limit (put_filled turn)
   put_filled_went call place limit (Go next) is = is
@@ -183,27 +201,74 @@ NeedsPlace (Getting machine) place = Unit {0}
 NeedsPlace (Putting machine) place = IsGiven place
 NeedsPlace (Deleting machine) place = IsGiven place
 
--- only a put may find no room
+-- only a put that splits may find no room
+abbrev pub IsSplittingPut : Put → Type 0
+IsSplittingPut (put.Splitting call hold bitmap value split) = Unit {0}
+IsSplittingPut _ = ⊥
+
 abbrev pub MayLackRoom : Running → Type 0
 MayLackRoom (Getting machine) = ⊥
-MayLackRoom (Putting machine) = Unit {0}
+MayLackRoom (Putting machine) = IsSplittingPut machine
 MayLackRoom (Deleting machine) = ⊥
 
 abbrev pub Went : Layout → ℕ → List ℕ → List ℕ → Running → Turn Running (Once Placed) → Type 0
 Went l g words0 words machine (Go next) = IsThere l words0 words next
 Went l g words0 words machine (Done answer) = HasEnded l g words0 (running_call machine) (NeedsPlace machine) (MayLackRoom machine) (placed_in (stage_of machine)) (limit_in (stage_of machine)) answer
 
+-- the version word of a node that is held alone while it is to be split is its own
+abbrev pub KnowsOwn : Layout → List ℕ → Running → Type 0
+KnowsOwn l words (Putting (put.Splitting call hold bitmap value split)) = HoldsAlone split.at → version_in l words call.node ≡ hold.locked
+KnowsOwn l words _ = Unit {0}
+
+-- the words as they were are ready for a split of a listed node
+ready_to_split : (l : Layout) (g : ℕ) (words0 : List ℕ) (call : Call) → IsQuietList l g (nodes_in l words0) → AreEmpty l words0 → IsAtNode l words0 call → IsReadyToSplit l g words0 call.node
+ready_to_split l g words0 call still empty at = record {
+  live = still.live call.node (subst (IsIn (list_in l words0)) (sym at.node) (target_in 0 (list_in l words0) (key_of (name_in call))));
+  first = still.live 0 (inl refl);
+  free = still.free;
+  empty = empty;
+}
+
+split_went : (call : Call) (hold : Hold) (bitmap value : ℕ) (split : Split) (words0 words : List ℕ) (x : ℕ) → IsSplitting call hold bitmap split
+    → IsQuietList call.view.layout call.view.generation (nodes_in call.view.layout words0) → AreEmpty call.view.layout words0
+    → IsAtNode call.view.layout words0 call → SplitStands call.view.layout call.view.generation words0 words call.node hold.locked split.at
+    → Told call.view.layout call.view.generation (split_asks split) x → (HoldsAlone split.at → version_in call.view.layout words call.node ≡ hold.locked)
+    → x ≡ got call.view.layout words (split_asks split)
+    → SplitWent call.view.layout call.view.generation words0 (acted call.view.layout words (split_asks split)) call.node hold.locked (split_turned split x)
+split_went call hold bitmap value split words0 words x sound still empty at stands tells mine told =
+    let all : Path (View × (ℕ × ℕ)) (split.view, (split.node, split.word)) (call.view, (call.node, hold.locked)) = λ k. (sound.view k, (sound.node k, sound.word k)) in
+    let back = sym all in
+    subst (λ (q : View × (ℕ × ℕ)). SplitWent q.0.layout q.0.generation words0 (acted q.0.layout words (split_asks split)) q.1.0 q.1.1 (split_turned split x)) all
+    (splits_come_there split words0 words x sound.here
+    (subst (λ (q : View × (ℕ × ℕ)). IsReadyToSplit q.0.layout q.0.generation words0 q.1.0) back (ready_to_split call.view.layout call.view.generation words0 call still empty at))
+    (subst (λ (q : View × (ℕ × ℕ)). SplitStands q.0.layout q.0.generation words0 words q.1.0 q.1.1 split.at) back stands)
+    (subst (λ (q : View × (ℕ × ℕ)). Told q.0.layout q.0.generation (split_asks split) x) back tells)
+    (subst (λ (q : View × (ℕ × ℕ)). HoldsAlone split.at → version_in q.0.layout words q.1.0 ≡ q.1.1) back mine)
+    (subst (λ (q : View × (ℕ × ℕ)). x ≡ got q.0.layout words (split_asks split)) back told))
+
 put_went : (machine : Put) (words0 words : List ℕ) (x : ℕ) → IsPut machine
     → IsQuietList (put_call machine).view.layout (put_call machine).view.generation (nodes_in (put_call machine).view.layout words0)
+    → AreEmpty (put_call machine).view.layout words0 → Told (put_call machine).view.layout (put_call machine).view.generation (put_asks machine) x
+    → KnowsOwn (put_call machine).view.layout words (Putting machine)
     → PutIsThere (put_call machine).view.layout words0 words machine → x ≡ got (put_call machine).view.layout words (put_asks machine)
-    → PutWent (put_call machine).view.layout (put_call machine).view.generation words0 (acted (put_call machine).view.layout words (put_asks machine)) (Unit {0}) (put_call machine) (placed_in (put_stage machine)) (limit_in (put_stage machine)) (put_turned machine x)
-put_went (put.Looking lookup value) words0 words x sound still stands told =
-    put_looked_went _ _ words0 _ (Unit {0}) lookup.call value (placed_in (put_stage (put.Looking lookup value))) (limit_in (put_stage (put.Looking lookup value))) (lookup_turned lookup x) (looks_come_there lookup words0 words x sound.0 still stands told)
-put_went (put.Filling fill) words0 words x sound still stands told = put_filled_went _ _ words0 _ (Unit {0}) fill.call None fill.call.limit (fill_turned fill x) (fill_went _ fill.call.view.generation words0 words (Unit {0}) fill x stands)
-put_went (put.Replacing call hold bitmap hit value) words0 words x sound still stands told = stands
-put_went (put.Finishing finish) words0 words x sound still stands told =
-    put_finished_went _ _ words0 _ (Unit {0}) finish.call (placed_in (put_stage (put.Finishing finish))) (limit_in (put_stage (put.Finishing finish))) (finish_turned finish x) (finish_went _ _ words0 words (Unit {0}) finish x stands)
-put_went (put.Refusing call hold bitmap value) words0 words x sound still stands told = (stands, refl, tt, refl)
+    → PutWent (put_call machine).view.layout (put_call machine).view.generation words0 (acted (put_call machine).view.layout words (put_asks machine)) (IsSplittingPut machine) (put_call machine) (placed_in (put_stage machine)) (limit_in (put_stage machine)) (put_turned machine x)
+put_went (put.Looking lookup value) words0 words x sound still empty tells mine stands told =
+    put_looked_went _ _ words0 _ ⊥ lookup.call value (placed_in (put_stage (put.Looking lookup value))) (limit_in (put_stage (put.Looking lookup value))) (lookup_turned lookup x) (looks_come_there lookup words0 words x sound.0 still stands told)
+put_went (put.Filling fill) words0 words x sound still empty tells mine stands told = put_filled_went _ _ words0 _ ⊥ fill.call None fill.call.limit (fill_turned fill x) (fill_went _ fill.call.view.generation words0 words ⊥ fill x stands)
+put_went (put.Replacing call hold bitmap hit value) words0 words x sound still empty tells mine stands told = stands
+put_went (put.Finishing finish) words0 words x sound still empty tells mine stands told =
+    put_finished_went _ _ words0 _ ⊥ finish.call (placed_in (put_stage (put.Finishing finish))) (limit_in (put_stage (put.Finishing finish))) (finish_turned finish x) (finish_went _ _ words0 words ⊥ finish x stands)
+put_went (put.Splitting call hold bitmap value split) words0 words x sound still empty tells mine stands told =
+    on (split_turned split x) (split_went call hold bitmap value split words0 words x sound still empty stands.0 stands.1 tells mine told)
+  where
+    on : (turn : Turn Split SplitDone) → SplitWent call.view.layout call.view.generation words0 (acted call.view.layout words (split_asks split)) call.node hold.locked turn
+        → PutWent call.view.layout call.view.generation words0 (acted call.view.layout words (split_asks split)) (Unit {0}) call (placed_in (put_stage (put.Splitting call hold bitmap value split)))
+        (limit_in (put_stage (put.Splitting call hold bitmap value split))) (put_split call hold bitmap value turn)
+    on (Go next) went = (stands.0, went)
+    on (Done (done.Done fresh)) went = (stands.0, tt, went)
+    on (Done (done.Again why)) went =
+        subst (λ (y : Again). HasEnded call.view.layout call.view.generation words0 call IsGiven (Unit {0}) (placed_in (put_stage (put.Splitting call hold bitmap value split)))
+        (limit_in (put_stage (put.Splitting call hold bitmap value split))) (once.Again y)) (sym went.0) (stands.0, tt, went.1)
 
 del_went : (machine : Del) (words0 words : List ℕ) (x : ℕ) → IsDel machine
     → IsQuietList (del_call machine).view.layout (del_call machine).view.generation (nodes_in (del_call machine).view.layout words0)
@@ -217,9 +282,11 @@ del_went (del.Finishing finish) words0 words x sound still stands told =
 
 pub machine_went : (machine : Running) (words0 words : List ℕ) (x : ℕ) → IsRunning machine
     → IsQuietList (running_call machine).view.layout (running_call machine).view.generation (nodes_in (running_call machine).view.layout words0)
+    → AreEmpty (running_call machine).view.layout words0 → Told (running_call machine).view.layout (running_call machine).view.generation (running_asks machine) x
+    → KnowsOwn (running_call machine).view.layout words machine
     → IsThere (running_call machine).view.layout words0 words machine → x ≡ got (running_call machine).view.layout words (running_asks machine)
     → Went (running_call machine).view.layout (running_call machine).view.generation words0 (acted (running_call machine).view.layout words (running_asks machine)) machine (running_turned machine x)
-machine_went (Getting machine) words0 words x sound still stands told = at (get_turned machine x) (get_went machine words0 words x sound still stands told)
+machine_went (Getting machine) words0 words x sound still empty tells mine stands told = at (get_turned machine x) (get_went machine words0 words x sound still stands told)
   where
     ended : (answer : Once Placed) → GetWent (get_call machine).view.layout (get_call machine).view.generation words0 (acted (get_call machine).view.layout words (get_asks machine)) (get_call machine) (limit_in (get_stage machine)) (Done answer)
         → HasEnded (get_call machine).view.layout (get_call machine).view.generation words0 (get_call machine) (λ place. Unit {0}) ⊥ (placed_in (stage_of (Getting machine))) (limit_in (stage_of (Getting machine))) answer
@@ -232,13 +299,13 @@ machine_went (Getting machine) words0 words x sound still stands told = at (get_
         → Went (get_call machine).view.layout (get_call machine).view.generation words0 (acted (get_call machine).view.layout words (get_asks machine)) (Getting machine) (wrapped Getting turn)
     at (Go next) is = is
     at (Done answer) is = ended answer is
-machine_went (Putting machine) words0 words x sound still stands told = at (put_turned machine x) (put_went machine words0 words x sound still stands told)
+machine_went (Putting machine) words0 words x sound still empty tells mine stands told = at (put_turned machine x) (put_went machine words0 words x sound still empty tells mine stands told)
   where
-    at : (turn : Turn Put (Once Placed)) → PutWent (put_call machine).view.layout (put_call machine).view.generation words0 (acted (put_call machine).view.layout words (put_asks machine)) (Unit {0}) (put_call machine) (placed_in (put_stage machine)) (limit_in (put_stage machine)) turn
+    at : (turn : Turn Put (Once Placed)) → PutWent (put_call machine).view.layout (put_call machine).view.generation words0 (acted (put_call machine).view.layout words (put_asks machine)) (IsSplittingPut machine) (put_call machine) (placed_in (put_stage machine)) (limit_in (put_stage machine)) turn
         → Went (put_call machine).view.layout (put_call machine).view.generation words0 (acted (put_call machine).view.layout words (put_asks machine)) (Putting machine) (wrapped Putting turn)
     at (Go next) is = is
     at (Done answer) is = is
-machine_went (Deleting machine) words0 words x sound still stands told = at (del_turned machine x) (del_went machine words0 words x sound still stands told)
+machine_went (Deleting machine) words0 words x sound still empty tells mine stands told = at (del_turned machine x) (del_went machine words0 words x sound still stands told)
   where
     at : (turn : Turn Del (Once Placed)) → DelWent (del_call machine).view.layout (del_call machine).view.generation words0 (acted (del_call machine).view.layout words (del_asks machine)) ⊥ (del_call machine) (placed_in (del_stage machine)) (limit_in (del_stage machine)) turn
         → Went (del_call machine).view.layout (del_call machine).view.generation words0 (acted (del_call machine).view.layout words (del_asks machine)) (Deleting machine) (wrapped Deleting turn)

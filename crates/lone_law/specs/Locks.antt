@@ -8,8 +8,8 @@ use Rattle.version_lock.specs.declared.TheConstants.{LAST_COUNT}
 use Rattle.version_lock.specs.Versions.{generation_of, kept_count, locked_word, IsWorn}
 use Rattle.call_stages.specs.declared.once.Once.{Once}
 use Rattle.call_stages.specs.declared.once.Placed.{Placed}
-use Rattle.call_stages.specs.Stages.{Stage, Idle, Saw, Wears, Holds}
-use Rattle.call_stages.specs.Kinds.{Step}
+use Rattle.call_stages.specs.Stages.{Stage, Idle, Saw, Wears, Holds, Eyes, Splits, Leaves, Meets, Joins}
+use Rattle.call_stages.specs.AnySteps.{AnyStep}
 use Rattle.index_law.specs.Worlds.{Party, World, facts, stepped}
 use Rattle.index_law.specs.Lawful.{Lawful}
 
@@ -25,29 +25,44 @@ fewest_locks g version (suc n) = min (locks_of g (version n)) (fewest_locks g ve
 abbrev pub locks_in : World → ℕ
 locks_in w = fewest_locks w.generation (facts w).version w.layout.nodes
 
--- Of the node n, whose version word was free and not worn, the lock is taken with the word w. The others' words are as
--- before.
+-- The word v was free and not worn, and the lock was taken with the word w.
+pub record IsTaken (g v w : ℕ) : Type 0 where
+  pub known : generation_of v ≤ g
+  pub unworn : IsWorn v g → ⊥
+  pub lock : w ≡ locked_word g (kept_count v g)
+
+-- The lock of node n is taken. The others' words are as before.
 pub record IsLockedOnce (g : ℕ) (before now : ℕ → ℕ) (n w : ℕ) : Type 0 where
-  pub known : generation_of (before n) ≤ g
-  pub unworn : IsWorn (before n) g → ⊥
-  pub lock : w ≡ locked_word g (kept_count (before n) g)
+  pub taken : IsTaken g (before n) w
   pub others : (m : ℕ) → m ≢ n → now m ≡ before m
 
--- The version words at this stage of a try that began with those before. A try that holds two nodes has none of these.
+-- Those of the nodes n and m are taken.
+pub record AreLocked (g : ℕ) (before now : ℕ → ℕ) (n w m u : ℕ) : Type 0 where
+  pub one : IsTaken g (before n) w
+  pub two : IsTaken g (before m) u
+  pub others : (k : ℕ) → k ≢ n → k ≢ m → now k ≡ before k
+
+-- That of node n is taken, and each of the others has lost one lock at most.
+pub record IsLeft (g : ℕ) (before now : ℕ → ℕ) (n w : ℕ) : Type 0 where
+  pub taken : IsTaken g (before n) w
+  pub others : (m : ℕ) → m ≢ n → locks_of g (before m) ≤ locks_of g (now m) + 1
+
+-- The version words at this stage of a try that began with those before. A try that merges has none of these.
 abbrev pub HasLocked : ℕ → (ℕ → ℕ) → (ℕ → ℕ) → Stage → Type 0
 HasLocked g before now Idle = (m : ℕ) → now m ≡ before m
 HasLocked g before now (Saw n v w k) = (m : ℕ) → now m ≡ before m
 HasLocked g before now (Wears n v) = (m : ℕ) → now m ≡ before m
 HasLocked g before now (Holds n w h) = IsLockedOnce g before now n w
+HasLocked g before now (Eyes n w h m v u free) = IsLockedOnce g before now n w
+HasLocked g before now (Splits left fresh phase) = AreLocked g before now left.node left.lock fresh.node fresh.lock
+HasLocked g before now (Leaves left) = IsLeft g before now left.node left.lock
 HasLocked g before now _ = ⊥
 
--- It holds one node at most.
-abbrev pub HoldsOne : Stage → Type 0
-HoldsOne Idle = Unit {0}
-HoldsOne (Saw n v w k) = Unit {0}
-HoldsOne (Wears n v) = Unit {0}
-HoldsOne (Holds n w h) = Unit {0}
-HoldsOne _ = ⊥
+-- It merges nothing.
+abbrev pub MergesNone : Stage → Type 0
+MergesNone (Meets n w h right) = ⊥
+MergesNone (Joins h left right pace) = ⊥
+MergesNone _ = Unit {0}
 
 -- After a step that isn't answered the words are those of its stage; after one that is, each node has lost one lock at
 -- most.
@@ -55,12 +70,12 @@ abbrev pub AfterLocks : ℕ → (ℕ → ℕ) → (ℕ → ℕ) → Stage → Op
 AfterLocks g before now next None = HasLocked g before now next
 AfterLocks g before now next (Some answer) = (m : ℕ) → locks_of g (before m) ≤ locks_of g (now m) + 1
 
--- A try that holds one node at most takes one lock of one node at most.
+-- A try that merges nothing takes one lock of each node at most.
 abbrev pub LocksGo : Type 0
 LocksGo = (before : ℕ → ℕ) (w : World) (i : ℕ) (p : Party) (action : Action) (x : ℕ) (next : Stage)
     (answer : Option (Once Placed)) → Lawful w →
-    get_elem? w.parties i ≡ some p → HasLocked w.generation before (facts w).version p.stage → HoldsOne next →
-    Step w.layout w.generation p.stage action x next answer →
+    get_elem? w.parties i ≡ some p → HasLocked w.generation before (facts w).version p.stage → MergesNone next →
+    AnyStep w.layout w.generation p.stage action x next answer →
     x ≡ got w.layout w.words action →
     AfterLocks w.generation before (facts (stepped w i p action next)).version next answer
 

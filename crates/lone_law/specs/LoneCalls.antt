@@ -19,8 +19,9 @@ use Rattle.call_stages.specs.declared.once.Placed.{Placed}
 use Rattle.call_stages.specs.Stages.{Idle}
 use Rattle.data_list.specs.Still.{position_from}
 use Rattle.cat_key.specs.Names.{IsName}
-use Rattle.node_ops.specs.declared.call.View.{View}
-use Rattle.node_ops.specs.Calls.{IsView, new_call}
+use Rattle.call_stages.specs.declared.view.View.{View}
+use Rattle.node_ops.specs.Calls.{new_call}
+use Rattle.call_stages.specs.Views.{IsView}
 use Rattle.node_ops.specs.declared.get.Get.{Get}
 use Rattle.node_ops.specs.declared.get.Get.TheVariants as get
 use Rattle.node_ops.specs.declared.put.Put.{Put}
@@ -37,8 +38,11 @@ use Rattle.index_law.specs.Facts.{map_now}
 use Rattle.index_law.specs.Worlds.{Party, World, facts, stepped, started, moved_on, written}
 use Rattle.index_law.specs.Laws.{IsAtRest}
 use Rattle.lone_law.specs.There.{IsAtNode, LookupStands}
-use Rattle.lone_law.specs.Locks.{HoldsOne}
-use Rattle.lone_law.specs.Tries.{Trying}
+use Rattle.lone_law.specs.Locks.{MergesNone}
+use Rattle.lone_law.specs.Tries.{Trying, IsHalvedSince}
+use Rattle.split_merge.specs.declared.splitting.SplitAt.{SplitAt}
+use Rattle.split_merge.specs.declared.splitting.SplitAt.TheVariants as split_at
+use Rattle.lone_law.specs.Splitting.{AreEmpty, HasFree, LacksFree, SplitStands}
 use Rattle.lone_law.specs.Rooms.{target_node, target_names}
 
 -- Where a get stands.
@@ -51,7 +55,8 @@ PutIsThere l words0 words (put.Looking lookup value) = LookupStands l words0 wor
 PutIsThere l words0 words (put.Filling fill) = IsAtNode l words0 fill.call
 PutIsThere l words0 words (put.Replacing call hold bitmap hit value) = IsAtNode l words0 call
 PutIsThere l words0 words (put.Finishing finish) = IsAtNode l words0 finish.call
-PutIsThere l words0 words (put.Refusing call hold bitmap value) = IsAtNode l words0 call
+PutIsThere l words0 words (put.Splitting call hold bitmap value split) =
+    IsAtNode l words0 call × SplitStands l call.view.generation words0 words call.node hold.locked split.at
 
 abbrev pub DelIsThere : Layout → List ℕ → List ℕ → Del → Type 0
 DelIsThere l words0 words (del.Looking lookup) = LookupStands l words0 words lookup.call lookup.at
@@ -63,6 +68,20 @@ IsThere l words0 words (Getting machine) = GetIsThere l words0 words machine
 IsThere l words0 words (Putting machine) = PutIsThere l words0 words machine
 IsThere l words0 words (Deleting machine) = DelIsThere l words0 words machine
 
+-- It is a put that splits, and has claimed a node.
+abbrev pub HasClaimed : SplitAt → Type 0
+HasClaimed (split_at.Read share full count) = Unit {0}
+HasClaimed (split_at.Move moving) = Unit {0}
+HasClaimed _ = ⊥
+
+abbrev pub IsPast : Running → Type 0
+IsPast (Putting (put.Splitting call hold bitmap value split)) = HasClaimed split.at
+IsPast _ = ⊥
+
+-- The history is as long as its limit, if it has one.
+abbrev pub IsLate : World → Option ℕ → Type 0
+IsLate w limit = IsTrue (is_spent limit (length w.history))
+
 -- A call of this op and limit is in flight, as the index was w0 when it began, and no other.
 pub record LoneCall (w0 : World) (i : ℕ) (asked : Op) (limit : Option ℕ) (w : World) (p : Party) (machine : Running) :
     Type 0 where
@@ -72,6 +91,8 @@ pub record LoneCall (w0 : World) (i : ℕ) (asked : Op) (limit : Option ℕ) (w 
   pub of : IsOf asked machine
   pub limited : (running_call machine).limit ≡ limit
   pub stands : IsThere w0.layout w0.words w.words machine
+  pub empty : AreEmpty w0.layout w0.words  -- each log line was EMPTY
+  pub timely : IsPast machine → IsLate w0 limit → ⊥
 
 -- It is a put of a name that the map lacks, and the target of the name has as many names as slots.
 abbrev pub FindsFull : World → Op → Type 0
@@ -83,11 +104,7 @@ FindsFull w (op.Del name) = ⊥
 abbrev pub FindsWorn : World → Op → Type 0
 FindsWorn w asked = IsWorn ((facts w).version (target_node w (name_asked asked))) w.generation
 
--- The history is as long as its limit, if it has one.
-abbrev pub IsLate : World → Option ℕ → Type 0
-IsLate w limit = IsTrue (is_spent limit (length w.history))
-
--- How it is answered, by its cause in the index before it, and what it leaves: of the four causes exactly one holds.
+-- How a try is answered, by its cause in the index before it, and what it leaves: of the causes exactly one holds.
 abbrev pub IsAnswered : World → Op → Option ℕ → World → Party → Once Placed → Type 0
 IsAnswered w0 asked limit w p (once.Worn node word) =
     FindsWorn w0 asked × (node ≡ target_node w0 (name_asked asked)) × (word ≡ (facts w0).version node)
@@ -96,8 +113,11 @@ IsAnswered w0 asked limit w p (once.Spent clock) =
     ¬ FindsWorn w0 asked × IsLate w0 limit × (clock ≡ length w0.history) × (w.history ≡ w0.history) ×
     ((facts w).list ≡ (facts w0).list)
 IsAnswered w0 asked limit w p (once.Again again.NoFree) =
-    ¬ FindsWorn w0 asked × ¬ IsLate w0 limit × FindsFull w0 asked × (w.history ≡ w0.history) ×
-    ((facts w).list ≡ (facts w0).list)
+    ¬ FindsWorn w0 asked × ¬ IsLate w0 limit × FindsFull w0 asked × LacksFree w0.layout w0.generation w0.words ×
+    (w.history ≡ w0.history) × ((facts w).list ≡ (facts w0).list)
+IsAnswered w0 asked limit w p (once.Again (again.NeedsSplit node)) =
+    ¬ FindsWorn w0 asked × ¬ IsLate w0 limit × FindsFull w0 asked × HasFree w0.layout w0.generation w0.words ×
+    (w.history ≡ w0.history) × IsHalvedSince (name_asked asked) w0 w
 IsAnswered w0 asked limit w p (once.Done placed) =
     (¬ FindsWorn w0 asked × ¬ IsLate w0 limit × ¬ FindsFull w0 asked)
     × (placed.old ≡ at (map_now (facts w0)) (name_asked asked)) × (placed.place ≡ length w0.history)
@@ -134,7 +154,7 @@ abbrev pub LoneCallsBegin : Type 0
 LoneCallsBegin = (w0 : World) (i : ℕ) (asked : Op) (limit : Option ℕ) (p : Party) (index : ℕ) (view : View) →
     IsAtRest w0 → get_elem? w0.parties i ≡ some p →
     IsView view → view.layout ≡ w0.layout → view.generation ≡ w0.generation → IsName (name_asked asked) →
-    IfSome limit (λ most. most ≤ 2 ^ 62) → ValueFits asked →
+    IfSome limit (λ most. most ≤ 2 ^ 62) → ValueFits asked → AreEmpty w0.layout w0.words →
     LoneCall w0 i asked limit (started w0 i p index) (record {
       caller = p.caller;
       index = index;
@@ -142,6 +162,6 @@ LoneCallsBegin = (w0 : World) (i : ℕ) (asked : Op) (limit : Option ℕ) (p : P
       stage = Idle;
     }) (machine_for asked view limit)
 
--- A get, put or delete holds one node at most.
-abbrev pub MachinesHoldOne : Type 0
-MachinesHoldOne = (machine : Running) → HoldsOne (stage_of machine)
+-- A get, put or delete merges nothing.
+abbrev pub MachinesMergeNone : Type 0
+MachinesMergeNone = (machine : Running) → MergesNone (stage_of machine)

@@ -1,5 +1,5 @@
 -- Where a call stands that nobody disturbs.
-use Rattle.std.specs.Prelude.{◌≡◌, ℕ, List, IsTrue}
+use Rattle.std.specs.Prelude.{◌≡◌, ◌≢◌, ℕ, List, IsTrue}
 use Rattle.pm_words.specs.declared.layout.Layout.{Layout}
 use Rattle.pm_words.specs.declared.machine.Turn.{Turn}
 use Rattle.pm_words.specs.declared.machine.Turn.TheVariants.{Go, Done}
@@ -9,7 +9,9 @@ use Rattle.data_node.specs.Lists.{target_from, key_of}
 use Rattle.call_stages.specs.declared.once.Once.{Once}
 use Rattle.call_stages.specs.declared.once.Once.TheVariants as once
 use Rattle.call_stages.specs.declared.once.Placed.{Placed}
-use Rattle.data_list.specs.Still.{Nodes, position_from, IsQuietList, IsOnWay}
+use Rattle.call_stages.specs.Stages.{Idle}
+use Rattle.data_list.specs.Keys.{key_number, key_words}
+use Rattle.data_list.specs.Still.{Nodes, position_from, IsQuietList, AreQuiet, IsOnWay}
 use Rattle.node_ops.specs.declared.call.Call.{Call}
 use Rattle.node_ops.specs.declared.lookup.Looked.{Looked}
 use Rattle.node_ops.specs.declared.lookup.Looked.TheVariants as looked
@@ -19,13 +21,17 @@ use Rattle.node_ops.specs.declared.lookup.LookupAt.TheVariants as at
 use Rattle.node_ops.specs.Calls.{name_in}
 use Rattle.node_ops.specs.LookupSteps.{is_spent, IsLookup, lookup_asks, lookup_turned}
 use Rattle.index_law.specs.Facts.{version_in, status_in, spot_in, list_in}
+use Rattle.index_law.specs.Lines.{line_in}
 use Rattle.index_law.specs.Worlds.{World}
+use Rattle.index_law.specs.Lawful.{Each}
 use Rattle.index_law.specs.Laws.{IsAtRest}
+use Rattle.index_law.specs.Prevs.{prev_in, Traced, IsTraced}
 
 abbrev pub nodes_in : Layout → List ℕ → Nodes
 nodes_in l words = record {
   version = version_in l words;
   status = status_in l words;
+  prev = prev_in l words;
   now = spot_in l words;
   list = list_in l words;
 }
@@ -36,12 +42,20 @@ pub record IsAtNode (l : Layout) (words : List ℕ) (call : Call) : Type 0 where
   pub hops : call.hops ≡ position_from (list_in l words) (key_of (name_in call))
   pub unworn : IsWorn (version_in l words call.node) call.view.generation → ⊥
 
+-- Since the call took the lock of this node nothing else has changed: no version word of another, no status, and no log
+-- line's state.
+pub record IsUnmoved (l : Layout) (words0 words : List ℕ) (node : ℕ) : Type 0 where
+  pub versions : (m : ℕ) → m ≢ node → version_in l words m ≡ version_in l words0 m
+  pub statuses : (m : ℕ) → status_in l words m ≡ status_in l words0 m
+  pub lines : (c j : ℕ) → line_in l words c j 0 ≡ line_in l words0 c j 0
+
 -- A look-up is on its way there, with the words as they were, or has come there.
 abbrev pub LookupStands : Layout → List ℕ → List ℕ → Call → LookupAt → Type 0
-LookupStands l words0 words call (at.Walk walk) = (words ≡ words0) × IsOnWay l (nodes_in l words0) walk
+LookupStands l words0 words call (at.Walk walk) = (words ≡ words0) ×
+    IsOnWay l (nodes_in l words0) (position_from (list_in l words0) (key_number (key_words call.name))) walk
 LookupStands l words0 words call (at.Lock seen locked) = (words ≡ words0) × IsAtNode l words0 call ×
     (seen.version ≡ version_in l words0 call.node)
-LookupStands l words0 words call _ = IsAtNode l words0 call
+LookupStands l words0 words call _ = IsAtNode l words0 call × IsUnmoved l words0 words call.node
 
 -- It ends early only because its target is worn, or its limit is reached.
 abbrev pub EndsEarly : Layout → ℕ → List ℕ → Call → Once Placed → Type 0
@@ -55,7 +69,8 @@ EndsEarly l g words0 call (once.Done placed) = ⊥
 abbrev pub LookedStands : Layout → ℕ → List ℕ → List ℕ → Call → Turn Lookup Looked → Type 0
 LookedStands l g words0 words call (Go lookup) = LookupStands l words0 words lookup.call lookup.at
 LookedStands l g words0 words call (Done (looked.Early answer)) = EndsEarly l g words0 call answer
-LookedStands l g words0 words call (Done (looked.Found found)) = IsAtNode l words0 call
+LookedStands l g words0 words call (Done (looked.Found found)) = IsAtNode l words0 call ×
+    IsUnmoved l words0 words call.node
 
 abbrev pub LooksComeThere : Type 0
 LooksComeThere = (lookup : Lookup) (words0 words : List ℕ) (x : ℕ) → IsLookup lookup →
@@ -65,6 +80,11 @@ LooksComeThere = (lookup : Lookup) (words0 words : List ℕ) (x : ℕ) → IsLoo
     LookedStands lookup.call.view.layout lookup.call.view.generation words0
     (acted lookup.call.view.layout words (lookup_asks lookup)) lookup.call (lookup_turned lookup x)
 
--- With nothing in flight nobody changes the list.
+-- With nothing in flight nobody changes the list;
 abbrev pub RestIsStill : Type 0
 RestIsStill = (w : World) → IsAtRest w → IsQuietList w.layout w.generation (nodes_in w.layout w.words)
+
+-- and if the prevs are kept too, walks come to their targets from every node.
+abbrev pub IdleIsQuiet : Type 0
+IdleIsQuiet = (z : Traced) → IsTraced z → Each (λ p. p.stage ≡ Idle) z.world.parties →
+    AreQuiet z.world.layout z.world.generation (nodes_in z.world.layout z.world.words)

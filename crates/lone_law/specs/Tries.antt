@@ -14,11 +14,12 @@ use Rattle.call_stages.specs.declared.once.Once.TheVariants as once
 use Rattle.call_stages.specs.declared.once.Placed.{Placed}
 use Rattle.call_stages.specs.Stages.{Linked, Parted, Stage, Idle}
 use Rattle.call_stages.specs.Stages.{Splits, Leaves, Meets, Joins, counted, placed_in}
-use Rattle.call_stages.specs.Kinds.{Step, below_key, from_key}
+use Rattle.call_stages.specs.Kinds.{below_key, from_key}
+use Rattle.call_stages.specs.AnySteps.{AnyStep}
 use Rattle.node_ops.specs.Asked.{IsAbout}
 use Rattle.index_law.specs.Facts.{Facts, map_now, range_of}
 use Rattle.index_law.specs.Worlds.{Party, World, facts, stepped, moved_on, written}
-use Rattle.index_law.specs.Lawful.{Lawful}
+use Rattle.index_law.specs.Lawful.{Lawful, IsList}
 use Rattle.index_law.specs.Laws.{IsAtRest}
 use Rattle.index_law.specs.Shapes.{IsHalved}
 
@@ -39,6 +40,7 @@ IsFor name _ = Unit {0}
 -- One member, in which the name belongs, was cut, while the map and the list were as in w0; and the map lacks the name.
 pub record IsHalvedSince (name : List ℕ) (w0 w : World) : Type 0 where
   pub before : Facts
+  pub chain : IsList w.layout before
   pub list : before.list ≡ (facts w0).list
   pub map : map_now before ≡ map_now (facts w0)
   pub halved : IsHalved w.layout before (facts w).list
@@ -94,14 +96,14 @@ LeavesHistory own w0 w p = (placed_in p.stage ≡ None → w.history ≡ w0.hist
 abbrev pub TriesGo : Type 0
 TriesGo = (name : List ℕ) (own : Option Change) (w0 : World) (i : ℕ) (w : World) (p : Party) (action : Action) (x : ℕ)
     (next : Stage) → Trying name own w0 i w p → IsFor name p.stage → IsFor name next →
-    IfSome (counted p.stage) (λ change. own ≡ Some change) → Step w.layout w.generation p.stage action x next None →
+    IfSome (counted p.stage) (λ change. own ≡ Some change) → AnyStep w.layout w.generation p.stage action x next None →
     x ≡ got w.layout w.words action → length w.history < 2 ^ 63 →
     Trying name own w0 i (stepped w i p action next) (moved_on p next)
 
 abbrev pub TriesEnd : Type 0
 TriesEnd = (name : List ℕ) (own : Option Change) (w0 : World) (i : ℕ) (w : World) (p : Party) (action : Action) (x : ℕ)
     (next : Stage) (answer : Once Placed) → Trying name own w0 i w p → IsFor name p.stage →
-    IsAbout name p.stage → Step w.layout w.generation p.stage action x next (Some answer) →
+    IsAbout name p.stage → AnyStep w.layout w.generation p.stage action x next (Some answer) →
     x ≡ got w.layout w.words action → length w.history < 2 ^ 63 →
     IsAtRest (stepped w i p action next) × Says w0 (stepped w i p action next) name answer ×
     LeavesHistory own w0 (stepped w i p action next) p

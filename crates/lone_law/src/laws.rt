@@ -1,10 +1,12 @@
 //! The laws of lone calls.
 
-ghost use Rattle.lone_law.specs.There.{LooksComeThere, RestIsStill};
+ghost use Rattle.lone_law.specs.There.{LooksComeThere, RestIsStill, IdleIsQuiet};
 
-/// A look-up that nobody disturbs comes to the target of its name.
+/// A look-up that nobody disturbs comes to the target of its name. Where nobody is about a call, walks come to their
+/// targets from every node.
 pub fn looks_come_there()
     ensures still { RestIsStill }
+    ensures quiet { IdleIsQuiet }
     ensures comes { LooksComeThere }
 {}
 
@@ -28,17 +30,17 @@ pub fn rooms()
     ensures first { FullIsFirst }
 {}
 
-ghost use Rattle.lone_law.specs.LoneCalls.{LoneCallsBegin, LoneCallsGo, MachinesHoldOne};
+ghost use Rattle.lone_law.specs.LoneCalls.{LoneCallsBegin, LoneCallsGo, MachinesMergeNone};
 ghost use Rattle.lone_law.specs.Locks.{LocksGo, FewestLose, WornHasNone};
 
 /// Each turn of a lone call, whatever its op, and how it is answered.
 pub fn lone_calls()
     ensures begins { LoneCallsBegin }
     ensures goes { LoneCallsGo }
-    ensures one { MachinesHoldOne }
+    ensures none { MachinesMergeNone }
 {}
 
-/// A call that is made with no other in flight takes one lock of one node at most.
+/// A try of a call that is made with no other in flight takes one lock of each node at most.
 pub fn lone_locks()
     ensures goes { LocksGo }
     ensures fewest { FewestLose }
@@ -51,4 +53,23 @@ ghost use Rattle.lone_law.specs.Targets.{TargetStands};
 /// other parties do.
 pub fn target_law()
     ensures { TargetStands }
+{}
+
+ghost use Rattle.lone_law.specs.Shapes.{RoomIsNoSplit, CutIsSplit, FullIsNoRoom, NoRoomIsFull};
+
+/// What a lone put makes of the shape: where it has room it splits nothing, a cut for its name is its split, and it
+/// finds no room exactly where its target is full and no node is FREE.
+pub fn lone_shapes()
+    ensures room { RoomIsNoSplit }
+    ensures cut { CutIsSplit }
+    ensures full { FullIsNoRoom }
+    ensures no_room { NoRoomIsFull }
+{}
+
+ghost use Rattle.lone_law.specs.Splitting.{SplitsComeThere};
+
+/// A split that nobody disturbs takes a log line, if each is EMPTY as it begins, and claims a node exactly where one is
+/// FREE whose lock can be taken.
+pub fn splits_come_there()
+    ensures { SplitsComeThere }
 {}
