@@ -1,102 +1,49 @@
--- A whole call, with no other in flight.
-use Rattle.std.proofs.Common.{◌≡◌, ◌≢◌, ◌==◌, ℕ, suc, ◌+◌, ◌<◌, ◌≤◌, ◌^◌, ⊎_elim, List, [], ◌∷◌, ◌++◌, length, set, slice_set, map, refl, sym, ap, ◌∙◌, subst, arith}
-use Rattle.std.specs.Prelude.{Option, Some, None, IfSome, IsSomeAnd, IsTrue}
-use Rattle.std.proofs.lemmas.Bool.{leb-true, le-leb}
+-- A whole call, with no other in flight: one try, or one that split and another.
+use Rattle.std.proofs.Common.{◌≡◌, ◌≢◌, ℕ, ◌+◌, ◌<◌, ◌≤◌, ◌⊎◌, inl, inr, ⊎_elim, List, ◌++◌, length, set, slice_set, refl, sym, ap, ◌∙◌, subst, arith}
+use Rattle.std.specs.Prelude.{Option, Some, None, IsSome, IsSomeAnd, IsTrue, true, false}
+use Rattle.std.proofs.lemmas.Bool.{leb-true, le-leb, cases_lt}
 use Rattle.std.proofs.lemmas.List.{append-nil}
-use mathlib.Core.Option.{some, none, some-injective}
+use mathlib.Core.Option.{some, some-injective}
 use lib.ListN.{get_elem?}
 use Rattle.pm_words.specs.declared.again.Again.TheVariants as again
-use Rattle.pm_words.specs.declared.machine.Turn.{Turn}
-use Rattle.pm_words.specs.declared.machine.Turn.TheVariants.{Go, Done}
-use Rattle.pm_words.specs.Turns.{GoesBelow}
-use Rattle.pm_words.specs.Rows.{acted}
 use Rattle.cat_key.specs.Names.{IsName}
-use Rattle.cat_history.specs.Maps.{at, map_of}
-use Rattle.cat_history.specs.declared.op.Op.{Op}
-use Rattle.data_node.specs.Lists.{key_of}
+use Rattle.version_lock.specs.Versions.{IsWorn}
+use Rattle.cat_history.specs.Maps.{Map, at, map_of}
+use Rattle.cat_history.specs.Writes.{after_all}
+use Rattle.data_node.specs.Lists.{ListNode, target_from, key_of}
 use Rattle.data_node.proofs.RangeNames.{range_names}
+use Rattle.data_node.proofs.ListLemmas.{target_in}
+use Rattle.data_list.specs.Still.{position_from}
 use Rattle.call_stages.specs.declared.once.Once.{Once}
 use Rattle.call_stages.specs.declared.once.Once.TheVariants as once
 use Rattle.call_stages.specs.declared.once.Placed.{Placed}
-use Rattle.call_stages.specs.Stages.{Stage, Idle, counted}
-use Rattle.call_stages.specs.Kinds.{Step}
-use Rattle.node_ops.specs.declared.call.View.{View}
-use Rattle.node_ops.specs.declared.running.Running.{Running}
-use Rattle.node_ops.specs.Calls.{IsView}
-use Rattle.node_ops.specs.Asked.{IsOf, op_in, name_asked}
+use Rattle.node_ops.specs.Asked.{name_asked}
 use Rattle.node_ops.specs.LookupSteps.{is_spent}
-use Rattle.node_ops.specs.RunningSteps.{running_call, running_asks, running_turned, running_left, IsRunning}
-use Rattle.node_ops.specs.CallStages.{stage_of, stage_after, reply_of}
-use Rattle.node_ops.proofs.OpLaw.{op_told}
-use Rattle.index_law.specs.Facts.{Facts, range_of}
-use Rattle.index_law.specs.Worlds.{Party, World, facts, stepped, moved_on, written}
-use Rattle.index_law.specs.Lawful.{Each}
+use Rattle.index_law.specs.Facts.{range_of}
+use Rattle.index_law.specs.Worlds.{facts}
 use Rattle.index_law.specs.Laws.{IsAtRest}
-use Rattle.index_law.specs.Weights.{weight_sum}
-use Rattle.data_node.proofs.ListLemmas.{target_in}
-use Rattle.index_law.proofs.Starts.{idle_law}
+use Rattle.index_law.specs.Anchors.{anchors_of}
 use Rattle.index_law.proofs.Parties.{at_set, set_here}
-use Rattle.lone_law.specs.Locks.{locks_of, fewest_locks, HasLocked, HoldsOne, AfterLocks}
-use Rattle.lone_law.specs.LoneCalls.{LoneCall, FindsFull, IsAnswered, AfterCall, ValueFits, machine_for}
+use Rattle.index_law.proofs.Starts.{listed_within}
+use Rattle.lone_law.specs.LoneCalls.{FindsFull, FindsWorn, IsLate, IsAnswered}
+use Rattle.lone_law.specs.Splitting.{HasFree, LacksFree}
+use Rattle.lone_law.specs.Tries.{IsHalvedSince}
 use Rattle.lone_law.specs.Rooms.{target_node, target_names}
-use Rattle.lone_law.proofs.Locks.{locks_go, fewest_lose}
-use Rattle.lone_law.proofs.LoneCalls.{lone_calls_begin, lone_calls_go, machines_hold_one}
+use Rattle.lone_law.proofs.Locks.{worn_has_none}
+use Rattle.lone_law.proofs.Rooms.{names_most, cut_has_room}
+use Rattle.lone_law.proofs.Shapes.{room_is_no_split, cut_is_split}
 use Rattle.index_core.specs.declared.party.PartyState.{PartyState}
 use Rattle.index_core.specs.declared.party.CoreCall.{CoreCall}
 use Rattle.index_core.specs.declared.party.CoreCall.TheVariants as call
-use Rattle.index_core.specs.declared.party.CoreReply.{CoreReply}
+use Rattle.index_core.specs.declared.party.Whole.{Whole}
 use Rattle.index_core.specs.declared.party.Whole.TheVariants as whole
-use Rattle.index_core.specs.declared.party.CoreReply.TheVariants as reply
-use Rattle.index_core.specs.declared.party.Stepped.{Stepped}
-use Rattle.index_core.specs.declared.party.Stepped.TheVariants.{Going, Answered}
-use Rattle.index_core.specs.CoreCalls.{machine_of, op_of, limit_of, most_writes}
-use Rattle.index_core.specs.PartyStates.{machine_stage, party_of, state_with, state_after, state_counted, stepped_of, machine_owes, owed}
-use Rattle.index_core.specs.Indexes.{Index, room_of, world, map_of_index, IsIndex, IsInFlight, view_of, Starts, started_index, told, stepped_index, StepsTo}
-use Rattle.index_core.specs.Lone.{IsQuiet, FindsNoRoom, names_beside, locks_left, IsWholeAnswer, RunsAlone, CountsCall, alone_writes, whole_of, whole_of_reply, state_done}
-use Rattle.index_core.specs.MachineLaws.{MachineLaw, showing, showing_after}
+use Rattle.index_core.specs.CoreCalls.{op_of, limit_of}
+use Rattle.index_core.specs.PartyStates.{party_of, state_counted}
+use Rattle.index_core.specs.Indexes.{Index, world, map_of_index, IsIndex}
+use Rattle.index_core.specs.Lone.{IsQuiet, FindsNoRoom, SplitsFor, LeavesShape, names_beside, locks_left, IsWholeAnswer, TriesAlone, RunsAlone, CountsCall, alone_writes, needs_split, whole_of, state_tried, state_done}
 use Rattle.index_core.specs.Weights.{weight_of, added_by, added_whole}
-use Rattle.index_core.proofs.Bounds.{bounded_small}
-use Rattle.index_core.proofs.Lists.{map_from, map_there, map_set, set_twice, owed-set}
-use Rattle.index_core.proofs.MachineLaw.{machine_law, begin_law, idle_weigh}
-use Rattle.index_core.proofs.Stepping.{machine_idle, machine_writes, step_facts}
-
--- with no call in flight all parties are idle
-pub quiet_parties : (s : Index) → IsQuiet s → Each (λ p. p.stage ≡ Idle) (world s).parties
-quiet_parties s quiet i p at =
-    let from = map_from party_of s.states i p at in
-    subst (λ (q : Party). q.stage ≡ Idle) from.2 (ap machine_stage (quiet i from.0 from.1))
-
--- One call is in flight, as the index was s0 before it.
-pub record Lone (s0 s : Index) (i : ℕ) (c : CoreCall) : Type 0 where
-  pub state : PartyState
-  pub machine : Running
-  pub quiet : IsQuiet s0
-  pub before : IsIndex s0
-  pub there : get_elem? s0.states i ≡ some state
-  pub states : s.states ≡ slice_set s0.states i (state_with state (length s0.history) machine)
-  pub index : IsIndex s
-  pub call : LoneCall (world s0) i (op_of c) (limit_of c) (world s) (party_of (state_with state (length s0.history) machine)) machine
-  pub same_base : s.base ≡ s0.base
-  pub locks : HasLocked s.generation (facts (world s0)).version (facts (world s)).version (stage_of machine)
-  pub weighs : weight_sum (world s) ≤ weight_of s0 + showing (Some machine)
-  pub room : length s0.history + s0.spare ≤ room_of s
-
--- how many actions it has left
-abbrev pub left_of : Option Running → ℕ
-left_of None = 0
-left_of (Some machine) = suc (running_left machine)
-
-abbrev pub left_at : Index → ℕ → ℕ
-left_at s i = elim (get_elem? s.states i) [ none ↦ 0 | some state ↦ left_of state.machine ]
-
-pub begins_limit : (s : Index) (i : ℕ) (c : CoreCall) → (running_call (machine_of (view_of s i) c)).limit ≡ limit_of c
-begins_limit s i (call.Put name value limit) = refl
-begins_limit s i (call.Get name) = refl
-begins_limit s i (call.Del name limit) = refl
-
--- an index with no call in flight is at rest
-pub rests : (s : Index) → IsIndex s → IsQuiet s → IsAtRest (world s)
-rests s is quiet = idle_law (world s) is.lawful (quiet_parties s quiet)
+use Rattle.index_core.proofs.Lists.{set_twice}
+use Rattle.index_core.proofs.Tries.{rests}
 
 -- to the node of a name belong as many names of the map as the node has
 target_has : (s : Index) → IsAtRest (world s) → (name : List ℕ) → target_names (world s) name ≡ length (names_beside s name)
@@ -105,15 +52,15 @@ target_has s rest name =
     range_names s.layout.slots (range_of s.layout (facts w) (target_node w name)) ((facts w).now (target_node w name)) (map_of_index s)
     (rest.settled (target_node w name) (target_in 0 (facts w).list (key_of name))).means rest.named
 
-no_room_is : (s : Index) (c : CoreCall) → IsAtRest (world s) → FindsFull (world s) (op_of c) → FindsNoRoom c s
-no_room_is s (call.Put name value limit) rest full = (full.0, sym (target_has s rest name) ∙ full.1)
-no_room_is s (call.Get name) rest full = full
-no_room_is s (call.Del name limit) rest full = full
+no_room_is : (s : Index) (c : CoreCall) → IsAtRest (world s) → FindsFull (world s) (op_of c) → LacksFree s.layout s.generation s.words → FindsNoRoom c s
+no_room_is s (call.Put name value limit) rest full lacks = (full.0, sym (target_has s rest name) ∙ full.1, lacks)
+no_room_is s (call.Get name) rest full lacks = full
+no_room_is s (call.Del name limit) rest full lacks = full
 
 no_room_was : (s : Index) (c : CoreCall) → IsAtRest (world s) → FindsNoRoom c s → FindsFull (world s) (op_of c)
-no_room_was s (call.Put name value limit) rest full = (full.0, target_has s rest name ∙ full.1)
-no_room_was s (call.Get name) rest full = full
-no_room_was s (call.Del name limit) rest full = full
+no_room_was s (call.Put name value limit) rest none = (none.0, target_has s rest name ∙ none.1)
+no_room_was s (call.Get name) rest none = none
+no_room_was s (call.Del name limit) rest none = none
 
 -- a call is late where its limit is reached
 late_is : (o : Option ℕ) (n : ℕ) → IsTrue (is_spent o n) → IsSomeAnd o (λ limit. limit ≤ n)
@@ -124,338 +71,6 @@ late_was : (o : Option ℕ) (n : ℕ) → IsSomeAnd o (λ limit. limit ≤ n) �
 late_was None n over = absurd over
 late_was (Some limit) n over = le-leb limit n over
 
--- what is asked of a call that begins
-record Asks (v : View) (c : CoreCall) : Type 0 where
-  view : IsView v
-  named : IsName (name_asked (op_of c))
-  limit : IfSome (limit_of c) (λ most. most ≤ 2 ^ 62)
-  value : ValueFits (op_of c)
-
-asks : (v : View) (c : CoreCall) → IsRunning (machine_of v c) → IsOf (op_of c) (machine_of v c) → Asks v c
-asks v (call.Put name value limit) here of = record { view = here.0.call.view; named = subst IsName of.0 here.0.call.packed.named; limit = here.0.call.limit; value = here.1 }
-asks v (call.Get name) here of = record { view = here.call.view; named = subst IsName of here.call.packed.named; limit = tt; value = tt }
-asks v (call.Del name limit) here of = record { view = here.call.view; named = subst IsName of.0 here.call.packed.named; limit = here.call.limit; value = tt }
-
-same_machine_for : (v : View) (c : CoreCall) → machine_for (op_of c) v (limit_of c) ≡ machine_of v c
-same_machine_for v (call.Put name value limit) = refl
-same_machine_for v (call.Get name) = refl
-same_machine_for v (call.Del name limit) = refl
-
--- the call as it begins
-begun_call : (s0 : Index) (i : ℕ) (e : PartyState) (c : CoreCall) (n : ℕ) → IsIndex s0 → IsQuiet s0 → get_elem? s0.states i ≡ some e → IsRunning (machine_of (view_of s0 i) c)
-    → IsOf (op_of c) (machine_of (view_of s0 i) c)
-    → LoneCall (world s0) i (op_of c) (limit_of c) (world (started_index s0 i e c n)) (party_of (state_with e (length s0.history) (machine_of (view_of s0 i) c))) (machine_of (view_of s0 i) c)
-begun_call s0 i e c n is quiet there here of =
-    let v = view_of s0 i in
-    let m = machine_of v c in
-    let now = state_with e (length s0.history) m in
-    let ask = asks v c here of in
-    let first = lone_calls_begin (world s0) i (op_of c) (limit_of c) (party_of e) e.index v (rests s0 is quiet) (map_there party_of s0.states i e there) ask.view refl refl ask.named ask.limit ask.value in
-    let idle : Party = record { caller = e.caller; index = e.index; since = length s0.history; stage = Idle } in
-    let party : idle ≡ party_of now = (λ k. record { caller = e.caller; index = e.index; since = length s0.history; stage = sym (machine_idle s0 i c) k }) in
-    let parties : slice_set (map party_of s0.states) i idle ≡ map party_of (slice_set s0.states i now) =
-    ap (slice_set (map party_of s0.states) i) party ∙ sym (map_set party_of s0.states i now) in
-    subst (λ (q : (List Party × Party) × Running). LoneCall (world s0) i (op_of c) (limit_of c) (record (world s0) { parties = q.0.0 }) q.0.1 q.1)
-    (λ k. ((parties k, party k), same_machine_for v c k)) first
-
-idle_locked : (g : ℕ) (version : ℕ → ℕ) (s : Stage) → s ≡ Idle → HasLocked g version version s
-idle_locked g version s idle = subst (HasLocked g version version) (sym idle) (λ m. refl)
-
-pub lone_start : (s0 s : Index) (i : ℕ) (c : CoreCall) → IsIndex s0 → IsQuiet s0 → Starts s0 i c s → s.spare + most_writes c ≡ s0.spare → IsIndex s → Lone s0 s i c
-lone_start s0 s i c is0 quiet t spare is =
-    let is' : IsIndex (started_index s0 i t.state c s.spare) = subst IsIndex t.is is in
-    let m = machine_of (view_of s0 i) c in
-    let now = state_with t.state (length s0.history) m in
-    let owing = owed-set s0.states i t.state now t.there in
-    let none : machine_owes t.state.machine ≡ 0 = ap machine_owes (quiet i t.state t.there) in
-    let own = machine_writes s0 i c in
-    let room : length s0.history + s0.spare ≤ length s0.history + (owed (set s0.states i now) + s.spare) = omega arith in
-    let here : IsRunning m = (is'.states i now (set_here s0.states i now t.state t.there)).machine.here in
-    let begins = begin_law s0 i t.state t.state.index c is0 t.there (quiet i t.state t.there) here in
-    let weight = begins.weighs ∙ idle_weigh s0 quiet in
-    let shown = begins.shows_none in
-    subst (λ (v : Index). Lone s0 v i c) (sym t.is) (record {
-      state = t.state;
-      machine = m;
-      quiet = quiet;
-      before = is0;
-      there = t.there;
-      states = refl;
-      index = is';
-      call = begun_call s0 i t.state c s.spare is0 quiet t.there here t.of;
-      same_base = refl;
-      locks = idle_locked s0.generation (facts (world s0)).version (stage_of m) (machine_idle s0 i c);
-      weighs = omega arith;
-      room = room;
-    })
-
-pub go_of : (turn : Turn Running (Once Placed)) → stepped_of turn ≡ Going → (next : Running) × (turn ≡ Go next)
-go_of (Go next) is = (next, refl)
-go_of (Done answer) is = absurd (cc)
-
-pub done_of : (turn : Turn Running (Once Placed)) (answer : Once Placed) → stepped_of turn ≡ Answered (reply.Placed answer) → turn ≡ Done answer
-done_of (Go next) answer is = absurd (cc)
-done_of (Done other) answer is = cc
-
-pub lone_flies : (s0 s : Index) (i : ℕ) (c : CoreCall) → Lone s0 s i c → IsInFlight s i
-lone_flies s0 s i c o =
-    let e = state_with o.state (length s0.history) o.machine in
-    record { state = e; machine = o.machine; there = ap (λ (l : List PartyState). get_elem? l i) o.states ∙ set_here s0.states i e o.state o.there; flies = refl }
-
-some_same : {a b : Running} → Some a ≡ Some b → a ≡ b
-some_same e = cc
-
-module _ (s0 s s' : Index) (i : ℕ) (c : CoreCall) (result : Stepped) (o : Lone s0 s i c) (t : StepsTo s i s' result) (is' : IsIndex s') (room : room_of s ≤ room_of s') where
-  abbrev e : PartyState
-  e = state_with o.state (length s0.history) o.machine
-
-  at_i : get_elem? s.states i ≡ some e
-  at_i = ap (λ (l : List PartyState). get_elem? l i) o.states ∙ set_here s0.states i e o.state o.there
-
-  abbrev x : ℕ
-  x = told s o.machine
-
-  abbrev p : Party
-  p = party_of e
-
-  -- the step is that of this call
-  entry_same : t.state ≡ e
-  entry_same = some-injective _ _ (sym t.there ∙ at_i)
-
-  machine_same : t.machine ≡ o.machine
-  machine_same = some_same (sym t.flies ∙ ap (λ (d : PartyState). d.machine) entry_same)
-
-  is : s' ≡ stepped_index s i e o.machine s'.spare
-  is = t.is ∙ (λ k. stepped_index s i (entry_same k) (machine_same k) s'.spare)
-
-  comes_to : result ≡ stepped_of (running_turned o.machine x)
-  comes_to = t.comes_to ∙ ap (λ (m : Running). stepped_of (running_turned m (told s m))) machine_same
-
-  law : MachineLaw s i e o.machine
-  law = machine_law s i e o.machine o.index at_i refl
-
-  fewer : GoesBelow running_left (running_left o.machine) (running_turned o.machine x)
-  fewer = subst (λ (m : Running). GoesBelow running_left (running_left m) (running_turned m (told s m))) machine_same t.fewer
-
-  goes : AfterCall (world s0) i (op_of c) (limit_of c) (world s) p o.machine (running_turned o.machine x)
-  goes = lone_calls_go (world s0) i (op_of c) (limit_of c) (world s) p o.machine x o.call (rests s0 o.before o.quiet) refl (bounded_small s o.index)
-
-  -- the history after the step
-  history_is : s'.history ≡ s.history ++ written e.caller e.index (counted (stage_of o.machine))
-  history_is = ap (λ (v : Index). v.history) is
-
-  entries_are : (turn : Turn Running (Once Placed)) → running_turned o.machine x ≡ turn → s'.states ≡ slice_set s0.states i (state_after e turn)
-  entries_are turn turned =
-      ap (λ (v : Index). v.states) is ∙ (λ k. set (o.states k) i (state_after e (turned k))) ∙ set_twice s0.states i e (state_after e turn)
-
-  -- the world after a step that goes on
-  world_is : (next : Running) → running_turned o.machine x ≡ Go next → world s' ≡ stepped (world s) i p (running_asks o.machine) (stage_of next)
-  world_is next turned = ap world is ∙ (λ k. record {
-    layout = s.layout;
-    generation = s.generation;
-    words = acted s.layout s.words (running_asks o.machine);
-    parties = parties k;
-    base = map_of s.base;
-    history = s.history ++ written e.caller e.index (counted (stage_of o.machine));
-  })
-    where
-      parties : map party_of (slice_set s.states i (state_after e (running_turned o.machine x))) ≡ slice_set (map party_of s.states) i (moved_on p (stage_of next))
-      parties = (λ k. map party_of (slice_set s.states i (state_after e (turned k)))) ∙ map_set party_of s.states i (state_after e (Go next))
-
-  -- the facts after the step, whatever it comes to
-  facts_are : (next : Stage) → facts (world s') ≡ facts (stepped (world s) i p (running_asks o.machine) next)
-  facts_are next = ap (λ (v : Index). facts (world v)) is
-
-  locks_after : (turn : Turn Running (Once Placed)) → running_turned o.machine x ≡ turn → AfterLocks s.generation (facts (world s0)).version (facts (world s')).version (stage_after turn) (reply_of turn)
-  locks_after turn turned =
-      let held : HoldsOne (stage_after turn) = one turn in
-      let step : Step s.layout s.generation (stage_of o.machine) (running_asks o.machine) x (stage_after turn) (reply_of turn) =
-      subst (λ (q : Turn Running (Once Placed)). Step s.layout s.generation (stage_of o.machine) (running_asks o.machine) x (stage_after q) (reply_of q)) turned
-      (step_facts s i e o.machine o.index at_i refl).is_step in
-      subst (λ (f : Facts). AfterLocks s.generation (facts (world s0)).version f.version (stage_after turn) (reply_of turn)) (sym (facts_are (stage_after turn)))
-      (locks_go (facts (world s0)).version (world s) i p (running_asks o.machine) x (stage_after turn) (reply_of turn) o.index.lawful o.call.trying.there o.locks held step refl)
-    where
-      one : (turn : Turn Running (Once Placed)) → HoldsOne (stage_after turn)
-      one (Go next) = machines_hold_one next
-      one (Done answer) = tt
-
-  pub lone_goes : result ≡ Going → Lone s0 s' i c × (suc (left_at s' i) ≤ left_at s i)
-  lone_goes going =
-      let go = go_of (running_turned o.machine x) (sym comes_to ∙ going) in
-      let next = go.0 in
-      let states = entries_are (Go next) go.1 in
-      let there = ap (λ (l : List PartyState). get_elem? l i) states ∙ set_here s0.states i (state_with o.state (length s0.history) next) o.state o.there in
-      let less : running_left next < running_left o.machine = subst (GoesBelow running_left (running_left o.machine)) go.1 fewer in
-      let was : left_at s i ≡ suc (running_left o.machine) = ap left_in at_i in
-      let now : left_at s' i ≡ suc (running_left next) = ap left_in there in
-      let before = o.room in
-      let call_on : LoneCall (world s0) i (op_of c) (limit_of c) (stepped (world s) i p (running_asks o.machine) (stage_of next)) (moved_on p (stage_of next)) next =
-      subst (AfterCall (world s0) i (op_of c) (limit_of c) (world s) p o.machine) go.1 goes in
-      let sum : weight_sum (world s') ≡ weight_sum (world (stepped_index s i e o.machine s.spare)) = ap (λ (v : Index). weight_sum (world v)) is in
-      let rises : weight_sum (world (stepped_index s i e o.machine s.spare)) + showing (Some o.machine) ≤ weight_sum (world s) + showing (Some next) =
-      subst (λ (turn : Turn Running (Once Placed)). weight_sum (world (stepped_index s i e o.machine s.spare)) + showing (Some o.machine) ≤ weight_sum (world s) + showing_after (op_in o.machine) turn) go.1 law.weighs in
-      let weight = o.weighs in (
-        record {
-          state = o.state;
-          machine = next;
-          quiet = o.quiet;
-          before = o.before;
-          there = o.there;
-          states = states;
-          index = is';
-          call = subst (λ (w : World). LoneCall (world s0) i (op_of c) (limit_of c) w (moved_on p (stage_of next)) next) (sym (world_is next go.1)) call_on;
-          same_base = ap (λ (v : Index). v.base) is ∙ o.same_base;
-          locks = subst (λ (g : ℕ). HasLocked g (facts (world s0)).version (facts (world s')).version (stage_of next)) (sym (ap (λ (v : Index). v.generation) is)) (locks_after (Go next) go.1);
-          weighs = omega arith;
-          room = omega arith;
-        },
-        omega (arith, less, was, now),
-      )
-    where
-      left_in : mathlib.Core.Option.Option PartyState → ℕ
-      left_in found = elim found [ none ↦ 0 | some state ↦ left_of state.machine ]
-
-  lone_quiet : (answer : Once Placed) → result ≡ Answered (reply.Placed answer) → IsQuiet s'
-  lone_quiet answer answered j state at =
-      let done = done_of (running_turned o.machine x) answer (sym comes_to ∙ answered) in
-      let states = entries_are (Done answer) done in
-      ⊎_elim
-      (λ (mine : (j ≡ i) × (state_after e (Done answer) ≡ state)). ap (λ (d : PartyState). d.machine) (sym mine.1))
-      (λ (other : (j ≢ i) × (get_elem? s0.states j ≡ some state)). o.quiet j state other.1)
-      (at_set s0.states i j (state_after e (Done answer)) state (ap (λ (l : List PartyState). get_elem? l j) (sym states) ∙ at))
-
-  -- how it ends
-  module _ (answer : Once Placed) (answered : result ≡ Answered (reply.Placed answer)) where
-    done : running_turned o.machine x ≡ Done answer
-    done = done_of (running_turned o.machine x) answer (sym comes_to ∙ answered)
-
-    ended : IsAnswered (world s0) (op_of c) (limit_of c) (stepped (world s) i p (running_asks o.machine) Idle) p answer
-    ended = (subst (AfterCall (world s0) i (op_of c) (limit_of c) (world s) p o.machine) done goes).1
-
-    rest0 : IsAtRest (world s0)
-    rest0 = rests s0 o.before o.quiet
-
-    -- the answer by its cause, what it leaves of the history, and the list
-    record Ended (r : Once Placed) : Type 0 where
-      cause : IsWholeAnswer s0 c (whole_of r)
-      history : s'.history ≡ s0.history ++ alone_writes o.state.caller o.state.index c (whole_of r)
-      list : (facts (world s')).list ≡ (facts (world s0)).list
-
-    ends : (r : Once Placed) → IsAnswered (world s0) (op_of c) (limit_of c) (stepped (world s) i p (running_asks o.machine) Idle) p r → Ended r
-    ends (once.Worn node word) end = record {
-      cause = (end.0, end.1, end.2);
-      history = history_is ∙ end.3 ∙ sym (append-nil s0.history);
-      list = ap (λ (f : Facts). f.list) (facts_are Idle) ∙ end.4;
-    }
-    ends (once.Spent clock) end = record {
-      cause = (end.0, late_is (limit_of c) (length s0.history) end.1, end.2);
-      history = history_is ∙ end.3 ∙ sym (append-nil s0.history);
-      list = ap (λ (f : Facts). f.list) (facts_are Idle) ∙ end.4;
-    }
-    ends (once.Again again.NoFree) end = record {
-      cause = (end.0, (λ over. end.1 (late_was (limit_of c) (length s0.history) over)), no_room_is s0 c rest0 end.2);
-      history = history_is ∙ end.3 ∙ sym (append-nil s0.history);
-      list = ap (λ (f : Facts). f.list) (facts_are Idle) ∙ end.4;
-    }
-    ends (once.Again (again.Locked n word)) end = absurd end
-    ends (once.Again (again.Moved n first second)) end = absurd end
-    ends (once.Again (again.Hops count)) end = absurd end
-    ends (once.Again again.LogFull) end = absurd end
-    ends (once.Again (again.NeedsSplit n)) end = absurd end
-    ends (once.Again (again.Held word)) end = absurd end
-    ends (once.Again (again.Epoch first second)) end = absurd end
-    ends (once.Done placed) end = record {
-      cause = (
-        (end.0.0, (λ over. end.0.1 (late_was (limit_of c) (length s0.history) over)), (λ none. end.0.2 (no_room_was s0 c rest0 none))),
-        end.1,
-        end.2,
-        end.3,
-      );
-      history = history_is ∙ end.4;
-      list = ap (λ (f : Facts). f.list) (facts_are Idle) ∙ end.5;
-    }
-
-    -- its weight
-    adds : (r : Once Placed) → added_by (op_of c) r ≡ added_whole (op_of c) (whole_of r)
-    adds (once.Done placed) = refl
-    adds (once.Spent clock) = refl
-    adds (once.Worn node word) = refl
-    adds (once.Again why) = refl
-
-    weighs : weight_of s' ≤ weight_of s0 + added_whole (op_of c) (whole_of answer)
-    weighs =
-        let op_same : op_in o.machine ≡ op_of c = op_told (op_of c) o.machine o.call.of in
-        let sum : weight_sum (world s') ≡ weight_sum (world (stepped_index s i e o.machine s.spare)) = ap (λ (v : Index). weight_sum (world v)) is in
-        let rises : weight_sum (world (stepped_index s i e o.machine s.spare)) + showing (Some o.machine) ≤ weight_sum (world s) + added_by (op_in o.machine) answer =
-        subst (λ (turn : Turn Running (Once Placed)). weight_sum (world (stepped_index s i e o.machine s.spare)) + showing (Some o.machine) ≤ weight_sum (world s) + showing_after (op_in o.machine) turn) done law.weighs in
-        let added : added_by (op_in o.machine) answer ≡ added_whole (op_of c) (whole_of answer) = ap (λ (op : Op). added_by op answer) op_same ∙ adds answer in
-        let before = o.weighs in
-        let after = idle_weigh s' (lone_quiet answer answered) in
-        omega arith
-
-    -- where its party is as a whole call leaves it
-    leaves : (states : List PartyState) → states ≡ slice_set s0.states i (state_done o.state (length s0.history)) → RunsAlone s0 i c (record s' { states = states }) (whole_of answer)
-    leaves states are =
-        let end = ends answer ended in
-        record {
-          state = o.state;
-          there = o.there;
-          answer = end.cause;
-          history = end.history ∙ ap (λ (j : ℕ). s0.history ++ alone_writes j o.state.index c (whole_of answer)) (o.before.states i o.state o.there).caller;
-          states = are;
-          layout = ap (λ (v : Index). v.layout) is ∙ o.call.trying.layout;
-          generation = ap (λ (v : Index). v.generation) is ∙ o.call.trying.generation;
-          base = ap (λ (v : Index). v.base) is ∙ o.same_base;
-          list = end.list;
-          weighs = weighs;
-        }
-
-  -- the step itself counts the call unless it was turned back
-  step_counts : (answer : Once Placed) → (whole_of answer ≡ whole.Full → ⊥) → state_after e (Done answer) ≡ state_done o.state (length s0.history)
-  step_counts (once.Done placed) other = refl
-  step_counts (once.Spent clock) other = refl
-  step_counts (once.Worn node word) other = refl
-  step_counts (once.Again why) other = absurd (other refl)
-
-  lone_runs : (answer : Once Placed) → result ≡ Answered (reply.Placed answer) → (whole_of answer ≡ whole.Full → ⊥) → RunsAlone s0 i c s' (whole_of answer)
-  lone_runs answer answered other = leaves answer answered s'.states (entries_are (Done answer) (done answer answered) ∙ ap (slice_set s0.states i) (step_counts answer other))
-
-  -- and one that was turned back is counted then
-  full_counts : (answer : Once Placed) → whole_of answer ≡ whole.Full → state_counted (state_after e (Done answer)) ≡ state_done o.state (length s0.history)
-  full_counts (once.Done placed) full = absurd cc
-  full_counts (once.Spent clock) full = absurd cc
-  full_counts (once.Worn node word) full = absurd cc
-  full_counts (once.Again why) full = refl
-
-  full_runs : (answer : Once Placed) → result ≡ Answered (reply.Placed answer) → whole_of answer ≡ whole.Full → (new : Index) → CountsCall s' i new → RunsAlone s0 i c new (whole_of answer)
-  full_runs answer answered full new t =
-      let states = entries_are (Done answer) (done answer answered) in
-      let here = ap (λ (l : List PartyState). get_elem? l i) states ∙ set_here s0.states i (state_after e (Done answer)) o.state o.there in
-      let state : t.state ≡ state_after e (Done answer) = some-injective _ _ (sym t.there ∙ here) in
-      subst (λ (v : Index). RunsAlone s0 i c v (whole_of answer)) (sym t.is)
-      (leaves answer answered (slice_set s'.states i (state_counted t.state))
-      ((λ k. set (states k) i (state_counted (state k))) ∙ set_twice s0.states i (state_after e (Done answer)) (state_counted (state_after e (Done answer))) ∙ ap (slice_set s0.states i) (full_counts answer full)))
-
-  lone_locks : (answer : Once Placed) → result ≡ Answered (reply.Placed answer) → locks_left s0 ≤ locks_left s' + 1
-  lone_locks answer answered =
-      let after : (m : ℕ) → locks_of s.generation ((facts (world s0)).version m) ≤ locks_of s.generation ((facts (world s')).version m) + 1 = locks_after (Done answer) (done answer answered) in
-      let fewest = fewest_lose s.generation (facts (world s0)).version (facts (world s')).version s.layout.nodes after in
-      subst (λ (q : (ℕ × ℕ) × (ℕ × ℕ)). fewest_locks q.0.0 (facts (world s0)).version q.0.1 ≤ fewest_locks q.1.0 (facts (world s')).version q.1.1 + 1)
-      (λ k. ((o.call.trying.generation k, (o.call.trying.layout k).nodes), (ap (λ (v : Index). v.generation) (sym is) k, (ap (λ (v : Index). v.layout) (sym is) k).nodes))) fewest
-
-  -- the same of the answer as a step tells it
-  pub reply_runs : (r : CoreReply) → result ≡ Answered r → (whole_of_reply r ≡ whole.Full → ⊥) → RunsAlone s0 i c s' (whole_of_reply r)
-  reply_runs (reply.Placed answer) answered other = lone_runs answer answered other
-
-  pub reply_full_runs : (r : CoreReply) → result ≡ Answered r → whole_of_reply r ≡ whole.Full → (new : Index) → CountsCall s' i new → RunsAlone s0 i c new (whole_of_reply r)
-  reply_full_runs (reply.Placed answer) answered full new t = full_runs answer answered full new t
-
-  pub reply_quiet : (r : CoreReply) → result ≡ Answered r → IsQuiet s'
-  reply_quiet (reply.Placed answer) answered = lone_quiet answer answered
-
-  pub reply_locks : (r : CoreReply) → result ≡ Answered r → locks_left s0 ≤ locks_left s' + 1
-  reply_locks (reply.Placed answer) answered = lone_locks answer answered
-
 -- to count a call of a quiet index is no call in flight
 pub count_quiet : (s : Index) (i : ℕ) (new : Index) → IsQuiet s → CountsCall s i new → IsQuiet new
 count_quiet s i new quiet t = subst IsQuiet (sym t.is) (λ j state at. ⊎_elim
@@ -463,17 +78,358 @@ count_quiet s i new quiet t = subst IsQuiet (sym t.is) (λ j state at. ⊎_elim
     (λ (other : (j ≢ i) × (get_elem? s.states j ≡ some state)). quiet j state other.1)
     (at_set s.states i j (state_counted t.state) state at))
 
--- with no call in flight nothing is owed
-quiet_owes : (states : List PartyState) → ((i : ℕ) (state : PartyState) → get_elem? states i ≡ some state → state.machine ≡ None) → owed states ≡ 0
-quiet_owes [] quiet = refl
-quiet_owes (state ∷ states) quiet =
-    let first : machine_owes state.machine ≡ 0 = ap machine_owes (quiet 0 state refl) in
-    let rest = quiet_owes states (λ i e at. quiet (suc i) e at) in
-    omega arith
+-- What the tries of a whole call answer and leave, before it is counted where it was turned back.
+pub record Ran (s0 s : Index) (i : ℕ) (c : CoreCall) (answer : Once Placed) : Type 0 where
+  pub state : PartyState
+  pub there : get_elem? s0.states i ≡ some state
+  pub cause : IsWholeAnswer s0 c s (whole_of answer)
+  pub history : s.history ≡ s0.history ++ alone_writes i state.index c (whole_of answer)
+  pub states : s.states ≡ slice_set s0.states i (state_tried state (length s0.history) answer)
+  pub layout : s.layout ≡ s0.layout
+  pub generation : s.generation ≡ s0.generation
+  pub base : s.base ≡ s0.base
+  pub list : ((facts (world s)).list ≡ (facts (world s0)).list) ⊎ SplitsFor c s0 s
+  pub shape : LeavesShape c (whole_of answer) s0 s
+  pub weighs : weight_of s ≤ weight_of s0 + added_whole (op_of c) (whole_of answer)
 
--- what a whole call leaves spare
-pub spare_left : (s0 s s' : Index) (i : ℕ) (c : CoreCall) → Lone s0 s i c → room_of s ≤ room_of s' → IsQuiet s' → s0.spare + length s0.history ≤ s'.spare + length s'.history
-spare_left s0 s s' i c o room quiet =
-    let before = o.room in
-    let none = quiet_owes s'.states quiet in
+-- where its party is as a whole call leaves it
+counted_runs : (s0 s : Index) (i : ℕ) (c : CoreCall) (answer : Once Placed) (ran : Ran s0 s i c answer) (states : List PartyState) → states ≡ slice_set s0.states i (state_done ran.state (length s0.history))
+    → RunsAlone s0 i c (record s { states = states }) (whole_of answer)
+counted_runs s0 s i c answer ran states are = record {
+  state = ran.state;
+  there = ran.there;
+  answer = same_cause (whole_of answer) ran.cause;
+  history = ran.history;
+  states = are;
+  layout = ran.layout;
+  generation = ran.generation;
+  base = ran.base;
+  list = ⊎_elim (λ same. inl same) (λ (cut : SplitsFor c s0 s). inr (same_split c cut)) ran.list;
+  shape = same_shape c (whole_of answer) ran.shape;
+  weighs = ran.weighs;
+}
+  where
+    same_split : (c : CoreCall) → SplitsFor c s0 s → SplitsFor c s0 (record s { states = states })
+    same_split (call.Put name value limit) cut = cut
+    same_split (call.Get name) cut = cut
+    same_split (call.Del name limit) cut = cut
+
+    same_cause : (r : Whole) → IsWholeAnswer s0 c s r → IsWholeAnswer s0 c (record s { states = states }) r
+    same_cause (whole.Worn node word) cause = ⊎_elim (λ first. inl first) (λ (second : SplitsFor c s0 s × (locks_left s0 ≤ 1) × (node ≡ target_node (world s) (name_asked (op_of c))) × IsWorn word s0.generation). inr (same_split c second.0, second.1, second.2, second.3)) cause
+    same_cause (whole.Spent clock) cause = cause
+    same_cause whole.Full cause = cause
+    same_cause (whole.Placed placed) cause = cause
+
+    same_shape : (c : CoreCall) (r : Whole) → LeavesShape c r s0 s → LeavesShape c r s0 (record s { states = states })
+    same_shape (call.Put name value limit) (whole.Placed placed) shape = shape
+    same_shape (call.Put name value limit) (whole.Worn node word) shape = shape
+    same_shape (call.Put name value limit) (whole.Spent clock) shape = shape
+    same_shape (call.Put name value limit) whole.Full shape = shape
+    same_shape (call.Get name) r shape = shape
+    same_shape (call.Del name limit) r shape = shape
+
+-- a try counts the call unless it was turned back
+try_counts : (answer : Once Placed) (state : PartyState) (since : ℕ) → (whole_of answer ≡ whole.Full → ⊥) → state_tried state since answer ≡ state_done state since
+try_counts (once.Done placed) state since other = refl
+try_counts (once.Spent clock) state since other = refl
+try_counts (once.Worn node word) state since other = refl
+try_counts (once.Again why) state since other = absurd (other refl)
+
+-- and one that was turned back is counted then
+full_counts : (answer : Once Placed) (state : PartyState) (since : ℕ) → whole_of answer ≡ whole.Full → state_counted (state_tried state since answer) ≡ state_done state since
+full_counts (once.Done placed) state since full = absurd cc
+full_counts (once.Spent clock) state since full = absurd cc
+full_counts (once.Worn node word) state since full = absurd cc
+full_counts (once.Again why) state since full = refl
+
+pub ran_runs : (s0 s : Index) (i : ℕ) (c : CoreCall) (answer : Once Placed) → Ran s0 s i c answer → (whole_of answer ≡ whole.Full → ⊥) → RunsAlone s0 i c s (whole_of answer)
+ran_runs s0 s i c answer ran other = counted_runs s0 s i c answer ran s.states (ran.states ∙ ap (slice_set s0.states i) (try_counts answer ran.state (length s0.history) other))
+
+pub full_runs : (s0 s : Index) (i : ℕ) (c : CoreCall) (answer : Once Placed) → Ran s0 s i c answer → whole_of answer ≡ whole.Full → (new : Index) → CountsCall s i new → RunsAlone s0 i c new (whole_of answer)
+full_runs s0 s i c answer ran full new t =
+    let tried = state_tried ran.state (length s0.history) answer in
+    let here = ap (λ (l : List PartyState). get_elem? l i) ran.states ∙ set_here s0.states i tried ran.state ran.there in
+    let state : t.state ≡ tried = some-injective _ _ (sym t.there ∙ here) in
+    subst (λ (v : Index). RunsAlone s0 i c v (whole_of answer)) (sym t.is)
+    (counted_runs s0 s i c answer ran (slice_set s.states i (state_counted t.state))
+    ((λ k. set (ran.states k) i (state_counted (state k))) ∙ set_twice s0.states i tried (state_counted tried) ∙ ap (slice_set s0.states i) (full_counts answer ran.state (length s0.history) full)))
+
+-- what an answer adds
+adds : (c : CoreCall) (answer : Once Placed) → added_by (op_of c) answer ≡ added_whole (op_of c) (whole_of answer)
+adds c (once.Done placed) = refl
+adds c (once.Spent clock) = refl
+adds c (once.Worn node word) = refl
+adds c (once.Again why) = refl
+
+-- one that took no place leaves the shape, or splits
+abbrev IsUnplaced : Whole → Type 0
+IsUnplaced (whole.Placed placed) = ⊥
+IsUnplaced _ = Unit {0}
+
+unplaced_shape : (c : CoreCall) (r : Whole) (s new : Index) → IsUnplaced r → (anchors_of (facts (world new)).list ≡ anchors_of (facts (world s)).list) ⊎ SplitsFor c s new → LeavesShape c r s new
+unplaced_shape (call.Put name value limit) (whole.Placed placed) s new none shape = absurd none
+unplaced_shape (call.Put name value limit) (whole.Worn node word) s new none shape = shape
+unplaced_shape (call.Put name value limit) (whole.Spent clock) s new none shape = shape
+unplaced_shape (call.Put name value limit) whole.Full s new none shape = shape
+unplaced_shape (call.Get name) r s new none shape = shape
+unplaced_shape (call.Del name limit) r s new none shape = shape
+
+-- one that split leaves the shape of that, whatever it is answered
+split_shape : (c : CoreCall) (r : Whole) (s new : Index) → SplitsFor c s new → LeavesShape c r s new
+split_shape (call.Put name value limit) (whole.Placed placed) s new cut = cut.1
+split_shape (call.Put name value limit) (whole.Worn node word) s new cut = inr cut
+split_shape (call.Put name value limit) (whole.Spent clock) s new cut = inr cut
+split_shape (call.Put name value limit) whole.Full s new cut = inr cut
+split_shape (call.Get name) r s new cut = absurd cut
+split_shape (call.Del name limit) r s new cut = absurd cut
+
+has_room : (o : Option ℕ) (n most : ℕ) → n ≤ most → ((o ≡ None) × (n ≡ most) → ⊥) → IsSome o ⊎ (n < most)
+has_room (Some value) n most few not_full = inl refl
+has_room None n most few not_full = inr (⊎_elim (λ (less : n < most). less) (λ (as_many : most ≤ n). absurd (not_full (refl, omega arith))) (cases_lt n most))
+
+-- the cause of an answer, and what it leaves of the history, of the list and of the shape
+record Ends (s0 s : Index) (i index : ℕ) (c : CoreCall) (r : Once Placed) : Type 0 where
+  cause : IsWholeAnswer s0 c s (whole_of r)
+  history : s.history ≡ s0.history ++ alone_writes i index c (whole_of r)
+  list : ((facts (world s)).list ≡ (facts (world s0)).list) ⊎ SplitsFor c s0 s
+  shape : LeavesShape c (whole_of r) s0 s
+
+-- a try that didn't split is the whole call
+module _ (s0 s : Index) (i : ℕ) (c : CoreCall) (is0 : IsIndex s0) (quiet0 : IsQuiet s0) (answer : Once Placed) (t : TriesAlone s0 i c s answer) where
+  rest0 : IsAtRest (world s0)
+  rest0 = rests s0 is0 quiet0
+
+  -- where it had room its shape is that of its put
+  placed_shape : (c : CoreCall) (placed : Placed) → IsName (name_asked (op_of c)) → (FindsFull (world s0) (op_of c) → ⊥) → (facts (world s)).list ≡ (facts (world s0)).list → LeavesShape c (whole.Placed placed) s0 s
+  placed_shape (call.Put name value limit) placed named not_full list =
+      ap anchors_of list ∙ sym (room_is_no_split (world s0) name rest0 named
+      (has_room (at (map_of_index s0) name) (target_names (world s0) name) s0.layout.slots (names_most s0.layout.slots (range_of s0.layout (facts (world s0)) (target_node (world s0) name)) ((facts (world s0)).now (target_node (world s0) name))) not_full)).1
+  placed_shape (call.Get name) placed named not_full list = inl (ap anchors_of list)
+  placed_shape (call.Del name limit) placed named not_full list = inl (ap anchors_of list)
+
+  ends : (r : Once Placed) → needs_split r ≡ false → IsAnswered (world s0) (op_of c) (limit_of c) (world s) (party_of t.state) r → Ends s0 s i t.state.index c r
+  ends (once.Worn node word) one (worn, node_is, word_is, same, list) = record {
+    cause = inl (worn, node_is, word_is);
+    history = same ∙ sym (append-nil s0.history);
+    list = inl list;
+    shape = unplaced_shape c (whole.Worn node word) s0 s tt (inl (ap anchors_of list));
+  }
+  ends (once.Spent clock) one (unworn, late, clock_is, same, list) = record {
+    cause = (unworn, late_is (limit_of c) (length s0.history) late, clock_is);
+    history = same ∙ sym (append-nil s0.history);
+    list = inl list;
+    shape = unplaced_shape c (whole.Spent clock) s0 s tt (inl (ap anchors_of list));
+  }
+  ends (once.Again again.NoFree) one (unworn, below, full, lacks, same, list) = record {
+    cause = (unworn, (λ over. below (late_was (limit_of c) (length s0.history) over)), no_room_is s0 c rest0 full lacks);
+    history = same ∙ sym (append-nil s0.history);
+    list = inl list;
+    shape = unplaced_shape c whole.Full s0 s tt (inl (ap anchors_of list));
+  }
+  ends (once.Again (again.NeedsSplit n)) one end = absurd (cc)
+  ends (once.Again (again.Locked n word)) one end = absurd end
+  ends (once.Again (again.Moved n first second)) one end = absurd end
+  ends (once.Again (again.Hops count)) one end = absurd end
+  ends (once.Again again.LogFull) one end = absurd end
+  ends (once.Again (again.Held word)) one end = absurd end
+  ends (once.Again (again.Epoch first second)) one end = absurd end
+  ends (once.Done placed) one ((unworn, below, not_full), old, place, hops, write, list) = record {
+    cause = (
+      (unworn, (λ over. below (late_was (limit_of c) (length s0.history) over)), (λ none. not_full (no_room_was s0 c rest0 none))),
+      old,
+      place,
+      hops ∙ ap (λ (l : List ListNode). position_from l (key_of (name_asked (op_of c)))) (sym list),
+    );
+    history = write ∙ ap (λ (j : ℕ). s0.history ++ alone_writes j t.state.index c (whole.Placed placed)) (is0.states i t.state t.there).caller;
+    list = inl list;
+    shape = placed_shape c placed t.named not_full list;
+  }
+
+  pub one_try : needs_split answer ≡ false → Ran s0 s i c answer
+  one_try one =
+      let end = ends answer one t.answered in
+      let added = adds c answer in
+      let before = t.weighs in
+      record {
+        state = t.state;
+        there = t.there;
+        cause = end.cause;
+        history = end.history;
+        states = t.states;
+        layout = t.layout;
+        generation = t.generation;
+        base = t.base;
+        list = end.list;
+        shape = end.shape;
+        weighs = omega arith;
+      }
+
+-- a split leaves the shape of its put, and whatever leaves the list then leaves that
+split_for : (s0 s1 : Index) (c : CoreCall) → IsAtRest (world s0) → s1.layout ≡ s0.layout → IsName (name_asked (op_of c)) → FindsFull (world s0) (op_of c) → IsHalvedSince (name_asked (op_of c)) (world s0) (world s1) → SplitsFor c s0 s1
+split_for s0 s1 (call.Put name value limit) rest layout named full halved = cut_is_split (world s0) (world s1) name rest layout named halved
+split_for s0 s1 (call.Get name) rest layout named full halved = absurd full
+split_for s0 s1 (call.Del name limit) rest layout named full halved = absurd full
+
+split_on : (s0 s1 s : Index) (c : CoreCall) → (facts (world s)).list ≡ (facts (world s1)).list → SplitsFor c s0 s1 → SplitsFor c s0 s
+split_on s0 s1 s (call.Put name value limit) list cut = (cut.0, ap anchors_of list ∙ cut.1)
+split_on s0 s1 s (call.Get name) list cut = absurd cut
+split_on s0 s1 s (call.Del name limit) list cut = absurd cut
+
+-- then the put has room
+split_has_room : (s0 s1 : Index) (c : CoreCall) → IsAtRest (world s1) → map_of_index s1 ≡ map_of_index s0 → IsHalvedSince (name_asked (op_of c)) (world s0) (world s1) → FindsFull (world s1) (op_of c) → ⊥
+split_has_room s0 s1 (call.Put name value limit) rest map halved full =
+    let less = cut_has_room (world s0) (world s1) name rest map halved in
+    let most = full.1 in
     omega arith
+split_has_room s0 s1 (call.Get name) rest map halved full = full
+split_has_room s0 s1 (call.Del name limit) rest map halved full = full
+
+-- and where a node was free it had room before
+free_is_room : (s : Index) (c : CoreCall) → HasFree s.layout s.generation s.words → FindsNoRoom c s → ⊥
+free_is_room s (call.Put name value limit) free none = free.unworn (none.2 free.node free.within free.free)
+free_is_room s (call.Get name) free none = none
+free_is_room s (call.Del name limit) free none = none
+
+-- what a try says that split
+record Split (s0 s1 : Index) (c : CoreCall) : Type 0 where
+  unworn : FindsWorn (world s0) (op_of c) → ⊥
+  below : IsLate (world s0) (limit_of c) → ⊥
+  full : FindsFull (world s0) (op_of c)
+  free : HasFree s0.layout s0.generation s0.words
+  history : s1.history ≡ s0.history
+  halved : IsHalvedSince (name_asked (op_of c)) (world s0) (world s1)
+
+-- a try that split, and another
+module _ (s0 s1 s : Index) (i : ℕ) (c : CoreCall) (is0 : IsIndex s0) (quiet0 : IsQuiet s0) (is1 : IsIndex s1) (quiet1 : IsQuiet s1) (first answer : Once Placed)
+    (t : TriesAlone s0 i c s1 first) (u : TriesAlone s1 i c s answer) (locks : locks_left s0 ≤ locks_left s1 + 1) where
+  rest_before : IsAtRest (world s0)
+  rest_before = rests s0 is0 quiet0
+
+  rest_between : IsAtRest (world s1)
+  rest_between = rests s1 is1 quiet1
+
+  splits_first : (r : Once Placed) → needs_split r ≡ true → IsAnswered (world s0) (op_of c) (limit_of c) (world s1) (party_of t.state) r → Split s0 s1 c
+  splits_first (once.Worn node word) again end = absurd (cc)
+  splits_first (once.Spent clock) again end = absurd (cc)
+  splits_first (once.Done placed) again end = absurd (cc)
+  splits_first (once.Again again.NoFree) again end = absurd (cc)
+  splits_first (once.Again (again.NeedsSplit n)) again (unworn, below, full, free, same, halved) = record { unworn = unworn; below = below; full = full; free = free; history = same; halved = halved }
+  splits_first (once.Again (again.Locked n word)) again end = absurd end
+  splits_first (once.Again (again.Moved n one two)) again end = absurd end
+  splits_first (once.Again (again.Hops count)) again end = absurd end
+  splits_first (once.Again again.LogFull) again end = absurd end
+  splits_first (once.Again (again.Held word)) again end = absurd end
+  splits_first (once.Again (again.Epoch one two)) again end = absurd end
+
+  module _ (cut : Split s0 s1 c) where
+    same_map : map_of_index s1 ≡ map_of_index s0
+    same_map = λ k. after_all (map_of (t.base k)) (cut.history k)
+
+    split : SplitsFor c s0 s1
+    split = split_for s0 s1 c rest_before t.layout t.named cut.full cut.halved
+
+    not_full : FindsFull (world s1) (op_of c) → ⊥
+    not_full = split_has_room s0 s1 c rest_between same_map cut.halved
+
+    no_locks : FindsWorn (world s1) (op_of c) → locks_left s1 ≡ 0
+    no_locks worn =
+        let n = target_node (world s1) (name_asked (op_of c)) in
+        worn_has_none s1.generation (facts (world s1)).version n s1.layout.nodes
+        (listed_within s1.layout (facts (world s1)) rest_between.list rest_between.row.layout n (target_in 0 (facts (world s1)).list (key_of (name_asked (op_of c))))) worn
+
+    ends_then : (r : Once Placed) → IsAnswered (world s1) (op_of c) (limit_of c) (world s) (party_of u.state) r → Ends s0 s i u.state.index c r
+    ends_then (once.Worn node word) (worn, node_is, word_is, same, list) =
+        let none = no_locks worn in
+        let split_now = split_on s0 s1 s c list split in
+        record {
+          cause = inr (
+            split_now,
+            omega arith,
+            node_is ∙ ap (λ (l : List ListNode). target_from 0 l (key_of (name_asked (op_of c)))) (sym list),
+            subst (λ (q : ℕ × ℕ). IsWorn q.0 q.1) (λ k. ((sym word_is) k, t.generation k)) (subst (λ (n : ℕ). IsWorn ((facts (world s1)).version n) s1.generation) (sym node_is) worn),
+          );
+          history = same ∙ cut.history ∙ sym (append-nil s0.history);
+          list = inr split_now;
+          shape = split_shape c (whole.Worn node word) s0 s split_now;
+        }
+    ends_then (once.Spent clock) (unworn, late, clock_is, same, list) =
+        absurd (cut.below (subst (λ (n : ℕ). IsTrue (is_spent (limit_of c) n)) (ap length cut.history) late))
+    ends_then (once.Again again.NoFree) (unworn, below, full, lacks, same, list) = absurd (not_full full)
+    ends_then (once.Again (again.NeedsSplit n)) (unworn, below, full, free, same, halved) = absurd (not_full full)
+    ends_then (once.Again (again.Locked n word)) end = absurd end
+    ends_then (once.Again (again.Moved n one two)) end = absurd end
+    ends_then (once.Again (again.Hops count)) end = absurd end
+    ends_then (once.Again again.LogFull) end = absurd end
+    ends_then (once.Again (again.Held word)) end = absurd end
+    ends_then (once.Again (again.Epoch one two)) end = absurd end
+    ends_then (once.Done placed) ((unworn, below, has_room_now), old, place, hops, write, list) =
+        let split_now = split_on s0 s1 s c list split in
+        record {
+          cause = (
+            (cut.unworn, (λ over. cut.below (late_was (limit_of c) (length s0.history) over)), (λ none. free_is_room s0 c cut.free none)),
+            old ∙ ap (λ (m : Map). at m (name_asked (op_of c))) same_map,
+            place ∙ ap length cut.history,
+            hops ∙ ap (λ (l : List ListNode). position_from l (key_of (name_asked (op_of c)))) (sym list),
+          );
+          history = write ∙ (λ k. cut.history k ++ alone_writes ((is1.states i u.state u.there).caller k) u.state.index c (whole.Placed placed));
+          list = inr split_now;
+          shape = split_shape c (whole.Placed placed) s0 s split_now;
+        }
+
+  -- the party keeps its index at the first try
+  keeps_index : (r : Once Placed) → needs_split r ≡ true → (state : PartyState) → state_tried (state_tried state (length s0.history) r) (length s1.history) answer ≡ state_tried state (length s1.history) answer
+  keeps_index (once.Worn node word) again state = absurd (cc)
+  keeps_index (once.Spent clock) again state = absurd (cc)
+  keeps_index (once.Done placed) again state = absurd (cc)
+  keeps_index (once.Again why) again state = refl
+
+  same_index : (r : Once Placed) → needs_split r ≡ true → (state : PartyState) → (state_tried state (length s0.history) r).index ≡ state.index
+  same_index (once.Worn node word) again state = absurd (cc)
+  same_index (once.Spent clock) again state = absurd (cc)
+  same_index (once.Done placed) again state = absurd (cc)
+  same_index (once.Again why) again state = refl
+
+  adds_nothing : (r : Once Placed) → needs_split r ≡ true → added_by (op_of c) r ≡ 0
+  adds_nothing (once.Worn node word) again = absurd (cc)
+  adds_nothing (once.Spent clock) again = absurd (cc)
+  adds_nothing (once.Done placed) again = absurd (cc)
+  adds_nothing (once.Again why) again = refl
+
+  pub two_tries : needs_split first ≡ true → Ran s0 s i c answer
+  two_tries again =
+      let cut = splits_first first again t.answered in
+      let end = ends_then cut answer u.answered in
+      let tried = state_tried t.state (length s0.history) first in
+      let now : u.state ≡ tried = some-injective _ _ (sym u.there ∙ ap (λ (l : List PartyState). get_elem? l i) t.states ∙ set_here s0.states i tried t.state t.there) in
+      let index : u.state.index ≡ t.state.index = ap (λ (d : PartyState). d.index) now ∙ same_index first again t.state in
+      let added = adds c answer in
+      let none = adds_nothing first again in
+      let before = t.weighs in
+      let after = u.weighs in
+      record {
+        state = t.state;
+        there = t.there;
+        cause = end.cause;
+        history = end.history ∙ ap (λ (j : ℕ). s0.history ++ alone_writes i j c (whole_of answer)) index;
+        states = u.states ∙ (λ k. slice_set (t.states k) i (state_tried (now k) (length s1.history) answer))
+            ∙ set_twice s0.states i tried (state_tried tried (length s1.history) answer)
+            ∙ ap (slice_set s0.states i) (keeps_index first again t.state)
+            ∙ ap (λ (n : ℕ). slice_set s0.states i (state_tried t.state n answer)) (ap length cut.history);
+        layout = u.layout ∙ t.layout;
+        generation = u.generation ∙ t.generation;
+        base = u.base ∙ t.base;
+        list = end.list;
+        shape = end.shape;
+        weighs = omega arith;
+      }
+
+-- the same of an index and an answer that equal those of the last try
+pub ran_once : {s0 s1 s : Index} {i : ℕ} {c : CoreCall} {first answer : Once Placed} → IsIndex s0 → IsQuiet s0 → TriesAlone s0 i c s1 first → needs_split first ≡ false
+    → s ≡ s1 → answer ≡ first → Ran s0 s i c answer
+ran_once {s0} {s1} {s} {i} {c} {first} {answer} is0 quiet0 t one same_index same_answer =
+    subst (λ (q : Index × Once Placed). Ran s0 q.0 i c q.1) (λ k. (sym same_index k, sym same_answer k)) (one_try s0 s1 i c is0 quiet0 first t one)
+
+pub ran_twice : {s0 s1 s2 s : Index} {i : ℕ} {c : CoreCall} {first second answer : Once Placed} → IsIndex s0 → IsQuiet s0 → IsIndex s1 → IsQuiet s1 → TriesAlone s0 i c s1 first → TriesAlone s1 i c s2 second
+    → locks_left s0 ≤ locks_left s1 + 1 → needs_split first ≡ true → s ≡ s2 → answer ≡ second → Ran s0 s i c answer
+ran_twice {s0} {s1} {s2} {s} {i} {c} {first} {second} {answer} is0 quiet0 is1 quiet1 t u locks again same_index same_answer =
+    subst (λ (q : Index × Once Placed). Ran s0 q.0 i c q.1) (λ k. (sym same_index k, sym same_answer k)) (two_tries s0 s1 s2 i c is0 quiet0 is1 quiet1 first second t u locks again)

@@ -1,6 +1,6 @@
 -- What a legal answer says, in the words of the op that it answers.
 use Rattle.std.proofs.Common.{◌≡◌, ◌⊎◌, ℕ, ◌+◌, ◌<◌, ◌≤◌, List, length, refl, sym, ap, ⊎_elim, ◌∙◌, subst, arith}
-use Rattle.std.specs.Prelude.{Option, Some, None, IfSome}
+use Rattle.std.specs.Prelude.{slice_get, Option, Some, None, IfSome}
 use Rattle.std.proofs.lemmas.Option.{slice_get_within}
 use Rattle.pm_words.specs.declared.again.Again.{Again}
 use Rattle.pm_words.specs.declared.again.Again.TheVariants.{NoFree, NeedsSplit}
@@ -9,6 +9,8 @@ use Rattle.pm_words.specs.declared.machine.Turn.{Turn}
 use Rattle.pm_words.specs.declared.machine.Turn.TheVariants.{Go, Done}
 use Rattle.cat_history.specs.Maps.{at}
 use Rattle.cat_history.specs.Writes.{after}
+use Rattle.cat_history.specs.declared.op.Change.{Change}
+use Rattle.cat_history.specs.declared.op.Change.TheVariants as change
 use Rattle.cat_history.specs.declared.op.Op.{Op}
 use Rattle.cat_history.specs.declared.op.Op.TheVariants as op
 use Rattle.cat_history.specs.declared.op.Write.{Write}
@@ -28,9 +30,11 @@ use Rattle.index_law.specs.Lawful.{HasWriteAt}
 use Rattle.index_law.specs.Laws.{HasNoRoom, IsCause, IsLegal}
 use Rattle.index_core.specs.declared.party.PartyState.{PartyState}
 use Rattle.index_core.specs.PartyStates.{stepped_of}
-use Rattle.index_core.specs.Answers.{TookPlace, FoundNoRoom, IsAnswerOf, SaysOf}
+use Rattle.index_core.specs.Answers.{HasOwnWrite, TookPlace, FoundNoRoom, IsAnswerOf, SaysOf}
 use Rattle.node_ops.specs.Endings.{place_for, limit_in}
 use Rattle.index_core.proofs.Endings.{EndsWith, ends_with}
+use Rattle.index_core.proofs.Lists.{some_same}
+use Rattle.index_core.proofs.Ordering.{OwnsWrites}
 
 -- what a legal answer says of a call that has this place and began below this limit
 abbrev Tells : ℕ → Facts → ℕ → ℕ → ℕ → List ℕ → Option ℕ → Option ℕ → Once Placed → Type 0
@@ -82,33 +86,52 @@ tells l g f caller index since name (Holds n w h) (once.Again why) legal about =
 inside : (history : List Write) (caller index : ℕ) (name : List ℕ) (place : ℕ) → HasWriteAt history caller index name place → place + 1 ≤ length history
 inside history caller index name place write = let within = slice_get_within history place _ write.stands in omega arith
 
-took_place : (slots : ℕ) (f : Facts) (caller index since : ℕ) (asked : Op) (limit : Option ℕ) (answer : Placed)
-    → Tells slots f caller index since (name_asked asked) limit (place_for (change_of asked) answer.place) (once.Done answer) → TookPlace f.base f.history caller index since asked limit answer
-took_place slots f caller index since (op.Get name) limit answer is = record { later = is.0; within = is.1; below = is.4; old = is.2; write = tt }
-took_place slots f caller index since (op.Put name value) limit answer is =
-    record { later = is.0; within = inside f.history caller index name answer.place is.3.1; below = is.4; old = is.2; write = is.3.1 }
-took_place slots f caller index since (op.Del name) limit answer is =
-    record { later = is.0; within = inside f.history caller index name answer.place is.3.1; below = is.4; old = is.2; write = is.3.1 }
+-- the write that stands there of the call has its change
+own_stands : (history : List Write) (caller index since place : ℕ) (name : List ℕ) (o : Option Change) → since ≤ place
+    → ((write : Write) → slice_get history place ≡ Some write → write.caller ≡ caller → since ≤ place → o ≡ Some write.change) → HasWriteAt history caller index name place → HasOwnWrite history caller index o place
+own_stands history caller index since place name None later own write = tt
+own_stands history caller index since place name (Some change) later own write =
+    let same : write.change ≡ change = some_same (sym (own _ write.stands refl later)) in
+    subst (λ (c : Change). slice_get history place ≡ Some (record { caller = caller; index = index; change = c })) same write.stands
 
-answer_of : (l : Layout) (g : ℕ) (f : Facts) (e : PartyState) (m : Running) (answer : Once Placed) → IsOf (op_in m) m → IsRunning m → EndsWith m answer
+took_place : (slots : ℕ) (f : Facts) (caller index since : ℕ) (asked : Op) (limit : Option ℕ) (answer : Placed)
+    → ((write : Write) → slice_get f.history answer.place ≡ Some write → write.caller ≡ caller → since ≤ answer.place → change_of asked ≡ Some write.change)
+    → Tells slots f caller index since (name_asked asked) limit (place_for (change_of asked) answer.place) (once.Done answer) → TookPlace f.base f.history caller index since asked limit answer
+took_place slots f caller index since (op.Get name) limit answer own is = record { later = is.0; within = is.1; below = is.4; old = is.2; write = tt }
+took_place slots f caller index since (op.Put name value) limit answer own is = record {
+  later = is.0;
+  within = inside f.history caller index name answer.place is.3.1;
+  below = is.4;
+  old = is.2;
+  write = own_stands f.history caller index since answer.place name (Some (change.Put name value)) is.0 own is.3.1;
+}
+took_place slots f caller index since (op.Del name) limit answer own is = record {
+  later = is.0;
+  within = inside f.history caller index name answer.place is.3.1;
+  below = is.4;
+  old = is.2;
+  write = own_stands f.history caller index since answer.place name (Some (change.Del name)) is.0 own is.3.1;
+}
+
+answer_of : (l : Layout) (g : ℕ) (f : Facts) (e : PartyState) (m : Running) (answer : Once Placed) → IsOf (op_in m) m → IsRunning m → OwnsWrites f.history e m → EndsWith m answer
     → IsLegal l g f e.caller e.index e.since (stage_of m) (Some answer) → IsAnswerOf l.slots f.base f.history e (op_in m) (running_call m).limit answer
-answer_of l g f e m (once.Done placed) of sound ends legal =
-    took_place l.slots f e.caller e.index e.since (op_in m) (running_call m).limit placed
+answer_of l g f e m (once.Done placed) of sound own ends legal =
+    took_place l.slots f e.caller e.index e.since (op_in m) (running_call m).limit placed (own placed.place)
     (subst (λ (p : Option ℕ × Option ℕ). Tells l.slots f e.caller e.index e.since (name_asked (op_in m)) p.0 p.1 (once.Done placed)) (λ k. (ends.1 k, ends.0 k))
     (tells l g f e.caller e.index e.since (name_asked (op_in m)) (stage_of m) (once.Done placed) legal (holds_own_name (op_in m) m of)))
-answer_of l g f e m (once.Spent clock) of sound ends legal =
+answer_of l g f e m (once.Spent clock) of sound own ends legal =
     let told = tells l g f e.caller e.index e.since (name_asked (op_in m)) (stage_of m) (once.Spent clock) legal (holds_own_name (op_in m) m of) in
     record { reached = ends.1; later = told.0; within = told.1 }
-answer_of l g f e m (once.Worn node word) of sound ends legal = tt
-answer_of l g f e m (once.Again why) of sound ends legal = λ is.
+answer_of l g f e m (once.Worn node word) of sound own ends legal = tt
+answer_of l g f e m (once.Again why) of sound own ends legal = λ is.
     (ends.1 is, tells l g f e.caller e.index e.since (name_asked (op_in m)) (stage_of m) (once.Again why) legal (holds_own_name (op_in m) m of) is)
 
 -- what a step of a call comes to, where an answer is legal
-pub says_of : (l : Layout) (g : ℕ) (f : Facts) (e : PartyState) (m : Running) (x : ℕ) → IsOf (op_in m) m → IsRunning m → IsLegal l g f e.caller e.index e.since (stage_of m) (reply_of (running_turned m x))
+pub says_of : (l : Layout) (g : ℕ) (f : Facts) (e : PartyState) (m : Running) (x : ℕ) → IsOf (op_in m) m → IsRunning m → OwnsWrites f.history e m → IsLegal l g f e.caller e.index e.since (stage_of m) (reply_of (running_turned m x))
     → SaysOf l.slots f.base f.history e (op_in m) (running_call m).limit (stepped_of (running_turned m x))
-says_of l g f e m x of sound legal = at (running_turned m x) refl legal
+says_of l g f e m x of sound own legal = at (running_turned m x) refl legal
   where
     at : (turn : Turn Running (Once Placed)) → running_turned m x ≡ turn → IsLegal l g f e.caller e.index e.since (stage_of m) (reply_of turn)
         → SaysOf l.slots f.base f.history e (op_in m) (running_call m).limit (stepped_of turn)
     at (Go next) is legal = tt
-    at (Done answer) is legal = answer_of l g f e m answer of sound (ends_with m x answer sound is) legal
+    at (Done answer) is legal = answer_of l g f e m answer of sound own (ends_with m x answer sound is) legal

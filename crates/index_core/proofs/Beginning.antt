@@ -1,5 +1,5 @@
 -- What holds along a schedule stays with a start, and with a whole call that is alone.
-use Rattle.std.proofs.Common.{◌≡◌, ◌==◌, ◌≢◌, ℕ, ◌+◌, ◌<◌, ◌≤◌, ◌⊎◌, inl, inr, ⊎_elim, List, [], ◌∷◌, ◌++◌, length, set, slice_set, refl, sym, ap, ◌∙◌, subst, arith}
+use Rattle.std.proofs.Common.{◌≡◌, true, ◌==◌, ◌≢◌, ℕ, ◌+◌, ◌<◌, ◌≤◌, ◌⊎◌, inl, inr, ⊎_elim, List, [], ◌∷◌, ◌++◌, length, set, slice_set, refl, sym, ap, ◌∙◌, subst, arith}
 use Rattle.std.specs.Prelude.{Option, Some, None, IfSome, IsSomeAnd, slice_get}
 use Rattle.std.proofs.lemmas.List.{append-nil, length-append}
 use Rattle.std.proofs.Math.Nat.{min-eq_left}
@@ -38,9 +38,10 @@ use Rattle.index_core.specs.CoreCalls.{machine_of, op_of, limit_of}
 use Rattle.index_core.specs.PartyStates.{state_with, next_index}
 use Rattle.index_core.specs.Indexes.{Index, IsIndex, map_of_index, view_of, started_index}
 use Rattle.index_core.specs.Lone.{IsQuiet, FindsNoRoom, names_beside, node_for, IsWholeAnswer, alone_writes, state_done}
-use Rattle.index_core.specs.Schedules.{BegunCall, AnsweredCall, begun_call, flying_call, once_of, IsNext, flying_in, IsAnsweredWrite, IsWriteInFlight, AreCounted}
-use Rattle.index_core.proofs.Alone.{begins_limit}
+use Rattle.index_core.specs.Schedules.{BegunCall, AnsweredCall, begun_call, flying_call, once_of, IsNext, IsNextIndex, flying_in, IsAnsweredWrite, IsWriteInFlight, AreCounted}
+use Rattle.index_core.proofs.Tries.{begins_limit}
 use Rattle.index_core.proofs.Flights.{each_starts, each_alone}
+use Rattle.index_core.proofs.Indexed.{next_other, next_own, indexes_push, states_set}
 use Rattle.index_core.proofs.Lists.{within, at_end, end_there, got_end}
 use Rattle.index_core.proofs.Scheduling.{IsEarlier, AnswerHolds, CallHolds, in_flight, CountsUpTo, Kept, longer_call, else_there}
 
@@ -125,6 +126,8 @@ module _ (first : Index) (begun : List BegunCall) (calls : List AnsweredCall) (s
             }))
             (k.writes place write stands);
         next = k.next;
+        indexes = k.indexes;
+        states_count = states_set first calls s.states i now (λ p state other at_p. k.states_count p state at_p) (k.states_count i e there);
         each_call = each_starts begun calls s.states k.each_call i e now there b (ap (flying_in e) idle) (ap (λ (c : BegunCall). c ∷ []) now_flies);
         counts = counts_more now (omega arith);
       }
@@ -137,7 +140,7 @@ module _ (first : Index) (begun : List BegunCall) (calls : List AnsweredCall) (s
               cc
 
     -- a whole call
-    module _ (result : Whole) (quiet : IsQuiet s) (is : IsWholeAnswer s c result) where
+    module _ (result : Whole) (new : Index) (quiet : IsQuiet s) (is : IsWholeAnswer s c new result) where
       abbrev base : Map
       base = map_of first.base
 
@@ -145,7 +148,7 @@ module _ (first : Index) (begun : List BegunCall) (calls : List AnsweredCall) (s
       history = s.history ++ alone_writes e.caller e.index c result
 
       abbrev a : AnsweredCall
-      a = record { call = b; until = length history; answer = once_of result; next = next_index e.index }
+      a = record { call = b; until = length history; answer = once_of result; whole = true; next = next_index e.index }
 
       abbrev done : PartyState
       done = state_done e (length s.history)
@@ -157,38 +160,31 @@ module _ (first : Index) (begun : List BegunCall) (calls : List AnsweredCall) (s
       -- it took place at the end of the history
       took : (o : Op) (placed : Placed) → IfSome (limit_of c) (λ most. length s.history < most) → placed.old ≡ at (map_of_index s) (name_asked o) → placed.place ≡ length s.history
           → TookPlace base (s.history ++ written e.caller e.index (change_of o)) e.caller e.index (length s.history) o (limit_of c) placed
-          × IfSome (change_of o) (λ c. slice_get (s.history ++ written e.caller e.index (change_of o)) placed.place ≡ Some (record { caller = e.caller; index = e.index; change = c }))
       took (op.Get name) placed below old last =
-          let long = length-append s.history [] in (
-            record { later = omega arith; within = omega arith; below = below; old = old ∙ ap (λ (m : Map). at m name) (sym (map_is [] placed.place last)); write = tt },
-            tt,
-          )
+          let long = length-append s.history [] in
+          record { later = omega arith; within = omega arith; below = below; old = old ∙ ap (λ (m : Map). at m name) (sym (map_is [] placed.place last)); write = tt }
       took (op.Put name value) placed below old last =
           let w : Write = record { caller = e.caller; index = e.index; change = change.Put name value } in
           let long = length-append s.history (w ∷ []) in
-          let stands : slice_get (s.history ++ w ∷ []) placed.place ≡ Some w = ap (slice_get (s.history ++ w ∷ [])) last ∙ slice_get-last s.history w in (
-            record {
-              later = omega arith;
-              within = omega arith;
-              below = below;
-              old = old ∙ ap (λ (m : Map). at m name) (sym (map_is (w ∷ []) placed.place last));
-              write = record { change = w.change; about = refl; stands = stands };
-            },
-            stands,
-          )
+          let stands : slice_get (s.history ++ w ∷ []) placed.place ≡ Some w = ap (slice_get (s.history ++ w ∷ [])) last ∙ slice_get-last s.history w in
+          record {
+            later = omega arith;
+            within = omega arith;
+            below = below;
+            old = old ∙ ap (λ (m : Map). at m name) (sym (map_is (w ∷ []) placed.place last));
+            write = stands;
+          }
       took (op.Del name) placed below old last =
           let w : Write = record { caller = e.caller; index = e.index; change = change.Del name } in
           let long = length-append s.history (w ∷ []) in
-          let stands : slice_get (s.history ++ w ∷ []) placed.place ≡ Some w = ap (slice_get (s.history ++ w ∷ [])) last ∙ slice_get-last s.history w in (
-            record {
-              later = omega arith;
-              within = omega arith;
-              below = below;
-              old = old ∙ ap (λ (m : Map). at m name) (sym (map_is (w ∷ []) placed.place last));
-              write = record { change = w.change; about = refl; stands = stands };
-            },
-            stands,
-          )
+          let stands : slice_get (s.history ++ w ∷ []) placed.place ≡ Some w = ap (slice_get (s.history ++ w ∷ [])) last ∙ slice_get-last s.history w in
+          record {
+            later = omega arith;
+            within = omega arith;
+            below = below;
+            old = old ∙ ap (λ (m : Map). at m name) (sym (map_is (w ∷ []) placed.place last));
+            write = stands;
+          }
 
       -- a put that found no room found none at the end of the history
       lacked_room : (d : CoreCall) → FindsNoRoom d s → IsPutOp (op_of d) × FoundNoRoom first.layout.slots base (s.history ++ []) (length s.history) (length (s.history ++ [])) (name_asked (op_of d))
@@ -211,9 +207,9 @@ module _ (first : Index) (begun : List BegunCall) (calls : List AnsweredCall) (s
       lacked_room (call.Get name) none = absurd none
       lacked_room (call.Del name limit) none = absurd none
 
-      tells : (r : Whole) → IsWholeAnswer s c r
+      tells : (r : Whole) → IsWholeAnswer s c new r
           → AnswerHolds first.layout.slots base (s.history ++ alone_writes e.caller e.index c r) b (length (s.history ++ alone_writes e.caller e.index c r)) (once_of r)
-      tells (whole.Placed placed) why = let both = took (op_of c) placed (below_limit (limit_of c) (length s.history) why.0.1) why.1 why.2 in (both.0, both.0.within, both.1)
+      tells (whole.Placed placed) why = let both = took (op_of c) placed (below_limit (limit_of c) (length s.history) why.0.1) why.1 why.2 in (both, both.within)
       tells whole.Full why = λ full. lacked_room c why.2
       tells (whole.Spent clock) why =
           let last = why.2 in
@@ -222,7 +218,7 @@ module _ (first : Index) (begun : List BegunCall) (calls : List AnsweredCall) (s
       tells (whole.Worn node word) why = tt
 
       -- its write is the last
-      last_write : (r : Whole) → IsWholeAnswer s c r → (place : ℕ) (write : Write) → slice_get (s.history ++ alone_writes e.caller e.index c r) place ≡ Some write
+      last_write : (r : Whole) → IsWholeAnswer s c new r → (place : ℕ) (write : Write) → slice_get (s.history ++ alone_writes e.caller e.index c r) place ≡ Some write
           → (slice_get s.history place ≡ Some write) ⊎ ((placed : Placed) × (once_of r ≡ once.Done placed) × (placed.place ≡ place) × (write.caller ≡ e.caller) × (write.index ≡ e.index) × (change_of (op_of c) ≡ Some write.change))
       last_write (whole.Placed placed) why place write stands = at (change_of (op_of c)) refl stands
         where
@@ -240,9 +236,9 @@ module _ (first : Index) (begun : List BegunCall) (calls : List AnsweredCall) (s
       last_write (whole.Worn node word) why place write stands = inl (subst (λ (h : List Write). slice_get h place ≡ Some write) (append-nil s.history) stands)
 
       -- it counts whatever it is answered
-      next_alone : (r : Whole) → IsNext e.index (next_index e.index) (once_of r)
+      next_alone : (r : Whole) → IsNext e.index (next_index e.index) true (once_of r)
       next_alone (whole.Placed placed) = went_up
-      next_alone whole.Full = inr went_up
+      next_alone whole.Full = went_up
       next_alone (whole.Spent clock) = went_up
       next_alone (whole.Worn node word) = went_up
 
@@ -325,8 +321,12 @@ module _ (first : Index) (begun : List BegunCall) (calls : List AnsweredCall) (s
             (last_write result is place write stands));
         next = λ j d at. ⊎_elim
             (λ (old : get_elem? calls j ≡ some d). k.next j d old)
-            (λ (last : (j ≡ length calls) × (a ≡ d)). subst (λ (q : AnsweredCall). IsNext q.call.index q.next q.answer) last.1 (next_alone result))
+            (λ (last : (j ≡ length calls) × (a ≡ d)). subst (λ (q : AnsweredCall). IsNext q.call.index q.next q.whole q.answer) last.1 (next_alone result))
             (at_end calls a d j at);
+        indexes = indexes_push first calls a k.indexes (subst (λ (q : ℕ). IsNextIndex first calls q e.index) (sym caller_is) (k.states_count i e there));
+        states_count = states_set first (calls ++ a ∷ []) s.states i done
+            (λ p state other at_p. next_other first calls a p state.index (λ same. other (sym same ∙ caller_is)) (k.states_count p state at_p))
+            (next_own first calls a i e.index done.index caller_is (next_alone result) (k.states_count i e there));
         each_call = each_alone begun calls s.states k.each_call i e done there a (ap (flying_in e) idle) refl;
         counts = counts_more done (let up = went_up in omega arith);
       }

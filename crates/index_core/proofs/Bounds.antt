@@ -31,7 +31,8 @@ use Rattle.index_law.specs.Lawful.{Sure}
 use Rattle.index_law.proofs.Parties.{at_set}
 use Rattle.index_core.specs.declared.party.PartyState.{PartyState}
 use Rattle.index_core.specs.PartyStates.{machine_stage, party_of, state_after, state_counted}
-use Rattle.index_core.specs.Indexes.{parties_of, Index, IsIndex, HasLimit, IsBounded, MakesCall, world, told}
+use Rattle.index_core.specs.Indexes.{IsOwnWrite, parties_of, Index, IsIndex, HasLimit, IsBounded, MakesCall, world, told}
+use Rattle.index_core.proofs.Owing.{splitting_counts}
 use Rattle.index_core.proofs.Lists.{map_there, got_end, some_same, within}
 use Rattle.std.proofs.lemmas.Bool.{cases_lt}
 use Rattle.std.proofs.lemmas.Map.Made.{distinct_count-le}
@@ -40,7 +41,6 @@ use Rattle.node_ops.specs.declared.lookup.LookupAt.{LookupAt}
 use Rattle.node_ops.specs.declared.finish.Finish.{Finish}
 use Rattle.node_ops.specs.declared.finish.FinishAt.{FinishAt}
 use Rattle.node_ops.specs.declared.finish.FinishAt.TheVariants as finish_at
-use Rattle.node_ops.specs.declared.lookup.Hold.{Hold}
 use Rattle.node_ops.specs.declared.get.Get.TheVariants as get
 use Rattle.node_ops.specs.declared.put.Put.TheVariants as put
 use Rattle.node_ops.specs.declared.del.Del.TheVariants as del
@@ -87,7 +87,7 @@ bounded_small s is =
 
 -- a call that counts has loaded a clock below its own limit
 finish_limit : (finish : Finish) (at : FinishAt) → (finish_at_held finish at).limit ≡ finish.call.limit
-finish_limit finish (finish_at.Fence fence) = refl
+finish_limit finish (finish_at.Fence line fence) = refl
 finish_limit finish finish_at.Add = refl
 finish_limit finish (finish_at.Unlock place) = refl
 
@@ -101,7 +101,7 @@ counts_in_time (Putting (put.Looking lookup value)) c is = looking lookup.call l
 counts_in_time (Putting (put.Filling fill)) c is = refl
 counts_in_time (Putting (put.Replacing call hold bitmap hit value)) c is = refl
 counts_in_time (Putting (put.Finishing finish)) c is = finish_limit finish finish.at
-counts_in_time (Putting (put.Refusing call hold bitmap value)) c is = refl
+counts_in_time (Putting (put.Splitting call hold bitmap value split)) c is = absurd (let both : None ≡ Some c = sym (splitting_counts call hold bitmap value split) ∙ is in cc)
 counts_in_time (Deleting (del.Looking lookup)) c is = looking lookup.call lookup.at c is
 counts_in_time (Deleting (del.Clearing call hold bitmap hit)) c is = refl
 counts_in_time (Deleting (del.Finishing finish)) c is = finish_limit finish finish.at
@@ -156,7 +156,7 @@ module _ (s : Index) (i : ℕ) (e : PartyState) (m : Running) (is : IsIndex s) (
       let below = under (running_call m).limit e.since (2 ^ 62) fits (subst (λ (o : Option ℕ). IfSome o (λ most. e.since < most)) (counts_in_time m c counts) known.below) in
       ⊎_elim
       (λ (before : p < e.since). omega arith)
-      (λ (own : placed_in (stage_of m) ≡ Some p). absurd (let both : None ≡ Some p = sym known.unplaced ∙ own in cc))
+      (λ (own : IsOwnWrite e m p w). absurd (let both : None ≡ Some p = sym known.unplaced ∙ own.placed in cc))
       (is.ordered i p e m w there flies at by)
 
   limit_on : (next : Running) → IsSame (running_call m) (running_call next) → op_in next ≡ op_in m → HasLimit m → HasLimit next

@@ -1,6 +1,6 @@
 -- What an eviction keeps, and what a crash leaves of a lawful index.
-use Rattle.std.proofs.Common.{◌≡◌, ℕ, zero, suc, ◌<◌, ◌≤◌, List, [], ◌∷◌, refl, sym, ap, ◌∙◌, subst, arith}
-use Rattle.std.specs.Prelude.{Option, Some, None, IfSome, Contains}
+use Rattle.std.proofs.Common.{◌≡◌, ⊎_elim, ℕ, zero, suc, ◌<◌, ◌≤◌, List, [], ◌∷◌, refl, sym, ap, ◌∙◌, subst, arith}
+use Rattle.std.specs.Prelude.{Option, Some, None, IfSome, IsSomeAnd, slice_get, Contains}
 use Rattle.std.proofs.lemmas.List.Elements.{Contains-append_left, Contains-append_right}
 use mathlib.Core.Option.{some, some-injective, some-ne-none}
 use lib.ListN.{get_elem?}
@@ -28,17 +28,21 @@ use Rattle.index_core.specs.declared.party.PartyState.{PartyState}
 use Rattle.index_core.specs.Crashes.{IsCrash, AreRunning, evicted_index, unplaced, cut_change, cut_changes}
 use Rattle.index_core.specs.PartyStates.{machine_stage, party_of}
 use Rattle.index_core.specs.Weights.{crash_weight}
-use Rattle.index_core.specs.Indexes.{Index, IsIndex, world}
+use Rattle.index_core.specs.Indexes.{Index, IsIndex, IsOwnWrite, footed, world}
+use Rattle.index_core.proofs.Footed.{evict_footed}
 use Rattle.index_core.proofs.Lists.{map_there, map_from}
 
 pub evict_keeps : (s : Index) (word : ℕ) → IsIndex s → word < image_words s.layout → IsIndex (evicted_index s word)
-evict_keeps s word is within = record {
-  lawful = evict_law (world s) word is.lawful within;
-  parties = is.parties;
-  states = is.states;
-  ordered = is.ordered;
-  bounded = is.bounded;
-}
+evict_keeps s word is within =
+    let kept = evict_footed (footed s) word (is.whole, is.tended) within in record {
+      lawful = evict_law (world s) word is.lawful within;
+      whole = kept.0;
+      tended = kept.1;
+      parties = is.parties;
+      states = is.states;
+      ordered = is.ordered;
+      bounded = is.bounded;
+    }
 
 -- the index with this row
 abbrev pub with_row : Index → Row → Index
@@ -122,5 +126,12 @@ crash_is s image cuts is leaves cut_off =
       end = image_map s.layout (durable_row s.layout s.words);
       keeps = law.keeps;
       ends = law.ends (cut_changes s.states) (pending_there s is);
-      placed = λ i place state machine there flies told. (placed_since s is i place state machine there flies told).write;
+      placed = λ i place state machine there flies told.
+          let at = placed_since s is i place state machine there flies told in
+          let later = at.later in
+          ⊎_elim
+          (λ (before : place < state.since). absurd (omega arith))
+          (λ (own : IsOwnWrite state machine place (record { caller = state.caller; index = state.index; change = at.write.change })).
+          subst (λ (o : Option Change). IsSomeAnd o (λ change. slice_get s.history place ≡ Some (record { caller = state.caller; index = state.index; change = change }))) (sym own.change) at.write.stands)
+          (is.ordered i place state machine _ there flies at.write.stands refl);
     }

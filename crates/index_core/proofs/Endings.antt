@@ -1,19 +1,18 @@
 -- How a call comes to its answer: what the laws of its machine say, by answer.
-use Rattle.std.proofs.Common.{◌≡◌, ℕ, ◌≤◌, refl, subst}
-use Rattle.std.specs.Prelude.{Option, Some, None, IsSomeAnd}
+use Rattle.std.proofs.Common.{◌≡◌, ℕ, ◌≤◌, subst}
+use Rattle.std.specs.Prelude.{None, IsSomeAnd}
 use Rattle.pm_words.specs.declared.again.Again.TheVariants.{NoFree}
-use Rattle.pm_words.specs.declared.machine.Turn.{Turn}
-use Rattle.pm_words.specs.declared.machine.Turn.TheVariants.{Go, Done}
+use Rattle.pm_words.specs.declared.machine.Turn.TheVariants.{Done}
 use Rattle.cat_history.specs.Records.{change_of}
 use Rattle.call_stages.specs.declared.once.Once.{Once}
 use Rattle.call_stages.specs.declared.once.Once.TheVariants as once
 use Rattle.call_stages.specs.declared.once.Placed.{Placed}
-use Rattle.call_stages.specs.Stages.{counted, placed_in}
+use Rattle.call_stages.specs.Stages.{placed_in}
 use Rattle.node_ops.specs.declared.running.Running.{Running}
 use Rattle.node_ops.specs.RunningSteps.{IsRunning, running_call, running_turned}
 use Rattle.node_ops.specs.CallStages.{stage_of}
 use Rattle.node_ops.specs.Asked.{op_in}
-use Rattle.node_ops.specs.Endings.{IsDone, IsPutOp, place_for, limit_in}
+use Rattle.node_ops.specs.Endings.{IsPutOp, place_for, limit_in}
 use Rattle.node_ops.proofs.Endings.{done_is_counted, spent_is_late, no_free_is_of_puts, refused_is_uncounted}
 
 abbrev pub EndsWith : Running → Once Placed → Type 0

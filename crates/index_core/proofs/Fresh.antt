@@ -1,5 +1,5 @@
 -- A fresh index is lawful.
-use Rattle.std.proofs.Common.{◌≡◌, ℕ, zero, suc, ◌+◌, ◌-◌, ◌<◌, ◌≤◌, List, [], map, refl, sym, ap, ◌∙◌, subst, arith}
+use Rattle.std.proofs.Common.{◌≡◌, ℕ, zero, suc, ◌<◌, ◌≤◌, List, [], map, refl, sym, ap, ◌∙◌, subst, arith}
 use Rattle.std.specs.Prelude.{Some, None}
 use mathlib.Core.Option.{some}
 use lib.ListN.{get_elem?}
@@ -19,6 +19,8 @@ use Rattle.index_core.specs.declared.party.PartyState.{PartyState}
 use Rattle.index_core.specs.Fresh.{IsFreshIndex}
 use Rattle.index_core.specs.Indexes.{Index, IsIndex, parties_of}
 use Rattle.index_core.specs.Lone.{IsQuiet, locks_left}
+use Rattle.index_core.proofs.Footed.{fresh_footed}
+use Rattle.index_core.proofs.Footings.{line_of, debt_of, free_states}
 use Rattle.index_core.proofs.Lists.{map_from, idle-length, idle-each}
 
 abbrev pub fresh_index : Layout → Index
@@ -32,10 +34,15 @@ fresh_is l layout =
     (λ P idle i p at. let from = map_from party_of (idle_states n) i p at in
     subst P (ap party_of (sym (idle-each n i from.0 from.1)) ∙ from.2) (idle i)) in
     let rest = fresh_law l parties layout (each (λ p. p.stage ≡ Idle) (λ i. refl)) (each (λ p. p.since ≤ 0) (λ i. omega arith)) in
+    let none = λ (i : ℕ) (state : PartyState) (at : get_elem? (idle_states n) i ≡ some state). ap (λ (d : PartyState). d.machine) (idle-each n i state at) in
+    let number = λ (i : ℕ) (state : PartyState) (at : get_elem? (idle_states n) i ≡ some state). ap (λ (d : PartyState). d.caller) (idle-each n i state at) in
+    let footed = fresh_footed l parties (map line_of (idle_states n)) (map debt_of (idle_states n)) layout (free_states (idle_states n) none number) (each (λ p. p.since ≤ 0) (λ i. omega arith)) in
     record {
       lawful = rest_law (fresh_world l parties) rest;
+      whole = footed.0;
+      tended = footed.1;
       parties = idle-length n;
-      states = λ i state at. subst (IsPartyState l 1 i) (sym (idle-each n i state at)) (record { caller = refl; machine = tt; op = tt });
+      states = λ i state at. subst (IsPartyState l 1 i) (sym (idle-each n i state at)) (record { caller = refl; machine = tt; op = tt; own = tt });
       ordered = λ i place state machine write at flies stands caller. absurd (let none : None ≡ Some write = stands in cc);
       bounded = record {
         limits = λ i e m at flies. absurd (let both : None ≡ Some m = ap (λ (d : PartyState). d.machine) (sym (idle-each n i e at)) ∙ flies in cc);

@@ -16,7 +16,7 @@ use Rattle.std.proofs.lemmas.Map.Made.{Contains-tail}
 use Rattle.std.proofs.lemmas.Option.{slice_get-get_or, slice_get_within, get_or_from_slice_get, option_and_then_some}
 use mathlib.Core.Option.{some, some-injective, some-ne-none}
 use lib.ListN.{get_elem?}
-use Rattle.cat_history.specs.Maps.{Map, at}
+use Rattle.cat_history.specs.Maps.{map_of, Map, at}
 use Rattle.cat_history.specs.Writes.{after}
 use Rattle.cat_history.specs.Records.{call_of, change_of, placed_write, placed_writes, interval, interval_at}
 use Rattle.cat_history.specs.Rounds.{IsAnswer, KeepsCallersOrder}
@@ -180,7 +180,10 @@ answer-of base history (op.Put name value) placed is = is
 answer-of base history (op.Get name) placed is = is
 answer-of base history (op.Del name) placed is = is
 
-module _ (base : Map) (begun : List BegunCall) (calls : List AnsweredCall) (s : Index) (legal : IsLegalHistory base begun calls s) where
+module _ (initial : Index) (begun : List BegunCall) (calls : List AnsweredCall) (s : Index) (legal : IsLegalHistory initial begun calls s) where
+  abbrev base : Map
+  base = map_of initial.base
+
   placed-legal : (i : ℕ) (c : AnsweredCall) (placed : Placed) → get_elem? calls i ≡ some c → c.answer ≡ once.Done placed → IsPlacedCall base s.history c.call c.until placed
   placed-legal i c placed there is = subst (IsLegalAnswer s.layout.slots base s.history c.call c.until c.next) is (legal.answers i c there).answer
 
@@ -188,7 +191,7 @@ module _ (base : Map) (begun : List BegunCall) (calls : List AnsweredCall) (s : 
   rises : (i j : ℕ) (a b : AnsweredCall) (placed : Placed) → get_elem? calls i ≡ some a → get_elem? calls j ≡ some b → i < j → a.call.caller ≡ b.call.caller →
       a.answer ≡ once.Done placed → a.call.index < b.call.index
   rises i j a b placed at_i at_j less caller is =
-      let next : a.next ≡ a.call.index + 1 = subst (IsNext a.call.index a.next) is (legal.answers i a at_i).next in
+      let next : a.next ≡ a.call.index + 1 = subst (IsNext a.call.index a.next a.whole) is (legal.answers i a at_i).next in
       let before = (legal.in_order i j a b at_i at_j less caller).index in
       omega arith
 
@@ -268,10 +271,10 @@ module _ (base : Map) (begun : List BegunCall) (calls : List AnsweredCall) (s : 
       (cases_order by_r.0 by_t.0)))
 
 pub legal_history_is_legal_round : LegalHistoryIsLegalRound
-legal_history_is_legal_round base begun calls s legal quiet = record {
+legal_history_is_legal_round initial begun calls s legal quiet = record {
   each_call = IsPermutation-refl (map call_of (records_of calls));
-  by_place = by-place base begun calls s legal quiet;
-  answers = each-record base begun calls s legal (λ r. IsAnswer base s.history r.op r.reply) (λ i c placed is. answer-of base s.history c.call.op placed is.took.old);
-  within = each-record base begun calls s legal (λ r. IfSome (interval r) (λ i. i.end ≤ length s.history)) (λ i c placed is. is.took.within);
-  in_order = in-order base begun calls s legal;
+  by_place = by-place initial begun calls s legal quiet;
+  answers = each-record initial begun calls s legal (λ r. IsAnswer (map_of initial.base) s.history r.op r.reply) (λ i c placed is. answer-of (map_of initial.base) s.history c.call.op placed is.took.old);
+  within = each-record initial begun calls s legal (λ r. IfSome (interval r) (λ i. i.end ≤ length s.history)) (λ i c placed is. is.took.within);
+  in_order = in-order initial begun calls s legal;
 }

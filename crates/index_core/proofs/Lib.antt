@@ -2,6 +2,8 @@ pub mod Lists
 pub mod Owing
 pub mod Ordering
 pub mod Bounds
+pub mod Footed
+pub mod Footings
 pub mod Stepping
 pub mod Reading
 pub mod Crashing
@@ -11,10 +13,12 @@ pub mod Flights
 pub mod Scheduling
 pub mod Beginning
 pub mod Limits
+pub mod Indexed
 pub mod OneHistory
 pub mod LegalRounds
 pub mod Shown
 pub mod WeightLaw
 pub mod MachineLaw
+pub mod Tries
 pub mod Alone
 pub mod Endings

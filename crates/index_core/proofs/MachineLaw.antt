@@ -1,5 +1,5 @@
 -- The laws on parties and their machines.
-use Rattle.std.proofs.Common.{◌≡◌, ℕ, map, refl, sym, ap, ◌∙◌, subst, arith, ◌+◌, ◌≤◌, ⊎_elim, List, length, ◌≢◌, set}
+use Rattle.std.proofs.Common.{◌≡◌, ℕ, map, refl, sym, ap, ◌∙◌, subst, arith, ◌+◌, ◌<◌, ◌≤◌, ⊎_elim, List, length, ◌≢◌, set}
 use Rattle.std.specs.Prelude.{Option, Some, None, IfSome}
 use mathlib.Core.Option.{some}
 use lib.ListN.{get_elem?, length-set}
@@ -16,12 +16,10 @@ use Rattle.node_ops.specs.declared.running.Running.{Running}
 use Rattle.node_ops.specs.Asked.{IsOf, IsOfAfter, op_in}
 use Rattle.node_ops.specs.RunningSteps.{running_asks, running_turned, running_call, Sound}
 use Rattle.node_ops.specs.CallStages.{stage_of, reply_of}
-use Rattle.node_ops.proofs.CallLaw.{turns_are_steps}
 use Rattle.index_law.specs.Worlds.{Party, World, facts}
 use Rattle.index_law.specs.Lawful.{Sure, Lawful}
 use Rattle.index_law.specs.Laws.{IsAtRest, IsWithin}
-use Rattle.index_law.proofs.Actions.{may_name, zero_told}
-use Rattle.index_law.proofs.Own.{allow_law, sure_within}
+use Rattle.index_law.proofs.Own.{sure_within}
 use Rattle.index_law.proofs.Parties.{at_set, set_here}
 use Rattle.index_law.proofs.Weights.{swap_weighs, idle_weighs}
 use Rattle.index_law.proofs.Starts.{idle_law, rest_law, swap_law}
@@ -30,7 +28,7 @@ use Rattle.index_core.specs.declared.party.CoreCall.TheVariants as call
 use Rattle.index_core.specs.declared.party.PartyState.{PartyState}
 use Rattle.index_core.specs.CoreCalls.{machine_of}
 use Rattle.index_core.specs.PartyStates.{IsPartyState, state_after, state_with, machine_stage, party_of}
-use Rattle.index_core.specs.Indexes.{Index, IsIndex, world, told, view_of, started_index, stepped_index}
+use Rattle.index_core.specs.Indexes.{Index, IsIndex, footed, world, told, view_of, stepped_index}
 use Rattle.index_core.specs.MachineLaws.{IsReady, ReadyAfter, MachineKeeps, BeginKeeps, FirstIsReady, IdleKeep, place_told, place_now, place_next, PlacesFollow}
 use Rattle.cat_history.specs.declared.op.Change.TheVariants as change
 use Rattle.cat_history.specs.declared.op.Op.{Op}
@@ -45,10 +43,16 @@ use Rattle.index_core.specs.MachineLaws.{IdleWeigh, shows, put_shows, showing, s
 use Rattle.index_core.proofs.Shown.{new_if, told_new, step_shows, adds_shows}
 use Rattle.index_core.proofs.Answering.{says_of}
 use Rattle.index_core.proofs.Lists.{map_from, map_there, map_set, set_twice}
-use Rattle.index_core.proofs.Stepping.{step_facts, start_keeps, machine_idle}
+use Rattle.index_core.proofs.Footed.{rest_footed}
+use Rattle.index_core.proofs.Footings.{line_of, debt_of, free_states, may_do_names, swap_footed}
+use Rattle.index_core.proofs.Stepping.{may_do, step_facts, start_keeps, machine_idle}
 use Rattle.node_ops.specs.Endings.{GoesOn}
 use Rattle.node_ops.proofs.Endings.{turns_keep_place, last_counts_nothing}
 use Rattle.index_core.proofs.Endings.{EndsWith, ends_with}
+
+-- what a sound machine asks names a place that an action may name
+ready_to : (l : Layout) (g : ℕ) (m : Running) → 0 < l.nodes → Sound l g m → IsWithin l (stage_of m) → IsReady l g m
+ready_to l g m nodes sound within = record { sound = sound; names = may_do_names l (stage_of m) (running_asks m) (may_do l g m nodes sound within) }
 
 -- a machine that is in flight in an index is ready for its next step
 ready : (s : Index) (i : ℕ) (e : PartyState) (m : Running) → IsIndex s → get_elem? s.states i ≡ some e → e.machine ≡ Some m → IsReady s.layout s.generation m
@@ -57,18 +61,11 @@ ready s i e m is there flies =
     let sound : Sound s.layout s.generation m = subst (λ (o : Option Running). IfSome o (Sound s.layout s.generation)) flies own.machine in
     let known : Sure s.layout s.generation (facts (world s)) e.caller e.index e.since (stage_of m) =
     subst (Sure s.layout s.generation (facts (world s)) e.caller e.index e.since) (ap machine_stage flies) (is.lawful.sure i (party_of e) (map_there party_of s.states i e there)) in
-    let a = running_asks m in
-    let first = turns_are_steps s.layout s.generation m 0 sound (zero_told s.layout s.generation a) in
-    let allowed = allow_law s.layout s.generation (stage_of m) a 0 _ _ (sure_within s.layout s.generation (facts (world s)) e.caller e.index e.since (stage_of m) known) first in
-    record { sound = sound; names = may_name s.layout (stage_of m) a allowed }
+    ready_to s.layout s.generation m is.lawful.row.layout.nodes.0 sound (sure_within s.layout s.generation (facts (world s)) e.caller e.index e.since (stage_of m) known)
 
 -- a machine before its first action is ready for it
-ready_idle : (l : Layout) (g : ℕ) (m : Running) → Sound l g m → stage_of m ≡ Idle → IsReady l g m
-ready_idle l g m sound idle =
-    let a = running_asks m in
-    let first = turns_are_steps l g m 0 sound (zero_told l g a) in
-    let allowed = allow_law l g (stage_of m) a 0 _ _ (subst (IsWithin l) (sym idle) tt) first in
-    record { sound = sound; names = may_name l (stage_of m) a allowed }
+ready_idle : (l : Layout) (g : ℕ) (m : Running) → 0 < l.nodes → Sound l g m → stage_of m ≡ Idle → IsReady l g m
+ready_idle l g m nodes sound idle = ready_to l g m nodes sound (subst (IsWithin l) (sym idle) tt)
 
 -- a put that shows a new name goes on to, until it is answered so
 fades : (o : Op) (shown : ℕ) (turn : Turn Running (Once Placed)) → IsOfAfter o turn → shown ≤ shows (stage_after turn) + told_new (reply_of turn) → put_shows o shown ≤ showing_after o turn
@@ -92,21 +89,21 @@ asks_put (op.Get _) name value n asks = absurd (cc)
 asks_put (op.Del _) name value n asks = absurd (cc)
 
 -- the store by which a put adds a name is the first that shows it
-rises : (m : Running) (a : Action) (turn : Turn Running (Once Placed)) → IsOfAfter (op_in m) turn → AddsName (stage_of m) a (stage_after turn) → (put_shows (op_in m) (shows (stage_of m)) ≡ 0) × (showing_after (op_in m) turn ≡ 1)
-rises m a (Go next) of adds =
-    let both = adds_shows (stage_of m) a (stage_of next) adds in
+rises : (l : Layout) (m : Running) (a : Action) (turn : Turn Running (Once Placed)) → IsOfAfter (op_in m) turn → AddsName l (stage_of m) a (stage_after turn) → (put_shows (op_in m) (shows (stage_of m)) ≡ 0) × (showing_after (op_in m) turn ≡ 1)
+rises l m a (Go next) of adds =
+    let both = adds_shows l (stage_of m) a (stage_of next) adds in
     let pends = pends_own_change (op_in m) next (change.Put adds.name adds.value) of (ap pending_in adds.is ∙ adds.shows) in
     let told : op_in next ≡ op_in m = op_told (op_in m) next of in (
       asks_put (op_in m) adds.name adds.value (shows (stage_of m)) pends.0 ∙ both.0,
       ap (λ (o : Op). put_shows o (shows (stage_of next))) told ∙ asks_put (op_in m) adds.name adds.value (shows (stage_of next)) pends.0 ∙ both.1,
     )
-rises m a (Done answer) of adds = absurd (let idle = adds.is in cc)
+rises l m a (Done answer) of adds = absurd (let idle = adds.is in cc)
 
-weight_on : (m : Running) (a : Action) (turn : Turn Running (Once Placed)) (before after : ℕ) → IsOfAfter (op_in m) turn → shows (stage_of m) ≤ shows (stage_after turn) + told_new (reply_of turn)
-    → RisesBy (AddsName (stage_of m) a (stage_after turn)) before after → after + showing (Some m) ≤ before + showing_after (op_in m) turn
-weight_on m a turn before after of less rise = ⊎_elim
+weight_on : (l : Layout) (m : Running) (a : Action) (turn : Turn Running (Once Placed)) (before after : ℕ) → IsOfAfter (op_in m) turn → shows (stage_of m) ≤ shows (stage_after turn) + told_new (reply_of turn)
+    → RisesBy (AddsName l (stage_of m) a (stage_after turn)) before after → after + showing (Some m) ≤ before + showing_after (op_in m) turn
+weight_on l m a turn before after of less rise = ⊎_elim
     (λ (same : after ≤ before). let on = fades (op_in m) (shows (stage_of m)) turn of less in omega arith)
-    (λ (more : AddsName (stage_of m) a (stage_after turn) × (after ≤ before + 1)). let up = rises m a turn of more.0 in let none = up.0 in let one = up.1 in let most = more.1 in omega arith)
+    (λ (more : AddsName l (stage_of m) a (stage_after turn) × (after ≤ before + 1)). let up = rises l m a turn of more.0 in let none = up.0 in let one = up.1 in let most = more.1 in omega arith)
     rise
 
 after_caller : (e : PartyState) (turn : Turn Running (Once Placed)) → (state_after e turn).caller ≡ e.caller
@@ -124,11 +121,11 @@ machine_law s i e m is there flies =
       takes = step.takes;
       kept = step.kept s.spare;
       counts = step.counts;
-      says = says_of s.layout s.generation (facts (world new)) e m (told s m) of step.fits (step.legal s.spare);
+      says = says_of s.layout s.generation (facts (world new)) e m (told s m) of step.fits step.owns (step.legal s.spare);
       keeps_op = step.keeps_op (op_in m) of;
       keeps_call = step.keeps_call;
       ready = after new (step.kept s.spare) turn (set_here s.states i (state_after e turn) e there);
-      weighs = weight_on m (running_asks m) turn (weight_sum (world s)) (weight_sum (world new)) (step.keeps_op (op_in m) of) (step_shows step.is_step) (step.weighs s.spare);
+      weighs = weight_on s.layout m (running_asks m) turn (weight_sum (world s)) (weight_sum (world new)) (step.keeps_op (op_in m) of) (step_shows step.is_step) (step.weighs s.spare);
     }
   where
     after : (t : Index) → IsIndex t → (turn : Turn Running (Once Placed)) → get_elem? t.states i ≡ some (state_after e turn) → ReadyAfter t.layout t.generation turn
@@ -156,11 +153,15 @@ module _ (s : Index) (i : ℕ) (e : PartyState) (index : ℕ) (is : IsIndex s) (
       let there' = map_there party_of s.states i e there in
       let lawful = swap_law (world s) i (party_of e) (party_of now) is.lawful there' (ap machine_stage idle) (ap machine_stage idle) (is.lawful.begun i (party_of e) there') in
       let own = is.states i e there in
+      let lawful' = subst (λ (parties : List Party). Lawful (record (world s) { parties = parties })) (sym (map_set party_of s.states i now)) lawful in
+      let footed = swap_footed s i e now (is.whole, is.tended) there refl refl lawful' in
       record {
-        lawful = subst (λ (parties : List Party). Lawful (record (world s) { parties = parties })) (sym (map_set party_of s.states i now)) lawful;
+        lawful = lawful';
+        whole = footed.0;
+        tended = footed.1;
         parties = length-set s.states i now ∙ is.parties;
         states = λ j state at. ⊎_elim
-            (λ (t : (j ≡ i) × (now ≡ state)). subst (λ (k : ℕ). IsPartyState s.layout s.generation k state) (sym t.0) (subst (IsPartyState s.layout s.generation i) t.1 (record { caller = own.caller; machine = own.machine; op = own.op })))
+            (λ (t : (j ≡ i) × (now ≡ state)). subst (λ (k : ℕ). IsPartyState s.layout s.generation k state) (sym t.0) (subst (IsPartyState s.layout s.generation i) t.1 (record { caller = own.caller; machine = own.machine; op = own.op; own = own.own })))
             (λ (t : (j ≢ i) × (get_elem? s.states j ≡ some state)). is.states j state t.1)
             (at_set s.states i j now state at);
         ordered = λ j place state m write at flies stands caller. ⊎_elim
@@ -196,9 +197,9 @@ pub idle_weigh : IdleWeigh
 idle_weigh s quiet = idle_weighs (world s) (λ i p at. let from = map_from party_of s.states i p at in sym (ap (λ (q : Party). q.stage) from.2) ∙ ap machine_stage (quiet i from.0 from.1))
 
 pub first_ready : FirstIsReady
-first_ready v (call.Put name value limit) here = ready_idle v.layout v.generation (machine_of v (call.Put name value limit)) (record { layout = refl; generation = refl; here = here }) refl
-first_ready v (call.Get name) here = ready_idle v.layout v.generation (machine_of v (call.Get name)) (record { layout = refl; generation = refl; here = here }) refl
-first_ready v (call.Del name limit) here = ready_idle v.layout v.generation (machine_of v (call.Del name limit)) (record { layout = refl; generation = refl; here = here }) refl
+first_ready v (call.Put name value limit) here = ready_idle v.layout v.generation (machine_of v (call.Put name value limit)) here.0.call.view.layout.nodes.0 (record { layout = refl; generation = refl; here = here }) refl
+first_ready v (call.Get name) here = ready_idle v.layout v.generation (machine_of v (call.Get name)) here.call.view.layout.nodes.0 (record { layout = refl; generation = refl; here = here }) refl
+first_ready v (call.Del name limit) here = ready_idle v.layout v.generation (machine_of v (call.Del name limit)) here.call.view.layout.nodes.0 (record { layout = refl; generation = refl; here = here }) refl
 
 -- an index with no call in flight is one with any other idle parties
 pub with_idle : IdleKeep
@@ -223,10 +224,13 @@ with_idle s states is quiet idle =
       idle = λ i p at. let from = map_from party_of states i p at in sym (ap (λ (q : Party). q.stage) from.2) ∙ ap machine_stage (idle.idle i from.0 from.1);
       begun = λ i p at. let from = map_from party_of states i p at in let zero_since = sym (ap (λ (q : Party). q.since) from.2) ∙ idle.begun i from.0 from.1 in omega arith;
     } in
+    let footed = rest_footed (footed s) w.parties (map line_of states) (map debt_of states) (is.whole, is.tended) (free_states s.states quiet (λ i e at. (is.states i e at).caller)) (free_states states idle.idle idle.numbers) (rest_law w at_rest) in
     record {
       lawful = rest_law w at_rest;
+      whole = footed.0;
+      tended = footed.1;
       parties = idle.count;
-      states = λ i e at. record { caller = idle.numbers i e at; machine = subst (λ (o : Option Running). IfSome o (Sound s.layout s.generation)) (sym (idle.idle i e at)) tt; op = subst (λ (o : Option Running). IfSome o (λ m. IsOf (op_in m) m)) (sym (idle.idle i e at)) tt };
+      states = λ i e at. record { caller = idle.numbers i e at; machine = subst (λ (o : Option Running). IfSome o (Sound s.layout s.generation)) (sym (idle.idle i e at)) tt; op = subst (λ (o : Option Running). IfSome o (λ m. IsOf (op_in m) m)) (sym (idle.idle i e at)) tt; own = subst (λ (o : Option Running). IfSome o (λ m. (running_call m).view.caller ≡ i)) (sym (idle.idle i e at)) tt };
       ordered = λ i place e m w at flies stands caller. absurd (let both : None ≡ Some m = sym (idle.idle i e at) ∙ flies in cc);
       bounded = record {
         limits = λ i e m at flies. absurd (let both : None ≡ Some m = sym (idle.idle i e at) ∙ flies in cc);

@@ -1,5 +1,5 @@
 -- What a schedule answers is one legal history.
-use Rattle.std.proofs.Common.{◌≡◌, ℕ, suc, ◌+◌, ◌<◌, ◌≤◌, ◌⊎◌, ⊎_elim, List, [], ◌∷◌, ◌++◌, length, set, refl, sym, ap, ◌∙◌, subst, arith}
+use Rattle.std.proofs.Common.{◌≡◌, true, false, ℕ, suc, ◌+◌, ◌<◌, ◌≤◌, ◌⊎◌, ⊎_elim, List, [], ◌∷◌, ◌++◌, length, set, refl, sym, ap, ◌∙◌, subst, arith}
 use Rattle.std.specs.Prelude.{Option, Some, None, IfSome, slice_get}
 use Rattle.std.proofs.lemmas.List.{length-append}
 use Rattle.std.proofs.lemmas.Bool.{cases_order}
@@ -35,7 +35,7 @@ use Rattle.index_core.proofs.Scheduling.{IsEarlier, AnswerHolds, in_flight, Kept
 use Rattle.index_core.specs.PartyStates.{idle_state, next_index, index_after}
 use Rattle.index_core.proofs.Fresh.{fresh_quiet}
 use Rattle.index_core.proofs.Lists.{some_same, idle-each}
-use Rattle.index_core.proofs.Alone.{go_of, done_of}
+use Rattle.index_core.proofs.Tries.{go_of, done_of}
 use Rattle.index_core.proofs.Scheduling as along
 use Rattle.index_core.proofs.Stepping.{respare}
 
@@ -51,6 +51,8 @@ kept_as first begun calls s words spare k index = record {
   earlier = k.earlier;
   writes = k.writes;
   next = k.next;
+  indexes = k.indexes;
+  states_count = k.states_count;
   each_call = k.each_call;
   counts = k.counts;
 }
@@ -70,6 +72,8 @@ kept_first s index quiet fresh = record {
   earlier = λ j c p state at at_p caller. absurd (some-ne-none c (sym at));
   writes = λ place write stands. absurd (let both : None ≡ Some write = subst (λ (h : List Write). slice_get h place ≡ Some write) fresh stands in cc);
   next = λ j c at. absurd (some-ne-none c (sym at));
+  indexes = λ j c at. absurd (some-ne-none c (sym at));
+  states_count = λ p state at_p. record { state = state; there = at_p; is = omega arith };
   each_call = subst (IsPermutation []) (sym (no_flights s.states quiet)) (IsPermutation-refl []);
   counts = λ p state at_p. record { was = state; there = at_p; most = let idle = ap in_flight (quiet p state at_p) in omega arith };
 }
@@ -101,7 +105,7 @@ kept first index quiet fresh (goes_on {begun = begun} {calls = calls} {old = old
 kept first index quiet fresh (answers {begun = begun} {calls = calls} {old = old} {new = new} {party = party} {answer = answer} run t is) few =
     let k = kept first index quiet fresh run few in
     let done = done_of (running_turned t.machine (told old t.machine)) answer (sym t.comes_to) in
-    subst (λ (v : Index). Kept first begun (calls ++ record { call = flying_call t.state t.machine; until = length v.history; answer = answer; next = index_after t.state.index answer } ∷ []) v) (sym t.is)
+    subst (λ (v : Index). Kept first begun (calls ++ record { call = flying_call t.state t.machine; until = length v.history; answer = answer; whole = false; next = index_after t.state.index answer } ∷ []) v) (sym t.is)
     (along.is_answered first begun calls old party t.state t.machine k t.there t.flies answer done new.spare few
     (subst (λ (v : Index). IsAnswerOf v.layout.slots (map_of v.base) v.history t.state (op_in t.machine) (running_call t.machine).limit answer) t.is t.answer) (subst IsIndex t.is is))
 kept first index quiet fresh (alone {begun = begun} {calls = calls} {old = old} {new = new} {caller = party} {call = c} {result = result} run still r is) few =
@@ -111,8 +115,8 @@ kept first index quiet fresh (alone {begun = begun} {calls = calls} {old = old} 
     let history : new.history ≡ old.history ++ alone_writes r.state.caller r.state.index c result = r.history ∙ ap (λ (j : ℕ). old.history ++ alone_writes j r.state.index c result) (sym caller_is) in
     let same : Path Index new (record new { states = set old.states party (state_done r.state (length old.history)); base = old.base; history = old.history ++ alone_writes r.state.caller r.state.index c result }) =
     (λ t. record new { states = r.states t; base = r.base t; history = history t }) in
-    subst (λ (v : Index). Kept first (begun ++ b ∷ []) (calls ++ record { call = b; until = length v.history; answer = once_of result; next = next_index r.state.index } ∷ []) v) (sym same)
-    (kept_alone first begun calls old party r.state c k r.there (still party r.state r.there) few result still r.answer new r.layout (subst IsIndex same is))
+    subst (λ (v : Index). Kept first (begun ++ b ∷ []) (calls ++ record { call = b; until = length v.history; answer = once_of result; whole = true; next = next_index r.state.index } ∷ []) v) (sym same)
+    (kept_alone first begun calls old party r.state c k r.there (still party r.state r.there) few result new still r.answer new r.layout (subst IsIndex same is))
 kept first index quiet fresh (evicts {begun = begun} {calls = calls} {old = old} {new = new} {word = word} run within e is) few =
     subst (Kept first begun calls) (sym e) (kept_as first begun calls old (evicted old.layout old.words word) old.spare (kept first index quiet fresh run few) (subst IsIndex e is))
 kept first index quiet fresh (reserves {begun = begun} {calls = calls} {old = old} {new = new} run e) few =
@@ -201,11 +205,11 @@ module _ (first : Index) (begun : List BegunCall) (calls : List AnsweredCall) (s
   stands_at n c place (Some change) at up asks stands = stands
 
   -- it counts unless it was turned back
-  raised : (n : ℕ) (c : AnsweredCall) (r : Once Placed) → get_elem? calls n ≡ some c → c.answer ≡ r → (IsNext c.call.index c.next r → c.next ≡ c.call.index + 1) → c.call.index < c.next
-  raised n c r at is counts = let up = counts (subst (IsNext c.call.index c.next) is (k.next n c at)) in omega arith
+  raised : (n : ℕ) (c : AnsweredCall) (r : Once Placed) → get_elem? calls n ≡ some c → c.answer ≡ r → (IsNext c.call.index c.next c.whole r → c.next ≡ c.call.index + 1) → c.call.index < c.next
+  raised n c r at is counts = let up = counts (subst (IsNext c.call.index c.next c.whole) is (k.next n c at)) in omega arith
 
   legal_answer : (n : ℕ) (c : AnsweredCall) (r : Once Placed) → get_elem? calls n ≡ some c → c.answer ≡ r → AnswerHolds slots base s.history c.call c.until r → IsLegalAnswer slots base s.history c.call c.until c.next r
-  legal_answer n c (once.Done placed) at is holds = record { took = holds.0; ended = holds.1; stands = stands_at n c placed.place (change_of c.call.op) at (raised n c (once.Done placed) at is (λ up. up)) refl holds.2 }
+  legal_answer n c (once.Done placed) at is holds = record { took = holds.0; ended = holds.1; stands = stands_at n c placed.place (change_of c.call.op) at (raised n c (once.Done placed) at is (λ up. up)) refl holds.0.write }
   legal_answer n c (once.Spent clock) at is holds = record {
     reached = holds;
     nowhere = nowhere n c at (raised n c (once.Spent clock) at is (λ up. up)) (λ placed other. let both : once.Spent clock ≡ once.Done placed = sym is ∙ other in cc);
@@ -258,7 +262,7 @@ module _ (first : Index) (begun : List BegunCall) (calls : List AnsweredCall) (s
       done_same : {a b : Placed} → once.Done a ≡ once.Done b → a ≡ b
       done_same e = cc
 
-  legal_history : IsLegalHistory base begun calls s
+  legal_history : IsLegalHistory first begun calls s
   legal_history = record {
     base_is = k.base_is;
     each_call = k.each_call;
@@ -273,6 +277,8 @@ module _ (first : Index) (begun : List BegunCall) (calls : List AnsweredCall) (s
     in_order = in_order;
     in_flight = λ i state machine there flies n a at caller.
         subst (IsEarlier a state) flies (k.earlier n a i state at there (caller ∙ (k.index.states i state there).caller));
+    indexes = k.indexes;
+    next_indexes = k.states_count;
     once = once_each;
     writes = k.writes;
     places = λ limit carry. places_keep_limit first begun calls s k limit carry;

@@ -10,10 +10,15 @@ use Rattle.cat_history.specs.declared.op.Change.{Change}
 use Rattle.call_stages.specs.declared.once.Once.{Once}
 use Rattle.call_stages.specs.declared.once.Placed.{Placed}
 use Rattle.call_stages.specs.Stages.{counted}
+use Rattle.node_ops.specs.declared.call.Call.{Call}
+use Rattle.node_ops.specs.declared.lookup.Hold.{Hold}
+use Rattle.split_merge.specs.declared.splitting.Split.{Split}
+use Rattle.split_merge.proofs.OfSplits.{stages_are_of_splits}
+use Rattle.node_ops.proofs.SplitFacts.{split_uncounted}
 use Rattle.node_ops.specs.declared.lookup.Looked.{Looked}
 use Rattle.node_ops.specs.declared.lookup.Looked.TheVariants as looked
 use Rattle.node_ops.specs.declared.lookup.Lookup.{Lookup}
-use Rattle.node_ops.specs.declared.fence.Fence.{Fence}
+use Rattle.pm_words.specs.declared.fence.Fence.{Fence}
 use Rattle.node_ops.specs.declared.finish.Finish.{Finish}
 use Rattle.node_ops.specs.declared.finish.FinishAt.{FinishAt}
 use Rattle.node_ops.specs.declared.finish.FinishAt.TheVariants as finish_at
@@ -25,14 +30,14 @@ use Rattle.node_ops.specs.declared.del.Del.{Del}
 use Rattle.node_ops.specs.declared.del.Del.TheVariants as del
 use Rattle.node_ops.specs.declared.running.Running.{Running}
 use Rattle.node_ops.specs.declared.running.Running.TheVariants.{Getting, Putting, Deleting}
-use Rattle.node_ops.specs.FenceSteps.{fence_next}
+use Rattle.pm_words.specs.Fences.{fence_next}
 use Rattle.node_ops.specs.LookupSteps.{lookup_turned}
 use Rattle.node_ops.specs.FinishSteps.{finish_fenced}
 use Rattle.node_ops.specs.GetSteps.{get_turned, get_looked}
 use Rattle.node_ops.specs.PutSteps.{put_finished}
 use Rattle.node_ops.specs.DelSteps.{del_finished}
 use Rattle.node_ops.specs.RunningSteps.{running_turned, wrapped}
-use Rattle.node_ops.specs.CallStages.{stage_of, lookup_stage, finish_stage}
+use Rattle.node_ops.specs.CallStages.{stage_of, lookup_stage, finish_stage, found_full}
 use Rattle.node_ops.proofs.OpLaw.{lookup_counts}
 use Rattle.index_law.specs.Worlds.{written}
 use Rattle.index_core.specs.PartyStates.{owes, machine_owes, owed}
@@ -50,11 +55,11 @@ put_one : (put : Put) → owes (Putting put) ≤ 1
 put_one (put.Looking lookup value) = omega arith
 put_one (put.Filling fill) = omega arith
 put_one (put.Replacing call hold bitmap hit value) = omega arith
-put_one (put.Refusing call hold bitmap value) = omega arith
+put_one (put.Splitting call hold bitmap value split) = omega arith
 put_one (put.Finishing finish) = at finish.at
   where
     at : (at : FinishAt) → owes (Putting (put.Finishing (record finish { at = at }))) ≤ 1
-    at (finish_at.Fence fence) = omega arith
+    at (finish_at.Fence line fence) = omega arith
     at finish_at.Add = omega arith
     at (finish_at.Unlock place) = omega arith
 
@@ -64,7 +69,7 @@ del_one (del.Clearing call hold bitmap hit) = omega arith
 del_one (del.Finishing finish) = at finish.at
   where
     at : (at : FinishAt) → owes (Deleting (del.Finishing (record finish { at = at }))) ≤ 1
-    at (finish_at.Fence fence) = omega arith
+    at (finish_at.Fence line fence) = omega arith
     at finish_at.Add = omega arith
     at (finish_at.Unlock place) = omega arith
 
@@ -89,9 +94,9 @@ get_pays (get.Unlocking call hold old) x = (refl, refl)
 
 put_finish_pays : (finish : Finish) (at : FinishAt) (x : ℕ)
     → owes_after (running_turned (Putting (put.Finishing (record finish { at = at }))) x) + many (counted (finish_stage (record finish { at = at }))) ≤ owes (Putting (put.Finishing (record finish { at = at })))
-put_finish_pays finish (finish_at.Fence fence) x = fenced (fence_next fence x)
+put_finish_pays finish (finish_at.Fence line fence) x = fenced (fence_next fence x)
   where
-    fenced : (next : Option Fence) → owes_after (wrapped Putting (put_finished (finish_fenced (record finish { at = finish_at.Fence fence }) next))) + 0 ≤ 1
+    fenced : (next : Option Fence) → owes_after (wrapped Putting (put_finished (finish_fenced (record finish { at = finish_at.Fence line fence }) line next))) + 0 ≤ 1
     fenced (Some next) = omega arith
     fenced None = omega arith
 put_finish_pays finish finish_at.Add x = omega arith
@@ -99,13 +104,17 @@ put_finish_pays finish (finish_at.Unlock place) x = omega arith
 
 del_finish_pays : (finish : Finish) (at : FinishAt) (x : ℕ)
     → owes_after (running_turned (Deleting (del.Finishing (record finish { at = at }))) x) + many (counted (finish_stage (record finish { at = at }))) ≤ owes (Deleting (del.Finishing (record finish { at = at })))
-del_finish_pays finish (finish_at.Fence fence) x = fenced (fence_next fence x)
+del_finish_pays finish (finish_at.Fence line fence) x = fenced (fence_next fence x)
   where
-    fenced : (next : Option Fence) → owes_after (wrapped Deleting (del_finished (finish_fenced (record finish { at = finish_at.Fence fence }) next))) + 0 ≤ 1
+    fenced : (next : Option Fence) → owes_after (wrapped Deleting (del_finished (finish_fenced (record finish { at = finish_at.Fence line fence }) line next))) + 0 ≤ 1
     fenced (Some next) = omega arith
     fenced None = omega arith
 del_finish_pays finish finish_at.Add x = omega arith
 del_finish_pays finish (finish_at.Unlock place) x = omega arith
+
+-- a put that splits counts nothing
+pub splitting_counts : (call : Call) (hold : Hold) (bitmap value : ℕ) (split : Split) → counted (stage_of (Putting (put.Splitting call hold bitmap value split))) ≡ None
+splitting_counts call hold bitmap value split = split_uncounted (found_full call hold bitmap) _ refl (stages_are_of_splits (found_full call hold bitmap) split)
 
 pub pays : (running : Running) (x : ℕ) → owes_after (running_turned running x) + many (counted (stage_of running)) ≤ owes running
 pays (Getting get) x = let is = get_pays get x in let none : many (counted (stage_of (Getting get))) ≡ 0 = rw is.1 refl in let zero_after = is.0 in omega arith
@@ -115,7 +124,10 @@ pays (Putting (put.Looking lookup value)) x =
     omega arith
 pays (Putting (put.Filling fill)) x = let one = after_one (running_turned (Putting (put.Filling fill)) x) in omega arith
 pays (Putting (put.Replacing call hold bitmap hit value)) x = omega arith
-pays (Putting (put.Refusing call hold bitmap value)) x = omega arith
+pays (Putting (put.Splitting call hold bitmap value split)) x =
+    let one = after_one (running_turned (Putting (put.Splitting call hold bitmap value split)) x) in
+    let none : many (counted (stage_of (Putting (put.Splitting call hold bitmap value split)))) ≡ 0 = rw (splitting_counts call hold bitmap value split) refl in
+    omega arith
 pays (Putting (put.Finishing finish)) x = put_finish_pays finish finish.at x
 pays (Deleting (del.Looking lookup)) x =
     let one = after_one (running_turned (Deleting (del.Looking lookup)) x) in

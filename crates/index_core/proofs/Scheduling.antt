@@ -1,5 +1,5 @@
 -- What holds of an index and of the calls that were answered, along a schedule.
-use Rattle.std.proofs.Common.{◌≡◌, ◌≢◌, ℕ, ◌+◌, ◌<◌, ◌≤◌, ◌⊎◌, inl, inr, ⊎_elim, List, [], ◌∷◌, ◌++◌, length, set, slice_set, refl, sym, ap, ◌∙◌, subst, arith}
+use Rattle.std.proofs.Common.{◌≡◌, ◌≢◌, Bool, true, false, ℕ, ◌+◌, ◌<◌, ◌≤◌, ◌⊎◌, inl, inr, ⊎_elim, List, [], ◌∷◌, ◌++◌, length, set, slice_set, refl, sym, ap, ◌∙◌, subst, arith}
 use Rattle.std.specs.Prelude.{Option, Some, None, IfSome, slice_get}
 use Rattle.std.proofs.lemmas.Bool.{cases_eq}
 use Rattle.std.proofs.lemmas.List.{append-nil, length-append}
@@ -11,7 +11,6 @@ use lib.ListN.{get_elem?}
 use Rattle.pm_words.specs.declared.layout.Layout.{Layout}
 use Rattle.pm_words.specs.declared.again.Again.TheVariants.{NoFree}
 use Rattle.pm_words.specs.declared.action.Action.TheVariants.{Add}
-use Rattle.pm_words.specs.declared.machine.Turn.{Turn}
 use Rattle.pm_words.specs.declared.machine.Turn.TheVariants.{Go, Done}
 use Rattle.pm_words.specs.Rows.{acted, got}
 use Rattle.cat_history.specs.Maps.{Map, at, map_of}
@@ -30,19 +29,19 @@ use Rattle.node_ops.specs.declared.call.Call.{Call}
 use Rattle.node_ops.specs.declared.running.Running.{Running}
 use Rattle.node_ops.specs.Asked.{IsOf, IsOfAfter, op_in, name_asked}
 use Rattle.node_ops.specs.RunningSteps.{running_call, running_asks, running_turned, Sound}
-use Rattle.node_ops.specs.CallStages.{stage_of, reply_of}
+use Rattle.node_ops.specs.CallStages.{stage_of}
 use Rattle.node_ops.proofs.OpLaw.{counts_own_change, op_told}
 use Rattle.node_ops.specs.Endings.{IsPutOp}
 use Rattle.index_law.specs.Worlds.{written}
-use Rattle.index_law.specs.Lawful.{HasWriteAt}
 use Rattle.index_law.proofs.Maps.{after-longer, slice_get-longer}
 use Rattle.index_law.proofs.Parties.{at_set, at_longer, set_here, set_else}
 use Rattle.index_core.specs.declared.party.PartyState.{PartyState}
 use Rattle.index_core.specs.Answers.{TookPlace, WasReached, FoundNoRoom, IsAnswerOf}
 use Rattle.index_core.specs.PartyStates.{state_after, next_index, index_after, IsPartyState}
 use Rattle.index_core.specs.Indexes.{Index, IsIndex, told, stepped_index, MakesCall}
-use Rattle.index_core.specs.Schedules.{BegunCall, AnsweredCall, flying_call, IsNext, flying_in, EachIsAnsweredOrFlies, IsAnsweredWrite, IsWriteInFlight, EachWriteIsOfACall, AreCounted}
+use Rattle.index_core.specs.Schedules.{BegunCall, AnsweredCall, flying_call, IsNext, IsNextIndex, IndexesCount, StatesCount, flying_in, EachIsAnsweredOrFlies, IsAnsweredWrite, IsWriteInFlight, EachWriteIsOfACall, AreCounted}
 use Rattle.index_core.proofs.Flights.{each_goes_on, each_ends}
+use Rattle.index_core.proofs.Indexed.{next_other, next_own, indexes_push, states_set}
 use Rattle.index_core.proofs.Lists.{within, at_end, end_there, some_same, got_end}
 use Rattle.node_ops.specs.Endings.{place_for, GoesOn}
 use Rattle.node_ops.proofs.Endings.{turns_keep_place, last_counts_nothing}
@@ -57,7 +56,6 @@ IsEarlier c state (Some machine) = (c.next ≤ state.index) × (c.until ≤ stat
 abbrev pub AnswerHolds : ℕ → Map → List Write → BegunCall → ℕ → Once Placed → Type 0
 AnswerHolds slots base history c until (once.Done placed) =
     TookPlace base history c.caller c.index c.since c.op c.limit placed × ((interval_at c.op placed.place).end ≤ until)
-    × IfSome (change_of c.op) (λ change. slice_get history placed.place ≡ Some (record { caller = c.caller; index = c.index; change = change }))
 AnswerHolds slots base history c until (once.Spent clock) = WasReached c.since until c.limit clock
 AnswerHolds slots base history c until (once.Worn node word) = Unit {0}
 AnswerHolds slots base history c until (once.Again why) = why ≡ NoFree → IsPutOp c.op × FoundNoRoom slots base history c.since until (name_asked c.op)
@@ -86,7 +84,9 @@ pub record Kept (first : Index) (begun : List BegunCall) (calls : List AnsweredC
       → (a.next ≤ b.call.index) × (a.until ≤ b.call.since)
   pub earlier : (n : ℕ) (c : AnsweredCall) (i : ℕ) (state : PartyState) → get_elem? calls n ≡ some c → get_elem? s.states i ≡ some state → c.call.caller ≡ i → IsEarlier c state state.machine
   pub writes : EachWriteIsOfACall calls s.states s.history
-  pub next : (n : ℕ) (c : AnsweredCall) → get_elem? calls n ≡ some c → IsNext c.call.index c.next c.answer
+  pub next : (n : ℕ) (c : AnsweredCall) → get_elem? calls n ≡ some c → IsNext c.call.index c.next c.whole c.answer
+  pub indexes : IndexesCount first calls
+  pub states_count : StatesCount first calls s.states
   pub each_call : EachIsAnsweredOrFlies begun calls s.states
   pub counts : (i : ℕ) (state : PartyState) → get_elem? s.states i ≡ some state → CountsUpTo first begun i state
 
@@ -94,9 +94,6 @@ pub place_le_end : (o : Op) (place : ℕ) → place ≤ (interval_at o place).en
 place_le_end (op.Put _ _) place = omega arith
 place_le_end (op.Get _) place = omega arith
 place_le_end (op.Del _) place = omega arith
-
-longer_write : (h more : List Write) (caller index : ℕ) (name : List ℕ) (place : ℕ) → HasWriteAt h caller index name place → HasWriteAt (h ++ more) caller index name place
-longer_write h more caller index name place is = record { change = is.change; about = is.about; stands = slice_get-longer h more place _ is.stands }
 
 longer_room : (slots : ℕ) (base : Map) (h more : List Write) (since until : ℕ) (name : List ℕ) → FoundNoRoom slots base h since until name → until ≤ length h → FoundNoRoom slots base (h ++ more) since until name
 longer_room slots base h more since until name is ended =
@@ -121,10 +118,9 @@ longer_holds slots base h more c until (once.Done placed) is ended =
         within = omega arith;
         below = took.below;
         old = took.old ∙ ap (λ (m : Map). at m (name_asked c.op)) (sym (after-longer base h more placed.place (omega arith)));
-        write = IfSome_then (change_of c.op) took.write (λ change write. longer_write h more c.caller c.index (name_asked c.op) placed.place write);
+        write = IfSome_then (change_of c.op) took.write (λ change stands. slice_get-longer h more placed.place _ stands);
       },
       is.1,
-      IfSome_then (change_of c.op) is.2 (λ change stands. slice_get-longer h more placed.place _ stands),
     )
 longer_holds slots base h more c until (once.Spent clock) is ended = is
 longer_holds slots base h more c until (once.Worn node word) is ended = tt
@@ -143,21 +139,22 @@ pub counts_as : (first : Index) (begun : List BegunCall) (i p : ℕ) (was now : 
 counts_as first begun i p was now same fewer is = let most = is.most in record { was = is.was; there = ap (get_elem? first.states) same ∙ is.there; most = omega arith }
 
 -- what an answer makes of an index that can be raised
-pub next_is : (index : ℕ) (answer : Once Placed) → next_index index ≡ index + 1 → IsNext index (index_after index answer) answer
+pub next_is : (index : ℕ) (answer : Once Placed) → next_index index ≡ index + 1 → IsNext index (index_after index answer) false answer
 next_is index (once.Done placed) up = up
 next_is index (once.Spent clock) up = up
 next_is index (once.Worn node word) up = up
-next_is index (once.Again why) up = inl refl
+next_is index (once.Again why) up = omega arith
 
-pub next_near : (index next : ℕ) (answer : Once Placed) → IsNext index next answer → (index ≤ next) × (next ≤ index + 1)
-next_near index next (once.Done placed) is = (omega arith, omega arith)
-next_near index next (once.Spent clock) is = (omega arith, omega arith)
-next_near index next (once.Worn node word) is = (omega arith, omega arith)
-next_near index next (once.Again why) is = ⊎_elim (λ (same : next ≡ index). (omega arith, omega arith)) (λ (up : next ≡ index + 1). (omega arith, omega arith)) is
+pub next_near : (index next : ℕ) (whole : Bool) (answer : Once Placed) → IsNext index next whole answer → (index ≤ next) × (next ≤ index + 1)
+next_near index next whole (once.Done placed) is = (omega arith, omega arith)
+next_near index next whole (once.Spent clock) is = (omega arith, omega arith)
+next_near index next whole (once.Worn node word) is = (omega arith, omega arith)
+next_near index next true (once.Again why) is = (omega arith, omega arith)
+next_near index next false (once.Again why) is = (omega arith, omega arith)
 
 -- a call that took place has raised it
-pub took_one : (c : AnsweredCall) (placed : Placed) → IsNext c.call.index c.next c.answer → c.answer ≡ once.Done placed → c.call.index < c.next
-took_one c placed is answer = let up : c.next ≡ c.call.index + 1 = subst (IsNext c.call.index c.next) answer is in omega arith
+pub took_one : (c : AnsweredCall) (placed : Placed) → IsNext c.call.index c.next c.whole c.answer → c.answer ≡ once.Done placed → c.call.index < c.next
+took_one c placed is answer = let up : c.next ≡ c.call.index + 1 = subst (IsNext c.call.index c.next c.whole) answer is in omega arith
 
 -- a party's call in flight
 module _ (first : Index) (begun : List BegunCall) (calls : List AnsweredCall) (s : Index) (i : ℕ) (e : PartyState) (m : Running) (k : Kept first begun calls s) (there : get_elem? s.states i ≡ some e) (flies : e.machine ≡ Some m) where
@@ -181,22 +178,6 @@ module _ (first : Index) (begun : List BegunCall) (calls : List AnsweredCall) (s
   machine_there state machine at flown =
       let same : state ≡ e = some-injective _ _ (sym at ∙ there) in
       some_same (sym flown ∙ ap (λ (d : PartyState). d.machine) same ∙ flies)
-
-  -- its own write stands where it has its place, and is of its op
-  own_write : (place : ℕ) (write : Write) → slice_get s.history place ≡ Some write → write.caller ≡ e.caller → write.index ≡ e.index → change_of (op_in m) ≡ Some write.change
-  own_write place write stands caller index =
-      ⊎_elim
-      (λ (w : IsAnsweredWrite calls place write).
-      let before : (w.answered.next ≤ e.index) × (w.answered.until ≤ e.since) = subst (IsEarlier w.answered e) flies (k.earlier w.number w.answered i e w.there there (sym w.caller ∙ caller ∙ own.caller)) in
-      let smaller = before.0 in
-      let up = took_one w.answered w.placed (k.next w.number w.answered w.there) w.answer in
-      let same = w.index in
-      absurd (omega arith))
-      (λ (w : IsWriteInFlight s.states place write).
-      let party : w.party ≡ i = sym (k.index.states w.party w.state w.there).caller ∙ sym w.caller ∙ caller ∙ own.caller in
-      let same = machine_there w.state w.machine (subst (λ (j : ℕ). get_elem? s.states j ≡ some w.state) party w.there) w.flies in
-      ap (λ (q : Running). change_of (op_in q)) (sym same) ∙ w.change)
-      (k.writes place write stands)
 
   one_flies : in_flight e.machine ≡ 1
   one_flies = ap in_flight flies
@@ -322,6 +303,8 @@ module _ (first : Index) (begun : List BegunCall) (calls : List AnsweredCall) (s
           (at_set s.states i p e' state at_p);
       writes = writes_on (counted (stage_of m)) on (counts_own_change (op_in m) m of);
       next = k.next;
+      indexes = k.indexes;
+      states_count = states_set first calls s.states i e' (λ p state other at_p. k.states_count p state at_p) (k.states_count i e there);
       each_call = each_goes_on begun calls s.states k.each_call i e e' there (ap (λ (c : BegunCall). c ∷ []) same_call ∙ sym (ap (flying_in e) flies));
       counts = λ p state at_p. ⊎_elim
           (λ (mine : (p ≡ i) × (e' ≡ state)).
@@ -346,10 +329,10 @@ module _ (first : Index) (begun : List BegunCall) (calls : List AnsweredCall) (s
     done = record e { index = index_after e.index answer; machine = None }
 
     abbrev call : AnsweredCall
-    call = record { call = flying_call e m; until = length s.history; answer = answer; next = index_after e.index answer }
+    call = record { call = flying_call e m; until = length s.history; answer = answer; whole = false; next = index_after e.index answer }
 
     -- its index isn't at the end
-    next_here : IsNext e.index (index_after e.index answer) answer
+    next_here : IsNext e.index (index_after e.index answer) false answer
     next_here =
         let counts = k.counts i e there in
         let most = counts.most in
@@ -367,15 +350,8 @@ module _ (first : Index) (begun : List BegunCall) (calls : List AnsweredCall) (s
     before_it : (j : ℕ) (c : AnsweredCall) → get_elem? calls j ≡ some c → c.call.caller ≡ e.caller → (c.next ≤ e.index) × (c.until ≤ e.since)
     before_it j c at caller = subst (IsEarlier c e) flies (k.earlier j c i e at there (caller ∙ own.caller))
 
-    own_change : (o : Option Change) (place : ℕ) → o ≡ change_of (op_in m) → IfSome o (λ change. HasWriteAt s.history e.caller e.index (name_asked (op_in m)) place)
-        → IfSome o (λ change. slice_get s.history place ≡ Some (record { caller = e.caller; index = e.index; change = change }))
-    own_change None place same write = tt
-    own_change (Some change) place same write =
-        let changed : write.change ≡ change = some_same (sym (own_write place _ write.stands refl refl) ∙ sym same) in
-        subst (λ (c : Change). slice_get s.history place ≡ Some (record { caller = e.caller; index = e.index; change = c })) changed write.stands
-
     tells_it : (r : Once Placed) → IsAnswerOf first.layout.slots base s.history e (op_in m) (running_call m).limit r → AnswerHolds first.layout.slots base s.history (flying_call e m) (length s.history) r
-    tells_it (once.Done placed) took = (took, took.within, own_change (change_of (op_in m)) placed.place refl took.write)
+    tells_it (once.Done placed) took = (took, took.within)
     tells_it (once.Spent clock) says = says
     tells_it (once.Worn node word) says = tt
     tells_it (once.Again why) says = says
@@ -467,7 +443,7 @@ module _ (first : Index) (begun : List BegunCall) (calls : List AnsweredCall) (s
           (λ (mine : (p ≡ i) × (done ≡ state)). ⊎_elim
           (λ (old : get_elem? calls j ≡ some c).
           let before = (before_it j c old (caller ∙ mine.0 ∙ sym own.caller)).0 in
-          let more = (next_near e.index done.index answer next_here).0 in
+          let more = (next_near e.index done.index false answer next_here).0 in
           let less : c.next ≤ done.index = omega arith in
           subst (λ (d : PartyState). IsEarlier c d d.machine) mine.1 less)
           (λ (last : (j ≡ length calls) × (call ≡ c)). subst (λ (q : PartyState × AnsweredCall). IsEarlier q.1 q.0 q.0.machine) (λ t. (mine.1 t, last.1 t)) (let here : call.next ≤ done.index = omega arith in here))
@@ -480,12 +456,16 @@ module _ (first : Index) (begun : List BegunCall) (calls : List AnsweredCall) (s
       writes = writes_done;
       next = λ j c at. ⊎_elim
           (λ (old : get_elem? calls j ≡ some c). k.next j c old)
-          (λ (last : (j ≡ length calls) × (call ≡ c)). subst (λ (d : AnsweredCall). IsNext d.call.index d.next d.answer) last.1 next_here)
+          (λ (last : (j ≡ length calls) × (call ≡ c)). subst (λ (d : AnsweredCall). IsNext d.call.index d.next d.whole d.answer) last.1 next_here)
           (at_end calls call c j at);
+      indexes = indexes_push first calls call k.indexes (subst (λ (q : ℕ). IsNextIndex first calls q e.index) (sym own.caller) (k.states_count i e there));
+      states_count = states_set first (calls ++ call ∷ []) s.states i done
+          (λ p state other at_p. next_other first calls call p state.index (λ same. other (sym same ∙ own.caller)) (k.states_count p state at_p))
+          (next_own first calls call i e.index done.index own.caller next_here (k.states_count i e there));
       each_call = each_ends begun calls s.states k.each_call i e done there call (ap (flying_in e) flies) refl;
       counts = λ p state at_p. ⊎_elim
           (λ (mine : (p ≡ i) × (done ≡ state)).
-          let near = (next_near e.index done.index answer next_here).1 in
+          let near = (next_near e.index done.index false answer next_here).1 in
           let one = one_flies in
           subst (CountsUpTo first begun p) mine.1 (counts_as first begun i p e done mine.0 (omega arith) (k.counts i e there)))
           (λ (other : (p ≢ i) × (get_elem? s.states p ≡ some state)). k.counts p state other.1)
@@ -493,7 +473,7 @@ module _ (first : Index) (begun : List BegunCall) (calls : List AnsweredCall) (s
     }
 
     pub is_answered : IsAnswerOf s.layout.slots (map_of (stepped_index s i e m n).base) (stepped_index s i e m n).history e (op_in m) (running_call m).limit answer → IsIndex (stepped_index s i e m n)
-        → Kept first begun (calls ++ record { call = flying_call e m; until = length (stepped_index s i e m n).history; answer = answer; next = index_after e.index answer } ∷ []) (stepped_index s i e m n)
+        → Kept first begun (calls ++ record { call = flying_call e m; until = length (stepped_index s i e m n).history; answer = answer; whole = false; next = index_after e.index answer } ∷ []) (stepped_index s i e m n)
     is_answered says index =
         let same : Path Index done_index (stepped_index s i e m n) = (λ t. record s {
           words = acted s.layout s.words (running_asks m);
@@ -503,4 +483,4 @@ module _ (first : Index) (begun : List BegunCall) (calls : List AnsweredCall) (s
         }) in
         let says_now : IsAnswerOf first.layout.slots base s.history e (op_in m) (running_call m).limit answer =
         subst (λ (q : ℕ × (Map × List Write)). IsAnswerOf q.0 q.1.0 q.1.1 e (op_in m) (running_call m).limit answer) (λ t. ((k.layout_is t).slots, (k.base_is t, unwritten t))) says in
-        subst (λ (v : Index). Kept first begun (calls ++ record { call = flying_call e m; until = length v.history; answer = answer; next = index_after e.index answer } ∷ []) v) same (answered says_now (subst IsIndex (sym same) index))
+        subst (λ (v : Index). Kept first begun (calls ++ record { call = flying_call e m; until = length v.history; answer = answer; whole = false; next = index_after e.index answer } ∷ []) v) same (answered says_now (subst IsIndex (sym same) index))

@@ -8,7 +8,8 @@ use Rattle.call_stages.specs.declared.once.Once.{Once}
 use Rattle.call_stages.specs.declared.once.Once.TheVariants as once
 use Rattle.call_stages.specs.declared.once.Placed.{Placed}
 use Rattle.call_stages.specs.Stages.{Held, Stage, Idle, Saw, Wears, Holds, Eyes, Splits, Leaves, Meets, Joins, IsLoose}
-use Rattle.call_stages.specs.Kinds.{IsClean, Look, turns_back, is_worn, wears, roams, roams_status, sees, misses, times, learns, decides, glances, finds_live, watches, watches_next, turns_away, steps_back, wanders, Split, fills, lights, switches, glances_left, glances_fresh, drains_left, drains_fresh, trims, splits, meets, knows_own, knows_right, copies, takes_up, puts_down, parts, gathers, joins, glances_joined, drains_joined, retires, yields, merges, peeks, peeks_status, eyes, eyes_free, passes, loses, claims, publishes, leaves, Answers, writes, reads, is_spent, has_no_room, refuses, Step, looks, locks, stores, commits, drains, counts, unlocks}
+use Rattle.call_stages.specs.AnySteps.{AnyStep, on_nodes, beside}
+use Rattle.call_stages.specs.Kinds.{IsClean, Look, turns_back, is_worn, wears, roams, roams_status, sees, misses, times, learns, decides, glances, finds_live, watches, watches_next, turns_away, steps_back, wanders, fills, lights, switches, glances_left, glances_fresh, drains_left, drains_fresh, trims, splits, meets, knows_own, knows_right, copies, takes_up, puts_down, parts, gathers, joins, glances_joined, drains_joined, retires, yields, merges, peeks, peeks_status, eyes, eyes_free, passes, loses, claims, publishes, leaves, Answers, writes, reads, is_spent, has_no_room, refuses, Step, looks, locks, stores, commits, drains, counts, unlocks}
 use Rattle.index_law.specs.Weights.{AddsName}
 use Rattle.index_core.specs.MachineLaws.{shown_by, shows}
 
@@ -118,46 +119,51 @@ module _ {l : Layout} {g : ℕ} where
   look_shows (decides {h = h} has positive clean durable about learnt decided) = let none = clean_shows h clean in omega arith
   look_shows (glances has unready) = omega arith
 
-  -- what a call shows it goes on to show, until it is answered so
-  pub step_shows : {s : Stage} {a : Action} {x : ℕ} {t : Stage} {r : Option (Once Placed)} → Step l g s a x t r → shows s ≤ shows t + told_new r
-  step_shows (looks look) = look_shows look
-  step_shows (locks same named live between) = omega arith
-  step_shows (stores {h = h} has positive small clean soils knows means) = let none = clean_shows h clean in omega arith
-  step_shows (commits {h = h} has positive small clean durable soiled old about knows means) = let none = clean_shows h clean in omega arith
-  step_shows (drains has small unready hand cleans) = omega arith
-  step_shows (counts {x = x} {h = h} {c = c} durable ready pending unplaced) =
+  -- what a call shows it goes on to show, until it is answered so, by a step on nodes
+  node_shows : {s : Stage} {a : Action} {x : ℕ} {t : Stage} {r : Option (Once Placed)} → Step l g s a x t r → shows s ≤ shows t + told_new r
+  node_shows (looks look) = look_shows look
+  node_shows (locks same named live between) = omega arith
+  node_shows (stores {h = h} has positive small clean soils knows means) = let none = clean_shows h clean in omega arith
+  node_shows (commits {h = h} has positive small clean durable soiled old about knows means) = let none = clean_shows h clean in omega arith
+  node_shows (drains has small unready hand cleans) = omega arith
+  node_shows (counts {x = x} {h = h} {c = c} durable ready pending unplaced) =
       let was : shown_by h.old h.pending h.placed ≡ shown_by h.old (Some c) h.placed = ap (λ (p : Option Change). shown_by h.old p h.placed) pending in
       let now = counted_shows h.old c h.placed x in
       omega arith
-  step_shows (unlocks {h = h} next pending durable unready answers) = let told = answer_shows h pending answers in omega arith
-  step_shows (claims {h = h} may here same) = let none : shown_by h.old None h.placed ≡ 0 = (λ k. shown_by (may.lacked k) None (may.unplaced k)) in omega arith
-  step_shows (publishes next left fresh) = omega arith
-  step_shows (leaves next) = omega arith
-  step_shows (splits (fills has positive small within soils told)) = omega arith
-  step_shows (splits (lights here leads)) = omega arith
-  step_shows (splits (switches here small durable soiled cut told means)) = omega arith
-  step_shows (splits (glances_left has learnt)) = omega arith
-  step_shows (splits (glances_fresh has)) = omega arith
-  step_shows (splits (drains_left has small hand cleans)) = omega arith
-  step_shows (splits (drains_fresh has small hand cleans)) = omega arith
-  step_shows (splits (trims here small durable soiled anchor told means)) = omega arith
-  step_shows (merges (meets here same may next)) = omega arith
-  step_shows (merges (knows_own has positive learnt)) = omega arith
-  step_shows (merges (knows_right has positive told)) = omega arith
-  step_shows (merges (copies has content small soils learnt means)) = omega arith
-  step_shows (merges (takes_up has)) = omega arith
-  step_shows (merges (puts_down has small hand cleans)) = omega arith
-  step_shows (merges (parts {h = h} next)) = let more = pending_shows h.old h.pending h.placed in omega arith
-  step_shows (merges (gathers small durable soiled told gathered)) = omega arith
-  step_shows (merges (joins small durable soiled next told)) = omega arith
-  step_shows (merges (glances_joined has learnt)) = omega arith
-  step_shows (merges (drains_joined has small hand cleans)) = omega arith
-  step_shows (merges (retires durable)) = omega arith
-  step_shows (merges (yields {h = h} next durable)) = omega arith
+  node_shows (unlocks {h = h} next pending durable unready answers) = let told = answer_shows h pending answers in omega arith
+  node_shows (claims {h = h} may here same) = let none : shown_by h.old None h.placed ≡ 0 = (λ k. shown_by (may.lacked k) None (may.unplaced k)) in omega arith
+  node_shows (publishes next left fresh) = omega arith
+  node_shows (leaves next) = omega arith
+  node_shows (splits (fills has positive small within soils told)) = omega arith
+  node_shows (splits (lights here leads)) = omega arith
+  node_shows (splits (switches here small durable soiled cut told means)) = omega arith
+  node_shows (splits (glances_left has learnt)) = omega arith
+  node_shows (splits (glances_fresh has)) = omega arith
+  node_shows (splits (drains_left has small hand cleans)) = omega arith
+  node_shows (splits (drains_fresh has small hand cleans)) = omega arith
+  node_shows (splits (trims here small durable soiled anchor told means)) = omega arith
+  node_shows (merges (meets here same may next)) = omega arith
+  node_shows (merges (knows_own has positive learnt)) = omega arith
+  node_shows (merges (knows_right has positive told)) = omega arith
+  node_shows (merges (copies has content small soils learnt means)) = omega arith
+  node_shows (merges (takes_up has)) = omega arith
+  node_shows (merges (puts_down has small hand cleans)) = omega arith
+  node_shows (merges (parts {h = h} next)) = let more = pending_shows h.old h.pending h.placed in omega arith
+  node_shows (merges (gathers small durable soiled told gathered)) = omega arith
+  node_shows (merges (joins small durable soiled next told)) = omega arith
+  node_shows (merges (glances_joined has learnt)) = omega arith
+  node_shows (merges (drains_joined has small hand cleans)) = omega arith
+  node_shows (merges (retires durable)) = omega arith
+  node_shows (merges (yields {h = h} next durable)) = omega arith
+
+-- so does one beside nodes
+pub step_shows : {l : Layout} {g : ℕ} {s : Stage} {a : Action} {x : ℕ} {t : Stage} {r : Option (Once Placed)} → AnyStep l g s a x t r → shows s ≤ shows t + told_new r
+step_shows (on_nodes step) = node_shows step
+step_shows (beside none is) = omega arith
 
 -- the store by which a put adds a name is the first that shows it
-pub adds_shows : (s : Stage) (a : Action) (t : Stage) → AddsName s a t → (shows s ≡ 0) × (shows t ≡ 1)
-adds_shows s a t adds = (
+pub adds_shows : (l : Layout) (s : Stage) (a : Action) (t : Stage) → AddsName l s a t → (shows s ≡ 0) × (shows t ≡ 1)
+adds_shows l s a t adds = (
   ap shows adds.was ∙ shown_none adds.before.old adds.before.pending adds.before.placed adds.unshown adds.unplaced,
   ap shows adds.is ∙ (λ k. shown_by (adds.new k) (adds.shows k) adds.after.placed),
 )

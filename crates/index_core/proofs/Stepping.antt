@@ -1,29 +1,29 @@
 -- What a step and a start of a party keep, over plain variables.
-use Rattle.std.proofs.Common.{◌≡◌, ◌≢◌, ℕ, ◌+◌, ◌-◌, ◌<◌, ◌≤◌, ◌^◌, ⊎_elim, Bool, true, false, List, [], ◌∷◌, ◌++◌, length, set, map, refl, sym, ap, ◌∙◌, subst, arith}
+use Rattle.std.proofs.Common.{◌≡◌, ◌≢◌, ℕ, ◌+◌, ◌-◌, ◌<◌, ◌≤◌, ◌^◌, ⊎_elim, List, ◌++◌, length, set, map, refl, sym, ap, ◌∙◌, subst, arith}
 use Rattle.std.specs.Prelude.{Option, Some, None, IfSome, slice_set}
-use Rattle.std.proofs.lemmas.List.{append-nil, length-append}
-use Rattle.std.proofs.lemmas.List.Sums.{fold-append}
+use Rattle.std.proofs.lemmas.List.{length-append}
 use mathlib.Core.Option.{some}
 use lib.ListN.{get_elem?, length-set}
-use Rattle.cat_key.specs.Names.{IsName}
 use Rattle.pm_words.specs.declared.layout.Layout.{Layout}
 use Rattle.pm_words.specs.declared.action.Action.{Action}
 use Rattle.pm_words.specs.declared.machine.Turn.{Turn}
 use Rattle.pm_words.specs.declared.machine.Turn.TheVariants.{Go, Done}
 use Rattle.pm_words.specs.Images.{Row}
 use Rattle.pm_words.specs.Rows.{CanAct, acted, got}
-use Rattle.cat_history.specs.Maps.{Map, at, map_of}
-use Rattle.cat_history.specs.Writes.{name_of, changed, after_all}
+use Rattle.cat_history.specs.Maps.{at, map_of}
 use Rattle.cat_history.specs.declared.op.Change.{Change}
 use Rattle.cat_history.specs.declared.op.Write.{Write}
 use Rattle.call_stages.specs.declared.once.Once.{Once}
 use Rattle.call_stages.specs.declared.once.Placed.{Placed}
-use Rattle.call_stages.specs.Stages.{Stage, Idle, Saw, Holds, counted}
-use Rattle.call_stages.specs.Kinds.{Step, Told}
+use Rattle.call_stages.specs.Stages.{Stage, Idle, counted}
+use Rattle.call_stages.specs.Kinds.{Told, LeadsWithin}
+use Rattle.call_stages.specs.AnySteps.{AnyStep}
+use Rattle.call_stages.specs.Footings.{FootStep}
+use Rattle.call_stages.specs.declared.view.View.{View}
 use Rattle.node_ops.specs.declared.running.Running.{Running}
 use Rattle.node_ops.specs.RunningSteps.{wrapped, running_call, running_asks, running_turned, running_takes, IsRunning, Sound}
-use Rattle.node_ops.specs.CallStages.{stage_of, stage_after, reply_of, SoundAfter}
-use Rattle.node_ops.proofs.CallLaw.{turns_are_steps}
+use Rattle.node_ops.specs.CallStages.{stage_of, stage_after, footing_of, footing_after, reply_of, SoundAfter}
+use Rattle.node_ops.proofs.CallLaw.{turns_are_foot_steps, turns_are_steps, leads_are_taken}
 use Rattle.node_ops.proofs.CallSound.{Stays, get_stays, put_stays, del_stays, turns_stay_sound}
 use Rattle.node_ops.proofs.OpLaw.{turns_keep_op, op_told}
 use Rattle.node_ops.specs.Asked.{IsOf, IsOfAfter, op_in}
@@ -36,27 +36,27 @@ use Rattle.node_ops.specs.GetSteps.{IsGet, get_call, get_turned}
 use Rattle.node_ops.specs.PutSteps.{IsPut, put_call, put_turned}
 use Rattle.node_ops.specs.DelSteps.{IsDel, del_call, del_turned}
 use Rattle.cat_history.specs.declared.op.Op.{Op}
-use Rattle.index_law.specs.Facts.{Facts}
 use Rattle.index_law.specs.Worlds.{Party, World, facts, written, moved_on, stepped}
 use Rattle.index_law.specs.Lawful.{Sure, Lawful}
-use Rattle.index_law.specs.Laws.{Allowed, ActionLaw, Counts, IsLegal, StepLaw}
-use Rattle.index_law.proofs.Actions.{action_law, zero_told}
-use Rattle.index_law.proofs.Own.{allow_law, sure_within}
-use Rattle.index_law.proofs.Law.{step_law}
-use Rattle.index_law.proofs.Maps.{changed_names}
+use Rattle.index_law.specs.Laws.{ActionLaw, Counts, IsLegal, IsWithin, StepLaw}
+use Rattle.index_law.specs.AnySteps.{MayDo}
+use Rattle.index_law.proofs.Actions.{some_told, some_leads}
+use Rattle.index_law.proofs.AnySteps.{any_allowed, any_can, any_keeps, any_weighs}
+use Rattle.index_law.proofs.Own.{sure_within}
 use Rattle.index_law.specs.Weights.{AddsName, RisesBy, weight_sum}
-use Rattle.index_law.proofs.Weights.{step_weighs, swap_weighs}
+use Rattle.index_law.proofs.Weights.{swap_weighs}
 use Rattle.index_law.proofs.Starts.{start_law, swap_law}
 use Rattle.index_law.proofs.Parties.{at_set, set_here}
 use Rattle.index_core.specs.declared.party.PartyState.{PartyState}
 use Rattle.index_core.specs.declared.party.CoreCall.{CoreCall}
 use Rattle.index_core.specs.declared.party.CoreCall.TheVariants as call
 use Rattle.index_core.specs.CoreCalls.{machine_of, most_writes}
-use Rattle.index_core.specs.PartyStates.{machine_stage, party_of, state_with, state_after, state_counted, machine_owes, owes, owed, IsPartyState}
+use Rattle.index_core.specs.PartyStates.{machine_stage, machine_footing, party_of, state_with, state_after, state_counted, machine_owes, owes, owed, IsPartyState}
 use Rattle.node_ops.specs.Calls.{IsSame}
 use Rattle.index_core.specs.Indexes.{Index, world, IsIndex, view_of, started_index, told, stepped_index, MakesCall}
+use Rattle.index_core.proofs.Footings.{swap_footed, step_footed}
 use Rattle.index_core.proofs.Lists.{map_there, map_set, owed-set, set_twice}
-use Rattle.index_core.proofs.Ordering.{start_ordered, count_ordered, step_ordered}
+use Rattle.index_core.proofs.Ordering.{OwnsWrites, start_ordered, count_ordered, step_ordered, owns}
 use Rattle.index_core.proofs.Bounds.{bounded_small, step_bounded, start_bounded, count_bounded}
 use Rattle.index_core.proofs.Owing.{owes_after, pays, many, written-length}
 
@@ -67,10 +67,11 @@ pub record StepFacts (s : Index) (party : ℕ) (state : PartyState) (machine : R
   pub takes : running_takes machine (told s machine)
   pub keeps_op : (asked : Op) → IsOf asked machine → IsOfAfter asked (running_turned machine (told s machine))
   pub keeps_call : MakesCall (running_call machine) (running_turned machine (told s machine))
-  pub is_step : Step s.layout s.generation (stage_of machine) (running_asks machine) (told s machine) (stage_after (running_turned machine (told s machine))) (reply_of (running_turned machine (told s machine)))
+  pub is_step : AnyStep s.layout s.generation (stage_of machine) (running_asks machine) (told s machine) (stage_after (running_turned machine (told s machine))) (reply_of (running_turned machine (told s machine)))
   pub kept : (spare : ℕ) → IsIndex (stepped_index s party state machine spare)
-  pub weighs : (spare : ℕ) → RisesBy (AddsName (stage_of machine) (running_asks machine) (stage_after (running_turned machine (told s machine)))) (weight_sum (world s)) (weight_sum (world (stepped_index s party state machine spare)))
+  pub weighs : (spare : ℕ) → RisesBy (AddsName s.layout (stage_of machine) (running_asks machine) (stage_after (running_turned machine (told s machine)))) (weight_sum (world s)) (weight_sum (world (stepped_index s party state machine spare)))
   pub counts : Counts s.layout (length s.history) (running_asks machine) (told s machine) (counted (stage_of machine))
+  pub owns : OwnsWrites (s.history ++ written state.caller state.index (counted (stage_of machine))) state machine
   pub legal : (spare : ℕ) → IsLegal s.layout s.generation (facts (world (stepped_index s party state machine spare))) state.caller state.index state.since (stage_of machine) (reply_of (running_turned machine (told s machine)))
 
 -- the world with the party as its call's turn leaves it: one whose call is answered is idle, and may have another index
@@ -98,9 +99,15 @@ weighs_after w i state a (Done answer) there =
     let same = swap_weighs v i p q (set_here w.parties i p (party_of state) there) refl refl in
     sym same ∙ ap (λ (parties : List Party). weight_sum (record v { parties = parties })) (set_twice w.parties i p q)
 
-after_state : (l : Layout) (g i : ℕ) (state : PartyState) (op : Op) (turn : Turn Running (Once Placed)) → state.caller ≡ i → SoundAfter l g turn → IsOfAfter op turn → IsPartyState l g i (state_after state turn)
-after_state l g i state op (Go machine) same sound of = record { caller = same; machine = sound; op = subst (λ (o : Op). IsOf o machine) (sym (op_told op machine of)) of }
-after_state l g i state op (Done answer) same sound of = record { caller = same; machine = tt; op = tt }
+-- what goes on is the call of the same party
+abbrev CallsSo : ℕ → Turn Running (Once Placed) → Type 0
+CallsSo i (Go machine) = (running_call machine).view.caller ≡ i
+CallsSo i (Done answer) = Unit {0}
+
+after_state : (l : Layout) (g i : ℕ) (state : PartyState) (op : Op) (turn : Turn Running (Once Placed)) → state.caller ≡ i → SoundAfter l g turn → IsOfAfter op turn → CallsSo i turn
+    → IsPartyState l g i (state_after state turn)
+after_state l g i state op (Go machine) same sound of own = record { caller = same; machine = sound; op = subst (λ (o : Op). IsOf o machine) (sym (op_told op machine of)) of; own = own }
+after_state l g i state op (Done answer) same sound of own = record { caller = same; machine = tt; op = tt; own = tt }
 
 -- states of which one is another
 set_states : (l : Layout) (g : ℕ) (states : List PartyState) (i : ℕ) (now : PartyState) → ((j : ℕ) (state : PartyState) → get_elem? states j ≡ some state → IsPartyState l g j state) → IsPartyState l g i now
@@ -118,8 +125,19 @@ same_call fits of wrap c (Done answer) same stays = tt
 
 keeps_call : (machine : Running) (x : ℕ) → running_takes machine x → MakesCall (running_call machine) (running_turned machine x)
 keeps_call (Getting get) x takes = same_call IsGet get_call (λ (m : Get). Getting m) (get_call get) (get_turned get x) (λ m. refl) (get_stays get x takes.0 takes.1)
-keeps_call (Putting put) x takes = same_call IsPut put_call (λ (m : Put). Putting m) (put_call put) (put_turned put x) (λ m. refl) (put_stays put x takes.0 takes.1)
+keeps_call (Putting put) x takes = same_call IsPut put_call (λ (m : Put). Putting m) (put_call put) (put_turned put x) (λ m. refl) (put_stays put x takes.0 takes.1 takes.2)
 keeps_call (Deleting del) x takes = same_call IsDel del_call (λ (m : Del). Deleting m) (del_call del) (del_turned del x) (λ m. refl) (del_stays del x takes.0 takes.1)
+
+calls_so : {i : ℕ} (machine : Running) (turn : Turn Running (Once Placed)) → (running_call machine).view.caller ≡ i → MakesCall (running_call machine) turn → CallsSo i turn
+calls_so machine (Go next) caller same = ap (λ (c : Call). c.view.caller) same ∙ caller
+calls_so machine (Done answer) caller same = tt
+
+-- what a sound machine asks its party may do
+pub may_do : (l : Layout) (g : ℕ) (machine : Running) → 0 < l.nodes → Sound l g machine → IsWithin l (stage_of machine) → MayDo l (stage_of machine) (running_asks machine)
+may_do l g machine nodes sound within =
+    let a = running_asks machine in
+    let some = some_told l g a in
+    any_allowed l g (stage_of machine) a some.0 _ _ within (turns_are_steps l g machine some.0 sound some.1 (some_leads l g (stage_of machine) a nodes))
 
 pub step_facts : (s : Index) (party : ℕ) (state : PartyState) (machine : Running) → IsIndex s → get_elem? s.states party ≡ some state → state.machine ≡ Some machine
     → StepFacts s party state machine
@@ -137,36 +155,46 @@ step_facts s i state machine is there flies =
     let own = is.states i state there in
     let sound : Sound l g machine = subst (λ (o : Option Running). IfSome o (Sound l g)) flies own.machine in
     let known : Sure l g (facts w) state.caller state.index state.since (stage_of machine) = subst (Sure l g (facts w) state.caller state.index state.since) stage (is.lawful.sure i p there') in
-    let first = turns_are_steps l g machine 0 sound (zero_told l g a) in
-    let allowed = allow_law l g (stage_of machine) a 0 _ _ (sure_within l g (facts w) state.caller state.index state.since (stage_of machine) known) first in
-    let act : ActionLaw w p.stage a = action_law w i p a is.lawful there' (subst (λ (u : Stage). Allowed l u a) (sym stage) allowed) room in
-    let step = turns_are_steps l g machine x sound act.told in
+    let within = sure_within l g (facts w) state.caller state.index state.since (stage_of machine) known in
+    let act : ActionLaw w p.stage a = any_can w i p a is.lawful there' (subst (λ (u : Stage). MayDo l u a) (sym stage) (may_do l g machine is.lawful.row.layout.nodes.0 sound within)) room in
+    let leads : LeadsWithin l (stage_of machine) a x = subst (λ (u : Stage). LeadsWithin l u a x) stage act.leads in
+    let taken = leads_are_taken l g machine x sound leads in
+    let step = turns_are_steps l g machine x sound act.told leads in
     let law : StepLaw w i p a x (stage_after turn) (reply_of turn) =
-    step_law w i p a x (stage_after turn) (reply_of turn) is.lawful there' (subst (λ (u : Stage). Step l g u a x (stage_after turn) (reply_of turn)) (sym stage) step) refl room in
+    any_keeps w i p a x (stage_after turn) (reply_of turn) is.lawful there' (subst (λ (u : Stage). AnyStep l g u a x (stage_after turn) (reply_of turn)) (sym stage) step) refl room in
+    let of : IsOf (op_in machine) machine = subst (λ (o : Option Running). IfSome o (λ m. IsOf (op_in m) m)) flies own.op in
+    let kept_op = turns_keep_op l g (op_in machine) machine x sound act.told taken of in
+    let caller : (running_call machine).view.caller ≡ state.caller = subst (λ (o : Option Running). IfSome o (λ m. (running_call m).view.caller ≡ i)) flies own.own ∙ sym own.caller in
     let parties : slice_set (map party_of s.states) i (party_of (state_after state turn)) ≡ map party_of (slice_set s.states i (state_after state turn)) =
     sym (map_set party_of s.states i (state_after state turn)) in
     let same : Path World (world_after w i state a turn) (world (stepped_index s i state machine 0)) =
     (λ k. record { layout = l; generation = g; words = acted l s.words a; parties = parties k; base = map_of s.base; history = s.history ++ written state.caller state.index (counted (stage k)) }) in
     let own_told = subst (λ (v : Layout × ℕ). Told v.0 v.1 a x) (λ k. (sym sound.layout k, sym sound.generation k)) act.told in
+    let takes : running_takes machine x = (sound.here, own_told, taken) in
+    let lawful : Lawful (world (stepped_index s i state machine 0)) = subst Lawful same (lawful_after w i state a turn there' law.kept) in
+    let footed = step_footed s i state machine (is.whole, is.tended) there flies
+    (subst (λ (c : ℕ). FootStep l g c (footing_of machine) a x (footing_after turn) (reply_of turn)) caller (turns_are_foot_steps l g machine x sound act.told leads)) room lawful in
     record {
       fits = sound.here;
       can = act.can;
-      takes = (sound.here, own_told);
-      keeps_op = λ asked of. turns_keep_op l g asked machine x sound act.told of;
-      keeps_call = keeps_call machine x (sound.here, own_told);
+      takes = takes;
+      keeps_op = λ asked of. turns_keep_op l g asked machine x sound act.told taken of;
+      keeps_call = keeps_call machine x takes;
       is_step = step;
-      weighs = λ spare. subst (λ (q : Stage × ℕ). RisesBy (AddsName q.0 a (stage_after turn)) (weight_sum w) q.1)
+      weighs = λ spare. subst (λ (q : Stage × ℕ). RisesBy (AddsName s.layout q.0 a (stage_after turn)) (weight_sum w) q.1)
           (λ k. (stage k, (weighs_after w i state a turn there' ∙ ap weight_sum same) k))
-          (step_weighs w i p a x (stage_after turn) (reply_of turn) is.lawful there' (subst (λ (u : Stage). Step l g u a x (stage_after turn) (reply_of turn)) (sym stage) step) refl);
+          (any_weighs w i p a x (stage_after turn) (reply_of turn) is.lawful there' (subst (λ (u : Stage). AnyStep l g u a x (stage_after turn) (reply_of turn)) (sym stage) step) refl);
       kept = λ spare. record {
-        lawful = subst Lawful same (lawful_after w i state a turn there' law.kept);
+        lawful = lawful;
+        whole = footed.0;
+        tended = footed.1;
         parties = length-set s.states i (state_after state turn) ∙ is.parties;
-        states = set_states l g s.states i (state_after state turn) is.states (after_state l g i state (op_in machine) turn own.caller (turns_stay_sound l g machine x sound act.told)
-            (turns_keep_op l g (op_in machine) machine x sound act.told (subst (λ (o : Option Running). IfSome o (λ m. IsOf (op_in m) m)) flies own.op)));
-        ordered = step_ordered s i state machine is.states is.ordered is.lawful.clock there flies;
-        bounded = step_bounded s i state machine is there flies (keeps_call machine x (sound.here, own_told))
-            (turns_keep_op l g (op_in machine) machine x sound act.told (subst (λ (o : Option Running). IfSome o (λ m. IsOf (op_in m) m)) flies own.op));
+        states = set_states l g s.states i (state_after state turn) is.states
+            (after_state l g i state (op_in machine) turn own.caller (turns_stay_sound l g machine x sound act.told taken) kept_op (calls_so machine turn (caller ∙ own.caller) (keeps_call machine x takes)));
+        ordered = step_ordered s i state machine is.states is.ordered is.lawful.clock there flies kept_op;
+        bounded = step_bounded s i state machine is there flies (keeps_call machine x takes) kept_op;
       };
+      owns = owns s i state machine is.states is.ordered is.lawful.clock there flies;
       counts = subst (λ (u : Stage). Counts l (length s.history) a x (counted u)) stage law.counts;
       legal = λ spare. subst (λ (u : World). IsLegal l g (facts u) state.caller state.index state.since (stage_of machine) (reply_of turn)) same
           (subst (λ (u : Stage). IsLegal l g (facts (stepped w i p a (stage_after turn))) state.caller state.index state.since u (reply_of turn)) stage law.legal);
@@ -204,6 +232,17 @@ machine_op s party (call.Put name value limit) = (refl, refl)
 machine_op s party (call.Get name) = refl
 machine_op s party (call.Del name limit) = (refl, tt)
 
+begins_own : (s : Index) (party : ℕ) (c : CoreCall) → (running_call (machine_of (view_of s party) c)).view.caller ≡ party
+begins_own s party (call.Put name value limit) = refl
+begins_own s party (call.Get name) = refl
+begins_own s party (call.Del name limit) = refl
+
+-- and has no line, and owes nothing
+begins_free : (view : View) (c : CoreCall) → machine_footing (Some (machine_of view c)) ≡ machine_footing None
+begins_free view (call.Put name value limit) = refl
+begins_free view (call.Get name) = refl
+begins_free view (call.Del name limit) = refl
+
 pub machine_writes : (s : Index) (party : ℕ) (c : CoreCall) → owes (machine_of (view_of s party) c) ≡ most_writes c
 machine_writes s party (call.Put name value limit) = refl
 machine_writes s party (call.Get name) = refl
@@ -218,10 +257,14 @@ start_keeps s i state c spare is there idle here =
     let lawful = start_law (world s) i (party_of state) state.index is.lawful there' (ap machine_stage idle) in
     let parties : slice_set (map party_of s.states) i (record { caller = state.caller; index = state.index; since = length s.history; stage = Idle }) ≡ map party_of (slice_set s.states i now) =
     ap (λ (u : Stage). set (map party_of s.states) i (record { caller = state.caller; index = state.index; since = length s.history; stage = u })) (sym (machine_idle s i c)) ∙ sym (map_set party_of s.states i now) in
+    let lawful' = subst (λ (parties : List Party). Lawful (record { layout = s.layout; generation = s.generation; words = s.words; parties = parties; base = map_of s.base; history = s.history })) parties lawful in
+    let footed = swap_footed s i state now (is.whole, is.tended) there refl (begins_free (view_of s i) c ∙ sym (ap machine_footing idle)) lawful' in
     record {
-      lawful = subst (λ (parties : List Party). Lawful (record { layout = s.layout; generation = s.generation; words = s.words; parties = parties; base = map_of s.base; history = s.history })) parties lawful;
+      lawful = lawful';
+      whole = footed.0;
+      tended = footed.1;
       parties = length-set s.states i now ∙ is.parties;
-      states = set_states s.layout s.generation s.states i now is.states (record { caller = (is.states i state there).caller; machine = machine_begins s i c here; op = machine_op s i c });
+      states = set_states s.layout s.generation s.states i now is.states (record { caller = (is.states i state there).caller; machine = machine_begins s i c here; op = machine_op s i c; own = begins_own s i c });
       ordered = start_ordered s.states s.history i state m is.ordered;
       bounded = start_bounded s i state c is here;
     }
@@ -243,10 +286,14 @@ count_keeps s i state spare is there idle =
     let there' = map_there party_of s.states i state there in
     let own = is.states i state there in
     let lawful = swap_law (world s) i p (party_of now) is.lawful there' (ap machine_stage idle) (ap machine_stage idle) (is.lawful.begun i p there') in
+    let lawful' = subst (λ (parties : List Party). Lawful (record (world s) { parties = parties })) (sym (map_set party_of s.states i now)) lawful in
+    let footed = swap_footed s i state now (is.whole, is.tended) there refl refl lawful' in
     record {
-      lawful = subst (λ (parties : List Party). Lawful (record (world s) { parties = parties })) (sym (map_set party_of s.states i now)) lawful;
+      lawful = lawful';
+      whole = footed.0;
+      tended = footed.1;
       parties = length-set s.states i now ∙ is.parties;
-      states = set_states s.layout s.generation s.states i now is.states (record { caller = own.caller; machine = own.machine; op = own.op });
+      states = set_states s.layout s.generation s.states i now is.states (record { caller = own.caller; machine = own.machine; op = own.op; own = own.own });
       ordered = count_ordered s.states s.history i state idle is.ordered;
       bounded = count_bounded s i state is idle;
     }
@@ -257,7 +304,7 @@ count_owes s i state there = let moved = owed-set s.states i state (state_counte
 
 -- how much room is told of an index is none of its laws
 pub respare : (s : Index) (spare : ℕ) → IsIndex s → IsIndex (record s { spare = spare })
-respare s spare is = record { lawful = is.lawful; parties = is.parties; states = is.states; ordered = is.ordered; bounded = is.bounded }
+respare s spare is = record { lawful = is.lawful; whole = is.whole; tended = is.tended; parties = is.parties; states = is.states; ordered = is.ordered; bounded = is.bounded }
 
 -- the index that a step leaves, at values that are equal to its own
 pub step_at : (s : Index) (i : ℕ) (e r e' : PartyState) (m m' : Running) (row : Row) (got' : ℕ) (turn : Turn Running (Once Placed)) (history : List Write) (spare : ℕ)

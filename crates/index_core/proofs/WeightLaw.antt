@@ -1,5 +1,5 @@
 -- What an index weighs along a schedule.
-use Rattle.std.proofs.Common.{◌≡◌, ◌≢◌, ℕ, zero, suc, ◌+◌, ◌≤◌, ⊎_elim, List, [], ◌∷◌, length, set, refl, sym, ap, ◌∙◌, subst, arith}
+use Rattle.std.proofs.Common.{true, false, ◌≡◌, ◌≢◌, ℕ, zero, suc, ◌+◌, ◌≤◌, ⊎_elim, List, [], ◌∷◌, length, set, refl, sym, ap, ◌∙◌, subst, arith}
 use Rattle.std.specs.Prelude.{Option, Some, None, IfSome}
 use Rattle.std.specs.List.{sum_by}
 use Rattle.std.proofs.lemmas.List.Sums.{sum_by-cons, sum_by_push}
@@ -7,6 +7,7 @@ use mathlib.Core.Option.{some, some-injective, some-ne-none}
 use lib.ListN.{get_elem?}
 use Rattle.pm_words.specs.declared.machine.Turn.{Turn}
 use Rattle.pm_words.specs.declared.machine.Turn.TheVariants.{Done}
+use Rattle.pm_words.specs.declared.layout.Layout.{Layout}
 use Rattle.cat_history.specs.Records.{change_of}
 use Rattle.cat_history.specs.declared.op.Change.TheVariants as change
 use Rattle.cat_history.specs.declared.op.Op.{Op}
@@ -35,7 +36,7 @@ use Rattle.index_core.specs.Schedules.{BegunCall, AnsweredCall, begun_call, flyi
 use Rattle.index_core.specs.Weights.{weight_of, put_count, added_if, added_by, added_whole, put_in}
 use Rattle.index_core.specs.WeightBounds.{names_added, puts_in_flight, WeightIsBounded}
 use Rattle.index_core.proofs.Crashing.{crash_light}
-use Rattle.index_core.proofs.Alone.{go_of, done_of, quiet_parties}
+use Rattle.index_core.proofs.Tries.{go_of, done_of, quiet_parties}
 use Rattle.index_core.proofs.Lists.{map_there, map_set}
 use Rattle.index_core.proofs.OneHistory.{none_flies}
 use Rattle.index_core.specs.MachineLaws.{shows}
@@ -136,9 +137,9 @@ showing_puts state = at state.machine
     at (Some machine) = by_op (op_in machine) (shows (stage_of machine)) (shows_few (stage_of machine))
 
 -- a store that adds a name leads to a put that shows it, from one that didn't
-adds_put : (m next : Running) → IsOf (op_in next) next → op_in next ≡ op_in m → AddsName (stage_of m) (running_asks m) (stage_of next) → (showing (Some m) ≡ 0) × (showing (Some next) ≡ 1)
-adds_put m next of same adds =
-    let shown = adds_shows (stage_of m) (running_asks m) (stage_of next) adds in
+adds_put : (l : Layout) (m next : Running) → IsOf (op_in next) next → op_in next ≡ op_in m → AddsName l (stage_of m) (running_asks m) (stage_of next) → (showing (Some m) ≡ 0) × (showing (Some next) ≡ 1)
+adds_put l m next of same adds =
+    let shown = adds_shows l (stage_of m) (running_asks m) (stage_of next) adds in
     let pending : pending_in (stage_of next) ≡ Some (change.Put adds.name adds.value) = ap pending_in adds.is ∙ adds.shows in
     let own = pends_own_change (op_in next) next (change.Put adds.name adds.value) of pending in (
       ap (showing_of (op_in m)) shown.0 ∙ showing_none (op_in m),
@@ -146,8 +147,8 @@ adds_put m next of same adds =
     )
 
 -- who is idle adds no name
-idle_adds : (s : Stage) (m : Running) → AddsName s (running_asks m) Idle → ⊥
-idle_adds s m adds = let both : Idle ≡ Holds adds.node adds.lock adds.after = adds.is in absurd cc
+idle_adds : (l : Layout) (s : Stage) (m : Running) → AddsName l s (running_asks m) Idle → ⊥
+idle_adds l s m adds = let both : Idle ≡ Holds adds.node adds.lock adds.after = adds.is in absurd cc
 
 abbrev bound : Index → List AnsweredCall → Index → ℕ
 bound first calls s = weight_of first + (names_added calls + showing_sum s.states)
@@ -222,8 +223,8 @@ module _ (first : Index) (quiet : IsQuiet first) (index : IsIndex first) where
         index = is;
         sum = ⊎_elim
             (λ (less : weight_sum (world new) ≤ weight_sum (world old)). omega arith)
-            (λ (adds : AddsName (stage_of m) (running_asks m) (stage_after (running_turned m (told old m))) × (weight_sum (world new) ≤ weight_sum (world old) + 1)).
-            let one = adds_put m next (subst (λ (asked : Op). IsOf asked next) (sym same_op) of_next) same_op (subst (λ (turn : Turn Running (Once Placed)). AddsName (stage_of m) (running_asks m) (stage_after turn)) go.1 adds.0) in
+            (λ (adds : AddsName old.layout (stage_of m) (running_asks m) (stage_after (running_turned m (told old m))) × (weight_sum (world new) ≤ weight_sum (world old) + 1)).
+            let one = adds_put old.layout m next (subst (λ (asked : Op). IsOf asked next) (sym same_op) of_next) same_op (subst (λ (turn : Turn Running (Once Placed)). AddsName old.layout (stage_of m) (running_asks m) (stage_after turn)) go.1 adds.0) in
             let zero_before = one.0 in
             let one_after = one.1 in
             let most = adds.1 in
@@ -243,14 +244,14 @@ module _ (first : Index) (quiet : IsQuiet first) (index : IsIndex first) where
       let told_it : shows (stage_of m) ≤ 0 + told_new (Some answer) = subst (λ (turn : Turn Running (Once Placed)). shows (stage_of m) ≤ shows (stage_after turn) + told_new (reply_of turn)) done (step_shows t.turn.kind) in
       let up : showing (Some m) ≤ showing_of (op_in m) (told_new (Some answer)) = showing_up (op_in m) (shows (stage_of m)) (told_new (Some answer)) (omega arith) in
       let added = told_added (op_in m) answer in
-      let call : AnsweredCall = record { call = flying_call t.state m; until = length new.history; answer = answer; next = index_after t.state.index answer } in
+      let call : AnsweredCall = record { call = flying_call t.state m; until = length new.history; answer = answer; whole = false; next = index_after t.state.index answer } in
       let longer = sum_by_push (λ (d : AnsweredCall). added_by d.call.op d.answer) calls call in
       record {
         index = is;
         sum = ⊎_elim
             (λ (less : weight_sum (world new) ≤ weight_sum (world old)). omega arith)
-            (λ (adds : AddsName (stage_of m) (running_asks m) (stage_after (running_turned m (told old m))) × (weight_sum (world new) ≤ weight_sum (world old) + 1)).
-            absurd (idle_adds (stage_of m) m (subst (λ (turn : Turn Running (Once Placed)). AddsName (stage_of m) (running_asks m) (stage_after turn)) done adds.0)))
+            (λ (adds : AddsName old.layout (stage_of m) (running_asks m) (stage_after (running_turned m (told old m))) × (weight_sum (world new) ≤ weight_sum (world old) + 1)).
+            absurd (idle_adds old.layout (stage_of m) m (subst (λ (turn : Turn Running (Once Placed)). AddsName old.layout (stage_of m) (running_asks m) (stage_after turn)) done adds.0)))
             t.turn.weighs;
       }
   weighs (alone {calls = calls} {old = old} {new = new} {caller = caller} {call = c} {result = result} run still r is) =
@@ -265,7 +266,7 @@ module _ (first : Index) (quiet : IsQuiet first) (index : IsIndex first) where
       subst (λ (q : ℕ × ℕ). q.0 ≤ q.1 + added_whole (op_of c) result) (λ k. (sym (quiet_sum new quiet_new) k, sym (quiet_sum old still) k)) r.weighs in
       let none = quiet_shows old.states still in
       let same = same_added (op_of c) result in
-      let call : AnsweredCall = record { call = begun_call r.state (length old.history) c; until = length new.history; answer = once_of result; next = next_index r.state.index } in
+      let call : AnsweredCall = record { call = begun_call r.state (length old.history) c; until = length new.history; answer = once_of result; whole = true; next = next_index r.state.index } in
       let longer = sum_by_push (λ (d : AnsweredCall). added_by d.call.op d.answer) calls call in
       record { index = is; sum = omega arith }
   weighs (evicts {calls = calls} {old = old} {new = new} {word = word} run within e is) =

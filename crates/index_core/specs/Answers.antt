@@ -1,34 +1,38 @@
 -- What an answer says of the map and the history.
-use Rattle.std.specs.Prelude.{◌≡◌, ℕ, ◌<◌, ◌≤◌, List, length, Option, None, IfSome, IsSomeAnd}
+use Rattle.std.specs.Prelude.{◌≡◌, ℕ, ◌<◌, ◌≤◌, List, length, slice_get, Option, Some, None, IfSome, IsSomeAnd}
 use Rattle.std.specs.FinMap.{len}
 use Rattle.pm_words.specs.declared.again.Again.TheVariants.{NoFree}
 use Rattle.cat_history.specs.Maps.{Map, at}
 use Rattle.cat_history.specs.Writes.{after}
 use Rattle.cat_history.specs.Records.{interval_at, change_of}
+use Rattle.cat_history.specs.declared.op.Change.{Change}
 use Rattle.cat_history.specs.declared.op.Op.{Op}
-use Rattle.cat_history.specs.declared.op.Op.TheVariants as op
 use Rattle.cat_history.specs.declared.op.Write.{Write}
 use Rattle.call_stages.specs.declared.once.Once.{Once}
 use Rattle.call_stages.specs.declared.once.Once.TheVariants as once
 use Rattle.call_stages.specs.declared.once.Placed.{Placed}
 use Rattle.node_ops.specs.Asked.{name_asked}
 use Rattle.node_ops.specs.Endings.{IsPutOp}
-use Rattle.index_law.specs.Lawful.{HasWriteAt}
 use Rattle.index_core.specs.declared.party.PartyState.{PartyState}
 use Rattle.index_core.specs.declared.party.CoreReply.TheVariants as reply
 use Rattle.index_core.specs.declared.party.Stepped.{Stepped}
 use Rattle.index_core.specs.declared.party.Stepped.TheVariants.{Going, Answered}
 
+-- The write of the call stands at this place, with the change of the call; one that changes nothing has none.
+abbrev pub HasOwnWrite : List Write → ℕ → ℕ → Option Change → ℕ → Type 0
+HasOwnWrite history caller index change place =
+    IfSome change (λ c. slice_get history place ≡ Some (record { caller = caller; index = index; change = c }))
+
 -- A call of this op and limit, begun as the history was so long, took place: its interval lies in its time, which began
 -- below the limit if there is one, its old number is that of its name in the map at its place, and if it writes, its
--- write of the name stands there.
+-- write stands there.
 pub record TookPlace (base : Map) (history : List Write) (caller index since : ℕ) (op : Op) (limit : Option ℕ)
     (placed : Placed) : Type 0 where
   pub later : since ≤ placed.place
   pub within : (interval_at op placed.place).end ≤ length history
   pub below : IfSome limit (λ most. since < most)
   pub old : placed.old ≡ at (after base history placed.place) (name_asked op)
-  pub write : IfSome (change_of op) (λ change. HasWriteAt history caller index (name_asked op) placed.place)
+  pub write : HasOwnWrite history caller index (change_of op) placed.place
 
 -- The limit of a call was reached by a clock of its time, which is told by how long the history was as it began and
 -- ended.

@@ -2,7 +2,7 @@
 use Rattle.std.specs.Prelude.{ℕ, ◌≤◌, ◌^◌, Option, Some, None}
 use Rattle.cat_history.specs.declared.op.Op.{Op}
 use Rattle.cat_history.specs.declared.op.Op.TheVariants as op
-use Rattle.node_ops.specs.declared.call.View.{View}
+use Rattle.call_stages.specs.declared.view.View.{View}
 use Rattle.node_ops.specs.declared.get.Get.TheVariants as get
 use Rattle.node_ops.specs.declared.put.Put.TheVariants as put
 use Rattle.node_ops.specs.declared.del.Del.TheVariants as del

@@ -1,5 +1,6 @@
 -- What an eviction makes of the index, and what a crash leaves of it.
-use Rattle.std.specs.Prelude.{◌≡◌, ℕ, ◌≤◌, ◌^◌, List, [], ◌∷◌, ◌++◌, Option, Some, None, IfSome, slice_get}
+use Rattle.std.specs.Prelude.{◌≡◌, ℕ, ◌≤◌, ◌^◌, List, [], ◌∷◌, ◌++◌, Option, Some, None, IfSome, IsSomeAnd}
+use Rattle.std.specs.Prelude.{slice_get}
 use mathlib.Core.Option.{some}
 use lib.ListN.{get_elem?}
 use Rattle.pm_words.specs.Images.{Row}
@@ -13,14 +14,13 @@ use Rattle.sound_image.specs.Sound.{IsSound, IsMapOf}
 use Rattle.call_stages.specs.Stages.{placed_in}
 use Rattle.node_ops.specs.declared.running.Running.{Running}
 use Rattle.cat_history.specs.Records.{change_of}
-use Rattle.node_ops.specs.Asked.{op_in, name_asked}
+use Rattle.node_ops.specs.Asked.{op_in}
 use Rattle.node_ops.specs.RunningSteps.{IsRunning, running_call}
 use Rattle.node_ops.specs.CallStages.{stage_of}
 use Rattle.index_core.specs.declared.party.CoreCall.{CoreCall}
 use Rattle.index_core.specs.declared.party.CoreCall.TheVariants as call
 use Rattle.index_core.specs.declared.party.PartyState.{PartyState}
 use Rattle.index_core.specs.declared.crash.CutCall.{CutCall}
-use Rattle.index_law.specs.Lawful.{HasWriteAt}
 use Rattle.index_core.specs.Indexes.{Index, map_of_index, world}
 use Rattle.index_core.specs.Weights.{crash_weight}
 use Rattle.index_law.specs.Weights.{weight_sum}
@@ -89,8 +89,12 @@ pub record IsCrash (s : Index) (image : Row) (cuts : List PartyState) : Type 0 w
   pub end : Map
   pub keeps : IsMapOf s.layout (durable_row s.layout s.words) end
   pub ends : IsCrashEnd (map_of_index s) (cut_changes s.states) end
-  -- a write that was cut off with a place stands there in the history
+  -- a write that was cut off with a place stands there in the history, with its change
   pub placed : (i place : ℕ) (state : PartyState) (machine : Running) → get_elem? s.states i ≡ some state →
       state.machine ≡ Some machine →
       placed_in (stage_of machine) ≡ Some place →
-      HasWriteAt s.history state.caller state.index (name_asked (op_in machine)) place
+      IsSomeAnd (change_of (op_in machine)) (λ change. slice_get s.history place ≡ Some (record {
+        caller = state.caller;
+        index = state.index;
+        change = change;
+      }))

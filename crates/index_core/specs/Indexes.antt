@@ -4,16 +4,15 @@ use Rattle.std.specs.Prelude.{IfSome, IsSomeAnd}
 use Rattle.cat_history.specs.Records.{change_of}
 use mathlib.Core.Option.{some}
 use lib.ListN.{get_elem?}
-use Rattle.cat_key.specs.Names.{IsName}
 use Rattle.cat_key.specs.declared.Pair.{Pair}
 use Rattle.pm_words.specs.declared.layout.Layout.{Layout}
 use Rattle.pm_words.specs.Rows.{acted, got}
-use Rattle.cat_history.specs.Maps.{Map, at, map_of}
+use Rattle.cat_history.specs.Maps.{Map, map_of}
 use Rattle.cat_history.specs.Writes.{after_all}
 use Rattle.cat_history.specs.declared.op.Write.{Write}
 use Rattle.call_stages.specs.Stages.{counted, placed_in}
-use Rattle.call_stages.specs.Kinds.{Step}
-use Rattle.node_ops.specs.declared.call.View.{View}
+use Rattle.call_stages.specs.AnySteps.{AnyStep}
+use Rattle.call_stages.specs.declared.view.View.{View}
 use Rattle.node_ops.specs.declared.running.Running.{Running}
 use Rattle.pm_words.specs.declared.machine.Turn.{Turn}
 use Rattle.pm_words.specs.declared.machine.Turn.TheVariants.{Go, Done}
@@ -29,13 +28,15 @@ use Rattle.node_ops.specs.CallStages.{stage_of, stage_after, reply_of}
 use Rattle.index_law.specs.Worlds.{World, facts, written}
 use Rattle.index_law.specs.Lawful.{Lawful}
 use Rattle.index_law.specs.Laws.{IsLegal}
+use Rattle.index_law.specs.Whole.{Whole, IsWhole}
+use Rattle.index_law.specs.Footings.{AreTended}
 use Rattle.index_law.specs.Weights.{AddsName, RisesBy, weight_sum}
 use Rattle.index_core.specs.declared.party.CoreCall.{CoreCall}
 use Rattle.index_core.specs.declared.party.PartyState.{PartyState}
 use Rattle.index_core.specs.declared.party.Stepped.{Stepped}
 use Rattle.index_core.specs.Answers.{SaysOf}
 use Rattle.index_core.specs.CoreCalls.{machine_of, op_of}
-use Rattle.index_core.specs.PartyStates.{party_of, state_with, state_after, stepped_of, IsPartyState, owed}
+use Rattle.index_core.specs.PartyStates.{machine_footing, party_of, state_with, state_after, stepped_of, IsPartyState, owed}
 
 pub record Index : Type 0 where
   pub layout : Layout
@@ -57,9 +58,23 @@ world s = record {
   history = s.history;
 }
 
+-- With what each party has of log lines and prevs.
+abbrev pub footed : Index → Whole
+footed s = record {
+  world = world s;
+  lines = map (λ (state : PartyState). (machine_footing state.machine).line) s.states;
+  debts = map (λ (state : PartyState). (machine_footing state.machine).debt) s.states;
+}
+
 -- The map as it is.
 abbrev pub map_of_index : Index → Map
 map_of_index s = after_all (map_of s.base) s.history
+
+-- The write is that of the party's call in flight, at the place that the call has.
+pub record IsOwnWrite (state : PartyState) (machine : Running) (place : ℕ) (write : Write) : Type 0 where
+  pub placed : placed_in (stage_of machine) ≡ Some place
+  pub index : write.index ≡ state.index
+  pub change : change_of (op_in machine) ≡ Some write.change
 
 -- Of a party whose call is in flight, each write that stands in the history was placed before that call began, or is
 -- the call's own.
@@ -67,7 +82,7 @@ abbrev pub AreOrdered : List PartyState → List Write → Type 0
 AreOrdered states history = (i place : ℕ) (state : PartyState) (machine : Running) (write : Write) →
     get_elem? states i ≡ some state →
     state.machine ≡ Some machine → slice_get history place ≡ Some write → write.caller ≡ state.caller →
-    (place < state.since) ⊎ (placed_in (stage_of machine) ≡ Some place)
+    (place < state.since) ⊎ IsOwnWrite state machine place write
 
 -- A call that writes has a limit, of at most 2^62.
 abbrev pub HasLimit : Running → Type 0
@@ -88,6 +103,8 @@ parties_of l = l.callers + 1
 -- The index is lawful, each party's machine makes its call, and a party's writes come in order.
 pub record IsIndex (s : Index) : Type 0 where
   pub lawful : Lawful (world s)
+  pub whole : IsWhole (footed s)  -- so are its log lines and prevs
+  pub tended : AreTended (footed s)
   pub parties : length s.states ≡ parties_of s.layout
   pub states : (i : ℕ) (state : PartyState) → get_elem? s.states i ≡ some state →
       IsPartyState s.layout s.generation i state
@@ -152,12 +169,12 @@ pub record IsTurn (old new : Index) (state : PartyState) (machine : Running) : T
   -- it goes on with the call of the same op, name and limit
   pub keeps_op : (asked : Op) → IsOf asked machine → IsOfAfter asked (running_turned machine (told old machine))
   pub keeps_call : MakesCall (running_call machine) (running_turned machine (told old machine))
-  -- it is a step of one of the kinds
-  pub kind : Step old.layout old.generation (stage_of machine) (running_asks machine) (told old machine)
+  -- it is a step of one of the kinds, or one beside nodes
+  pub kind : AnyStep old.layout old.generation (stage_of machine) (running_asks machine) (told old machine)
       (stage_after (running_turned machine (told old machine))) (reply_of (running_turned machine (told old machine)))
   -- the index, with what deletes that aren't counted yet have lowered it by, weighs one more at most, and that only
   -- where a put adds a name
-  pub weighs : RisesBy (AddsName (stage_of machine) (running_asks machine)
+  pub weighs : RisesBy (AddsName old.layout (stage_of machine) (running_asks machine)
       (stage_after (running_turned machine (told old machine)))) (weight_sum (world old)) (weight_sum (world new))
   -- an answer is legal in the words of stages, too: the version word that turned it back or was worn
   pub legal : IsLegal new.layout new.generation (facts (world new)) state.caller state.index state.since

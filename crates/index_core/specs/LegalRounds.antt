@@ -1,7 +1,7 @@
 -- The calls of a schedule that took place, as the records of a legal round.
 use Rattle.std.specs.Prelude.{List, Option, Some, None, map}
 use Rattle.std.specs.List.{filter_map}
-use Rattle.cat_history.specs.Maps.{Map}
+use Rattle.cat_history.specs.Maps.{map_of}
 use Rattle.cat_history.specs.Records.{call_of}
 use Rattle.cat_history.specs.Rounds.{IsLegalRound}
 use Rattle.cat_history.specs.declared.record.Record.{Record}
@@ -36,6 +36,6 @@ records_of calls = filter_map record_of calls
 
 -- Once no call is in flight, the calls that took place are a legal round, whose writes are the history.
 abbrev pub LegalHistoryIsLegalRound : Type 0
-LegalHistoryIsLegalRound = (base : Map) (begun : List BegunCall) (calls : List AnsweredCall) (s : Index) →
-    IsLegalHistory base begun calls s → IsQuiet s →
-    IsLegalRound base (map call_of (records_of calls)) (records_of calls) s.history
+LegalHistoryIsLegalRound = (first : Index) (begun : List BegunCall) (calls : List AnsweredCall) (s : Index) →
+    IsLegalHistory first begun calls s → IsQuiet s →
+    IsLegalRound (map_of first.base) (map call_of (records_of calls)) (records_of calls) s.history

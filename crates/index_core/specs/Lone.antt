@@ -1,22 +1,28 @@
 -- A call that is made with no other in flight.
-use Rattle.std.specs.Prelude.{◌≡◌, ℕ, ◌+◌, ◌≤◌, ◌==◌, List, [], ◌++◌, length, slice_set, None, IsSomeAnd}
+use Rattle.std.specs.Prelude.{◌≡◌, ℕ, ◌+◌, ◌≤◌, ◌==◌, ◌⊎◌, Bool, true, false, List, [], ◌++◌, length, slice_set, None, IsSomeAnd}
 use Rattle.std.specs.FinMap.{keys}
 use Rattle.std.specs.List.{filter}
 use mathlib.Core.Option.{some}
 use lib.ListN.{get_elem?}
 use Rattle.cat_history.specs.Maps.{at}
+use Rattle.cat_key.specs.Names.{IsName}
 use Rattle.data_node.specs.Lists.{key_of}
 use Rattle.data_list.specs.Still.{position_from}
 use Rattle.cat_history.specs.declared.op.Write.{Write}
+use Rattle.pm_words.specs.declared.again.Again.TheVariants as again
 use Rattle.call_stages.specs.declared.once.Once.{Once}
 use Rattle.call_stages.specs.declared.once.Once.TheVariants as once
 use Rattle.call_stages.specs.declared.once.Placed.{Placed}
 use Rattle.cat_history.specs.Records.{change_of}
 use Rattle.node_ops.specs.Asked.{name_asked}
+use Rattle.shapes.specs.Anchors.{splits, put_anchors}
+use Rattle.version_lock.specs.Versions.{IsWorn}
 use Rattle.index_law.specs.Facts.{version_in}
+use Rattle.index_law.specs.Anchors.{anchors_in}
 use Rattle.index_law.specs.Worlds.{facts, written}
 use Rattle.lone_law.specs.Rooms.{target_node}
-use Rattle.lone_law.specs.LoneCalls.{FindsWorn}
+use Rattle.lone_law.specs.LoneCalls.{FindsWorn, IsAnswered}
+use Rattle.lone_law.specs.Splitting.{LacksFree}
 use Rattle.lone_law.specs.Locks.{locks_in}
 use Rattle.index_core.specs.declared.party.CoreCall.{CoreCall}
 use Rattle.index_core.specs.declared.party.CoreCall.TheVariants as call
@@ -26,16 +32,16 @@ use Rattle.index_core.specs.declared.party.PartyState.{PartyState}
 use Rattle.index_core.specs.declared.party.Whole.{Whole}
 use Rattle.index_core.specs.declared.party.Whole.TheVariants as whole
 use Rattle.index_core.specs.CoreCalls.{op_of, limit_of}
-use Rattle.index_core.specs.PartyStates.{next_index, state_counted}
+use Rattle.index_core.specs.PartyStates.{party_of, next_index, index_after, state_counted}
 use Rattle.index_core.specs.Indexes.{Index, map_of_index, world}
-use Rattle.index_core.specs.Weights.{weight_of, added_whole}
+use Rattle.index_core.specs.Weights.{weight_of, added_by, added_whole}
 
 -- No call is in flight.
 abbrev pub IsQuiet : Index → Type 0
 IsQuiet s = (i : ℕ) (state : PartyState) → get_elem? s.states i ≡ some state → state.machine ≡ None
 
--- How many more times its nodes can be locked in this run of the index: the fewest of any node. Each call takes one at
--- most.
+-- How many more times its nodes can be locked in this run of the index: the fewest of any node. Each try of a call takes
+-- one of each node at most.
 abbrev pub locks_left : Index → ℕ
 locks_left s = locks_in (world s)
 
@@ -59,22 +65,43 @@ FindsWornNode c s = FindsWorn (world s) (op_of c)
 abbrev pub IsOver : CoreCall → Index → Type 0
 IsOver c s = IsSomeAnd (limit_of c) (λ limit. limit ≤ length s.history)
 
--- It is a put of a name that the map lacks, and beside that name belong as many names to its node as it has slots.
+-- It is a put of a name that the map lacks, beside that name belong as many names to its node as it has slots, and no
+-- FREE node can be locked.
 abbrev pub FindsNoRoom : CoreCall → Index → Type 0
 FindsNoRoom (call.Put name value limit) s = (at (map_of_index s) name ≡ None) ×
-    (length (names_beside s name) ≡ s.layout.slots)
+    (length (names_beside s name) ≡ s.layout.slots) × LacksFree s.layout s.generation s.words
 FindsNoRoom _ s = ⊥
 
--- The answer by its cause: of these four, exactly one holds.
-abbrev pub IsWholeAnswer : Index → CoreCall → Whole → Type 0
-IsWholeAnswer s c (whole.Worn node word) = FindsWornNode c s × (node ≡ node_for s (name_asked (op_of c))) ×
-    (word ≡ version_in s.layout s.words node)
-IsWholeAnswer s c (whole.Spent clock) = ¬ FindsWornNode c s × IsOver c s × (clock ≡ length s.history)
-IsWholeAnswer s c whole.Full = ¬ FindsWornNode c s × ¬ IsOver c s × FindsNoRoom c s
-IsWholeAnswer s c (whole.Placed placed) =
+-- It is a put that splits the node of its name, and leaves the shape that such a put leaves.
+abbrev pub SplitsFor : CoreCall → Index → Index → Type 0
+SplitsFor (call.Put name value limit) s new =
+    (splits s.layout.slots (map_of_index s) (anchors_in (world s)) name ≡ true) ×
+    (anchors_in (world new) ≡ put_anchors s.layout.slots (map_of_index s) (anchors_in (world s)) name)
+SplitsFor _ s new = ⊥
+
+-- The node is that of the name, with this version word, from which no lock can be taken any more. Where it is the node
+-- of its name once that is split, the call took the last lock but one.
+abbrev pub IsWornNode : Index → CoreCall → Index → ℕ → ℕ → Type 0
+IsWornNode s c new node word =
+    (FindsWornNode c s × (node ≡ node_for s (name_asked (op_of c))) × (word ≡ version_in s.layout s.words node))
+    ⊎ (SplitsFor c s new × (locks_left s ≤ 1) × (node ≡ node_for new (name_asked (op_of c))) ×
+    IsWorn word s.generation)
+
+-- The answer by its cause: of these four, exactly one holds where two locks are left of each node.
+abbrev pub IsWholeAnswer : Index → CoreCall → Index → Whole → Type 0
+IsWholeAnswer s c new (whole.Worn node word) = IsWornNode s c new node word
+IsWholeAnswer s c new (whole.Spent clock) = ¬ FindsWornNode c s × IsOver c s × (clock ≡ length s.history)
+IsWholeAnswer s c new whole.Full = ¬ FindsWornNode c s × ¬ IsOver c s × FindsNoRoom c s
+IsWholeAnswer s c new (whole.Placed placed) =
     (¬ FindsWornNode c s × ¬ IsOver c s × ¬ FindsNoRoom c s)
     × (placed.old ≡ at (map_of_index s) (name_asked (op_of c))) × (placed.place ≡ length s.history) ×
-    (placed.hops ≡ hops_before s (name_asked (op_of c)))
+    (placed.hops ≡ hops_before new (name_asked (op_of c)))
+
+-- Where it took place, a put leaves the shape that such a put leaves, and any other call leaves it.
+abbrev pub LeavesShape : CoreCall → Whole → Index → Index → Type 0
+LeavesShape (call.Put name value limit) (whole.Placed placed) s new =
+    anchors_in (world new) ≡ put_anchors s.layout.slots (map_of_index s) (anchors_in (world s)) name
+LeavesShape c _ s new = (anchors_in (world new) ≡ anchors_in (world s)) ⊎ SplitsFor c s new
 
 -- The write that it placed, if it is one and took place.
 abbrev pub alone_writes : ℕ → ℕ → CoreCall → Whole → List Write
@@ -87,8 +114,22 @@ whole_of (once.Spent clock) = whole.Spent clock
 whole_of (once.Worn node word) = whole.Worn node word
 whole_of (once.Again why) = whole.Full
 
-abbrev pub whole_of_reply : CoreReply → Whole
-whole_of_reply (reply.Placed answer) = whole_of answer
+abbrev pub answer_in : CoreReply → Once Placed
+answer_in (reply.Placed answer) = answer
+
+-- The call is to be made again, since its node was full.
+abbrev pub needs_split : Once Placed → Bool
+needs_split (once.Again (again.NeedsSplit node)) = true
+needs_split _ = false
+
+-- The party once a try of its call is answered.
+abbrev pub state_tried : PartyState → ℕ → Once Placed → PartyState
+state_tried state since answer = record {
+  caller = state.caller;
+  index = index_after state.index answer;
+  since = since;
+  machine = None;
+}
 
 -- The party once its whole call is answered. It counts whatever it is answered.
 abbrev pub state_done : PartyState → ℕ → PartyState
@@ -100,16 +141,30 @@ pub record CountsCall (old : Index) (party : ℕ) (new : Index) : Type 0 where
   pub there : get_elem? old.states party ≡ some state
   pub is : new ≡ record old { states = slice_set old.states party (state_counted state) }
 
+-- What one try of a call answers and leaves.
+pub record TriesAlone (old : Index) (caller : ℕ) (c : CoreCall) (new : Index) (answer : Once Placed) : Type 0 where
+  pub state : PartyState
+  pub there : get_elem? old.states caller ≡ some state
+  pub named : IsName (name_asked (op_of c))
+  pub answered : IsAnswered (world old) (op_of c) (limit_of c) (world new) (party_of state) answer
+  pub states : new.states ≡ slice_set old.states caller (state_tried state (length old.history) answer)
+  pub layout : new.layout ≡ old.layout
+  pub generation : new.generation ≡ old.generation
+  pub base : new.base ≡ old.base
+  pub weighs : weight_of new ≤ weight_of old + added_by (op_of c) answer
+
 -- What a whole call answers and leaves.
 pub record RunsAlone (old : Index) (caller : ℕ) (c : CoreCall) (new : Index) (result : Whole) : Type 0 where
   pub state : PartyState
   pub there : get_elem? old.states caller ≡ some state
-  pub answer : IsWholeAnswer old c result
+  pub answer : IsWholeAnswer old c new result
   pub history : new.history ≡ old.history ++ alone_writes caller state.index c result
   pub states : new.states ≡ slice_set old.states caller (state_done state (length old.history))
   pub layout : new.layout ≡ old.layout
   pub generation : new.generation ≡ old.generation
   pub base : new.base ≡ old.base
-  pub list : (facts (world new)).list ≡ (facts (world old)).list  -- the same nodes are listed
+  -- the same nodes are listed, or its put split one
+  pub list : ((facts (world new)).list ≡ (facts (world old)).list) ⊎ SplitsFor c old new
+  pub shape : LeavesShape c result old new
   -- it weighs one more at most, and that only where it adds a name
   pub weighs : weight_of new ≤ weight_of old + added_whole (op_of c) result

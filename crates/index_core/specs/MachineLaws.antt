@@ -18,9 +18,9 @@ use Rattle.call_stages.specs.Stages.{placed_in}
 use Rattle.cat_history.specs.declared.op.Op.{Op}
 use Rattle.cat_history.specs.declared.op.Op.TheVariants as op
 use Rattle.index_core.specs.Weights.{added_by, weight_of}
-use Rattle.node_ops.specs.declared.call.View.{View}
+use Rattle.call_stages.specs.declared.view.View.{View}
 use Rattle.node_ops.specs.declared.running.Running.{Running}
-use Rattle.node_ops.specs.Asked.{IsOf, IsOfAfter, op_in}
+use Rattle.node_ops.specs.Asked.{IsOfAfter, op_in}
 use Rattle.node_ops.specs.RunningSteps.{running_asks, running_turned, running_takes, running_call, IsRunning, Sound}
 use Rattle.node_ops.specs.CallStages.{stage_of}
 use Rattle.node_ops.specs.Endings.{place_for}

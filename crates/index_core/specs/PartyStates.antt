@@ -7,6 +7,8 @@ use Rattle.call_stages.specs.declared.once.Once.{Once}
 use Rattle.call_stages.specs.declared.once.Once.TheVariants as once
 use Rattle.call_stages.specs.declared.once.Placed.{Placed}
 use Rattle.call_stages.specs.Stages.{Stage, Idle}
+use Rattle.call_stages.specs.Prevs.{no_debt}
+use Rattle.call_stages.specs.Footings.{Footing}
 use Rattle.node_ops.specs.declared.finish.FinishAt.{FinishAt}
 use Rattle.node_ops.specs.declared.finish.FinishAt.TheVariants as finish_at
 use Rattle.node_ops.specs.declared.put.Put.{Put}
@@ -15,8 +17,8 @@ use Rattle.node_ops.specs.declared.del.Del.{Del}
 use Rattle.node_ops.specs.declared.del.Del.TheVariants as del
 use Rattle.node_ops.specs.declared.running.Running.{Running}
 use Rattle.node_ops.specs.declared.running.Running.TheVariants.{Getting, Putting, Deleting}
-use Rattle.node_ops.specs.CallStages.{stage_of}
-use Rattle.node_ops.specs.RunningSteps.{Sound}
+use Rattle.node_ops.specs.CallStages.{stage_of, footing_of}
+use Rattle.node_ops.specs.RunningSteps.{Sound, running_call}
 use Rattle.node_ops.specs.Asked.{IsOf, op_in}
 use Rattle.index_law.specs.Worlds.{Party}
 use Rattle.index_core.specs.declared.party.PartyState.{PartyState}
@@ -28,6 +30,11 @@ use Rattle.index_core.specs.declared.party.Stepped.TheVariants.{Going, Answered}
 abbrev pub machine_stage : Option Running → Stage
 machine_stage None = Idle
 machine_stage (Some machine) = stage_of machine
+
+-- With its log line, and what it knows and owes of prevs.
+abbrev pub machine_footing : Option Running → Footing
+machine_footing None = record { stage = Idle; line = None; debt = no_debt }
+machine_footing (Some machine) = footing_of machine
 
 -- The party as the law of the index knows it.
 abbrev pub party_of : PartyState → Party
@@ -80,7 +87,7 @@ stepped_of (Done answer) = Answered (reply.Placed answer)
 
 -- How many writes a call in flight may still place.
 abbrev finish_owes : FinishAt → ℕ
-finish_owes (finish_at.Fence fence) = 1
+finish_owes (finish_at.Fence line fence) = 1
 finish_owes finish_at.Add = 1
 finish_owes (finish_at.Unlock place) = 0
 
@@ -111,3 +118,4 @@ pub record IsPartyState (l : Layout) (g : ℕ) (i : ℕ) (state : PartyState) : 
   pub caller : state.caller ≡ i
   pub machine : IfSome state.machine (Sound l g)  -- its call is one of this index
   pub op : IfSome state.machine (λ machine. IsOf (op_in machine) machine)  -- and is made for one op
+  pub own : IfSome state.machine (λ machine. (running_call machine).view.caller ≡ i)  -- by this party

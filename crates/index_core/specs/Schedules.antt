@@ -1,6 +1,6 @@
 -- Schedules of the core, and what is legal of all that they answer.
 use Rattle.std.specs.Prelude.{◌≡◌, ℕ, ◌+◌, ◌^◌, ◌<◌, ◌≤◌, ◌⊎◌, List, [], ◌∷◌, ◌++◌, length, slice_get, Option, Some}
-use Rattle.std.specs.Prelude.{None, IfSome, All, map}
+use Rattle.std.specs.Prelude.{None, IfSome, All, map, take, Bool, true, false, if◌then◌else◌, ◌==◌}
 use Rattle.std.specs.List.Sorted.{IsPermutation}
 use mathlib.Core.Option.{some}
 use lib.ListN.{get_elem?}
@@ -50,6 +50,7 @@ pub record AnsweredCall : Type 0 where
   pub call : BegunCall
   pub until : ℕ  -- how long the history was as it was answered
   pub answer : Once Placed
+  pub whole : Bool  -- whether it was made whole, with no other in flight
   pub next : ℕ  -- the index of its caller's next call
 
 -- The call that the party begins as the history is so long.
@@ -101,6 +102,7 @@ pub data Runs (first : Index) : List BegunCall → List AnsweredCall → Index �
         call = flying_call step.state step.machine;
         until = length new.history;
         answer = answer;
+        whole = false;
         next = index_after step.state.index answer;
       } ∷ []) new
   alone : {begun : List BegunCall} {calls : List AnsweredCall} {old new : Index} {caller : ℕ} {call : CoreCall}
@@ -111,6 +113,7 @@ pub data Runs (first : Index) : List BegunCall → List AnsweredCall → Index �
         call = begun_call run.state (length old.history) call;
         until = length new.history;
         answer = once_of result;
+        whole = true;
         next = next_index run.state.index;
       } ∷ []) new
   evicts : {begun : List BegunCall} {calls : List AnsweredCall} {old new : Index} {word : ℕ} →
@@ -164,16 +167,46 @@ IsLegalAnswer slots base history c until next (once.Spent clock) = IsSpentCall h
 IsLegalAnswer slots base history c until next (once.Worn node word) = StandsNowhere history c.caller c.index
 IsLegalAnswer slots base history c until next (once.Again why) = IsTurnedBack slots base history c until next why
 
--- The index of its caller's next call is one higher; where a call was turned back, it may be the same.
-abbrev pub IsNext : ℕ → ℕ → Once Placed → Type 0
-IsNext index next (once.Again why) = (next ≡ index) ⊎ (next ≡ index + 1)
-IsNext index next _ = next ≡ index + 1
+-- One where a call that is so answered uses up its index: a step that turns it back leaves it, a whole call uses it up
+-- whatever it is answered.
+abbrev pub uses_index : Bool → Once Placed → ℕ
+uses_index whole (once.Again why) = if whole then 1 else 0
+uses_index whole _ = 1
+
+-- The index of its caller's next call.
+abbrev pub IsNext : ℕ → ℕ → Bool → Once Placed → Type 0
+IsNext index next whole answer = next ≡ index + uses_index whole answer
+
+-- How many of these calls were this caller's and used up their index.
+abbrev pub used_by : ℕ → AnsweredCall → ℕ
+used_by caller c = if c.call.caller == caller then uses_index c.whole c.answer else 0
+
+abbrev pub indexes_used : ℕ → List AnsweredCall → ℕ
+indexes_used caller [] = 0
+indexes_used caller (c ∷ calls) = used_by caller c + indexes_used caller calls
+
+-- The index of this caller's next call, once these are answered: what it was at first, and one more for each of them
+-- that was the caller's and used up its index.
+pub record IsNextIndex (first : Index) (calls : List AnsweredCall) (caller index : ℕ) : Type 0 where
+  pub state : PartyState
+  pub there : get_elem? first.states caller ≡ some state
+  pub is : index ≡ state.index + indexes_used caller calls
+
+-- So each answered call has its index from the calls that were answered before it,
+abbrev pub IndexesCount : Index → List AnsweredCall → Type 0
+IndexesCount first calls = (i : ℕ) (c : AnsweredCall) → get_elem? calls i ≡ some c →
+    IsNextIndex first (take i calls) c.call.caller c.call.index
+
+-- and each party has that of its call in flight, or of its next one, from all of them.
+abbrev pub StatesCount : Index → List AnsweredCall → List PartyState → Type 0
+StatesCount first calls states = (i : ℕ) (state : PartyState) → get_elem? states i ≡ some state →
+    IsNextIndex first calls i state.index
 
 -- A call is answered legally.
 pub record IsLegalCall (slots : ℕ) (base : Map) (history : List Write) (c : AnsweredCall) : Type 0 where
   pub answer : IsLegalAnswer slots base history c.call c.until c.next c.answer
   pub within : c.until ≤ length history
-  pub next : IsNext c.call.index c.next c.answer
+  pub next : IsNext c.call.index c.next c.whole c.answer
 
 -- The places between which a call took effect, if it did.
 abbrev pub interval_of : Op → Once Placed → Option Interval
@@ -268,14 +301,18 @@ callers_of begun = map (λ c. c.caller) begun
 abbrev pub CarryLimit : ℕ → List BegunCall → Type 0
 CarryLimit limit begun = All (λ c. IfSome (change_of c.op) (λ change. c.limit ≡ Some limit)) begun
 
--- The history of the index is the one legal history of these calls, over this base.
-pub record IsLegalHistory (base : Map) (begun : List BegunCall) (calls : List AnsweredCall) (s : Index) : Type 0 where
-  pub base_is : map_of s.base ≡ base
+-- The history of the index is the one legal history of these calls, since the first index.
+pub record IsLegalHistory (first : Index) (begun : List BegunCall) (calls : List AnsweredCall) (s : Index) :
+    Type 0 where
+  pub base_is : map_of s.base ≡ map_of first.base
   pub each_call : EachIsAnsweredOrFlies begun calls s.states
-  pub answers : (i : ℕ) (c : AnsweredCall) → get_elem? calls i ≡ some c → IsLegalCall s.layout.slots base s.history c
+  pub answers : (i : ℕ) (c : AnsweredCall) → get_elem? calls i ≡ some c →
+      IsLegalCall s.layout.slots (map_of first.base) s.history c
   pub in_time : KeepsTime calls
   pub in_order : AnswersKeepOrder calls
   pub in_flight : AreLegalInFlight calls s.states
+  pub indexes : IndexesCount first calls
+  pub next_indexes : StatesCount first calls s.states
   pub once : EachWritesOnce s.history
   pub writes : EachWriteIsOfACall calls s.states s.history
   -- under one limit, each place of a write is below it plus the number of callers that have calls, minus one
@@ -291,7 +328,7 @@ AreCounted first begun = (i : ℕ) (state : PartyState) → get_elem? first.stat
 abbrev pub OneLegalHistory : Type 0
 OneLegalHistory = (first last : Index) (begun : List BegunCall) (calls : List AnsweredCall) → IsIndex first →
     IsQuiet first → first.history ≡ [] →
-    Runs first begun calls last → AreCounted first begun → IsLegalHistory (map_of first.base) begun calls last
+    Runs first begun calls last → AreCounted first begun → IsLegalHistory first begun calls last
 
 -- A fresh index is one that a schedule may begin with.
 abbrev pub FreshIndexBegins : Type 0

@@ -2,12 +2,13 @@ ghost use Rattle.std.specs.Prelude.{◌≡◌};
 ghost use Rattle.cat_key.specs.Names.{IsName};
 
 use crate::party::CoreCall;
+use call_stages::View;
 use cat_key::Name;
-use node_ops::{Del, Get, Put, Running, View};
+use node_ops::{Del, Get, Put, Running};
 
 impl CoreCall {
     ghost use Rattle.node_ops.specs.Asked.{IsOf};
-    ghost use Rattle.node_ops.specs.Calls.{IsView};
+    ghost use Rattle.call_stages.specs.Views.{IsView};
     ghost use Rattle.node_ops.specs.RunningSteps.{IsRunning};
     ghost use Rattle.index_core.specs.CoreCalls.{LimitFits, machine_of, op_of};
 

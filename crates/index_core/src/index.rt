@@ -8,13 +8,13 @@ ghost use Rattle.index_core.specs.Fresh.{IsFreshIndex};
 ghost use Rattle.pm_words.specs.Locations.{image_words};
 ghost use Rattle.index_core.specs.Crashes.{IsCrash, evicted_index};
 ghost use Rattle.index_core.specs.PartsOf.{index_in};
-ghost use Rattle.index_core.specs.Lone.{CountsCall, IsQuiet, RunsAlone, locks_left};
+ghost use Rattle.index_core.specs.Lone.{CountsCall, IsQuiet, RunsAlone, TriesAlone, locks_left};
 
 use crate::crash::{Crashed, Cuts};
-use crate::party::{CoreCall, InFlight, PartyState, Stepped, Whole, idle_states};
+use crate::party::{CoreCall, InFlight, PartyState, Stepped, Whole, idle_states, needs_split};
+use call_stages::{Once, Placed, View};
 use cat_history::{Change, Listed, Write};
 use cat_key::Pair;
-use node_ops::View;
 use pm_words::offsets::volatile;
 use pm_words::{Image, Layout, Machine, Memory, NoMemory, Steps};
 use std::alloc::Global;
@@ -206,8 +206,9 @@ impl Core {
     }
 
     /// A whole call of a caller, with no other in flight. Its answer is told by its cause: the locks of the node are
-    /// used up, else the clock has reached the limit, else there is no room for a new name, else it takes place. Of
-    /// `spare` it takes one for a write that it places, and none otherwise.
+    /// used up, else the clock has reached the limit, else there is no room for a new name, else it takes place. A put
+    /// that finds its node full splits it, and is made again. Of `spare` it takes one for a write that it places, and
+    /// none otherwise.
     pub fn run_alone<L: Ledger>(
         &mut self,
         caller: u64,
@@ -221,24 +222,50 @@ impl Core {
         ensures runs { RunsAlone self.old caller call self.new result }
         ensures quiet { IsQuiet self.new }
         ensures spare { self.old.spare + length self.old.history ≤ self.new.spare + length self.new.history }
+        ensures locks { locks_left self.old ≤ locks_left self.new + 2 }
+        ensures index { IsIndex self.new }
+    {
+        let mut answer = self.try_alone(caller, &call, steps);
+        if needs_split(&answer) {
+            // The node is split now, and has room.
+            answer = self.try_alone(caller, &call, steps);
+        }
+        let whole = Whole::of(answer);
+        if let Whole::Full = whole {
+            self.count_call(caller);
+        }
+        whole
+    }
+
+    /// One try of a call, with no other in flight.
+    fn try_alone<L: Ledger>(
+        &mut self,
+        caller: u64,
+        call: &CoreCall,
+        steps: &mut Steps<L>,
+    ) -> Once<Placed>
+        requires caller { caller < self.old.layout.callers }
+        requires limit { LimitFits call.now }
+        requires spare { most_writes call.now ≤ self.old.spare }
+        requires quiet { IsQuiet self.old }
+        ensures tries { TriesAlone self.old caller call.now self.new result }
+        ensures before { IsIndex self.old }
+        ensures quiet { IsQuiet self.new }
+        ensures spare { self.old.spare + length self.old.history ≤ self.new.spare + length self.new.history }
         ensures locks { locks_left self.old ≤ locks_left self.new + 1 }
         ensures index { IsIndex self.new }
     {
-        let Ok(()) = self.start(caller, call) else {
+        let Ok(()) = self.start(caller, *call) else {
             unreachable!()
         };
         'steps: loop {
             if let Stepped::Answered(reply) = self.step(caller, steps) {
-                let whole = Whole::of(reply);
-                if let Whole::Full = whole {
-                    self.count_call(caller);
-                }
-                return whole;
+                return reply.answer();
             }
         }
     }
 
-    /// Counts a whole call of the party that was turned back by a full node: to its caller it was answered.
+    /// Counts a whole call of the party that was turned back for want of room: to its caller it was answered.
     fn count_call(&mut self, party: u64)
         requires party { party < self.old.layout.callers }
         requires quiet { IsQuiet self.old }

@@ -20,8 +20,8 @@ ghost use Rattle.index_core.specs.Schedules.{OneLegalHistory, FreshIndexBegins};
 ///   of its time, and had reached the limit.
 /// - **Turned back.** While a call was made that was turned back, its caller wrote nothing. For want of room only a put
 ///   is turned back: in its time the map lacked its name, and had as many names as a node has slots.
-/// - **Index.** Each answer but that of a call that was turned back makes its caller's index one higher. No later call
-///   of the caller has a lower one.
+/// - **Index.** The index of a call is what its caller's index was at first, and one more for each call of the caller
+///   that was answered before it, but those that a step turned back. A whole call counts whatever it is answered.
 /// - **Nothing else.** Each write of the history is that of an answered call at its place, or of a call in flight that
 ///   has this place.
 /// - **Limit.** Where all puts and deletes have one limit, each place of a write is below it plus the number of callers

@@ -1,10 +1,11 @@
 ghost use Rattle.std.specs.Prelude.{◌≡◌, IfOk};
 ghost use Rattle.index_core.specs.PartyStates.{idle_states};
+ghost use Rattle.index_core.specs.Lone.{needs_split};
 
 use call_stages::{Once, Placed};
 use cat_key::Name;
 use node_ops::Running;
-use pm_words::{NoMemory, Turn};
+use pm_words::{Again, NoMemory, Turn};
 use std::alloc::Global;
 
 /// What a party calls. A put or delete is refused where the clock, loaded under the lock of its node, has reached
@@ -48,7 +49,7 @@ pub enum Stepped {
 #[derive(Clone, Copy)]
 pub enum Whole {
     Placed(Placed),
-    /// A put found no room: the map lacks the name, and has as many names as the node has slots.
+    /// A put found no room: the map lacks the name, its node has as many names as slots, and no FREE node can be locked.
     Full,
     /// The clock had reached the call's limit.
     Spent { clock: u64 },
@@ -62,18 +63,31 @@ pub struct InFlight;
 
 impl Whole {
     ghost use Rattle.std.specs.Prelude.{◌≡◌};
-    ghost use Rattle.index_core.specs.Lone.{whole_of_reply};
+    ghost use Rattle.index_core.specs.Lone.{whole_of};
 
-    /// A call that is alone is turned back by a full node only.
-    pub(crate) fn of(reply: CoreReply) -> Whole
-        ensures { result ≡ whole_of_reply reply }
+    /// A call that is alone, and made again where it split, is turned back for want of room only.
+    pub(crate) fn of(answer: Once<Placed>) -> Whole
+        ensures { result ≡ whole_of answer }
     {
-        let CoreReply::Placed(answer) = reply;
         match answer {
             Once::Done(placed) => Whole::Placed(placed),
             Once::Spent { clock } => Whole::Spent { clock },
             Once::Worn { node, word } => Whole::Worn { node, word },
             Once::Again(_) => Whole::Full,
+        }
+    }
+}
+
+impl CoreReply {
+    ghost use Rattle.std.specs.Prelude.{◌≡◌};
+    ghost use Rattle.index_core.specs.Lone.{answer_in};
+
+    /// What the try of its call was answered.
+    pub(crate) fn answer(self) -> Once<Placed>
+        ensures { result ≡ answer_in self }
+    {
+        match self {
+            CoreReply::Placed(answer) => answer,
         }
     }
 }
@@ -149,6 +163,13 @@ impl PartyState {
             ),
         }
     }
+}
+
+/// The call is to be made again, since its node was full.
+pub(crate) fn needs_split(answer: &Once<Placed>) -> bool
+    ensures { result ≡ needs_split answer.now }
+{
+    matches!(answer, Once::Again(Again::NeedsSplit { .. }))
 }
 
 /// So many parties that have made no call.

@@ -14,6 +14,7 @@ use std::test::Fail;
 mod crashes;
 mod events;
 mod indexes;
+mod splits;
 
 /// No call has as many steps.
 const MANY: u64 = 1000;

@@ -14,7 +14,7 @@ use std::marker::Brand;
 use std::sync::ledger::{Blank, Ledger};
 use std::test::Fail;
 
-/// The names of these tests. The node has four slots.
+/// The names of these tests. A node has four slots.
 const NAMES: u64 = 6;
 
 fn name_of(number: u64) -> Result<Name, Fail> {
@@ -22,9 +22,10 @@ fn name_of(number: u64) -> Result<Name, Fail> {
     Ok(Name::read(&[byte]).ok().ok_or("a name")?)
 }
 
-/// A put, an overwrite or a delete, and how many names there are before it.
+/// A put, an overwrite or a delete, how many nodes the layout has, and how many names there are before it.
 #[derive(Clone, Copy)]
 struct Case {
+    nodes: u64,
     put: bool,
     number: u64,
     before: u64,
@@ -75,7 +76,7 @@ fn evict(core: &mut Core, kind: u64) {
 }
 
 /// What a change makes of the plain map.
-fn apply(map: &mut PlainMap, change: &Change) {
+pub(super) fn apply(map: &mut PlainMap, change: &Change) {
     match change {
         Change::Put { name, value } => {
             let _old = map.put(name, *value);
@@ -87,7 +88,7 @@ fn apply(map: &mut PlainMap, change: &Change) {
 }
 
 /// What the plain map has after the whole history.
-fn map_of(alloc: Global, core: &Core) -> Result<PlainMap, Fail> {
+pub(super) fn map_of(alloc: Global, core: &Core) -> Result<PlainMap, Fail> {
     let mut map = PlainMap::new(alloc, NAMES)?;
     for write in core.history() {
         apply(&mut map, &write.change);
@@ -96,7 +97,7 @@ fn map_of(alloc: Global, core: &Core) -> Result<PlainMap, Fail> {
 }
 
 /// Whether the image is sound and has of each name what the map has.
-fn is_kept(image: &Image, map: &mut PlainMap) -> Result<bool, Fail> {
+pub(super) fn is_kept(image: &Image, map: &mut PlainMap) -> Result<bool, Fail> {
     let mut kept = first_broken(image).is_none();
     for number in 0..NAMES {
         let name = name_of(number)?;
@@ -114,9 +115,14 @@ enum Shown {
     Found,
 }
 
-/// A core of four slots with so many names.
-fn with_names<L: Ledger>(alloc: Global, count: u64, steps: &mut Steps<L>) -> Result<Core, Fail> {
-    let mut core = Core::fresh(alloc, Layout::new(1, 4, 1)?)?;
+/// A core of so many nodes of four slots, with so many names.
+fn with_names<L: Ledger>(
+    alloc: Global,
+    nodes: u64,
+    count: u64,
+    steps: &mut Steps<L>,
+) -> Result<Core, Fail> {
+    let mut core = Core::fresh(alloc, Layout::new(nodes, 4, 1)?)?;
     for value in 0..count {
         let name = name_of(value)?;
         begin(&mut core, Change::Put { name, value })?;
@@ -153,7 +159,7 @@ fn crashed<L: Ledger>(
     evicts: u64,
     steps: &mut Steps<L>,
 ) -> Result<Shown, Fail> {
-    let mut core = with_names(alloc, case.before, steps)?;
+    let mut core = with_names(alloc, case.nodes, case.before, steps)?;
     let change = case.change()?;
     begin(&mut core, change)?;
     run(&mut core, 0, before, steps)?;
@@ -205,16 +211,19 @@ fn a_crash_keeps_the_map_with_what_is_found(rt: HostRuntime) -> Result<(), Fail>
     // is word 17 of the image, which a put into a clear slot stores as its event 55 and drains as 59, and a delete as
     // 22 and 26; the value of slot 0 is word 35, and is stored in place as event 22 and drained as event 30.
     let put = Case {
+        nodes: 1,
         put: true,
         number: 1,
         before: 1,
     };
     let overwrite = Case {
+        nodes: 1,
         put: true,
         number: 0,
         before: 4,
     };
     let delete = Case {
+        nodes: 1,
         put: false,
         number: 0,
         before: 2,
@@ -226,5 +235,52 @@ fn a_crash_keeps_the_map_with_what_is_found(rt: HostRuntime) -> Result<(), Fail>
             [Some(drained), Some(stored), Some(drained), Some(stored)]
         );
     }
+    Ok(())
+}
+
+/// The first step of the case's write after which a crash shows anything but that the write is lost.
+fn first_not_lost<L: Ledger>(
+    alloc: Global,
+    case: Case,
+    evicts: u64,
+    steps: &mut Steps<L>,
+) -> Result<Option<u64>, Fail> {
+    for before in 0..225 {
+        if crashed(alloc, case, before, evicts, steps)? != Shown::Lost {
+            return Ok(Some(before));
+        }
+    }
+    Ok(None)
+}
+
+/// The same with each kind of eviction.
+fn not_lost_by_evictions<L: Ledger>(
+    alloc: Global,
+    blank: Blank,
+    case: Case,
+) -> Result<[Option<u64>; 4], Fail>
+    requires name { blank.name ≡ L.name }
+    requires parts { (blank.parts ≡ L.parts) × (0 < L.parts) }
+{
+    let (book, share) = blank.open::<L>();
+    let mut steps = Steps::new(book, share);
+    let mut first = [None; 4];
+    for evicts in 0..4 {
+        first[evicts as usize] = first_not_lost(alloc, case, evicts, &mut steps)?;
+    }
+    Ok(first)
+}
+
+#[test]
+fn a_crash_in_a_split_keeps_the_map(rt: HostRuntime) -> Result<(), Fail> {
+    // The put splits its full node in 220 events, and is then answered without a place.
+    let split = Case {
+        nodes: 2,
+        put: true,
+        number: 4,
+        before: 4,
+    };
+    let found = not_lost_by_evictions::<Brand>(rt.alloc(), Blank::new(1), split)?;
+    assert_eq!(rt; found, [None; 4]);
     Ok(())
 }

@@ -92,10 +92,6 @@ returns-clause-started c =
     let s = index_with c.self.inside 0 in
     let i = c.args.party in
     let begun = begun_at c in
-    let owing = begun.owing in
-    let was = ap (λ (v : Index). v.spare) c.self.view_is in
-    let room = c.self.invariant.1 in
-    let wanted = c.requires.spare in
     let n : ℕ = c.self.inside.history.cap - (c.self.inside.history.len + owed (slice_set s.states i c.begins.result)) in
     record {
       state = begun.state;
@@ -121,10 +117,6 @@ returns-clause-index c =
     let s = index_with c.self.inside 0 in
     let i = c.args.party in
     let begun = begun_at c in
-    let owing = begun.owing in
-    let was = ap (λ (v : Index). v.spare) c.self.view_is in
-    let room = c.self.invariant.1 in
-    let wanted = c.requires.spare in
     let n : ℕ = c.self.inside.history.cap - (c.self.inside.history.len + owed (slice_set s.states i c.begins.result)) in
     subst IsIndex (sym (begun.same n)) (begun.kept n)
 

@@ -11,7 +11,7 @@ use Rattle.node_ops.specs.Asked.{IsOf, IsOfAfter, op_in}
 use Rattle.pm_words.specs.Rows.{got, CanAct}
 use Rattle.call_stages.specs.Stages.{counted}
 use Rattle.node_ops.specs.declared.running.Running.{Running}
-use Rattle.call_stages.specs.Kinds.{Step}
+use Rattle.call_stages.specs.AnySteps.{AnyStep}
 use Rattle.node_ops.specs.CallStages.{stage_of, stage_after, reply_of}
 use Rattle.node_ops.specs.RunningSteps.{running_call, running_left, running_asks, running_turned, running_takes, IsRunning}
 use Rattle.index_law.specs.Worlds.{facts}
@@ -62,8 +62,6 @@ action-action-requires g c =
     let s = index_with c.self.inside 0 in
     let i = c.args.party in
     let flies = c.requires.flies in
-    let e = flies.state in
-    let m = flies.machine in
     let at = reads s c.args.self.now i flies c.index-state.result.now c.in-Some.machine (ap (λ (v : Index). v.states) c.self.view_is) c.self.invariant.0 c.index-state.ensures c.in-Some.is in
     subst IsRunning (sym at.same) at.facts.fits
 
@@ -72,8 +70,6 @@ counts-counts-requires g c =
     let s = index_with c.self.inside 0 in
     let i = c.args.party in
     let flies = c.requires.flies in
-    let e = flies.state in
-    let m = flies.machine in
     let at = reads s c.args.self.now i flies c.index-state.result.now c.in-Some.machine (ap (λ (v : Index). v.states) c.self.view_is) c.self.invariant.0 c.index-state.ensures c.in-Some.is in
     subst IsRunning (sym at.same) at.facts.fits
 
@@ -82,8 +78,6 @@ act-got-requires g c =
     let s = index_with c.self.inside 0 in
     let i = c.args.party in
     let flies = c.requires.flies in
-    let e = flies.state in
-    let m = flies.machine in
     let at = reads s c.args.self.now i flies c.index-state.result.now c.in-Some.machine (ap (λ (v : Index). v.states) c.self.view_is) c.self.invariant.0 c.index-state.ensures c.in-Some.is in
     subst (CanAct s.layout s.words) (sym (c.action-action.ensures ∙ ap running_asks at.same)) at.facts.can
 
@@ -102,7 +96,6 @@ resume-requires g c =
     let s = index_with c.self.inside 0 in
     let i = c.args.party in
     let flies = c.requires.flies in
-    let e = flies.state in
     let m = flies.machine in
     let at = reads s c.args.self.now i flies c.index-state.result.now c.in-Some.machine (ap (λ (v : Index). v.states) c.self.view_is) c.self.invariant.0 c.index-state.ensures c.in-Some.is in
     let given : c.act-got.result ≡ told s m = c.act-got.ensures.got ∙ ap (got s.layout s.words) (c.action-action.ensures ∙ ap running_asks at.same) in
@@ -123,11 +116,6 @@ leaves_at g c =
 
 pub invariant_of-self : goal.invariant_of-self
 invariant_of-self g c =
-    let s = index_with c.self.inside 0 in
-    let i = c.args.party in
-    let flies = c.requires.flies in
-    let e = flies.state in
-    let m = flies.machine in
     let at = reads_at g c in
     let left = leaves_at g c in
     (subst IsIndex (sym (left.same 0)) (at.facts.kept 0), left.room)
@@ -152,14 +140,14 @@ returns-clause-stepped g c =
       comes_to = c.after-stepped.ensures.stepped ∙ ap stepped_of left.turned ∙ ap (λ (v : Index). stepped_of (running_turned m (told v m))) c.self.view_is;
       answer = subst (λ (r : Stepped). SaysOf new.layout.slots (map_of new.base) new.history e (op_in m) (running_call m).limit r) (sym (c.after-stepped.ensures.stepped ∙ ap stepped_of left.turned))
           (subst (λ (v : Index). SaysOf v.layout.slots (map_of v.base) v.history e (op_in m) (running_call m).limit (stepped_of (running_turned m (told s m)))) (sym (left.same n))
-          (says_of s.layout s.generation (facts (world (stepped_index s i e m n))) e m (told s m) at.of at.sound.here (at.facts.legal n)));
+          (says_of s.layout s.generation (facts (world (stepped_index s i e m n))) e m (told s m) at.of at.sound.here at.facts.owns (at.facts.legal n)));
       fewer = subst (λ (v : Index). GoesBelow running_left (running_left m) (running_turned m (told v m))) c.self.view_is
           (subst (λ (q : Running × Turn Running (Once Placed)). GoesBelow running_left (running_left q.0) q.1) (λ k. (at.same k, left.turned k)) c.resume.ensures.fewer);
       turn = record {
         keeps_op = subst (λ (v : Index). (asked : Op) → IsOf asked m → IsOfAfter asked (running_turned m (told v m))) c.self.view_is at.facts.keeps_op;
         keeps_call = subst (λ (v : Index). MakesCall (running_call m) (running_turned m (told v m))) c.self.view_is at.facts.keeps_call;
-        kind = subst (λ (v : Index). Step v.layout v.generation (stage_of m) (running_asks m) (told v m) (stage_after (running_turned m (told v m))) (reply_of (running_turned m (told v m)))) c.self.view_is at.facts.is_step;
-        weighs = subst (λ (q : Index × Index). RisesBy (AddsName (stage_of m) (running_asks m) (stage_after (running_turned m (told q.0 m)))) (weight_sum (world q.0)) (weight_sum (world q.1)))
+        kind = subst (λ (v : Index). AnyStep v.layout v.generation (stage_of m) (running_asks m) (told v m) (stage_after (running_turned m (told v m))) (reply_of (running_turned m (told v m)))) c.self.view_is at.facts.is_step;
+        weighs = subst (λ (q : Index × Index). RisesBy (AddsName q.0.layout (stage_of m) (running_asks m) (stage_after (running_turned m (told q.0 m)))) (weight_sum (world q.0)) (weight_sum (world q.1)))
             (λ k. (c.self.view_is k, sym (left.same n) k)) (at.facts.weighs n);
         legal = subst (λ (v : Index). IsLegal new.layout new.generation (facts (world new)) e.caller e.index e.since (stage_of m) (reply_of (running_turned m (told v m)))) c.self.view_is
             (subst (λ (v : Index). IsLegal v.layout v.generation (facts (world v)) e.caller e.index e.since (stage_of m) (reply_of (running_turned m (told s m)))) (sym (left.same n)) (at.facts.legal n));
@@ -186,11 +174,6 @@ returns-clause-spare g c =
 
 pub returns-clause-index : goal.returns-clause-index
 returns-clause-index g c =
-    let s = index_with c.self.inside 0 in
-    let i = c.args.party in
-    let flies = c.requires.flies in
-    let e = flies.state in
-    let m = flies.machine in
     let at = reads_at g c in
     let left = leaves_at g c in
     subst IsIndex (sym (left.same _)) (at.facts.kept _)

@@ -1,5 +1,5 @@
-use Rattle.index_core.proofs.Alone.{Lone, left_at}
-use Rattle.index_core.proofs.index.Core.run_alone.Given as goal
+use Rattle.index_core.proofs.Tries.{Lone, left_at}
+use Rattle.index_core.proofs.index.Core.try_alone.Given as goal
 
 abbrev pub invariant-steps : goal.invariant-steps
 invariant-steps g l = Lone l.fn.self l.self l.caller l.fn.call

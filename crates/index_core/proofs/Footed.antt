@@ -1,0 +1,284 @@
+-- What leaves all that parties have of log lines and prevs: other indexes of idle parties, words that become durable, the
+-- stamps of nodes.
+use Rattle.std.proofs.Common.{◌≡◌, ◌≢◌, ℕ, ◌<◌, ◌≤◌, ◌⊎◌, inl, inr, ⊎_elim, Bool, true, false, cond, ◌&&◌, List, [], set, refl, sym, ap, ◌∙◌, subst, arith}
+use Rattle.std.specs.Prelude.{Option, Some, None, IfSome}
+use Rattle.std.proofs.lemmas.Bool.{cases_lt, cases_eq, lt-ltb, le-ltb, ltb-true}
+use mathlib.Core.Option.{some}
+use lib.ListN.{get_elem?}
+use Rattle.pm_words.specs.declared.layout.Layout.{Layout}
+use Rattle.pm_words.specs.Layouts.{IsLayout}
+use Rattle.pm_words.specs.Images.{fresh_words}
+use Rattle.pm_words.specs.Locations.{Location, Node, Line, Volatile, Cached, Durable, HasWord, HasLocation, at, image_words, address_of}
+use Rattle.pm_words.specs.Rows.{evicted, row_of}
+use Rattle.pm_words.proofs.Apart.{at-set_other}
+use Rattle.pm_words.proofs.Made.{fresh_at, fresh_image, row_of-at, row_of-at_volatile}
+use Rattle.data_node.specs.Spots.{Spot}
+use Rattle.data_node.specs.Lists.{next_offset}
+use Rattle.call_stages.specs.Stages.{Stage, Idle, HoldsNode, Tells}
+use Rattle.call_stages.specs.Kinds.{HasWordAt, live_status}
+use Rattle.call_stages.specs.Lines.{HeldLine}
+use Rattle.call_stages.specs.Prevs.{Debt, no_debt}
+use Rattle.index_law.specs.Facts.{Facts, IsListed, status_in, spot_in}
+use Rattle.index_law.specs.Worlds.{Party, World, facts, evicted_world}
+use Rattle.index_law.specs.Lawful.{Lawful, Each}
+use Rattle.index_law.specs.Laws.{fresh_row, fresh_world}
+use Rattle.index_law.specs.Lines.{line_in, safe_line, AreFit, SureLine}
+use Rattle.call_stages.specs.Orders.{AreInOrder}
+use Rattle.index_law.specs.Prevs.{prev_in, IsOwed, IsGone}
+use Rattle.index_law.specs.Whole.{Whole, IsWhole}
+use Rattle.index_law.specs.Footings.{AreTended}
+use Rattle.index_law.proofs.Evictions.{evict_law}
+use Rattle.index_law.proofs.Fresh.{fresh_law}
+use Rattle.index_law.proofs.Joint.{sure_same, fit_same}
+use Rattle.index_law.proofs.Noting.{LinesStay, line-alike, same_spots, evict_fits, store_leaves}
+use Rattle.index_law.proofs.Prevs.{store_prev, evict_traces, rest_traced, idle_follow}
+use Rattle.index_law.proofs.Rows.{facts-elsewhere, spot_in-here}
+use Rattle.index_law.proofs.Starts.{rest_law, idle_law, listed_within}
+use Rattle.index_law.proofs.Twins.{IsCloser, evict_closer, evict_cached}
+
+-- All that is kept of lines and prevs.
+abbrev pub IsFooted : Whole → Type 0
+IsFooted z = IsWhole z × AreTended z
+
+-- The same parties, each with its caller and its stage.
+pub record AreAlike (old new : List Party) : Type 0 where
+  pub forth : (i : ℕ) (p : Party) → get_elem? old i ≡ some p → (q : Party) × (get_elem? new i ≡ some q) × (q.caller ≡ p.caller) × (q.stage ≡ p.stage)
+  pub back : (i : ℕ) (q : Party) → get_elem? new i ≡ some q → (p : Party) × (get_elem? old i ≡ some p) × (q.caller ≡ p.caller) × (q.stage ≡ p.stage)
+
+-- a row in which the nodes, their prevs and the lines are the same, with such parties
+moved_footed : (z : Whole) (words : List ℕ) (parties : List Party) → IsFooted z → Lawful (record (z.world) { words = words; parties = parties }) → AreAlike z.world.parties parties
+    → facts (record (z.world) { words = words }) ≡ facts z.world → ((n : ℕ) → prev_in z.world.layout words n ≡ prev_in z.world.layout z.world.words n)
+    → ((c j offset : ℕ) → LinesStay z.world.layout z.world.words words c j offset) → IsFooted (record { world = record (z.world) { words = words; parties = parties }; lines = z.lines; debts = z.debts })
+moved_footed z words parties is lawful alike same prevs stay =
+    let l = z.world.layout in
+    let joint = is.0.joint in
+    let traced = is.0.traced in
+    let f = facts z.world in
+    let prev : ℕ → ℕ = prev_in l z.world.words in
+    let prev' : ℕ → ℕ = prev_in l words in
+    let same_prevs : prev' ≡ prev = λ i n. prevs n i in
+    let world : World = record (z.world) { words = words; parties = parties } in (
+      record {
+        joint = record {
+          lawful = lawful;
+          fit = fit_same l z.world.words words stay joint.fit;
+          sure = λ i e there. sure_same l z.world.words words e (λ o. (stay e.caller e.number o).0) (λ o. (stay e.caller e.number o).1) (joint.sure i e there);
+          owned = λ i e there. let owned = joint.owned i e there in let q = alike.forth i owned.party owned.there in record { party = q.0; there = q.1; own = owned.own ∙ sym q.2 };
+          callers = λ u v b d at_u at_v one. let p = alike.back u b at_u in let q = alike.back v d at_v in joint.callers u v p.0 q.0 p.1 q.1 (sym p.2 ∙ one ∙ q.2);
+        };
+        traced = record {
+          lawful = lawful;
+          known = λ j e q at_d at_p. let p = alike.back j q at_p in
+              subst (λ (φ : Facts). IfSome e.known (λ k. HoldsNode q.stage k.0 × (IsListed φ k.0 → ⊥) × (prev' k.0 ≡ k.1))) (sym same)
+              (subst (λ (pr : ℕ → ℕ). IfSome e.known (λ k. HoldsNode q.stage k.0 × (IsListed f k.0 → ⊥) × (pr k.0 ≡ k.1))) (sym same_prevs)
+              (subst (λ (s : Stage). IfSome e.known (λ k. HoldsNode s k.0 × (IsListed f k.0 → ⊥) × (prev k.0 ≡ k.1))) (sym p.3) (traced.known j e p.0 at_d p.1)));
+          owes = λ j e q at_d at_p. let p = alike.back j q at_p in
+              subst (λ (φ : Facts). IfSome e.owes (λ n. HoldsNode q.stage n × IsListed φ n)) (sym same)
+              (subst (λ (s : Stage). IfSome e.owes (λ n. HoldsNode s n × IsListed f n)) (sym p.3) (traced.owes j e p.0 at_d p.1));
+          prevs = subst (λ (φ : Facts). (n : ℕ) → IsListed φ n → φ.now n next_offset ≢ 0 → (prev' (φ.now n next_offset) ≡ n) ⊎ IsOwed (record { world = world; debts = z.debts }) n) (sym same)
+              (λ n listed ne. ⊎_elim
+              (λ e. inl (prevs (f.now n next_offset) ∙ e))
+              (λ owed. let q = alike.forth owed.number owed.party owed.at in inr (record { number = owed.number; debt = owed.debt; party = q.0; there = owed.there; at = q.1; is = owed.is }))
+              (traced.prevs n listed ne));
+          order = subst (λ (φ : Facts). AreInOrder l.nodes (IsGone φ) prev') (sym same) (subst (AreInOrder l.nodes (IsGone f)) (sym same_prevs) traced.order);
+          below = λ n. let was = prevs n in let low = traced.below n in omega arith;
+        };
+      },
+      λ c j here low. ⊎_elim
+          (λ zero. inl ((stay c j 0).0 ∙ zero))
+          (λ hand. inr (record { number = hand.number; line = hand.line; there = hand.there; caller = hand.caller; index = hand.index }))
+          (is.1 c j here low),
+    )
+
+pub alike_footed : (z : Whole) (parties : List Party) → IsFooted z → Lawful (record (z.world) { parties = parties }) → AreAlike z.world.parties parties
+    → IsFooted (record { world = record (z.world) { parties = parties }; lines = z.lines; debts = z.debts })
+alike_footed z parties is lawful alike = moved_footed z z.world.words parties is lawful alike refl (λ n. refl) (λ c j offset. (refl, refl))
+
+-- a durable word of a line that is its cached twin stays so in a closer row
+clean_word : (l : Layout) (words words' : List ℕ) → IsCloser l words words' → (c j offset : ℕ) → c < l.callers → j < 8
+    → safe_line l words c j offset ≡ line_in l words c j offset → safe_line l words' c j offset ≡ line_in l words c j offset
+unfolding safe_line line_in
+clean_word l words words' closer c j offset here low = ⊎_elim
+    (λ (small : offset < 8). rw (lt-ltb c l.callers here) (rw (lt-ltb j 8 low) (rw (lt-ltb offset 8 small)
+    (λ same. ⊎_elim (λ stays. stays ∙ same) (λ copied. copied) (closer (Line c j offset) (here, low, small))))))
+    (λ (past : 8 ≤ offset). rw (lt-ltb c l.callers here) (rw (lt-ltb j 8 low) (rw (le-ltb offset 8 past) (λ same. refl))))
+    (cases_lt offset 8)
+
+-- so what a call knows of its line stays
+sure_closer : (l : Layout) (words words' : List ℕ) (e : HeldLine) → IsCloser l words words' → ((offset : ℕ) → line_in l words' e.caller e.number offset ≡ line_in l words e.caller e.number offset)
+    → SureLine l words e → SureLine l words' e
+sure_closer l words words' e closer line sure =
+    let is : line_in l words' e.caller e.number ≡ line_in l words e.caller e.number = same_spots (line_in l words' e.caller e.number) (line_in l words e.caller e.number) line in
+    record {
+      here = sure.here;
+      seen = subst (Tells e.seen) (sym is) sure.seen;
+      clean = λ offset spared. clean_word l words words' closer e.caller e.number offset sure.here.0 sure.here.1 (sure.clean offset spared) ∙ sym (line offset);
+      hand = subst (λ (s : Spot). IfSome e.hand (λ h. s h.0 ≡ h.1)) (sym is) sure.hand;
+    }
+
+pub evict_footed : (z : Whole) (word : ℕ) → IsFooted z → word < image_words z.world.layout
+    → IsFooted (record { world = evicted_world z.world word; lines = z.lines; debts = z.debts })
+evict_footed z word is within =
+    let l = z.world.layout in
+    let words = z.world.words in
+    let words' : List ℕ = evicted l words word in
+    let joint = is.0.joint in
+    let closer : IsCloser l words words' = evict_closer l words word joint.lawful.row.whole within in
+    let line : (c j o : ℕ) → line_in l words' c j o ≡ line_in l words c j o = λ c j o. line-alike l words words' c j o (λ has. evict_cached l words word (Line c j o) has) in (
+      record {
+        joint = record {
+          lawful = evict_law z.world word joint.lawful within;
+          fit = evict_fits l words word joint.lawful.row within joint.fit;
+          sure = λ i e there. sure_closer l words words' e closer (line e.caller e.number) (joint.sure i e there);
+          owned = joint.owned;
+          callers = joint.callers;
+        };
+        traced = evict_traces (record { world = z.world; debts = z.debts }) word is.0.traced within;
+      },
+      λ c j here low. ⊎_elim
+          (λ zero. inl (line c j 0 ∙ zero))
+          (λ hand. inr (record { number = hand.number; line = hand.line; there = hand.there; caller = hand.caller; index = hand.index }))
+          (is.1 c j here low),
+    )
+
+-- no party has a line, or owes anything, and each stands at its number
+pub record AreFree (parties : List Party) (held : List (Option HeldLine)) (owed : List Debt) : Type 0 where
+  pub idle : Each (λ p. p.stage ≡ Idle) parties
+  pub callers : (i : ℕ) (p : Party) → get_elem? parties i ≡ some p → p.caller ≡ i
+  pub lines : (i : ℕ) (e : Option HeldLine) → get_elem? held i ≡ some e → e ≡ None
+  pub debts : (i : ℕ) (d : Debt) → get_elem? owed i ≡ some d → d ≡ no_debt
+
+no_line_held : (e : HeldLine) → Some e ≡ None → ⊥
+no_line_held e is = cc
+
+-- an index of such parties, all of whose lines are EMPTY
+free_footed : (z : Whole) → AreFree z.world.parties z.lines z.debts → Lawful z.world → AreFit z.world.layout z.world.words
+    → ((c j : ℕ) → c < z.world.layout.callers → j < 8 → line_in z.world.layout z.world.words c j 0 ≡ 0)
+    → ((n : ℕ) → IsListed (facts z.world) n → (facts z.world).now n next_offset ≢ 0 → prev_in z.world.layout z.world.words ((facts z.world).now n next_offset) ≡ n)
+    → AreInOrder z.world.layout.nodes (IsGone (facts z.world)) (prev_in z.world.layout z.world.words) → ((n : ℕ) → prev_in z.world.layout z.world.words n < z.world.layout.nodes) → IsFooted z
+free_footed z free lawful fit empty follow order below = (
+  record {
+    joint = record {
+      lawful = lawful;
+      fit = fit;
+      sure = λ i e there. absurd (no_line_held e (free.lines i (Some e) there));
+      owned = λ i e there. absurd (no_line_held e (free.lines i (Some e) there));
+      callers = λ u v b d at_u at_v same. sym (free.callers u b at_u) ∙ same ∙ free.callers v d at_v;
+    };
+    traced = rest_traced (record { world = z.world; debts = z.debts }) (idle_law z.world lawful free.idle) free.debts follow order below;
+  },
+  λ c j here low. inl (empty c j here low),
+)
+
+-- what is 0, or not there
+guarded : (b : Bool) (x : ℕ) → (b ≡ true → x ≡ 0) → cond b x 0 ≡ 0
+guarded true x is = is refl
+guarded false x is = refl
+
+guarded_twice : (a b : Bool) (x : ℕ) → (a ≡ true → b ≡ true → x ≡ 0) → cond (a && (b && true)) x 0 ≡ 0
+guarded_twice true true x is = is refl refl
+guarded_twice true false x is = refl
+guarded_twice false b x is = refl
+
+-- which volatile word a location is
+abbrev offset_of : Location → ℕ
+offset_of (Volatile n o) = o
+offset_of _ = 0
+
+abbrev node_of : Location → ℕ
+node_of (Volatile n o) = n
+node_of _ = 0
+
+module _ (l : Layout) (layout : IsLayout l) where
+  first_here : 0 < l.nodes
+  first_here = let least = layout.nodes in omega arith
+
+  -- only node 0's status is stored
+  stays_zero : (p : Location) → HasLocation l p → p ≢ Volatile 0 0 → at l (row_of l (fresh_words l)) p ≡ 0 → at l (fresh_row l) p ≡ 0
+  stays_zero p has other zero = at-set_other l (row_of l (fresh_words l)) (Volatile 0 0) p live_status (first_here, omega arith) has other ∙ zero
+
+  -- so the lines are EMPTY, both twins,
+  empty_line : (c j : ℕ) → line_in l (fresh_row l) c j 0 ≡ 0
+  unfolding line_in
+  empty_line c j = guarded_twice _ _ (at l (fresh_row l) (Cached (Line c j 0))) (λ here low.
+      let has : HasWord l (Line c j 0) = (ltb-true c l.callers here, ltb-true j 8 low, omega arith) in
+      stays_zero (Cached (Line c j 0)) has (λ e. cc) ((row_of-at l (fresh_words l) (Line c j 0) (fresh_image l layout) has).0 ∙ fresh_at l (Line c j 0) has))
+
+  empty_safe : (c j : ℕ) → safe_line l (fresh_row l) c j 0 ≡ 0
+  unfolding safe_line
+  empty_safe c j = guarded_twice _ _ (at l (fresh_row l) (Durable (Line c j 0))) (λ here low.
+      let has : HasWord l (Line c j 0) = (ltb-true c l.callers here, ltb-true j 8 low, omega arith) in
+      stays_zero (Durable (Line c j 0)) has (λ e. cc) ((row_of-at l (fresh_words l) (Line c j 0) (fresh_image l layout) has).1 ∙ fresh_at l (Line c j 0) has))
+
+  -- the prevs 0,
+  zero_prev : (n : ℕ) → prev_in l (fresh_row l) n ≡ 0
+  unfolding prev_in
+  zero_prev n = guarded _ (at l (fresh_row l) (Volatile n 1)) (λ here.
+      let has : HasLocation l (Volatile n 1) = (ltb-true n l.nodes here, omega arith) in
+      stays_zero (Volatile n 1) has (λ e. let no : 1 ≡ 0 = ap offset_of e in omega arith) (row_of-at_volatile l (fresh_words l) (Volatile n 1) has (omega arith)))
+
+  -- the other nodes FREE,
+  zero_status : (n : ℕ) → n ≢ 0 → status_in l (fresh_row l) n ≡ 0
+  unfolding status_in
+  zero_status n other = guarded _ (at l (fresh_row l) (Volatile n 0)) (λ here.
+      let has : HasLocation l (Volatile n 0) = (ltb-true n l.nodes here, omega arith) in
+      stays_zero (Volatile n 0) has (λ e. other (ap node_of e)) (row_of-at_volatile l (fresh_words l) (Volatile n 0) has (omega arith)))
+
+  -- and no node leads to another
+  zero_next : (n : ℕ) → n < l.nodes → spot_in l (fresh_row l) n next_offset ≡ 0
+  zero_next n here =
+      let has : HasWordAt l n 2 = (here, omega arith) in
+      spot_in-here l (fresh_row l) n 2 has (omega arith)
+      ∙ stays_zero (Cached (Node n 2)) has (λ e. cc) ((row_of-at l (fresh_words l) (Node n 2) (fresh_image l layout) has).0 ∙ fresh_at l (Node n 2) has)
+
+pub fresh_footed : (l : Layout) (parties : List Party) (lines : List (Option HeldLine)) (debts : List Debt) → IsLayout l → AreFree parties lines debts → Each (λ p. p.since ≤ 0) parties
+    → IsFooted (record { world = fresh_world l parties; lines = lines; debts = debts })
+fresh_footed l parties lines debts layout free since =
+    let w = fresh_world l parties in
+    let lawful : Lawful w = rest_law w (fresh_law l parties layout free.idle since) in
+    free_footed (record { world = w; lines = lines; debts = debts }) free lawful
+    (λ c j mix is. inl (⊎_elim (λ durably. durably ∙ empty_safe l layout c j) (λ cached. cached ∙ empty_line l layout c j) (is 0)))
+    (λ c j here low. empty_line l layout c j)
+    (λ n listed ne. absurd (ne (zero_next l layout n (listed_within l (facts w) lawful.list layout n listed))))
+    (record {
+      order = [];
+      all = λ n gone. absurd (none_gone n gone);
+      ordered = tt;
+      within = tt;
+      once = tt;
+    })
+    (λ n. let zero = zero_prev l layout n in let here = first_here l layout in omega arith)
+  where
+    none_gone : (n : ℕ) → IsGone (facts (fresh_world l parties)) n → ⊥
+    none_gone n gone = ⊎_elim
+        (λ (first : n ≡ 0).
+        let lit : status_in l (fresh_row l) n ≡ 1 = (rest_law (fresh_world l parties) (fresh_law l parties layout free.idle since)).live.live n (inl first) in
+        let is : status_in l (fresh_row l) n ≡ 2 = gone in absurd (omega arith))
+        (λ (other : n ≢ 0). let zero = zero_status l layout n other in let is : status_in l (fresh_row l) n ≡ 2 = gone in absurd (omega arith))
+        (cases_eq n 0)
+
+-- an index with no call in flight, with other idle parties
+pub rest_footed : (z : Whole) (parties : List Party) (lines : List (Option HeldLine)) (debts : List Debt) → IsFooted z → AreFree z.world.parties z.lines z.debts → AreFree parties lines debts
+    → Lawful (record (z.world) { parties = parties }) → IsFooted (record { world = record (z.world) { parties = parties }; lines = lines; debts = debts })
+rest_footed z parties lines debts is was free lawful =
+    free_footed (record { world = record (z.world) { parties = parties }; lines = lines; debts = debts }) free lawful is.0.joint.fit
+    (λ c j here low. ⊎_elim
+    (λ zero. zero)
+    (λ hand. absurd (no_line_held hand.line (was.lines hand.number (Some hand.line) hand.there)))
+    (is.1 c j here low))
+    (λ n listed ne. idle_follow (record { world = z.world; debts = z.debts }) n is.0.traced was.idle listed ne)
+    is.0.traced.order is.0.traced.below
+
+-- an index with another stamp of a node
+pub stamp_footed : (z : Whole) (n : ℕ) → IsFooted z → n < z.world.layout.nodes → Lawful (record (z.world) { words = set z.world.words (address_of z.world.layout (Volatile n 2)) 1 })
+    → IsFooted (record { world = record (z.world) { words = set z.world.words (address_of z.world.layout (Volatile n 2)) 1 }; lines = z.lines; debts = z.debts })
+stamp_footed z n is here lawful =
+    let l = z.world.layout in
+    let words = z.world.words in
+    let p : Location = Volatile n 2 in
+    let has : HasLocation l (Volatile n 2) = (here, omega arith) in
+    moved_footed z (set words (address_of l (Volatile n 2)) 1) z.world.parties is lawful
+    (record { forth = λ i q there. (q, there, refl, refl); back = λ i q there. (q, there, refl, refl) })
+    (facts-elsewhere l words z.world.base z.world.history (Volatile n 2) 1 has (λ m o e. cc, λ m e. let no : 2 ≡ 0 = ap offset_of e in omega arith))
+    (store_prev l words (Volatile n 2) 1 has (λ k e. let no : 1 ≡ 2 = ap offset_of e in omega arith))
+    (store_leaves l words (Volatile n 2) 1 has (λ c j o. (λ e. cc, λ e. cc)))

@@ -1,0 +1,396 @@
+-- One try of a call, with no other in flight.
+use Rattle.std.proofs.Common.{◌≡◌, ◌≢◌, ℕ, suc, ◌+◌, ◌<◌, ◌≤◌, ◌^◌, ⊎_elim, List, ◌++◌, length, set, slice_set, map, refl, sym, ap, ◌∙◌, subst, arith}
+use Rattle.std.specs.Prelude.{Option, Some, None, IfSome}
+use mathlib.Core.Option.{some, none, some-injective}
+use lib.ListN.{get_elem?}
+use Rattle.pm_words.specs.declared.again.Again.TheVariants as again
+use Rattle.pm_words.specs.declared.machine.Turn.{Turn}
+use Rattle.pm_words.specs.declared.machine.Turn.TheVariants.{Go, Done}
+use Rattle.pm_words.specs.Turns.{GoesBelow}
+use Rattle.pm_words.specs.Rows.{acted}
+use Rattle.cat_key.specs.Names.{IsName}
+use Rattle.cat_history.specs.Maps.{at, map_of}
+use Rattle.cat_history.specs.declared.op.Op.{Op}
+use Rattle.call_stages.specs.declared.once.Once.{Once}
+use Rattle.call_stages.specs.declared.once.Once.TheVariants as once
+use Rattle.call_stages.specs.declared.once.Placed.{Placed}
+use Rattle.call_stages.specs.Stages.{Stage, Idle, counted}
+use Rattle.call_stages.specs.AnySteps.{AnyStep}
+use Rattle.call_stages.specs.declared.view.View.{View}
+use Rattle.node_ops.specs.declared.running.Running.{Running}
+use Rattle.call_stages.specs.Views.{IsView}
+use Rattle.node_ops.specs.Asked.{IsOf, op_in, name_asked}
+use Rattle.node_ops.specs.RunningSteps.{running_call, running_asks, running_turned, running_left, IsRunning}
+use Rattle.node_ops.specs.CallStages.{stage_of, stage_after, reply_of}
+use Rattle.node_ops.proofs.OpLaw.{op_told}
+use Rattle.index_law.specs.Facts.{Facts}
+use Rattle.index_law.specs.Worlds.{Party, World, facts, stepped, moved_on, written}
+use Rattle.index_law.specs.Lawful.{Each}
+use Rattle.index_law.specs.Laws.{IsAtRest}
+use Rattle.index_law.specs.Weights.{weight_sum}
+use Rattle.index_law.proofs.Starts.{idle_law}
+use Rattle.index_law.proofs.Parties.{at_set, set_here}
+use Rattle.lone_law.specs.Locks.{locks_of, fewest_locks, HasLocked, MergesNone, AfterLocks}
+use Rattle.lone_law.specs.LoneCalls.{LoneCall, IsAnswered, AfterCall, ValueFits, machine_for}
+use Rattle.lone_law.specs.Splitting.{AreEmpty}
+use Rattle.lone_law.specs.Tries.{IsHalvedSince}
+use Rattle.call_stages.specs.Lines.{HeldLine}
+use Rattle.index_law.specs.Lines.{line_in}
+use Rattle.index_law.specs.Footings.{IsInHand}
+use Rattle.lone_law.proofs.Locks.{locks_go, fewest_lose}
+use Rattle.lone_law.proofs.LoneCalls.{lone_calls_begin, lone_calls_go, machines_merge_none}
+use Rattle.index_core.specs.declared.party.PartyState.{PartyState}
+use Rattle.index_core.specs.declared.party.CoreCall.{CoreCall}
+use Rattle.index_core.specs.declared.party.CoreCall.TheVariants as call
+use Rattle.index_core.specs.declared.party.CoreReply.{CoreReply}
+use Rattle.index_core.specs.declared.party.CoreReply.TheVariants as reply
+use Rattle.index_core.specs.declared.party.Stepped.{Stepped}
+use Rattle.index_core.specs.declared.party.Stepped.TheVariants.{Going, Answered}
+use Rattle.index_core.specs.CoreCalls.{machine_of, op_of, limit_of, most_writes}
+use Rattle.index_core.specs.PartyStates.{machine_footing, machine_stage, party_of, state_with, state_after, stepped_of, machine_owes, owed}
+use Rattle.index_core.specs.Indexes.{Index, room_of, world, footed, IsIndex, IsInFlight, view_of, Starts, started_index, told, stepped_index, StepsTo}
+use Rattle.index_core.specs.Lone.{IsQuiet, TriesAlone, answer_in, locks_left}
+use Rattle.index_core.specs.MachineLaws.{MachineLaw, showing, showing_after}
+use Rattle.index_core.specs.Weights.{weight_of, added_by}
+use Rattle.index_core.proofs.Bounds.{bounded_small}
+use Rattle.index_core.proofs.Lists.{map_from, map_there, map_set, set_twice, owed-set, quiet-owed}
+use Rattle.index_core.proofs.MachineLaw.{machine_law, begin_law, idle_weigh}
+use Rattle.index_core.proofs.Stepping.{machine_idle, machine_writes, step_facts}
+
+-- with no call in flight all parties are idle
+pub quiet_parties : (s : Index) → IsQuiet s → Each (λ p. p.stage ≡ Idle) (world s).parties
+quiet_parties s quiet i p at =
+    let from = map_from party_of s.states i p at in
+    subst (λ (q : Party). q.stage ≡ Idle) from.2 (ap machine_stage (quiet i from.0 from.1))
+
+-- and no log line is in a hand, so each is EMPTY
+quiet_lines : (s : Index) → IsQuiet s → (i : ℕ) (e : Option HeldLine) → get_elem? (footed s).lines i ≡ some e → e ≡ None
+quiet_lines s quiet i e at =
+    let from = map_from (λ (state : PartyState). (machine_footing state.machine).line) s.states i e at in
+    sym from.2 ∙ ap (λ (machine : Option Running). (machine_footing machine).line) (quiet i from.0 from.1)
+
+pub quiet_empty : (s : Index) → IsIndex s → IsQuiet s → AreEmpty s.layout s.words
+quiet_empty s is quiet c j caller number = ⊎_elim
+    (λ (empty : line_in s.layout s.words c j 0 ≡ 0). empty)
+    (λ (hand : IsInHand (footed s) c j). absurd (let none = quiet_lines s quiet hand.number (Some hand.line) hand.there in cc))
+    (is.tended c j caller number)
+
+-- One call is in flight, as the index was s0 before it.
+pub record Lone (s0 s : Index) (i : ℕ) (c : CoreCall) : Type 0 where
+  pub state : PartyState
+  pub machine : Running
+  pub quiet : IsQuiet s0
+  pub before : IsIndex s0
+  pub named : IsName (name_asked (op_of c))
+  pub there : get_elem? s0.states i ≡ some state
+  pub states : s.states ≡ slice_set s0.states i (state_with state (length s0.history) machine)
+  pub index : IsIndex s
+  pub call : LoneCall (world s0) i (op_of c) (limit_of c) (world s) (party_of (state_with state (length s0.history) machine)) machine
+  pub same_base : s.base ≡ s0.base
+  pub locks : HasLocked s.generation (facts (world s0)).version (facts (world s)).version (stage_of machine)
+  pub weighs : weight_sum (world s) ≤ weight_of s0 + showing (Some machine)
+  pub room : length s0.history + s0.spare ≤ room_of s
+
+-- a cut is one whatever the parties are
+with_parties : {name : List ℕ} {w0 w : World} {parties : List Party} → IsHalvedSince name w0 w → IsHalvedSince name w0 (record w { parties = parties })
+with_parties cut = record {
+  before = cut.before;
+  chain = cut.chain;
+  list = cut.list;
+  map = cut.map;
+  halved = cut.halved;
+  inside = cut.inside;
+  lacks = cut.lacks;
+  lower = cut.lower;
+  upper = cut.upper;
+}
+
+-- how many actions it has left
+abbrev pub left_of : Option Running → ℕ
+left_of None = 0
+left_of (Some machine) = suc (running_left machine)
+
+abbrev pub left_at : Index → ℕ → ℕ
+left_at s i = elim (get_elem? s.states i) [ none ↦ 0 | some state ↦ left_of state.machine ]
+
+pub begins_limit : (s : Index) (i : ℕ) (c : CoreCall) → (running_call (machine_of (view_of s i) c)).limit ≡ limit_of c
+begins_limit s i (call.Put name value limit) = refl
+begins_limit s i (call.Get name) = refl
+begins_limit s i (call.Del name limit) = refl
+
+-- an index with no call in flight is at rest
+pub rests : (s : Index) → IsIndex s → IsQuiet s → IsAtRest (world s)
+rests s is quiet = idle_law (world s) is.lawful (quiet_parties s quiet)
+
+-- what is asked of a call that begins
+record Asks (v : View) (c : CoreCall) : Type 0 where
+  view : IsView v
+  named : IsName (name_asked (op_of c))
+  limit : IfSome (limit_of c) (λ most. most ≤ 2 ^ 62)
+  value : ValueFits (op_of c)
+
+asks : (v : View) (c : CoreCall) → IsRunning (machine_of v c) → IsOf (op_of c) (machine_of v c) → Asks v c
+asks v (call.Put name value limit) here of = record { view = here.0.call.view; named = subst IsName of.0 here.0.call.packed.named; limit = here.0.call.limit; value = here.1 }
+asks v (call.Get name) here of = record { view = here.call.view; named = subst IsName of here.call.packed.named; limit = tt; value = tt }
+asks v (call.Del name limit) here of = record { view = here.call.view; named = subst IsName of.0 here.call.packed.named; limit = here.call.limit; value = tt }
+
+same_machine_for : (v : View) (c : CoreCall) → machine_for (op_of c) v (limit_of c) ≡ machine_of v c
+same_machine_for v (call.Put name value limit) = refl
+same_machine_for v (call.Get name) = refl
+same_machine_for v (call.Del name limit) = refl
+
+-- the call as it begins
+begun_call : (s0 : Index) (i : ℕ) (e : PartyState) (c : CoreCall) (n : ℕ) → IsIndex s0 → IsQuiet s0 → get_elem? s0.states i ≡ some e → IsRunning (machine_of (view_of s0 i) c)
+    → IsOf (op_of c) (machine_of (view_of s0 i) c)
+    → LoneCall (world s0) i (op_of c) (limit_of c) (world (started_index s0 i e c n)) (party_of (state_with e (length s0.history) (machine_of (view_of s0 i) c))) (machine_of (view_of s0 i) c)
+begun_call s0 i e c n is quiet there here of =
+    let v = view_of s0 i in
+    let m = machine_of v c in
+    let now = state_with e (length s0.history) m in
+    let ask = asks v c here of in
+    let first = lone_calls_begin (world s0) i (op_of c) (limit_of c) (party_of e) e.index v (rests s0 is quiet) (map_there party_of s0.states i e there) ask.view refl refl ask.named ask.limit ask.value (quiet_empty s0 is quiet) in
+    let idle : Party = record { caller = e.caller; index = e.index; since = length s0.history; stage = Idle } in
+    let party : idle ≡ party_of now = (λ k. record { caller = e.caller; index = e.index; since = length s0.history; stage = sym (machine_idle s0 i c) k }) in
+    let parties : slice_set (map party_of s0.states) i idle ≡ map party_of (slice_set s0.states i now) =
+    ap (slice_set (map party_of s0.states) i) party ∙ sym (map_set party_of s0.states i now) in
+    subst (λ (q : (List Party × Party) × Running). LoneCall (world s0) i (op_of c) (limit_of c) (record (world s0) { parties = q.0.0 }) q.0.1 q.1)
+    (λ k. ((parties k, party k), same_machine_for v c k)) first
+
+idle_locked : (g : ℕ) (version : ℕ → ℕ) (s : Stage) → s ≡ Idle → HasLocked g version version s
+idle_locked g version s idle = subst (HasLocked g version version) (sym idle) (λ m. refl)
+
+pub lone_start : (s0 s : Index) (i : ℕ) (c : CoreCall) → IsIndex s0 → IsQuiet s0 → Starts s0 i c s → s.spare + most_writes c ≡ s0.spare → IsIndex s → Lone s0 s i c
+lone_start s0 s i c is0 quiet t spare is =
+    let is' : IsIndex (started_index s0 i t.state c s.spare) = subst IsIndex t.is is in
+    let m = machine_of (view_of s0 i) c in
+    let now = state_with t.state (length s0.history) m in
+    let owing = owed-set s0.states i t.state now t.there in
+    let none : machine_owes t.state.machine ≡ 0 = ap machine_owes (quiet i t.state t.there) in
+    let own = machine_writes s0 i c in
+    let room : length s0.history + s0.spare ≤ length s0.history + (owed (set s0.states i now) + s.spare) = omega arith in
+    let here : IsRunning m = (is'.states i now (set_here s0.states i now t.state t.there)).machine.here in
+    let begins = begin_law s0 i t.state t.state.index c is0 t.there (quiet i t.state t.there) here in
+    let weight = begins.weighs ∙ idle_weigh s0 quiet in
+    let shown = begins.shows_none in
+    subst (λ (v : Index). Lone s0 v i c) (sym t.is) (record {
+      state = t.state;
+      machine = m;
+      quiet = quiet;
+      before = is0;
+      named = (asks (view_of s0 i) c here t.of).named;
+      there = t.there;
+      states = refl;
+      index = is';
+      call = begun_call s0 i t.state c s.spare is0 quiet t.there here t.of;
+      same_base = refl;
+      locks = idle_locked s0.generation (facts (world s0)).version (stage_of m) (machine_idle s0 i c);
+      weighs = omega arith;
+      room = room;
+    })
+
+pub go_of : (turn : Turn Running (Once Placed)) → stepped_of turn ≡ Going → (next : Running) × (turn ≡ Go next)
+go_of (Go next) is = (next, refl)
+go_of (Done answer) is = absurd (cc)
+
+pub done_of : (turn : Turn Running (Once Placed)) (answer : Once Placed) → stepped_of turn ≡ Answered (reply.Placed answer) → turn ≡ Done answer
+done_of (Go next) answer is = absurd (cc)
+done_of (Done other) answer is = cc
+
+pub lone_flies : (s0 s : Index) (i : ℕ) (c : CoreCall) → Lone s0 s i c → IsInFlight s i
+lone_flies s0 s i c o =
+    let e = state_with o.state (length s0.history) o.machine in
+    record { state = e; machine = o.machine; there = ap (λ (l : List PartyState). get_elem? l i) o.states ∙ set_here s0.states i e o.state o.there; flies = refl }
+
+some_same : {a b : Running} → Some a ≡ Some b → a ≡ b
+some_same e = cc
+
+module _ (s0 s s' : Index) (i : ℕ) (c : CoreCall) (result : Stepped) (o : Lone s0 s i c) (t : StepsTo s i s' result) (is' : IsIndex s') (room : room_of s ≤ room_of s') where
+  abbrev e : PartyState
+  e = state_with o.state (length s0.history) o.machine
+
+  at_i : get_elem? s.states i ≡ some e
+  at_i = ap (λ (l : List PartyState). get_elem? l i) o.states ∙ set_here s0.states i e o.state o.there
+
+  abbrev x : ℕ
+  x = told s o.machine
+
+  abbrev p : Party
+  p = party_of e
+
+  -- the step is that of this call
+  entry_same : t.state ≡ e
+  entry_same = some-injective _ _ (sym t.there ∙ at_i)
+
+  machine_same : t.machine ≡ o.machine
+  machine_same = some_same (sym t.flies ∙ ap (λ (d : PartyState). d.machine) entry_same)
+
+  is : s' ≡ stepped_index s i e o.machine s'.spare
+  is = t.is ∙ (λ k. stepped_index s i (entry_same k) (machine_same k) s'.spare)
+
+  comes_to : result ≡ stepped_of (running_turned o.machine x)
+  comes_to = t.comes_to ∙ ap (λ (m : Running). stepped_of (running_turned m (told s m))) machine_same
+
+  law : MachineLaw s i e o.machine
+  law = machine_law s i e o.machine o.index at_i refl
+
+  fewer : GoesBelow running_left (running_left o.machine) (running_turned o.machine x)
+  fewer = subst (λ (m : Running). GoesBelow running_left (running_left m) (running_turned m (told s m))) machine_same t.fewer
+
+  goes : AfterCall (world s0) i (op_of c) (limit_of c) (world s) p o.machine (running_turned o.machine x)
+  goes = lone_calls_go (world s0) i (op_of c) (limit_of c) (world s) p o.machine x o.call (rests s0 o.before o.quiet) refl (bounded_small s o.index)
+
+  -- the history after the step
+  history_is : s'.history ≡ s.history ++ written e.caller e.index (counted (stage_of o.machine))
+  history_is = ap (λ (v : Index). v.history) is
+
+  entries_are : (turn : Turn Running (Once Placed)) → running_turned o.machine x ≡ turn → s'.states ≡ slice_set s0.states i (state_after e turn)
+  entries_are turn turned =
+      ap (λ (v : Index). v.states) is ∙ (λ k. set (o.states k) i (state_after e (turned k))) ∙ set_twice s0.states i e (state_after e turn)
+
+  -- the world after a step that goes on
+  world_is : (next : Running) → running_turned o.machine x ≡ Go next → world s' ≡ stepped (world s) i p (running_asks o.machine) (stage_of next)
+  world_is next turned = ap world is ∙ (λ k. record {
+    layout = s.layout;
+    generation = s.generation;
+    words = acted s.layout s.words (running_asks o.machine);
+    parties = parties k;
+    base = map_of s.base;
+    history = s.history ++ written e.caller e.index (counted (stage_of o.machine));
+  })
+    where
+      parties : map party_of (slice_set s.states i (state_after e (running_turned o.machine x))) ≡ slice_set (map party_of s.states) i (moved_on p (stage_of next))
+      parties = (λ k. map party_of (slice_set s.states i (state_after e (turned k)))) ∙ map_set party_of s.states i (state_after e (Go next))
+
+  -- the facts after the step, whatever it comes to
+  facts_are : (next : Stage) → facts (world s') ≡ facts (stepped (world s) i p (running_asks o.machine) next)
+  facts_are next = ap (λ (v : Index). facts (world v)) is
+
+  locks_after : (turn : Turn Running (Once Placed)) → running_turned o.machine x ≡ turn → AfterLocks s.generation (facts (world s0)).version (facts (world s')).version (stage_after turn) (reply_of turn)
+  locks_after turn turned =
+      let held : MergesNone (stage_after turn) = one turn in
+      let step : AnyStep s.layout s.generation (stage_of o.machine) (running_asks o.machine) x (stage_after turn) (reply_of turn) =
+      subst (λ (q : Turn Running (Once Placed)). AnyStep s.layout s.generation (stage_of o.machine) (running_asks o.machine) x (stage_after q) (reply_of q)) turned
+      (step_facts s i e o.machine o.index at_i refl).is_step in
+      subst (λ (f : Facts). AfterLocks s.generation (facts (world s0)).version f.version (stage_after turn) (reply_of turn)) (sym (facts_are (stage_after turn)))
+      (locks_go (facts (world s0)).version (world s) i p (running_asks o.machine) x (stage_after turn) (reply_of turn) o.index.lawful o.call.trying.there o.locks held step refl)
+    where
+      one : (turn : Turn Running (Once Placed)) → MergesNone (stage_after turn)
+      one (Go next) = machines_merge_none next
+      one (Done answer) = tt
+
+  pub lone_goes : result ≡ Going → Lone s0 s' i c × (suc (left_at s' i) ≤ left_at s i)
+  lone_goes going =
+      let go = go_of (running_turned o.machine x) (sym comes_to ∙ going) in
+      let next = go.0 in
+      let states = entries_are (Go next) go.1 in
+      let there = ap (λ (l : List PartyState). get_elem? l i) states ∙ set_here s0.states i (state_with o.state (length s0.history) next) o.state o.there in
+      let less : running_left next < running_left o.machine = subst (GoesBelow running_left (running_left o.machine)) go.1 fewer in
+      let was : left_at s i ≡ suc (running_left o.machine) = ap left_in at_i in
+      let now : left_at s' i ≡ suc (running_left next) = ap left_in there in
+      let before = o.room in
+      let call_on : LoneCall (world s0) i (op_of c) (limit_of c) (stepped (world s) i p (running_asks o.machine) (stage_of next)) (moved_on p (stage_of next)) next =
+      subst (AfterCall (world s0) i (op_of c) (limit_of c) (world s) p o.machine) go.1 goes in
+      let sum : weight_sum (world s') ≡ weight_sum (world (stepped_index s i e o.machine s.spare)) = ap (λ (v : Index). weight_sum (world v)) is in
+      let rises : weight_sum (world (stepped_index s i e o.machine s.spare)) + showing (Some o.machine) ≤ weight_sum (world s) + showing (Some next) =
+      subst (λ (turn : Turn Running (Once Placed)). weight_sum (world (stepped_index s i e o.machine s.spare)) + showing (Some o.machine) ≤ weight_sum (world s) + showing_after (op_in o.machine) turn) go.1 law.weighs in
+      let weight = o.weighs in (
+        record {
+          state = o.state;
+          machine = next;
+          quiet = o.quiet;
+          before = o.before;
+          named = o.named;
+          there = o.there;
+          states = states;
+          index = is';
+          call = subst (λ (w : World). LoneCall (world s0) i (op_of c) (limit_of c) w (moved_on p (stage_of next)) next) (sym (world_is next go.1)) call_on;
+          same_base = ap (λ (v : Index). v.base) is ∙ o.same_base;
+          locks = subst (λ (g : ℕ). HasLocked g (facts (world s0)).version (facts (world s')).version (stage_of next)) (sym (ap (λ (v : Index). v.generation) is)) (locks_after (Go next) go.1);
+          weighs = omega arith;
+          room = omega arith;
+        },
+        omega (arith, less, was, now),
+      )
+    where
+      left_in : mathlib.Core.Option.Option PartyState → ℕ
+      left_in found = elim found [ none ↦ 0 | some state ↦ left_of state.machine ]
+
+  lone_quiet : (answer : Once Placed) → result ≡ Answered (reply.Placed answer) → IsQuiet s'
+  lone_quiet answer answered j state at =
+      let done = done_of (running_turned o.machine x) answer (sym comes_to ∙ answered) in
+      let states = entries_are (Done answer) done in
+      ⊎_elim
+      (λ (mine : (j ≡ i) × (state_after e (Done answer) ≡ state)). ap (λ (d : PartyState). d.machine) (sym mine.1))
+      (λ (other : (j ≢ i) × (get_elem? s0.states j ≡ some state)). o.quiet j state other.1)
+      (at_set s0.states i j (state_after e (Done answer)) state (ap (λ (l : List PartyState). get_elem? l j) (sym states) ∙ at))
+
+  -- how it ends
+  module _ (answer : Once Placed) (answered : result ≡ Answered (reply.Placed answer)) where
+    done : running_turned o.machine x ≡ Done answer
+    done = done_of (running_turned o.machine x) answer (sym comes_to ∙ answered)
+
+    ended : IsAnswered (world s0) (op_of c) (limit_of c) (stepped (world s) i p (running_asks o.machine) Idle) p answer
+    ended = (subst (AfterCall (world s0) i (op_of c) (limit_of c) (world s) p o.machine) done goes).1
+
+    -- with the parties as they are then
+    of_party : (r : Once Placed) → IsAnswered (world s0) (op_of c) (limit_of c) (stepped (world s) i p (running_asks o.machine) Idle) p r
+        → IsAnswered (world s0) (op_of c) (limit_of c) (world (stepped_index s i e o.machine s'.spare)) (party_of o.state) r
+    of_party (once.Worn node word) end = end
+    of_party (once.Spent clock) end = end
+    of_party (once.Done placed) end = end
+    of_party (once.Again again.NoFree) end = end
+    of_party (once.Again (again.NeedsSplit n)) (unworn, below, full, free, same, halved) = (unworn, below, full, free, same, with_parties halved)
+    of_party (once.Again (again.Locked n word)) end = absurd end
+    of_party (once.Again (again.Moved n first second)) end = absurd end
+    of_party (once.Again (again.Hops count)) end = absurd end
+    of_party (once.Again again.LogFull) end = absurd end
+    of_party (once.Again (again.Held word)) end = absurd end
+    of_party (once.Again (again.Epoch first second)) end = absurd end
+
+    weighs : weight_of s' ≤ weight_of s0 + added_by (op_of c) answer
+    weighs =
+        let op_same : op_in o.machine ≡ op_of c = op_told (op_of c) o.machine o.call.of in
+        let sum : weight_sum (world s') ≡ weight_sum (world (stepped_index s i e o.machine s.spare)) = ap (λ (v : Index). weight_sum (world v)) is in
+        let rises : weight_sum (world (stepped_index s i e o.machine s.spare)) + showing (Some o.machine) ≤ weight_sum (world s) + added_by (op_in o.machine) answer =
+        subst (λ (turn : Turn Running (Once Placed)). weight_sum (world (stepped_index s i e o.machine s.spare)) + showing (Some o.machine) ≤ weight_sum (world s) + showing_after (op_in o.machine) turn) done law.weighs in
+        let added : added_by (op_in o.machine) answer ≡ added_by (op_of c) answer = ap (λ (op : Op). added_by op answer) op_same in
+        let before = o.weighs in
+        let after = idle_weigh s' (lone_quiet answer answered) in
+        omega arith
+
+    lone_tries : TriesAlone s0 i c s' answer
+    lone_tries = record {
+      state = o.state;
+      there = o.there;
+      named = o.named;
+      answered = subst (λ (w : World). IsAnswered (world s0) (op_of c) (limit_of c) w (party_of o.state) answer) (sym (ap world is)) (of_party answer ended);
+      states = entries_are (Done answer) done;
+      layout = ap (λ (v : Index). v.layout) is ∙ o.call.trying.layout;
+      generation = ap (λ (v : Index). v.generation) is ∙ o.call.trying.generation;
+      base = ap (λ (v : Index). v.base) is ∙ o.same_base;
+      weighs = weighs;
+    }
+
+  lone_locks : (answer : Once Placed) → result ≡ Answered (reply.Placed answer) → locks_left s0 ≤ locks_left s' + 1
+  lone_locks answer answered =
+      let after : (m : ℕ) → locks_of s.generation ((facts (world s0)).version m) ≤ locks_of s.generation ((facts (world s')).version m) + 1 = locks_after (Done answer) (done answer answered) in
+      let fewest = fewest_lose s.generation (facts (world s0)).version (facts (world s')).version s.layout.nodes after in
+      subst (λ (q : (ℕ × ℕ) × (ℕ × ℕ)). fewest_locks q.0.0 (facts (world s0)).version q.0.1 ≤ fewest_locks q.1.0 (facts (world s')).version q.1.1 + 1)
+      (λ k. ((o.call.trying.generation k, (o.call.trying.layout k).nodes), (ap (λ (v : Index). v.generation) (sym is) k, (ap (λ (v : Index). v.layout) (sym is) k).nodes))) fewest
+
+  -- the same of the answer as a step tells it
+  pub reply_tries : (r : CoreReply) → result ≡ Answered r → TriesAlone s0 i c s' (answer_in r)
+  reply_tries (reply.Placed answer) answered = lone_tries answer answered
+
+  pub reply_quiet : (r : CoreReply) → result ≡ Answered r → IsQuiet s'
+  reply_quiet (reply.Placed answer) answered = lone_quiet answer answered
+
+  pub reply_locks : (r : CoreReply) → result ≡ Answered r → locks_left s0 ≤ locks_left s' + 1
+  reply_locks (reply.Placed answer) answered = lone_locks answer answered
+
+-- what a try leaves spare
+pub spare_left : (s0 s s' : Index) (i : ℕ) (c : CoreCall) → Lone s0 s i c → room_of s ≤ room_of s' → IsQuiet s' → s0.spare + length s0.history ≤ s'.spare + length s'.history
+spare_left s0 s s' i c o room quiet =
+    let before = o.room in
+    let none = quiet-owed s'.states quiet in
+    omega arith
