@@ -1,5 +1,5 @@
 -- The index as a map of names: its names counted, and its calls left.
-use Rattle.std.proofs.Common.{◌≡◌, ◌==◌, ℕ, ◌+◌, ◌-◌, ◌<◌, ◌≤◌, Bool, true, false, cond, List, [], ◌∷◌, length, ◌⊎◌, ⊎_elim, refl, le_trans, inl, inr, sym, ap, ◌∙◌, subst, arith}
+use Rattle.std.proofs.Common.{◌≡◌, ◌==◌, ℕ, ◌+◌, ◌-◌, ◌*◌, ◌/◌, ◌<◌, ◌≤◌, Bool, true, false, cond, List, [], ◌∷◌, length, ◌⊎◌, ⊎_elim, refl, le_trans, inl, inr, sym, ap, ◌∙◌, subst, arith}
 use Rattle.std.specs.Prelude.{Option, Some, None, IfSome, IsSomeAnd, min, ◌↔◌, ◌^◌}
 use Rattle.std.specs.List.{filter, AllByRecursion}
 use Rattle.std.specs.Option.{is_some}
@@ -15,13 +15,15 @@ use Rattle.pm_words.specs.Layouts.{IsLayout}
 use Rattle.version_lock.specs.declared.TheConstants.{LAST_COUNT}
 use Rattle.index_core.specs.Fresh.{IsFreshIndex}
 use Rattle.index_core.specs.Indexes.{Index, IsIndex, map_of_index, world}
-use Rattle.index_core.specs.Lone.{IsQuiet, FindsNoRoom, FindsWornNode, IsOver, IsWholeAnswer, node_for, names_beside, locks_left}
+use Rattle.index_core.specs.Lone.{IsQuiet, FindsNoRoom, FindsWornNode, IsOver, IsWornNode, IsWholeAnswer, node_for, names_beside, locks_left}
 use Rattle.shapes.proofs.NameLists.{filter-all}
 use Rattle.shapes.proofs.Shapes.{len-keys}
 use Rattle.data_node.specs.Lists.{ListNode, IsChain, target_from, key_of}
 use Rattle.data_node.specs.Spots.{Means}
 use Rattle.data_node.proofs.CountLemmas.{names_fit}
-use Rattle.index_law.specs.Facts.{Facts}
+use Rattle.index_law.specs.Facts.{Facts, status_in}
+use Rattle.call_stages.specs.Kinds.{free_status, live_status}
+use Rattle.lone_law.specs.Splitting.{LacksFree}
 use Rattle.index_law.specs.Worlds.{facts}
 use Rattle.index_law.specs.Lawful.{IsList}
 use Rattle.index_core.specs.declared.party.CoreCall.TheVariants as call
@@ -33,7 +35,7 @@ use Rattle.index_core.specs.declared.party.CoreCall.{CoreCall}
 use Rattle.index_core.specs.declared.party.Whole.{Whole}
 use Rattle.index_core.specs.declared.party.Whole.TheVariants as whole
 use Rattle.index_core.specs.CoreCalls.{op_of, limit_of}
-use Rattle.index_core.proofs.Alone.{rests}
+use Rattle.index_core.proofs.Tries.{rests}
 use Rattle.index_core.proofs.Fresh.{fresh_quiet, fresh_locks}
 use Rattle.index_core.proofs.Stepping.{respare}
 use Rattle.catalog_cli.specs.CoreMaps.{calls_left_of, IsUnlimited, IsCoreMap}
@@ -99,17 +101,25 @@ all_beside s is one name =
     each [] = tt
     each (x ∷ xs) = (refl, each xs)
 
+-- and none is FREE
+none_free : (s : Index) → IsIndex s → IsQuiet s → s.layout.nodes ≡ 1 → LacksFree s.layout s.generation s.words
+none_free s is quiet one m here free =
+    let first : m ≡ 0 = omega (arith, here, one) in
+    let live : status_in s.layout s.words m ≡ live_status = (rests s is quiet).live.live m (inl first) in
+    let both : free_status ≡ live_status = sym free ∙ live in
+    absurd (omega (arith, both))
+
 -- so a put finds no room where the map lacks its name and has as many names as the node has slots
-pub lacks_room : (s : Index) (name : List ℕ) (value limit : ℕ) → IsIndex s → s.layout.nodes ≡ 1 → FindsNoRoom (call.Put name value limit) s ↔ LacksRoom s.layout.slots (map_of_index s) name
-lacks_room s name value limit is one =
+pub lacks_room : (s : Index) (name : List ℕ) (value limit : ℕ) → IsIndex s → IsQuiet s → s.layout.nodes ≡ 1 → FindsNoRoom (call.Put name value limit) s ↔ LacksRoom s.layout.slots (map_of_index s) name
+lacks_room s name value limit is quiet one =
     let all = all_beside s is one name in (
       (λ none. (none.0, sym all ∙ none.1)),
-      (λ lacks. (lacks.0, all ∙ lacks.1)),
+      (λ lacks. (lacks.0, all ∙ lacks.1, none_free s is quiet one)),
     )
 
 pub full_exactly : (s t : Index) (names : ℕ) (name : List ℕ) (value limit : ℕ) {A : Type 0} → s ≡ t → IsCoreMap s names → A ↔ FindsNoRoom (call.Put name value limit) s → A ↔ LacksRoom t.layout.slots (map_of_index t) name
 full_exactly s t names name value limit {A} same is full =
-    let room = lacks_room s name value limit is.index is.one_node in
+    let room = lacks_room s name value limit is.index is.quiet is.one_node in
     subst (λ (u : Index). A ↔ LacksRoom u.layout.slots (map_of_index u) name) same
     ((λ a. room.0 (full.0 a)), (λ lacks. full.1 (room.1 lacks)))
 
@@ -136,19 +146,25 @@ fresh_map l s s' one fresh kept = record {
 
 -- it has a lock of its node left, and a number below 2^62 for its clock, for each of the calls
 pub fresh_calls : (l : Layout) (s s' : Index) (calls : ℕ) → IsLayout l → IsFreshIndex l s → s' ≡ record s { spare = s'.spare } → calls ≤ s'.spare →
-    calls ≤ LAST_COUNT → calls ≤ calls_left_of s'
+    2 * calls ≤ LAST_COUNT → calls ≤ calls_left_of s'
 fresh_calls l s s' calls layout fresh kept spare few =
     let locks : locks_left s' ≡ LAST_COUNT = ap locks_left kept ∙ fresh_locks l s layout fresh in
     let history : length s'.history ≡ 0 = ap (λ (v : Index). length v.history) kept ∙ ap length fresh.history in
-    le-min (subst (λ (n : ℕ). calls ≤ n) (sym locks) few) (le-min spare (omega (arith, history, few)))
+    le-min (omega (arith, locks, few)) (le-min spare (omega (arith, history, few)))
 
--- where calls are left, no node is worn, and no clock has come to a limit that is none
+-- where calls are left, so are two locks of each node
+locks_remain : (s : Index) → 0 < calls_left_of s → 2 ≤ locks_left s
+locks_remain s left =
+    let half : 0 < locks_left s / 2 = le_trans left (min-le_left (locks_left s / 2) (min s.spare (2 ^ 62 - length s.history))) in
+    omega (arith, half)
+
+-- then no node is worn, and no clock has come to a limit that is none
 pub unworn : (s : Index) (c : CoreCall) → IsIndex s → 0 < calls_left_of s → FindsWornNode c s → ⊥
 unworn s c is left worn =
     let f = facts (world s) in
     let here = listed_within s.layout f is.lawful.list is.lawful.row.layout (node_for s (name_asked (op_of c))) (target_in 0 f.list (key_of (name_asked (op_of c)))) in
     let none : locks_left s ≡ 0 = worn_has_none s.generation f.version (node_for s (name_asked (op_of c))) s.layout.nodes here worn in
-    let some_left : 0 < locks_left s = le_trans left (min-le_left (locks_left s) (min s.spare (2 ^ 62 - length s.history))) in
+    let some_left = locks_remain s left in
     omega arith
 
 pub in_time : (s : Index) (c : CoreCall) → IsUnlimited c → 0 < calls_left_of s → IsOver c s → ⊥
@@ -158,8 +174,12 @@ in_time s c unlimited left over = at (limit_of c) unlimited over
     at None is past = past
     at (Some limit) is past = let room : 0 < 2 ^ 62 - length s.history = omega arith in omega arith
 
-pub goes_through : (s : Index) (c : CoreCall) (r : Whole) → IsIndex s → IsUnlimited c → 0 < calls_left_of s → IsWholeAnswer s c r
+pub goes_through : (s : Index) (c : CoreCall) (new : Index) (r : Whole) → IsIndex s → IsUnlimited c → 0 < calls_left_of s → IsWholeAnswer s c new r
     → ((clock : ℕ) × (r ≡ whole.Spent clock)) ⊎ ((node : ℕ) × (word : ℕ) × (r ≡ whole.Worn node word)) → ⊥
-goes_through s c r is unlimited left answer = ⊎_elim
-    (λ (late : (clock : ℕ) × (r ≡ whole.Spent clock)). in_time s c unlimited left (subst (IsWholeAnswer s c) late.1 answer).1)
-    (λ (worn : (node : ℕ) × (word : ℕ) × (r ≡ whole.Worn node word)). unworn s c is left (subst (IsWholeAnswer s c) worn.2 answer).0)
+goes_through s c new r is unlimited left answer = ⊎_elim
+    (λ (late : (clock : ℕ) × (r ≡ whole.Spent clock)). in_time s c unlimited left (subst (IsWholeAnswer s c new) late.1 answer).1)
+    (λ (worn : (node : ℕ) × (word : ℕ) × (r ≡ whole.Worn node word)). both_worn worn.0 worn.1 (subst (IsWholeAnswer s c new) worn.2 answer))
+  where
+    both_worn : (node word : ℕ) → IsWornNode s c new node word → ⊥
+    both_worn node word (inl first) = unworn s c is left first.0
+    both_worn node word (inr split) = let two = locks_remain s left in let one = split.1 in omega (arith, two, one)

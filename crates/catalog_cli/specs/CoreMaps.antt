@@ -1,15 +1,15 @@
 -- The index, called by one caller with no other call in flight, as a map of names.
-use Rattle.std.specs.Prelude.{◌≡◌, ℕ, ◌-◌, ◌^◌, min, length, IfSome}
+use Rattle.std.specs.Prelude.{◌≡◌, ℕ, ◌-◌, ◌/◌, ◌^◌, min, length, IfSome}
 use Rattle.std.specs.FinMap.{len}
 use Rattle.index_core.specs.declared.party.CoreCall.{CoreCall}
 use Rattle.index_core.specs.CoreCalls.{limit_of}
 use Rattle.index_core.specs.Indexes.{Index, IsIndex, map_of_index}
 use Rattle.index_core.specs.Lone.{IsQuiet, locks_left}
 
--- How many more calls it can have: each takes one lock of one node at most, places one write at most, and finds the
+-- How many more calls it can have: each takes two locks of each node at most, places one write at most, and finds the
 -- clock below 2^62.
 abbrev pub calls_left_of : Index → ℕ
-calls_left_of s = min (locks_left s) (min s.spare (2 ^ 62 - length s.history))
+calls_left_of s = min (locks_left s / 2) (min s.spare (2 ^ 62 - length s.history))
 
 -- The call is refused at no clock below 2^62.
 abbrev pub IsUnlimited : CoreCall → Type 0

@@ -1,6 +1,6 @@
 //! The core of the index as a map of names: each call is a whole call of one caller, with no other in flight.
 
-ghost use Rattle.std.specs.Prelude.{◌≡◌, ◌+◌, ◌<◌, ◌≤◌, ◌↔◌, IfOk, OnOk, OnErr, IsErr};
+ghost use Rattle.std.specs.Prelude.{◌≡◌, ◌+◌, ◌*◌, ◌<◌, ◌≤◌, ◌↔◌, IfOk, OnOk, OnErr, IsErr};
 ghost use Rattle.std.specs.FinMap.{empty};
 ghost use Rattle.cat_history.specs.Maps.{at};
 ghost use Rattle.cat_history.specs.Records.{change_of};
@@ -57,7 +57,7 @@ impl<L: Ledger> CoreMap<L> {
     ) -> Result<CoreMap<L>, NoMemory>
         requires layout { IsLayout layout }
         requires one_node { layout.nodes ≡ 1 }
-        requires calls { calls ≤ LAST_COUNT }
+        requires calls { 2 * calls ≤ LAST_COUNT }
         ensures empty { IfOk result (λ map. map_of_index map ≡ empty) }
         ensures room { IfOk result (λ map. map.layout.slots ≡ layout.slots) }
         ensures calls_left { IfOk result (λ map. calls ≤ calls_left_of map) }

@@ -22,11 +22,10 @@ use Rattle.node_ops.specs.RunningSteps.{running_call, running_left, running_turn
 use Rattle.node_ops.specs.CallStages.{stage_of}
 use Rattle.node_ops.proofs.OpLaw.{counts_own_change, op_told}
 use Rattle.index_law.specs.Worlds.{written}
-use Rattle.index_law.specs.Lawful.{HasWriteAt}
 use Rattle.index_core.specs.declared.party.CoreCall.{CoreCall}
 use Rattle.index_core.specs.declared.party.CoreCall.TheVariants as call
 use Rattle.index_core.specs.declared.party.PartyState.{PartyState}
-use Rattle.index_core.specs.Answers.{FoundNoRoom, SaysOf, IsAnswerOf}
+use Rattle.index_core.specs.Answers.{HasOwnWrite, FoundNoRoom, SaysOf, IsAnswerOf}
 use Rattle.index_core.specs.CoreCalls.{machine_of, op_of, limit_of}
 use Rattle.index_core.specs.PartyStates.{state_after, stepped_of}
 use Rattle.index_core.specs.Indexes.{MakesCall}
@@ -64,7 +63,7 @@ answer_by slots base h e d op limit (once.Done placed) caller index le is =
       within = is.within;
       below = below_earlier limit e.since d.since le is.below;
       old = is.old;
-      write = subst (λ (q : ℕ × ℕ). IfSome (change_of op) (λ change. HasWriteAt h q.0 q.1 (name_asked op) placed.place)) (λ k. (caller k, index k)) is.write;
+      write = subst (λ (q : ℕ × ℕ). HasOwnWrite h q.0 q.1 (change_of op) placed.place) (λ k. (caller k, index k)) is.write;
     }
 answer_by slots base h e d op limit (once.Spent clock) caller index le is = let later = is.later in record { reached = is.reached; later = omega arith; within = is.within }
 answer_by slots base h e d op limit (once.Worn node word) caller index le is = tt

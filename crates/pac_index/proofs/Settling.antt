@@ -13,8 +13,9 @@ use Rattle.pm_words.proofs.Kept.{acted_row, outside_header}
 use Rattle.index_law.specs.Weights.{index_weight}
 use Rattle.index_law.proofs.Noting.{beside_law}
 use Rattle.index_law.proofs.Rows.{facts-elsewhere}
-use Rattle.index_law.proofs.Twins.{store_closer}
-use Rattle.index_core.specs.Indexes.{Index, IsIndex, world}
+use Rattle.index_law.proofs.Twins.{nearer, store_closer}
+use Rattle.index_core.specs.Indexes.{Index, IsIndex, footed, world}
+use Rattle.index_core.proofs.Footed.{stamp_footed}
 use Rattle.index_core.specs.Weights.{weight_of}
 use Rattle.pac_index.specs.Stamps.{stamp_in, with_words, SettlesTo}
 
@@ -35,14 +36,18 @@ can_stamp l words n here = ((addresses_within l (Volatile n 2) (here, omega arit
 -- an index with another stamp
 keeps_index : (l : Layout) (words : List ℕ) (n : ℕ) → n < l.nodes → (s : Index) → IsIndex (with_words s l words) → IsIndex (with_words s l (stamped l words n))
 keeps_index l words n here s is =
-    let p : Location = Volatile n 2 in
-    let has : HasLocation l (Volatile n 2) = (here, omega arith) in record {
-      lawful = beside_law (world (with_words s l words)) (stamped l words n) is.lawful
-          (acted_row l words (Store (address_of l (Volatile n 2)) 1) is.lawful.row (can_stamp l words n here))
-          (facts-elsewhere l words (map_of s.base) s.history (Volatile n 2) 1 has (λ m o e. cc, λ m e. let no : 2 ≡ 0 = ap offset_of e in omega arith))
-          (store_closer l words (Volatile n 2) 1 has (λ v e. cc))
-          (at-set_other l words (Volatile n 2) Clock 1 has tt (λ e. cc))
-          (λ v there none. at-set_other l words (Volatile n 2) (Cached v) 1 has there (λ e. cc));
+    let has : HasLocation l (Volatile n 2) = (here, omega arith) in
+    let lawful = beside_law (world (with_words s l words)) (stamped l words n) is.lawful
+    (acted_row l words (Store (address_of l (Volatile n 2)) 1) is.lawful.row (can_stamp l words n here))
+    (facts-elsewhere l words (map_of s.base) s.history (Volatile n 2) 1 has (λ m o e. cc, λ m e. let no : 2 ≡ 0 = ap offset_of e in omega arith))
+    (nearer l words (stamped l words n) (store_closer l words (Volatile n 2) 1 has (λ v e. cc)))
+    (at-set_other l words (Volatile n 2) Clock 1 has tt (λ e. cc))
+    (λ v there none. at-set_other l words (Volatile n 2) (Cached v) 1 has there (λ e. cc)) in
+    let footed = stamp_footed (footed (with_words s l words)) n (is.whole, is.tended) here lawful in
+    record {
+      lawful = lawful;
+      whole = footed.0;
+      tended = footed.1;
       parties = is.parties;
       states = is.states;
       ordered = is.ordered;

@@ -9,9 +9,8 @@ ghost use Rattle.pac_index.specs.Calls.{Answers};
 use crate::gate::Gate;
 use crate::rule::{About, BeginsCall, ByOutcome, FirstStep, Members, NextStep, Outcome, Ruled};
 use atomic_table::{Seat, Table};
-use call_stages::{Once, Placed};
+use call_stages::{Once, Placed, View};
 use index_core::CoreCall;
-use node_ops::View;
 use pm_words::{Action, Layout, Machine, Turn};
 use std::alloc::Global;
 

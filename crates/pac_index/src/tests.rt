@@ -368,13 +368,29 @@ fn replies_are_those_of_one_history(rt: HostRuntime) -> Result<(), Fail> {
     let none = puts(b'a', 1, 0);
     let rounds = [
         // two writers of one name
-        (1, [puts(b'a', 1, 2000), puts(b'a', 1, 2000), none, none]),
+        (
+            1,
+            64,
+            [puts(b'a', 1, 2000), puts(b'a', 1, 2000), none, none],
+        ),
         // a writer and readers
-        (1, [mixed(2000), gets, gets, gets]),
-        (1, [mixed(1000), mixed(1000), mixed(1000), gets]),
+        (1, 64, [mixed(2000), gets, gets, gets]),
+        (1, 64, [mixed(1000), mixed(1000), mixed(1000), gets]),
+        // writers that split nodes of four slots, where others put and get their names
+        (
+            64,
+            4,
+            [
+                puts(b'a', 16, 200),
+                puts(b'a', 16, 200),
+                puts(b'b', 16, 200),
+                gets,
+            ],
+        ),
         // each with a first letter of its own
         (
             1024,
+            64,
             [
                 puts(b'a', 16, 5000),
                 puts(b'b', 16, 5000),
@@ -383,8 +399,8 @@ fn replies_are_those_of_one_history(rt: HostRuntime) -> Result<(), Fail> {
             ],
         ),
     ];
-    for (nodes, plans) in rounds {
-        let layout = Layout::new(nodes, 64, 4)?;
+    for (nodes, slots, plans) in rounds {
+        let layout = Layout::new(nodes, slots, 4)?;
         let (core, mut replies) = met(&rt, rt.alloc(), layout, plans)?;
         let [a, b, c, d] = plans;
         let calls = [a.calls, b.calls, c.calls, d.calls];
@@ -393,10 +409,10 @@ fn replies_are_those_of_one_history(rt: HostRuntime) -> Result<(), Fail> {
             calls
                 .iter()
                 .fold(0u64, |sum, calls| sum.saturating_add(*calls)),
-            "on {nodes} nodes"
+            "on {nodes} nodes of {slots} slots"
         );
         let told = are_told(rt.alloc(), core.history(), &mut replies)?;
-        assert!(rt; told, "on {nodes} nodes");
+        assert!(rt; told, "on {nodes} nodes of {slots} slots");
     }
     Ok(())
 }
