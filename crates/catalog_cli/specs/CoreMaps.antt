@@ -19,5 +19,5 @@ IsUnlimited call = IfSome (limit_of call) (λ limit. limit ≡ 2 ^ 62)
 pub record IsCoreMap (s : Index) (names : ℕ) : Type 0 where
   pub index : IsIndex s
   pub quiet : IsQuiet s
-  pub one_node : s.layout.nodes ≡ 1  -- no node is split yet, and no more are asked for
+  pub one_node : s.layout.nodes ≡ 1  -- as `play` asks for
   pub counted : names ≡ len (map_of_index s)
