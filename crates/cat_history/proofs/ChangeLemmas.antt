@@ -7,7 +7,7 @@ use Rattle.cat_history.specs.Writes.{changed, name_of}
 use Rattle.cat_history.specs.CrashEnds.{IsFound}
 use Rattle.cat_history.specs.declared.op.Change.{Change}
 use Rattle.cat_history.specs.declared.op.Change.TheVariants.{Put, Del}
-use Rattle.cat_history.proofs.PlainMapLemmas.{by_names}
+use Rattle.cat_history.proofs.NameLemmas.{by_names}
 
 -- a change leaves every other name
 pub at-changed_other : (m : Map) (c : Change) (name : List ℕ) → name ≢ name_of c → at (changed m c) name ≡ at m name

@@ -14,7 +14,7 @@ use Rattle.cat_history.specs.CrashEnds.{IsFound, has_value, is_found, found_in, 
 use Rattle.cat_history.specs.declared.op.Change.{Change}
 use Rattle.cat_history.specs.declared.op.Change.TheVariants.{Put, Del}
 use Rattle.cat_history.proofs.ChangeLemmas.{at-changed_other, changed_found, found_alike}
-use Rattle.cat_history.proofs.PlainMapLemmas.{by_names, some≢none}
+use Rattle.cat_history.proofs.NameLemmas.{by_names, some≢none}
 
 value-Decides : (o : Option ℕ) (value : ℕ) → Decides (has_value o value) (o ≡ Some value)
 value-Decides None value = (λ e. absurd (false≢true e), λ e. absurd (some≢none value (sym e)))
@@ -33,7 +33,7 @@ found-Decides end (Put name value) = value-Decides (at end name) value
 found-Decides end (Del name) = none-Decides (at end name)
 
 -- whether a change is found, by cases
-by_found : (end : Map) (c : Change) (P : Bool → Type 0) → (IsFound end c → P true) → ((IsFound end c → ⊥) → P false) → P (is_found end c)
+pub by_found : (end : Map) (c : Change) (P : Bool → Type 0) → (IsFound end c → P true) → ((IsFound end c → ⊥) → P false) → P (is_found end c)
 by_found end c P found lost =
     elim (is_found end c) as (λ b. Decides b (IsFound end c) → P b) [
       | true ↦ λ d. found (d.0 refl)

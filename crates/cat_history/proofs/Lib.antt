@@ -1,5 +1,8 @@
 pub mod LoneRoundLemmas
-pub mod PlainMapLemmas
+pub mod NameLemmas
+pub mod PairLemmas
 pub mod ChangeLemmas
 pub mod CrashEndLemmas
 pub mod CallerLemmas
+pub mod SettleLemmas
+pub mod ScanLemmas

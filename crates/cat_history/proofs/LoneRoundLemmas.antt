@@ -1,5 +1,6 @@
 -- A round whose calls are answered at once is legal; and how such a round goes on by one call.
-use Rattle.std.proofs.Common.{◌≡◌, ℕ, zero, suc, eq-eqb, zero-add, ◌+◌, ◌<◌, ◌≤◌, List, [], ◌∷◌, ◌++◌, length, get_or, take, map, refl, sym, ap, subst, ◌∙◌, arith, append_assoc, append-nil, length-append, add-zero}
+use Rattle.std.proofs.Common.{◌≡◌, ℕ, zero, suc, eq-eqb, zero-add, ⊎_elim, Bool, ◌-◌, ◌↔◌, ◌⊎◌, ◌+◌, ◌<◌, ◌≤◌, List, [], ◌∷◌, ◌++◌, length, get_or, take, map, refl, sym, ap, subst, ◌∙◌, arith, append_assoc, append-nil, length-append, add-zero}
+use Rattle.std.proofs.lemmas.Bool.{cases_order}
 use Rattle.std.proofs.lemmas.List.{map-append, get_or-map, length-map}
 use Rattle.std.proofs.lemmas.List.Sums.{fold-append, sum_by-cons}
 use Rattle.std.proofs.lemmas.List.Elements.{filter_map-append, All-from_recursion, recursion_from_All}
@@ -9,19 +10,24 @@ use Rattle.std.specs.Prelude.{Option, Some, None, IfSome, All, count_by, ◌==�
 use Rattle.std.specs.List.{enumerate_from, AllByRecursion, cons_option}
 use Rattle.std.specs.Option.{option_to_list}
 use Rattle.std.specs.List.Sorted.{IsPermutation}
-use Rattle.cat_history.specs.Maps.{Map, at}
+use Rattle.cat_history.specs.Maps.{Map}
 use Rattle.cat_history.specs.Writes.{after, after_all, changed}
-use Rattle.cat_history.specs.Records.{Call, call_of, numbered, numbered_after, placed_write, placed_writes, Interval, interval}
-use Rattle.cat_history.specs.Rounds.{IsAnswer, KeepsCallersOrder}
-use Rattle.cat_history.specs.LoneRounds.{write_of, writes_of, HoldsAlong, IsAnswerNow, IsLoneRound, LoneRoundsAreLegal}
+use Rattle.cat_history.specs.Callers.{callers_among, PlacesKeepLimit}
+use Rattle.cat_history.specs.Scans.{IsPart, AreParts, range}
+use Rattle.cat_history.specs.Scans.AreParts.{cut_off, ends, goes_on}
+use Rattle.cat_history.proofs.CallerLemmas.{different-are-few}
+use Rattle.cat_history.specs.Records.{Call, call_of, numbered, numbered_after, placed_write, placed_writes, Interval, interval, last_place}
+use Rattle.cat_history.specs.Rounds.{IsWriter, IsOld, AreItsParts, IsAnswer, IsAnswered, KeepsCallersOrder}
+use Rattle.cat_history.specs.LoneRounds.{write_of, writes_of, HoldsAlong, IsAnswerNow, IsLoneRound, IsSpent, IsSpentExactly, LoneRoundsAreLegal}
 use Rattle.cat_history.specs.declared.op.CallerOp.{CallerOp}
 use Rattle.cat_history.specs.declared.op.Op.{Op}
-use Rattle.cat_history.specs.declared.op.Op.TheVariants.{Put, Get, Del}
+use Rattle.cat_history.specs.declared.op.Op.TheVariants.{Put, Get, Del, Scan}
 use Rattle.cat_history.specs.declared.op.Change.TheVariants as change
 use Rattle.cat_history.specs.declared.op.Write.{Write}
 use Rattle.cat_history.specs.declared.record.Record.{Record}
 use Rattle.cat_history.specs.declared.record.Reply.{Reply}
-use Rattle.cat_history.specs.declared.record.Reply.TheVariants.{Old, Full}
+use Rattle.cat_history.specs.declared.record.Reply.TheVariants.{Old, Parts, Full, Spent, Cut, Unstarted}
+use Rattle.cat_history.specs.declared.record.ScanPart.{ScanPart}
 
 abbrev Now : Map → ℕ → Record → Type 0
 Now m place r = IsAnswerNow m place r.op r.reply
@@ -65,9 +71,12 @@ placed-made : (caller index : ℕ) (op : Op) (reply : Reply) (m : Map) (place : 
 placed-made caller index (Put name value) (Old old at_place) m place rs now more = λ i. (now.1 i, record { caller = caller; index = index; change = change.Put name value }) ∷ more i
 placed-made caller index (Del name) (Old old at_place) m place rs now more = λ i. (now.1 i, record { caller = caller; index = index; change = change.Del name }) ∷ more i
 placed-made caller index (Get name) (Old old at_place) m place rs now more = more ∙ ap (λ n. enumerate_from n (writes_of rs)) (add-zero place)
-placed-made caller index (Put name value) Full m place rs now more = more ∙ ap (λ n. enumerate_from n (writes_of rs)) (add-zero place)
-placed-made caller index (Get name) Full m place rs now more = absurd now
-placed-made caller index (Del name) Full m place rs now more = absurd now
+placed-made caller index (Scan from count) (Old old at_place) m place rs now more = absurd now.0
+placed-made caller index op (Parts parts cut) m place rs now more = more ∙ ap (λ n. enumerate_from n (writes_of rs)) (add-zero place)
+placed-made caller index op Full m place rs now more = more ∙ ap (λ n. enumerate_from n (writes_of rs)) (add-zero place)
+placed-made caller index op (Spent clock) m place rs now more = more ∙ ap (λ n. enumerate_from n (writes_of rs)) (add-zero place)
+placed-made caller index op (Cut mark) m place rs now more = absurd now
+placed-made caller index op Unstarted m place rs now more = absurd now
 
 -- the places that records answered at once tell are those of their writes
 placed-along : (m : Map) (place : ℕ) (rs : List Record) → HoldsAlong Now m place rs → placed_writes rs ≡ enumerate_from place (writes_of rs)
@@ -75,32 +84,74 @@ placed-along m place [] along = refl
 placed-along m place (r ∷ rs) along =
     placed-made r.caller r.index r.op r.reply m place rs along.0 (placed-along (after_all m (write_of r)) (place + length (write_of r)) rs along.1)
 
--- a reply given at once is the answer of the map at that place, whatever is written later
-answer-now : (base : Map) (before later : List Write) (op : Op) (reply : Reply) → IsAnswerNow (after_all base before) (length before) op reply →
-    IsAnswer base (before ++ later) op reply
-answer-now base before later op reply now = by_parts op reply now where
+-- parts that all list one map at one place are those of a scan, wherever that map stands at that place
+part-at : (m : Map) (map_at : ℕ → Map) (here left place : ℕ) (low : List ℕ) (part : ScanPart) → map_at here ≡ m → part.place ≡ here →
+    IsPart (λ _. m) low left place part → IsPart map_at low left place part
+part-at m map_at here left place low part same there is = record {
+  begins = is.begins;
+  bounds = is.bounds;
+  later = is.later;
+  lists = is.lists ∙ ap (λ n. take left (range n part.low part.high)) (sym same ∙ ap map_at (sym there));
+}
+
+parts-at : (m : Map) (map_at : ℕ → Map) (here left place : ℕ) (low : List ℕ) (cut : Bool) (parts : List ScanPart) → map_at here ≡ m →
+    AllByRecursion (λ (part : ScanPart). part.place ≡ here) parts → AreParts (λ _. m) low left place cut parts → AreParts map_at low left place cut parts
+parts-at m map_at here left place low cut parts same all cut_off = cut_off
+parts-at m map_at here left place low cut parts same all (ends {part = part} is last) = ends (part-at m map_at here left place low part same all.0 is) last
+parts-at m map_at here left place low cut parts same all (goes_on {part = part} {parts = more} high is less bound later) =
+    goes_on high (part-at m map_at here left place low part same all.0 is) less bound
+    (parts-at m map_at here (left - length part.pairs) part.place high cut more same all.1 later)
+
+last-at : (here place : ℕ) (parts : List ScanPart) → place ≡ here → AllByRecursion (λ (part : ScanPart). part.place ≡ here) parts → last_place place parts ≡ here
+last-at here place [] is all = is
+last-at here place (part ∷ parts) is all = last-at here part.place parts all.0 all.1
+
+each-at : (here : ℕ) (parts : List ScanPart) → All (λ (part : ScanPart). part.place ≡ here) parts → AllByRecursion (λ (part : ScanPart). part.place ≡ here) parts
+each-at here parts all = recursion_from_All (λ (part : ScanPart). part.place ≡ here) parts all
+
+-- a reply given at once is the answer of the map at that place, whatever is written later; where it tells the limit
+-- reached, it is
+answer-now : (base : Map) (before later : List Write) (limit : ℕ) (op : Op) (reply : Reply) → IsAnswerNow (after_all base before) (length before) op reply →
+    (IsSpent reply → limit ≤ length before) → IsAnswer base (before ++ later) limit op reply
+answer-now base before later limit op reply now spent = by_parts op reply now spent where
   then : (p : ℕ) → p ≡ length before → after_all base before ≡ after base (before ++ later) p
   then p is = ap (after_all base) (sym (ap (λ n. take n (before ++ later)) is ∙ take-append_seam before later))
 
-  by_parts : (o : Op) (r : Reply) → IsAnswerNow (after_all base before) (length before) o r → IsAnswer base (before ++ later) o r
-  by_parts (Put name value) (Old old at_place) now = now.0 ∙ ap (λ m. at m name) (then at_place now.1)
-  by_parts (Get name) (Old old at_place) now = now.0 ∙ ap (λ m. at m name) (then at_place now.1)
-  by_parts (Del name) (Old old at_place) now = now.0 ∙ ap (λ m. at m name) (then at_place now.1)
-  by_parts (Put name value) Full now = tt
-  by_parts (Get name) Full now = now
-  by_parts (Del name) Full now = now
+  of_map : (o : Op) (old : Option ℕ) (p : ℕ) → p ≡ length before → IsOld (after_all base before) o old → IsOld (after base (before ++ later) p) o old
+  of_map o old p is = subst (λ m. IsOld m o old) (then p is)
 
-answers-along : (base : Map) (before : List Write) (rs : List Record) → HoldsAlong Now (after_all base before) (length before) rs →
-    AllByRecursion (λ r. IsAnswer base (before ++ writes_of rs) r.op r.reply) rs
-answers-along base before [] along = tt
-answers-along base before (r ∷ rs) along =
+  of_parts : (o : Op) (cut : Bool) (parts : List ScanPart) → All (λ (part : ScanPart). part.place ≡ length before) parts → AreItsParts (λ _. after_all base before) o cut parts →
+      AreItsParts (after base (before ++ later)) o cut parts
+  of_parts (Put name value) cut parts all is = is
+  of_parts (Get name) cut parts all is = is
+  of_parts (Del name) cut parts all is = is
+  of_parts (Scan from count) cut parts all is =
+      parts-at (after_all base before) (after base (before ++ later)) (length before) count 0 from cut parts (sym (then (length before) refl)) (each-at (length before) parts all) is
+
+  by_parts : (o : Op) (r : Reply) → IsAnswerNow (after_all base before) (length before) o r → (IsSpent r → limit ≤ length before) → IsAnswer base (before ++ later) limit o r
+  by_parts o (Old old at_place) now spent = of_map o old at_place now.1 now.0
+  by_parts o (Parts parts cut) now spent = of_parts o cut parts now.2 now.1
+  by_parts o Full now spent = now
+  by_parts o (Spent clock) now spent = (now.0, omega (arith, now.1, spent tt))
+  by_parts o (Cut mark) now spent = absurd now
+  by_parts o Unstarted now spent = tt
+
+-- spent exactly by the limit
+abbrev SpentBy : ℕ → Map → ℕ → Record → Type 0
+SpentBy limit m place r = IsSpent r.reply ↔ (IsWriter r.op × (limit ≤ place))
+
+answers-along : (base : Map) (limit : ℕ) (before : List Write) (rs : List Record) → HoldsAlong Now (after_all base before) (length before) rs →
+    HoldsAlong (SpentBy limit) (after_all base before) (length before) rs → AllByRecursion (λ r. IsAnswer base (before ++ writes_of rs) limit r.op r.reply) rs
+answers-along base limit before [] along spent = tt
+answers-along base limit before (r ∷ rs) along spent =
     let split : before ++ writes_of (r ∷ rs) ≡ (before ++ write_of r) ++ writes_of rs = ap (λ ws. before ++ ws) (writes_of-cons r rs) ∙ sym (append_assoc before (write_of r) (writes_of rs)) in
     let map_is : after_all (after_all base before) (write_of r) ≡ after_all base (before ++ write_of r) = sym (fold-append (λ n (w : Write). changed n w.change) base before (write_of r)) in
     let place_is : length before + length (write_of r) ≡ length (before ++ write_of r) = sym (length-append before (write_of r)) in
-    let on : HoldsAlong Now (after_all base (before ++ write_of r)) (length (before ++ write_of r)) rs =
-    subst (λ n. HoldsAlong Now (after_all base (before ++ write_of r)) n rs) place_is (subst (λ n. HoldsAlong Now n (length before + length (write_of r)) rs) map_is along.1) in (
-      answer-now base before (writes_of (r ∷ rs)) r.op r.reply along.0,
-      subst (λ ws. AllByRecursion (λ (q : Record). IsAnswer base ws q.op q.reply) rs) (sym split) (answers-along base (before ++ write_of r) rs on),
+    let moved : (P : Map → ℕ → Record → Type 0) → HoldsAlong P (after_all (after_all base before) (write_of r)) (length before + length (write_of r)) rs → HoldsAlong P (after_all base (before ++ write_of r)) (length (before ++ write_of r)) rs =
+    λ P on. subst (λ n. HoldsAlong P (after_all base (before ++ write_of r)) n rs) place_is (subst (λ n. HoldsAlong P n (length before + length (write_of r)) rs) map_is on) in (
+      answer-now base before (writes_of (r ∷ rs)) limit r.op r.reply along.0 (λ is. (spent.0.0 is).1),
+      subst (λ ws. AllByRecursion (λ (q : Record). IsAnswer base ws limit q.op q.reply) rs) (sym split)
+          (answers-along base limit (before ++ write_of r) rs (moved Now along.1) (moved (SpentBy limit) spent.1)),
     )
 
 -- a call that is answered at once takes effect between the writes before it and those that it leaves
@@ -109,9 +160,33 @@ spans-now : (caller index : ℕ) (op : Op) (reply : Reply) (m : Map) (place : �
 spans-now caller index (Put name value) (Old old at_place) m place now = (omega (arith, now.1), omega (arith, now.1))
 spans-now caller index (Get name) (Old old at_place) m place now = (omega (arith, now.1), omega (arith, now.1))
 spans-now caller index (Del name) (Old old at_place) m place now = (omega (arith, now.1), omega (arith, now.1))
-spans-now caller index (Put name value) Full m place now = tt
-spans-now caller index (Get name) Full m place now = absurd now
-spans-now caller index (Del name) Full m place now = absurd now
+spans-now caller index (Scan from count) (Old old at_place) m place now = absurd now.0
+spans-now caller index op (Parts [] cut) m place now = tt
+spans-now caller index op (Parts (part ∷ parts) cut) m place now =
+    let all = each-at place (part ∷ parts) now.2 in (omega (arith, all.0), omega (arith, last-at place part.place parts all.0 all.1))
+spans-now caller index op Full m place now = tt
+spans-now caller index op (Spent clock) m place now = (omega (arith, now.1), omega (arith, now.1))
+spans-now caller index op (Cut mark) m place now = absurd now
+spans-now caller index op Unstarted m place now = absurd now
+
+below-limit : (place limit : ℕ) → ((limit ≤ place) → ⊥) → place + 1 ≤ limit
+below-limit place limit never =
+    ⊎_elim (λ (same : place ≡ limit). absurd (never (omega arith)))
+    (λ (apart : (place < limit) ⊎ (limit < place)). ⊎_elim (λ (less : place < limit). omega arith) (λ (late : limit < place). absurd (never (omega arith))) apart)
+    (cases_order place limit)
+
+-- one that writes does so below the limit
+early-now : (caller index limit : ℕ) (op : Op) (reply : Reply) (m : Map) (place : ℕ) → IsAnswerNow m place op reply → IsSpent reply ↔ (IsWriter op × (limit ≤ place)) → place ≤ limit →
+    place + length (write_of (made caller index op reply)) ≤ limit
+early-now caller index limit (Put name value) (Old old at_place) m place now spent early = below-limit place limit (λ late. spent.1 (tt, late))
+early-now caller index limit (Get name) (Old old at_place) m place now spent early = omega arith
+early-now caller index limit (Del name) (Old old at_place) m place now spent early = below-limit place limit (λ late. spent.1 (tt, late))
+early-now caller index limit (Scan from count) (Old old at_place) m place now spent early = omega arith
+early-now caller index limit op (Parts parts cut) m place now spent early = omega arith
+early-now caller index limit op Full m place now spent early = omega arith
+early-now caller index limit op (Spent clock) m place now spent early = omega arith
+early-now caller index limit op (Cut mark) m place now spent early = absurd now
+early-now caller index limit op Unstarted m place now spent early = absurd now
 
 weaker : (o : Option Interval) (P Q : Interval → Type 0) → ((i : Interval) → P i → Q i) → IfSome o P → IfSome o Q
 weaker None P Q to h = tt
@@ -209,16 +284,74 @@ in-order caller asked base records one is along r s has_r has_s same less =
     (subst (λ (q : Record). Precedes q (get_or records has_s.0 s)) has_r.2
     (precedes-along base 0 records along has_r.0 has_s.0 (omega (arith, first, second, less)) has_s.1 r s))
 
+early-along : (limit : ℕ) (m : Map) (place : ℕ) (rs : List Record) → HoldsAlong Now m place rs → HoldsAlong (SpentBy limit) m place rs → place ≤ limit →
+    place + length (writes_of rs) ≤ limit
+early-along limit m place [] along spent early = omega arith
+early-along limit m place (r ∷ rs) along spent early =
+    let here : place + length (write_of r) ≤ limit = early-now r.caller r.index limit r.op r.reply m place along.0 spent.0 early in
+    let behind = early-along limit (after_all m (write_of r)) (place + length (write_of r)) rs along.1 spent.1 here in
+    let split : length (writes_of (r ∷ rs)) ≡ length (write_of r) + length (writes_of rs) = ap length (writes_of-cons r rs) ∙ length-append (write_of r) (writes_of rs) in
+    omega arith
+
+answered-now : (op : Op) (reply : Reply) (m : Map) (place : ℕ) → IsAnswerNow m place op reply → IsAnswered reply
+answered-now op (Old old at_place) m place now = tt
+answered-now op (Parts parts cut) m place now = now.0
+answered-now op Full m place now = tt
+answered-now op (Spent clock) m place now = tt
+answered-now op (Cut mark) m place now = absurd now
+answered-now op Unstarted m place now = absurd now
+
+answered-along : (m : Map) (place : ℕ) (rs : List Record) → HoldsAlong Now m place rs → AllByRecursion (λ r. IsAnswered r.reply) rs
+answered-along m place [] along = tt
+answered-along m place (r ∷ rs) along = (answered-now r.op r.reply m place along.0, answered-along (after_all m (write_of r)) (place + length (write_of r)) rs along.1)
+
+-- one caller stands in a list with an element
+some-caller : (calls : List Call) → 0 < length calls → 1 ≤ callers_among (map (λ c. c.caller) calls)
+some-caller [] some = absurd (omega arith)
+some-caller (c ∷ calls) some =
+    different-are-few (c.caller ∷ []) (map (λ d. d.caller) (c ∷ calls)) (λ i j x less inside. absurd (omega arith))
+    (λ x has. (0, omega arith, only x has.0 has.1 has.2))
+  where
+    only : (x k : ℕ) → k < 1 → get_or (c.caller ∷ []) k x ≡ x → c.caller ≡ x
+    only x zero within is = is
+    only x (suc k) within is = absurd (omega arith)
+
+few-writes : (rs : List Record) → length (writes_of rs) ≤ length rs
+few-writes [] = omega arith
+few-writes (r ∷ rs) =
+    let behind = few-writes rs in
+    let split : length (writes_of (r ∷ rs)) ≡ length (write_of r) + length (writes_of rs) = ap length (writes_of-cons r rs) ∙ length-append (write_of r) (writes_of rs) in
+    let one : length (write_of r) ≤ 1 = at_most (placed_write r) in
+    omega arith
+  where
+    at_most : (w : Option (ℕ × Write)) → length (map (λ (w : ℕ × Write). w.1) (option_to_list w)) ≤ 1
+    at_most None = omega arith
+    at_most (Some w) = omega arith
+
+in-time : (base : Map) (limit : ℕ) (asked : List CallerOp) (records : List Record) → map call_of records ≡ numbered asked → IsLoneRound base records → IsSpentExactly limit base records →
+    PlacesKeepLimit limit (map (λ c. c.caller) (numbered asked)) (writes_of records)
+in-time base limit asked records is along spent place within =
+    let early : 0 + length (writes_of records) ≤ limit = early-along limit base 0 records along spent (omega arith) in
+    let few : length (writes_of records) ≤ length records = few-writes records in
+    let sizes : length (numbered asked) ≡ length records = ap length (sym is) ∙ length-map records call_of in
+    let one : 1 ≤ callers_among (map (λ c. c.caller) (numbered asked)) = some-caller (numbered asked) (omega arith) in
+    omega arith
+
 pub lone_rounds_are_legal : LoneRoundsAreLegal
-lone_rounds_are_legal base caller asked records one is along = record {
-  each_call = subst (λ (calls : List Call). IsPermutation (numbered asked) calls) (sym is) (IsPermutation-refl (numbered asked));
-  by_place = subst (λ (ws : List (ℕ × Write)). IsPermutation (placed_writes records) ws) (placed-along base 0 records along) (IsPermutation-refl (placed_writes records));
-  answers = All-from_recursion (λ r. IsAnswer base (writes_of records) r.op r.reply) records (answers-along base [] records along);
-  within = All-from_recursion (λ r. IfSome (interval r) (λ i. i.end ≤ length (writes_of records))) records
-      (each-weaker (Spans 0 (0 + length (writes_of records))) (λ r. IfSome (interval r) (λ i. i.end ≤ length (writes_of records)))
-      (λ r. weaker (interval r) (λ i. (0 ≤ i.start) × (i.end ≤ 0 + length (writes_of records))) (λ i. i.end ≤ length (writes_of records)) (λ i h. omega (arith, h.1)))
-      records (spans-along base 0 records along));
-  in_order = in-order caller asked base records one is along;
+lone_rounds_are_legal base caller asked limit records one is along spent = record {
+  legal = record {
+    each_call = subst (λ (calls : List Call). IsPermutation (numbered asked) calls) (sym is) (IsPermutation-refl (numbered asked));
+    by_place = subst (λ (ws : List (ℕ × Write)). IsPermutation (placed_writes records) ws) (placed-along base 0 records along) (IsPermutation-refl (placed_writes records));
+    answers = All-from_recursion (λ r. IsAnswer base (writes_of records) limit r.op r.reply) records (answers-along base limit [] records along spent);
+    within = All-from_recursion (λ r. IfSome (interval r) (λ i. i.end ≤ length (writes_of records))) records
+        (each-weaker (Spans 0 (0 + length (writes_of records))) (λ r. IfSome (interval r) (λ i. i.end ≤ length (writes_of records)))
+        (λ r. weaker (interval r) (λ i. (0 ≤ i.start) × (i.end ≤ 0 + length (writes_of records))) (λ i. i.end ≤ length (writes_of records)) (λ i h. omega (arith, h.1)))
+        records (spans-along base 0 records along));
+    in_order = in-order caller asked base records one is along;
+    in_time = in-time base limit asked records is along spent;
+  };
+  answered = All-from_recursion (λ r. IsAnswered r.reply) records (answered-along base 0 records along);
+  leaves = refl;
 }
 
 -- one call more has as its index how often its caller called before

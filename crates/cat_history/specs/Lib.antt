@@ -1,8 +1,9 @@
 pub mod Maps
 pub mod Writes
+pub mod Scans
 pub mod Records
 pub mod Rounds
 pub mod LoneRounds
-pub mod PlainMaps
 pub mod CrashEnds
+pub mod CrashRounds
 pub mod Callers

@@ -8,7 +8,7 @@ use std::marker::Model;
 /// lists. It is made from a `Vec` and gives it back without taking memory.
 #[derive(Drop)]
 pub struct Listed<T> {
-    items: Vec<T>,
+    pub(crate) items: Vec<T>,
 }
 
 impl<T> Model for Listed<T> {

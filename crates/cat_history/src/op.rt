@@ -1,6 +1,15 @@
 //! What callers ask of a catalogue, and what a call writes into it.
 
+use crate::listed::Listed;
 use cat_key::Name;
+
+/// What a call on one name asks.
+#[derive(Clone, Copy)]
+pub enum NameOp {
+    Put { name: Name, value: u64 },
+    Get { name: Name },
+    Del { name: Name },
+}
 
 /// What a call asks.
 #[derive(Clone, Copy)]
@@ -8,6 +17,8 @@ pub enum Op {
     Put { name: Name, value: u64 },
     Get { name: Name },
     Del { name: Name },
+    /// The first names that are at least `from`, this many, with their numbers.
+    Scan { from: Name, count: u64 },
 }
 
 /// A caller's number, and what it asks.
@@ -31,3 +42,6 @@ pub struct Write {
     pub index: u64,
     pub change: Change,
 }
+
+/// The writes of a history, by place.
+pub type Writes = Listed<Write>;

@@ -1,0 +1,126 @@
+//! What became of the writes that a crash cut off.
+
+ghost use Rattle.std.specs.Prelude.{◌≡◌};
+ghost use Rattle.cat_history.specs.CrashRounds.{all_settled, is_open, is_shown, settled};
+ghost use Rattle.cat_history.specs.Maps.{at, map_of};
+ghost use Rattle.cat_history.specs.Records.{change_asked};
+
+use crate::op::Op;
+use crate::pairs::number_in;
+use crate::record::{CutMark, Pairs, Record, Records, Reply};
+use cat_key::Pair;
+
+/// Asks the map that was found after a crash for each write that was cut off without a place. An `Open` mark becomes
+/// `Found` where the map agrees with the write on its name, else `Lost`; everything else stays.
+///
+/// It takes no memory, and time in proportion to the records and, for each open mark, the pairs.
+pub fn settle(records: &mut Records, map: &Pairs)
+    ensures { records.new ≡ all_settled (map_of map.now) records.old }
+{
+    settle_all(&mut records.items, map.as_slice());
+}
+
+fn settle_all(records: &mut [Record], pairs: &[Pair])
+    ensures { records.new ≡ all_settled (map_of pairs.now) records.old }
+{
+    for record in records.iter_mut() {
+        settle_record(record, pairs);
+    }
+}
+
+fn settle_record(record: &mut Record, pairs: &[Pair])
+    ensures { record.new ≡ settled (map_of pairs.now) record.old }
+{
+    if is_open(&record.reply) {
+        let mark = if shows(pairs, &record.op) {
+            CutMark::Found
+        } else {
+            CutMark::Lost
+        };
+        record.reply = Reply::Cut { mark };
+    }
+}
+
+fn is_open(reply: &Reply) -> bool
+    ensures { result ≡ is_open reply.now }
+{
+    matches!(
+        reply,
+        Reply::Cut {
+            mark: CutMark::Open
+        }
+    )
+}
+
+/// Whether the map of these pairs agrees with what the op writes; one that writes nothing shows nowhere.
+fn shows(pairs: &[Pair], op: &Op) -> bool
+    ensures { result ≡ is_shown (map_of pairs.now) (change_asked op.now) }
+{
+    match op {
+        Op::Put { name, value } => number_in(pairs, name) == Some(*value),
+        Op::Del { name } => number_in(pairs, name).is_none(),
+        Op::Get { .. } | Op::Scan { .. } => false,
+    }
+}
+
+#[cfg(test)]
+mod tests {
+    use super::*;
+    use crate::listed::Listed;
+    use cat_key::Name;
+    use std::test::Fail;
+
+    /// The mark that `settle` gives a write that was cut off with this one, where the map has `a` with 1 and `b` with
+    /// 2.
+    fn settled_mark(rt: &HostRuntime, op: Op, mark: CutMark) -> Result<CutMark, Fail> {
+        let a = Name::read(b"a").ok().ok_or("a")?;
+        let b = Name::read(b"b").ok().ok_or("b")?;
+        let mut pairs = Vec::new(rt.alloc());
+        pairs.push(Pair { name: a, value: 1 })?;
+        pairs.push(Pair { name: b, value: 2 })?;
+        let mut records = Vec::new(rt.alloc());
+        records.push(Record {
+            caller: 0,
+            index: 0,
+            op,
+            reply: Reply::Cut { mark },
+        })?;
+        let mut records = Listed::of(records);
+        settle(&mut records, &Listed::of(pairs));
+        match records.as_slice()[0].reply {
+            Reply::Cut { mark } => Ok(mark),
+            _ => Err("no mark".into()),
+        }
+    }
+
+    #[test]
+    fn tells_what_the_map_shows(rt: HostRuntime) -> Result<(), Fail> {
+        let a = Name::read(b"a").ok().ok_or("a")?;
+        let c = Name::read(b"c").ok().ok_or("c")?;
+
+        // Each op, its mark, and what becomes of that.
+        let cases = [
+            (Op::Put { name: a, value: 1 }, CutMark::Open, CutMark::Found),
+            (Op::Put { name: a, value: 2 }, CutMark::Open, CutMark::Lost),
+            (Op::Put { name: c, value: 1 }, CutMark::Open, CutMark::Lost),
+            (Op::Del { name: a }, CutMark::Open, CutMark::Lost),
+            (Op::Del { name: c }, CutMark::Open, CutMark::Found),
+            (
+                Op::Put { name: c, value: 1 },
+                CutMark::Found,
+                CutMark::Found,
+            ),
+            (Op::Del { name: c }, CutMark::Lost, CutMark::Lost),
+            (
+                Op::Put { name: c, value: 1 },
+                CutMark::At { place: 3 },
+                CutMark::At { place: 3 },
+            ),
+            (Op::Get { name: a }, CutMark::Read, CutMark::Read),
+        ];
+        for (op, mark, after) in cases {
+            assert_eq!(rt; settled_mark(&rt, op, mark)?, after);
+        }
+        Ok(())
+    }
+}
