@@ -4,7 +4,7 @@ use Rattle.std.proofs.lemmas.Bool.{MatchBool-at_true, MatchBool-at_false, eqb-fa
 use Rattle.std.specs.FinMap.{keys, insert, remove}
 use Rattle.std.specs.List.{filter, AllByRecursion}
 use Rattle.cat_history.specs.Maps.{Map, at}
-use Rattle.cat_history.proofs.PlainMapLemmas.{removed-lacking}
+use Rattle.shapes.proofs.PlainMapLemmas.{removed-lacking}
 use Rattle.shapes.specs.Anchors.{below, AnchorsRise, Anchors, AreAnchors, is_under, is_between, names_between, up_to, past, target_of, next_of, names_at, splits, middle_of, put_anchors, del_anchors}
 use Rattle.shapes.specs.Members as member
 use Rattle.shapes.specs.Members.{Member, is_among, with_name, without_name, named, IsTargetMember, lower, upper, Outcome, Full, Placed, Puts, Deletes, members}

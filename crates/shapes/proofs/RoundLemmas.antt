@@ -9,16 +9,16 @@ use Rattle.cat_history.specs.Maps.{Map, at}
 use Rattle.cat_history.specs.Writes.{after_all, changed}
 use Rattle.cat_history.specs.LoneRounds.{write_of, writes_of, HoldsAlong, IsAnswerNow}
 use Rattle.cat_history.specs.declared.op.Op.{Op}
-use Rattle.cat_history.specs.declared.op.Op.TheVariants.{Put, Get, Del}
+use Rattle.cat_history.specs.declared.op.Op.TheVariants.{Put, Get, Del, Scan}
 use Rattle.cat_history.specs.declared.op.Write.{Write}
 use Rattle.cat_history.specs.declared.record.Record.{Record}
 use Rattle.cat_history.specs.declared.record.Reply.{Reply}
-use Rattle.cat_history.specs.declared.record.Reply.TheVariants.{Old, Full}
+use Rattle.cat_history.specs.declared.record.Reply.TheVariants.{Old, Parts, Full, Spent, Cut, Unstarted}
 use Rattle.cat_history.proofs.LoneRoundLemmas.{writes_of-cons}
 use Rattle.shapes.specs.Anchors.{Anchors, IsFullPut}
 use Rattle.shapes.specs.Weights.{IsShape, weight, one_if, one_lacking}
 use Rattle.shapes.specs.ShapeRounds.{anchors_after, HoldsInShape, anchors_end, PutsFull, IsFullByShape, one_added, puts_added, FullIsPaid, LoneRoundsKeepShape, IsShapeWithin, LeavesShape, GoesOnFrom, RoundsArePaid}
-use Rattle.shapes.proofs.Shapes.{put_keeps_shape, delete_keeps_shape, put_weighs, delete_weighs, full_weighs}
+use Rattle.shapes.proofs.Shapes.{put_keeps_shape, deleted_keeps_shape, put_weighs, deleted_weighs, full_weighs}
 use Rattle.shapes.proofs.NameLists.{all_by}
 
 abbrev made : ℕ → ℕ → Op → Reply → Record
@@ -69,12 +69,27 @@ module _ (slots nodes : ℕ) (m : Map) (anchors : Anchors) (enough : 2 ≤ slots
       record { shape = shape; weighs = omega arith; names = omega arith; paid = λ full. full_weighs slots nodes m anchors name (exact.0 refl) }
   one-call caller index (Get name) (Old old at_place) place answer exact =
       record { shape = shape; weighs = omega arith; names = omega arith; paid = λ full. absurd (old-not-full old at_place full) }
+  one-call caller index (Scan from count) (Old old at_place) place answer exact = absurd answer.0
+  one-call caller index (Put name value) (Parts parts cut) place answer exact = absurd answer.1
+  one-call caller index (Get name) (Parts parts cut) place answer exact = absurd answer.1
+  one-call caller index (Del name) (Parts parts cut) place answer exact = absurd answer.1
+  one-call caller index (Scan from count) (Parts parts cut) place answer exact =
+      record { shape = shape; weighs = omega arith; names = omega arith; paid = λ full. absurd (let is : Parts parts cut ≡ Full = full in cc) }
   one-call caller index (Get name) Full place answer exact = absurd answer
+  one-call caller index (Scan from count) Full place answer exact = absurd answer
+  one-call caller index (Put name value) (Spent clock) place answer exact =
+      record { shape = shape; weighs = omega arith; names = omega arith; paid = λ full. absurd (let is : Spent clock ≡ Full = full in cc) }
+  one-call caller index (Get name) (Spent clock) place answer exact = absurd answer.0
+  one-call caller index (Del name) (Spent clock) place answer exact =
+      record { shape = shape; weighs = omega arith; names = omega arith; paid = λ full. absurd (let is : Spent clock ≡ Full = full in cc) }
+  one-call caller index (Scan from count) (Spent clock) place answer exact = absurd answer.0
+  one-call caller index op (Cut mark) place answer exact = absurd answer
+  one-call caller index op Unstarted place answer exact = absurd answer
   one-call caller index (Del name) (Old old at_place) place answer exact =
-      let weighs = delete_weighs slots m anchors name shape.ordered in
+      let weighs = deleted_weighs slots m anchors name in
       let names = del-names m name in
       record {
-        shape = delete_keeps_shape slots nodes m anchors name shape;
+        shape = deleted_keeps_shape slots nodes m anchors name shape;
         weighs = omega arith;
         names = omega arith;
         paid = λ full. absurd (old-not-full old at_place full);

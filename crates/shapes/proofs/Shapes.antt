@@ -8,14 +8,14 @@ use Rattle.cat_history.specs.Maps.{Map, at}
 use Rattle.shapes.specs.Anchors.{below, AnchorsRise, Anchors, AreAnchors, is_between, names_between, up_to, past, target_of, next_of, names_at, IsFullPut, splits, middle_of, put_anchors, merges, del_anchors}
 use Rattle.shapes.specs.Members.{Member, lower, upper, Placed, Puts, members}
 use Rattle.shapes.specs.Weights.{IsShape, members_weight, weight, one_if, one_lacking}
-use Rattle.shapes.specs.Laws.{PartsAgree, FreshIsShape, PutKeepsShape, DeleteKeepsShape, SplitIsEnough, PutWeighs, DeleteWeighs, MergePays, FullWeighs, OneNodeIsRoom}
+use Rattle.shapes.specs.Laws.{PartsAgree, FreshIsShape, PutKeepsShape, DeleteKeepsShape, DeletedKeepsShape, DeletedWeighs, SplitIsEnough, PutWeighs, DeleteWeighs, MergePays, FullWeighs, OneNodeIsRoom}
 use Rattle.shapes.proofs.Orders.{true_or_false, clash, empty_first}
 use Rattle.shapes.proofs.NameLists.{all_append, all_first, all_second, filter-keeps, filter-drops, filter-short, with_name-there}
-use Rattle.shapes.proofs.Keys.{rise-keys, among-keys, keys-insert}
+use Rattle.shapes.proofs.Keys.{rise-keys, among-keys, keys-insert, del-between}
 use Rattle.shapes.proofs.Targets.{Parted, part, target-is, next-is, names_at-is, members_before, member_of, is-target, all-between, and_false}
 use Rattle.shapes.proofs.Turns.{Parts, one_target}
 use Rattle.shapes.proofs.Agreements.{put_agrees, delete_agrees, length-members, fits-target, none-is, some-none, put-stays, put-splits, by-keys, first-kept, and-first, and-second, split-are, split-members, split-few, lower-names, upper-names}
-use Rattle.shapes.proofs.MemberWeights.{each_weighs, split-weighs, put-weighs, put-fits, delete-weighs, delete-pays, delete-fits}
+use Rattle.shapes.proofs.MemberWeights.{each_weighs, split-weighs, put-weighs, put-fits, delete-weighs, delete-pays, delete-fits, without-short}
 
 pub len-keys : (m : Map) → len m ≡ length (keys m)
 len-keys m = len-entries m ∙ sym (length-map (entries m) (λ e. e.0))
@@ -156,6 +156,33 @@ delete_keeps_shape slots nodes m anchors name shape =
     let here = ap length e in
     record { ordered = subst AreAnchors (sym e) shape.ordered; few = omega arith; fits = fits })
     (true_or_false (merges slots m anchors name))
+
+-- ---- deletes that merge nothing
+
+-- between two anchors are no more names than before
+fewer-between : (m : Map) (name low : List ℕ) (high : Option (List ℕ)) → length (names_between (remove m name) low high) ≤ length (names_between m low high)
+fewer-between m name low high =
+    let same = ap length (del-between m low high name) in
+    let short = without-short name (names_between m low high) in
+    omega arith
+
+fewer-fit : (slots : ℕ) (m : Map) (name : List ℕ) (anchors : Anchors) → Fits slots (members m anchors) → Fits slots (members (remove m name) anchors)
+fewer-fit slots m name [] fits = tt
+fewer-fit slots m name (a ∷ later) fits =
+    let less = fewer-between m name a (slice_get later 0) in
+    let its = fits.0 in
+    (omega arith, fewer-fit slots m name later fits.1)
+
+pub deleted_keeps_shape : DeletedKeepsShape
+deleted_keeps_shape slots nodes m anchors name shape =
+    record { ordered = shape.ordered; few = shape.few; fits = fewer-fit slots m name anchors shape.fits }
+
+pub deleted_weighs : DeletedWeighs
+deleted_weighs slots m [] name = omega arith
+deleted_weighs slots m (a ∷ later) name =
+    let less = fewer-between m name a (slice_get later 0) in
+    let rest : members_weight slots (members (remove m name) later) ≤ members_weight slots (members m later) = deleted_weighs slots m later name in
+    omega arith
 
 -- ---- splits
 

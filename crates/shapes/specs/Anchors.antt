@@ -91,3 +91,7 @@ merges slots m anchors name =
 abbrev pub del_anchors : ℕ → Map → Anchors → List ℕ → Anchors
 del_anchors slots m anchors name =
     if merges slots m anchors name then up_to anchors name ++ drop 1 (past anchors name) else anchors
+
+-- The anchors that a delete of the name leaves. Deletes merge no neighbours yet: once they do, these are `del_anchors`.
+abbrev pub deleted_anchors : ℕ → Map → Anchors → List ℕ → Anchors
+deleted_anchors slots m anchors name = anchors

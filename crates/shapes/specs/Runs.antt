@@ -4,7 +4,7 @@ use Rattle.cat_history.specs.Maps.{Map}
 use Rattle.cat_history.specs.Writes.{after_all}
 use Rattle.cat_history.specs.LoneRounds.{write_of, IsLoneRound, IsFullExactly}
 use Rattle.cat_history.specs.declared.op.Op.{Op}
-use Rattle.cat_history.specs.declared.op.Op.TheVariants.{Put, Get, Del}
+use Rattle.cat_history.specs.declared.op.Op.TheVariants.{Put, Get, Del, Scan}
 use Rattle.cat_history.specs.declared.record.Record.{Record}
 use Rattle.cat_history.specs.declared.record.Reply.TheVariants.{Full}
 use Rattle.shapes.specs.Anchors.{Anchors}
@@ -41,6 +41,7 @@ abbrev pub ComesLate : ℕ → Standing → Op → Type 0
 ComesLate limit s (Put name value) = limit ≤ s.place
 ComesLate limit s (Get name) = ⊥
 ComesLate limit s (Del name) = limit ≤ s.place
+ComesLate limit s (Scan from count) = ⊥
 
 -- A call is answered full exactly where it comes in time and is a put that is full in the shape as it stands.
 abbrev pub IsFullInTime : ℕ → Bool → ℕ → Standing → List Record → Type 0

@@ -1,25 +1,23 @@
 -- Rounds in which one caller alone has calls, in the shape of the index: which puts are full, and what the calls make
 -- of the anchors; and how the shape goes on from round to round.
-use Rattle.std.specs.Prelude.{◌≡◌, ℕ, ◌+◌, ◌*◌, ◌/◌, ◌≤◌, ◌↔◌, Bool, MatchBool, ◌&&◌, List, [], ◌∷◌, All, Some, None}
+use Rattle.std.specs.Prelude.{◌≡◌, ℕ, ◌+◌, ◌*◌, ◌/◌, ◌≤◌, ◌↔◌, Bool, MatchBool, ◌&&◌, List, [], ◌∷◌, All, None}
 use Rattle.std.specs.FinMap.{len}
 use Rattle.cat_history.specs.Maps.{Map}
 use Rattle.cat_history.specs.Writes.{after_all}
 use Rattle.cat_history.specs.LoneRounds.{write_of, writes_of, IsLoneRound}
 use Rattle.cat_history.specs.declared.op.Op.{Op}
-use Rattle.cat_history.specs.declared.op.Op.TheVariants.{Put, Get, Del}
+use Rattle.cat_history.specs.declared.op.Op.TheVariants.{Put, Get, Del, Scan}
 use Rattle.cat_history.specs.declared.record.Record.{Record}
 use Rattle.cat_history.specs.declared.record.Reply.{Reply}
 use Rattle.cat_history.specs.declared.record.Reply.TheVariants.{Old, Full}
-use Rattle.shapes.specs.Anchors.{Anchors, IsFullPut, put_anchors, del_anchors}
+use Rattle.shapes.specs.Anchors.{Anchors, IsFullPut, put_anchors, deleted_anchors}
 use Rattle.shapes.specs.Weights.{IsShape, weight}
 
--- The anchors after a call that was answered so: a call that is refused leaves them.
+-- The anchors after a call that was answered so: a call that reads or is refused leaves them.
 abbrev pub anchors_after : ℕ → Map → Anchors → Op → Reply → Anchors
 anchors_after slots m anchors (Put name value) (Old old place) = put_anchors slots m anchors name
-anchors_after slots m anchors (Put name value) Full = anchors
-anchors_after slots m anchors (Get name) reply = anchors
-anchors_after slots m anchors (Del name) (Old old place) = del_anchors slots m anchors name
-anchors_after slots m anchors (Del name) Full = anchors
+anchors_after slots m anchors (Del name) (Old old place) = deleted_anchors slots m anchors name
+anchors_after slots m anchors op reply = anchors
 
 -- The fact P holds of each record, with the map and the anchors that the records before it leave.
 abbrev pub HoldsInShape : ℕ → (Map → Anchors → Record → Type 0) → Map → Anchors → List Record → Type 0
@@ -38,6 +36,7 @@ abbrev pub PutsFull : ℕ → ℕ → Map → Anchors → Op → Type 0
 PutsFull slots nodes m anchors (Put name value) = IsFullPut slots nodes m anchors name
 PutsFull slots nodes m anchors (Get name) = ⊥
 PutsFull slots nodes m anchors (Del name) = ⊥
+PutsFull slots nodes m anchors (Scan from count) = ⊥
 
 -- A call is answered full exactly where it is a put that is full in the shape that the earlier calls left.
 abbrev pub IsFullByShape : ℕ → ℕ → Map → Anchors → List Record → Type 0
@@ -47,10 +46,7 @@ IsFullByShape slots nodes base anchors records =
 -- One for the record of a put that added a name.
 abbrev pub one_added : Op → Reply → ℕ
 one_added (Put name value) (Old None place) = 1
-one_added (Put name value) (Old (Some old) place) = 0
-one_added (Put name value) Full = 0
-one_added (Get name) reply = 0
-one_added (Del name) reply = 0
+one_added op reply = 0
 
 -- How many puts of the records added a name.
 abbrev pub puts_added : List Record → ℕ

@@ -3,8 +3,8 @@
 ghost use Rattle.shapes.specs.Runs.{OneNodeRounds};
 ghost use Rattle.shapes.specs.ShapeRounds.{LoneRoundsKeepShape, RoundsArePaid};
 ghost use Rattle.shapes.specs.Laws.{MembersPartNames, PutAgrees, DeleteAgrees, PartsAgree, FreshIsShape, PutKeepsShape};
-ghost use Rattle.shapes.specs.Laws.{DeleteKeepsShape, SplitIsEnough, PutWeighs, DeleteWeighs, MergePays, FullWeighs};
-ghost use Rattle.shapes.specs.Laws.{OneNodeIsRoom, HalfIsSplit, DropIsMerge};
+ghost use Rattle.shapes.specs.Laws.{DeleteKeepsShape, DeletedKeepsShape, SplitIsEnough, PutWeighs, DeleteWeighs};
+ghost use Rattle.shapes.specs.Laws.{DeletedWeighs, MergePays, FullWeighs, OneNodeIsRoom, HalfIsSplit, DropIsMerge};
 
 /// The members part the names of the map among them.
 pub fn parts_law()
@@ -24,6 +24,7 @@ pub fn keeps_law()
     ensures fresh { FreshIsShape }
     ensures put { PutKeepsShape }
     ensures del { DeleteKeepsShape }
+    ensures deleted { DeletedKeepsShape }
 {}
 
 /// One split is enough.
@@ -35,6 +36,7 @@ pub fn split_law()
 pub fn weight_law()
     ensures put { PutWeighs }
     ensures del { DeleteWeighs }
+    ensures deleted { DeletedWeighs }
     ensures merge { MergePays }
     ensures full { FullWeighs }
 {}

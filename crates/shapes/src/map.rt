@@ -1,0 +1,78 @@
+//! A map from names to numbers, kept in members of so many names each, however it is kept.
+
+ghost use Rattle.std.specs.Prelude.{◌≡◌, ◌+◌, ◌<◌, ◌≤◌, ◌↔◌, IfOk, OnOk, OnErr, IsErr};
+ghost use Rattle.std.specs.FinMap.{insert, remove, len};
+ghost use Rattle.cat_history.specs.Maps.{at};
+ghost use Rattle.shapes.specs.Anchors.{IsFullPut, deleted_anchors, put_anchors};
+
+use cat_key::Name;
+
+/// A put of a new name found no room.
+#[derive(Clone, Copy, Debug, PartialEq, Eq)]
+pub struct Full;
+
+/// A map from names to numbers, whose members have room for a fixed number of names each. There can be so many members
+/// and no more.
+pub trait NameMap {
+    ghost use Rattle.std.specs.Prelude.{ℕ};
+    ghost use Rattle.cat_history.specs.Maps.{Map};
+    ghost use Rattle.shapes.specs.Anchors.{Anchors};
+
+    /// The map, however it is kept.
+    ghost contents: { Self → Map };
+
+    /// Where its members begin.
+    ghost anchors: { Self → Anchors };
+
+    /// How many names a member can have.
+    ghost slots: { Self → ℕ };
+
+    /// How many members there can be.
+    ghost most: { Self → ℕ };
+
+    /// How many more calls can be made of it. A look-up, a put and a removal use up one at most.
+    ghost calls_left: { Self → ℕ };
+
+    /// The number of a name; None where the map lacks it. The look-up may change how the map is kept, not what it
+    /// holds.
+    fn get(&mut self, name: &Name) -> Option<u64>
+        requires { 0 < calls_left self.old }
+        ensures number { result ≡ at (contents self.old) name.now }
+        ensures contents { contents self.new ≡ contents self.old }
+        ensures anchors { anchors self.new ≡ anchors self.old }
+        ensures slots { slots self.new ≡ slots self.old }
+        ensures most { most self.new ≡ most self.old }
+        ensures calls_left { calls_left self.old ≤ calls_left self.new + 1 };
+
+    /// Gives a name this number, and answers the one before. `Full` comes exactly where the map lacks the name, its
+    /// target has no room for one more, and there are as many members as there can be; then it stays as it was.
+    /// Otherwise a target without room is split.
+    fn put(&mut self, name: &Name, value: u64) -> Result<Option<u64>, Full>
+        requires { 0 < calls_left self.old }
+        ensures old { IfOk result (λ old. old ≡ at (contents self.old) name.now) }
+        ensures ok { OnOk result (contents self.new ≡ insert (contents self.old) name.now value) }
+        ensures splits { OnOk result (anchors self.new ≡ put_anchors (slots self.old) (contents self.old)
+            (anchors self.old) name.now) }
+        ensures full { IsErr result ↔ IsFullPut (slots self.old) (most self.old) (contents self.old)
+            (anchors self.old) name.now }
+        ensures err { OnErr result (contents self.new ≡ contents self.old) }
+        ensures err_anchors { OnErr result (anchors self.new ≡ anchors self.old) }
+        ensures slots { slots self.new ≡ slots self.old }
+        ensures most { most self.new ≡ most self.old }
+        ensures calls_left { calls_left self.old ≤ calls_left self.new + 1 };
+
+    /// Removes a name, and answers the number that it had; None where the map lacks it.
+    fn del(&mut self, name: &Name) -> Option<u64>
+        requires { 0 < calls_left self.old }
+        ensures old { result ≡ at (contents self.old) name.now }
+        ensures after { contents self.new ≡ remove (contents self.old) name.now }
+        ensures anchors { anchors self.new ≡ deleted_anchors (slots self.old) (contents self.old) (anchors self.old)
+            name.now }
+        ensures slots { slots self.new ≡ slots self.old }
+        ensures most { most self.new ≡ most self.old }
+        ensures calls_left { calls_left self.old ≤ calls_left self.new + 1 };
+
+    /// How many names the map has.
+    fn len(&self) -> u64
+        ensures { result ≡ len (contents self.now) };
+}

@@ -1,0 +1,135 @@
+//! The slow plain map of the definitions: pairs in no order, each looked for from the front.
+
+ghost use Rattle.std.specs.Prelude.{◌≡◌, IfOk};
+ghost use Rattle.std.specs.FinMap.{empty};
+
+use crate::map::{Full, NameMap};
+use cat_history::{NoMemory, number_in, position_of};
+use cat_key::{Name, Pair};
+use std::alloc::Global;
+use std::marker::Model;
+use std::mem;
+
+/// A map from names to numbers whose memory is taken once, when it is made. Each call takes time linear in the number
+/// of names. Contracts see it as its map and its room.
+#[derive(Drop)]
+pub struct PlainMap {
+    pairs: Vec<Pair>,
+    room: usize,
+}
+
+impl Model for PlainMap {
+    ghost use Rattle.std.specs.Prelude.{vec_capacity};
+    ghost use Rattle.cat_history.specs.Maps.{map_of};
+    ghost use Rattle.shapes.specs.PlainMaps.{RoomyMap, roomy_map_code, ArePlainPairs};
+
+    ghost Value = { RoomyMap };
+
+    ghost coded = { roomy_map_code };
+
+    ghost view = { λ m. record { contents = map_of m.pairs.items; room = m.room } };
+
+    ghost invariant = { λ m. ArePlainPairs m.pairs.items m.room (vec_capacity m.pairs) };
+}
+
+impl PlainMap {
+    /// An empty map with room for this many names. It takes the memory of all of them at once, and no other call takes
+    /// any.
+    pub fn new(alloc: Global, room: u64) -> Result<PlainMap, NoMemory>
+        ensures empty { IfOk result (λ map. map.contents ≡ empty) }
+        ensures room { IfOk result (λ map. map.room ≡ room) }
+    {
+        let room = room as usize;
+        Ok(PlainMap {
+            pairs: Vec::with_capacity(alloc, room)?,
+            room,
+        })
+    }
+}
+
+impl NameMap for PlainMap {
+    ghost use Rattle.std.specs.Prelude.{◌^◌, [], ◌∷◌};
+
+    ghost contents = { λ map. map.contents };
+
+    // It is one member, and there can be no other.
+    ghost anchors = { λ _. [] ∷ [] };
+
+    ghost slots = { λ map. map.room };
+
+    ghost most = { λ _. 1 };
+
+    // No call uses anything up.
+    ghost calls_left = { λ _. 2 ^ 64 };
+
+    fn get(&mut self, name: &Name) -> Option<u64> {
+        number_in(&self.pairs, name)
+    }
+
+    fn put(&mut self, name: &Name, value: u64) -> Result<Option<u64>, Full> {
+        if let Some(position) = position_of(&self.pairs, name) {
+            let old = mem::replace(&mut self.pairs[position].value, value);
+            return Ok(Some(old));
+        }
+        if self.pairs.len() == self.room {
+            return Err(Full);
+        }
+        // There is room for one more name, and memory for each name that there is room for.
+        self.pairs.push_reserved(Pair { name: *name, value });
+        Ok(None)
+    }
+
+    fn del(&mut self, name: &Name) -> Option<u64> {
+        let position = position_of(&self.pairs, name)?;
+        Some(self.pairs.remove(position).value)
+    }
+
+    fn len(&self) -> u64 {
+        self.pairs.len() as u64
+    }
+}
+
+#[cfg(test)]
+mod tests {
+    use super::*;
+    use std::test::Fail;
+
+    #[test]
+    fn keeps_names_up_to_its_room(rt: HostRuntime) -> Result<(), Fail> {
+        let a = Name::read(b"a").ok().ok_or("a")?;
+        let b = Name::read(b"b").ok().ok_or("b")?;
+        let c = Name::read(b"c").ok().ok_or("c")?;
+        let mut map = PlainMap::new(rt.alloc(), 2)?;
+
+        assert_eq!(rt; (map.len(), map.get(&a)), (0, None));
+
+        // Each put, what it answers, and how many names there are then.
+        let puts = [
+            (a, 1, Ok(None), 1),
+            (b, 2, Ok(None), 2),
+            (a, 3, Ok(Some(1)), 2),
+            (c, 4, Err(Full), 2),
+            (b, 5, Ok(Some(2)), 2),
+        ];
+        for (name, value, answer, len) in puts {
+            assert_eq!(rt;
+                (map.put(&name, value), map.len()),
+                (answer, len),
+                "at {value}"
+            );
+        }
+        assert_eq!(rt;
+            [map.get(&a), map.get(&b), map.get(&c)],
+            [Some(3), Some(5), None]
+        );
+
+        // A removed name leaves room for another.
+        assert_eq!(rt; [map.del(&a), map.del(&a)], [Some(3), None]);
+        assert_eq!(rt; (map.put(&c, 6), map.len()), (Ok(None), 2));
+        assert_eq!(rt;
+            [map.get(&a), map.get(&b), map.get(&c)],
+            [None, Some(5), Some(6)]
+        );
+        Ok(())
+    }
+}
