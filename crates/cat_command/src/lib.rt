@@ -1,0 +1,10 @@
+//! The forms of the command line.
+#![tactic(auto)]
+
+mod command;
+mod read;
+#[cfg(test)]
+mod tests;
+
+pub use command::Command;
+pub use read::read_command;

@@ -1,0 +1,11 @@
+mod LineLemmas
+mod NumberLemmas
+mod WordLemmas
+mod CrashLemmas
+mod RoundLemmas
+mod ReadLemmas
+pub mod LineLaws
+pub mod RoundLaws
+pub mod ScriptLaws
+mod AnswerLemmas
+mod FitLemmas

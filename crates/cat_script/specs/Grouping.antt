@@ -1,0 +1,17 @@
+-- Rounds that are made line by line.
+use Rattle.std.specs.Prelude.{◌≡◌, ◌^◌, List, [], ◌++◌}
+use Rattle.std.specs.List.{AllByRecursion}
+use Rattle.cat_script.specs.Rounds.{AreEnded, GoesOn, calls_in, turns_set, limit_set}
+use Rattle.cat_script.specs.declared.grouping.Grouping.{Grouping}
+use Rattle.cat_script.specs.declared.line.Line.{Line}
+
+-- The rounds that these lines ended, and of the lines behind them the calls and settings.
+pub record IsGrouping (lines : List Line) (rounds : Grouping) : Type 0 where
+  pub closed : List Line
+  pub rest : List Line
+  pub cut : lines ≡ closed ++ rest
+  pub ended : AreEnded [] closed rounds.ended.items
+  pub going : AllByRecursion GoesOn rest
+  pub ops : rounds.ops.items ≡ calls_in rest
+  pub updater : rounds.updater ≡ turns_set 64 lines
+  pub limit : rounds.limit ≡ limit_set (2 ^ 62) lines

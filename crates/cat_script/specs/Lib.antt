@@ -1,0 +1,14 @@
+pub mod Lines
+pub mod Numbers
+pub mod Asks
+pub mod Reasons
+pub mod Rounds
+pub mod Limits
+pub mod Counts
+pub mod Grouping
+pub mod Scripts
+pub mod Faults
+pub mod Reading
+pub mod Fits
+pub mod Generators
+pub mod Laws

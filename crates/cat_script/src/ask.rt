@@ -1,0 +1,325 @@
+//! Reading a line.
+
+ghost use Rattle.std.specs.Prelude.{◌≡◌, ◌≢◌, ◌≤◌, ◌∷◌, ◌++◌, ◌<◌, ◌^◌, []};
+ghost use Rattle.std.specs.Prelude.{None, Some, codes, length, All, MatchResult, IfOk, IfErr};
+ghost use Rattle.std.specs.Prelude.{◌↔◌, IfSome, IsNone, IsTrue};
+ghost use Rattle.std.specs.List.{AllZip};
+ghost use Rattle.std.specs.Str.{bytes_eq};
+ghost use Rattle.cat_key.specs.Names.{IsName};
+ghost use Rattle.cat_script.specs.Asks.{Says, IsLine};
+ghost use Rattle.cat_script.specs.Lines.{words_of};
+ghost use Rattle.cat_script.specs.Numbers.{IsNumber, IsUpTo, IsSomeUpTo};
+ghost use Rattle.cat_script.specs.Reasons.{setting_verb, HaveFirst, IsFirstReason, FailsBy};
+
+use crate::cut::{is_plain, split_word};
+use crate::line::{Line, LineFault, Reason};
+use crate::number::{number_up_to, read_number};
+use cat_history::{CrashPlan, Listed, Op};
+use cat_key::Name;
+use std::alloc::Global;
+
+/// The greatest number of a caller.
+const MOST_CALLER: u64 = 15;
+
+/// The longest pause between turns of the updater, in calls.
+const MOST_TURNS: u64 = 100_000;
+
+/// The greatest limit on writes.
+const MOST_LIMIT: u64 = 1 << 62;
+
+/// The greatest budget.
+const MOST_BUDGET: u64 = 1_000_000;
+
+/// Reads what follows `join`.
+fn read_join(rest: &[u8]) -> Result<Line, Reason>
+    ensures { MatchResult result (Says (codes "join" ∷ words_of rest.now))
+        (HaveFirst (codes "join" ∷ words_of rest.now)) }
+{
+    match split_word(rest) {
+        Some(_) => Err(Reason::Words),
+        None => Ok(Line::Join),
+    }
+}
+
+/// Reads what follows `updater`.
+fn read_updater(rest: &[u8]) -> Result<Line, Reason>
+    ensures { MatchResult result (Says (codes "updater" ∷ words_of rest.now))
+        (HaveFirst (codes "updater" ∷ words_of rest.now)) }
+{
+    let Some(word) = only_word(rest) else {
+        return Err(Reason::Words);
+    };
+    let Some(turns) = number_up_to(word, MOST_TURNS) else {
+        return Err(Reason::Number);
+    };
+    Ok(Line::Updater { turns })
+}
+
+/// Reads what follows `limit`.
+fn read_limit(rest: &[u8]) -> Result<Line, Reason>
+    ensures { MatchResult result (Says (codes "limit" ∷ words_of rest.now))
+        (HaveFirst (codes "limit" ∷ words_of rest.now)) }
+{
+    let Some(word) = only_word(rest) else {
+        return Err(Reason::Words);
+    };
+    let Some(limit) = number_up_to(word, MOST_LIMIT) else {
+        return Err(Reason::Number);
+    };
+    Ok(Line::Limit { limit })
+}
+
+/// Reads what follows the caller and `get`.
+fn read_get(caller: &[u8], rest: &[u8]) -> Result<Line, Reason>
+    requires { setting_verb caller.now ≡ None }
+    ensures { MatchResult result (Says (caller.now ∷ codes "get" ∷ words_of rest.now))
+        (HaveFirst (caller.now ∷ codes "get" ∷ words_of rest.now)) }
+{
+    let Some(name) = only_word(rest) else {
+        return Err(Reason::Words);
+    };
+    let Some(caller) = number_up_to(caller, MOST_CALLER) else {
+        return Err(Reason::Caller);
+    };
+    let Ok(name) = Name::read(name) else {
+        return Err(Reason::Name);
+    };
+    Ok(Line::Call {
+        caller,
+        op: Op::Get { name },
+    })
+}
+
+/// Reads what follows the caller and `put`.
+fn read_put(caller: &[u8], rest: &[u8]) -> Result<Line, Reason>
+    requires { setting_verb caller.now ≡ None }
+    ensures { MatchResult result (Says (caller.now ∷ codes "put" ∷ words_of rest.now))
+        (HaveFirst (caller.now ∷ codes "put" ∷ words_of rest.now)) }
+{
+    let Some((name, value)) = two_words(rest) else {
+        return Err(Reason::Words);
+    };
+    let Some(caller) = number_up_to(caller, MOST_CALLER) else {
+        return Err(Reason::Caller);
+    };
+    let Ok(name) = Name::read(name) else {
+        return Err(Reason::Name);
+    };
+    let Some(value) = read_number(value) else {
+        return Err(Reason::Number);
+    };
+    Ok(Line::Call {
+        caller,
+        op: Op::Put { name, value },
+    })
+}
+
+/// Reads what follows the caller and `del`.
+fn read_del(caller: &[u8], rest: &[u8]) -> Result<Line, Reason>
+    requires { setting_verb caller.now ≡ None }
+    ensures { MatchResult result (Says (caller.now ∷ codes "del" ∷ words_of rest.now))
+        (HaveFirst (caller.now ∷ codes "del" ∷ words_of rest.now)) }
+{
+    let Some(name) = only_word(rest) else {
+        return Err(Reason::Words);
+    };
+    let Some(caller) = number_up_to(caller, MOST_CALLER) else {
+        return Err(Reason::Caller);
+    };
+    let Ok(name) = Name::read(name) else {
+        return Err(Reason::Name);
+    };
+    Ok(Line::Call {
+        caller,
+        op: Op::Del { name },
+    })
+}
+
+/// Reads what follows the caller and `scan`.
+fn read_scan(caller: &[u8], rest: &[u8]) -> Result<Line, Reason>
+    requires { setting_verb caller.now ≡ None }
+    ensures { MatchResult result (Says (caller.now ∷ codes "scan" ∷ words_of rest.now))
+        (HaveFirst (caller.now ∷ codes "scan" ∷ words_of rest.now)) }
+{
+    let Some((from, count)) = two_words(rest) else {
+        return Err(Reason::Words);
+    };
+    let Some(caller) = number_up_to(caller, MOST_CALLER) else {
+        return Err(Reason::Caller);
+    };
+    let Ok(from) = Name::read(from) else {
+        return Err(Reason::Name);
+    };
+    let Some(count) = read_number(count) else {
+        return Err(Reason::Number);
+    };
+    Ok(Line::Call {
+        caller,
+        op: Op::Scan { from, count },
+    })
+}
+
+/// Reads what follows `crash`.
+fn read_crash(alloc: Global, rest: &[u8]) -> Result<Line, LineFault>
+    ensures { MatchResult result (Says (codes "crash" ∷ words_of rest.now))
+        (FailsBy (HaveFirst (codes "crash" ∷ words_of rest.now))) }
+{
+    if !has_crash_words(rest) {
+        return Err(LineFault::Faulty(Reason::Words));
+    }
+    let Some((seed, rest)) = split_word(rest) else {
+        return Err(LineFault::Faulty(Reason::Words));
+    };
+    let Some(seed) = read_number(seed) else {
+        return Err(LineFault::Faulty(Reason::Number));
+    };
+    let mut budgets = read_budgets(alloc, rest)?;
+    let Some(updater_budget) = budgets.pop() else {
+        return Err(LineFault::Faulty(Reason::Words));
+    };
+    let plan = CrashPlan {
+        seed,
+        budgets: Listed::of(budgets),
+        updater_budget,
+    };
+    Ok(Line::Crash { plan })
+}
+
+/// Reads each word of a text as a budget.
+fn read_budgets(alloc: Global, text: &[u8]) -> Result<Vec<u64>, LineFault>
+    ensures ok { IfOk result (λ budgets. AllZip (IsUpTo 1000000) (words_of text.now) budgets.items) }
+    ensures err { IfErr result
+        (FailsBy (λ why. (why ≡ Reason.Number) × ¬ All (IsSomeUpTo 1000000) (words_of text.now))) }
+{
+    let mut budgets = Vec::new(alloc);
+    let mut left = text;
+    while let Some((word, rest)) = split_word(left) {
+        let Some(budget) = number_up_to(word, MOST_BUDGET) else {
+            return Err(LineFault::Faulty(Reason::Number));
+        };
+        if budgets.push(budget).is_err() {
+            return Err(LineFault::NoMemory);
+        }
+        left = rest;
+    }
+    Ok(budgets)
+}
+
+/// Whether a text has as many words as follow `crash`: the seed, a budget for each of 1 to 16 callers, and the
+/// updater's.
+fn has_crash_words(text: &[u8]) -> bool
+    ensures { IsTrue result ↔ ((3 ≤ length (words_of text.now)) × (length (words_of text.now) ≤ 18)) }
+{
+    (3..=18).contains(&count_words(text))
+}
+
+/// How many words a text has.
+fn count_words(text: &[u8]) -> usize
+    ensures { result ≡ length (words_of text.now) }
+{
+    let mut count = 0;
+    let mut left = text;
+    while let Some((_, rest)) = split_word(left) {
+        count += 1;
+        left = rest;
+    }
+    count
+}
+
+/// Reads what follows the first word of a call.
+fn read_call(caller: &[u8], rest: &[u8]) -> Result<Line, Reason>
+    requires { setting_verb caller.now ≡ None }
+    ensures { MatchResult result (Says (caller.now ∷ words_of rest.now))
+        (HaveFirst (caller.now ∷ words_of rest.now)) }
+{
+    let Some((verb, rest)) = split_word(rest) else {
+        return Err(Reason::Verb);
+    };
+    if is_word(verb, "put") {
+        return read_put(caller, rest);
+    }
+    if is_word(verb, "get") {
+        return read_get(caller, rest);
+    }
+    if is_word(verb, "del") {
+        return read_del(caller, rest);
+    }
+    if is_word(verb, "scan") {
+        return read_scan(caller, rest);
+    }
+    Err(Reason::Verb)
+}
+
+/// Reads what follows the first word of a line.
+fn read_words(alloc: Global, first: &[u8], rest: &[u8]) -> Result<Line, LineFault>
+    ensures { MatchResult result (Says (first.now ∷ words_of rest.now))
+        (FailsBy (HaveFirst (first.now ∷ words_of rest.now))) }
+{
+    if is_word(first, "crash") {
+        return read_crash(alloc, rest);
+    }
+    read_short(first, rest).map_err(LineFault::Faulty)
+}
+
+/// Reads what follows the first word of a line that is not `crash`.
+fn read_short(first: &[u8], rest: &[u8]) -> Result<Line, Reason>
+    requires { first.now ≢ codes "crash" }
+    ensures { MatchResult result (Says (first.now ∷ words_of rest.now)) (HaveFirst (first.now ∷ words_of rest.now)) }
+{
+    if is_word(first, "join") {
+        return read_join(rest);
+    }
+    if is_word(first, "updater") {
+        return read_updater(rest);
+    }
+    if is_word(first, "limit") {
+        return read_limit(rest);
+    }
+    read_call(first, rest)
+}
+
+/// Whether a word is this one.
+fn is_word(word: &[u8], text: &str) -> bool
+    ensures test { result ≡ bytes_eq word.now text.now }
+    ensures same { IsTrue result ↔ (word.now ≡ text.now) }
+{
+    word == text.as_bytes()
+}
+
+/// Reads a line.
+pub(crate) fn read_line(alloc: Global, line: &[u8]) -> Result<Line, LineFault>
+    ensures { MatchResult result (IsLine line.now) (FailsBy (IsFirstReason line.now)) }
+{
+    let Some((first, rest)) = split_word(line) else {
+        return Ok(Line::Blank);
+    };
+    if first.starts_with(b"#") {
+        return Ok(Line::Blank);
+    }
+    if !is_plain(line) {
+        return Err(LineFault::Faulty(Reason::Byte));
+    }
+    read_words(alloc, first, rest)
+}
+
+/// The one word of a text; None where it has none or more.
+fn only_word(text: &[u8]) -> Option<&[u8]>
+    ensures some { IfSome result (λ word. words_of text.now ≡ word.now ∷ []) }
+    ensures none { IsNone result → length (words_of text.now) ≢ 1 }
+{
+    let (word, rest) = split_word(text)?;
+    match split_word(rest) {
+        Some(_) => None,
+        None => Some(word),
+    }
+}
+
+/// The two words of a text; None where it has fewer or more.
+fn two_words(text: &[u8]) -> Option<(&[u8], &[u8])>
+    ensures some { IfSome result (λ found. words_of text.now ≡ found.0.now ∷ found.1.now ∷ []) }
+    ensures none { IsNone result → length (words_of text.now) ≢ 2 }
+{
+    let (first, rest) = split_word(text)?;
+    let second = only_word(rest)?;
+    Some((first, second))
+}
