@@ -1,6 +1,7 @@
-mod LineLemmas
-mod NumberLemmas
-mod CallLemmas
-pub mod ScriptLaws
+mod FieldLemmas
+mod ReportTexts
+mod ReplyLaws
+pub mod ReportLaws
+pub mod LoneReports
 pub mod OutsideLemmas
 pub mod ShelfLemmas

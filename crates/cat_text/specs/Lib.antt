@@ -1,7 +1,7 @@
-pub mod Scripts
 pub mod Reports
+pub mod ReportLines
+pub mod ReportGrammar
 pub mod Outside
 pub mod OutsideMemory
-pub mod ScriptFaults
 pub mod Shelves
 pub mod WordLines

@@ -1,19 +1,14 @@
-//! The texts of the program: scripts, reports, and the traits of the outside from which they come and to which they go.
+//! Reports, their text, and the traits of the outside from which texts come and to which they go.
 #![tactic(auto)]
 
 pub mod laws;
-mod line;
-mod number;
 mod outside;
 mod print;
-mod read;
 mod report;
-mod script;
 #[cfg(test)]
 mod tests;
 mod word_line;
 
-pub use number::read_number;
 pub use outside::file_shelf::FileShelf;
 pub use outside::memory::{MemorySink, MemorySource};
 pub use outside::memory_shelf::MemoryShelf;
@@ -23,9 +18,7 @@ pub use outside::sink::{Sink, WriteFault, write_whole};
 pub use outside::source::{Failed, ReadFault, Source, read_whole};
 pub use outside::streams::{ReadSource, WriteSink};
 pub use print::print_report;
-pub use read::read_script;
 pub use report::{Report, RoundReport};
-pub use script::{MOST_BYTES, Ops, RoundPlan, Script, ScriptFault};
 /// There was no memory.
 pub use std::alloc::AllocError as NoMemory;
 pub use word_line::add_word;

@@ -1,13 +1,14 @@
 //! Printing reports. Each function `add_..` adds the text of one part at the end of the text so far.
 
-ghost use Rattle.std.specs.Prelude.{◌≡◌, ◌++◌, decimal, flat_map, IfOk, OnOk};
-ghost use Rattle.cat_text.specs.Reports.{last_line, end_word, old_text, op_text, record_line, reply_text, report_text};
-ghost use Rattle.cat_text.specs.Reports.{round_text};
+ghost use Rattle.std.specs.Prelude.{◌≡◌, ◌++◌, codes, decimal, flat_map, length, IfOk, OnOk};
+ghost use Rattle.cat_text.specs.Reports.{cut_text, end_word, high_text, last_line, mark_text, old_text, op_text};
+ghost use Rattle.cat_text.specs.Reports.{pair_text, part_line, part_lines, record_line, record_text, reply_text};
+ghost use Rattle.cat_text.specs.Reports.{report_text, round_text};
 
 use crate::NoMemory;
 use crate::report::{Report, RoundReport};
-use cat_history::{Op, Record, Reply};
-use cat_key::Name;
+use cat_history::{CutMark, Op, Record, Reply, ScanPart};
+use cat_key::{Name, Pair};
 use itoa::Buffer;
 use std::alloc::Global;
 
@@ -32,7 +33,7 @@ fn add_round(text: &mut Vec<u8>, round: &RoundReport) -> Result<(), NoMemory>
 }
 
 fn add_records(text: &mut Vec<u8>, records: &[Record]) -> Result<(), NoMemory>
-    ensures { OnOk result (text.new.items ≡ text.old.items ++ flat_map record_line records.now) }
+    ensures { OnOk result (text.new.items ≡ text.old.items ++ flat_map record_text records.now) }
 {
     for record in records {
         add_record(text, record)?;
@@ -62,6 +63,13 @@ fn add_end(text: &mut Vec<u8>, crashed: bool) -> Result<(), NoMemory>
 }
 
 fn add_record(text: &mut Vec<u8>, call: &Record) -> Result<(), NoMemory>
+    ensures { OnOk result (text.new.items ≡ text.old.items ++ record_text call.now) }
+{
+    add_record_line(text, call)?;
+    add_part_lines(text, &call.reply)
+}
+
+fn add_record_line(text: &mut Vec<u8>, call: &Record) -> Result<(), NoMemory>
     ensures { OnOk result (text.new.items ≡ text.old.items ++ record_line call.now) }
 {
     add_number(text, call.caller)?;
@@ -90,6 +98,12 @@ fn add_op(text: &mut Vec<u8>, op: &Op) -> Result<(), NoMemory>
             text.extend_from_slice(b"del ")?;
             add_name(text, name)
         }
+        Op::Scan { from, count } => {
+            text.extend_from_slice(b"scan ")?;
+            add_name(text, from)?;
+            text.extend_from_slice(b" ")?;
+            add_number(text, *count)
+        }
     }
 }
 
@@ -102,8 +116,111 @@ fn add_reply(text: &mut Vec<u8>, reply: &Reply) -> Result<(), NoMemory>
             text.extend_from_slice(b" @")?;
             add_number(text, *place)
         }
+        Reply::Parts { parts, cut } => add_parts(text, parts.as_slice(), *cut),
         Reply::Full => text.extend_from_slice(b"full"),
+        Reply::Spent { clock } => {
+            text.extend_from_slice(b"spent ")?;
+            add_number(text, *clock)
+        }
+        Reply::Cut { mark } => {
+            text.extend_from_slice(b"cut")?;
+            add_mark(text, mark)
+        }
+        Reply::Unstarted => text.extend_from_slice(b"unstarted"),
     }
+}
+
+/// Adds how many parts a scan has, and whether it was cut off.
+fn add_parts(text: &mut Vec<u8>, parts: &[ScanPart], cut: bool) -> Result<(), NoMemory>
+    ensures { OnOk result (text.new.items ≡ text.old.items ++ (decimal (length parts.now) ++ cut_text cut)) }
+{
+    add_number(text, parts.len() as u64)?;
+    if cut {
+        text.extend_from_slice(b" parts cut")
+    } else {
+        text.extend_from_slice(b" parts")
+    }
+}
+
+fn add_mark(text: &mut Vec<u8>, mark: &CutMark) -> Result<(), NoMemory>
+    ensures { OnOk result (text.new.items ≡ text.old.items ++ mark_text mark.now) }
+{
+    match mark {
+        CutMark::At { place } => add_place(text, *place),
+        CutMark::Found => text.extend_from_slice(b" found"),
+        CutMark::Lost => text.extend_from_slice(b" lost"),
+        CutMark::Open | CutMark::Read => Ok(()),
+    }
+}
+
+fn add_place(text: &mut Vec<u8>, place: u64) -> Result<(), NoMemory>
+    ensures { OnOk result (text.new.items ≡ text.old.items ++ (codes " @" ++ decimal place)) }
+{
+    text.extend_from_slice(b" @")?;
+    add_number(text, place)
+}
+
+fn add_part_lines(text: &mut Vec<u8>, reply: &Reply) -> Result<(), NoMemory>
+    ensures { OnOk result (text.new.items ≡ text.old.items ++ part_lines reply.now) }
+{
+    match reply {
+        Reply::Parts { parts, .. } => add_lines_of(text, parts.as_slice()),
+        Reply::Old { .. }
+        | Reply::Full
+        | Reply::Spent { .. }
+        | Reply::Cut { .. }
+        | Reply::Unstarted => Ok(()),
+    }
+}
+
+fn add_lines_of(text: &mut Vec<u8>, parts: &[ScanPart]) -> Result<(), NoMemory>
+    ensures { OnOk result (text.new.items ≡ text.old.items ++ flat_map part_line parts.now) }
+{
+    for part in parts {
+        add_part(text, part)?;
+    }
+    Ok(())
+}
+
+fn add_part(text: &mut Vec<u8>, part: &ScanPart) -> Result<(), NoMemory>
+    ensures { OnOk result (text.new.items ≡ text.old.items ++ part_line part.now) }
+{
+    text.extend_from_slice(b"part ")?;
+    add_name(text, &part.low)?;
+    add_high(text, &part.high)?;
+    add_place(text, part.place)?;
+    add_pairs(text, part.pairs.as_slice())?;
+    text.extend_from_slice(b"\n")
+}
+
+fn add_high(text: &mut Vec<u8>, high: &Option<Name>) -> Result<(), NoMemory>
+    ensures { OnOk result (text.new.items ≡ text.old.items ++ high_text high.now) }
+{
+    match high {
+        Some(high) => {
+            text.extend_from_slice(b" to ")?;
+            add_name(text, high)
+        }
+        None => text.extend_from_slice(b" end"),
+    }
+}
+
+fn add_pairs(text: &mut Vec<u8>, pairs: &[Pair]) -> Result<(), NoMemory>
+    ensures { OnOk result (text.new.items ≡ text.old.items ++ flat_map pair_text pairs.now) }
+{
+    for pair in pairs {
+        add_pair(text, pair)?;
+    }
+    Ok(())
+}
+
+fn add_pair(text: &mut Vec<u8>, pair: &Pair) -> Result<(), NoMemory>
+    ensures { OnOk result (text.new.items ≡ text.old.items ++ pair_text pair.now) }
+{
+    text.extend_from_slice(b" ")?;
+    add_name(text, &pair.name)?;
+    text.extend_from_slice(b" ")?;
+    add_number(text, pair.value)
 }
 
 fn add_old(text: &mut Vec<u8>, old: Option<u64>) -> Result<(), NoMemory>
