@@ -8,3 +8,4 @@ pub mod RangeNames
 pub mod ListLemmas
 pub mod KeyLemmas
 pub mod PositionLemmas
+pub mod LiveCounts

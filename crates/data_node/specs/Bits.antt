@@ -1,5 +1,5 @@
 -- The words that the calls on bitmaps and fingerprints give, as numbers.
-use Rattle.std.specs.Prelude.{ℕ, zero, suc, ◌-◌, ◌*◌, ◌%◌, ◌^◌, ◌==◌, ◌&&◌, nat_lt, if◌then◌else◌, List, Option, Some}
+use Rattle.std.specs.Prelude.{ℕ, zero, suc, ◌+◌, ◌-◌, ◌*◌, ◌%◌, ◌^◌, ◌==◌, ◌&&◌, nat_lt, if◌then◌else◌, List, Option, Some}
 use Rattle.std.specs.Prelude.{None, slice_set, bit_and, bit_or}
 use Rattle.std.specs.Int.{w64, bit_at, trailing_ones, trailing_zeros, from_le_bytes}
 use Rattle.data_node.specs.Slots.{prints_of, print_of}
@@ -31,3 +31,8 @@ candidate_bits bitmap prints print (suc slot) =
     if bit_at bitmap slot == 1 && print_of prints slot == print
     then with_live (candidate_bits bitmap prints print slot) slot
     else candidate_bits bitmap prints print slot
+
+-- how many of the first so many slots are live
+abbrev pub live_count : ℕ → ℕ → ℕ
+live_count zero bitmap = 0
+live_count (suc slot) bitmap = (if bit_at bitmap slot == 1 then 1 else 0) + live_count slot bitmap

@@ -5,3 +5,4 @@ pub mod Lists
 pub mod Weights
 pub mod RangeNames
 pub mod Orders
+pub mod Lines

@@ -15,6 +15,7 @@ pub use bits::{lowest_live, with_live, without_live};
 pub use keys::is_below;
 pub use order::{Halves, Order, sort_order};
 pub use slots::{
-    MAX_SLOTS, PRINT_WORDS, candidates, clear_slot, is_live, print_at, print_in, with_print,
+    MAX_SLOTS, PRINT_WORDS, candidates, clear_slot, is_live, live_count, print_at, print_in,
+    with_print,
 };
 pub use split::halves;

@@ -3,7 +3,7 @@
 ghost use Rattle.std.specs.Prelude.{◌≡◌, ◌≢◌, ◌⊎◌, ℕ, ◌%◌, ◌<◌, ◌≤◌, ◌↔◌, IsTrue, IsNone, Some, IfSome, slice_index};
 ghost use Rattle.std.specs.Prelude.{slice_set};
 ghost use Rattle.std.specs.Int.{bit_at};
-ghost use Rattle.data_node.specs.Bits.{lowest_clear, printed, candidate_bits};
+ghost use Rattle.data_node.specs.Bits.{lowest_clear, printed, candidate_bits, live_count};
 ghost use Rattle.data_node.specs.Slots.{AreAllLive, IsLive, IsLowestClear, IsCandidate, prints_of, print_of};
 
 use crate::bits::{with_live, without_live};
@@ -23,6 +23,21 @@ pub fn is_live(bitmap: u64, slot: u64) -> bool
     ensures { IsTrue result ↔ IsLive bitmap slot }
 {
     (bitmap >> slot) & 1 == 1
+}
+
+/// How many of the first `slots` are live.
+pub fn live_count(bitmap: u64, slots: u64) -> u64
+    requires { slots ≤ MAX_SLOTS }
+    ensures count { result ≡ live_count slots bitmap }
+    ensures most { result ≤ slots }
+{
+    let mut count = 0;
+    for place in 0..slots {
+        if is_live(bitmap, place) {
+            count += 1;
+        }
+    }
+    count
 }
 
 /// The bitmap in which `to` is live, and `from`, if any, no longer is.

@@ -5,8 +5,8 @@ use Rattle.std.proofs.lemmas.Bool.{false≢true, cases_lt}
 use Rattle.pm_words.specs.declared.layout.Layout.{Layout}
 use Rattle.pm_words.specs.Locations.{Word, word_number}
 use Rattle.sound_image.specs.Lowest.{IsLowest, IsNumberOf, IsFirst}
-use Rattle.sound_image.specs.Rules.{BreaksHeader, BreaksVersions, LeadsOut, LeadsBack, BreaksAnchors, BreaksInNode}
-use Rattle.sound_image.specs.Sound.{Breaks, in_header, in_versions, leads_out, leads_back, in_anchors, in_names, in_prints, in_apart, AreKept, IsSound, IsFirstBroken}
+use Rattle.sound_image.specs.Rules.{BreaksHeader, BreaksVersions, LeadsOut, LeadsBack, BreaksAnchors, BreaksInNode, BreaksLines}
+use Rattle.sound_image.specs.Sound.{Breaks, in_header, in_versions, leads_out, leads_back, in_anchors, in_names, in_prints, in_apart, in_lines, AreKept, IsSound, IsFirstBroken}
 use Rattle.sound_image.specs.declared.broken.Broken.{Broken}
 use Rattle.sound_image.specs.declared.listed.NodeRule.TheVariants.{Names, Prints, Apart}
 
@@ -20,8 +20,9 @@ kept_none l image rule position w below (in_anchors b) = omega arith
 kept_none l image rule position w below (in_names b) = omega arith
 kept_none l image rule position w below (in_prints b) = omega arith
 kept_none l image rule position w below (in_apart b) = omega arith
+kept_none l image rule position w below (in_lines b) = omega arith
 
-pub kept_all : (l : Layout) (image : List ℕ) (limit : ℕ) → 8 < limit → AreKept l image limit → IsSound l image
+pub kept_all : (l : Layout) (image : List ℕ) (limit : ℕ) → 9 < limit → AreKept l image limit → IsSound l image
 kept_all l image limit past kept rule position w (in_header b) = kept 1 0 w (omega arith) (in_header b)
 kept_all l image limit past kept rule position w (in_versions b) = kept 2 0 w (omega arith) (in_versions b)
 kept_all l image limit past kept rule position w (leads_out b) = kept 3 position w (omega arith) (leads_out b)
@@ -30,6 +31,7 @@ kept_all l image limit past kept rule position w (in_anchors b) = kept 5 positio
 kept_all l image limit past kept rule position w (in_names b) = kept 6 position w (omega arith) (in_names b)
 kept_all l image limit past kept rule position w (in_prints b) = kept 7 position w (omega arith) (in_prints b)
 kept_all l image limit past kept rule position w (in_apart b) = kept 8 position w (omega arith) (in_apart b)
+kept_all l image limit past kept rule position w (in_lines b) = kept 9 0 w (omega arith) (in_lines b)
 
 pub kept_more : (l : Layout) (image : List ℕ) (rule : ℕ) → AreKept l image rule → IsFirst l (Breaks l image rule) None → AreKept l image (rule + 1)
 kept_more l image rule kept none other position w below breaks = elim (cases_lt other rule) as (λ _. ⊥) [
@@ -61,6 +63,9 @@ prints_of l image position w (in_prints b) = b
 
 apart_of : (l : Layout) (image : List ℕ) (position : ℕ) (w : Word) → Breaks l image 8 position w → BreaksInNode l image Apart position w
 apart_of l image position w (in_apart b) = b
+
+lines_of : (l : Layout) (image : List ℕ) (position : ℕ) (w : Word) → Breaks l image 9 position w → (0 ≡ position) × BreaksLines l image w
+lines_of l image position w (in_lines b) = (refl, b)
 
 -- P and Q hold of the same words
 pub record AreAlike (P Q : ℕ → Word → Type 0) : Type 0 where
@@ -100,6 +105,9 @@ first_header l image found = first_flat l (BreaksHeader l image) (Breaks l image
 
 pub first_versions : (l : Layout) (image : List ℕ) (found : Option ℕ) → IsLowest (IsNumberOf l (BreaksVersions l image)) found → IsFirst l (Breaks l image 2) found
 first_versions l image found = first_flat l (BreaksVersions l image) (Breaks l image 2) found (λ w b. in_versions b) (versions_of l image)
+
+pub first_lines : (l : Layout) (image : List ℕ) (found : Option ℕ) → IsLowest (IsNumberOf l (BreaksLines l image)) found → IsFirst l (Breaks l image 9) found
+first_lines l image found = first_flat l (BreaksLines l image) (Breaks l image 9) found (λ w b. in_lines b) (lines_of l image)
 
 pub first_out : (l : Layout) (image : List ℕ) (found : Option ℕ) → IsFirst l (LeadsOut l image) found → IsFirst l (Breaks l image 3) found
 first_out l image found = first_alike l (LeadsOut l image) (Breaks l image 3) found (record { to = λ position w b. leads_out b; from = out_of l image })

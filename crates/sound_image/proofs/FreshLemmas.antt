@@ -1,5 +1,5 @@
 -- A fresh image is sound, and keeps no name.
-use Rattle.std.proofs.Common.{◌≡◌, ℕ, ◌<◌, ◌≤◌, List, [], ◌∷◌, Some, None, inl, inr, sym, subst, ◌∙◌, arith}
+use Rattle.std.proofs.Common.{◌≡◌, ℕ, ◌/◌, ◌%◌, ◌<◌, ◌≤◌, List, [], ◌∷◌, Some, None, inl, inr, sym, subst, ◌∙◌, arith}
 use Rattle.std.specs.FinMap.{empty, get-empty}
 use Rattle.std.proofs.lemmas.Bool.{cases_eq}
 use Rattle.cat_key.specs.Names.{name_cmp}
@@ -72,6 +72,7 @@ fresh_keeps l is =
       versions = λ n here. subst (λ (v : ℕ). generation_of v ≤ header_generation l (fresh_words l)) (sym (fresh_at l (Node n 0) (here, omega arith))) (omega arith);
       list = subst (MakeList l.nodes (image_spot l (fresh_words l))) (sym (fresh_list l is)) (fresh_makes l is);
       tidy = λ n listed. (fresh_means l is n listed).tidy;
+      lines = λ line here. inl (fresh_at l (Line (line / 8) (line % 8) 0) (omega arith, omega arith, omega arith));
     }
 
 pub fresh_is_sound : FreshIsSound

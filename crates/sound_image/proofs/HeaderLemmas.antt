@@ -1,11 +1,11 @@
 -- The lowest word at which the header, or a version word, breaks its rule.
-use Rattle.std.proofs.Common.{◌≡◌, ℕ, ◌+◌, ◌*◌, ◌<◌, ◌≤◌, List, Option, Some, None, inl, inr, refl, sym, ap, ◌∙◌, arith}
+use Rattle.std.proofs.Common.{◌≡◌, ℕ, ◌+◌, ◌*◌, ◌/◌, ◌%◌, ◌<◌, ◌≤◌, List, Option, Some, None, inl, inr, refl, sym, ap, ◌∙◌, arith}
 use Rattle.std.proofs.lemmas.Bool.{cases_lt}
 use Rattle.std.proofs.lemmas.Nat.{mul-le}
 use Rattle.pm_words.specs.declared.layout.Layout.{Layout}
-use Rattle.pm_words.specs.Locations.{Header, Node, node_words, word_number}
+use Rattle.pm_words.specs.Locations.{Header, Node, Line, image_parts, node_words, start_of, word_number}
 use Rattle.sound_image.specs.Lowest.{IsLowest, IsNumberOf}
-use Rattle.sound_image.specs.Rules.{header_generation, BreaksHeader, IsLater, BreaksVersions}
+use Rattle.sound_image.specs.Rules.{header_generation, BreaksHeader, IsLater, BreaksVersions, IsUnfit, BreaksLines}
 use Rattle.version_lock.specs.Versions.{IsGeneration}
 use Rattle.sound_image.proofs.LowestLemmas.{Moves}
 use Rattle.sound_image.proofs.WordLemmas.{IsUsedSpare, used_number}
@@ -60,4 +60,18 @@ versions_move l image = record {
   to = λ n later. record { word = Node n 0; numbered = refl; holds = (n, refl, later) };
   from = λ there is. (is.holds.0, is.holds.2, sym (ap (word_number l) is.holds.1) ∙ is.numbered);
   rises = versions_rise l;
+}
+
+-- and the state words of lines with the lines
+lines_rise : (l : Layout) (line other : ℕ) → word_number l (Line (line / 8) (line % 8) 0) < word_number l (Line (other / 8) (other % 8) 0) → line < other
+lines_rise l line other below =
+    let front : word_number l (Line (line / 8) (line % 8) 0) ≡ start_of (image_parts l) 3 + (64 * (line / 8) + 8 * (line % 8) + 0) = refl in
+    let behind : word_number l (Line (other / 8) (other % 8) 0) ≡ start_of (image_parts l) 3 + (64 * (other / 8) + 8 * (other % 8) + 0) = refl in
+    omega arith
+
+pub lines_move : (l : Layout) (image : List ℕ) → Moves (IsUnfit l image) (IsNumberOf l (BreaksLines l image)) (λ line. word_number l (Line (line / 8) (line % 8) 0))
+lines_move l image = record {
+  to = λ line unfit. record { word = Line (line / 8) (line % 8) 0; numbered = refl; holds = (line, refl, unfit) };
+  from = λ there is. (is.holds.0, is.holds.2, sym (ap (word_number l) is.holds.1) ∙ is.numbered);
+  rises = lines_rise l;
 }

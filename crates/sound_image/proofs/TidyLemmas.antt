@@ -1,24 +1,25 @@
 -- An image is sound exactly where its header is in order, its nodes make a list, and each listed node is tidy.
-use Rattle.std.proofs.Common.{◌≡◌, ◌≢◌, ℕ, zero, suc, ◌<◌, ◌≤◌, ◌^◌, ◌⊎◌, List, slice_index, inl, inr, refl, sym, ap, subst, ◌∙◌, arith}
+use Rattle.std.proofs.Common.{◌≡◌, ◌≢◌, ℕ, zero, suc, ◌*◌, ◌/◌, ◌%◌, ◌<◌, ◌≤◌, ◌^◌, ◌⊎◌, List, [], ◌∷◌, slice_index, inl, inr, refl, sym, ap, subst, ◌∙◌, arith}
 use Rattle.std.proofs.lemmas.Bool.{cases_lt, cases_eq}
 use Rattle.version_lock.specs.declared.TheConstants.{GENERATION_LIMIT}
 use Rattle.version_lock.specs.Versions.{generation_of}
 use Rattle.cat_key.specs.Names.{IsName, AreNameWords, words_of, bytes_of, fingerprint_of}
 use Rattle.cat_key.proofs.Packing.{bytes_of-words_of}
 use Rattle.pm_words.specs.declared.layout.Layout.{Layout}
-use Rattle.pm_words.specs.Locations.{Word, Header, Node, word_at}
+use Rattle.pm_words.specs.Locations.{Word, Header, Node, Line, word_at}
 use Rattle.data_node.specs.Spots.{Spot, bitmap_offset, print_offset, slot_offset, IsLiveIn, name_words, print_in_spot, IsTidy}
 use Rattle.std.specs.List.{AllByRecursion}
+use Rattle.data_node.specs.Lines.{IsEntry, IsFitLine}
 use Rattle.data_node.specs.Lists.{ListNode, next_offset, anchor_offset, anchor_in, key_of, anchor_words, members_from, IsChain, Rise, MakeList}
 use Rattle.data_node.proofs.ListLemmas.{all_member}
 use Rattle.data_node.proofs.KeyLemmas.{anchor_named, named_anchor}
 use Rattle.data_node.proofs.PositionLemmas.{position_in, in_position, position_before, position_rise, chain_next, chain_member, StandOnce, once_few, all_positions, rise_positions, members_end}
 use Rattle.sound_image.specs.Nodes.{image_spot, image_list, IsListedNode, IsListedAt, next_in}
-use Rattle.sound_image.specs.Rules.{header_generation, IsSpare, LeadsOut, LeadsBack, BreaksAnchors, BreaksNames, BreaksPrints, BreaksApart, BreaksBy}
+use Rattle.sound_image.specs.Rules.{header_generation, IsSpare, line_spot, LeadsOut, LeadsBack, BreaksAnchors, BreaksNames, BreaksPrints, BreaksApart, BreaksBy}
 use Rattle.sound_image.specs.declared.listed.NodeRule.{NodeRule}
 use Rattle.sound_image.specs.declared.listed.NodeRule.TheVariants.{Names, Prints, Apart}
 use Rattle.version_lock.specs.Versions.{IsGeneration}
-use Rattle.sound_image.specs.Sound.{in_header, in_versions, leads_out, leads_back, in_anchors, in_names, in_prints, in_apart, IsSound}
+use Rattle.sound_image.specs.Sound.{in_header, in_versions, leads_out, leads_back, in_anchors, in_names, in_prints, in_apart, in_lines, IsSound}
 use Rattle.sound_image.specs.Laws.{SoundKeepsRules, RulesMakeSound}
 use Rattle.sound_image.proofs.NameCases.{name_words_or_not}
 use Rattle.sound_image.proofs.WordLemmas.{image_spot-fits, image_spot-outside}
@@ -210,6 +211,56 @@ module _ (l : Layout) (image : List ℕ) (sound : IsSound l image) where
     named = all_positions (image_spot l image) (λ (m : ListNode). (name : List ℕ) × IsName name × (m.anchor ≡ key_of name)) l.nodes 0 named_if_listed;
   }
 
+-- each line of the log is in order or not
+line_or_not : (nodes : ℕ) (s : Spot) → IsFitLine nodes s ⊎ ¬ IsFitLine nodes s
+line_or_not nodes s = elim (cases_eq (s 0) 0) [
+  | inl empty ↦ inl (inl empty)
+  | inr used ↦ elim (entry_or_not nodes s) [
+    | inl is ↦ inl (inr is)
+    | inr other ↦ inr (λ fit. elim fit as (λ _. ⊥) [ inl empty ↦ used empty | inr is ↦ other is ])
+  ]
+]
+  where
+    kind_or_not : (k : ℕ) → ((k ≡ 1) ⊎ (k ≡ 2)) ⊎ ¬ ((k ≡ 1) ⊎ (k ≡ 2))
+    kind_or_not k = elim (cases_eq k 1) [
+      | inl one ↦ inl (inl one)
+      | inr more ↦ elim (cases_eq k 2) [
+        | inl two ↦ inl (inr two)
+        | inr other ↦ inr (λ is. elim is as (λ _. ⊥) [ inl one ↦ more one | inr two ↦ other two ])
+      ]
+    ]
+
+    entry_or_not : (nodes : ℕ) (s : Spot) → IsEntry nodes s ⊎ ¬ IsEntry nodes s
+    entry_or_not nodes s = elim (cases_lt 2 (s 0)) [
+      | inl past ↦ inr (λ is. let state = is.state in omega arith)
+      | inr state ↦ elim (kind_or_not (s 1)) [
+        | inr other ↦ inr (λ is. other is.kind)
+        | inl kind ↦ elim (cases_lt (s 2) 1) [
+          | inl first ↦ inr (λ is. let node = is.node in omega arith)
+          | inr least ↦ elim (cases_lt (s 2) nodes) [
+            | inr past ↦ inr (λ is. let node = is.node in omega arith)
+            | inl within ↦ elim (name_words_or_not (s 3 ∷ s 4 ∷ s 5 ∷ [])) [
+              | inr nameless ↦ inr (λ is. nameless (is.name, is.is_name, sym is.anchor))
+              | inl named ↦ elim (cases_lt (s 6) nodes) [
+                | inr past ↦ inr (λ is. let left = is.left in omega arith)
+                | inl left ↦ elim (cases_eq (s 7) 0) [
+                  | inr used ↦ inr (λ is. used is.zero)
+                  | inl clear ↦ inl (record { state = state; kind = kind; node = (least, within); name = named.0; is_name = named.1; anchor = sym named.2; left = left; zero = clear })
+                ]
+              ]
+            ]
+          ]
+        ]
+      ]
+    ]
+
+lines_if : (l : Layout) (image : List ℕ) → IsSound l image → (line : ℕ) → line < 8 * l.callers → IsFitLine l.nodes (line_spot l image line)
+lines_if l image sound line here =
+    elim (line_or_not l.nodes (line_spot l image line)) as (λ _. IsFitLine l.nodes (line_spot l image line)) [
+      | inl fit ↦ fit
+      | inr unfit ↦ absurd (sound 9 0 (Line (line / 8) (line % 8) 0) (in_lines (line, refl, record { here = here; unfit = unfit })))
+    ]
+
 -- a sound image keeps the rules
 pub sound_keeps : SoundKeepsRules
 sound_keeps l image sound = record {
@@ -218,6 +269,7 @@ sound_keeps l image sound = record {
   versions = versions_if l image sound;
   list = list_if l image sound;
   tidy = λ n listed. tidy_if l.slots (image_spot l image n) (none_broken l image sound n listed);
+  lines = lines_if l image sound;
 }
 
 -- a list leads on within itself, to no node before, and its anchors are in order
@@ -270,3 +322,4 @@ keeps_sound l image is_image keeps rule position w (in_prints at) =
     in_node_kept l.slots (image_spot l image at.node) Prints (keeps.tidy at.node (position_in 0 (image_list l image) position at.node at.listed)) at.offset at.breaks
 keeps_sound l image is_image keeps rule position w (in_apart at) =
     in_node_kept l.slots (image_spot l image at.node) Apart (keeps.tidy at.node (position_in 0 (image_list l image) position at.node at.listed)) at.offset at.breaks
+keeps_sound l image is_image keeps rule position w (in_lines at) = let is = at.2 in is.unfit (keeps.lines at.0 is.here)

@@ -1,5 +1,5 @@
 -- Laws of sound images. Each is proved; crates above cite its proof by the lemma's name.
-use Rattle.std.specs.Prelude.{◌≡◌, ℕ, ◌<◌, ◌≤◌, List}
+use Rattle.std.specs.Prelude.{◌≡◌, ℕ, ◌*◌, ◌<◌, ◌≤◌, List}
 use Rattle.std.specs.FinMap.{empty}
 use Rattle.pm_words.specs.declared.layout.Layout.{Layout}
 use Rattle.pm_words.specs.Images.{IsImage, fresh_words}
@@ -10,19 +10,22 @@ use Rattle.pm_words.specs.Rows.{durable_row, row_of}
 use Rattle.version_lock.specs.Versions.{generation_of}
 use Rattle.cat_history.specs.Maps.{Map}
 use Rattle.data_node.specs.Spots.{IsTidy}
+use Rattle.data_node.specs.Lines.{IsFitLine}
 use Rattle.data_node.specs.Lists.{MakeList}
 use Rattle.sound_image.specs.Nodes.{image_spot, image_list, IsListedNode}
-use Rattle.sound_image.specs.Rules.{IsSpare, header_generation}
+use Rattle.sound_image.specs.Rules.{IsSpare, header_generation, line_spot}
 use Rattle.version_lock.specs.Versions.{IsGeneration}
 use Rattle.sound_image.specs.Sound.{IsSound, IsMapOf, image_map}
 
--- The rules of a sound image, by what they want: the nodes make a list, and each listed one is in order.
+-- The rules of a sound image, by what they want: the nodes make a list, each listed one is in order, and so is each
+-- line of the log.
 pub record KeepsRules (l : Layout) (image : List ℕ) : Type 0 where
   pub generation : IsGeneration (header_generation l image)
   pub spare : (w : Word) → IsSpare w → word_at l image w ≡ 0
   pub versions : (n : ℕ) → n < l.nodes → generation_of (word_at l image (Node n 0)) ≤ header_generation l image
   pub list : MakeList l.nodes (image_spot l image) (image_list l image)
   pub tidy : (n : ℕ) → IsListedNode l image n → IsTidy l.slots (image_spot l image n)
+  pub lines : (line : ℕ) → line < 8 * l.callers → IsFitLine l.nodes (line_spot l image line)
 
 -- A sound image keeps them,
 abbrev pub SoundKeepsRules : Type 0

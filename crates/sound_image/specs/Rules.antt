@@ -1,11 +1,13 @@
 -- The rules of a sound image, each by what breaks it at a word: of the header, of a node, or of a listed node at a
--- position of the list. Their numbers are those that `Broken` tells. Those past 8 are of parts that no image uses yet.
-use Rattle.std.specs.Prelude.{◌≡◌, ◌≢◌, ℕ, zero, suc, ◌<◌, ◌≤◌, ◌^◌, ◌⊎◌, List}
+-- position of the list; and of a line of the log. Their numbers are those that `Broken` tells. Those past 9 are of
+-- parts that no image uses yet.
+use Rattle.std.specs.Prelude.{◌≡◌, ◌≢◌, ℕ, zero, suc, ◌*◌, ◌/◌, ◌%◌, ◌<◌, ◌≤◌, ◌^◌, ◌⊎◌, List}
 use Rattle.pm_words.specs.declared.layout.Layout.{Layout}
-use Rattle.pm_words.specs.Locations.{Word, Header, Root, Node, word_at}
+use Rattle.pm_words.specs.Locations.{Word, Header, Root, Node, Line, word_at}
 use Rattle.version_lock.specs.Versions.{generation_of, IsGeneration}
 use Rattle.cat_key.specs.Names.{IsName, AreNameWords, words_of, fingerprint_of}
 use Rattle.data_node.specs.Spots.{Spot, bitmap_offset, print_offset, slot_offset, IsLiveIn, name_words, print_in_spot}
+use Rattle.data_node.specs.Lines.{IsFitLine}
 use Rattle.data_node.specs.Lists.{next_offset, anchor_offset, anchor_in, anchor_words}
 use Rattle.sound_image.specs.Nodes.{image_spot, IsListedAt, next_in}
 use Rattle.sound_image.specs.declared.listed.NodeRule.{NodeRule}
@@ -123,3 +125,17 @@ pub record BreaksInNode (l : Layout) (image : List ℕ) (rule : NodeRule) (posit
   pub listed : IsListedAt l image position node
   pub here : w ≡ Node node offset
   pub breaks : BreaksBy rule l.slots (image_spot l image node) offset
+
+-- The words of a line of the log, by its number: eight for each caller before its own, and its own among that caller's.
+abbrev pub line_spot : Layout → List ℕ → ℕ → Spot
+line_spot l image line offset = word_at l image (Line (line / 8) (line % 8) offset)
+
+-- A line that isn't EMPTY and holds no change of the list.
+pub record IsUnfit (l : Layout) (image : List ℕ) (line : ℕ) : Type 0 where
+  pub here : line < 8 * l.callers
+  pub unfit : ¬ IsFitLine l.nodes (line_spot l image line)
+
+-- Rule 9: each line of the log is EMPTY, or is OPEN or READY with a split or a merge, a node other than node 0, a name
+-- as its anchor, a left node, and 0 behind. It is broken at the word of its state.
+abbrev pub BreaksLines : Layout → List ℕ → Word → Type 0
+BreaksLines l image w = (line : ℕ) × (w ≡ Line (line / 8) (line % 8) 0) × IsUnfit l image line

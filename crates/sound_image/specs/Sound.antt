@@ -11,6 +11,7 @@ use Rattle.data_node.specs.Weights.{has_name_in}
 use Rattle.sound_image.specs.Lowest.{IsFirst}
 use Rattle.sound_image.specs.Nodes.{image_spot, image_list, IsListedNode, image_range}
 use Rattle.sound_image.specs.Rules.{BreaksHeader, BreaksVersions, LeadsOut, LeadsBack, BreaksAnchors, BreaksInNode}
+use Rattle.sound_image.specs.Rules.{BreaksLines}
 use Rattle.sound_image.specs.declared.broken.Broken.{Broken}
 use Rattle.sound_image.specs.declared.listed.NodeRule.TheVariants.{Names, Prints, Apart}
 
@@ -25,6 +26,7 @@ pub data Breaks (l : Layout) (image : List ℕ) : ℕ → ℕ → Word → Type 
   in_names : {position : ℕ} {w : Word} → BreaksInNode l image Names position w → Breaks l image 6 position w
   in_prints : {position : ℕ} {w : Word} → BreaksInNode l image Prints position w → Breaks l image 7 position w
   in_apart : {position : ℕ} {w : Word} → BreaksInNode l image Apart position w → Breaks l image 8 position w
+  in_lines : {w : Word} → BreaksLines l image w → Breaks l image 9 0 w
 
 -- It breaks no rule below this number at any word,
 abbrev pub AreKept : Layout → List ℕ → ℕ → Type 0

@@ -7,6 +7,7 @@ ghost use Rattle.sound_image.specs.Sound.{Breaks, AreKept, IsSound, IsFirstBroke
 use crate::header::{wrong_header, wrong_version};
 use crate::list::{leads_back, leads_out, wrong_anchor};
 use crate::listed::NodeRule;
+use crate::log_line::wrong_line;
 use pm_words::Image;
 
 /// A rule that an image breaks, and where.
@@ -19,7 +20,7 @@ pub struct Broken {
 }
 
 /// The number of the last rule.
-const LAST_RULE: u64 = 8;
+const LAST_RULE: u64 = 9;
 
 /// The first word at which the image breaks a rule, if it keeps those before it.
 fn broken_at(image: &Image, rule: u64) -> Option<u64>
@@ -35,12 +36,13 @@ fn broken_at(image: &Image, rule: u64) -> Option<u64>
         5 => wrong_anchor(image),
         6 => NodeRule::Names.broken_word(image),
         7 => NodeRule::Prints.broken_word(image),
-        _ => NodeRule::Apart.broken_word(image),
+        8 => NodeRule::Apart.broken_word(image),
+        _ => wrong_line(image),
     }
 }
 
 /// The first rule that the image breaks, at the first word that breaks it, in the order of the list; or `None` where it
-/// is sound. It takes time in proportion to the words of the listed nodes.
+/// is sound. It takes time in proportion to the words of the listed nodes and of the log.
 pub fn first_broken(image: &Image) -> Option<Broken>
     ensures none { IsNone result ↔ IsSound image.now.layout image.now.words }
     ensures some { IfSome result (IsFirstBroken image.now.layout image.now.words) }

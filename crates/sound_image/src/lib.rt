@@ -1,7 +1,7 @@
 //! What a sound image of the index is, which map it keeps, and the program that finds where an image is not sound.
 //!
 //! An image is sound where it breaks none of the rules of `specs/Rules`: on its header, on the list that its nodes
-//! make, and on each listed node.
+//! make, on each listed node, and on each line of the log.
 #![tactic(auto)]
 
 mod broken;
@@ -9,6 +9,7 @@ mod header;
 pub mod laws;
 mod list;
 mod listed;
+mod log_line;
 mod map;
 mod node;
 mod node_set;

@@ -288,6 +288,65 @@ fn listed_nodes(rt: HostRuntime) -> Result<(), Fail> {
     Ok(())
 }
 
+/// The log of one caller behind four nodes starts at word 144, and a line has eight words.
+#[test]
+fn log_lines(rt: HostRuntime) -> Result<(), Fail> {
+    let named_anchor = (147, A);
+    for (changes, want) in [
+        // An open split, a ready merge into the last node, and an empty line that says anything.
+        ([(144, 1), (145, 1), (146, 1), named_anchor, (0, 0)], (0, 0)),
+        (
+            [(144, 2), (145, 2), (146, 3), named_anchor, (150, 3)],
+            (0, 0),
+        ),
+        ([(145, 9), (146, 9), (147, 9), (150, 9), (151, 9)], (0, 0)),
+        // Another state, no kind, another kind.
+        (
+            [(144, 3), (145, 1), (146, 1), named_anchor, (0, 0)],
+            (9, 144),
+        ),
+        (
+            [(144, 1), (145, 0), (146, 1), named_anchor, (0, 0)],
+            (9, 144),
+        ),
+        (
+            [(144, 1), (145, 3), (146, 1), named_anchor, (0, 0)],
+            (9, 144),
+        ),
+        // Node 0, a node that isn't there, no name as anchor, no such left node, and something in the last word.
+        (
+            [(144, 1), (145, 1), (146, 0), named_anchor, (0, 0)],
+            (9, 144),
+        ),
+        (
+            [(144, 1), (145, 1), (146, 4), named_anchor, (0, 0)],
+            (9, 144),
+        ),
+        (
+            [(144, 1), (145, 1), (146, 1), (147, 0x20), (0, 0)],
+            (9, 144),
+        ),
+        (
+            [(144, 1), (145, 1), (146, 1), named_anchor, (150, 4)],
+            (9, 144),
+        ),
+        (
+            [(144, 1), (145, 1), (146, 1), named_anchor, (151, 1)],
+            (9, 144),
+        ),
+        // The last line, the first of two, and the word behind the log.
+        ([(200, 3), (0, 0), (0, 0), (0, 0), (0, 0)], (9, 200)),
+        ([(200, 3), (152, 3), (0, 0), (0, 0), (0, 0)], (9, 152)),
+        ([(208, 3), (0, 0), (0, 0), (0, 0), (0, 0)], (0, 0)),
+        // It breaks rules 8 and 9.
+        ([(17, 3), (32, A), (36, A), (24, 0x6161), (144, 3)], (8, 36)),
+    ] {
+        let named = named_in(rt.alloc(), 4, 4, &changes)?;
+        assert_eq!(rt; named, want, "{changes:?}");
+    }
+    Ok(())
+}
+
 /// Slots 2 and 3 repeat names: the lower one is told, whose name a lower slot has.
 #[test]
 fn first_repeated_name(rt: HostRuntime) -> Result<(), Fail> {

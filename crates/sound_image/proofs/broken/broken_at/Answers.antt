@@ -1,7 +1,7 @@
 use Rattle.std.proofs.Common.{◌≡◌, ℕ, sym, subst, arith}
 use Rattle.sound_image.specs.Lowest.{IsFirst}
 use Rattle.sound_image.specs.Sound.{Breaks}
-use Rattle.sound_image.proofs.FirstLemmas.{first_header, first_versions, first_out, first_back, first_anchors, first_names, first_prints, first_apart}
+use Rattle.sound_image.proofs.FirstLemmas.{first_header, first_versions, first_out, first_back, first_anchors, first_names, first_prints, first_apart, first_lines}
 use Rattle.sound_image.proofs.ListRules.{lead_within}
 use Rattle.sound_image.proofs.broken.broken_at.Goals as goal
 
@@ -17,10 +17,8 @@ broken_word-requires c = let is = c.in-6.is in lead_within c.args.image.now.layo
 pub broken_word-requires-in-7 : goal.broken_word-requires-in-7
 broken_word-requires-in-7 c = let is = c.in-7.is in lead_within c.args.image.now.layout c.args.image.now.words c.args.rule (omega arith) c.requires.kept
 
-pub broken_word-requires-in_default : goal.broken_word-requires-in_default
-broken_word-requires-in_default c =
-    let last : c.args.rule ≡ 8 = omega arith in
-    lead_within c.args.image.now.layout c.args.image.now.words c.args.rule (omega arith) c.requires.kept
+pub broken_word-requires-in-8 : goal.broken_word-requires-in-8
+broken_word-requires-in-8 c = let is = c.in-8.is in lead_within c.args.image.now.layout c.args.image.now.words c.args.rule (omega arith) c.requires.kept
 
 pub returns-in-1 : goal.returns-in-1
 returns-in-1 c =
@@ -57,8 +55,13 @@ returns-in-7 c =
     subst (λ (rule : ℕ). IsFirst c.args.image.now.layout (Breaks c.args.image.now.layout c.args.image.now.words rule) c.broken_word-in-7.result) (sym c.in-7.is)
     (first_prints c.args.image.now.layout c.args.image.now.words c.broken_word-in-7.result c.broken_word-in-7.ensures)
 
+pub returns-in-8 : goal.returns-in-8
+returns-in-8 c =
+    subst (λ (rule : ℕ). IsFirst c.args.image.now.layout (Breaks c.args.image.now.layout c.args.image.now.words rule) c.broken_word-in-8.result) (sym c.in-8.is)
+    (first_apart c.args.image.now.layout c.args.image.now.words c.broken_word-in-8.result c.broken_word-in-8.ensures)
+
 pub returns-in_default : goal.returns-in_default
 returns-in_default c =
-    let last : c.args.rule ≡ 8 = omega arith in
-    subst (λ (rule : ℕ). IsFirst c.args.image.now.layout (Breaks c.args.image.now.layout c.args.image.now.words rule) c.broken_word-in_default.result) (sym last)
-    (first_apart c.args.image.now.layout c.args.image.now.words c.broken_word-in_default.result c.broken_word-in_default.ensures)
+    let last : c.args.rule ≡ 9 = omega arith in
+    subst (λ (rule : ℕ). IsFirst c.args.image.now.layout (Breaks c.args.image.now.layout c.args.image.now.words rule) c.wrong_line.result) (sym last)
+    (first_lines c.args.image.now.layout c.args.image.now.words c.wrong_line.result c.wrong_line.ensures)

@@ -18,5 +18,5 @@ loop-rule-preserved c = kept_more c.args.image.now.layout c.args.image.now.words
 
 pub returns-clause-none : goal.returns-clause-none
 returns-clause-none c =
-    let past : 8 < c.loop-rule.rule = omega arith in
+    let past : 9 < c.loop-rule.rule = omega arith in
     (λ _. kept_all c.args.image.now.layout c.args.image.now.words c.loop-rule.rule past c.loop-rule.invariant, λ _. refl)
