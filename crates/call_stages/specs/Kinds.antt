@@ -21,6 +21,7 @@ use Rattle.call_stages.specs.declared.once.Once.{Once}
 use Rattle.call_stages.specs.declared.once.Once.TheVariants as once
 use Rattle.call_stages.specs.declared.once.Placed.{Placed}
 use Rattle.call_stages.specs.Stages.{Known, Knows, KnowsDurable, IsAmong, Held, Sight, Sees, no_sight, Grip, Tells}
+use Rattle.call_stages.specs.Stages.{AreCopies}
 use Rattle.call_stages.specs.Stages.{Phase, Filling, Linked, Parted, Pace, Gathered, Joined, Gone, Stage, Idle, Saw}
 use Rattle.call_stages.specs.Stages.{Wears, Holds, Eyes, Splits, Leaves, Meets, Joins, IsLoose, full_grip, fresh_grip}
 use Rattle.call_stages.specs.Stages.{left_grip, just_held, merged_held, pended}
@@ -76,6 +77,8 @@ pub record LeadsWithin (l : Layout) (stage : Stage) (action : Action) (x : ℕ) 
       action ≡ Load (word_address l n next_offset) → x < l.nodes
   pub held : (n w : ℕ) (h : Held) → n < l.nodes → stage ≡ Holds n w h → action ≡ Load (word_address l n next_offset) →
       x < l.nodes
+  pub met : (n w : ℕ) (h : Held) (right : Grip) → right.node < l.nodes → stage ≡ Meets n w h right →
+      action ≡ Load (word_address l right.node next_offset) → x < l.nodes
 
 -- Under the lock the call has neither a change in the node nor a place.
 pub record IsClean (h : Held) : Type 0 where
@@ -316,16 +319,17 @@ pub data Merge (l : Layout) (g : ℕ) : Stage → Action → ℕ → Stage → T
         seen = seen;
       }))
   -- stores copies where they change nothing of what its own node means,
-  copies : {n w x y offset : ℕ} {h : Held} {right : Grip} {k : Known} {dirty : List (ℕ × ℕ)} → HasWordAt l n offset →
-      IsContent offset → y < 2 ^ 64 → Soils h.dirty offset dirty →
-      ((s : Spot) → IsTidy l.slots s → Knows h.name h.known s → Knows h.name k (updated s offset y)) →
+  copies : {n w x y offset : ℕ} {h : Held} {right : Grip} {k : Known} {dirty seen copied : List (ℕ × ℕ)} →
+      HasWordAt l n offset → IsContent offset → y < 2 ^ 64 → Soils h.dirty offset dirty →
+      ((s t : Spot) → IsTidy l.slots s → Knows h.name h.known s → Tells right.seen t → AreCopies right.copied s t →
+      Knows h.name k (updated s offset y) × Tells seen t × AreCopies copied (updated s offset y) t) →
       ((range : List ℕ → Bool) (s : Spot) (m : Map) → KnowsDurable h s → Means l.slots range s m →
       Means l.slots range (updated s offset y) m) →
       Merge l g (Meets n w h right) (Store (word_address l n offset) y) x (Meets n w (record h {
         known = k;
         dirty = dirty;
         hand = None;
-      }) right)
+      }) (record right { seen = seen; copied = copied }))
   -- and makes them durable;
   takes_up : {n w x offset : ℕ} {h : Held} {right : Grip} → HasWordAt l n offset →
       Merge l g (Meets n w h right) (Load (word_address l n offset)) x (Meets n w (record h {
@@ -346,6 +350,7 @@ pub data Merge (l : Layout) (g : ℕ) : Stage → Action → ℕ → Stage → T
       ((s : Spot) → Knows h.name h.known s → Tells seen (updated s bitmap_offset y)) →
       ((range other : List ℕ → Bool) (s t : Spot) (m : Map) →
       ((name : List ℕ) → range name ≡ true → other name ≡ true → ⊥) → Knows h.name h.known s → Tells right.seen t →
+      AreCopies right.copied s t →
       Means l.slots range s m → StaysIn l.slots range s → Means l.slots other t m → StaysIn l.slots other t →
       IsGathered l.slots range other (updated s bitmap_offset y) m) →
       Merge l g (Meets n w h right) (Store (word_address l n bitmap_offset) y) x

@@ -1,12 +1,12 @@
 -- A log line that a call has, beside the nodes, and the steps that it makes on it.
-use Rattle.std.specs.Prelude.{◌≡◌, ℕ, ◌<◌, ◌≤◌, ◌^◌, ◌⊎◌, List, [], ◌∷◌, Option, Some, None}
+use Rattle.std.specs.Prelude.{◌≡◌, ℕ, ◌<◌, ◌^◌, ◌⊎◌, List, [], ◌∷◌, Option, Some, None}
 use Rattle.std.specs.List.{AllByRecursion}
 use Rattle.pm_words.specs.declared.layout.Layout.{Layout}
 use Rattle.pm_words.specs.declared.action.Action.{Action}
 use Rattle.pm_words.specs.declared.action.Action.TheVariants.{Load, Store, Drain}
 use Rattle.pm_words.specs.Locations.{address_of, Cached, Line}
-use Rattle.cat_key.specs.Names.{IsName, words_of}
 use Rattle.data_node.specs.Spots.{Spot, updated}
+use Rattle.data_node.specs.Lines as lines
 use Rattle.call_stages.specs.Stages.{IsAmong, Tells}
 use Rattle.call_stages.specs.Kinds.{Soils, Cleans}
 
@@ -22,18 +22,11 @@ abbrev pub line_address : Layout → ℕ → ℕ → ℕ → ℕ
 line_address l c j offset = address_of l (Cached (Line c j offset))
 
 -- A line that isn't EMPTY: a split or a merge of two nodes, with the anchor of the new or the merged one.
-pub record IsEntry (l : Layout) (s : Spot) : Type 0 where
-  pub state : s 0 ≤ 2
-  pub kind : (s 1 ≡ 1) ⊎ (s 1 ≡ 2)
-  pub node : (1 ≤ s 2) × (s 2 < l.nodes)
-  pub name : List ℕ
-  pub is_name : IsName name
-  pub anchor : s 3 ∷ s 4 ∷ s 5 ∷ [] ≡ words_of name
-  pub left : s 6 < l.nodes
-  pub zero : s 7 ≡ 0
+abbrev pub IsEntry : Layout → Spot → Type 0
+IsEntry l s = lines.IsEntry l.nodes s
 
 abbrev pub IsFitLine : Layout → Spot → Type 0
-IsFitLine l s = (s 0 ≡ 0) ⊎ IsEntry l s
+IsFitLine l s = lines.IsFitLine l.nodes s
 
 -- The words that are known and durable are as known.
 abbrev pub TellsDurably : List (ℕ × ℕ) → List (ℕ × ℕ) → Spot → Type 0

@@ -62,8 +62,9 @@ pub record Sees (k : Sight) (s t : Spot) : Type 0 where
 abbrev pub no_sight : Sight
 no_sight = record { live = false; seen = []; next = 0; beyond = [] }
 
--- One of the two nodes that a split holds: its version word, words of it by offset, and, as of a call, which words may
--- differ from their durable twins, and the word in hand.
+-- One of the two nodes that a split or a merge holds: its version word, words of it by offset, and, as of a call, which
+-- words may differ from their durable twins, and the word in hand. Of the right node of a merge, which of the left
+-- node's words are as its own: the offsets of both.
 pub record Grip : Type 0 where
   pub name : List ℕ  -- the name that the call is about
   pub old : Option (Option ℕ)  -- what it had before the call
@@ -72,6 +73,11 @@ pub record Grip : Type 0 where
   pub seen : List (ℕ × ℕ)
   pub dirty : List (ℕ × ℕ)
   pub hand : Option (ℕ × ℕ)
+  pub copied : List (ℕ × ℕ)
+
+-- These words of the left node are as those of the right one.
+abbrev pub AreCopies : List (ℕ × ℕ) → Spot → Spot → Type 0
+AreCopies copied s t = AllByRecursion (λ (w : ℕ × ℕ). s w.0 ≡ t w.1) copied
 
 -- The words are as the party knows them.
 abbrev pub Tells : List (ℕ × ℕ) → Spot → Type 0
@@ -129,10 +135,20 @@ full_grip n w h = record {
   seen = h.known.seen;
   dirty = [];
   hand = None;
+  copied = [];
 }
 
 abbrev pub fresh_grip : ℕ → ℕ → Grip
-fresh_grip n w = record { name = []; old = None; node = n; lock = w; seen = []; dirty = []; hand = None }
+fresh_grip n w = record {
+  name = [];
+  old = None;
+  node = n;
+  lock = w;
+  seen = [];
+  dirty = [];
+  hand = None;
+  copied = [];
+}
 
 -- As the lock is taken: nothing is known of the node yet.
 abbrev pub just_held : List ℕ → Held
@@ -153,7 +169,16 @@ just_held name =
 
 -- What a merge begins with that has the copies: the left node, of which the call knows words.
 abbrev pub left_grip : ℕ → ℕ → List (ℕ × ℕ) → List (ℕ × ℕ) → Grip
-left_grip n w seen dirty = record { name = []; old = None; node = n; lock = w; seen = seen; dirty = dirty; hand = None }
+left_grip n w seen dirty = record {
+  name = [];
+  old = None;
+  node = n;
+  lock = w;
+  seen = seen;
+  dirty = dirty;
+  hand = None;
+  copied = [];
+}
 
 -- A call after its merge, which knows nothing of its node any more.
 abbrev pub merged_held : Held → Held

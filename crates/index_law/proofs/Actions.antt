@@ -10,7 +10,7 @@ use Rattle.pm_words.proofs.Apart.{addresses_within}
 use Rattle.pm_words.proofs.Kept.{outside_header, keeps_header, names_cached}
 use Rattle.version_lock.specs.declared.TheConstants.{GENERATION_LIMIT}
 use Rattle.version_lock.specs.Versions.{generation_of}
-use Rattle.call_stages.specs.Stages.{Stage, Sight, Held, Saw, Holds}
+use Rattle.call_stages.specs.Stages.{Stage, Sight, Held, Grip, Saw, Holds, Meets}
 use Rattle.std.proofs.lemmas.Bool.{cases_eq}
 use Rattle.data_node.proofs.ListLemmas.{all_member}
 use Rattle.index_law.proofs.Switch.{leads_on, inside_listed}
@@ -21,7 +21,7 @@ use Rattle.data_node.specs.Lists.{next_offset, anchor_in}
 use Rattle.call_stages.specs.Kinds.{Told, HasWordAt, live_status, clock_address, word_address, version_address, status_address, prev_address, LeadsWithin}
 use Rattle.index_law.specs.Facts.{Facts, IsListed, facts_of, version_in}
 use Rattle.index_law.specs.Worlds.{World, facts}
-use Rattle.index_law.specs.Lawful.{AreLive, IsList, Sure, SureSaw, SureHolds}
+use Rattle.index_law.specs.Lawful.{AreLive, IsList, Sure, SureSaw, SureHolds, SureMeets}
 use Rattle.index_law.specs.Laws.{Allowed, loads_clock, loads_word, loads_status, loads_prev, exchanges, stores_word, stores_status, drains_word, adds, claims_node, frees_fresh, frees_left, frees_met, frees_right, frees, AllowedMayName, AllowedCanAct}
 use Rattle.index_law.proofs.Rows.{version_in-here, status_in-here, spot_in-here}
 use Rattle.index_law.proofs.Versions.{own_lock, lock_fits}
@@ -130,6 +130,7 @@ pub some_leads : (l : Layout) (g : ℕ) (s : Stage) (a : Action) → 0 < l.nodes
 some_leads l g s a nodes = record {
   live = λ n v w k here is live load. let zero_told = (some_told l g a).2 n next_offset load in omega arith;
   held = λ n w h here is load. let zero_told = (some_told l g a).2 n next_offset load in omega arith;
+  met = λ n w h right here is load. let zero_told = (some_told l g a).2 right.node next_offset load in omega arith;
 }
 
 -- a version word that is loaded is of no later run
@@ -191,6 +192,19 @@ told_held l g ws base history caller index since s a list knows n w h here at is
     let within : f.now n next_offset < l.nodes = leads_within l f (omega arith) list n (inside_listed l f list n h.name sure.inside) in
     subst (λ (b : Action). got l ws b < l.nodes) (sym is) (subst (λ (x : ℕ). x < l.nodes) (spot_in-here l ws n next_offset has (omega arith)) within)
 
+-- and the right one of a merge
+pub told_met : (l : Layout) (g : ℕ) (ws : List ℕ) (base : Map) (history : List Write) (caller index since : ℕ) (s : Stage) (a : Action) → IsList l (facts_of l ws base history)
+    → Sure l g (facts_of l ws base history) caller index since s → (n w : ℕ) (h : Held) (right : Grip) → right.node < l.nodes → s ≡ Meets n w h right → a ≡ Load (word_address l right.node next_offset)
+    → got l ws a < l.nodes
+told_met l g ws base history caller index since s a list knows n w h right here at is =
+    let f = facts_of l ws base history in
+    let sure : SureHolds l g f caller index since n w h × SureMeets l g f n h right = subst (Sure l g f caller index since) at knows in
+    let has : HasWordAt l right.node next_offset = (here, omega arith) in
+    let listed : IsListed f right.node =
+    subst (IsListed f) sure.1.leads (leads_on l f list n (inside_listed l f list n h.name sure.0.inside) (λ z. sure.1.nonzero (sym sure.1.leads ∙ z))) in
+    let within : f.now right.node next_offset < l.nodes = leads_within l f (omega arith) list right.node listed in
+    subst (λ (b : Action). got l ws b < l.nodes) (sym is) (subst (λ (x : ℕ). x < l.nodes) (spot_in-here l ws right.node next_offset has (omega arith)) within)
+
 -- an anchor of zero has three zero words
 anchor_zero : (s : Spot) → anchor_in s ≡ 0 → (offset : ℕ) → 3 ≤ offset → offset ≤ 5 → s offset ≡ 0
 unfolding anchor_in
@@ -238,5 +252,6 @@ action_law w i p a lawful there allowed room = record {
   leads = record {
     live = told_leads w.layout w.generation w.words w.base w.history p.caller p.index p.since p.stage a (lawful.sure i p there);
     held = told_held w.layout w.generation w.words w.base w.history p.caller p.index p.since p.stage a lawful.list (lawful.sure i p there);
+    met = told_met w.layout w.generation w.words w.base w.history p.caller p.index p.since p.stage a lawful.list (lawful.sure i p there);
   };
 }

@@ -21,7 +21,7 @@ use Rattle.index_law.specs.Lawful.{Lawful}
 use Rattle.index_law.specs.Laws.{Counts}
 use Rattle.index_law.specs.AnySteps.{AnyIsAllowed, AnyCanAct, BesideKeeps, AnyStepKeeps, AnyStepWeighs}
 use Rattle.index_law.specs.Weights.{index_weight, lowered_sum, weight_sum}
-use Rattle.index_law.proofs.Actions.{action_law, told_leads, told_held}
+use Rattle.index_law.proofs.Actions.{action_law, told_leads, told_held, told_met}
 use Rattle.index_law.proofs.Law.{step_law}
 use Rattle.index_law.proofs.Noting.{beside_law}
 use Rattle.index_law.proofs.Own.{allow_law}
@@ -176,6 +176,7 @@ any_can w i p a lawful there (inr is) room =
       leads = record {
         live = told_leads l w.generation w.words w.base w.history p.caller p.index p.since p.stage a known;
         held = told_held l w.generation w.words w.base w.history p.caller p.index p.since p.stage a lawful.list known;
+        met = told_met l w.generation w.words w.base w.history p.caller p.index p.since p.stage a lawful.list known;
       };
     }
 

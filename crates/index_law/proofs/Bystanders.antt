@@ -13,7 +13,7 @@ use Rattle.data_node.specs.Spots.{Spot, Means, updated}
 use Rattle.std.specs.List.{AllByRecursion}
 use Rattle.version_lock.specs.Versions.{IsFree, IsWorn}
 use Rattle.data_node.specs.Lists.{next_offset, StaysIn}
-use Rattle.call_stages.specs.Stages.{Knows, Held, Sight, Grip, Tells, Phase, Filling, Linked, Parted, Pace, Gathered, Joined, Gone, Stage, Idle, Saw, Wears, Holds, Eyes, Splits, Leaves, Meets, Joins, pended}
+use Rattle.call_stages.specs.Stages.{Knows, Held, Sight, Grip, Tells, AreCopies, Phase, Filling, Linked, Parted, Pace, Gathered, Joined, Gone, Stage, Idle, Saw, Wears, Holds, Eyes, Splits, Leaves, Meets, Joins, pended}
 use Rattle.index_law.specs.Facts.{Facts, map_now, range_of, cached_word, IsListed}
 use Rattle.index_law.specs.Lawful.{IsTime, HasWriteAt, IsPlaced, map_before, IsSettled, IsAsked, Stands, SureHolds, SureGrip, IsAtPhase, IsList, SureCounted, IsAtPace, Sure}
 use Rattle.call_stages.specs.Stages.{HoldsNode}
@@ -318,6 +318,8 @@ module _ (l : Layout) (g : ℕ) (f f' : Facts) (later : IsLater f f') where
           untimed = knows.1.untimed;
           unmerged = knows.1.unmerged;
           grip = grip_kept right other knows.1.grip;
+          copies = (λ (s t : Spot) (is : f.now n ≡ s) (same : f.now right.node ≡ t). subst (λ q. AreCopies right.copied q t) is (subst (AreCopies right.copied (f.now n)) same knows.1.copies))
+              (f'.now n) (f'.now right.node) (sym one.now) (sym other.now);
           apart = knows.1.apart;
           nonzero = knows.1.nonzero;
           leads = ap (λ (s : Spot). s next_offset) one.now ∙ knows.1.leads;

@@ -193,3 +193,19 @@ fresh_law l parties layout idle begun =
 -- no node of a fresh row was ever locked
 pub fresh_versions : (l : Layout) → IsLayout l → (n : ℕ) → n < l.nodes → version_in l (fresh_row l) n ≡ 0
 fresh_versions l layout n here = ap (λ (f : Facts). f.version n) (same l [] layout) ∙ fresh_version l n layout here
+
+-- none but the first is listed, and none is GONE
+pub fresh_list : (l : Layout) → IsLayout l → (facts (fresh_world l [])).list ≡ []
+fresh_list l layout = ap (λ (f : Facts). f.list) (same_lit l [] layout)
+
+pub fresh_statuses : (l : Layout) → IsLayout l → (n : ℕ) → n < l.nodes → (facts (fresh_world l [])).status n ≢ gone_status
+fresh_statuses l layout n here gone =
+    let is : (facts (fresh_world l [])).status n ≡ (if n == 0 then live_status else status_in l (row_of l (fresh_words l)) n) = ap (λ (f : Facts). f.status n) (same_lit l [] layout) in
+    ⊎_elim
+    (λ (e : n ≡ 0).
+    let live : live_status ≡ gone_status = sym (ap (λ (b : Bool). cond b live_status (status_in l (row_of l (fresh_words l)) n)) (eq-eqb n 0 e)) ∙ sym is ∙ gone in
+    omega arith)
+    (λ (other : n ≢ 0).
+    let free : 0 ≡ gone_status = sym (ap (λ (b : Bool). cond b live_status (status_in l (row_of l (fresh_words l)) n)) (ne_eqb n 0 other) ∙ fresh_status l n layout here) ∙ sym is ∙ gone in
+    omega arith)
+    (cases_eq n 0)

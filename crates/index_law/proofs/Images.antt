@@ -1,22 +1,26 @@
 -- The image that a crash leaves of a lawful index.
-use Rattle.std.proofs.Common.{◌≡◌, ℕ, ◌≤◌, cond, List, ap, ◌∙◌, sym, subst, arith}
+use Rattle.std.proofs.Common.{◌≡◌, ℕ, ◌*◌, ◌/◌, ◌%◌, ◌<◌, ◌≤◌, ◌⊎◌, inl, inr, cond, List, [], ◌∷◌, refl, ap, ◌∙◌, sym, subst, arith}
+use Rattle.std.proofs.lemmas.Bool.{lt-ltb}
 use Rattle.pm_words.specs.declared.layout.Layout.{Layout}
-use Rattle.pm_words.specs.Locations.{Header, Node, word_at}
+use Rattle.pm_words.specs.Locations.{Header, Node, Line, word_at}
 use Rattle.pm_words.specs.Rows.{durable_row}
 use Rattle.pm_words.proofs.Made.{durable_row-at, durable_row-image}
 use Rattle.version_lock.specs.Versions.{generation_of, IsGeneration}
 use Rattle.data_node.specs.Spots.{Spot, IsTidy, Means}
+use Rattle.data_node.specs.Lines.{IsFitLine}
 use Rattle.data_node.specs.Lists.{members_from, range_in, IsIn, MakeList}
 use Rattle.data_node.specs.Weights.{list_weight}
 use Rattle.sound_image.specs.Nodes.{image_spot}
 use Rattle.sound_image.specs.Sound.{image_map}
 use Rattle.sound_image.specs.Laws.{KeepsRules}
+use Rattle.sound_image.specs.Rules.{line_spot}
 use Rattle.sound_image.proofs.TidyLemmas.{keeps_sound}
 use Rattle.sound_image.proofs.MapLemmas.{sound_has_map}
 use Rattle.index_law.specs.Facts.{durable_spot}
 use Rattle.index_law.specs.Worlds.{World}
 use Rattle.index_law.specs.Lawful.{Lawful}
 use Rattle.index_law.specs.Laws.{IsLeft}
+use Rattle.index_law.specs.Lines.{AreFit, safe_line}
 use Rattle.index_law.specs.Images.{CrashLeavesSound}
 use Rattle.index_law.proofs.Durable.{durable_law}
 use Rattle.index_law.proofs.Ends.{crash_law}
@@ -36,8 +40,35 @@ in_image l words P = subst P (λ i n offset. image_is l words n offset i)
 pub from_image : (l : Layout) (words : List ℕ) (P : (ℕ → Spot) → Type 0) → P (image_spot l (durable_row l words)) → P (durable_spot l words)
 from_image l words P = subst P (sym (λ i n offset. image_is l words n offset i))
 
-rules : (w : World) → Lawful w → KeepsRules w.layout (durable_row w.layout w.words)
-rules w lawful =
+-- a log line's words in the image are the durable ones, so it is in order
+line_is : (l : Layout) (words : List ℕ) (line offset : ℕ) → line < 8 * l.callers → offset < 8 → safe_line l words (line / 8) (line % 8) offset ≡ line_spot l (durable_row l words) line offset
+unfolding safe_line
+line_is l words line offset here within =
+    let caller : line / 8 < l.callers = omega arith in
+    rw (lt-ltb (line / 8) l.callers caller, lt-ltb (line % 8) 8 (omega arith), lt-ltb offset 8 within) (sym (durable_row-at l words (Line (line / 8) (line % 8) offset)))
+
+lines_fit : (l : Layout) (words : List ℕ) → AreFit l words → (line : ℕ) → line < 8 * l.callers → IsFitLine l.nodes (line_spot l (durable_row l words) line)
+lines_fit l words fit line here =
+    let s : Spot = safe_line l words (line / 8) (line % 8) in
+    same_fit l.nodes s (line_spot l (durable_row l words) line) (λ offset within. line_is l words line offset here within) (fit (line / 8) (line % 8) s (λ offset. inl refl))
+  where
+    same_fit : (nodes : ℕ) (s t : Spot) → ((offset : ℕ) → offset < 8 → s offset ≡ t offset) → IsFitLine nodes s → IsFitLine nodes t
+    same_fit nodes s t same (inl empty) = inl (sym (same 0 (omega arith)) ∙ empty)
+    same_fit nodes s t same (inr is) =
+        let at = λ (offset : ℕ) (within : offset < 8). same offset within in
+        inr (record {
+          state = subst (λ (v : ℕ). v ≤ 2) (same 0 (omega arith)) is.state;
+          kind = subst (λ (v : ℕ). (v ≡ 1) ⊎ (v ≡ 2)) (same 1 (omega arith)) is.kind;
+          node = subst (λ (v : ℕ). (1 ≤ v) × (v < nodes)) (same 2 (omega arith)) is.node;
+          name = is.name;
+          is_name = is.is_name;
+          anchor = sym (λ k. same 3 (omega arith) k ∷ same 4 (omega arith) k ∷ same 5 (omega arith) k ∷ []) ∙ is.anchor;
+          left = subst (λ (v : ℕ). v < nodes) (same 6 (omega arith)) is.left;
+          zero = sym (same 7 (omega arith)) ∙ is.zero;
+        })
+
+rules : (w : World) → Lawful w → AreFit w.layout w.words → KeepsRules w.layout (durable_row w.layout w.words)
+rules w lawful fit =
     let l = w.layout in
     let image = durable_row l w.words in
     let durable = durable_law w lawful in
@@ -49,13 +80,14 @@ rules w lawful =
           (let known = lawful.durable_versions n here in omega (arith, generation));
       list = in_image l w.words (λ now. MakeList l.nodes now (members_from now l.nodes 0)) durable.list;
       tidy = in_image l w.words (λ now. (n : ℕ) → IsIn (members_from now l.nodes 0) n → IsTidy l.slots (now n)) (λ n listed. (durable.means n listed).means.tidy);
+      lines = lines_fit l w.words fit;
     }
 
 pub image_law : CrashLeavesSound
-image_law w lawful =
+image_law w lawful fit =
     let l = w.layout in
     let image = durable_row l w.words in
-    let sound = keeps_sound l image (durable_row-image l w.words lawful.row) (rules w lawful) in
+    let sound = keeps_sound l image (durable_row-image l w.words lawful.row) (rules w lawful fit) in
     let keeps = sound_has_map l image sound in
     let left : IsLeft w (image_map l image) = record {
       means = from_image l w.words (λ now. (n : ℕ) → IsIn (members_from now l.nodes 0) n → Means l.slots (range_in (members_from now l.nodes 0) n) (now n) (image_map l image)) keeps.means;

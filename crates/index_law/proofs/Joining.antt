@@ -12,7 +12,7 @@ use Rattle.data_node.specs.Lists.{next_offset, anchor_in, StaysIn}
 use Rattle.data_node.specs.Weights.{names_in}
 use Rattle.data_node.proofs.SpotLemmas.{updated-same, updated-other}
 use Rattle.data_node.proofs.NameCounts.{same_names}
-use Rattle.call_stages.specs.Stages.{Knows, KnowsDurable, IsAmong, Known, Held, Grip, Tells, Pace, Gathered, Joined, Gone, Stage, pended}
+use Rattle.call_stages.specs.Stages.{Knows, KnowsDurable, IsAmong, Known, Held, Grip, Tells, AreCopies, Pace, Gathered, Joined, Gone, Stage, pended}
 use Rattle.call_stages.specs.Kinds.{IsGathered, from_key, gone_status, Merge, meets, knows_own, knows_right, copies, takes_up, puts_down, parts, gathers, joins, glances_joined, drains_joined, retires, yields}
 use Rattle.index_law.specs.Facts.{Facts, map_now, range_of, IsListed, cached_word}
 use Rattle.index_law.specs.Lawful.{IsList, AreLive, AreKnown, AreSettled, SureHolds, SureMeets, IsAtPace, Sure}
@@ -62,6 +62,7 @@ module _ (l : Layout) (g : ℕ) (f : Facts) (caller index since : ℕ) where
     untimed = sure.untimed;
     unmerged = sure.unmerged;
     grip = sure.grip;
+    copies = sure.copies;
     apart = sure.apart;
     nonzero = sure.nonzero;
     leads = sure.leads;
@@ -112,6 +113,7 @@ module _ (l : Layout) (g : ℕ) (f : Facts) (caller index since : ℕ) where
             untimed = untimed.untimed;
             unmerged = untimed.unmerged;
             grip = record { here = here; stands = ap (λ (b : Bool). cond b u (f.version m)) (eq-eqb m m refl); lock = own_lock v u g knows.1.known knows.1.unworn knows.1.lock; seen = tt; hand = tt };
+            copies = tt;
             apart = λ d. one (sym d);
             nonzero = knows.1.nonzero;
             leads = to;
@@ -129,17 +131,20 @@ module _ (l : Layout) (g : ℕ) (f : Facts) (caller index since : ℕ) where
         untimed = knows.1.untimed;
         unmerged = knows.1.unmerged;
         grip = record { here = knows.1.grip.here; stands = knows.1.grip.stands; lock = knows.1.grip.lock; seen = told (f.now right.node) knows.1.grip.seen (sym e); hand = knows.1.grip.hand };
+        copies = knows.1.copies;
         apart = knows.1.apart;
         nonzero = knows.1.nonzero;
         leads = knows.1.leads;
         settled = record { means = knows.1.settled.means; stays = knows.1.settled.stays };
       },
     )
-    merge_mine (copies {n = n} {w = w} {y = y} {offset = offset} {h = h} {right = right} {k = k} {dirty = dirty} has content small soils learnt means) e knows =
+    merge_mine (copies {n = n} {w = w} {y = y} {offset = offset} {h = h} {right = right} {k = k} {dirty = dirty} {seen = seen} {copied = copied} has content small soils learnt means) e knows =
         let φ = with_word f n offset y in
         let later = later-word l f n offset y in
         let other = steady-word l f n offset y right.node (λ d. knows.1.apart (sym d)) in
         let own : φ.now n ≡ updated (f.now n) offset y = set_here f.now n offset y n refl in
+        let new : φ.now right.node ≡ f.now right.node = set_else f.now n offset y right.node (λ d. knows.1.apart (sym d)) in
+        let told = learnt (f.now n) (f.now right.node) knows.0.means.tidy knows.0.knows knows.1.grip.seen knows.1.copies in
         let durably : KnowsDurable h (f.now n) = known_words h (f.now n) h.known.seen knows.0.knows.seen in (
           record {
             here = knows.0.here;
@@ -147,7 +152,7 @@ module _ (l : Layout) (g : ℕ) (f : Facts) (caller index since : ℕ) where
             lock = knows.0.lock;
             named = knows.0.named;
             inside = knows.0.inside;
-            knows = subst (Knows h.name k) (sym own) (learnt (f.now n) knows.0.means.tidy knows.0.knows);
+            knows = subst (Knows h.name k) (sym own) told.0;
             hand = tt;
             means = subst (λ (s : Spot). Means l.slots (range_of l f n) s (pended h.pending (map_now f))) (sym own)
                 (means (range_of l f n) (f.now n) (pended h.pending (map_now f)) durably knows.0.means);
@@ -164,7 +169,9 @@ module _ (l : Layout) (g : ℕ) (f : Facts) (caller index since : ℕ) where
             still = record { pending = knows.1.still.pending; ready = knows.1.still.ready };
             untimed = knows.1.untimed;
             unmerged = knows.1.unmerged;
-            grip = grip_kept l g f φ later right other knows.1.grip;
+            grip = (let kept = grip_kept l g f φ later right other knows.1.grip in record { here = kept.here; stands = kept.stands; lock = kept.lock; seen = subst (Tells seen) (sym new) told.1; hand = kept.hand });
+            copies = (λ (s t : Spot) (is : updated (f.now n) offset y ≡ s) (same : f.now right.node ≡ t). subst (λ q. AreCopies copied q t) is (subst (AreCopies copied (updated (f.now n) offset y)) same told.2))
+                (φ.now n) (φ.now right.node) (sym own) (sym new);
             apart = knows.1.apart;
             nonzero = knows.1.nonzero;
             leads = (links_content f.now n offset y content n).0 ∙ knows.1.leads;
@@ -186,7 +193,7 @@ module _ (l : Layout) (g : ℕ) (f : Facts) (caller index since : ℕ) where
         subst (λ (p : Option Change). Means l.slots (range_of l f n) (f.now n) (pended p (map_now f))) knows.1.still.pending knows.0.means in
         let is : IsGathered l.slots (range_of l f n) (range_of l f right.node) (updated (f.now n) bitmap_offset y) (map_now f) =
         gathered (range_of l f n) (range_of l f right.node) (f.now n) (f.now right.node) (map_now f)
-        (λ name inside inside'. knows.1.apart (one_range l f n right.node name inside inside')) knows.0.knows knows.1.grip.seen clean knows.0.stays knows.1.settled.means knows.1.settled.stays in
+        (λ name inside inside'. knows.1.apart (one_range l f n right.node name inside inside')) knows.0.knows knows.1.grip.seen knows.1.copies clean knows.0.stays knows.1.settled.means knows.1.settled.stays in
         let both : List ℕ → Bool = λ name. range_of l f n name || range_of l f right.node name in
         let listed : IsListed f n = inside_listed l f list n h.name knows.0.inside in
         record {

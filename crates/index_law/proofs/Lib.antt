@@ -28,7 +28,6 @@ pub mod Weights
 pub mod Shapes
 pub mod Noting
 pub mod Copies
-pub mod Unions
 pub mod Parts
 pub mod Ends
 pub mod Joint

@@ -3,7 +3,7 @@ use Rattle.std.proofs.Common.{◌≡◌, ◌≢◌, ℕ, zero, suc, ◌+◌, ◌
 use Rattle.std.proofs.lemmas.Bool.{cases_eq, eq-eqb, eqb-true, ne_eqb}
 use Rattle.std.proofs.lemmas.List.{length-map}
 use Rattle.std.specs.List.{AllByRecursion}
-use Rattle.cat_history.specs.declared.op.Op.TheVariants.{Put, Get, Del}
+use Rattle.cat_history.specs.declared.op.NameOp.TheVariants.{Put, Get, Del}
 use Rattle.data_node.specs.Spots.{Spot}
 use Rattle.data_node.specs.Lists.{ListNode, anchor_in, IsMember, IsChain, Rise}
 use Rattle.data_node.proofs.NameCounts.{one_if, tally}

@@ -8,6 +8,7 @@ use Rattle.sound_image.specs.Weights.{image_weight}
 use Rattle.index_law.specs.Facts.{map_now}
 use Rattle.index_law.specs.Worlds.{World, facts}
 use Rattle.index_law.specs.Lawful.{Lawful}
+use Rattle.index_law.specs.Lines.{AreFit}
 use Rattle.index_law.specs.Laws.{HasPending}
 use Rattle.index_law.specs.Weights.{weight_sum}
 
@@ -20,6 +21,6 @@ pub record LeavesImage (w : World) : Type 0 where
   pub ends : (cuts : List Change) → ((change : Change) → HasPending w.parties change → Contains cuts change) →
       IsCrashEnd (map_now (facts w)) cuts (image_map w.layout (durable_row w.layout w.words))
 
--- So it is at every moment of a lawful index.
+-- So it is at every moment of a lawful index whose log lines are in order.
 abbrev pub CrashLeavesSound : Type 0
-CrashLeavesSound = (w : World) → Lawful w → LeavesImage w
+CrashLeavesSound = (w : World) → Lawful w → AreFit w.layout w.words → LeavesImage w

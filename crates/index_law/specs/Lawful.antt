@@ -20,7 +20,7 @@ use Rattle.data_node.specs.Weights.{names_in}
 use Rattle.call_stages.specs.Kinds.{IsStill, clock_address, free_status, live_status, gone_status, from_key}
 use Rattle.call_stages.specs.Stages.{Knows, Held, Sight, Sees, Grip, Tells, Phase, Filling, Linked, Parted, Pace}
 use Rattle.call_stages.specs.Stages.{Gathered, Joined, Gone, Stage, Idle, Saw, Wears, Holds, Eyes, Splits, Leaves}
-use Rattle.call_stages.specs.Stages.{Meets, Joins, HoldsNode, pended}
+use Rattle.call_stages.specs.Stages.{Meets, Joins, HoldsNode, AreCopies, pended}
 use Rattle.index_law.specs.Facts.{Facts, map_now, range_of, cached_word, IsListed}
 use Rattle.index_law.specs.Twins.{BacksStage, AreDurable, AreDurablyKnown, IsFront}
 use Rattle.index_law.specs.Worlds.{Party, World, facts}
@@ -198,6 +198,7 @@ pub record SureMeets (l : Layout) (g : ℕ) (f : Facts) (n : ℕ) (h : Held) (ri
   pub untimed : h.time ≡ None
   pub unmerged : h.merged ≡ false
   pub grip : SureGrip l g f right
+  pub copies : AreCopies right.copied (f.now n) (f.now right.node)
   pub apart : n ≢ right.node
   pub nonzero : right.node ≢ 0
   pub leads : f.now n next_offset ≡ right.node

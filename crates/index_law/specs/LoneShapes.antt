@@ -9,8 +9,8 @@ use Rattle.cat_history.specs.Maps.{Map, at}
 use Rattle.cat_history.specs.Writes.{after_all}
 use Rattle.cat_history.specs.declared.op.Write.{Write}
 use Rattle.cat_history.specs.declared.op.Change.TheVariants.{Del as Deletes}
-use Rattle.cat_history.specs.declared.op.Op.{Op}
-use Rattle.cat_history.specs.declared.op.Op.TheVariants.{Put, Get, Del}
+use Rattle.cat_history.specs.declared.op.NameOp.{NameOp}
+use Rattle.cat_history.specs.declared.op.NameOp.TheVariants.{Put, Get, Del}
 use Rattle.pm_words.specs.declared.layout.Layout.{Layout}
 use Rattle.shapes.specs.Anchors.{Anchors, AreAnchors, names_between, past, target_of, next_of, IsFullPut, splits}
 use Rattle.shapes.specs.Anchors.{put_anchors, merges, del_anchors}
@@ -36,7 +36,7 @@ use Rattle.index_law.specs.Weights.{index_weight}
 use Rattle.index_law.specs.Anchors.{anchors_of, anchors_in, gone_nodes, members_most, CutsMember}
 
 -- The call finds no room: it is a put that is full in this shape.
-abbrev pub FindsNoRoomIn : Op → World → Type 0
+abbrev pub FindsNoRoomIn : NameOp → World → Type 0
 FindsNoRoomIn (Put name value) w = IsFullPut w.layout.slots (members_most w) (map_now (facts w)) (anchors_in w) name
 FindsNoRoomIn (Get name) w = ⊥
 FindsNoRoomIn (Del name) w = ⊥
@@ -64,7 +64,7 @@ NoFreeWeighs = (w : World) → Lawful w → ((k : ℕ) → k < w.layout.nodes �
 
 -- But no call finds none where a node is FREE.
 abbrev pub FreeIsRoom : Type 0
-FreeIsRoom = (w : World) (op : Op) (k : ℕ) → Lawful w → k < w.layout.nodes → (facts w).status k ≡ free_status →
+FreeIsRoom = (w : World) (op : NameOp) (k : ℕ) → Lawful w → k < w.layout.nodes → (facts w).status k ≡ free_status →
     FindsNoRoomIn op w → ⊥
 
 -- A step leaves how many nodes are GONE, or it makes the right node of a merge GONE, and that is one more.
@@ -84,7 +84,7 @@ pub data Ending : Type 0 where
   WasRefused : Ending
 
 -- The anchors that it leaves.
-abbrev pub anchors_left : World → Op → Ending → Anchors
+abbrev pub anchors_left : World → NameOp → Ending → Anchors
 anchors_left w (Put name value) TookEffect = put_anchors w.layout.slots (map_now (facts w)) (anchors_in w) name
 anchors_left w (Get name) TookEffect = anchors_in w
 anchors_left w (Del name) TookEffect = del_anchors w.layout.slots (map_now (facts w)) (anchors_in w) name
@@ -92,7 +92,7 @@ anchors_left w op HadNoRoom = anchors_in w
 anchors_left w op WasRefused = anchors_in w
 
 -- How many members there can be after it.
-abbrev pub most_left : World → Op → Ending → ℕ
+abbrev pub most_left : World → NameOp → Ending → ℕ
 most_left w (Put name value) ending = members_most w
 most_left w (Get name) ending = members_most w
 most_left w (Del name) TookEffect =
@@ -103,7 +103,7 @@ most_left w (Del name) WasRefused = members_most w
 -- What is to be said of a whole call beside its answer and its history: the anchors are what it leaves; it had no room
 -- exactly where it finds none, if it wasn't refused; and each merge takes a node away for good, until there is an
 -- updater.
-pub record ShapesAlone (old : World) (op : Op) (ending : Ending) (new : World) : Type 0 where
+pub record ShapesAlone (old : World) (op : NameOp) (ending : Ending) (new : World) : Type 0 where
   pub anchors : anchors_in new ≡ anchors_left old op ending
   pub no_room : ending ≡ HadNoRoom → FindsNoRoomIn op old
   pub room : ending ≡ TookEffect → FindsNoRoomIn op old → ⊥

@@ -110,8 +110,8 @@ pub fn crash_law()
     ensures { CrashLeavesEnd }
 {}
 
-/// Whenever a crash comes, it leaves a sound image, which keeps the map after those of the changes cut off that are
-/// found in it, and weighs no more than the sum.
+/// Whenever a crash comes while the log lines are in order, it leaves a sound image, which keeps the map after those of
+/// the changes cut off that are found in it, and weighs no more than the sum.
 pub fn image_law()
     ensures { CrashLeavesSound }
 {}
