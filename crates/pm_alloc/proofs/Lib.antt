@@ -1,1 +1,2 @@
 pub mod ClaimLaw
+pub mod Alone

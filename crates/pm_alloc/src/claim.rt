@@ -1,9 +1,7 @@
+use crate::gone::FREE;
 use pm_words::offsets::{node, volatile};
 use pm_words::{Action, Again, Layout, Machine, Turn};
 use version_lock::{is_free, locked_of};
-
-/// The status of a node that is not in use.
-const FREE: u64 = 0;
 
 /// How a claim ended.
 #[derive(Clone, Copy, PartialEq, Eq, Debug)]

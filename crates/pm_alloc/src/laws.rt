@@ -1,4 +1,4 @@
-//! The laws of claims.
+//! The laws of claims, and of merged nodes.
 
 ghost use Rattle.pm_alloc.specs.Laws.{ClaimsAreSteps};
 
@@ -13,4 +13,13 @@ ghost use Rattle.pm_alloc.specs.Events.{ClaimsBegin, ClaimsHeed};
 pub fn claims_heed()
     ensures begins { ClaimsBegin }
     ensures heeds { ClaimsHeed }
+{}
+
+ghost use Rattle.pm_alloc.specs.Gone.{RetiresAlone, ReleasesAlone};
+
+/// With no other party about, a node that is retired is GONE, one that is released is FREE and has no stamp, and no
+/// other word is changed.
+pub fn ends_alone()
+    ensures retires { RetiresAlone }
+    ensures releases { ReleasesAlone }
 {}

@@ -1,10 +1,12 @@
-//! Nodes that are not in use: the claim of a free one, as a machine.
+//! Nodes that are not in use: the claim of a free one, the end of a merged one, and its way back, as machines.
 #![tactic(auto)]
 
 mod claim;
+mod gone;
 pub mod laws;
 
 pub use claim::{Claim, ClaimAt, Claimed};
+pub use gone::{Release, ReleaseAt, Retire};
 
 #[cfg(test)]
 mod tests;

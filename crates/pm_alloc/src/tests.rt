@@ -109,3 +109,26 @@ fn claims_the_lowest_free_node(rt: HostRuntime) -> Result<(), Fail> {
     assert_eq!(rt; run(&rt, &mut words, claim, None), Claimed::NoFree);
     Ok(())
 }
+
+/// The stores of a node's end, and of its way back.
+#[test]
+fn ends_a_node_and_frees_it(rt: HostRuntime) -> Result<(), Fail> {
+    let layout = Layout::new(4, 4, 1)?;
+    let status = layout.node_volatile(2, volatile::STATUS);
+    let stamp = layout.node_volatile(2, volatile::STAMP);
+    let retire = Retire::new(layout, 2);
+    assert_eq!(rt; retire.action(), Action::Store(status, 2));
+    assert!(rt;
+        matches!(retire.resume(0), Turn::Done(())),
+        "a retired node"
+    );
+    let release = Release::new(layout, 2);
+    assert_eq!(rt; release.action(), Action::Store(stamp, 0));
+    let Turn::Go(release) = release.resume(0) else {
+        assert!(rt; false, "a node without a stamp");
+        return Ok(());
+    };
+    assert_eq!(rt; release.action(), Action::Store(status, 0));
+    assert!(rt; matches!(release.resume(0), Turn::Done(())), "a free node");
+    Ok(())
+}
