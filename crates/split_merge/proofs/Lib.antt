@@ -10,3 +10,15 @@ pub mod SplitStaying
 pub mod SplitLaw
 pub mod Made
 pub mod Heeding
+pub mod PairLemmas
+pub mod LeftLemmas
+pub mod JoinMeasures
+pub mod UnionMade
+pub mod Gathering
+pub mod UnionLaw
+pub mod CopyLemmas
+pub mod JoinLaw
+pub mod JoinStaying
+pub mod MergeStaying
+pub mod MergeLaw
+pub mod MergeHeeding

@@ -76,7 +76,7 @@ deals_on left fresh left' fresh' phase phase' d never known owes =
     keeps (no_switch left fresh left' fresh' phase phase' never) (no_join left fresh phase (Splits left' fresh' phase')) (λ q. absurd (no_retire left fresh phase (Splits left' fresh' phase') q)) known owes
 
 -- with the word in hand durable one word fewer isn't
-shrinks : (most from to : ℕ) → to ≡ from + 1 → Cleans ((from, most - from) ∷ []) from ((to, most - to) ∷ [])
+pub shrinks : (most from to : ℕ) → to ≡ from + 1 → Cleans ((from, most - from) ∷ []) from ((to, most - to) ∷ [])
 shrinks most from to is offset (inr none) = absurd none
 shrinks most from to is offset (inl within) =
     let low : from ≤ offset = within.0 in
@@ -86,7 +86,7 @@ shrinks most from to is offset (inl within) =
       | inr other ↦ inr (inl (omega arith, omega arith))
     ]
 
-vanishes : (most from : ℕ) → most ≤ from + 1 → Cleans ((from, most - from) ∷ []) from []
+pub vanishes : (most from : ℕ) → most ≤ from + 1 → Cleans ((from, most - from) ∷ []) from []
 vanishes most from last offset (inr none) = absurd none
 vanishes most from last offset (inl within) =
     let low : from ≤ offset = within.0 in
@@ -94,25 +94,25 @@ vanishes most from last offset (inl within) =
     inl (omega arith)
 
 -- a line that is being opened, or made READY, is of its caller
-open_caller : (line : ℕ) (entry : Entry) (at : OpenAt) → (open_at_held line entry at).caller ≡ caller_of line
+pub open_caller : (line : ℕ) (entry : Entry) (at : OpenAt) → (open_at_held line entry at).caller ≡ caller_of line
 open_caller line entry (open_at.Field zero) = refl
 open_caller line entry (open_at.Field (suc n)) = refl
 open_caller line entry (open_at.FenceFields fence) = refl
 open_caller line entry open_at.State = refl
 open_caller line entry (open_at.FenceState fence) = refl
 
-open_number : (line : ℕ) (entry : Entry) (at : OpenAt) → (open_at_held line entry at).number ≡ index_of line
+pub open_number : (line : ℕ) (entry : Entry) (at : OpenAt) → (open_at_held line entry at).number ≡ index_of line
 open_number line entry (open_at.Field zero) = refl
 open_number line entry (open_at.Field (suc n)) = refl
 open_number line entry (open_at.FenceFields fence) = refl
 open_number line entry open_at.State = refl
 open_number line entry (open_at.FenceState fence) = refl
 
-ready_number : (line : ℕ) (entry : Entry) (at : ReadyAt) → (ready_at_held line entry at).number ≡ index_of line
+pub ready_number : (line : ℕ) (entry : Entry) (at : ReadyAt) → (ready_at_held line entry at).number ≡ index_of line
 ready_number line entry ready_at.State = refl
 ready_number line entry (ready_at.Fence fence) = refl
 
-ready_caller : (line : ℕ) (entry : Entry) (at : ReadyAt) → (ready_at_held line entry at).caller ≡ caller_of line
+pub ready_caller : (line : ℕ) (entry : Entry) (at : ReadyAt) → (ready_at_held line entry at).caller ≡ caller_of line
 ready_caller line entry ready_at.State = refl
 ready_caller line entry (ready_at.Fence fence) = refl
 

@@ -56,12 +56,12 @@ word_slot plan slot k offset small is =
     ∙ (λ i. slice_index plan.full (slot_offset (source_in plan (place i)) (word i)))
 
 -- bytes
-byte_at : (bytes : List ℕ) → AllByRecursion (λ b. b < 256) bytes → (k : ℕ) → slice_index bytes k < 256
+pub byte_at : (bytes : List ℕ) → AllByRecursion (λ b. b < 256) bytes → (k : ℕ) → slice_index bytes k < 256
 byte_at [] all k = omega arith
 byte_at (b ∷ bytes) all zero = all.0
 byte_at (b ∷ bytes) all (suc k) = byte_at bytes all.1 k
 
-print_byte : (word k : ℕ) → slice_index (prints_of word) k < 256
+pub print_byte : (word k : ℕ) → slice_index (prints_of word) k < 256
 print_byte word k =
     byte_at (prints_of word) (omega arith, (omega arith, (omega arith, (omega arith, (omega arith, (omega arith, (omega arith, (omega arith, tt)))))))) k
 
@@ -83,11 +83,11 @@ eight_small plan first = (
   (print_small plan (first + 1), (print_small plan (first + 2), (print_small plan (first + 3), (print_small plan (first + 4), (print_small plan (first + 5), (print_small plan (first + 6), (print_small plan (first + 7), tt))))))),
 )
 
-prints_fit : (bytes : List ℕ) → ((i : ℕ) → get_or bytes i 0 < 256) → from_le_bytes w64 bytes < 2 ^ 64
+pub prints_fit : (bytes : List ℕ) → ((i : ℕ) → get_or bytes i 0 < 256) → from_le_bytes w64 bytes < 2 ^ 64
 prints_fit bytes below = omega (arith, below 0, below 1, below 2, below 3, below 4, below 5, below 6, below 7)
 
 -- the fingerprint of a slot, in the word that has it
-eighth : (g : ℕ → ℕ) (first k : ℕ) → k < 8 → slice_index (g first ∷ g (first + 1) ∷ g (first + 2) ∷ g (first + 3) ∷ g (first + 4) ∷ g (first + 5) ∷ g (first + 6) ∷ g (first + 7) ∷ []) k ≡ g (first + k)
+pub eighth : (g : ℕ → ℕ) (first k : ℕ) → k < 8 → slice_index (g first ∷ g (first + 1) ∷ g (first + 2) ∷ g (first + 3) ∷ g (first + 4) ∷ g (first + 5) ∷ g (first + 6) ∷ g (first + 7) ∷ []) k ≡ g (first + k)
 eighth g first zero small = ap g (omega arith)
 eighth g first (suc zero) small = refl
 eighth g first (suc (suc zero)) small = refl

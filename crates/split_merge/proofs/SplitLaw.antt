@@ -214,7 +214,7 @@ module _ (split : Split) (sound : IsSplit split) (h : Held) (may : MayBegin spli
           on_nodes (inl refl) (looks (looked (claim_stage n w (led next h) claim') step.0)) (deals_far (claim_stage n w (led next h) claim) (claim_stage n w (led next h) claim') far)
       of (Done (was.Node m word)) step =
           subst (λ v. Steps (footing (at.Claim next line claim)) (claim_asks claim) x (record {
-            stage = Splits (record { name = h.name; old = h.old; node = n; lock = w; seen = (next_offset, v) ∷ h.known.seen; dirty = []; hand = None }) (fresh_grip m word) (Filling false);
+            stage = Splits (record { name = h.name; old = h.old; node = n; lock = w; seen = (next_offset, v) ∷ h.known.seen; dirty = []; hand = None; copied = [] }) (fresh_grip m word) (Filling false);
             line = Some (empty_line line);
             debt = no_debt;
           }) None) (sym (first_next next))
@@ -269,6 +269,7 @@ module _ (split : Split) (sound : IsSplit split) (h : Held) (may : MayBegin spli
               seen = read_seen (slice_set full (8 + count) x) (suc count) h;
               dirty = [];
               hand = Some (8 + count, v);
+              copied = [];
             }) (fresh_grip share.fresh share.locked) (Filling false);
             line = Some (empty_line share.line);
             debt = no_debt;
@@ -283,6 +284,7 @@ module _ (split : Split) (sound : IsSplit split) (h : Held) (may : MayBegin spli
             seen = read_seen (slice_set full (8 + count) x) (suc count) h;
             dirty = [];
             hand = Some (8 + count, x);
+            copied = [];
           }) (fresh_grip share.fresh share.locked) (Filling false))
           (splits_far (read_grip split h full count) (fresh_grip share.fresh share.locked))))
 

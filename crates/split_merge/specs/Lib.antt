@@ -1,3 +1,4 @@
+pub mod Advances
 pub mod Plans
 pub mod Moves
 pub mod MoveStages
@@ -7,3 +8,11 @@ pub mod Laws
 pub mod SplitLaws
 pub mod OfSplits
 pub mod SplitEvents
+pub mod Pairs
+pub mod Unions
+pub mod Joins
+pub mod Merges
+pub mod JoinStages
+pub mod MergeLaws
+pub mod MergeStages
+pub mod MergeEvents

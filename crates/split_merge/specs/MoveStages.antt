@@ -53,6 +53,7 @@ fresh_of plan seen dirty hand = record {
       seen;
   dirty = dirty;
   hand = hand;
+  copied = [];
 }
 
 abbrev pub left_of : Plan → Known → List (ℕ × ℕ) → List (ℕ × ℕ) → Option (ℕ × ℕ) → Grip
@@ -65,6 +66,7 @@ left_of plan known seen dirty hand =
       seen = seen;
       dirty = dirty;
       hand = hand;
+      copied = [];
     }
 
 abbrev pub full_left : Plan → Known → Grip

@@ -90,6 +90,11 @@ move_asks move = move_at_asks move.plan move.at
 abbrev pub moves_on : Move → MoveAt → Turn Move (Unit {0})
 moves_on move at = Go (record move { at = at })
 
+-- it goes on there, or is done
+abbrev pub moves_to : Move → Option MoveAt → Turn Move (Unit {0})
+moves_to move (Some at) = moves_on move at
+moves_to move None = Done tt
+
 abbrev pub opened : Move → Turn Open (Unit {0}) → Turn Move (Unit {0})
 opened move (Go machine) = moves_on move (at.Open machine)
 opened move (Done answer) = moves_on move at.Prev

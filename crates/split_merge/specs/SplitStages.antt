@@ -42,6 +42,7 @@ read_grip split h full count = record {
   dirty = [];
   hand =
       last_read full count;
+  copied = [];
 }
 
 -- all that it knows of the full node by which a plan is made, before the switch and after it

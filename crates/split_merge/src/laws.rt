@@ -42,3 +42,31 @@ pub fn splits_heed()
     ensures heeds { SplitsHeed }
     ensures full { FullsHeed }
 {}
+
+ghost use Rattle.split_merge.specs.MergeLaws.{JoinsAreSteps, MergesAreSteps, MergesStay};
+
+/// Each turn of a merge of two nodes that its party holds, whatever word it is told, is a step on nodes, on the party's
+/// line, or the store of a prev. Names are copied where the left node has no slot live, the left node means both ranges
+/// before it leads on, the line is open by then, and at the end both nodes are given back.
+pub fn joins_are_steps()
+    ensures { JoinsAreSteps }
+{}
+
+/// Each turn of a merge, from the lock of the left node on, whatever it is told, is such a step: so too where the
+/// neighbour is locked or worn, moved meanwhile, or has too many names.
+pub fn merges_are_steps()
+    ensures { MergesAreSteps }
+{}
+
+/// A merge stays one of the same node, with the same line, and its fields keep the same.
+pub fn merges_stay()
+    ensures { MergesStay }
+{}
+
+ghost use Rattle.split_merge.specs.MergeEvents.{MergesHeed};
+
+/// A merge answers by what it was told that it merged exactly where it got the neighbour's lock and both nodes together
+/// had at most half as many names as a node has slots.
+pub fn merges_heed()
+    ensures { MergesHeed }
+{}

@@ -108,56 +108,63 @@ impl Machine for Move {
     }
 
     fn resume(self, got: u64) -> Turn<Move, ()> {
-        match self.at {
-            MoveAt::Slot { word } => self.goes_to(self.plan.after_slot(word)),
-            MoveAt::Print { word } => self.goes_to(self.plan.after_print(word)),
-            MoveAt::Bitmap => self.goes_to(MoveAt::Anchor { word: 0 }),
-            MoveAt::Anchor { word } => self.goes_to(if word + 1 < KEY as u64 {
-                MoveAt::Anchor { word: word + 1 }
-            } else {
-                MoveAt::Next
-            }),
-            MoveAt::Next => self.goes_to(MoveAt::FenceFresh {
-                first: 0,
-                fence: Fence::new(),
-            }),
-            MoveAt::FenceFresh { first, fence } => {
-                self.goes_to(self.plan.after_fence(first, fence.next(got)))
-            }
-            MoveAt::Open { open } => match open.resume(got) {
-                Turn::Go(open) => self.goes_to(MoveAt::Open { open }),
-                Turn::Done(()) => self.goes_to(MoveAt::Prev),
-            },
-            MoveAt::Prev => self.goes_to(MoveAt::Light),
-            MoveAt::Light => self.goes_to(MoveAt::Switch),
-            MoveAt::Switch => self.goes_to(MoveAt::FenceSwitch {
-                fence: Fence::new(),
-            }),
-            MoveAt::FenceSwitch { fence } => self.goes_to(self.plan.after_switch(fence.next(got))),
-            MoveAt::NextPrev => self.goes_to(MoveAt::Trim),
-            MoveAt::Trim => self.goes_to(MoveAt::FenceTrim {
-                fence: Fence::new(),
-            }),
-            MoveAt::FenceTrim { fence } => self.goes_to(self.plan.after_trim(fence.next(got))),
-            MoveAt::Ready { ready } => match ready.resume(got) {
-                Turn::Go(ready) => self.goes_to(MoveAt::Ready { ready }),
-                Turn::Done(()) => self.goes_to(MoveAt::Clear),
-            },
-            MoveAt::Clear => self.goes_to(MoveAt::UnlockFresh),
-            MoveAt::UnlockFresh => self.goes_to(MoveAt::Unlock),
-            MoveAt::Unlock => Turn::Done(()),
+        match self.next(got) {
+            Some(at) => Turn::Go(Move { at, ..self }),
+            None => Turn::Done(()),
         }
     }
 }
 
 impl Move {
-    ghost use Rattle.split_merge.specs.Moves.{moves_on};
+    ghost use Rattle.std.specs.Prelude.{◌≡◌};
+    ghost use Rattle.pm_words.specs.Turns.{GoesBelow};
+    ghost use Rattle.split_merge.specs.Moves.{move_left, move_takes, move_turned, moves_to};
 
-    /// It goes on there.
-    fn goes_to(self, at: MoveAt) -> Turn<Move, ()>
-        ensures { result ≡ moves_on self at }
+    /// What it does next, once it is told the number that its action gave; `None` where it is done.
+    pub(crate) fn next(&self, got: u64) -> Option<MoveAt>
+        requires { move_takes self.now got }
+        ensures turned { move_turned self.now got ≡ moves_to self.now result }
+        ensures fewer { GoesBelow move_left (move_left self.now) (move_turned self.now got) }
     {
-        Turn::Go(Move { at, ..self })
+        match self.at {
+            MoveAt::Slot { word } => Some(self.plan.after_slot(word)),
+            MoveAt::Print { word } => Some(self.plan.after_print(word)),
+            MoveAt::Bitmap => Some(MoveAt::Anchor { word: 0 }),
+            MoveAt::Anchor { word } => Some(if word + 1 < KEY as u64 {
+                MoveAt::Anchor { word: word + 1 }
+            } else {
+                MoveAt::Next
+            }),
+            MoveAt::Next => Some(MoveAt::FenceFresh {
+                first: 0,
+                fence: Fence::new(),
+            }),
+            MoveAt::FenceFresh { first, fence } => {
+                Some(self.plan.after_fence(first, fence.next(got)))
+            }
+            MoveAt::Open { open } => match open.resume(got) {
+                Turn::Go(open) => Some(MoveAt::Open { open }),
+                Turn::Done(()) => Some(MoveAt::Prev),
+            },
+            MoveAt::Prev => Some(MoveAt::Light),
+            MoveAt::Light => Some(MoveAt::Switch),
+            MoveAt::Switch => Some(MoveAt::FenceSwitch {
+                fence: Fence::new(),
+            }),
+            MoveAt::FenceSwitch { fence } => Some(self.plan.after_switch(fence.next(got))),
+            MoveAt::NextPrev => Some(MoveAt::Trim),
+            MoveAt::Trim => Some(MoveAt::FenceTrim {
+                fence: Fence::new(),
+            }),
+            MoveAt::FenceTrim { fence } => Some(self.plan.after_trim(fence.next(got))),
+            MoveAt::Ready { ready } => match ready.resume(got) {
+                Turn::Go(ready) => Some(MoveAt::Ready { ready }),
+                Turn::Done(()) => Some(MoveAt::Clear),
+            },
+            MoveAt::Clear => Some(MoveAt::UnlockFresh),
+            MoveAt::UnlockFresh => Some(MoveAt::Unlock),
+            MoveAt::Unlock => None,
+        }
     }
 }
 

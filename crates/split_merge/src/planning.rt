@@ -1,6 +1,6 @@
 //! What a split is to do, made of the words of the full node.
 
-ghost use Rattle.std.specs.Prelude.{◌≡◌, ◌*◌, ◌<◌, ◌≤◌};
+ghost use Rattle.std.specs.Prelude.{◌≡◌, ◌*◌, ◌<◌, ◌≤◌, [], ◌∷◌};
 ghost use Rattle.data_node.specs.Orders.{listed};
 ghost use Rattle.data_node.specs.Spots.{name_words};
 ghost use Rattle.split_merge.specs.Plans.{spot_of, entries_of, order_of, moved_of, anchor_of};
@@ -171,15 +171,22 @@ pub(crate) fn upper_in(order: &Order, half: usize) -> [u8; MAX_MOVED]
     moved
 }
 
+/// The words of a name; those of `!` where they are no name's.
+pub(crate) fn name_or_some(first: u64, second: u64, third: u64) -> [u64; KEY]
+    ensures { result ≡ anchor_of (first ∷ second ∷ third ∷ []) }
+{
+    let words = [first, second, third];
+    match Name::of_words(words) {
+        Some(_) => words,
+        None => SOME_NAME,
+    }
+}
+
 /// The words of the name in a slot; those of `!` where they are no name's.
 pub(crate) fn anchor_in(full: &[u64; NODE_WORDS], slot: u64) -> [u64; KEY]
     requires { slot < 64 }
     ensures { result ≡ anchor_of (name_words (spot_of full.now) slot) }
 {
     let first = (node::SLOTS + 4 * slot) as usize;
-    let words = [full[first], full[first + 1], full[first + 2]];
-    match Name::of_words(words) {
-        Some(_) => words,
-        None => SOME_NAME,
-    }
+    name_or_some(full[first], full[first + 1], full[first + 2])
 }

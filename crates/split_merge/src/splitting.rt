@@ -1,6 +1,8 @@
 //! The split of a full node, from the lock of that node to the end.
 
 ghost use Rattle.std.specs.Prelude.{◌≡◌};
+ghost use Rattle.pm_words.specs.Layouts.{IsLayout};
+ghost use Rattle.split_merge.specs.Splits.{plan_of, split_from};
 
 use crate::moving::{Move, MoveAt};
 use crate::planning::{NODE_WORDS, Plan, anchor_in, order_in, upper_in};
@@ -86,11 +88,11 @@ impl Machine for Split {
     ghost left = { split_left };
 
     fn action(&self) -> Action {
-        match self.at {
+        match &self.at {
             SplitAt::Next => Action::Load(self.address(node::NEXT)),
             SplitAt::Take { take, .. } => take.action(),
             SplitAt::Claim { claim, .. } => claim.action(),
-            SplitAt::Read { count, .. } => Action::Load(self.address(node::PRINTS + count)),
+            SplitAt::Read { count, .. } => Action::Load(self.address(node::PRINTS + *count)),
             SplitAt::Move { moving } => moving.action(),
             SplitAt::Refuse { .. } => {
                 Action::Store(self.address(node::VERSION), freed_of(self.word))
@@ -99,30 +101,25 @@ impl Machine for Split {
     }
 
     fn resume(self, got: u64) -> Turn<Split, SplitDone> {
-        match self.at {
-            SplitAt::Next => self.goes_to(SplitAt::Take {
-                next: got,
-                take: Take::new(self.view.layout, self.view.caller),
-            }),
-            SplitAt::Take { next, take } => self.taken(next, take.resume(got)),
-            SplitAt::Claim { next, line, claim } => self.claimed(next, line, claim.resume(got)),
-            SplitAt::Read { share, full, count } => self.has_read(share, full, count, got),
-            SplitAt::Move { moving } => self.moved(moving.plan.fresh, moving.resume(got)),
-            SplitAt::Refuse { why, .. } => Turn::Done(SplitDone::Again(why)),
+        let mut next = self;
+        match next.advance(got) {
+            None => Turn::Go(next),
+            Some(done) => Turn::Done(done),
         }
     }
 }
 
 impl Split {
-    ghost use Rattle.std.specs.Prelude.{◌≡◌, ◌+◌, ◌*◌, ◌<◌, length};
-    ghost use Rattle.pm_words.specs.declared.machine.Turn.{Turn};
+    ghost use Rattle.std.specs.Prelude.{◌≡◌, ◌<◌, ℕ, List};
+    ghost use Rattle.pm_words.specs.Turns.{GoesBelow};
     ghost use Rattle.pm_words.specs.Locations.{node_words};
     ghost use Rattle.pm_words.specs.Layouts.{IsLayout};
     ghost use Rattle.call_stages.specs.Kinds.{word_address};
     ghost use Rattle.call_stages.specs.Views.{IsView};
     ghost use Rattle.version_lock.specs.Versions.{IsLockWord};
-    ghost use Rattle.split_merge.specs.Splits.{IsSplit, split_from, splits_on, taken, claimed, full_from, has_read};
-    ghost use Rattle.split_merge.specs.Splits.{plan_of, moved};
+    ghost use Rattle.split_merge.specs.Advances.{AdvancesTo};
+    ghost use Rattle.split_merge.specs.Splits.{IsSplit, split_from, split_left, split_takes, split_turned};
+    ghost use Rattle.split_merge.specs.Splits.{taken, claimed, has_read};
 
     /// A split of this node, which is full, and which its party has locked with this word.
     pub fn new(view: View, node: u64, word: u64) -> Split
@@ -151,123 +148,138 @@ impl Split {
         layout.cached(layout.node_word(self.node, offset))
     }
 
-    /// It goes on there.
-    fn goes_to(self, at: SplitAt) -> Turn<Split, SplitDone>
-        ensures { result ≡ splits_on self at }
+    /// Tells it in place the number that its action gave. It goes on, or is done where there is an answer.
+    pub fn advance(&mut self, got: u64) -> Option<SplitDone>
+        requires { split_takes self.old got }
+        ensures turned { AdvancesTo (split_turned self.old got) self.new result }
+        ensures fewer { GoesBelow split_left (split_left self.old) (split_turned self.old got) }
     {
-        Turn::Go(Split { at, ..self })
+        match &mut self.at {
+            SplitAt::Next => {
+                let take = Take::new(self.view.layout, self.view.caller);
+                self.at = SplitAt::Take { next: got, take };
+                None
+            }
+            SplitAt::Take { next, take } => {
+                let (next, turn) = (*next, take.resume(got));
+                self.taken(next, turn)
+            }
+            SplitAt::Claim { next, line, claim } => {
+                let (next, line, turn) = (*next, *line, claim.resume(got));
+                self.claimed(next, line, turn)
+            }
+            SplitAt::Read { .. } => self.has_read(got),
+            SplitAt::Move { moving } => match moving.next(got) {
+                Some(at) => {
+                    moving.at = at;
+                    None
+                }
+                None => Some(SplitDone::Done {
+                    fresh: moving.plan.fresh,
+                }),
+            },
+            SplitAt::Refuse { why, .. } => Some(SplitDone::Again(*why)),
+        }
+    }
+
+    /// Where it reads, it has this word more of the full node, and after the last it knows what to do.
+    fn has_read(&mut self, got: u64) -> Option<SplitDone>
+        requires { split_takes self.old got }
+        ensures { (share : Share) (full : List ℕ) (count : ℕ) → self.old.at ≡ SplitAt.Read share full count
+            → AdvancesTo (has_read self.old share full count got) self.new result }
+    {
+        let SplitAt::Read { share, count, .. } = self.at else {
+            return None;
+        };
+        let SplitAt::Read { full, .. } = &mut self.at else {
+            return None;
+        };
+        full[(node::PRINTS + count) as usize] = got;
+        if count + 1 < LINE + 4 * self.view.layout.slots() {
+            if let SplitAt::Read { count, .. } = &mut self.at {
+                *count += 1;
+            }
+            return None;
+        }
+        let plan = plan(&self.view, self.node, self.word, share, full);
+        self.at = SplitAt::Move {
+            moving: Move {
+                plan,
+                at: MoveAt::Slot { word: 0 },
+            },
+        };
+        None
     }
 
     /// After a turn of the look for a line.
-    fn taken(self, next: u64, turn: Turn<Take, Taken>) -> Turn<Split, SplitDone>
-        requires { IsView self.view }
-        ensures { result ≡ taken self next turn }
+    fn taken(&mut self, next: u64, turn: Turn<Take, Taken>) -> Option<SplitDone>
+        requires { IsView self.old.view }
+        ensures { AdvancesTo (taken self.old next turn) self.new result }
     {
-        match turn {
-            Turn::Go(take) => self.goes_to(SplitAt::Take { next, take }),
-            Turn::Done(Taken::Line { line }) => self.goes_to(SplitAt::Claim {
+        self.at = match turn {
+            Turn::Go(take) => SplitAt::Take { next, take },
+            Turn::Done(Taken::Line { line }) => SplitAt::Claim {
                 next,
                 line,
                 claim: Claim::new(self.view.layout, self.view.generation),
-            }),
-            Turn::Done(Taken::Full) => self.goes_to(SplitAt::Refuse {
+            },
+            Turn::Done(Taken::Full) => SplitAt::Refuse {
                 next,
                 why: Again::LogFull,
-            }),
-        }
+            },
+        };
+        None
     }
 
     /// After a turn of the claim.
-    fn claimed(self, next: u64, line: u64, turn: Turn<Claim, Claimed>) -> Turn<Split, SplitDone>
-        ensures { result ≡ claimed self next line turn }
+    fn claimed(&mut self, next: u64, line: u64, turn: Turn<Claim, Claimed>) -> Option<SplitDone>
+        ensures { AdvancesTo (claimed self.old next line turn) self.new result }
     {
-        match turn {
-            Turn::Go(claim) => self.goes_to(SplitAt::Claim { next, line, claim }),
-            Turn::Done(Claimed::Node { node, word }) => self.begins_to_read(
-                next,
-                Share {
-                    line,
-                    fresh: node,
-                    locked: word,
-                },
-            ),
-            Turn::Done(Claimed::NoFree) => self.goes_to(SplitAt::Refuse {
+        self.at = match turn {
+            Turn::Go(claim) => SplitAt::Claim { next, line, claim },
+            Turn::Done(Claimed::Node { node, word }) => {
+                // Of the full node's words it has only where the node leads.
+                let mut full = [0; NODE_WORDS];
+                full[node::NEXT as usize] = next;
+                SplitAt::Read {
+                    share: Share {
+                        line,
+                        fresh: node,
+                        locked: word,
+                    },
+                    full,
+                    count: 0,
+                }
+            }
+            Turn::Done(Claimed::NoFree) => SplitAt::Refuse {
                 next,
                 why: Again::NoFree,
-            }),
-            Turn::Done(Claimed::Again(why)) => self.goes_to(SplitAt::Refuse { next, why }),
-        }
-    }
-
-    /// It has the fresh node, and of the full node's words only where it leads.
-    fn begins_to_read(self, next: u64, share: Share) -> Turn<Split, SplitDone>
-        ensures { result ≡ splits_on self (SplitAt.Read share (full_from next) 0) }
-    {
-        let mut full = [0; NODE_WORDS];
-        full[node::NEXT as usize] = next;
-        self.goes_to(SplitAt::Read {
-            share,
-            full,
-            count: 0,
-        })
-    }
-
-    /// It has one word more of the full node, and after the last it knows what to do.
-    fn has_read(
-        self,
-        share: Share,
-        full: [u64; NODE_WORDS],
-        count: u64,
-        got: u64,
-    ) -> Turn<Split, SplitDone>
-        requires layout { IsLayout self.view.layout }
-        requires count { count < 8 + 4 * self.view.layout.slots }
-        ensures { result ≡ has_read self share full count got }
-    {
-        let mut full = full;
-        full[(node::PRINTS + count) as usize] = got;
-        let count = count + 1;
-        if count < LINE + 4 * self.view.layout.slots() {
-            return self.goes_to(SplitAt::Read { share, full, count });
-        }
-        self.goes_to(SplitAt::Move {
-            moving: Move {
-                plan: self.plan(share, full),
-                at: MoveAt::Slot { word: 0 },
             },
-        })
+            Turn::Done(Claimed::Again(why)) => SplitAt::Refuse { next, why },
+        };
+        None
     }
+}
 
-    /// What it is to do, where these are the full node's words.
-    fn plan(&self, share: Share, full: [u64; NODE_WORDS]) -> Plan
-        requires { IsLayout self.now.view.layout }
-        ensures { result ≡ plan_of self.now share full }
-    {
-        let layout = self.view.layout;
-        let slots = layout.slots();
-        let order = order_in(&full, slots);
-        let halves = halves(&order, slots);
-        Plan {
-            layout,
-            node: self.node,
-            locked: self.word,
-            fresh: share.fresh,
-            fresh_locked: share.locked,
-            line: share.line,
-            full,
-            moved: upper_in(&order, (slots / 2) as usize),
-            anchor: anchor_in(&full, halves.first),
-            keep: halves.keep,
-        }
-    }
-
-    /// After a turn of the move into this node.
-    fn moved(self, fresh: u64, turn: Turn<Move, ()>) -> Turn<Split, SplitDone>
-        ensures { result ≡ moved self fresh turn }
-    {
-        match turn {
-            Turn::Go(moving) => self.goes_to(SplitAt::Move { moving }),
-            Turn::Done(()) => Turn::Done(SplitDone::Done { fresh }),
-        }
+/// What the split of this node is to do, locked with this word, where these are its words.
+fn plan(view: &View, node: u64, word: u64, share: Share, full: &[u64; NODE_WORDS]) -> Plan
+    requires { IsLayout view.now.layout }
+    ensures { result ≡ plan_of (split_from view.now node word) share full.now }
+{
+    let layout = view.layout;
+    let slots = layout.slots();
+    let order = order_in(full, slots);
+    let halves = halves(&order, slots);
+    Plan {
+        layout,
+        node,
+        locked: word,
+        fresh: share.fresh,
+        fresh_locked: share.locked,
+        line: share.line,
+        full: *full,
+        moved: upper_in(&order, (slots / 2) as usize),
+        anchor: anchor_in(full, halves.first),
+        keep: halves.keep,
     }
 }

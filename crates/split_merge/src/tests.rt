@@ -15,31 +15,31 @@ use version_lock::GENERATION_UNIT;
 const ROW: usize = 6000;
 
 /// The last generation there is: so any version word may be told.
-const RUN: u64 = (1 << 24) - 1;
+pub(crate) const RUN: u64 = (1 << 24) - 1;
 
 /// The word with which the full node is locked.
-const LOCKED: u64 = RUN * GENERATION_UNIT + 7;
+pub(crate) const LOCKED: u64 = RUN * GENERATION_UNIT + 7;
 
 /// The words of names of one letter.
-const A: u64 = 0x61 << 56;
+pub(crate) const A: u64 = 0x61 << 56;
 
-const B: u64 = 0x62 << 56;
+pub(crate) const B: u64 = 0x62 << 56;
 
-const C: u64 = 0x63 << 56;
+pub(crate) const C: u64 = 0x63 << 56;
 
-const D: u64 = 0x64 << 56;
+pub(crate) const D: u64 = 0x64 << 56;
 
 /// A row of words on which one party runs alone.
 #[derive(Drop)]
-struct Row {
-    layout: Layout,
-    words: Vec<u64>,
+pub(crate) struct Row {
+    pub(crate) layout: Layout,
+    pub(crate) words: Vec<u64>,
     ghost in_range: { IsLayout layout },
 }
 
 impl Row {
     /// Does an action; it tells what that gives.
-    fn act(&mut self, rt: &impl Abort, action: Action) -> u64
+    pub(crate) fn act(&mut self, rt: &impl Abort, action: Action) -> u64
         ensures { self.new.layout ≡ self.old.layout }
     {
         let image = self.layout.image_words();
@@ -70,7 +70,7 @@ impl Row {
     }
 
     /// The cached and the durable twin of a node's word.
-    fn twins(&self, rt: &impl Abort, node: u64, offset: u64) -> (u64, u64) {
+    pub(crate) fn twins(&self, rt: &impl Abort, node: u64, offset: u64) -> (u64, u64) {
         assert!(rt;
             node < self.layout.nodes() && offset < 16 + 4 * self.layout.slots(),
             "{offset}"
@@ -79,7 +79,7 @@ impl Row {
     }
 
     /// Those of a line's word.
-    fn line_twins(&self, rt: &impl Abort, line: u64, offset: u64) -> (u64, u64) {
+    pub(crate) fn line_twins(&self, rt: &impl Abort, line: u64, offset: u64) -> (u64, u64) {
         assert!(rt; line < 8 * self.layout.callers() && offset < 8, "{line}");
         self.both(rt, self.layout.line_word(line / 8, line % 8, offset))
     }
@@ -97,7 +97,7 @@ impl Row {
     }
 
     /// A volatile word of a node.
-    fn volatile(&self, rt: &impl Abort, node: u64, offset: u64) -> u64 {
+    pub(crate) fn volatile(&self, rt: &impl Abort, node: u64, offset: u64) -> u64 {
         assert!(rt; node < self.layout.nodes() && offset < 16, "{offset}");
         let address = self.layout.node_volatile(node, offset) as usize;
         assert!(rt; address < self.words.len(), "{address}");
@@ -108,14 +108,24 @@ impl Row {
     fn set(&mut self, rt: &impl Abort, offset: u64, word: u64)
         ensures { self.new.layout ≡ self.old.layout }
     {
-        assert!(rt; offset < 16 + 4 * self.layout.slots(), "{offset}");
-        let address = self.layout.cached(self.layout.node_word(0, offset));
+        self.set_word(rt, 0, offset, word)
+    }
+
+    /// Stores a word of a node into both rows.
+    pub(crate) fn set_word(&mut self, rt: &impl Abort, node: u64, offset: u64, word: u64)
+        ensures { self.new.layout ≡ self.old.layout }
+    {
+        assert!(rt;
+            node < self.layout.nodes() && offset < 16 + 4 * self.layout.slots(),
+            "{offset}"
+        );
+        let address = self.layout.cached(self.layout.node_word(node, offset));
         self.act(rt, Action::Store(address, word));
         self.act(rt, Action::Drain(address, word));
     }
 
     /// Stores the status of a node.
-    fn set_status(&mut self, rt: &impl Abort, node: u64, status: u64)
+    pub(crate) fn set_status(&mut self, rt: &impl Abort, node: u64, status: u64)
         ensures { self.new.layout ≡ self.old.layout }
     {
         assert!(rt; node < self.layout.nodes(), "{node}");
@@ -124,7 +134,7 @@ impl Row {
     }
 
     /// Stores the state of a line.
-    fn set_state(&mut self, rt: &impl Abort, line: u64, state: u64)
+    pub(crate) fn set_state(&mut self, rt: &impl Abort, line: u64, state: u64)
         ensures { self.new.layout ≡ self.old.layout }
     {
         assert!(rt; line < 8 * self.layout.callers(), "{line}");
@@ -149,7 +159,7 @@ impl Row {
 }
 
 /// In the last generation a split may be told any word, but for some of node 0.
-fn may_tell(rt: &impl Abort, layout: &Layout, action: Action, got: u64)
+pub(crate) fn may_tell(rt: &impl Abort, layout: &Layout, action: Action, got: u64)
     requires { IsLayout layout.now }
     ensures { Told layout.now RUN action got }
 {
