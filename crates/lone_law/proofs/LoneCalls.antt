@@ -19,12 +19,12 @@ use Rattle.cat_history.specs.Maps.{Map, at}
 use Rattle.cat_history.specs.declared.op.Change.TheVariants as change
 use Rattle.cat_history.specs.Writes.{after_all}
 use Rattle.std.specs.Cmp.Lexicographic.{nat_list_cmp_total}
-use Rattle.cat_history.proofs.PlainMapLemmas.{by_names}
+use Rattle.cat_history.proofs.NameLemmas.{by_names}
 use Rattle.cat_history.proofs.ChangeLemmas.{changed_found}
 use Rattle.cat_history.specs.Records.{change_of}
 use Rattle.cat_history.specs.declared.op.Change.{Change}
-use Rattle.cat_history.specs.declared.op.Op.{Op}
-use Rattle.cat_history.specs.declared.op.Op.TheVariants as op
+use Rattle.cat_history.specs.declared.op.NameOp.{NameOp}
+use Rattle.cat_history.specs.declared.op.NameOp.TheVariants as op
 use Rattle.data_node.specs.Lists.{key_of}
 use Rattle.call_stages.specs.declared.once.Once.{Once}
 use Rattle.call_stages.specs.declared.once.Once.TheVariants as once
@@ -108,7 +108,7 @@ use Rattle.lone_law.proofs.Rooms.{added_had_room, refused_was_full, split_was_fu
 use Rattle.lone_law.proofs.Went.{HasEnded, NeedsPlace, MayLackRoom, KnowsOwn, Went, machine_went}
 
 -- the name that it is about
-of_name : (asked : Op) (machine : Running) → IsOf asked machine → name_in (running_call machine) ≡ name_asked asked
+of_name : (asked : NameOp) (machine : Running) → IsOf asked machine → name_in (running_call machine) ≡ name_asked asked
 of_name (op.Get name) (Getting get) is = is
 of_name (op.Get name) (Putting put) is = absurd is
 of_name (op.Get name) (Deleting del) is = absurd is
@@ -282,7 +282,7 @@ one_for name (Meets n w h right) one = absurd one
 one_for name (Joins h left right pace) one = absurd one
 
 -- what a call splits it splits for its name
-machine_for : (asked : Op) (m : Running) → IsOf asked m → IsFor (name_asked asked) (stage_of m)
+machine_for : (asked : NameOp) (m : Running) → IsOf asked m → IsFor (name_asked asked) (stage_of m)
 machine_for asked (Getting (get.Looking lookup)) of = one_for _ _ (looks_one lookup.call lookup.at)
 machine_for asked (Getting (get.Unlocking call hold old)) of = tt
 machine_for asked (Putting (put.Looking lookup value)) of = one_for _ _ (looks_one lookup.call lookup.at)
@@ -402,7 +402,7 @@ split_mine l f caller index since h split (split_at.Read share full count) is kn
 split_mine l f caller index since h split (split_at.Move moving) is knows alone = absurd alone
 split_mine l f caller index since h split (split_at.Refuse next why) is knows alone = absurd alone
 
-module _ (w0 : World) (i : ℕ) (asked : Op) (limit : Option ℕ) (w : World) (p : Party) (machine : Running) (x : ℕ) (o : LoneCall w0 i asked limit w p machine) (rest : IsAtRest w0)
+module _ (w0 : World) (i : ℕ) (asked : NameOp) (limit : Option ℕ) (w : World) (p : Party) (machine : Running) (x : ℕ) (o : LoneCall w0 i asked limit w p machine) (rest : IsAtRest w0)
     (told : x ≡ got w.layout w.words (running_asks machine)) (room : length w.history < 2 ^ 63) where
   abbrev l : Layout
   l = w.layout
@@ -490,7 +490,7 @@ module _ (w0 : World) (i : ℕ) (asked : Op) (limit : Option ℕ) (w : World) (p
   w' = stepped w i p a Idle
 
   -- what it wrote
-  wrote : (d : Op) (m : Running) → IsOf d m → (place : Option ℕ) → NeedsPlace m place → (place ≡ None → w'.history ≡ w0.history)
+  wrote : (d : NameOp) (m : Running) → IsOf d m → (place : Option ℕ) → NeedsPlace m place → (place ≡ None → w'.history ≡ w0.history)
       → (place ≢ None → w'.history ≡ w0.history ++ written p.caller p.index (change_of d)) → w'.history ≡ w0.history ++ written p.caller p.index (change_of d)
   wrote (op.Get name) (Getting m) is None needs before given = before refl ∙ sym (append-nil w0.history)
   wrote (op.Get name) (Getting m) is (Some place) needs before given = given (λ e. cc)
@@ -503,7 +503,7 @@ module _ (w0 : World) (i : ℕ) (asked : Op) (limit : Option ℕ) (w : World) (p
   wrote (op.Del name) (Putting m) is place needs before given = absurd is
   wrote (op.Del name) (Deleting m) is place needs before given = given needs
 
-  full : (d : Op) (m : Running) → IsOf d m → MayLackRoom m → IsAtRest w' → IsAbout (name_asked d) p.stage → IsLegal l g (facts w') p.caller p.index p.since p.stage (Some (once.Again again.NoFree))
+  full : (d : NameOp) (m : Running) → IsOf d m → MayLackRoom m → IsAtRest w' → IsAbout (name_asked d) p.stage → IsLegal l g (facts w') p.caller p.index p.since p.stage (Some (once.Again again.NoFree))
       → w'.history ≡ w0.history → (facts w').list ≡ (facts w0).list → FindsFull w0 d
   full (op.Put name value) (Putting m) is may rest' about' legal history list =
       let was = was_full l g (facts w') p.caller p.index p.since name p.stage about' legal in
@@ -548,7 +548,7 @@ module _ (w0 : World) (i : ℕ) (asked : Op) (limit : Option ℕ) (w : World) (p
   has : HasFree w0.layout w0.generation w0.words → HasFree w0.layout w0.generation w0.words
   has is = is
 
-  was_split : (d : Op) (m : Running) → IsOf d m → MayLackRoom m → IsHalvedSince (name_asked d) w0 w' → FindsFull w0 d
+  was_split : (d : NameOp) (m : Running) → IsOf d m → MayLackRoom m → IsHalvedSince (name_asked d) w0 w' → FindsFull w0 d
   was_split (op.Put name value) (Putting m) is may cut = split_was_full w0 w' name rest o.trying.layout cut
   was_split (op.Get name) (Getting m) is may cut = may
   was_split (op.Del name) (Deleting m) is may cut = may
@@ -564,7 +564,7 @@ module _ (w0 : World) (i : ℕ) (asked : Op) (limit : Option ℕ) (w : World) (p
       stands.unworn (subst (λ (q : ℕ × ℕ). IsWorn ((facts w0).version q.0) q.1) (λ k. (sym (stands.node ∙ ap (λ (n : List ℕ). target_node w0 n) name_is) k, sym generation_is k)) worn)
 
   -- it had room
-  had_room : (d : Op) → IsName (name_asked d) → IsAtRest w' → w'.history ≡ w0.history ++ written p.caller p.index (change_of d) → (facts w').list ≡ (facts w0).list → FindsFull w0 d → ⊥
+  had_room : (d : NameOp) → IsName (name_asked d) → IsAtRest w' → w'.history ≡ w0.history ++ written p.caller p.index (change_of d) → (facts w').list ≡ (facts w0).list → FindsFull w0 d → ⊥
   had_room (op.Put name value) named rest' history list finds =
       let map_is : map_now (facts w') ≡ insert (map_now (facts w0)) name value =
       (λ k. after_all (o.trying.base k) (history k)) ∙ after_all-push w0.base w0.history (record { caller = p.caller; index = p.index; change = change.Put name value }) in

@@ -4,7 +4,7 @@ use Rattle.std.specs.Prelude.{Some}
 use Rattle.std.proofs.lemmas.Bool.{eq-eqb}
 use Rattle.cat_key.specs.Names.{IsName}
 use Rattle.cat_history.specs.Maps.{Map, at}
-use Rattle.cat_history.specs.declared.op.Op.TheVariants.{Put}
+use Rattle.cat_history.specs.declared.op.NameOp.TheVariants.{Put}
 use Rattle.shapes.specs.Anchors.{Anchors, names_at, put_anchors, splits}
 use Rattle.shapes.specs.Weights.{IsShape}
 use Rattle.data_node.specs.Spots.{Means}

@@ -10,8 +10,8 @@ use Rattle.pm_words.specs.Rows.{got}
 use Rattle.version_lock.specs.Versions.{IsWorn}
 use Rattle.cat_history.specs.Maps.{at}
 use Rattle.cat_history.specs.Records.{change_of}
-use Rattle.cat_history.specs.declared.op.Op.{Op}
-use Rattle.cat_history.specs.declared.op.Op.TheVariants as op
+use Rattle.cat_history.specs.declared.op.NameOp.{NameOp}
+use Rattle.cat_history.specs.declared.op.NameOp.TheVariants as op
 use Rattle.data_node.specs.Lists.{key_of}
 use Rattle.call_stages.specs.declared.once.Once.{Once}
 use Rattle.call_stages.specs.declared.once.Once.TheVariants as once
@@ -83,8 +83,8 @@ abbrev pub IsLate : World → Option ℕ → Type 0
 IsLate w limit = IsTrue (is_spent limit (length w.history))
 
 -- A call of this op and limit is in flight, as the index was w0 when it began, and no other.
-pub record LoneCall (w0 : World) (i : ℕ) (asked : Op) (limit : Option ℕ) (w : World) (p : Party) (machine : Running) :
-    Type 0 where
+pub record LoneCall (w0 : World) (i : ℕ) (asked : NameOp) (limit : Option ℕ) (w : World) (p : Party)
+    (machine : Running) : Type 0 where
   pub trying : Trying (name_asked asked) (change_of asked) w0 i w p
   pub stage : p.stage ≡ stage_of machine
   pub sound : Sound w.layout w.generation machine
@@ -95,17 +95,17 @@ pub record LoneCall (w0 : World) (i : ℕ) (asked : Op) (limit : Option ℕ) (w 
   pub timely : IsPast machine → IsLate w0 limit → ⊥
 
 -- It is a put of a name that the map lacks, and the target of the name has as many names as slots.
-abbrev pub FindsFull : World → Op → Type 0
+abbrev pub FindsFull : World → NameOp → Type 0
 FindsFull w (op.Put name value) = (at (map_now (facts w)) name ≡ None) × (target_names w name ≡ w.layout.slots)
 FindsFull w (op.Get name) = ⊥
 FindsFull w (op.Del name) = ⊥
 
 -- No lock can be taken any more from the version word of the target of its name.
-abbrev pub FindsWorn : World → Op → Type 0
+abbrev pub FindsWorn : World → NameOp → Type 0
 FindsWorn w asked = IsWorn ((facts w).version (target_node w (name_asked asked))) w.generation
 
 -- How a try is answered, by its cause in the index before it, and what it leaves: of the causes exactly one holds.
-abbrev pub IsAnswered : World → Op → Option ℕ → World → Party → Once Placed → Type 0
+abbrev pub IsAnswered : World → NameOp → Option ℕ → World → Party → Once Placed → Type 0
 IsAnswered w0 asked limit w p (once.Worn node word) =
     FindsWorn w0 asked × (node ≡ target_node w0 (name_asked asked)) × (word ≡ (facts w0).version node)
     × (w.history ≡ w0.history) × ((facts w).list ≡ (facts w0).list)
@@ -125,7 +125,7 @@ IsAnswered w0 asked limit w p (once.Done placed) =
     × (w.history ≡ w0.history ++ written p.caller p.index (change_of asked)) × ((facts w).list ≡ (facts w0).list)
 IsAnswered w0 asked limit w p (once.Again why) = ⊥
 
-abbrev pub AfterCall : World → ℕ → Op → Option ℕ → World → Party → Running → Turn Running (Once Placed) → Type 0
+abbrev pub AfterCall : World → ℕ → NameOp → Option ℕ → World → Party → Running → Turn Running (Once Placed) → Type 0
 AfterCall w0 i asked limit w p machine (Go next) =
     LoneCall w0 i asked limit (stepped w i p (running_asks machine) (stage_of next)) (moved_on p (stage_of next)) next
 AfterCall w0 i asked limit w p machine (Done answer) =
@@ -133,25 +133,25 @@ AfterCall w0 i asked limit w p machine (Done answer) =
     IsAnswered w0 asked limit (stepped w i p (running_asks machine) Idle) p answer
 
 abbrev pub LoneCallsGo : Type 0
-LoneCallsGo = (w0 : World) (i : ℕ) (asked : Op) (limit : Option ℕ) (w : World) (p : Party) (machine : Running) (x : ℕ) →
-    LoneCall w0 i asked limit w p machine → IsAtRest w0 →
+LoneCallsGo = (w0 : World) (i : ℕ) (asked : NameOp) (limit : Option ℕ) (w : World) (p : Party) (machine : Running)
+    (x : ℕ) → LoneCall w0 i asked limit w p machine → IsAtRest w0 →
     x ≡ got w.layout w.words (running_asks machine) → length w.history < 2 ^ 63 →
     AfterCall w0 i asked limit w p machine (running_turned machine x)
 
 -- The machine of a call as it begins.
-abbrev pub machine_for : Op → View → Option ℕ → Running
+abbrev pub machine_for : NameOp → View → Option ℕ → Running
 machine_for (op.Get name) view limit = Getting (get.Looking (starts (new_call view name limit)))
 machine_for (op.Put name value) view limit = Putting (put.Looking (starts (new_call view name limit)) value)
 machine_for (op.Del name) view limit = Deleting (del.Looking (starts (new_call view name limit)))
 
-abbrev pub ValueFits : Op → Type 0
+abbrev pub ValueFits : NameOp → Type 0
 ValueFits (op.Get name) = Unit {0}
 ValueFits (op.Put name value) = value < 2 ^ 64
 ValueFits (op.Del name) = Unit {0}
 
 -- A call of a party of an index in which nothing is in flight, as it begins.
 abbrev pub LoneCallsBegin : Type 0
-LoneCallsBegin = (w0 : World) (i : ℕ) (asked : Op) (limit : Option ℕ) (p : Party) (index : ℕ) (view : View) →
+LoneCallsBegin = (w0 : World) (i : ℕ) (asked : NameOp) (limit : Option ℕ) (p : Party) (index : ℕ) (view : View) →
     IsAtRest w0 → get_elem? w0.parties i ≡ some p →
     IsView view → view.layout ≡ w0.layout → view.generation ≡ w0.generation → IsName (name_asked asked) →
     IfSome limit (λ most. most ≤ 2 ^ 62) → ValueFits asked → AreEmpty w0.layout w0.words →

@@ -2,7 +2,7 @@
 use Rattle.std.specs.Prelude.{◌≡◌, ◌≢◌, ℕ, ◌<◌, ◌⊎◌, true, false, List, None, IsSome}
 use Rattle.cat_key.specs.Names.{IsName}
 use Rattle.cat_history.specs.Maps.{at}
-use Rattle.cat_history.specs.declared.op.Op.TheVariants.{Put}
+use Rattle.cat_history.specs.declared.op.NameOp.TheVariants.{Put}
 use Rattle.shapes.specs.Anchors.{splits, put_anchors}
 use Rattle.call_stages.specs.Kinds.{free_status}
 use Rattle.index_law.specs.Facts.{map_now}

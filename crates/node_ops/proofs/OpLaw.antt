@@ -3,8 +3,8 @@ use Rattle.std.proofs.Common.{◌≡◌, ℕ, ◌+◌, true, false, cond, ltb, L
 use Rattle.pm_words.specs.declared.layout.Layout.{Layout}
 use Rattle.pm_words.specs.declared.machine.Turn.{Turn}
 use Rattle.pm_words.specs.declared.machine.Turn.TheVariants.{Go, Done}
-use Rattle.cat_history.specs.declared.op.Op.{Op}
-use Rattle.cat_history.specs.declared.op.Op.TheVariants as op
+use Rattle.cat_history.specs.declared.op.NameOp.{NameOp}
+use Rattle.cat_history.specs.declared.op.NameOp.TheVariants as op
 use Rattle.cat_history.specs.declared.op.Change.{Change}
 use Rattle.cat_history.specs.declared.op.Change.TheVariants as change
 use Rattle.data_node.specs.Bits.{lowest_clear}
@@ -168,7 +168,7 @@ del_of : (name : List ℕ) (call : Call) (turn : Turn Del (Once Placed)) → nam
 del_of name call (Go del) is stays out = (ap name_in stays.1 ∙ is, out)
 del_of name call (Done answer) is stays out = tt
 
-own_keep : (op : Op) (running : Running) (x : ℕ) → IsRunning running → Told (running_call running).view.layout (running_call running).view.generation (running_asks running) x → running_leads running x → IsOf op running
+own_keep : (op : NameOp) (running : Running) (x : ℕ) → IsRunning running → Told (running_call running).view.layout (running_call running).view.generation (running_asks running) x → running_leads running x → IsOf op running
     → IsOfAfter op (running_turned running x)
 own_keep (op.Get name) (Getting get) x sound told leads is = get_of name (get_call get) (get_turned get x) is (get_stays get x sound told)
 own_keep (op.Get name) (Putting put) x sound told leads is = absurd is
@@ -312,7 +312,7 @@ finish_pends P finish (finish_at.Fence line fence) holds = holds
 finish_pends P finish finish_at.Add holds = holds
 finish_pends P finish (finish_at.Unlock place) holds = tt
 
-pub pending_is_own : (op : Op) (running : Running) → IsOf op running → IfSome (pending_in (stage_of running)) (λ change. change_of op ≡ Some change)
+pub pending_is_own : (op : NameOp) (running : Running) → IsOf op running → IfSome (pending_in (stage_of running)) (λ change. change_of op ≡ Some change)
 pending_is_own (op.Get name) (Getting (get.Looking lookup)) is = counts_nothing _ _ (lookup_pends lookup.call lookup.at)
 pending_is_own (op.Get name) (Getting (get.Unlocking call hold old)) is = tt
 pending_is_own (op.Get name) (Putting put) is = absurd is

@@ -2,8 +2,8 @@
 use Rattle.std.specs.Prelude.{◌≡◌, ℕ, List, Option, Some, None}
 use Rattle.pm_words.specs.declared.machine.Turn.{Turn}
 use Rattle.pm_words.specs.declared.machine.Turn.TheVariants.{Go, Done}
-use Rattle.cat_history.specs.declared.op.Op.{Op}
-use Rattle.cat_history.specs.declared.op.Op.TheVariants as op
+use Rattle.cat_history.specs.declared.op.NameOp.{NameOp}
+use Rattle.cat_history.specs.declared.op.NameOp.TheVariants as op
 use Rattle.call_stages.specs.declared.once.Once.{Once}
 use Rattle.call_stages.specs.declared.once.Placed.{Placed}
 use Rattle.call_stages.specs.Stages.{Stage, Holds, Eyes, Meets, Joins}
@@ -20,7 +20,7 @@ use Rattle.node_ops.specs.PutSteps.{put_call}
 use Rattle.node_ops.specs.DelSteps.{del_call}
 
 -- the name that an op is about
-abbrev pub name_asked : Op → List ℕ
+abbrev pub name_asked : NameOp → List ℕ
 name_asked (op.Put name value) = name
 name_asked (op.Get name) = name
 name_asked (op.Del name) = name
@@ -39,35 +39,35 @@ TakesOut (del.Looking lookup) = Unit {0}
 TakesOut (del.Clearing call hold bitmap hit) = Unit {0}
 TakesOut (del.Finishing finish) = finish.new ≡ None
 
-abbrev pub IsOf : Op → Running → Type 0
+abbrev pub IsOf : NameOp → Running → Type 0
 IsOf (op.Get name) (Getting get) = name_in (get_call get) ≡ name
 IsOf (op.Put name value) (Putting put) = (name_in (put_call put) ≡ name) × Gives value put
 IsOf (op.Del name) (Deleting del) = (name_in (del_call del) ≡ name) × TakesOut del
 IsOf _ _ = ⊥
 
-abbrev pub IsOfAfter : Op → Turn Running (Once Placed) → Type 0
+abbrev pub IsOfAfter : NameOp → Turn Running (Once Placed) → Type 0
 IsOfAfter op (Go running) = IsOf op running
 IsOfAfter op (Done answer) = Unit {0}
 
 -- the op that a finish is of
-abbrev pub op_of_finish : Finish → Option ℕ → Op
+abbrev pub op_of_finish : Finish → Option ℕ → NameOp
 op_of_finish finish (Some value) = op.Put (name_in finish.call) value
 op_of_finish finish None = op.Del (name_in finish.call)
 
 -- the op that a call in flight is of
-abbrev pub put_op : Put → Op
+abbrev pub put_op : Put → NameOp
 put_op (put.Looking lookup value) = op.Put (name_in lookup.call) value
 put_op (put.Filling fill) = op.Put (name_in fill.call) fill.value
 put_op (put.Replacing call hold bitmap hit value) = op.Put (name_in call) value
 put_op (put.Finishing finish) = op_of_finish finish finish.new
 put_op (put.Splitting call hold bitmap value split) = op.Put (name_in call) value
 
-abbrev pub del_op : Del → Op
+abbrev pub del_op : Del → NameOp
 del_op (del.Looking lookup) = op.Del (name_in lookup.call)
 del_op (del.Clearing call hold bitmap hit) = op.Del (name_in call)
 del_op (del.Finishing finish) = op_of_finish finish finish.new
 
-abbrev pub op_in : Running → Op
+abbrev pub op_in : Running → NameOp
 op_in (Getting get) = op.Get (name_in (get_call get))
 op_in (Putting put) = put_op put
 op_in (Deleting del) = del_op del

@@ -6,8 +6,8 @@ use Rattle.pm_words.specs.declared.action.Action.TheVariants.{Add}
 use Rattle.pm_words.specs.declared.again.Again.TheVariants.{NoFree}
 use Rattle.pm_words.specs.declared.machine.Turn.TheVariants.{Go, Done}
 use Rattle.cat_history.specs.declared.op.Change.{Change}
-use Rattle.cat_history.specs.declared.op.Op.{Op}
-use Rattle.cat_history.specs.declared.op.Op.TheVariants as op
+use Rattle.cat_history.specs.declared.op.NameOp.{NameOp}
+use Rattle.cat_history.specs.declared.op.NameOp.TheVariants as op
 use Rattle.cat_history.specs.Records.{change_of}
 use Rattle.call_stages.specs.declared.once.Once.{Once}
 use Rattle.call_stages.specs.declared.once.Once.TheVariants as once
@@ -29,7 +29,7 @@ abbrev pub limit_in : Stage → Option ℕ
 limit_in (Holds n w h) = h.limit
 limit_in _ = None
 
-abbrev pub IsPutOp : Op → Type 0
+abbrev pub IsPutOp : NameOp → Type 0
 IsPutOp (op.Put name value) = Unit {0}
 IsPutOp _ = ⊥
 

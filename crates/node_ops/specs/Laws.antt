@@ -1,7 +1,7 @@
 -- What every turn of a sound call is and leaves. The index rests on these laws, and on nothing else of the machines.
 use Rattle.std.specs.Prelude.{◌≡◌, ℕ, Some, None, IfSome}
 use Rattle.pm_words.specs.declared.layout.Layout.{Layout}
-use Rattle.cat_history.specs.declared.op.Op.{Op}
+use Rattle.cat_history.specs.declared.op.NameOp.{NameOp}
 use Rattle.cat_history.specs.declared.op.Change.{Change}
 use Rattle.call_stages.specs.Stages.{counted, pending_in, placed_in}
 use Rattle.call_stages.specs.Kinds.{Told, LeadsWithin}
@@ -39,25 +39,25 @@ TurnsStaySound = (l : Layout) (g : ℕ) (running : Running) (x : ℕ) → Sound 
 
 -- and a call of the same op
 abbrev pub TurnsKeepOp : Type 0
-TurnsKeepOp = (l : Layout) (g : ℕ) (op : Op) (running : Running) (x : ℕ) → Sound l g running →
+TurnsKeepOp = (l : Layout) (g : ℕ) (op : NameOp) (running : Running) (x : ℕ) → Sound l g running →
     Told l g (running_asks running) x → running_leads running x → IsOf op running →
     IsOfAfter op (running_turned running x)
 
 -- what a call of an op counts is the change of that op
 abbrev pub CountsOwnChange : Type 0
-CountsOwnChange = (op : Op) (running : Running) → IsOf op running →
+CountsOwnChange = (op : NameOp) (running : Running) → IsOf op running →
     IfSome (counted (stage_of running)) (λ change. change_of op ≡ Some change)
 
 -- and what it holds is held for the op's name
 abbrev pub HoldsOwnName : Type 0
-HoldsOwnName = (op : Op) (running : Running) → IsOf op running → IsAbout (name_asked op) (stage_of running)
+HoldsOwnName = (op : NameOp) (running : Running) → IsOf op running → IsAbout (name_asked op) (stage_of running)
 
 -- and what it has pending, which a crash may find in the node already, is the change of the op, which has no place yet
 abbrev pub PendingIsOwnChange : Type 0
-PendingIsOwnChange = (op : Op) (running : Running) (change : Change) → IsOf op running →
+PendingIsOwnChange = (op : NameOp) (running : Running) (change : Change) → IsOf op running →
     pending_in (stage_of running) ≡ Some change →
     (change_of op ≡ Some change) × (placed_in (stage_of running) ≡ None)
 
 -- a call is of no other op than the one that its machine tells
 abbrev pub OpIsTold : Type 0
-OpIsTold = (op : Op) (running : Running) → IsOf op running → op_in running ≡ op
+OpIsTold = (op : NameOp) (running : Running) → IsOf op running → op_in running ≡ op

@@ -7,7 +7,7 @@ use crate::call::Call;
 use crate::finish::{Finish, FinishAt};
 use crate::lookup::{Found, Hit, Hold, Looked, Lookup};
 use call_stages::{Once, Placed, View};
-use cat_history::Op;
+use cat_history::NameOp;
 use cat_key::Name;
 use data_node::without_live;
 use pm_words::offsets::node;
@@ -96,14 +96,14 @@ impl Del {
     }
 
     /// The op that it is of.
-    pub(crate) fn op(&self) -> Op
+    pub(crate) fn op(&self) -> NameOp
         requires { IsDel self.now }
         ensures { result ≡ del_op self.now }
     {
         if let Del::Finishing { finish } = *self {
             return finish.op();
         }
-        Op::Del {
+        NameOp::Del {
             name: self.call().name(),
         }
     }

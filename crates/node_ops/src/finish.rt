@@ -6,7 +6,7 @@ ghost use Rattle.std.specs.Prelude.{◌≡◌, ℕ};
 use crate::call::{CLOCK, Call};
 use crate::lookup::Hold;
 use call_stages::{Once, Placed};
-use cat_history::{Change, Op};
+use cat_history::{Change, NameOp};
 use pm_words::offsets::node;
 use pm_words::{Action, Fence, Machine, Turn};
 use version_lock::freed_of;
@@ -101,14 +101,14 @@ impl Finish {
     }
 
     /// The op that the write is of.
-    pub(crate) fn op(&self) -> Op
+    pub(crate) fn op(&self) -> NameOp
         requires { IsCall self.now.call }
         ensures { result ≡ op_of_finish self.now self.now.new }
     {
         let name = self.call.name();
         match self.new {
-            Some(value) => Op::Put { name, value },
-            None => Op::Del { name },
+            Some(value) => NameOp::Put { name, value },
+            None => NameOp::Del { name },
         }
     }
 

@@ -11,7 +11,7 @@ use crate::fill::{Fill, FillAt};
 use crate::finish::{Finish, FinishAt};
 use crate::lookup::{Found, Hit, Hold, Looked, Lookup};
 use call_stages::{Once, Placed, View};
-use cat_history::Op;
+use cat_history::NameOp;
 use cat_key::{Name, WORDS};
 use data_node::clear_slot;
 use pm_words::{Action, Again, Fence, Machine, Turn, line_of};
@@ -140,7 +140,7 @@ impl Put {
     }
 
     /// The op that it is of.
-    pub(crate) fn op(&self) -> Op
+    pub(crate) fn op(&self) -> NameOp
         requires { IsPut self.now }
         ensures { result ≡ put_op self.now }
     {
@@ -150,7 +150,7 @@ impl Put {
             Put::Filling { fill } => fill.value,
             Put::Replacing { value, .. } | Put::Splitting { value, .. } => value,
         };
-        Op::Put {
+        NameOp::Put {
             name: self.call().name(),
             value,
         }
@@ -173,7 +173,7 @@ impl Machine for Put {
     ghost left = { put_left };
 
     fn action(&self) -> Action {
-        match *self {
+        match self {
             Put::Looking { lookup, .. } => lookup.action(),
             Put::Filling { fill } => fill.action(),
             Put::Replacing {
@@ -181,22 +181,54 @@ impl Machine for Put {
                 hit,
                 value,
                 ..
-            } => Action::Store(call.address(slot_word(hit.slot, WORDS as u64)), value),
+            } => Action::Store(call.address(slot_word(hit.slot, WORDS as u64)), *value),
             Put::Finishing { finish } => finish.action(),
             Put::Splitting { split, .. } => split.action(),
         }
     }
 
     fn resume(self, got: u64) -> Turn<Put, Once<Placed>> {
+        let mut next = self;
+        match next.advance(got) {
+            None => Turn::Go(next),
+            Some(answer) => Turn::Done(answer),
+        }
+    }
+}
+
+impl Put {
+    ghost use Rattle.std.specs.Prelude.{◌≡◌, ◌<◌};
+    ghost use Rattle.pm_words.specs.Turns.{GoesBelow};
+    ghost use Rattle.split_merge.specs.Advances.{AdvancesTo};
+    ghost use Rattle.node_ops.specs.PutSteps.{put_left, put_takes, put_turned, replaced};
+
+    /// Tells it in place the number that its action gave. It goes on, or is done where there is an answer.
+    pub(crate) fn advance(&mut self, got: u64) -> Option<Once<Placed>>
+        requires { put_takes self.old got }
+        ensures turned { AdvancesTo (put_turned self.old got) self.new result }
+        ensures fewer { GoesBelow put_left (put_left self.old) (put_turned self.old got) }
+    {
         match self {
             Put::Looking { lookup, value } => match lookup.resume(got) {
-                Turn::Go(lookup) => Turn::Go(Put::Looking { lookup, value }),
-                Turn::Done(Looked::Early(answer)) => Turn::Done(answer),
-                Turn::Done(Looked::Found(found)) => Turn::Go(Put::found(lookup.call, found, value)),
+                Turn::Go(next) => {
+                    *lookup = next;
+                    None
+                }
+                Turn::Done(Looked::Early(answer)) => Some(answer),
+                Turn::Done(Looked::Found(found)) => {
+                    *self = Put::found(lookup.call, found, *value);
+                    None
+                }
             },
             Put::Filling { fill } => match fill.resume(got) {
-                Turn::Go(fill) => Turn::Go(Put::Filling { fill }),
-                Turn::Done(finish) => Turn::Go(Put::Finishing { finish }),
+                Turn::Go(next) => {
+                    *fill = next;
+                    None
+                }
+                Turn::Done(finish) => {
+                    *self = Put::Finishing { finish };
+                    None
+                }
             },
             Put::Replacing {
                 call,
@@ -204,37 +236,38 @@ impl Machine for Put {
                 hit,
                 value,
                 ..
-            } => Turn::Go(Put::Finishing {
-                finish: Finish {
-                    call,
-                    hold,
-                    old: Some(hit.value),
-                    new: Some(value),
-                    at: FinishAt::Fence {
-                        line: line_of(slot_word(hit.slot, WORDS as u64)),
-                        fence: Fence::new(),
-                    },
-                },
-            }),
+            } => {
+                let finish = Put::replaced(*call, *hold, *hit, *value);
+                *self = Put::Finishing { finish };
+                None
+            }
             Put::Finishing { finish } => match finish.resume(got) {
-                Turn::Go(finish) => Turn::Go(Put::Finishing { finish }),
-                Turn::Done(answer) => Turn::Done(answer),
+                Turn::Go(next) => {
+                    *finish = next;
+                    None
+                }
+                Turn::Done(answer) => Some(answer),
             },
-            Put::Splitting {
-                call,
-                hold,
-                bitmap,
-                value,
-                split,
-            } => match split.resume(got) {
-                Turn::Go(split) => Turn::Go(Put::Splitting {
-                    call,
-                    hold,
-                    bitmap,
-                    value,
-                    split,
-                }),
-                Turn::Done(done) => Turn::Done(Once::Again(Put::split_done(call.node, done))),
+            Put::Splitting { call, split, .. } => {
+                let done = split.advance(got)?;
+                Some(Once::Again(Put::split_done(call.node, done)))
+            }
+        }
+    }
+
+    /// What it does once the value is stored in place.
+    fn replaced(call: Call, hold: Hold, hit: Hit, value: u64) -> Finish
+        requires { hit.slot < 64 }
+        ensures { result ≡ replaced call hold hit value }
+    {
+        Finish {
+            call,
+            hold,
+            old: Some(hit.value),
+            new: Some(value),
+            at: FinishAt::Fence {
+                line: line_of(slot_word(hit.slot, WORDS as u64)),
+                fence: Fence::new(),
             },
         }
     }

@@ -6,7 +6,7 @@ use crate::del::Del;
 use crate::get::Get;
 use crate::put::Put;
 use call_stages::{Once, Placed};
-use cat_history::{Change, Op};
+use cat_history::{Change, NameOp};
 use pm_words::{Action, Machine, Turn};
 
 /// Any call in flight.
@@ -33,7 +33,7 @@ impl Machine for Running {
     ghost left = { running_left };
 
     fn action(&self) -> Action {
-        match *self {
+        match self {
             Running::Getting(get) => get.action(),
             Running::Putting(put) => put.action(),
             Running::Deleting(del) => del.action(),
@@ -41,19 +41,10 @@ impl Machine for Running {
     }
 
     fn resume(self, got: u64) -> Turn<Running, Once<Placed>> {
-        match self {
-            Running::Getting(get) => match get.resume(got) {
-                Turn::Go(get) => Turn::Go(Running::Getting(get)),
-                Turn::Done(answer) => Turn::Done(answer),
-            },
-            Running::Putting(put) => match put.resume(got) {
-                Turn::Go(put) => Turn::Go(Running::Putting(put)),
-                Turn::Done(answer) => Turn::Done(answer),
-            },
-            Running::Deleting(del) => match del.resume(got) {
-                Turn::Go(del) => Turn::Go(Running::Deleting(del)),
-                Turn::Done(answer) => Turn::Done(answer),
-            },
+        let mut next = self;
+        match next.advance(got) {
+            None => Turn::Go(next),
+            Some(answer) => Turn::Done(answer),
         }
     }
 }
@@ -61,15 +52,42 @@ impl Machine for Running {
 impl Running {
     ghost use Rattle.std.specs.Prelude.{◌≡◌};
     ghost use Rattle.call_stages.specs.Stages.{counted, placed_in};
-    ghost use Rattle.node_ops.specs.RunningSteps.{IsRunning, running_call};
+    ghost use Rattle.pm_words.specs.Turns.{GoesBelow};
+    ghost use Rattle.split_merge.specs.Advances.{AdvancesTo};
+    ghost use Rattle.node_ops.specs.RunningSteps.{IsRunning, running_call, running_left, running_takes, running_turned};
     ghost use Rattle.node_ops.specs.CallStages.{stage_of};
     ghost use Rattle.node_ops.specs.Asked.{op_in};
+
+    /// Tells it in place the number that its action gave. It goes on, or is done where there is an answer.
+    pub fn advance(&mut self, got: u64) -> Option<Once<Placed>>
+        requires { running_takes self.old got }
+        ensures turned { AdvancesTo (running_turned self.old got) self.new result }
+        ensures fewer { GoesBelow running_left (running_left self.old) (running_turned self.old got) }
+    {
+        match self {
+            Running::Getting(get) => match get.resume(got) {
+                Turn::Go(next) => {
+                    *get = next;
+                    None
+                }
+                Turn::Done(answer) => Some(answer),
+            },
+            Running::Putting(put) => put.advance(got),
+            Running::Deleting(del) => match del.resume(got) {
+                Turn::Go(next) => {
+                    *del = next;
+                    None
+                }
+                Turn::Done(answer) => Some(answer),
+            },
+        }
+    }
 
     /// The clock at which the call is refused, if there is one.
     pub fn limit(&self) -> Option<u64>
         ensures { result ≡ (running_call self.now).limit }
     {
-        let call = match *self {
+        let call = match self {
             Running::Getting(get) => get.call(),
             Running::Putting(put) => put.call(),
             Running::Deleting(del) => del.call(),
@@ -78,12 +96,12 @@ impl Running {
     }
 
     /// The op that the call is of.
-    pub fn op(&self) -> Op
+    pub fn op(&self) -> NameOp
         requires { IsRunning self.now }
         ensures { result ≡ op_in self.now }
     {
-        match *self {
-            Running::Getting(get) => Op::Get {
+        match self {
+            Running::Getting(get) => NameOp::Get {
                 name: get.call().name(),
             },
             Running::Putting(put) => put.op(),

@@ -1,13 +1,11 @@
-use Rattle.std.proofs.Common.{◌<◌, sym, subst, ap, ◌∙◌}
+use Rattle.std.proofs.Common.{sym, subst, ap, ◌∙◌}
 use Rattle.call_stages.specs.Kinds.{Told}
 use Rattle.pm_words.specs.declared.machine.Turn.TheVariants.{Done}
 use Rattle.node_ops.specs.declared.lookup.Looked.{Looked}
 use Rattle.node_ops.specs.declared.put.Put.{Put}
-use Rattle.node_ops.specs.FinishSteps.{finish_left}
-use Rattle.node_ops.specs.PutSteps.{IsPut, put_call, put_asks, put_left}
-use Rattle.node_ops.proofs.Measures.{filled_fewer}
+use Rattle.node_ops.specs.PutSteps.{IsPut, put_call, put_asks}
 use Rattle.node_ops.proofs.LookupSound.{found_sound}
-use Rattle.node_ops.proofs.put.PutMachine.resume.Goals as goal
+use Rattle.node_ops.proofs.put.Put.advance.Goals as goal
 
 pub found-requires-clause-found : goal.found-requires-clause-found
 found-requires-clause-found c =
@@ -15,7 +13,3 @@ found-requires-clause-found c =
     found_sound c.in-Looking.lookup c.args.got c.in-Done-Found.found sound.0
     (subst (λ (put : Put). Told (put_call put).view.layout (put_call put).view.generation (put_asks put) c.args.got) c.in-Looking.is c.requires.1)
     (ap (λ (f : Looked). Done f) (sym c.in-Done-Found.field-0-is) ∙ c.in-Done-Found.ensures.turned)
-
-pub returns-in-Done-clause-fewer : goal.returns-in-Done-clause-fewer
-returns-in-Done-clause-fewer c =
-    subst (λ (put : Put). finish_left c.in-Done.finish < put_left put) (sym c.in-Filling.is) (filled_fewer c.in-Filling.fill c.args.got c.in-Done.finish c.in-Done.ensures.turned)
