@@ -22,7 +22,7 @@ use Rattle.node_ops.specs.LookupSteps.{is_spent}
 use Rattle.index_law.specs.Facts.{range_of}
 use Rattle.index_law.specs.Worlds.{facts}
 use Rattle.index_law.specs.Laws.{IsAtRest}
-use Rattle.index_law.specs.Anchors.{anchors_of}
+use Rattle.index_law.specs.Anchors.{anchors_of, members_most}
 use Rattle.index_law.proofs.Parties.{at_set, set_here}
 use Rattle.index_law.proofs.Starts.{listed_within}
 use Rattle.lone_law.specs.LoneCalls.{FindsFull, FindsWorn, IsLate, IsAnswered}
@@ -40,13 +40,13 @@ use Rattle.index_core.specs.declared.party.Whole.TheVariants as whole
 use Rattle.index_core.specs.CoreCalls.{op_of, limit_of}
 use Rattle.index_core.specs.PartyStates.{party_of, state_counted}
 use Rattle.index_core.specs.Indexes.{Index, world, map_of_index, IsIndex}
-use Rattle.index_core.specs.Lone.{IsQuiet, FindsNoRoom, SplitsFor, LeavesShape, names_beside, locks_left, IsWholeAnswer, TriesAlone, RunsAlone, CountsCall, alone_writes, needs_split, whole_of, state_tried, state_done}
+use Rattle.index_core.specs.Lone.{IsQuiet, FindsNoRoom, HasSameList, SplitsFor, SplitsNothing, LeavesList, TakesLocks, names_beside, locks_left, IsWholeAnswer, TriesAlone, RunsAlone, CountsCall, alone_writes, needs_split, whole_of, state_tried, state_done}
 use Rattle.index_core.specs.Weights.{weight_of, added_by, added_whole}
 use Rattle.index_core.proofs.Lists.{set_twice}
 use Rattle.index_core.proofs.Tries.{rests}
 
 -- to the node of a name belong as many names of the map as the node has
-target_has : (s : Index) → IsAtRest (world s) → (name : List ℕ) → target_names (world s) name ≡ length (names_beside s name)
+pub target_has : (s : Index) → IsAtRest (world s) → (name : List ℕ) → target_names (world s) name ≡ length (names_beside s name)
 target_has s rest name =
     let w = world s in
     range_names s.layout.slots (range_of s.layout (facts w) (target_node w name)) ((facts w).now (target_node w name)) (map_of_index s)
@@ -82,14 +82,16 @@ count_quiet s i new quiet t = subst IsQuiet (sym t.is) (λ j state at. ⊎_elim
 pub record Ran (s0 s : Index) (i : ℕ) (c : CoreCall) (answer : Once Placed) : Type 0 where
   pub state : PartyState
   pub there : get_elem? s0.states i ≡ some state
+  pub named : IsName (name_asked (op_of c))
   pub cause : IsWholeAnswer s0 c s (whole_of answer)
   pub history : s.history ≡ s0.history ++ alone_writes i state.index c (whole_of answer)
   pub states : s.states ≡ slice_set s0.states i (state_tried state (length s0.history) answer)
   pub layout : s.layout ≡ s0.layout
   pub generation : s.generation ≡ s0.generation
   pub base : s.base ≡ s0.base
-  pub list : ((facts (world s)).list ≡ (facts (world s0)).list) ⊎ SplitsFor c s0 s
-  pub shape : LeavesShape c (whole_of answer) s0 s
+  pub list : LeavesList c (whole_of answer) s0 s
+  pub most : members_most (world s) ≡ members_most (world s0)
+  pub locks : TakesLocks c s0 s
   pub weighs : weight_of s ≤ weight_of s0 + added_whole (op_of c) (whole_of answer)
 
 -- where its party is as a whole call leaves it
@@ -98,14 +100,15 @@ counted_runs : (s0 s : Index) (i : ℕ) (c : CoreCall) (answer : Once Placed) (r
 counted_runs s0 s i c answer ran states are = record {
   state = ran.state;
   there = ran.there;
+  named = ran.named;
   answer = same_cause (whole_of answer) ran.cause;
   history = ran.history;
   states = are;
   layout = ran.layout;
   generation = ran.generation;
   base = ran.base;
-  list = ⊎_elim (λ same. inl same) (λ (cut : SplitsFor c s0 s). inr (same_split c cut)) ran.list;
-  shape = same_shape c (whole_of answer) ran.shape;
+  list = same_list (whole_of answer) ran.list;
+  most = ran.most;
   weighs = ran.weighs;
 }
   where
@@ -120,13 +123,18 @@ counted_runs s0 s i c answer ran states are = record {
     same_cause whole.Full cause = cause
     same_cause (whole.Placed placed) cause = cause
 
-    same_shape : (c : CoreCall) (r : Whole) → LeavesShape c r s0 s → LeavesShape c r s0 (record s { states = states })
-    same_shape (call.Put name value limit) (whole.Placed placed) shape = shape
-    same_shape (call.Put name value limit) (whole.Worn node word) shape = shape
-    same_shape (call.Put name value limit) (whole.Spent clock) shape = shape
-    same_shape (call.Put name value limit) whole.Full shape = shape
-    same_shape (call.Get name) r shape = shape
-    same_shape (call.Del name limit) r shape = shape
+    same_list : (r : Whole) → LeavesList c r s0 s → LeavesList c r s0 (record s { states = states })
+    same_list (whole.Worn node word) list = list
+    same_list (whole.Spent clock) list = list
+    same_list whole.Full list = list
+    same_list (whole.Placed placed) list =
+        ⊎_elim (λ (same : HasSameList s0 s × SplitsNothing c s0). inl same) (λ (cut : SplitsFor c s0 s). inr (same_split c cut)) list
+
+-- the same of an index that differs in the states of its parties alone
+other_states : (c : CoreCall) (s0 s : Index) (states : List PartyState) → TakesLocks c s0 s → TakesLocks c s0 (record s { states = states })
+other_states (call.Put name value limit) s0 s states locks = locks
+other_states (call.Get name) s0 s states locks = locks
+other_states (call.Del name limit) s0 s states locks = locks
 
 -- a try counts the call unless it was turned back
 try_counts : (answer : Once Placed) (state : PartyState) (since : ℕ) → (whole_of answer ≡ whole.Full → ⊥) → state_tried state since answer ≡ state_done state since
@@ -154,6 +162,10 @@ full_runs s0 s i c answer ran full new t =
     (counted_runs s0 s i c answer ran (slice_set s.states i (state_counted t.state))
     ((λ k. set (ran.states k) i (state_counted (state k))) ∙ set_twice s0.states i tried (state_counted tried) ∙ ap (slice_set s0.states i) (full_counts answer ran.state (length s0.history) full)))
 
+pub full_locks : (s0 s : Index) (i : ℕ) (c : CoreCall) (answer : Once Placed) → Ran s0 s i c answer → (new : Index) → CountsCall s i new → TakesLocks c s0 new
+full_locks s0 s i c answer ran new t =
+    subst (TakesLocks c s0) (sym t.is) (other_states c s0 s (slice_set s.states i (state_counted t.state)) ran.locks)
+
 -- what an answer adds
 adds : (c : CoreCall) (answer : Once Placed) → added_by (op_of c) answer ≡ added_whole (op_of c) (whole_of answer)
 adds c (once.Done placed) = refl
@@ -161,70 +173,45 @@ adds c (once.Spent clock) = refl
 adds c (once.Worn node word) = refl
 adds c (once.Again why) = refl
 
--- one that took no place leaves the shape, or splits
-abbrev IsUnplaced : Whole → Type 0
-IsUnplaced (whole.Placed placed) = ⊥
-IsUnplaced _ = Unit {0}
-
-unplaced_shape : (c : CoreCall) (r : Whole) (s new : Index) → IsUnplaced r → (anchors_of (facts (world new)).list ≡ anchors_of (facts (world s)).list) ⊎ SplitsFor c s new → LeavesShape c r s new
-unplaced_shape (call.Put name value limit) (whole.Placed placed) s new none shape = absurd none
-unplaced_shape (call.Put name value limit) (whole.Worn node word) s new none shape = shape
-unplaced_shape (call.Put name value limit) (whole.Spent clock) s new none shape = shape
-unplaced_shape (call.Put name value limit) whole.Full s new none shape = shape
-unplaced_shape (call.Get name) r s new none shape = shape
-unplaced_shape (call.Del name limit) r s new none shape = shape
-
--- one that split leaves the shape of that, whatever it is answered
-split_shape : (c : CoreCall) (r : Whole) (s new : Index) → SplitsFor c s new → LeavesShape c r s new
-split_shape (call.Put name value limit) (whole.Placed placed) s new cut = cut.1
-split_shape (call.Put name value limit) (whole.Worn node word) s new cut = inr cut
-split_shape (call.Put name value limit) (whole.Spent clock) s new cut = inr cut
-split_shape (call.Put name value limit) whole.Full s new cut = inr cut
-split_shape (call.Get name) r s new cut = absurd cut
-split_shape (call.Del name limit) r s new cut = absurd cut
-
 has_room : (o : Option ℕ) (n most : ℕ) → n ≤ most → ((o ≡ None) × (n ≡ most) → ⊥) → IsSome o ⊎ (n < most)
 has_room (Some value) n most few not_full = inl refl
 has_room None n most few not_full = inr (⊎_elim (λ (less : n < most). less) (λ (as_many : most ≤ n). absurd (not_full (refl, omega arith))) (cases_lt n most))
 
--- the cause of an answer, and what it leaves of the history, of the list and of the shape
+-- the cause of an answer, and what it leaves of the history and of the list
 record Ends (s0 s : Index) (i index : ℕ) (c : CoreCall) (r : Once Placed) : Type 0 where
   cause : IsWholeAnswer s0 c s (whole_of r)
   history : s.history ≡ s0.history ++ alone_writes i index c (whole_of r)
-  list : ((facts (world s)).list ≡ (facts (world s0)).list) ⊎ SplitsFor c s0 s
-  shape : LeavesShape c (whole_of r) s0 s
+  list : LeavesList c (whole_of r) s0 s
 
 -- a try that didn't split is the whole call
-module _ (s0 s : Index) (i : ℕ) (c : CoreCall) (is0 : IsIndex s0) (quiet0 : IsQuiet s0) (answer : Once Placed) (t : TriesAlone s0 i c s answer) where
+module _ (s0 s : Index) (i : ℕ) (c : CoreCall) (is0 : IsIndex s0) (quiet0 : IsQuiet s0) (answer : Once Placed) (t : TriesAlone s0 i c s answer)
+    (locks : locks_left s0 ≤ locks_left s + 1) where
   rest0 : IsAtRest (world s0)
   rest0 = rests s0 is0 quiet0
 
-  -- where it had room its shape is that of its put
-  placed_shape : (c : CoreCall) (placed : Placed) → IsName (name_asked (op_of c)) → (FindsFull (world s0) (op_of c) → ⊥) → (facts (world s)).list ≡ (facts (world s0)).list → LeavesShape c (whole.Placed placed) s0 s
-  placed_shape (call.Put name value limit) placed named not_full list =
-      ap anchors_of list ∙ sym (room_is_no_split (world s0) name rest0 named
-      (has_room (at (map_of_index s0) name) (target_names (world s0) name) s0.layout.slots (names_most s0.layout.slots (range_of s0.layout (facts (world s0)) (target_node (world s0) name)) ((facts (world s0)).now (target_node (world s0) name))) not_full)).1
-  placed_shape (call.Get name) placed named not_full list = inl (ap anchors_of list)
-  placed_shape (call.Del name limit) placed named not_full list = inl (ap anchors_of list)
+  -- where it had room its put splits nothing
+  splits_nothing : (c : CoreCall) → IsName (name_asked (op_of c)) → (FindsFull (world s0) (op_of c) → ⊥) → SplitsNothing c s0
+  splits_nothing (call.Put name value limit) named not_full =
+      (room_is_no_split (world s0) name rest0 named
+      (has_room (at (map_of_index s0) name) (target_names (world s0) name) s0.layout.slots (names_most s0.layout.slots (range_of s0.layout (facts (world s0)) (target_node (world s0) name)) ((facts (world s0)).now (target_node (world s0) name))) not_full)).0
+  splits_nothing (call.Get name) named not_full = tt
+  splits_nothing (call.Del name limit) named not_full = tt
 
   ends : (r : Once Placed) → needs_split r ≡ false → IsAnswered (world s0) (op_of c) (limit_of c) (world s) (party_of t.state) r → Ends s0 s i t.state.index c r
   ends (once.Worn node word) one (worn, node_is, word_is, same, list) = record {
-    cause = inl (worn, node_is, word_is);
+    cause = inl (worn, node_is, word_is, list);
     history = same ∙ sym (append-nil s0.history);
-    list = inl list;
-    shape = unplaced_shape c (whole.Worn node word) s0 s tt (inl (ap anchors_of list));
+    list = tt;
   }
   ends (once.Spent clock) one (unworn, late, clock_is, same, list) = record {
     cause = (unworn, late_is (limit_of c) (length s0.history) late, clock_is);
     history = same ∙ sym (append-nil s0.history);
-    list = inl list;
-    shape = unplaced_shape c (whole.Spent clock) s0 s tt (inl (ap anchors_of list));
+    list = list;
   }
   ends (once.Again again.NoFree) one (unworn, below, full, lacks, same, list) = record {
     cause = (unworn, (λ over. below (late_was (limit_of c) (length s0.history) over)), no_room_is s0 c rest0 full lacks);
     history = same ∙ sym (append-nil s0.history);
-    list = inl list;
-    shape = unplaced_shape c whole.Full s0 s tt (inl (ap anchors_of list));
+    list = list;
   }
   ends (once.Again (again.NeedsSplit n)) one end = absurd (cc)
   ends (once.Again (again.Locked n word)) one end = absurd end
@@ -241,8 +228,7 @@ module _ (s0 s : Index) (i : ℕ) (c : CoreCall) (is0 : IsIndex s0) (quiet0 : Is
       hops ∙ ap (λ (l : List ListNode). position_from l (key_of (name_asked (op_of c)))) (sym list),
     );
     history = write ∙ ap (λ (j : ℕ). s0.history ++ alone_writes j t.state.index c (whole.Placed placed)) (is0.states i t.state t.there).caller;
-    list = inl list;
-    shape = placed_shape c placed t.named not_full list;
+    list = inl (list, splits_nothing c t.named not_full);
   }
 
   pub one_try : needs_split answer ≡ false → Ran s0 s i c answer
@@ -253,6 +239,7 @@ module _ (s0 s : Index) (i : ℕ) (c : CoreCall) (is0 : IsIndex s0) (quiet0 : Is
       record {
         state = t.state;
         there = t.there;
+        named = t.named;
         cause = end.cause;
         history = end.history;
         states = t.states;
@@ -260,7 +247,8 @@ module _ (s0 s : Index) (i : ℕ) (c : CoreCall) (is0 : IsIndex s0) (quiet0 : Is
         generation = t.generation;
         base = t.base;
         list = end.list;
-        shape = end.shape;
+        most = t.most;
+        locks = inl locks;
         weighs = omega arith;
       }
 
@@ -301,7 +289,8 @@ record Split (s0 s1 : Index) (c : CoreCall) : Type 0 where
 
 -- a try that split, and another
 module _ (s0 s1 s : Index) (i : ℕ) (c : CoreCall) (is0 : IsIndex s0) (quiet0 : IsQuiet s0) (is1 : IsIndex s1) (quiet1 : IsQuiet s1) (first answer : Once Placed)
-    (t : TriesAlone s0 i c s1 first) (u : TriesAlone s1 i c s answer) (locks : locks_left s0 ≤ locks_left s1 + 1) where
+    (t : TriesAlone s0 i c s1 first) (u : TriesAlone s1 i c s answer)
+    (locks : locks_left s0 ≤ locks_left s1 + 1) (locks_then : locks_left s1 ≤ locks_left s + 1) where
   rest_before : IsAtRest (world s0)
   rest_before = rests s0 is0 quiet0
 
@@ -337,21 +326,22 @@ module _ (s0 s1 s : Index) (i : ℕ) (c : CoreCall) (is0 : IsIndex s0) (quiet0 :
         worn_has_none s1.generation (facts (world s1)).version n s1.layout.nodes
         (listed_within s1.layout (facts (world s1)) rest_between.list rest_between.row.layout n (target_in 0 (facts (world s1)).list (key_of (name_asked (op_of c))))) worn
 
-    ends_then : (r : Once Placed) → IsAnswered (world s1) (op_of c) (limit_of c) (world s) (party_of u.state) r → Ends s0 s i u.state.index c r
+    ends_then : (r : Once Placed) → IsAnswered (world s1) (op_of c) (limit_of c) (world s) (party_of u.state) r → Ends s0 s i u.state.index c r × SplitsFor c s0 s
     ends_then (once.Worn node word) (worn, node_is, word_is, same, list) =
         let none = no_locks worn in
-        let split_now = split_on s0 s1 s c list split in
-        record {
-          cause = inr (
-            split_now,
-            omega arith,
-            node_is ∙ ap (λ (l : List ListNode). target_from 0 l (key_of (name_asked (op_of c)))) (sym list),
-            subst (λ (q : ℕ × ℕ). IsWorn q.0 q.1) (λ k. ((sym word_is) k, t.generation k)) (subst (λ (n : ℕ). IsWorn ((facts (world s1)).version n) s1.generation) (sym node_is) worn),
-          );
-          history = same ∙ cut.history ∙ sym (append-nil s0.history);
-          list = inr split_now;
-          shape = split_shape c (whole.Worn node word) s0 s split_now;
-        }
+        let split_now = split_on s0 s1 s c list split in (
+          record {
+            cause = inr (
+              split_now,
+              omega arith,
+              node_is ∙ ap (λ (l : List ListNode). target_from 0 l (key_of (name_asked (op_of c)))) (sym list),
+              subst (λ (q : ℕ × ℕ). IsWorn q.0 q.1) (λ k. ((sym word_is) k, t.generation k)) (subst (λ (n : ℕ). IsWorn ((facts (world s1)).version n) s1.generation) (sym node_is) worn),
+            );
+            history = same ∙ cut.history ∙ sym (append-nil s0.history);
+            list = tt;
+          },
+          split_now,
+        )
     ends_then (once.Spent clock) (unworn, late, clock_is, same, list) =
         absurd (cut.below (subst (λ (n : ℕ). IsTrue (is_spent (limit_of c) n)) (ap length cut.history) late))
     ends_then (once.Again again.NoFree) (unworn, below, full, lacks, same, list) = absurd (not_full full)
@@ -363,18 +353,19 @@ module _ (s0 s1 s : Index) (i : ℕ) (c : CoreCall) (is0 : IsIndex s0) (quiet0 :
     ends_then (once.Again (again.Held word)) end = absurd end
     ends_then (once.Again (again.Epoch one two)) end = absurd end
     ends_then (once.Done placed) ((unworn, below, has_room_now), old, place, hops, write, list) =
-        let split_now = split_on s0 s1 s c list split in
-        record {
-          cause = (
-            (cut.unworn, (λ over. cut.below (late_was (limit_of c) (length s0.history) over)), (λ none. free_is_room s0 c cut.free none)),
-            old ∙ ap (λ (m : Map). at m (name_asked (op_of c))) same_map,
-            place ∙ ap length cut.history,
-            hops ∙ ap (λ (l : List ListNode). position_from l (key_of (name_asked (op_of c)))) (sym list),
-          );
-          history = write ∙ (λ k. cut.history k ++ alone_writes ((is1.states i u.state u.there).caller k) u.state.index c (whole.Placed placed));
-          list = inr split_now;
-          shape = split_shape c (whole.Placed placed) s0 s split_now;
-        }
+        let split_now = split_on s0 s1 s c list split in (
+          record {
+            cause = (
+              (cut.unworn, (λ over. cut.below (late_was (limit_of c) (length s0.history) over)), (λ none. free_is_room s0 c cut.free none)),
+              old ∙ ap (λ (m : Map). at m (name_asked (op_of c))) same_map,
+              place ∙ ap length cut.history,
+              hops ∙ ap (λ (l : List ListNode). position_from l (key_of (name_asked (op_of c)))) (sym list),
+            );
+            history = write ∙ (λ k. cut.history k ++ alone_writes ((is1.states i u.state u.there).caller k) u.state.index c (whole.Placed placed));
+            list = inr split_now;
+          },
+          split_now,
+        )
 
   -- the party keeps its index at the first try
   keeps_index : (r : Once Placed) → needs_split r ≡ true → (state : PartyState) → state_tried (state_tried state (length s0.history) r) (length s1.history) answer ≡ state_tried state (length s1.history) answer
@@ -409,8 +400,9 @@ module _ (s0 s1 s : Index) (i : ℕ) (c : CoreCall) (is0 : IsIndex s0) (quiet0 :
       record {
         state = t.state;
         there = t.there;
-        cause = end.cause;
-        history = end.history ∙ ap (λ (j : ℕ). s0.history ++ alone_writes i j c (whole_of answer)) index;
+        named = t.named;
+        cause = end.0.cause;
+        history = end.0.history ∙ ap (λ (j : ℕ). s0.history ++ alone_writes i j c (whole_of answer)) index;
         states = u.states ∙ (λ k. slice_set (t.states k) i (state_tried (now k) (length s1.history) answer))
             ∙ set_twice s0.states i tried (state_tried tried (length s1.history) answer)
             ∙ ap (slice_set s0.states i) (keeps_index first again t.state)
@@ -418,18 +410,19 @@ module _ (s0 s1 s : Index) (i : ℕ) (c : CoreCall) (is0 : IsIndex s0) (quiet0 :
         layout = u.layout ∙ t.layout;
         generation = u.generation ∙ t.generation;
         base = u.base ∙ t.base;
-        list = end.list;
-        shape = end.shape;
+        list = end.0.list;
+        most = u.most ∙ t.most;
+        locks = inr (end.1, omega arith);
         weighs = omega arith;
       }
 
 -- the same of an index and an answer that equal those of the last try
-pub ran_once : {s0 s1 s : Index} {i : ℕ} {c : CoreCall} {first answer : Once Placed} → IsIndex s0 → IsQuiet s0 → TriesAlone s0 i c s1 first → needs_split first ≡ false
-    → s ≡ s1 → answer ≡ first → Ran s0 s i c answer
-ran_once {s0} {s1} {s} {i} {c} {first} {answer} is0 quiet0 t one same_index same_answer =
-    subst (λ (q : Index × Once Placed). Ran s0 q.0 i c q.1) (λ k. (sym same_index k, sym same_answer k)) (one_try s0 s1 i c is0 quiet0 first t one)
+pub ran_once : {s0 s1 s : Index} {i : ℕ} {c : CoreCall} {first answer : Once Placed} → IsIndex s0 → IsQuiet s0 → TriesAlone s0 i c s1 first → locks_left s0 ≤ locks_left s1 + 1
+    → needs_split first ≡ false → s ≡ s1 → answer ≡ first → Ran s0 s i c answer
+ran_once {s0} {s1} {s} {i} {c} {first} {answer} is0 quiet0 t locks one same_index same_answer =
+    subst (λ (q : Index × Once Placed). Ran s0 q.0 i c q.1) (λ k. (sym same_index k, sym same_answer k)) (one_try s0 s1 i c is0 quiet0 first t locks one)
 
 pub ran_twice : {s0 s1 s2 s : Index} {i : ℕ} {c : CoreCall} {first second answer : Once Placed} → IsIndex s0 → IsQuiet s0 → IsIndex s1 → IsQuiet s1 → TriesAlone s0 i c s1 first → TriesAlone s1 i c s2 second
-    → locks_left s0 ≤ locks_left s1 + 1 → needs_split first ≡ true → s ≡ s2 → answer ≡ second → Ran s0 s i c answer
-ran_twice {s0} {s1} {s2} {s} {i} {c} {first} {second} {answer} is0 quiet0 is1 quiet1 t u locks again same_index same_answer =
-    subst (λ (q : Index × Once Placed). Ran s0 q.0 i c q.1) (λ k. (sym same_index k, sym same_answer k)) (two_tries s0 s1 s2 i c is0 quiet0 is1 quiet1 first second t u locks again)
+    → locks_left s0 ≤ locks_left s1 + 1 → locks_left s1 ≤ locks_left s2 + 1 → needs_split first ≡ true → s ≡ s2 → answer ≡ second → Ran s0 s i c answer
+ran_twice {s0} {s1} {s2} {s} {i} {c} {first} {second} {answer} is0 quiet0 is1 quiet1 t u locks locks_then again same_index same_answer =
+    subst (λ (q : Index × Once Placed). Ran s0 q.0 i c q.1) (λ k. (sym same_index k, sym same_answer k)) (two_tries s0 s1 s2 i c is0 quiet0 is1 quiet1 first second t u locks locks_then again)

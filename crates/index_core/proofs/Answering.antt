@@ -11,8 +11,8 @@ use Rattle.cat_history.specs.Maps.{at}
 use Rattle.cat_history.specs.Writes.{after}
 use Rattle.cat_history.specs.declared.op.Change.{Change}
 use Rattle.cat_history.specs.declared.op.Change.TheVariants as change
-use Rattle.cat_history.specs.declared.op.Op.{Op}
-use Rattle.cat_history.specs.declared.op.Op.TheVariants as op
+use Rattle.cat_history.specs.declared.op.NameOp.{NameOp}
+use Rattle.cat_history.specs.declared.op.NameOp.TheVariants as op
 use Rattle.cat_history.specs.declared.op.Write.{Write}
 use Rattle.call_stages.specs.declared.once.Once.{Once}
 use Rattle.call_stages.specs.declared.once.Once.TheVariants as once
@@ -94,7 +94,7 @@ own_stands history caller index since place name (Some change) later own write =
     let same : write.change ≡ change = some_same (sym (own _ write.stands refl later)) in
     subst (λ (c : Change). slice_get history place ≡ Some (record { caller = caller; index = index; change = c })) same write.stands
 
-took_place : (slots : ℕ) (f : Facts) (caller index since : ℕ) (asked : Op) (limit : Option ℕ) (answer : Placed)
+took_place : (slots : ℕ) (f : Facts) (caller index since : ℕ) (asked : NameOp) (limit : Option ℕ) (answer : Placed)
     → ((write : Write) → slice_get f.history answer.place ≡ Some write → write.caller ≡ caller → since ≤ answer.place → change_of asked ≡ Some write.change)
     → Tells slots f caller index since (name_asked asked) limit (place_for (change_of asked) answer.place) (once.Done answer) → TookPlace f.base f.history caller index since asked limit answer
 took_place slots f caller index since (op.Get name) limit answer own is = record { later = is.0; within = is.1; below = is.4; old = is.2; write = tt }

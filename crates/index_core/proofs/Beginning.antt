@@ -12,8 +12,8 @@ use Rattle.cat_history.specs.Maps.{Map, at, map_of}
 use Rattle.cat_history.specs.Writes.{after, after_all}
 use Rattle.cat_history.specs.declared.op.Change.{Change}
 use Rattle.cat_history.specs.declared.op.Change.TheVariants as change
-use Rattle.cat_history.specs.declared.op.Op.{Op}
-use Rattle.cat_history.specs.declared.op.Op.TheVariants as op
+use Rattle.cat_history.specs.declared.op.NameOp.{NameOp}
+use Rattle.cat_history.specs.declared.op.NameOp.TheVariants as op
 use Rattle.cat_history.specs.declared.op.Write.{Write}
 use Rattle.call_stages.specs.declared.once.Once.TheVariants as once
 use Rattle.call_stages.specs.declared.once.Placed.{Placed}
@@ -158,7 +158,7 @@ module _ (first : Index) (begun : List BegunCall) (calls : List AnsweredCall) (s
           after-longer base s.history h place (omega arith) ∙ after-whole base s.history place last ∙ ap (λ (m : Map). after_all m s.history) (sym k.base_is)
 
       -- it took place at the end of the history
-      took : (o : Op) (placed : Placed) → IfSome (limit_of c) (λ most. length s.history < most) → placed.old ≡ at (map_of_index s) (name_asked o) → placed.place ≡ length s.history
+      took : (o : NameOp) (placed : Placed) → IfSome (limit_of c) (λ most. length s.history < most) → placed.old ≡ at (map_of_index s) (name_asked o) → placed.place ≡ length s.history
           → TookPlace base (s.history ++ written e.caller e.index (change_of o)) e.caller e.index (length s.history) o (limit_of c) placed
       took (op.Get name) placed below old last =
           let long = length-append s.history [] in

@@ -9,7 +9,7 @@ use Rattle.cat_history.specs.Callers.{callers_among}
 use Rattle.cat_history.proofs.CallerLemmas.{late_writes_are_few}
 use Rattle.cat_history.specs.Records.{change_of}
 use Rattle.cat_history.specs.declared.op.Change.{Change}
-use Rattle.cat_history.specs.declared.op.Op.{Op}
+use Rattle.cat_history.specs.declared.op.NameOp.{NameOp}
 use Rattle.cat_history.specs.declared.op.Write.{Write}
 use Rattle.pm_words.specs.Layouts.{IsLayout}
 use Rattle.pm_words.specs.declared.layout.Layout.{Layout}
@@ -162,7 +162,7 @@ module _ (s : Index) (i : ℕ) (e : PartyState) (m : Running) (is : IsIndex s) (
   limit_on : (next : Running) → IsSame (running_call m) (running_call next) → op_in next ≡ op_in m → HasLimit m → HasLimit next
   limit_on next call op has =
       let limit : (running_call next).limit ≡ (running_call m).limit = ap (λ (c : Call). c.limit) call in
-      subst (λ (x : Option ℕ × Op). IfSome (change_of x.1) (λ _. IsSomeAnd x.0 (λ most. most ≤ 2 ^ 62))) (λ k. (sym limit k, sym op k)) has
+      subst (λ (x : Option ℕ × NameOp). IfSome (change_of x.1) (λ _. IsSomeAnd x.0 (λ most. most ≤ 2 ^ 62))) (λ k. (sym limit k, sym op k)) has
 
   turned_limit : (turn : Turn Running (Once Placed)) → MakesCall (running_call m) turn → IsOfAfter (op_in m) turn → (next : Running) → (state_after e turn).machine ≡ Some next → HasLimit next
   turned_limit (Go now) calls ops next goes =

@@ -117,7 +117,7 @@ crash_light s is = in_image s.layout s.words (λ now. list_weight s.layout.slots
 
 pub crash_is : (s : Index) (image : Row) (cuts : List PartyState) → IsIndex s → image ≡ record { layout = s.layout; words = durable_row s.layout s.words } → cuts ≡ s.states → IsCrash s image cuts
 crash_is s image cuts is leaves cut_off =
-    let law = image_law (world s) is.lawful in
+    let law = image_law (world s) is.lawful is.whole.joint.fit in
     record {
       leaves = leaves;
       cut_off = cut_off;

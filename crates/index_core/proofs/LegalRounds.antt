@@ -18,11 +18,13 @@ use mathlib.Core.Option.{some, some-injective, some-ne-none}
 use lib.ListN.{get_elem?}
 use Rattle.cat_history.specs.Maps.{map_of, Map, at}
 use Rattle.cat_history.specs.Writes.{after}
-use Rattle.cat_history.specs.Records.{call_of, change_of, placed_write, placed_writes, interval, interval_at}
+use Rattle.cat_history.specs.Callers.{PlacesKeepLimit}
+use Rattle.cat_history.proofs.CallerLemmas.{late_writes_are_few}
+use Rattle.cat_history.specs.Records.{Call, as_op, call_of, change_of, change_asked, placed_write, placed_writes, Interval, interval, interval_at, interval_asked}
 use Rattle.cat_history.specs.Rounds.{IsAnswer, KeepsCallersOrder}
 use Rattle.cat_history.specs.declared.op.Change.{Change}
-use Rattle.cat_history.specs.declared.op.Op.{Op}
-use Rattle.cat_history.specs.declared.op.Op.TheVariants as op
+use Rattle.cat_history.specs.declared.op.NameOp.{NameOp}
+use Rattle.cat_history.specs.declared.op.NameOp.TheVariants as op
 use Rattle.cat_history.specs.declared.op.Write.{Write}
 use Rattle.cat_history.specs.declared.record.Record.{Record}
 use Rattle.cat_history.specs.declared.record.Reply.TheVariants.{Old}
@@ -31,9 +33,11 @@ use Rattle.call_stages.specs.declared.once.Once.TheVariants as once
 use Rattle.call_stages.specs.declared.once.Placed.{Placed}
 use Rattle.node_ops.specs.Asked.{name_asked}
 use Rattle.index_core.specs.Indexes.{Index}
-use Rattle.index_core.specs.LegalRounds.{placed_record, record_told, record_of, records_of, LegalHistoryIsLegalRound}
+use Rattle.index_core.specs.LegalRounds.{placed_record, record_told, record_of, records_of, callers_placed, LegalHistoryIsLegalRound, LegalHistoryKeepsLimit}
 use Rattle.index_core.specs.Lone.{IsQuiet}
-use Rattle.index_core.specs.Schedules.{BegunCall, AnsweredCall, IsNext, IsLegalAnswer, IsPlacedCall, StandsAt, interval_of, IsAnsweredWrite, IsWriteInFlight, IsLegalHistory}
+use Rattle.index_core.specs.Schedules.{BegunCall, AnsweredCall, IsNext, IsLegalAnswer, IsPlacedCall, StandsAt, interval_of, IsAnsweredWrite, IsWriteInFlight, CarryLimit, IsLegalHistory}
+use Rattle.index_core.proofs.Flights.{answered_begun}
+use Rattle.index_core.proofs.Limits.{write_end, first_there}
 use Rattle.index_core.proofs.Lists.{some_same}
 
 module _ {A B : Type 0} (f : A → Option B) where
@@ -151,6 +155,14 @@ module _ {X : Type 0} where
   numbered-apart n [] = tt
   numbered-apart n (x ∷ h) = (numbered-above n (n + 1) h (omega arith), numbered-apart (n + 1) h)
 
+-- what is made of an element is among what is made of all
+contains-map : {A B : Type 0} (f : A → B) (l : List A) (a : A) → Contains l a → Contains (map f l) (f a)
+contains-map f l a has = (
+  has.0,
+  let within = has.1 in omega (arith, length-map l f),
+  get_or-map f l has.0 a (f a) has.1 ∙ ap f has.2,
+)
+
 -- the record of a call that took place
 took-place : (c : AnsweredCall) (r : Record) → record_of c ≡ Some r → (placed : Placed) × (c.answer ≡ once.Done placed) × (placed_record c.call placed ≡ r)
 took-place c r told = by c.answer refl told
@@ -174,11 +186,27 @@ told-stands history c placed (Some change) x stands told =
     subst (λ (y : ℕ × Write). (slice_get history y.0 ≡ Some y.1) × (y.1.caller ≡ c.caller) × (y.1.index ≡ c.index)) (some_same told) (stands, refl, refl)
 
 -- the old number is an answer of each op
-answer-of : (base : Map) (history : List Write) (o : Op) (placed : Placed) → placed.old ≡ at (after base history placed.place) (name_asked o)
-    → IsAnswer base history o (Old placed.old placed.place)
-answer-of base history (op.Put name value) placed is = is
-answer-of base history (op.Get name) placed is = is
-answer-of base history (op.Del name) placed is = is
+answer-of : (base : Map) (history : List Write) (limit : ℕ) (o : NameOp) (placed : Placed) → placed.old ≡ at (after base history placed.place) (name_asked o)
+    → IsAnswer base history limit (as_op o) (Old placed.old placed.place)
+answer-of base history limit (op.Put name value) placed is = is
+answer-of base history limit (op.Get name) placed is = is
+answer-of base history limit (op.Del name) placed is = is
+
+-- a call on one name asks for its change, and takes its places, among any calls too
+asked-is : (o : NameOp) → change_asked (as_op o) ≡ change_of o
+asked-is (op.Put name value) = refl
+asked-is (op.Get name) = refl
+asked-is (op.Del name) = refl
+
+interval-is : (o : NameOp) (place : ℕ) → interval_at o place ≡ interval_asked (as_op o) place
+interval-is (op.Put name value) place = refl
+interval-is (op.Get name) place = refl
+interval-is (op.Del name) place = refl
+
+ends-before : (a b : NameOp) (p q : ℕ) → (interval_at a p).end ≤ (interval_at b q).start → (interval_asked (as_op a) p).end ≤ (interval_asked (as_op b) q).start
+ends-before a b p q before =
+    subst (λ (i : Interval). i.end ≤ (interval_asked (as_op b) q).start) (interval-is a p)
+    (subst (λ (i : Interval). (interval_at a p).end ≤ i.start) (interval-is b q) before)
 
 module _ (initial : Index) (begun : List BegunCall) (calls : List AnsweredCall) (s : Index) (legal : IsLegalHistory initial begun calls s) where
   abbrev base : Map
@@ -200,7 +228,8 @@ module _ (initial : Index) (begun : List BegunCall) (calls : List AnsweredCall) 
       → (placed : Placed) × (c.answer ≡ once.Done placed) × (slice_get s.history x.0 ≡ Some x.1) × (x.1.caller ≡ c.call.caller) × (x.1.index ≡ c.call.index)
   stands-there i c x there told = option_and_then_some placed_write (record_of c) x told (λ r is of.
       let took = took-place c r is in
-      let stands = told-stands s.history c.call took.0 (change_of c.call.op) x (placed-legal i c took.0 there took.1).stands (ap placed_write took.2 ∙ of) in
+      let stands = told-stands s.history c.call took.0 (change_of c.call.op) x (placed-legal i c took.0 there took.1).stands
+      (ap (option_map (λ (change : Change). (took.0.place, record { caller = c.call.caller; index = c.call.index; change = change }))) (sym (asked-is c.call.op)) ∙ ap placed_write took.2 ∙ of) in
       (took.0, took.1, stands.0, stands.1, stands.2))
 
   -- no two calls' writes have one place
@@ -222,7 +251,7 @@ module _ (initial : Index) (begun : List BegunCall) (calls : List AnsweredCall) 
       let told : record_of w.answered ≡ Some (placed_record w.answered.call w.placed) = ap (record_told w.answered.call) w.answer in
       let is : write_told w.answered ≡ Some (place, write) =
       ap (option_and_then placed_write) told
-      ∙ ap (option_map (λ (change : Change). (w.placed.place, record { caller = w.answered.call.caller; index = w.answered.call.index; change = change }))) w.change
+      ∙ ap (option_map (λ (change : Change). (w.placed.place, record { caller = w.answered.call.caller; index = w.answered.call.index; change = change }))) (asked-is w.answered.call.op ∙ w.change)
       ∙ (λ i. Some (w.place i, record { caller = sym w.caller i; index = sym w.index i; change = write.change })) in
       gives-here write_told calls w.number w.answered (place, write) w.there is)
       (λ (w : IsWriteInFlight s.states place write). absurd (let both : None ≡ Some w.machine = sym (quiet w.party w.state w.there) ∙ w.flies in cc))
@@ -263,18 +292,90 @@ module _ (initial : Index) (begun : List BegunCall) (calls : List AnsweredCall) 
       absurd (omega arith))
       (λ (apart : (by_r.0 < by_t.0) ⊎ (by_t.0 < by_r.0)). ⊎_elim
       (λ (before : by_r.0 < by_t.0).
-      subst (λ (o : Once Placed). IfSome (interval_of b.call.op o) (λ second. (interval_at a.call.op took.0.place).end ≤ second.start)) later.1
+      ends-before a.call.op b.call.op took.0.place later.0.place
+      (subst (λ (o : Once Placed). IfSome (interval_of b.call.op o) (λ second. (interval_at a.call.op took.0.place).end ≤ second.start)) later.1
       (subst (λ (o : Once Placed). IfSome (interval_of a.call.op o) (λ first. IfSome (interval_of b.call.op b.answer) (λ second. first.end ≤ second.start))) took.1
-      (legal.in_order by_r.0 by_t.0 a b by_r.2 by_t.2 before caller).in_order))
+      (legal.in_order by_r.0 by_t.0 a b by_r.2 by_t.2 before caller).in_order)))
       (λ (behind : by_t.0 < by_r.0). let above = rises by_t.0 by_r.0 b a later.0 by_t.2 by_r.2 behind (sym caller) later.1 in absurd (omega arith))
       apart)
       (cases_order by_r.0 by_t.0)))
 
+  module _ (limit : ℕ) (quiet : IsQuiet s) (carry : CarryLimit limit begun) where
+    -- a call that wrote began below the limit, and ended past its place
+    wrote-below : (place : ℕ) (write : Write) (w : IsAnsweredWrite calls place write) → (w.answered.call.since < limit) × (w.answered.call.since ≤ place) × (place < w.answered.until)
+    wrote-below place write w =
+        let a = w.answered in
+        let is = placed-legal w.number a w.placed w.there w.answer in
+        let end = write_end a.call.op w.placed.place write.change w.change in
+        let ended = is.ended in
+        let began = is.took.later in
+        let same = w.place in
+        let below : a.call.since < limit =
+        subst (λ (o : Option ℕ). IfSome o (λ most. a.call.since < most)) (own_limit a.call write.change (answered_begun begun calls s.states legal.each_call w.number a w.there) w.change) is.took.below in
+        (below, omega arith, omega arith)
+      where
+        own_limit : (c : BegunCall) (change : Change) → Contains begun c → change_of c.op ≡ Some change → c.limit ≡ Some limit
+        own_limit c change has asks =
+            subst (λ (o : Option Change). IfSome o (λ change. c.limit ≡ Some limit)) asks (All-contains (λ (b : BegunCall). IfSome (change_of b.op) (λ change. b.limit ≡ Some limit)) begun c carry has)
+
+    -- each write is that of an answered call
+    wrote : (place : ℕ) (write : Write) → slice_get s.history place ≡ Some write → IsAnsweredWrite calls place write
+    wrote place write stands =
+        ⊎_elim (λ (w : IsAnsweredWrite calls place write). w)
+        (λ (w : IsWriteInFlight s.states place write). absurd (let both : None ≡ Some w.machine = sym (quiet w.party w.state w.there) ∙ w.flies in cc))
+        (legal.writes place write stands)
+
+    -- whose caller has a record
+    wrote-recorded : (place : ℕ) (write : Write) → IsAnsweredWrite calls place write → Contains (callers_placed calls) write.caller
+    wrote-recorded place write w =
+        let r = placed_record w.answered.call w.placed in
+        let has : Contains (records_of calls) r = gives-here record_of calls w.number w.answered r w.there (ap (record_told w.answered.call) w.answer) in
+        let mapped : Contains (map call_of (records_of calls)) (call_of r) = contains-map call_of (records_of calls) r has in
+        subst (Contains (callers_placed calls)) (sym w.caller) (contains-map (λ (c : Call). c.caller) (map call_of (records_of calls)) (call_of r) mapped)
+
+    wrote-once : (p q : ℕ) (v w : Write) → slice_get s.history p ≡ Some v → slice_get s.history q ≡ Some w → p < q → limit ≤ p + 1 → v.caller ≢ w.caller
+    wrote-once p q v w at_p at_q less late same =
+        let one = wrote p v at_p in
+        let two = wrote q w at_q in
+        let by = wrote-below p v one in
+        let on = wrote-below q w two in
+        let past = by.2 in
+        let below = on.0 in
+        let later = by.1 in
+        let further = on.2 in
+        let caller : one.answered.call.caller ≡ two.answered.call.caller = sym one.caller ∙ same ∙ two.caller in
+        ⊎_elim
+        (λ (number : one.number ≡ two.number).
+        let call : one.answered ≡ two.answered = some-injective _ _ (sym one.there ∙ ap (get_elem? calls) number ∙ two.there) in
+        let answers : once.Done one.placed ≡ once.Done two.placed = sym one.answer ∙ ap (λ (a : AnsweredCall). a.answer) call ∙ two.answer in
+        let place : p ≡ q = sym one.place ∙ done-place one.placed two.placed answers ∙ two.place in
+        omega arith)
+        (λ (apart : (one.number < two.number) ⊎ (two.number < one.number)). ⊎_elim
+        (λ (before : one.number < two.number). let ended = (legal.in_order one.number two.number one.answered two.answered one.there two.there before caller).ended in omega arith)
+        (λ (behind : two.number < one.number). let ended = (legal.in_order two.number one.number two.answered one.answered two.there one.there behind (sym caller)).ended in omega arith)
+        apart)
+        (cases_order one.number two.number)
+      where
+        done-place : (a b : Placed) → once.Done a ≡ once.Done b → a.place ≡ b.place
+        done-place a b e = cc
+
 pub legal_history_is_legal_round : LegalHistoryIsLegalRound
-legal_history_is_legal_round initial begun calls s legal quiet = record {
+legal_history_is_legal_round initial begun calls s limit legal quiet keeps = record {
   each_call = IsPermutation-refl (map call_of (records_of calls));
   by_place = by-place initial begun calls s legal quiet;
-  answers = each-record initial begun calls s legal (λ r. IsAnswer (map_of initial.base) s.history r.op r.reply) (λ i c placed is. answer-of (map_of initial.base) s.history c.call.op placed is.took.old);
-  within = each-record initial begun calls s legal (λ r. IfSome (interval r) (λ i. i.end ≤ length s.history)) (λ i c placed is. is.took.within);
+  answers = each-record initial begun calls s legal (λ r. IsAnswer (map_of initial.base) s.history limit r.op r.reply)
+      (λ i c placed is. answer-of (map_of initial.base) s.history limit c.call.op placed is.took.old);
+  within = each-record initial begun calls s legal (λ r. IfSome (interval r) (λ i. i.end ≤ length s.history))
+      (λ i c placed is. subst (λ (i : Interval). i.end ≤ length s.history) (interval-is c.call.op placed.place) is.took.within);
   in_order = in-order initial begun calls s legal;
+  in_time = keeps;
 }
+
+pub legal_history_keeps_limit : LegalHistoryKeepsLimit
+legal_history_keeps_limit initial begun calls s limit legal quiet carry =
+    let wrote-it = wrote initial begun calls s legal limit quiet carry in
+    let below = wrote-below initial begun calls s legal limit quiet carry in
+    late_writes_are_few limit (callers_placed calls) s.history
+    (λ many. let first = first_there s.history many in let began = (below 0 first.0 (wrote-it 0 first.0 first.1)).0 in omega arith)
+    (λ place write stands. wrote-recorded initial begun calls s legal limit quiet carry place write (wrote-it place write stands))
+    (wrote-once initial begun calls s legal limit quiet carry)

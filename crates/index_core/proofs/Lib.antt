@@ -22,3 +22,4 @@ pub mod MachineLaw
 pub mod Tries
 pub mod Alone
 pub mod Endings
+pub mod Fulls

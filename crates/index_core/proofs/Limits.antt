@@ -11,8 +11,8 @@ use Rattle.cat_history.proofs.CallerLemmas.{late_writes_are_few}
 use Rattle.cat_history.specs.Maps.{map_of}
 use Rattle.cat_history.specs.Records.{interval_at, change_of}
 use Rattle.cat_history.specs.declared.op.Change.{Change}
-use Rattle.cat_history.specs.declared.op.Op.{Op}
-use Rattle.cat_history.specs.declared.op.Op.TheVariants as op
+use Rattle.cat_history.specs.declared.op.NameOp.{NameOp}
+use Rattle.cat_history.specs.declared.op.NameOp.TheVariants as op
 use Rattle.cat_history.specs.declared.op.Write.{Write}
 use Rattle.call_stages.specs.declared.once.Once.TheVariants as once
 use Rattle.call_stages.specs.declared.once.Placed.{Placed}
@@ -34,7 +34,7 @@ use Rattle.node_ops.proofs.Endings.{placed_is_in_time}
 use Rattle.index_core.proofs.Scheduling.{IsEarlier, AnswerHolds, Kept}
 
 -- where an interval ends, if it is of a write
-pub write_end : (o : Op) (place : ℕ) (change : Change) → change_of o ≡ Some change → place < (interval_at o place).end
+pub write_end : (o : NameOp) (place : ℕ) (change : Change) → change_of o ≡ Some change → place < (interval_at o place).end
 write_end (op.Put _ _) place change asks = omega arith
 write_end (op.Get _) place change asks = absurd cc
 write_end (op.Del _) place change asks = omega arith
@@ -67,7 +67,7 @@ caller_there begun c has =
       get_or-map (λ (b : BegunCall). b.caller) begun has.0 c c.caller within ∙ ap (λ (b : BegunCall). b.caller) has.2,
     )
 
-first_there : (writes : List Write) → 0 < length writes → (write : Write) × (slice_get writes 0 ≡ Some write)
+pub first_there : (writes : List Write) → 0 < length writes → (write : Write) × (slice_get writes 0 ≡ Some write)
 first_there [] many = absurd (omega arith)
 first_there (write ∷ writes) many = (write, refl)
 

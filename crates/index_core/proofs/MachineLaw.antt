@@ -31,8 +31,8 @@ use Rattle.index_core.specs.PartyStates.{IsPartyState, state_after, state_with, 
 use Rattle.index_core.specs.Indexes.{Index, IsIndex, footed, world, told, view_of, stepped_index}
 use Rattle.index_core.specs.MachineLaws.{IsReady, ReadyAfter, MachineKeeps, BeginKeeps, FirstIsReady, IdleKeep, place_told, place_now, place_next, PlacesFollow}
 use Rattle.cat_history.specs.declared.op.Change.TheVariants as change
-use Rattle.cat_history.specs.declared.op.Op.{Op}
-use Rattle.cat_history.specs.declared.op.Op.TheVariants as op
+use Rattle.cat_history.specs.declared.op.NameOp.{NameOp}
+use Rattle.cat_history.specs.declared.op.NameOp.TheVariants as op
 use Rattle.pm_words.specs.declared.action.Action.{Action}
 use Rattle.call_stages.specs.Stages.{pending_in}
 use Rattle.node_ops.specs.CallStages.{stage_after}
@@ -68,9 +68,9 @@ ready_idle : (l : Layout) (g : ℕ) (m : Running) → 0 < l.nodes → Sound l g 
 ready_idle l g m nodes sound idle = ready_to l g m nodes sound (subst (IsWithin l) (sym idle) tt)
 
 -- a put that shows a new name goes on to, until it is answered so
-fades : (o : Op) (shown : ℕ) (turn : Turn Running (Once Placed)) → IsOfAfter o turn → shown ≤ shows (stage_after turn) + told_new (reply_of turn) → put_shows o shown ≤ showing_after o turn
+fades : (o : NameOp) (shown : ℕ) (turn : Turn Running (Once Placed)) → IsOfAfter o turn → shown ≤ shows (stage_after turn) + told_new (reply_of turn) → put_shows o shown ≤ showing_after o turn
 fades (op.Put name value) shown (Go next) of less =
-    let same : put_shows (op.Put name value) (shows (stage_of next)) ≡ put_shows (op_in next) (shows (stage_of next)) = ap (λ (o : Op). put_shows o (shows (stage_of next))) (sym (op_told (op.Put name value) next of)) in
+    let same : put_shows (op.Put name value) (shows (stage_of next)) ≡ put_shows (op_in next) (shows (stage_of next)) = ap (λ (o : NameOp). put_shows o (shows (stage_of next))) (sym (op_told (op.Put name value) next of)) in
     omega arith
 fades (op.Put name value) shown (Done (once.Done placed)) of less = at placed.old less
   where
@@ -83,7 +83,7 @@ fades (op.Put name value) shown (Done (once.Again why)) of less = omega arith
 fades (op.Get name) shown turn of less = omega arith
 fades (op.Del name) shown turn of less = omega arith
 
-asks_put : (o : Op) (name : List ℕ) (value n : ℕ) → change_of o ≡ Some (change.Put name value) → put_shows o n ≡ n
+asks_put : (o : NameOp) (name : List ℕ) (value n : ℕ) → change_of o ≡ Some (change.Put name value) → put_shows o n ≡ n
 asks_put (op.Put _ _) name value n asks = refl
 asks_put (op.Get _) name value n asks = absurd (cc)
 asks_put (op.Del _) name value n asks = absurd (cc)
@@ -95,7 +95,7 @@ rises l m a (Go next) of adds =
     let pends = pends_own_change (op_in m) next (change.Put adds.name adds.value) of (ap pending_in adds.is ∙ adds.shows) in
     let told : op_in next ≡ op_in m = op_told (op_in m) next of in (
       asks_put (op_in m) adds.name adds.value (shows (stage_of m)) pends.0 ∙ both.0,
-      ap (λ (o : Op). put_shows o (shows (stage_of next))) told ∙ asks_put (op_in m) adds.name adds.value (shows (stage_of next)) pends.0 ∙ both.1,
+      ap (λ (o : NameOp). put_shows o (shows (stage_of next))) told ∙ asks_put (op_in m) adds.name adds.value (shows (stage_of next)) pends.0 ∙ both.1,
     )
 rises l m a (Done answer) of adds = absurd (let idle = adds.is in cc)
 

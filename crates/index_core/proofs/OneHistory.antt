@@ -12,8 +12,8 @@ use Rattle.pm_words.specs.Rows.{evicted}
 use Rattle.cat_history.specs.Maps.{Map, map_of}
 use Rattle.cat_history.specs.Records.{interval_at, change_of}
 use Rattle.cat_history.specs.declared.op.Change.{Change}
-use Rattle.cat_history.specs.declared.op.Op.{Op}
-use Rattle.cat_history.specs.declared.op.Op.TheVariants as op
+use Rattle.cat_history.specs.declared.op.NameOp.{NameOp}
+use Rattle.cat_history.specs.declared.op.NameOp.TheVariants as op
 use Rattle.cat_history.specs.declared.op.Write.{Write}
 use Rattle.call_stages.specs.declared.once.Once.{Once}
 use Rattle.call_stages.specs.declared.once.Once.TheVariants as once
@@ -124,7 +124,7 @@ kept first index quiet fresh (reserves {begun = begun} {calls = calls} {old = ol
     subst (Kept first begun calls) (sym e) (kept_as first begun calls old old.words new.spare k (respare old new.spare k.index))
 
 -- where an interval starts
-start_is : (o : Op) (place : ℕ) → (interval_at o place).start ≡ place
+start_is : (o : NameOp) (place : ℕ) → (interval_at o place).start ≡ place
 start_is (op.Put _ _) place = refl
 start_is (op.Get _) place = refl
 start_is (op.Del _) place = refl

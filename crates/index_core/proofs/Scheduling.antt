@@ -17,8 +17,8 @@ use Rattle.cat_history.specs.Maps.{Map, at, map_of}
 use Rattle.cat_history.specs.Writes.{after}
 use Rattle.cat_history.specs.Records.{interval_at, change_of}
 use Rattle.cat_history.specs.declared.op.Change.{Change}
-use Rattle.cat_history.specs.declared.op.Op.{Op}
-use Rattle.cat_history.specs.declared.op.Op.TheVariants as op
+use Rattle.cat_history.specs.declared.op.NameOp.{NameOp}
+use Rattle.cat_history.specs.declared.op.NameOp.TheVariants as op
 use Rattle.cat_history.specs.declared.op.Write.{Write}
 use Rattle.call_stages.specs.declared.once.Once.{Once}
 use Rattle.call_stages.specs.declared.once.Once.TheVariants as once
@@ -90,7 +90,7 @@ pub record Kept (first : Index) (begun : List BegunCall) (calls : List AnsweredC
   pub each_call : EachIsAnsweredOrFlies begun calls s.states
   pub counts : (i : ℕ) (state : PartyState) → get_elem? s.states i ≡ some state → CountsUpTo first begun i state
 
-pub place_le_end : (o : Op) (place : ℕ) → place ≤ (interval_at o place).end
+pub place_le_end : (o : NameOp) (place : ℕ) → place ≤ (interval_at o place).end
 place_le_end (op.Put _ _) place = omega arith
 place_le_end (op.Get _) place = omega arith
 place_le_end (op.Del _) place = omega arith

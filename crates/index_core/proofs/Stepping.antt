@@ -35,7 +35,7 @@ use Rattle.node_ops.specs.declared.running.Running.TheVariants.{Getting, Putting
 use Rattle.node_ops.specs.GetSteps.{IsGet, get_call, get_turned}
 use Rattle.node_ops.specs.PutSteps.{IsPut, put_call, put_turned}
 use Rattle.node_ops.specs.DelSteps.{IsDel, del_call, del_turned}
-use Rattle.cat_history.specs.declared.op.Op.{Op}
+use Rattle.cat_history.specs.declared.op.NameOp.{NameOp}
 use Rattle.index_law.specs.Worlds.{Party, World, facts, written, moved_on, stepped}
 use Rattle.index_law.specs.Lawful.{Sure, Lawful}
 use Rattle.index_law.specs.Laws.{ActionLaw, Counts, IsLegal, IsWithin, StepLaw}
@@ -65,7 +65,7 @@ pub record StepFacts (s : Index) (party : ℕ) (state : PartyState) (machine : R
   pub fits : IsRunning machine
   pub can : CanAct s.layout s.words (running_asks machine)
   pub takes : running_takes machine (told s machine)
-  pub keeps_op : (asked : Op) → IsOf asked machine → IsOfAfter asked (running_turned machine (told s machine))
+  pub keeps_op : (asked : NameOp) → IsOf asked machine → IsOfAfter asked (running_turned machine (told s machine))
   pub keeps_call : MakesCall (running_call machine) (running_turned machine (told s machine))
   pub is_step : AnyStep s.layout s.generation (stage_of machine) (running_asks machine) (told s machine) (stage_after (running_turned machine (told s machine))) (reply_of (running_turned machine (told s machine)))
   pub kept : (spare : ℕ) → IsIndex (stepped_index s party state machine spare)
@@ -104,9 +104,9 @@ abbrev CallsSo : ℕ → Turn Running (Once Placed) → Type 0
 CallsSo i (Go machine) = (running_call machine).view.caller ≡ i
 CallsSo i (Done answer) = Unit {0}
 
-after_state : (l : Layout) (g i : ℕ) (state : PartyState) (op : Op) (turn : Turn Running (Once Placed)) → state.caller ≡ i → SoundAfter l g turn → IsOfAfter op turn → CallsSo i turn
+after_state : (l : Layout) (g i : ℕ) (state : PartyState) (op : NameOp) (turn : Turn Running (Once Placed)) → state.caller ≡ i → SoundAfter l g turn → IsOfAfter op turn → CallsSo i turn
     → IsPartyState l g i (state_after state turn)
-after_state l g i state op (Go machine) same sound of own = record { caller = same; machine = sound; op = subst (λ (o : Op). IsOf o machine) (sym (op_told op machine of)) of; own = own }
+after_state l g i state op (Go machine) same sound of own = record { caller = same; machine = sound; op = subst (λ (o : NameOp). IsOf o machine) (sym (op_told op machine of)) of; own = own }
 after_state l g i state op (Done answer) same sound of own = record { caller = same; machine = tt; op = tt; own = tt }
 
 -- states of which one is another

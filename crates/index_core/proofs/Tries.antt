@@ -1,5 +1,5 @@
 -- One try of a call, with no other in flight.
-use Rattle.std.proofs.Common.{◌≡◌, ◌≢◌, ℕ, suc, ◌+◌, ◌<◌, ◌≤◌, ◌^◌, ⊎_elim, List, ◌++◌, length, set, slice_set, map, refl, sym, ap, ◌∙◌, subst, arith}
+use Rattle.std.proofs.Common.{◌≡◌, ◌≢◌, ℕ, suc, ◌+◌, ◌-◌, ◌<◌, ◌≤◌, ◌^◌, ⊎_elim, List, ◌++◌, length, set, slice_set, map, refl, sym, ap, ◌∙◌, subst, arith}
 use Rattle.std.specs.Prelude.{Option, Some, None, IfSome}
 use mathlib.Core.Option.{some, none, some-injective}
 use lib.ListN.{get_elem?}
@@ -7,15 +7,17 @@ use Rattle.pm_words.specs.declared.again.Again.TheVariants as again
 use Rattle.pm_words.specs.declared.machine.Turn.{Turn}
 use Rattle.pm_words.specs.declared.machine.Turn.TheVariants.{Go, Done}
 use Rattle.pm_words.specs.Turns.{GoesBelow}
-use Rattle.pm_words.specs.Rows.{acted}
+use Rattle.pm_words.specs.declared.action.Action.{Action}
+use Rattle.pm_words.specs.Rows.{acted, got}
 use Rattle.cat_key.specs.Names.{IsName}
 use Rattle.cat_history.specs.Maps.{at, map_of}
-use Rattle.cat_history.specs.declared.op.Op.{Op}
+use Rattle.cat_history.specs.declared.op.NameOp.{NameOp}
 use Rattle.call_stages.specs.declared.once.Once.{Once}
 use Rattle.call_stages.specs.declared.once.Once.TheVariants as once
 use Rattle.call_stages.specs.declared.once.Placed.{Placed}
 use Rattle.call_stages.specs.Stages.{Stage, Idle, counted}
-use Rattle.call_stages.specs.AnySteps.{AnyStep}
+use Rattle.call_stages.specs.AnySteps.{AnyStep, on_nodes, beside}
+use Rattle.call_stages.specs.Prevs.{IsRetire}
 use Rattle.call_stages.specs.declared.view.View.{View}
 use Rattle.node_ops.specs.declared.running.Running.{Running}
 use Rattle.call_stages.specs.Views.{IsView}
@@ -25,9 +27,12 @@ use Rattle.node_ops.specs.CallStages.{stage_of, stage_after, reply_of}
 use Rattle.node_ops.proofs.OpLaw.{op_told}
 use Rattle.index_law.specs.Facts.{Facts}
 use Rattle.index_law.specs.Worlds.{Party, World, facts, stepped, moved_on, written}
-use Rattle.index_law.specs.Lawful.{Each}
+use Rattle.index_law.specs.Anchors.{gone_nodes, members_most}
+use Rattle.index_law.specs.Lawful.{Each, Lawful}
 use Rattle.index_law.specs.Laws.{IsAtRest}
 use Rattle.index_law.specs.Weights.{weight_sum}
+use Rattle.index_law.proofs.AnySteps.{beside_keeps}
+use Rattle.index_law.proofs.GoneCounts.{step_counts_gone}
 use Rattle.index_law.proofs.Starts.{idle_law}
 use Rattle.index_law.proofs.Parties.{at_set, set_here}
 use Rattle.lone_law.specs.Locks.{locks_of, fewest_locks, HasLocked, MergesNone, AfterLocks}
@@ -75,6 +80,16 @@ quiet_empty s is quiet c j caller number = ⊎_elim
     (λ (hand : IsInHand (footed s) c j). absurd (let none = quiet_lines s quiet hand.number (Some hand.line) hand.there in cc))
     (is.tended c j caller number)
 
+-- a step of a call that merges nothing makes no node GONE
+gone_stays : (w : World) (i : ℕ) (p : Party) (action : Action) (x : ℕ) (next : Stage) (answer : Option (Once Placed)) → Lawful w → get_elem? w.parties i ≡ some p → MergesNone p.stage
+    → AnyStep w.layout w.generation p.stage action x next answer → x ≡ got w.layout w.words action
+    → gone_nodes w.layout.nodes (facts (stepped w i p action next)) ≡ gone_nodes w.layout.nodes (facts w)
+gone_stays w i p action x next answer lawful there alone (on_nodes k) gives = ⊎_elim
+    (λ (same : gone_nodes w.layout.nodes (facts (stepped w i p action next)) ≡ gone_nodes w.layout.nodes (facts w)). same)
+    (λ (one : IsRetire p.stage next × (gone_nodes w.layout.nodes (facts (stepped w i p action next)) ≡ gone_nodes w.layout.nodes (facts w) + 1)). absurd (subst MergesNone one.0.was alone))
+    (step_counts_gone w i p action x next answer lawful there k gives)
+gone_stays w i p action x next answer lawful there alone (beside uncounted is) gives = ap (gone_nodes w.layout.nodes) (beside_keeps w i p action lawful there uncounted is).facts
+
 -- One call is in flight, as the index was s0 before it.
 pub record Lone (s0 s : Index) (i : ℕ) (c : CoreCall) : Type 0 where
   pub state : PartyState
@@ -88,6 +103,7 @@ pub record Lone (s0 s : Index) (i : ℕ) (c : CoreCall) : Type 0 where
   pub call : LoneCall (world s0) i (op_of c) (limit_of c) (world s) (party_of (state_with state (length s0.history) machine)) machine
   pub same_base : s.base ≡ s0.base
   pub locks : HasLocked s.generation (facts (world s0)).version (facts (world s)).version (stage_of machine)
+  pub most : members_most (world s) ≡ members_most (world s0)
   pub weighs : weight_sum (world s) ≤ weight_of s0 + showing (Some machine)
   pub room : length s0.history + s0.spare ≤ room_of s
 
@@ -184,6 +200,7 @@ lone_start s0 s i c is0 quiet t spare is =
       call = begun_call s0 i t.state c s.spare is0 quiet t.there here t.of;
       same_base = refl;
       locks = idle_locked s0.generation (facts (world s0)).version (stage_of m) (machine_idle s0 i c);
+      most = refl;
       weighs = omega arith;
       room = room;
     })
@@ -265,6 +282,16 @@ module _ (s0 s s' : Index) (i : ℕ) (c : CoreCall) (result : Stepped) (o : Lone
   facts_are : (next : Stage) → facts (world s') ≡ facts (stepped (world s) i p (running_asks o.machine) next)
   facts_are next = ap (λ (v : Index). facts (world v)) is
 
+  -- as many nodes are GONE
+  most_after : (turn : Turn Running (Once Placed)) → running_turned o.machine x ≡ turn → members_most (world s') ≡ members_most (world s0)
+  most_after turn turned =
+      let step : AnyStep s.layout s.generation (stage_of o.machine) (running_asks o.machine) x (stage_after turn) (reply_of turn) =
+      subst (λ (q : Turn Running (Once Placed)). AnyStep s.layout s.generation (stage_of o.machine) (running_asks o.machine) x (stage_after q) (reply_of q)) turned
+      (step_facts s i e o.machine o.index at_i refl).is_step in
+      ap (λ (v : Index). members_most (world v)) is
+      ∙ ap (λ (gone : ℕ). s.layout.nodes - gone) (gone_stays (world s) i p (running_asks o.machine) x (stage_after turn) (reply_of turn) o.index.lawful o.call.trying.there (machines_merge_none o.machine) step refl)
+      ∙ o.most
+
   locks_after : (turn : Turn Running (Once Placed)) → running_turned o.machine x ≡ turn → AfterLocks s.generation (facts (world s0)).version (facts (world s')).version (stage_after turn) (reply_of turn)
   locks_after turn turned =
       let held : MergesNone (stage_after turn) = one turn in
@@ -306,6 +333,7 @@ module _ (s0 s s' : Index) (i : ℕ) (c : CoreCall) (result : Stepped) (o : Lone
           call = subst (λ (w : World). LoneCall (world s0) i (op_of c) (limit_of c) w (moved_on p (stage_of next)) next) (sym (world_is next go.1)) call_on;
           same_base = ap (λ (v : Index). v.base) is ∙ o.same_base;
           locks = subst (λ (g : ℕ). HasLocked g (facts (world s0)).version (facts (world s')).version (stage_of next)) (sym (ap (λ (v : Index). v.generation) is)) (locks_after (Go next) go.1);
+          most = most_after (Go next) go.1;
           weighs = omega arith;
           room = omega arith;
         },
@@ -353,7 +381,7 @@ module _ (s0 s s' : Index) (i : ℕ) (c : CoreCall) (result : Stepped) (o : Lone
         let sum : weight_sum (world s') ≡ weight_sum (world (stepped_index s i e o.machine s.spare)) = ap (λ (v : Index). weight_sum (world v)) is in
         let rises : weight_sum (world (stepped_index s i e o.machine s.spare)) + showing (Some o.machine) ≤ weight_sum (world s) + added_by (op_in o.machine) answer =
         subst (λ (turn : Turn Running (Once Placed)). weight_sum (world (stepped_index s i e o.machine s.spare)) + showing (Some o.machine) ≤ weight_sum (world s) + showing_after (op_in o.machine) turn) done law.weighs in
-        let added : added_by (op_in o.machine) answer ≡ added_by (op_of c) answer = ap (λ (op : Op). added_by op answer) op_same in
+        let added : added_by (op_in o.machine) answer ≡ added_by (op_of c) answer = ap (λ (op : NameOp). added_by op answer) op_same in
         let before = o.weighs in
         let after = idle_weigh s' (lone_quiet answer answered) in
         omega arith
@@ -368,6 +396,7 @@ module _ (s0 s s' : Index) (i : ℕ) (c : CoreCall) (result : Stepped) (o : Lone
       layout = ap (λ (v : Index). v.layout) is ∙ o.call.trying.layout;
       generation = ap (λ (v : Index). v.generation) is ∙ o.call.trying.generation;
       base = ap (λ (v : Index). v.base) is ∙ o.same_base;
+      most = most_after (Done answer) done;
       weighs = weighs;
     }
 

@@ -10,8 +10,8 @@ use Rattle.pm_words.specs.declared.machine.Turn.TheVariants.{Done}
 use Rattle.pm_words.specs.declared.layout.Layout.{Layout}
 use Rattle.cat_history.specs.Records.{change_of}
 use Rattle.cat_history.specs.declared.op.Change.TheVariants as change
-use Rattle.cat_history.specs.declared.op.Op.{Op}
-use Rattle.cat_history.specs.declared.op.Op.TheVariants as op
+use Rattle.cat_history.specs.declared.op.NameOp.{NameOp}
+use Rattle.cat_history.specs.declared.op.NameOp.TheVariants as op
 use Rattle.call_stages.specs.declared.once.Once.{Once}
 use Rattle.call_stages.specs.declared.once.Once.TheVariants as once
 use Rattle.call_stages.specs.declared.once.Placed.{Placed}
@@ -69,7 +69,7 @@ sum_more f g more (x ∷ xs) =
     omega arith
 
 -- one for a put that shows a name that wasn't there, or has counted it
-abbrev showing_of : Op → ℕ → ℕ
+abbrev showing_of : NameOp → ℕ → ℕ
 showing_of (op.Put name value) shown = shown
 showing_of (op.Get name) shown = 0
 showing_of (op.Del name) shown = 0
@@ -81,24 +81,24 @@ showing (Some machine) = showing_of (op_in machine) (shows (stage_of machine))
 abbrev showing_sum : List PartyState → ℕ
 showing_sum states = sum_by (λ state. showing state.machine) states
 
-showing_up : (asked : Op) (few many : ℕ) → few ≤ many → showing_of asked few ≤ showing_of asked many
+showing_up : (asked : NameOp) (few many : ℕ) → few ≤ many → showing_of asked few ≤ showing_of asked many
 showing_up (op.Put name value) few many more = more
 showing_up (op.Get name) few many more = omega arith
 showing_up (op.Del name) few many more = omega arith
 
-showing_none : (asked : Op) → showing_of asked 0 ≡ 0
+showing_none : (asked : NameOp) → showing_of asked 0 ≡ 0
 showing_none (op.Put name value) = refl
 showing_none (op.Get name) = refl
 showing_none (op.Del name) = refl
 
 -- only a put has a put pending
-showing_put : (asked : Op) (name : List ℕ) (value shown : ℕ) → change_of asked ≡ Some (change.Put name value) → showing_of asked shown ≡ shown
+showing_put : (asked : NameOp) (name : List ℕ) (value shown : ℕ) → change_of asked ≡ Some (change.Put name value) → showing_of asked shown ≡ shown
 showing_put (op.Put key number) name value shown is = refl
 showing_put (op.Get key) name value shown is = absurd cc
 showing_put (op.Del key) name value shown is = absurd cc
 
 -- what an answer tells of such a put
-told_added : (asked : Op) (answer : Once Placed) → showing_of asked (told_new (Some answer)) ≡ added_by asked answer
+told_added : (asked : NameOp) (answer : Once Placed) → showing_of asked (told_new (Some answer)) ≡ added_by asked answer
 told_added (op.Put name value) (once.Done placed) = at placed.old
   where
     at : (old : Option ℕ) → new_if old ≡ added_if (op.Put name value) old
@@ -127,7 +127,7 @@ told_added (op.Del name) (once.Again why) = refl
 showing_puts : (state : PartyState) → showing state.machine ≤ put_in state.machine
 showing_puts state = at state.machine
   where
-    by_op : (asked : Op) (shown : ℕ) → shown ≤ 1 → showing_of asked shown ≤ put_count asked
+    by_op : (asked : NameOp) (shown : ℕ) → shown ≤ 1 → showing_of asked shown ≤ put_count asked
     by_op (op.Put name value) shown few = few
     by_op (op.Get name) shown few = omega arith
     by_op (op.Del name) shown few = omega arith
@@ -158,7 +158,7 @@ record Weighs (first : Index) (calls : List AnsweredCall) (s : Index) : Type 0 w
   pub index : IsIndex s
   pub sum : weight_sum (world s) ≤ bound first calls s
 
-same_added : (asked : Op) (result : Whole) → added_by asked (once_of result) ≡ added_whole asked result
+same_added : (asked : NameOp) (result : Whole) → added_by asked (once_of result) ≡ added_whole asked result
 same_added asked (whole.Placed placed) = refl
 same_added asked whole.Full = refl
 same_added asked (whole.Spent clock) = refl
@@ -218,13 +218,13 @@ module _ (first : Index) (quiet : IsQuiet first) (index : IsIndex first) where
       let now : showing_sum new.states ≡ showing_sum (set old.states party state') = ap showing_sum states in
       let more : shows (stage_of m) ≤ shows (stage_of next) + 0 = subst (λ (turn : Turn Running (Once Placed)). shows (stage_of m) ≤ shows (stage_after turn) + told_new (reply_of turn)) go.1 (step_shows t.turn.kind) in
       let up : showing (Some m) ≤ showing (Some next) =
-      subst (λ (asked : Op). showing_of (op_in m) (shows (stage_of m)) ≤ showing_of asked (shows (stage_of next))) (sym same_op) (showing_up (op_in m) (shows (stage_of m)) (shows (stage_of next)) (omega arith)) in
+      subst (λ (asked : NameOp). showing_of (op_in m) (shows (stage_of m)) ≤ showing_of asked (shows (stage_of next))) (sym same_op) (showing_up (op_in m) (shows (stage_of m)) (shows (stage_of next)) (omega arith)) in
       record {
         index = is;
         sum = ⊎_elim
             (λ (less : weight_sum (world new) ≤ weight_sum (world old)). omega arith)
             (λ (adds : AddsName old.layout (stage_of m) (running_asks m) (stage_after (running_turned m (told old m))) × (weight_sum (world new) ≤ weight_sum (world old) + 1)).
-            let one = adds_put old.layout m next (subst (λ (asked : Op). IsOf asked next) (sym same_op) of_next) same_op (subst (λ (turn : Turn Running (Once Placed)). AddsName old.layout (stage_of m) (running_asks m) (stage_after turn)) go.1 adds.0) in
+            let one = adds_put old.layout m next (subst (λ (asked : NameOp). IsOf asked next) (sym same_op) of_next) same_op (subst (λ (turn : Turn Running (Once Placed)). AddsName old.layout (stage_of m) (running_asks m) (stage_after turn)) go.1 adds.0) in
             let zero_before = one.0 in
             let one_after = one.1 in
             let most = adds.1 in

@@ -6,7 +6,7 @@ use Rattle.cat_history.specs.Maps.{Map, at}
 use Rattle.cat_history.specs.Writes.{after}
 use Rattle.cat_history.specs.Records.{interval_at, change_of}
 use Rattle.cat_history.specs.declared.op.Change.{Change}
-use Rattle.cat_history.specs.declared.op.Op.{Op}
+use Rattle.cat_history.specs.declared.op.NameOp.{NameOp}
 use Rattle.cat_history.specs.declared.op.Write.{Write}
 use Rattle.call_stages.specs.declared.once.Once.{Once}
 use Rattle.call_stages.specs.declared.once.Once.TheVariants as once
@@ -26,7 +26,7 @@ HasOwnWrite history caller index change place =
 -- A call of this op and limit, begun as the history was so long, took place: its interval lies in its time, which began
 -- below the limit if there is one, its old number is that of its name in the map at its place, and if it writes, its
 -- write stands there.
-pub record TookPlace (base : Map) (history : List Write) (caller index since : ℕ) (op : Op) (limit : Option ℕ)
+pub record TookPlace (base : Map) (history : List Write) (caller index since : ℕ) (op : NameOp) (limit : Option ℕ)
     (placed : Placed) : Type 0 where
   pub later : since ≤ placed.place
   pub within : (interval_at op placed.place).end ≤ length history
@@ -52,7 +52,7 @@ pub record FoundNoRoom (slots : ℕ) (base : Map) (history : List Write) (since 
 
 -- The answer of the party's call of this op and limit, on nodes of so many slots. Only a put is turned back for want of
 -- room.
-abbrev pub IsAnswerOf : ℕ → Map → List Write → PartyState → Op → Option ℕ → Once Placed → Type 0
+abbrev pub IsAnswerOf : ℕ → Map → List Write → PartyState → NameOp → Option ℕ → Once Placed → Type 0
 IsAnswerOf slots base history state op limit (once.Done placed) =
     TookPlace base history state.caller state.index state.since op limit placed
 IsAnswerOf slots base history state op limit (once.Spent clock) = WasReached state.since (length history) limit clock
@@ -61,7 +61,7 @@ IsAnswerOf slots base history state op limit (once.Again why) =
     why ≡ NoFree → IsPutOp op × FoundNoRoom slots base history state.since (length history) (name_asked op)
 
 -- What a step of it comes to.
-abbrev pub SaysOf : ℕ → Map → List Write → PartyState → Op → Option ℕ → Stepped → Type 0
+abbrev pub SaysOf : ℕ → Map → List Write → PartyState → NameOp → Option ℕ → Stepped → Type 0
 SaysOf slots base history state op limit Going = Unit {0}
 SaysOf slots base history state op limit (Answered (reply.Placed answer)) =
     IsAnswerOf slots base history state op limit answer

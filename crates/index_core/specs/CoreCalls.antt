@@ -1,7 +1,7 @@
 -- What is called of the core.
 use Rattle.std.specs.Prelude.{ℕ, ◌≤◌, ◌^◌, Option, Some, None}
-use Rattle.cat_history.specs.declared.op.Op.{Op}
-use Rattle.cat_history.specs.declared.op.Op.TheVariants as op
+use Rattle.cat_history.specs.declared.op.NameOp.{NameOp}
+use Rattle.cat_history.specs.declared.op.NameOp.TheVariants as op
 use Rattle.call_stages.specs.declared.view.View.{View}
 use Rattle.node_ops.specs.declared.get.Get.TheVariants as get
 use Rattle.node_ops.specs.declared.put.Put.TheVariants as put
@@ -14,7 +14,7 @@ use Rattle.index_core.specs.declared.party.CoreCall.{CoreCall}
 use Rattle.index_core.specs.declared.party.CoreCall.TheVariants as call
 
 -- What the call asks.
-abbrev pub op_of : CoreCall → Op
+abbrev pub op_of : CoreCall → NameOp
 op_of (call.Put name value limit) = op.Put name value
 op_of (call.Get name) = op.Get name
 op_of (call.Del name limit) = op.Del name

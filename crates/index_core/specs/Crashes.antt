@@ -8,8 +8,8 @@ use Rattle.pm_words.specs.Rows.{evicted, durable_row}
 use Rattle.cat_history.specs.Maps.{Map}
 use Rattle.cat_history.specs.CrashEnds.{IsCrashEnd}
 use Rattle.cat_history.specs.declared.op.Change.{Change}
-use Rattle.cat_history.specs.declared.op.Op.{Op}
-use Rattle.cat_history.specs.declared.op.Op.TheVariants as op
+use Rattle.cat_history.specs.declared.op.NameOp.{NameOp}
+use Rattle.cat_history.specs.declared.op.NameOp.TheVariants as op
 use Rattle.sound_image.specs.Sound.{IsSound, IsMapOf}
 use Rattle.call_stages.specs.Stages.{placed_in}
 use Rattle.node_ops.specs.declared.running.Running.{Running}
@@ -35,7 +35,7 @@ limit_or_most None = 2 ^ 62
 limit_or_most (Some limit) = limit
 
 -- The call of an op with this limit.
-abbrev pub call_with : Op → ℕ → CoreCall
+abbrev pub call_with : NameOp → ℕ → CoreCall
 call_with (op.Put name value) limit = call.Put name value limit
 call_with (op.Get name) limit = call.Get name
 call_with (op.Del name) limit = call.Del name limit

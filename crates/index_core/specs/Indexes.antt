@@ -19,7 +19,7 @@ use Rattle.pm_words.specs.declared.machine.Turn.TheVariants.{Go, Done}
 use Rattle.pm_words.specs.Turns.{GoesBelow}
 use Rattle.call_stages.specs.declared.once.Once.{Once}
 use Rattle.call_stages.specs.declared.once.Placed.{Placed}
-use Rattle.cat_history.specs.declared.op.Op.{Op}
+use Rattle.cat_history.specs.declared.op.NameOp.{NameOp}
 use Rattle.node_ops.specs.declared.call.Call.{Call}
 use Rattle.node_ops.specs.Calls.{IsSame}
 use Rattle.node_ops.specs.Asked.{IsOf, IsOfAfter, op_in}
@@ -36,7 +36,8 @@ use Rattle.index_core.specs.declared.party.PartyState.{PartyState}
 use Rattle.index_core.specs.declared.party.Stepped.{Stepped}
 use Rattle.index_core.specs.Answers.{SaysOf}
 use Rattle.index_core.specs.CoreCalls.{machine_of, op_of}
-use Rattle.index_core.specs.PartyStates.{machine_footing, party_of, state_with, state_after, stepped_of, IsPartyState, owed}
+use Rattle.index_core.specs.PartyStates.{machine_footing, party_of, state_with, state_after, stepped_of, owed}
+use Rattle.index_core.specs.PartyStates.{IsPartyState}
 
 pub record Index : Type 0 where
   pub layout : Layout
@@ -167,7 +168,7 @@ MakesCall c (Done answer) = Unit {0}
 -- What the law on steps says of a machine's turn from one index to the next.
 pub record IsTurn (old new : Index) (state : PartyState) (machine : Running) : Type 0 where
   -- it goes on with the call of the same op, name and limit
-  pub keeps_op : (asked : Op) → IsOf asked machine → IsOfAfter asked (running_turned machine (told old machine))
+  pub keeps_op : (asked : NameOp) → IsOf asked machine → IsOfAfter asked (running_turned machine (told old machine))
   pub keeps_call : MakesCall (running_call machine) (running_turned machine (told old machine))
   -- it is a step of one of the kinds, or one beside nodes
   pub kind : AnyStep old.layout old.generation (stage_of machine) (running_asks machine) (told old machine)

@@ -12,3 +12,4 @@ pub mod Weights
 pub mod WeightBounds
 pub mod PartsOf
 pub mod MachineLaws
+pub mod Fulls

@@ -18,7 +18,7 @@ use Rattle.node_ops.specs.Asked.{name_asked}
 use Rattle.shapes.specs.Anchors.{splits, put_anchors}
 use Rattle.version_lock.specs.Versions.{IsWorn}
 use Rattle.index_law.specs.Facts.{version_in}
-use Rattle.index_law.specs.Anchors.{anchors_in}
+use Rattle.index_law.specs.Anchors.{anchors_in, members_most}
 use Rattle.index_law.specs.Worlds.{facts, written}
 use Rattle.lone_law.specs.Rooms.{target_node}
 use Rattle.lone_law.specs.LoneCalls.{FindsWorn, IsAnswered}
@@ -72,6 +72,10 @@ FindsNoRoom (call.Put name value limit) s = (at (map_of_index s) name ≡ None) 
     (length (names_beside s name) ≡ s.layout.slots) × LacksFree s.layout s.generation s.words
 FindsNoRoom _ s = ⊥
 
+-- The same nodes are listed.
+abbrev pub HasSameList : Index → Index → Type 0
+HasSameList s new = (facts (world new)).list ≡ (facts (world s)).list
+
 -- It is a put that splits the node of its name, and leaves the shape that such a put leaves.
 abbrev pub SplitsFor : CoreCall → Index → Index → Type 0
 SplitsFor (call.Put name value limit) s new =
@@ -79,11 +83,18 @@ SplitsFor (call.Put name value limit) s new =
     (anchors_in (world new) ≡ put_anchors s.layout.slots (map_of_index s) (anchors_in (world s)) name)
 SplitsFor _ s new = ⊥
 
+-- It is no put that would split the node of its name.
+abbrev pub SplitsNothing : CoreCall → Index → Type 0
+SplitsNothing (call.Put name value limit) s =
+    splits s.layout.slots (map_of_index s) (anchors_in (world s)) name ≡ false
+SplitsNothing _ s = Unit {0}
+
 -- The node is that of the name, with this version word, from which no lock can be taken any more. Where it is the node
 -- of its name once that is split, the call took the last lock but one.
 abbrev pub IsWornNode : Index → CoreCall → Index → ℕ → ℕ → Type 0
 IsWornNode s c new node word =
-    (FindsWornNode c s × (node ≡ node_for s (name_asked (op_of c))) × (word ≡ version_in s.layout s.words node))
+    (FindsWornNode c s × (node ≡ node_for s (name_asked (op_of c))) × (word ≡ version_in s.layout s.words node) ×
+    HasSameList s new)
     ⊎ (SplitsFor c s new × (locks_left s ≤ 1) × (node ≡ node_for new (name_asked (op_of c))) ×
     IsWorn word s.generation)
 
@@ -97,11 +108,18 @@ IsWholeAnswer s c new (whole.Placed placed) =
     × (placed.old ≡ at (map_of_index s) (name_asked (op_of c))) × (placed.place ≡ length s.history) ×
     (placed.hops ≡ hops_before new (name_asked (op_of c)))
 
--- Where it took place, a put leaves the shape that such a put leaves, and any other call leaves it.
-abbrev pub LeavesShape : CoreCall → Whole → Index → Index → Type 0
-LeavesShape (call.Put name value limit) (whole.Placed placed) s new =
-    anchors_in (world new) ≡ put_anchors s.layout.slots (map_of_index s) (anchors_in (world s)) name
-LeavesShape c _ s new = (anchors_in (world new) ≡ anchors_in (world s)) ⊎ SplitsFor c s new
+-- A call that took place split the node of its name exactly where the shape says so, and one that was refused or found
+-- no room split none. Of a worn node its cause says it.
+abbrev pub LeavesList : CoreCall → Whole → Index → Index → Type 0
+LeavesList c (whole.Placed placed) s new = (HasSameList s new × SplitsNothing c s) ⊎ SplitsFor c s new
+LeavesList c (whole.Spent clock) s new = HasSameList s new
+LeavesList c whole.Full s new = HasSameList s new
+LeavesList c (whole.Worn node word) s new = Unit {0}
+
+-- Of each node one lock is taken at most, or two where its put split.
+abbrev pub TakesLocks : CoreCall → Index → Index → Type 0
+TakesLocks c s new =
+    (locks_left s ≤ locks_left new + 1) ⊎ (SplitsFor c s new × (locks_left s ≤ locks_left new + 2))
 
 -- The write that it placed, if it is one and took place.
 abbrev pub alone_writes : ℕ → ℕ → CoreCall → Whole → List Write
@@ -151,20 +169,22 @@ pub record TriesAlone (old : Index) (caller : ℕ) (c : CoreCall) (new : Index) 
   pub layout : new.layout ≡ old.layout
   pub generation : new.generation ≡ old.generation
   pub base : new.base ≡ old.base
+  pub most : members_most (world new) ≡ members_most (world old)
   pub weighs : weight_of new ≤ weight_of old + added_by (op_of c) answer
 
 -- What a whole call answers and leaves.
 pub record RunsAlone (old : Index) (caller : ℕ) (c : CoreCall) (new : Index) (result : Whole) : Type 0 where
   pub state : PartyState
   pub there : get_elem? old.states caller ≡ some state
+  pub named : IsName (name_asked (op_of c))
   pub answer : IsWholeAnswer old c new result
   pub history : new.history ≡ old.history ++ alone_writes caller state.index c result
   pub states : new.states ≡ slice_set old.states caller (state_done state (length old.history))
   pub layout : new.layout ≡ old.layout
   pub generation : new.generation ≡ old.generation
   pub base : new.base ≡ old.base
-  -- the same nodes are listed, or its put split one
-  pub list : ((facts (world new)).list ≡ (facts (world old)).list) ⊎ SplitsFor c old new
-  pub shape : LeavesShape c result old new
+  pub list : LeavesList c result old new
+  -- no node is taken out of use: as many as before may be listed
+  pub most : members_most (world new) ≡ members_most (world old)
   -- it weighs one more at most, and that only where it adds a name
   pub weighs : weight_of new ≤ weight_of old + added_whole (op_of c) result

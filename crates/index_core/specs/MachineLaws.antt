@@ -15,8 +15,8 @@ use Rattle.call_stages.specs.declared.once.Once.TheVariants as once
 use Rattle.call_stages.specs.declared.once.Placed.{Placed}
 use Rattle.call_stages.specs.Stages.{Stage, Idle, Saw, Wears, Holds, Eyes, Splits, Leaves, Meets, Joins, counted}
 use Rattle.call_stages.specs.Stages.{placed_in}
-use Rattle.cat_history.specs.declared.op.Op.{Op}
-use Rattle.cat_history.specs.declared.op.Op.TheVariants as op
+use Rattle.cat_history.specs.declared.op.NameOp.{NameOp}
+use Rattle.cat_history.specs.declared.op.NameOp.TheVariants as op
 use Rattle.index_core.specs.Weights.{added_by, weight_of}
 use Rattle.call_stages.specs.declared.view.View.{View}
 use Rattle.node_ops.specs.declared.running.Running.{Running}
@@ -64,7 +64,7 @@ shows (Meets n w h right) = shown_by h.old None h.placed
 shows (Joins h left right pace) = shown_by h.old None h.placed
 
 -- The same of a put alone.
-abbrev pub put_shows : Op → ℕ → ℕ
+abbrev pub put_shows : NameOp → ℕ → ℕ
 put_shows (op.Put name value) shown = shown
 put_shows _ shown = 0
 
@@ -74,7 +74,7 @@ showing None = 0
 showing (Some m) = put_shows (op_in m) (shows (stage_of m))
 
 -- What a turn of a call of this op comes to: one where its new name shows, or was added.
-abbrev pub showing_after : Op → Turn Running (Once Placed) → ℕ
+abbrev pub showing_after : NameOp → Turn Running (Once Placed) → ℕ
 showing_after op (Go m) = showing (Some m)
 showing_after op (Done answer) = added_by op answer
 

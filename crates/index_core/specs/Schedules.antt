@@ -12,7 +12,7 @@ use Rattle.cat_history.specs.Callers.{PlacesKeepLimit}
 use Rattle.cat_history.specs.Maps.{Map, map_of}
 use Rattle.cat_history.specs.Records.{Interval, interval_at, change_of}
 use Rattle.cat_history.specs.declared.op.Change.{Change}
-use Rattle.cat_history.specs.declared.op.Op.{Op}
+use Rattle.cat_history.specs.declared.op.NameOp.{NameOp}
 use Rattle.cat_history.specs.declared.op.Write.{Write}
 use Rattle.call_stages.specs.declared.once.Once.{Once}
 use Rattle.call_stages.specs.declared.once.Once.TheVariants as once
@@ -41,7 +41,7 @@ use Rattle.index_core.specs.Lone.{IsQuiet, RunsAlone}
 pub record BegunCall : Type 0 where
   pub caller : ℕ
   pub index : ℕ  -- how many of its caller's calls before it were answered other than by being turned back
-  pub op : Op
+  pub op : NameOp
   pub limit : Option ℕ  -- the clock at which it is refused, if there is one
   pub since : ℕ  -- how long the history was as it began
 
@@ -209,7 +209,7 @@ pub record IsLegalCall (slots : ℕ) (base : Map) (history : List Write) (c : An
   pub next : IsNext c.call.index c.next c.whole c.answer
 
 -- The places between which a call took effect, if it did.
-abbrev pub interval_of : Op → Once Placed → Option Interval
+abbrev pub interval_of : NameOp → Once Placed → Option Interval
 interval_of op (once.Done placed) = Some (interval_at op placed.place)
 interval_of op _ = None
 

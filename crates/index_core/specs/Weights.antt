@@ -1,8 +1,8 @@
 -- What the index weighs, and what calls add to that.
 use Rattle.std.specs.Prelude.{ℕ, Option, Some, None}
 use Rattle.pm_words.specs.Rows.{durable_row}
-use Rattle.cat_history.specs.declared.op.Op.{Op}
-use Rattle.cat_history.specs.declared.op.Op.TheVariants as op
+use Rattle.cat_history.specs.declared.op.NameOp.{NameOp}
+use Rattle.cat_history.specs.declared.op.NameOp.TheVariants as op
 use Rattle.sound_image.specs.Weights.{image_weight}
 use Rattle.call_stages.specs.declared.once.Once.{Once}
 use Rattle.call_stages.specs.declared.once.Once.TheVariants as once
@@ -23,22 +23,22 @@ abbrev pub crash_weight : Index → ℕ
 crash_weight s = image_weight s.layout (durable_row s.layout s.words)
 
 -- One for a put.
-abbrev pub put_count : Op → ℕ
+abbrev pub put_count : NameOp → ℕ
 put_count (op.Put name value) = 1
 put_count (op.Get name) = 0
 put_count (op.Del name) = 0
 
 -- One for a put that took place where its name had no number: it added the name.
-abbrev pub added_if : Op → Option ℕ → ℕ
+abbrev pub added_if : NameOp → Option ℕ → ℕ
 added_if asked None = put_count asked
 added_if asked (Some old) = 0
 
 -- The same of an answer, and of that of a whole call.
-abbrev pub added_by : Op → Once Placed → ℕ
+abbrev pub added_by : NameOp → Once Placed → ℕ
 added_by asked (once.Done placed) = added_if asked placed.old
 added_by asked _ = 0
 
-abbrev pub added_whole : Op → Whole → ℕ
+abbrev pub added_whole : NameOp → Whole → ℕ
 added_whole asked (whole.Placed placed) = added_if asked placed.old
 added_whole asked _ = 0
 

@@ -3,7 +3,7 @@
 ghost use Rattle.std.specs.Prelude.{◌≡◌};
 
 use crate::party::{CoreCall, PartyState};
-use cat_history::Op;
+use cat_history::NameOp;
 use node_ops::Running;
 use pm_words::Image;
 use std::marker::Model;
@@ -81,9 +81,9 @@ impl CoreCall {
     {
         let limit = machine.limit().unwrap_or(MOST_LIMIT);
         match machine.op() {
-            Op::Put { name, value } => CoreCall::Put { name, value, limit },
-            Op::Get { name } => CoreCall::Get { name },
-            Op::Del { name } => CoreCall::Del { name, limit },
+            NameOp::Put { name, value } => CoreCall::Put { name, value, limit },
+            NameOp::Get { name } => CoreCall::Get { name },
+            NameOp::Del { name } => CoreCall::Del { name, limit },
         }
     }
 }

@@ -8,7 +8,7 @@ ghost use Rattle.index_core.specs.Fresh.{IsFreshIndex};
 ghost use Rattle.pm_words.specs.Locations.{image_words};
 ghost use Rattle.index_core.specs.Crashes.{IsCrash, evicted_index};
 ghost use Rattle.index_core.specs.PartsOf.{index_in};
-ghost use Rattle.index_core.specs.Lone.{CountsCall, IsQuiet, RunsAlone, TriesAlone, locks_left};
+ghost use Rattle.index_core.specs.Lone.{CountsCall, IsQuiet, RunsAlone, TakesLocks, TriesAlone, locks_left};
 
 use crate::crash::{Crashed, Cuts};
 use crate::party::{CoreCall, InFlight, PartyState, Stepped, Whole, idle_states, needs_split};
@@ -161,17 +161,21 @@ impl Core {
         ensures index { IsIndex self.new }
     {
         let at = party as usize;
-        let state = self.states[at];
-        let Some(machine) = state.machine else {
+        let PartyState {
+            caller,
+            index,
+            machine,
+            ..
+        } = &self.states[at];
+        let Some(machine) = machine else {
             unreachable!()
         };
         let action = machine.action();
         let counts = machine.counts();
+        let (caller, index) = (*caller, *index);
         let got = self.memory.act(action, steps);
-        count(&mut self.history, state, counts);
-        let (next, stepped) = state.after(machine.resume(got));
-        self.states[at] = next;
-        stepped
+        count(&mut self.history, caller, index, counts);
+        self.states[at].advance(got)
     }
 
     /// Makes an image word durable: its cached twin is copied to its durable one.
@@ -222,7 +226,7 @@ impl Core {
         ensures runs { RunsAlone self.old caller call self.new result }
         ensures quiet { IsQuiet self.new }
         ensures spare { self.old.spare + length self.old.history ≤ self.new.spare + length self.new.history }
-        ensures locks { locks_left self.old ≤ locks_left self.new + 2 }
+        ensures locks { TakesLocks call self.old self.new }
         ensures index { IsIndex self.new }
     {
         let mut answer = self.try_alone(caller, &call, steps);
@@ -301,20 +305,17 @@ impl Core {
     }
 }
 
-/// Counts the write of a step, if it has one.
-fn count(history: &mut Vec<Write>, state: PartyState, counts: Option<Change>)
-    requires { vec_len history.old + length (written state.caller state.index counts) ≤ vec_capacity history.old }
-    ensures items { history.new.items ≡ history.old.items ++ written state.caller state.index counts }
+/// Counts the write of a step, if it has one, of this caller's call with this index.
+fn count(history: &mut Vec<Write>, caller: u64, index: u64, counts: Option<Change>)
+    requires { vec_len history.old + length (written caller index counts) ≤ vec_capacity history.old }
+    ensures items { history.new.items ≡ history.old.items ++ written caller index counts }
     ensures room { vec_capacity history.old ≤ vec_capacity history.new }
 {
     if let Some(change) = counts {
-        let PartyState { caller, index, .. } = state;
-        let Ok(()) = history.push(Write {
+        history.push_reserved(Write {
             caller,
             index,
             change,
-        }) else {
-            unreachable!()
-        };
+        });
     }
 }

@@ -2,7 +2,8 @@
 
 ghost use Rattle.index_core.specs.MachineLaws.{MachineKeeps, BeginKeeps, FirstIsReady, IdleKeep, IdleWeigh};
 ghost use Rattle.index_core.specs.MachineLaws.{PlacesFollow};
-ghost use Rattle.index_core.specs.LegalRounds.{LegalHistoryIsLegalRound};
+ghost use Rattle.index_core.specs.LegalRounds.{LegalHistoryIsLegalRound, LegalHistoryKeepsLimit};
+ghost use Rattle.index_core.specs.Fulls.{NoRoomIsFullPut, NoRoomListsEach};
 ghost use Rattle.index_core.specs.WeightBounds.{WeightIsBounded};
 ghost use Rattle.index_core.specs.Schedules.{OneLegalHistory, FreshIndexBegins};
 
@@ -32,9 +33,11 @@ pub fn one_history_law()
 {}
 
 /// Once no call is in flight, the calls of such a history that took place are a legal round over its base: each write
-/// of the history is that of one of them, at its place.
+/// of the history is that of one of them, at its place. It is so under each limit that the places keep, and they keep
+/// the one that all puts and deletes had, if they had one.
 pub fn history_round_law()
-    ensures { LegalHistoryIsLegalRound }
+    ensures round { LegalHistoryIsLegalRound }
+    ensures limit { LegalHistoryKeepsLimit }
 {}
 
 /// How full an index may be. Its weight is half the slots for each listed node, and one for each name above that.
@@ -70,4 +73,12 @@ pub fn idle_parties_law()
 /// A call's write has the place that its step was told which counted it.
 pub fn place_law()
     ensures { PlacesFollow }
+{}
+
+/// A whole put with no other call in flight, where a lock is left of each node, finds no room exactly where it is full
+/// in the shape: the map lacks its name, the target has as many names as a node has slots, and as many nodes are listed
+/// as may be. Each node is listed then, or was merged into another.
+pub fn full_law()
+    ensures put { NoRoomIsFullPut }
+    ensures each { NoRoomListsEach }
 {}

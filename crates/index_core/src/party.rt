@@ -5,7 +5,7 @@ ghost use Rattle.index_core.specs.Lone.{needs_split};
 use call_stages::{Once, Placed};
 use cat_key::Name;
 use node_ops::Running;
-use pm_words::{Again, NoMemory, Turn};
+use pm_words::{Again, NoMemory};
 use std::alloc::Global;
 
 /// What a party calls. A put or delete is refused where the clock, loaded under the lock of its node, has reached
@@ -93,7 +93,10 @@ impl CoreReply {
 }
 
 impl PartyState {
-    ghost use Rattle.std.specs.Prelude.{◌≡◌};
+    ghost use Rattle.std.specs.Prelude.{◌≡◌, IfSome, IsSomeAnd};
+    ghost use Rattle.pm_words.specs.Turns.{GoesBelow};
+    ghost use Rattle.pm_words.specs.declared.machine.Turn.TheVariants as Turn;
+    ghost use Rattle.node_ops.specs.RunningSteps.{running_left, running_takes, running_turned};
     ghost use Rattle.index_core.specs.PartyStates.{idle_state, state_with, state_after, state_counted, index_after};
     ghost use Rattle.index_core.specs.PartyStates.{stepped_of};
 
@@ -121,8 +124,8 @@ impl PartyState {
     }
 
     /// The index of its next call: one that is turned back uses up none.
-    fn index_after(self, answer: Once<Placed>) -> u64
-        ensures { result ≡ index_after self.index answer }
+    fn index_after(&self, answer: Once<Placed>) -> u64
+        ensures { result ≡ index_after self.now.index answer }
     {
         match answer {
             Once::Again(_) => self.index,
@@ -140,28 +143,33 @@ impl PartyState {
         }
     }
 
-    /// The party after its call's turn, and what the step comes to.
-    pub(crate) fn after(self, turn: Turn<Running, Once<Placed>>) -> (PartyState, Stepped)
-        ensures state { result.0 ≡ state_after self turn }
-        ensures stepped { result.1 ≡ stepped_of turn }
+    /// Tells its call in flight the number that its action gave.
+    pub(crate) fn advance(&mut self, got: u64) -> Stepped
+        requires { IsSomeAnd self.old.machine (λ machine. running_takes machine got) }
+        ensures state { IfSome self.old.machine
+            (λ machine. self.new ≡ state_after self.old (running_turned machine got)) }
+        ensures stepped { IfSome self.old.machine (λ machine. result ≡ stepped_of (running_turned machine got)) }
+        ensures fewer { IfSome self.old.machine
+            (λ machine. GoesBelow running_left (running_left machine) (running_turned machine got)) }
     {
-        match turn {
-            Turn::Go(machine) => (
-                PartyState {
-                    machine: Some(machine),
-                    ..self
-                },
-                Stepped::Going,
-            ),
-            Turn::Done(answer) => (
-                PartyState {
-                    index: self.index_after(answer),
-                    machine: None,
-                    ..self
-                },
-                Stepped::Answered(CoreReply::Placed(answer)),
-            ),
+        let Some(machine) = &mut self.machine else {
+            unreachable!()
+        };
+        match machine.advance(got) {
+            None => Stepped::Going,
+            Some(answer) => {
+                self.ends(answer);
+                Stepped::Answered(CoreReply::Placed(answer))
+            }
         }
+    }
+
+    /// Its call is answered.
+    fn ends(&mut self, answer: Once<Placed>)
+        ensures { self.new ≡ state_after self.old (Turn.Done answer) }
+    {
+        self.index = self.index_after(answer);
+        self.machine = None;
     }
 }
 

@@ -3,9 +3,9 @@ ghost use Rattle.index_core.specs.CoreCalls.{LimitFits, most_writes};
 
 use super::*;
 use call_stages::{Once, Placed};
-use cat_history::{NameMap, PlainMap};
 use cat_key::Name;
 use pm_words::{Layout, Steps};
+use shapes::{NameMap, PlainMap};
 use std::alloc::Global;
 use std::marker::Brand;
 use std::sync::ledger::{Blank, Ledger};

@@ -5,9 +5,10 @@ ghost use Rattle.index_core.specs.CoreCalls.{LimitFits, most_writes};
 
 use super::{LIMIT, MANY, run};
 use crate::{Core, CoreCall, Crashed, CutCall, Cuts};
-use cat_history::{Change, NameMap, PlainMap};
+use cat_history::Change;
 use cat_key::Name;
 use pm_words::{Image, Layout, Steps};
+use shapes::{NameMap, PlainMap};
 use sound_image::{first_broken, is_found, number_in};
 use std::alloc::Global;
 use std::marker::Brand;
@@ -22,13 +23,15 @@ fn name_of(number: u64) -> Result<Name, Fail> {
     Ok(Name::read(&[byte]).ok().ok_or("a name")?)
 }
 
-/// A put, an overwrite or a delete, how many nodes the layout has, and how many names there are before it.
+/// A put, an overwrite or a delete, how many nodes the layout has, how many names there are before it, and after each
+/// of how many steps there is a crash.
 #[derive(Clone, Copy)]
 struct Case {
     nodes: u64,
     put: bool,
     number: u64,
     before: u64,
+    steps: u64,
 }
 
 impl Case {
@@ -167,8 +170,8 @@ fn crashed<L: Ledger>(
     shown_of(alloc, core, &change)
 }
 
-/// The first step after which the write is found, if after each one before it was lost, and after each one from there
-/// on it is found.
+/// The first step after which the write is found, if there is one: after each one before it the write was lost, and
+/// after each one from there on it was found.
 fn found_from<L: Ledger>(
     alloc: Global,
     case: Case,
@@ -176,10 +179,11 @@ fn found_from<L: Ledger>(
     steps: &mut Steps<L>,
 ) -> Result<Option<u64>, Fail> {
     let mut first = None;
-    for before in 0..75 {
+    for before in 0..case.steps {
         let shown = crashed(alloc, case, before, evicts, steps)?;
         match (shown, first) {
-            (Shown::Wrong, _) | (Shown::Lost, Some(_)) => return Ok(None),
+            (Shown::Wrong, _) => Err("the image isn't what it has to be")?,
+            (Shown::Lost, Some(_)) => Err("the write was found, and is lost again")?,
             (Shown::Found, None) => first = Some(before),
             _ => {}
         }
@@ -215,18 +219,21 @@ fn a_crash_keeps_the_map_with_what_is_found(rt: HostRuntime) -> Result<(), Fail>
         put: true,
         number: 1,
         before: 1,
+        steps: 75,
     };
     let overwrite = Case {
         nodes: 1,
         put: true,
         number: 0,
         before: 4,
+        steps: 75,
     };
     let delete = Case {
         nodes: 1,
         put: false,
         number: 0,
         before: 2,
+        steps: 75,
     };
     for (case, stored, drained) in [(put, 55, 59), (overwrite, 22, 30), (delete, 22, 26)] {
         let found = found_by_evictions::<Brand>(rt.alloc(), Blank::new(1), case)?;
@@ -238,39 +245,6 @@ fn a_crash_keeps_the_map_with_what_is_found(rt: HostRuntime) -> Result<(), Fail>
     Ok(())
 }
 
-/// The first step of the case's write after which a crash shows anything but that the write is lost.
-fn first_not_lost<L: Ledger>(
-    alloc: Global,
-    case: Case,
-    evicts: u64,
-    steps: &mut Steps<L>,
-) -> Result<Option<u64>, Fail> {
-    for before in 0..225 {
-        if crashed(alloc, case, before, evicts, steps)? != Shown::Lost {
-            return Ok(Some(before));
-        }
-    }
-    Ok(None)
-}
-
-/// The same with each kind of eviction.
-fn not_lost_by_evictions<L: Ledger>(
-    alloc: Global,
-    blank: Blank,
-    case: Case,
-) -> Result<[Option<u64>; 4], Fail>
-    requires name { blank.name ≡ L.name }
-    requires parts { (blank.parts ≡ L.parts) × (0 < L.parts) }
-{
-    let (book, share) = blank.open::<L>();
-    let mut steps = Steps::new(book, share);
-    let mut first = [None; 4];
-    for evicts in 0..4 {
-        first[evicts as usize] = first_not_lost(alloc, case, evicts, &mut steps)?;
-    }
-    Ok(first)
-}
-
 #[test]
 fn a_crash_in_a_split_keeps_the_map(rt: HostRuntime) -> Result<(), Fail> {
     // The put splits its full node in 220 events, and is then answered without a place.
@@ -279,8 +253,9 @@ fn a_crash_in_a_split_keeps_the_map(rt: HostRuntime) -> Result<(), Fail> {
         put: true,
         number: 4,
         before: 4,
+        steps: 225,
     };
-    let found = not_lost_by_evictions::<Brand>(rt.alloc(), Blank::new(1), split)?;
+    let found = found_by_evictions::<Brand>(rt.alloc(), Blank::new(1), split)?;
     assert_eq!(rt; found, [None; 4]);
     Ok(())
 }

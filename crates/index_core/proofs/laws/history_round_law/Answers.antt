@@ -1,5 +1,8 @@
-use Rattle.index_core.proofs.LegalRounds.{legal_history_is_legal_round}
+use Rattle.index_core.proofs.LegalRounds.{legal_history_is_legal_round, legal_history_keeps_limit}
 use Rattle.index_core.proofs.laws.history_round_law.Goals as goal
 
-pub returns : goal.returns
-returns c = legal_history_is_legal_round
+pub returns-clause-round : goal.returns-clause-round
+returns-clause-round c = legal_history_is_legal_round
+
+pub returns-clause-limit : goal.returns-clause-limit
+returns-clause-limit c = legal_history_keeps_limit

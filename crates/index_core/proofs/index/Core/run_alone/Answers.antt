@@ -1,6 +1,6 @@
-use Rattle.std.proofs.Common.{rules, sym, ◌∙◌, subst}
-use Rattle.index_core.specs.Lone.{RunsAlone}
-use Rattle.index_core.proofs.Alone.{Ran, ran_once, ran_twice, full_runs, ran_runs, count_quiet}
+use Rattle.std.proofs.Common.{sym, ◌∙◌, subst}
+use Rattle.index_core.specs.Lone.{IsQuiet, RunsAlone}
+use Rattle.index_core.proofs.Alone.{Ran, ran_once, ran_twice, full_runs, full_locks, ran_runs, count_quiet}
 use Rattle.index_core.proofs.index.Core.run_alone.Goals as goal
 use Rattle.index_core.proofs.index.Core.run_alone.Goals.{then-needs_split, else-needs_split}
 
@@ -10,8 +10,8 @@ full_ran g c =
     let first = c.try_alone-answer.ensures in
     elim c.if-needs_split.branch [
       | then-needs_split w ↦
-          ran_twice first.before c.requires.quiet first.index first.quiet first.tries w.try_alone-answer-then-needs_split.ensures.tries first.locks (sym c.needs_split.ensures ∙ w.if-needs_split.true) w.self-is w.answer-is
-      | else-needs_split w ↦ ran_once first.before c.requires.quiet first.tries (sym c.needs_split.ensures ∙ w.if-needs_split.false) w.self-is w.answer-is
+          ran_twice first.before c.requires.quiet first.index first.quiet first.tries w.try_alone-answer-then-needs_split.ensures.tries first.locks w.try_alone-answer-then-needs_split.ensures.locks (sym c.needs_split.ensures ∙ w.if-needs_split.true) w.self-is w.answer-is
+      | else-needs_split w ↦ ran_once first.before c.requires.quiet first.tries first.locks (sym c.needs_split.ensures ∙ w.if-needs_split.false) w.self-is w.answer-is
     ]
 
 pub returns-in-Full-clause-runs : goal.returns-in-Full-clause-runs
@@ -19,9 +19,19 @@ returns-in-Full-clause-runs g c =
     subst (RunsAlone c.args.self.now c.args.caller c.args.call c.count_call.new.self) (sym c.of-whole.ensures)
     (full_runs c.args.self.now c.if-needs_split.self c.args.caller c.args.call c.if-needs_split.answer (full_ran g c) (sym c.of-whole.ensures ∙ c.in-Full.is) c.count_call.new.self c.count_call.ensures.counts)
 
+tried_quiet : (g : _) (c : goal.After-count_call g) → IsQuiet c.if-needs_split.self
+tried_quiet g c = elim c.if-needs_split.branch [
+  | then-needs_split w ↦ subst IsQuiet (sym w.self-is) w.try_alone-answer-then-needs_split.ensures.quiet
+  | else-needs_split w ↦ subst IsQuiet (sym w.self-is) c.try_alone-answer.ensures.quiet
+]
+
 pub returns-in-Full-clause-quiet : goal.returns-in-Full-clause-quiet
 returns-in-Full-clause-quiet g c =
-    count_quiet c.if-needs_split.self c.args.caller c.count_call.new.self (search rules) c.count_call.ensures.counts
+    count_quiet c.if-needs_split.self c.args.caller c.count_call.new.self (tried_quiet g c) c.count_call.ensures.counts
+
+pub returns-in-Full-clause-locks : goal.returns-in-Full-clause-locks
+returns-in-Full-clause-locks g c =
+    full_locks c.args.self.now c.if-needs_split.self c.args.caller c.args.call c.if-needs_split.answer (full_ran g c) c.count_call.new.self c.count_call.ensures.counts
 
 -- it was answered otherwise, and its last step has counted it
 other_ran : (g : _) (c : goal.In_default g) → Ran c.args.self.now c.if-needs_split.self c.args.caller c.args.call c.if-needs_split.answer
@@ -29,11 +39,14 @@ other_ran g c =
     let first = c.try_alone-answer.ensures in
     elim c.if-needs_split.branch [
       | then-needs_split w ↦
-          ran_twice first.before c.requires.quiet first.index first.quiet first.tries w.try_alone-answer-then-needs_split.ensures.tries first.locks (sym c.needs_split.ensures ∙ w.if-needs_split.true) w.self-is w.answer-is
-      | else-needs_split w ↦ ran_once first.before c.requires.quiet first.tries (sym c.needs_split.ensures ∙ w.if-needs_split.false) w.self-is w.answer-is
+          ran_twice first.before c.requires.quiet first.index first.quiet first.tries w.try_alone-answer-then-needs_split.ensures.tries first.locks w.try_alone-answer-then-needs_split.ensures.locks (sym c.needs_split.ensures ∙ w.if-needs_split.true) w.self-is w.answer-is
+      | else-needs_split w ↦ ran_once first.before c.requires.quiet first.tries first.locks (sym c.needs_split.ensures ∙ w.if-needs_split.false) w.self-is w.answer-is
     ]
 
 pub returns-in_default-clause-runs : goal.returns-in_default-clause-runs
 returns-in_default-clause-runs g c =
     subst (RunsAlone c.args.self.now c.args.caller c.args.call c.if-needs_split.self) (sym c.of-whole.ensures)
     (ran_runs c.args.self.now c.if-needs_split.self c.args.caller c.args.call c.if-needs_split.answer (other_ran g c) (λ full. c.in_default.not-Full (c.of-whole.ensures ∙ full)))
+
+pub returns-in_default-clause-locks : goal.returns-in_default-clause-locks
+returns-in_default-clause-locks g c = (other_ran g c).locks

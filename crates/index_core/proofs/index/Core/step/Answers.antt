@@ -1,12 +1,12 @@
-use Rattle.std.proofs.Common.{◌≡◌, ℕ, ◌+◌, length, arith, ap, sym, ◌∙◌, subst}
-use Rattle.std.specs.Prelude.{◌-◌, slice_set}
+use Rattle.std.proofs.Common.{◌≡◌, ℕ, ◌+◌, length, arith, refl, ap, sym, ◌∙◌, subst}
+use Rattle.std.specs.Prelude.{◌-◌, slice_set, Option, Some, IfSome, IsSomeAnd}
 use lib.ListN.{get_elem?}
 use Rattle.pm_words.specs.declared.machine.Turn.{Turn}
 use Rattle.pm_words.specs.Turns.{GoesBelow}
 use Rattle.call_stages.specs.declared.once.Once.{Once}
 use Rattle.call_stages.specs.declared.once.Placed.{Placed}
 use Rattle.cat_history.specs.Maps.{map_of}
-use Rattle.cat_history.specs.declared.op.Op.{Op}
+use Rattle.cat_history.specs.declared.op.NameOp.{NameOp}
 use Rattle.node_ops.specs.Asked.{IsOf, IsOfAfter, op_in}
 use Rattle.pm_words.specs.Rows.{got, CanAct}
 use Rattle.call_stages.specs.Stages.{counted}
@@ -20,7 +20,7 @@ use Rattle.index_law.specs.Weights.{AddsName, RisesBy, weight_sum}
 use Rattle.index_core.specs.declared.party.PartyState.{PartyState}
 use Rattle.index_core.specs.declared.party.Stepped.{Stepped}
 use Rattle.index_core.specs.Answers.{SaysOf}
-use Rattle.index_core.specs.PartyStates.{stepped_of, owed}
+use Rattle.index_core.specs.PartyStates.{state_after, stepped_of, owed}
 use Rattle.index_core.specs.Cores.{index_with}
 use Rattle.index_core.specs.Indexes.{Index, IsIndex, world, told, stepped_index, MakesCall}
 use Rattle.index_core.proofs.Answering.{says_of}
@@ -29,8 +29,8 @@ use Rattle.index_core.proofs.Reading.{Reads, reads, Leaves, leaves}
 use Rattle.index_core.proofs.Stepping.{count_room}
 use Rattle.index_core.proofs.index.Core.step.Goals as goal
 
-pub index-state-requires : goal.index-state-requires
-index-state-requires g c =
+pub index-requires : goal.index-requires
+index-requires g c =
     let s = index_with c.self.inside 0 in
     let i = c.args.party in
     let flies = c.requires.flies in
@@ -54,7 +54,7 @@ unreachable-requires g c =
     let flies = c.requires.flies in
     let e = flies.state in
     let there = ap (λ (v : Index). get_elem? v.states i) c.self.view_is ∙ flies.there in
-    let read = read_is s.states i e c.index-state.result.now there c.index-state.ensures in
+    let read = read_is s.states i e c.index.result.now there c.index.ensures in
     c.in_default.not-Some flies.machine (ap (λ (d : PartyState). d.machine) read ∙ flies.flies)
 
 pub action-action-requires : goal.action-action-requires
@@ -62,7 +62,7 @@ action-action-requires g c =
     let s = index_with c.self.inside 0 in
     let i = c.args.party in
     let flies = c.requires.flies in
-    let at = reads s c.args.self.now i flies c.index-state.result.now c.in-Some.machine (ap (λ (v : Index). v.states) c.self.view_is) c.self.invariant.0 c.index-state.ensures c.in-Some.is in
+    let at = reads s c.args.self.now i flies c.index.result.now c.in-Some.machine (ap (λ (v : Index). v.states) c.self.view_is) c.self.invariant.0 c.index.ensures c.in-Some.is in
     subst IsRunning (sym at.same) at.facts.fits
 
 pub counts-counts-requires : goal.counts-counts-requires
@@ -70,7 +70,7 @@ counts-counts-requires g c =
     let s = index_with c.self.inside 0 in
     let i = c.args.party in
     let flies = c.requires.flies in
-    let at = reads s c.args.self.now i flies c.index-state.result.now c.in-Some.machine (ap (λ (v : Index). v.states) c.self.view_is) c.self.invariant.0 c.index-state.ensures c.in-Some.is in
+    let at = reads s c.args.self.now i flies c.index.result.now c.in-Some.machine (ap (λ (v : Index). v.states) c.self.view_is) c.self.invariant.0 c.index.ensures c.in-Some.is in
     subst IsRunning (sym at.same) at.facts.fits
 
 pub act-got-requires : goal.act-got-requires
@@ -78,7 +78,7 @@ act-got-requires g c =
     let s = index_with c.self.inside 0 in
     let i = c.args.party in
     let flies = c.requires.flies in
-    let at = reads s c.args.self.now i flies c.index-state.result.now c.in-Some.machine (ap (λ (v : Index). v.states) c.self.view_is) c.self.invariant.0 c.index-state.ensures c.in-Some.is in
+    let at = reads s c.args.self.now i flies c.index.result.now c.in-Some.machine (ap (λ (v : Index). v.states) c.self.view_is) c.self.invariant.0 c.index.ensures c.in-Some.is in
     subst (CanAct s.layout s.words) (sym (c.action-action.ensures ∙ ap running_asks at.same)) at.facts.can
 
 pub count-requires : goal.count-requires
@@ -88,31 +88,57 @@ count-requires g c =
     let flies = c.requires.flies in
     let e = flies.state in
     let m = flies.machine in
-    let at = reads s c.args.self.now i flies c.index-state.result.now c.in-Some.machine (ap (λ (v : Index). v.states) c.self.view_is) c.self.invariant.0 c.index-state.ensures c.in-Some.is in
-    count_room s i e c.index-state.result.now m c.counts-counts.result _ _ at.there flies.flies at.read (c.counts-counts.ensures ∙ ap (λ (n : Running). counted (stage_of n)) at.same) c.self.invariant.1
+    let at = reads s c.args.self.now i flies c.index.result.now c.in-Some.machine (ap (λ (v : Index). v.states) c.self.view_is) c.self.invariant.0 c.index.ensures c.in-Some.is in
+    count_room s i e c.index.result.now m c.counts-counts.result _ _ at.there flies.flies at.read (c.counts-counts.ensures ∙ ap (λ (n : Running). counted (stage_of n)) at.same) c.self.invariant.1
 
-pub resume-requires : goal.resume-requires
-resume-requires g c =
+pub advance-requires : goal.advance-requires
+advance-requires g c =
     let s = index_with c.self.inside 0 in
     let i = c.args.party in
     let flies = c.requires.flies in
     let m = flies.machine in
-    let at = reads s c.args.self.now i flies c.index-state.result.now c.in-Some.machine (ap (λ (v : Index). v.states) c.self.view_is) c.self.invariant.0 c.index-state.ensures c.in-Some.is in
+    let at = reads s c.args.self.now i flies c.index.result.now c.in-Some.machine (ap (λ (v : Index). v.states) c.self.view_is) c.self.invariant.0 c.index.ensures c.in-Some.is in
     let given : c.act-got.result ≡ told s m = c.act-got.ensures.got ∙ ap (got s.layout s.words) (c.action-action.ensures ∙ ap running_asks at.same) in
-    subst (λ (x : Running × ℕ). running_takes x.0 x.1) (λ k. (sym at.same k, sym given k)) at.facts.takes
+    let there = ap (λ (v : Index). get_elem? v.states i) c.self.view_is ∙ flies.there in
+    let read = read_is s.states i flies.state c.index_mut.result.now there c.index_mut.ensures.value in
+    subst (λ (d : PartyState). IsSomeAnd d.machine (λ q. running_takes q c.act-got.result)) (sym read)
+    (subst (λ (o : Option Running). IsSomeAnd o (λ q. running_takes q c.act-got.result)) (sym flies.flies)
+    (subst (λ (n : ℕ). running_takes m n) (sym given) at.facts.takes))
 
 -- what it has read, and what it has made, once it is done
-reads_at : (g : _) (c : goal.After-self-1 g) → Reads (index_with c.self.inside 0) c.args.party c.requires.flies.state c.index-state.result.now c.requires.flies.machine c.in-Some.machine
+reads_at : (g : _) (c : goal.After-self-1 g) → Reads (index_with c.self.inside 0) c.args.party c.requires.flies.state c.index.result.now c.requires.flies.machine c.in-Some.machine
 reads_at g c =
-    reads (index_with c.self.inside 0) c.args.self.now c.args.party c.requires.flies c.index-state.result.now c.in-Some.machine (ap (λ (v : Index). v.states) c.self.view_is) c.self.invariant.0
-    c.index-state.ensures c.in-Some.is
+    reads (index_with c.self.inside 0) c.args.self.now c.args.party c.requires.flies c.index.result.now c.in-Some.machine (ap (λ (v : Index). v.states) c.self.view_is) c.self.invariant.0
+    c.index.ensures c.in-Some.is
 
-leaves_at : (g : _) (c : goal.After-self-1 g) → Leaves (index_with c.self.inside 0) c.args.party c.requires.flies.state c.requires.flies.machine c.act-got.new.self c.resume.result c.after-stepped.result.0
+-- what its call is told in place, said of the party and its machine
+of_call : (g : _) (c : goal.After-self-1 g) (P : PartyState → Running → Type 0) → IfSome c.index_mut.result.now.machine (P c.index_mut.result.now) → P c.requires.flies.state c.requires.flies.machine
+of_call g c P says =
+    let at = reads_at g c in
+    let flies = c.requires.flies in
+    let read = read_is (index_with c.self.inside 0).states c.args.party flies.state c.index_mut.result.now at.there c.index_mut.ensures.value in
+    subst (λ (o : Option Running). IfSome o (P flies.state)) flies.flies (subst (λ (d : PartyState). IfSome d.machine (P d)) read says)
+
+goes_at : (g : _) (c : goal.After-self-1 g) → c.advance.new.self ≡ state_after c.index.result.now (running_turned c.in-Some.machine c.act-got.result)
+goes_at g c =
+    let at = reads_at g c in
+    of_call g c (λ d q. c.advance.new.self ≡ state_after d (running_turned q c.act-got.result)) c.advance.ensures.state
+    ∙ (λ k. state_after (sym at.read k) (running_turned (sym at.same k) c.act-got.result))
+
+comes_at : (g : _) (c : goal.After-self-1 g) → c.advance.result ≡ stepped_of (running_turned c.requires.flies.machine c.act-got.result)
+comes_at g c = of_call g c (λ d q. c.advance.result ≡ stepped_of (running_turned q c.act-got.result)) c.advance.ensures.stepped
+
+told_at : (g : _) (c : goal.After-self-1 g) → c.act-got.result ≡ told (index_with c.self.inside 0) c.requires.flies.machine
+told_at g c =
+    let s = index_with c.self.inside 0 in
+    c.act-got.ensures.got ∙ ap (got s.layout s.words) (c.action-action.ensures ∙ ap running_asks (reads_at g c).same)
+
+leaves_at : (g : _) (c : goal.After-self-1 g) → Leaves (index_with c.self.inside 0) c.args.party c.requires.flies.state c.requires.flies.machine c.act-got.new.self (running_turned c.in-Some.machine c.act-got.result) c.advance.new.self
     c.count.new.history.items c.self.inside.history.len c.self.inside.history.cap c.count.new.history.len c.count.new.history.cap
 leaves_at g c =
-    leaves (index_with c.self.inside 0) c.args.party c.requires.flies.state c.index-state.result.now c.requires.flies.machine c.in-Some.machine (reads_at g c) c.requires.flies.flies c.action-action.result c.act-got.new.self c.act-got.result c.resume.result c.after-stepped.result.0 c.counts-counts.result
-    c.count.new.history.items c.self.inside.history.len c.self.inside.history.cap c.count.new.history.len c.count.new.history.cap c.action-action.ensures c.act-got.ensures.row c.act-got.ensures.got c.resume.ensures.turned
-    c.after-stepped.ensures.state c.counts-counts.ensures c.count.ensures.items c.self.inside.history.ok.0 c.count.new.history.ok.0 c.count.ensures.room c.self.invariant.1
+    leaves (index_with c.self.inside 0) c.args.party c.requires.flies.state c.index.result.now c.requires.flies.machine c.in-Some.machine (reads_at g c) c.requires.flies.flies c.action-action.result c.act-got.new.self c.act-got.result (running_turned c.in-Some.machine c.act-got.result) c.advance.new.self c.counts-counts.result
+    c.count.new.history.items c.self.inside.history.len c.self.inside.history.cap c.count.new.history.len c.count.new.history.cap c.action-action.ensures c.act-got.ensures.row c.act-got.ensures.got refl
+    (goes_at g c) c.counts-counts.ensures c.count.ensures.items c.self.inside.history.ok.0 c.count.new.history.ok.0 c.count.ensures.room c.self.invariant.1
 
 pub invariant_of-self : goal.invariant_of-self
 invariant_of-self g c =
@@ -129,22 +155,23 @@ returns-clause-stepped g c =
     let m = flies.machine in
     let at = reads_at g c in
     let left = leaves_at g c in
-    let n : ℕ = c.count.new.history.cap - (c.count.new.history.len + owed (slice_set s.states i c.after-stepped.result.0)) in
-    let new : Index = record { layout = c.act-got.new.self.layout; generation = s.generation; words = c.act-got.new.self.words; states = slice_set s.states i c.after-stepped.result.0; base = s.base; history = c.count.new.history.items; spare = n } in
+    let n : ℕ = c.count.new.history.cap - (c.count.new.history.len + owed (slice_set s.states i c.advance.new.self)) in
+    let new : Index = record { layout = c.act-got.new.self.layout; generation = s.generation; words = c.act-got.new.self.words; states = slice_set s.states i c.advance.new.self; base = s.base; history = c.count.new.history.items; spare = n } in
     record {
       state = e;
       machine = m;
       there = flies.there;
       flies = flies.flies;
       is = left.same n ∙ ap (λ (v : Index). stepped_index v i e m n) c.self.view_is;
-      comes_to = c.after-stepped.ensures.stepped ∙ ap stepped_of left.turned ∙ ap (λ (v : Index). stepped_of (running_turned m (told v m))) c.self.view_is;
-      answer = subst (λ (r : Stepped). SaysOf new.layout.slots (map_of new.base) new.history e (op_in m) (running_call m).limit r) (sym (c.after-stepped.ensures.stepped ∙ ap stepped_of left.turned))
+      comes_to = comes_at g c ∙ ap (λ (n : ℕ). stepped_of (running_turned m n)) (told_at g c) ∙ ap (λ (v : Index). stepped_of (running_turned m (told v m))) c.self.view_is;
+      answer = subst (λ (r : Stepped). SaysOf new.layout.slots (map_of new.base) new.history e (op_in m) (running_call m).limit r) (sym (comes_at g c ∙ ap (λ (n : ℕ). stepped_of (running_turned m n)) (told_at g c)))
           (subst (λ (v : Index). SaysOf v.layout.slots (map_of v.base) v.history e (op_in m) (running_call m).limit (stepped_of (running_turned m (told s m)))) (sym (left.same n))
           (says_of s.layout s.generation (facts (world (stepped_index s i e m n))) e m (told s m) at.of at.sound.here at.facts.owns (at.facts.legal n)));
       fewer = subst (λ (v : Index). GoesBelow running_left (running_left m) (running_turned m (told v m))) c.self.view_is
-          (subst (λ (q : Running × Turn Running (Once Placed)). GoesBelow running_left (running_left q.0) q.1) (λ k. (at.same k, left.turned k)) c.resume.ensures.fewer);
+          (subst (λ (n : ℕ). GoesBelow running_left (running_left m) (running_turned m n)) (told_at g c)
+          (of_call g c (λ d q. GoesBelow running_left (running_left q) (running_turned q c.act-got.result)) c.advance.ensures.fewer));
       turn = record {
-        keeps_op = subst (λ (v : Index). (asked : Op) → IsOf asked m → IsOfAfter asked (running_turned m (told v m))) c.self.view_is at.facts.keeps_op;
+        keeps_op = subst (λ (v : Index). (asked : NameOp) → IsOf asked m → IsOfAfter asked (running_turned m (told v m))) c.self.view_is at.facts.keeps_op;
         keeps_call = subst (λ (v : Index). MakesCall (running_call m) (running_turned m (told v m))) c.self.view_is at.facts.keeps_call;
         kind = subst (λ (v : Index). AnyStep v.layout v.generation (stage_of m) (running_asks m) (told v m) (stage_after (running_turned m (told v m))) (reply_of (running_turned m (told v m)))) c.self.view_is at.facts.is_step;
         weighs = subst (λ (q : Index × Index). RisesBy (AddsName q.0.layout (stage_of m) (running_asks m) (stage_after (running_turned m (told q.0 m)))) (weight_sum (world q.0)) (weight_sum (world q.1)))
