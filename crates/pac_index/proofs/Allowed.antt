@@ -29,7 +29,7 @@ use Rattle.index_core.specs.Answers.{SaysOf}
 use Rattle.index_core.specs.CoreCalls.{machine_of}
 use Rattle.index_core.specs.PartyStates.{state_with, state_after, stepped_of}
 use Rattle.index_core.specs.MachineLaws.{ReadyAfter, showing, showing_after}
-use Rattle.cat_history.specs.declared.op.Op.{Op}
+use Rattle.cat_history.specs.declared.op.NameOp.{NameOp}
 use Rattle.index_law.specs.Weights.{weight_sum}
 use Rattle.index_core.specs.Indexes.{Index, IsIndex, world, view_of, started_index, stepped_index}
 use Rattle.index_core.proofs.Lists.{some_same}
@@ -45,7 +45,7 @@ after_caller e (Go m) = refl
 after_caller e (Done answer) = refl
 
 -- what a party shows after a turn, with what that added
-showing_is : (e : PartyState) (o : Op) (turn : Turn Running (Once Placed)) → showing_after o turn ≡ added_now o turn + showing (state_after e turn).machine
+showing_is : (e : PartyState) (o : NameOp) (turn : Turn Running (Once Placed)) → showing_after o turn ≡ added_now o turn + showing (state_after e turn).machine
 showing_is e o (Go m) = omega arith
 showing_is e o (Done answer) = omega arith
 

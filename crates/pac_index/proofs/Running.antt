@@ -5,7 +5,7 @@ use Rattle.std.specs.Prelude.{Option, Some, None, IfSome}
 use Rattle.cat_history.specs.Maps.{Map, map_of}
 use Rattle.cat_history.specs.Records.{change_of}
 use Rattle.cat_history.specs.declared.op.Change.{Change}
-use Rattle.cat_history.specs.declared.op.Op.{Op}
+use Rattle.cat_history.specs.declared.op.NameOp.{NameOp}
 use Rattle.cat_history.specs.declared.op.Write.{Write}
 use Rattle.pm_words.specs.declared.machine.Turn.{Turn}
 use Rattle.pm_words.specs.declared.machine.Turn.TheVariants.{Go, Done}
@@ -54,7 +54,7 @@ below_earlier : (limit : Option ℕ) (since earlier : ℕ) → earlier ≤ since
 below_earlier None since earlier le below = tt
 below_earlier (Some most) since earlier le below = omega arith
 
-answer_by : (slots : ℕ) (base : Map) (h : List Write) (e d : PartyState) (op : Op) (limit : Option ℕ) (answer : Once Placed) → e.caller ≡ d.caller → e.index ≡ d.index → d.since ≤ e.since
+answer_by : (slots : ℕ) (base : Map) (h : List Write) (e d : PartyState) (op : NameOp) (limit : Option ℕ) (answer : Once Placed) → e.caller ≡ d.caller → e.index ≡ d.index → d.since ≤ e.since
     → IsAnswerOf slots base h e op limit answer → IsAnswerOf slots base h d op limit answer
 answer_by slots base h e d op limit (once.Done placed) caller index le is =
     let later = is.later in
@@ -72,7 +72,7 @@ answer_by slots base h e d op limit (once.Again why) caller index le is = λ non
     let later = room.later in
     ((is none).0, record { clock = room.clock; later = omega arith; within = room.within; lacked = room.lacked; many = room.many })
 
-says_by : (slots : ℕ) (base : Map) (h : List Write) (e d : PartyState) (op : Op) (limit : Option ℕ) (turn : Turn Running (Once Placed)) → e.caller ≡ d.caller → e.index ≡ d.index → d.since ≤ e.since
+says_by : (slots : ℕ) (base : Map) (h : List Write) (e d : PartyState) (op : NameOp) (limit : Option ℕ) (turn : Turn Running (Once Placed)) → e.caller ≡ d.caller → e.index ≡ d.index → d.since ≤ e.since
     → SaysOf slots base h e op limit (stepped_of turn) → SaysOf slots base h d op limit (stepped_of turn)
 says_by slots base h e d op limit (Go m) caller index le is = tt
 says_by slots base h e d op limit (Done answer) caller index le is = answer_by slots base h e d op limit answer caller index le is
@@ -148,7 +148,7 @@ runs_on c n old v w turn m x runs is goes =
     subst (λ (q : ℕ × ℕ). placed_by q.0 w.seen ≡ placed_by q.0 v.seen ++ noted x (written q.0 q.1 (counted (stage_of m)))) (λ k. (caller k, index k)) goes.own in
     let was : placed_by i v.seen ≡ placed_by i old.seen ++ own_at i n (change_of op) (placed_in (stage_of m)) = runs.own ∙ ap (λ (t : Turn Running (Once Placed)). placed_by i old.seen ++ own_at i n (change_of op) (place_now (change_of op) t)) is in
     let own : own_at i n (change_of op) (place_now (change_of op) turn') ≡ own_at i n (change_of op) (placed_in (stage_of m)) ++ noted x (written i n (counted (stage_of m))) =
-    subst (λ (o : Op). own_at i n (change_of o) (place_now (change_of o) turn') ≡ own_at i n (change_of o) (placed_in (stage_of m)) ++ noted x (written i n (counted (stage_of m)))) same (own_after i n x m sound.here (subst (λ (o : Op). IsOf o m) (sym same) of)) in
+    subst (λ (o : NameOp). own_at i n (change_of o) (place_now (change_of o) turn') ≡ own_at i n (change_of o) (placed_in (stage_of m)) ++ noted x (written i n (counted (stage_of m)))) same (own_after i n x m sound.here (subst (λ (o : NameOp). IsOf o m) (sym same) of)) in
     record {
       since = runs.since;
       later = runs.later;
@@ -156,14 +156,14 @@ runs_on c n old v w turn m x runs is goes =
       state = goes.state ∙ ap (λ (e : PartyState). state_after e turn') state ∙ after_after (began c n old runs.since) m turn';
       ran = ap (run_of (Go (machine_in old c))) goes.told ∙ run_more (Go (machine_in old c)) v.told m x (runs.ran ∙ is);
       taken = let was = runs.taken in let one = goes.taken in let long = ap length goes.told ∙ length-append v.told (x ∷ []) in omega arith;
-      added = let was = runs.added ∙ ap (λ (t : Turn Running (Once Placed)). old.added + added_now op t) is in let now = goes.added ∙ ap (λ (o : Op). v.added + added_now o turn') same in omega arith;
-      op = subst (λ (o : Op). IsOfAfter o turn') same (goes.op_on);
+      added = let was = runs.added ∙ ap (λ (t : Turn Running (Once Placed)). old.added + added_now op t) is in let now = goes.added ∙ ap (λ (o : NameOp). v.added + added_now o turn') same in omega arith;
+      op = subst (λ (o : NameOp). IsOfAfter o turn') same (goes.op_on);
       call_is = same_on (running_call (machine_in old c)) (running_call m) turn' call_is goes.call_on;
       seen = begins_trans old.seen v.seen w.seen runs.seen goes.seen;
       own = more ∙ ap (λ (l : List (ℕ × Write)). l ++ noted x (written i n (counted (stage_of m)))) was ∙ append_assoc (placed_by i old.seen) (own_at i n (change_of op) (placed_in (stage_of m))) (noted x (written i n (counted (stage_of m))))
           ∙ ap (λ (l : List (ℕ × Write)). placed_by i old.seen ++ l) (sym own);
       says = says_by old.about.layout.slots (map_of old.about.base) w.seen v.state (began c n old runs.since) op (limit_of c) turn' caller index (subst (λ (e : PartyState). runs.since ≤ e.since) (sym state) (let le : runs.since ≤ runs.since = omega arith in le))
-          (subst (λ (q : Op × Option ℕ × About). SaysOf q.2.layout.slots (map_of q.2.base) w.seen v.state q.0 q.1 (stepped_of turn')) (λ k. (same k, limit k, runs.about k)) goes.says);
+          (subst (λ (q : NameOp × Option ℕ × About). SaysOf q.2.layout.slots (map_of q.2.base) w.seen v.state q.0 q.1 (stepped_of turn')) (λ k. (same k, limit k, runs.about k)) goes.says);
       ready = subst (λ (b : About). ReadyAfter b.layout b.generation turn') runs.about goes.ready;
     }
 

@@ -28,7 +28,7 @@ use Rattle.index_core.specs.MachineLaws.{ReadyAfter, showing}
 use Rattle.index_core.specs.Weights.{added_by}
 use Rattle.index_law.specs.Facts.{facts_of}
 use Rattle.index_law.specs.Weights.{index_weight, weight_sum}
-use Rattle.cat_history.specs.declared.op.Op.{Op}
+use Rattle.cat_history.specs.declared.op.NameOp.{NameOp}
 use Rattle.atomic_table.specs.Table.{State, Me, Allows}
 use Rattle.pac_index.specs.declared.rule.About.{About}
 use Rattle.pac_index.specs.declared.rule.Member.{Member}
@@ -157,7 +157,7 @@ abbrev pub IsLone : Me (Unit {0}) (List Member) → Type 0
 IsLone me = me ≡ (party me ∷ [], [])
 
 -- One where a turn ends a put that added its name.
-abbrev pub added_now : Op → Turn Running (Once Placed) → ℕ
+abbrev pub added_now : NameOp → Turn Running (Once Placed) → ℕ
 added_now op (Go m) = 0
 added_now op (Done answer) = added_by op answer
 

@@ -11,7 +11,7 @@ use crate::rule::{About, BeginsCall, ByOutcome, FirstStep, Members, NextStep, Ou
 use atomic_table::{Seat, Table};
 use call_stages::{Once, Placed, View};
 use index_core::CoreCall;
-use pm_words::{Action, Layout, Machine, Turn};
+use pm_words::{Action, Layout, Machine};
 use std::alloc::Global;
 
 /// An index whose words threads share.
@@ -83,7 +83,7 @@ impl Shared {
         ensures lone { IsLone seat.new.me }
         ensures answered { Answers call index (party seat.old.me) result (party seat.new.me) }
     {
-        let machine = call.machine(View {
+        let mut machine = call.machine(View {
             layout: self.about.layout,
             generation: self.about.generation,
             caller: number,
@@ -91,18 +91,16 @@ impl Shared {
         gate.before(number, index);
         gate.within(number, 0);
         let got = self.act::<FirstStep<C>>(seat, machine.action());
-        let mut turn = machine.resume(got);
+        let mut answer = machine.advance(got);
         let mut step = 0u64;
         'steps: loop {
-            match turn {
-                Turn::Done(answer) => return answer,
-                Turn::Go(next) => {
-                    step = step.saturating_add(1);
-                    gate.within(number, step);
-                    let got = self.act::<NextStep>(seat, next.action());
-                    turn = next.resume(got);
-                }
+            if let Some(answer) = answer {
+                return answer;
             }
+            step = step.saturating_add(1);
+            gate.within(number, step);
+            let got = self.act::<NextStep>(seat, machine.action());
+            answer = machine.advance(got);
         }
     }
 }

@@ -8,10 +8,11 @@ ghost use Rattle.pac_index.specs.Callers.{IsCallerOf, HasCallers};
 
 use crate::{Caller, Shared, Tried};
 use call_stages::{Once, Placed};
-use cat_history::{Change, NameMap, PlainMap, Write};
+use cat_history::{Change, Write};
 use cat_key::Name;
 use index_core::Core;
 use pm_words::{Layout, NoMemory};
+use shapes::{NameMap, PlainMap};
 use std::alloc::Global;
 use std::test::Fail;
 use std::thread::{Threads, join, yield_now};
@@ -41,7 +42,7 @@ enum Habit {
     PutsAndDels,
 }
 
-/// So many calls of names with this first letter; the second letter is one of the first so many.
+/// So many calls of names with this first letter, of which there are so many.
 #[derive(Clone, Copy)]
 struct Plan {
     habit: Habit,
@@ -97,9 +98,16 @@ impl Plan {
 
     /// The name that it is about.
     fn name(self, number: u64) -> Option<Name> {
-        let second = number.checked_rem(self.names)?;
-        let letter = *b"abcdefghijklmnop".get(second as usize)?;
-        Name::read(&[self.letter, letter]).ok()
+        let rest = number.checked_rem(self.names)?;
+        let letter = |digit: u64| 0x61 + (digit % 16) as u8;
+        Name::read(&[
+            self.letter,
+            letter(rest / 4096),
+            letter(rest / 256),
+            letter(rest / 16),
+            letter(rest),
+        ])
+        .ok()
     }
 }
 
@@ -324,7 +332,7 @@ fn told_by(map: &mut PlainMap, reply: &Reply) -> Option<u64> {
 /// Whether each reply is that of the plain map, on which the history's changes are made one after another, at its
 /// place, and each write of the history is that of one reply.
 fn are_told(alloc: Global, history: &[Write], replies: &mut Vec<Reply>) -> Result<bool, NoMemory> {
-    let mut map = PlainMap::new(alloc, 64)?;
+    let mut map = PlainMap::new(alloc, history.len() as u64)?;
     // A read at a place comes before the write there.
     replies.sort_by_key(|reply| (reply.place, !matches!(reply.asks, Asks::Get)))?;
     let mut done = 0usize;
@@ -387,15 +395,15 @@ fn replies_are_those_of_one_history(rt: HostRuntime) -> Result<(), Fail> {
                 gets,
             ],
         ),
-        // each with a first letter of its own
+        // each with new names that have a first letter of their own
         (
             1024,
             64,
             [
-                puts(b'a', 16, 5000),
-                puts(b'b', 16, 5000),
-                puts(b'c', 16, 5000),
-                puts(b'd', 16, 5000),
+                puts(b'a', 5000, 5000),
+                puts(b'b', 5000, 5000),
+                puts(b'c', 5000, 5000),
+                puts(b'd', 5000, 5000),
             ],
         ),
     ];

@@ -1,5 +1,6 @@
-use Rattle.std.proofs.Common.{◌≡◌, ℕ, ◌<◌, sym, ap, ◌∙◌, subst}
-use Rattle.std.specs.Prelude.{Some}
+use Rattle.std.proofs.Common.{◌≡◌, ℕ, ◌<◌, refl, sym, ap, ◌∙◌, subst}
+use Rattle.std.specs.Prelude.{Option, Some, None}
+use Rattle.split_merge.specs.Advances.{turn_of}
 use Rattle.pm_words.specs.declared.action.Action.{Action}
 use Rattle.pm_words.specs.declared.machine.Turn.{Turn}
 use Rattle.pm_words.specs.declared.machine.Turn.TheVariants.{Go}
@@ -56,40 +57,45 @@ steps-init g c =
     let runs = runs_on c.args.call c.args.index v (calling v c.args.call c.args.index began.since) (party c.act-got.new.seat.me) (Go m) m c.act-got.result (runs_first c.args.call c.args.index v began.since began.later here of) (λ k. Go m) goes in (
       c.act-got.ensures.seat,
       began.lone,
-      subst (λ (u : Turn Running (Once Placed)). Runs c.args.call c.args.index v u (party c.act-got.new.seat.me)) (sym (c.resume-turn.ensures.turned ∙ ap (λ (q : Running). running_turned q c.act-got.result) made)) runs,
+      subst (λ (u : Turn Running (Once Placed)). Runs c.args.call c.args.index v u (party c.act-got.new.seat.me)) (sym (ap (λ (q : Running). running_turned q c.act-got.result) made) ∙ c.advance-answer.ensures.turned) runs,
     )
 
-pub act-got-requires-in-Go-clause-allowed : goal.act-got-requires-in-Go-clause-allowed
-act-got-requires-in-Go-clause-allowed g c =
+-- without an answer the machine goes on
+going : (machine : Running) (answer : Option (Once Placed)) → ((told : Once Placed) → answer ≡ Some told → ⊥) → turn_of machine answer ≡ Go machine
+going machine None none = refl
+going machine (Some told) none = absurd (none told refl)
+
+pub act-got-requires-in-steps-clause-allowed : goal.act-got-requires-in-steps-clause-allowed
+act-got-requires-in-steps-clause-allowed g c =
     let seat = c.steps.seat in
     let s = c.args.self.now in
     let t = s.table.shared in
     let v = party c.args.seat.now.me in
-    let m = c.in-Go.next in
+    let m = c.steps.machine in
     let runs = c.steps.invariant.2 in
-    let flies : (party seat.me).state.machine ≡ Some m = ap (λ (e : PartyState). e.machine) (runs.state ∙ ap (state_after (began c.args.call c.args.index v runs.since)) c.in-Go.is) in
-    let ready : IsReady v.about.layout v.about.generation m = subst (ReadyAfter v.about.layout v.about.generation) c.in-Go.is runs.ready in
+    let flies : (party seat.me).state.machine ≡ Some m = ap (λ (e : PartyState). e.machine) (runs.state ∙ ap (state_after (began c.args.call c.args.index v runs.since)) (going m c.steps.answer c.in_default.not-Some)) in
+    let ready : IsReady v.about.layout v.about.generation m = subst (ReadyAfter v.about.layout v.about.generation) (going m c.steps.answer c.in_default.not-Some) runs.ready in
     let within = place_inside v.about.layout (running_asks m) ready.names in
     let inside : action_address t.key.layout (running_asks m) < t.table_id.words =
     subst (λ (n : ℕ). action_address t.key.layout (running_asks m) < n) (sym (s.words ∙ ap (λ (b : About). row_words b.layout) (sym s.key)))
     (subst (λ (b : About). action_address b.layout (running_asks m) < row_words b.layout) (c.requires.about ∙ sym s.key) within) in
-    subst (λ (a : Action). May t.key t.table_id.words t.table_id.slots seat.id seat.me a Tells) (sym c.action-in-Go.ensures)
+    subst (λ (a : Action). May t.key t.table_id.words t.table_id.slots seat.id seat.me a Tells) (sym c.action-in-steps.ensures)
     (allows t.key t.table_id.words t.table_id.slots seat.id seat.me m c.steps.invariant.1 flies inside)
 
 pub steps-preserved : goal.steps-preserved
 steps-preserved g c =
     let seat = c.steps.seat in
-    let m = c.in-Go.next in
+    let m = c.steps.machine in
     let v = party c.args.seat.now.me in
-    let w = party c.act-got-in-Go.new.seat.me in
+    let w = party c.act-got-in-steps.new.seat.me in
     let runs = c.steps.invariant.2 in
-    let flies : (party seat.me).state.machine ≡ Some m = ap (λ (e : PartyState). e.machine) (runs.state ∙ ap (state_after (began c.args.call c.args.index v runs.since)) c.in-Go.is) in
-    let told = c.act-got-in-Go.ensures.told in
-    let got : c.act-got-in-Go.result ≡ given (running_asks m) told.found = told.is ∙ ap (λ (a : Action). given a told.found) c.action-in-Go.ensures in
+    let flies : (party seat.me).state.machine ≡ Some m = ap (λ (e : PartyState). e.machine) (runs.state ∙ ap (state_after (began c.args.call c.args.index v runs.since)) (going m c.steps.answer c.in_default.not-Some)) in
+    let told = c.act-got-in-steps.ensures.told in
+    let got : c.act-got-in-steps.result ≡ given (running_asks m) told.found = told.is ∙ ap (λ (a : Action). given a told.found) c.action-in-steps.ensures in
     let heard = told.heard m flies in
     let goes = subst (λ (n : ℕ). Goes m (party seat.me) n w) (sym got) heard.1 in (
-      (c.act-got-in-Go.ensures.seat.0 ∙ c.steps.invariant.0.0, c.act-got-in-Go.ensures.seat.1 ∙ c.steps.invariant.0.1),
+      (c.act-got-in-steps.ensures.seat.0 ∙ c.steps.invariant.0.0, c.act-got-in-steps.ensures.seat.1 ∙ c.steps.invariant.0.1),
       heard.0,
-      subst (λ (u : Turn Running (Once Placed)). Runs c.args.call c.args.index v u w) (sym c.resume-turn-in-Go.ensures.turned)
-          (runs_on c.args.call c.args.index v (party seat.me) w c.steps.turn m c.act-got-in-Go.result runs c.in-Go.is goes),
+      subst (λ (u : Turn Running (Once Placed)). Runs c.args.call c.args.index v u w) c.advance-answer-in-steps.ensures.turned
+          (runs_on c.args.call c.args.index v (party seat.me) w (turn_of m c.steps.answer) m c.act-got-in-steps.result runs (going m c.steps.answer c.in_default.not-Some) goes),
     )
