@@ -1,55 +1,60 @@
--- The index as a map of names: its names counted, and its calls left.
-use Rattle.std.proofs.Common.{◌≡◌, ◌==◌, ℕ, ◌+◌, ◌-◌, ◌*◌, ◌/◌, ◌<◌, ◌≤◌, Bool, true, false, cond, List, [], ◌∷◌, length, ◌⊎◌, ⊎_elim, refl, le_trans, inl, inr, sym, ap, ◌∙◌, subst, arith}
+-- The index as a map of names: its names counted, its calls left, and its shape.
+use Rattle.std.proofs.Common.{◌≡◌, ◌≢◌, ℕ, zero, suc, ◌+◌, ◌-◌, ◌*◌, ◌/◌, ◌<◌, ◌≤◌, if◌then◌else◌, Bool, true, false, cond, List, [], ◌∷◌, length, ◌⊎◌, ⊎_elim, refl, le_trans, inl, inr, sym, ap, ◌∙◌, subst, arith, length-append, zero-add}
 use Rattle.std.specs.Prelude.{Option, Some, None, IfSome, IsSomeAnd, min, ◌↔◌, ◌^◌}
-use Rattle.std.specs.List.{filter, AllByRecursion}
+use Rattle.std.specs.List.{flat_map, AllByRecursion}
 use Rattle.std.specs.Option.{is_some}
-use Rattle.std.specs.FinMap.{keys, insert, remove, len, len-insert, len-remove, len-empty, empty_of_len, get-empty}
-use Rattle.std.proofs.lemmas.Bool.{cases_eq, false≢true}
+use Rattle.std.specs.FinMap.{insert, remove, len, len-insert, len-remove, len-empty, empty_of_len, get-empty}
+use Rattle.std.proofs.lemmas.Bool.{cases_eq, ne_eqb, false≢true}
 use Rattle.std.proofs.Math.Nat.{le-min, min-le_left}
 use Rattle.std.proofs.lemmas.Cmp.{nat_list_cmp_total}
-use Rattle.cat_key.specs.Names.{name_cmp}
-use Rattle.cat_history.specs.Maps.{Map, at, map_of, LacksRoom}
+use Rattle.cat_key.specs.Names.{IsName, name_cmp}
+use Rattle.cat_history.specs.Maps.{Map, at, map_of}
 use Rattle.cat_history.specs.Writes.{after_all}
 use Rattle.pm_words.specs.declared.layout.Layout.{Layout}
 use Rattle.pm_words.specs.Layouts.{IsLayout}
 use Rattle.version_lock.specs.declared.TheConstants.{LAST_COUNT}
+use Rattle.shapes.specs.Members.{Member, members}
+use Rattle.shapes.specs.ShapeRounds.{PutsFull}
+use Rattle.cat_history.specs.Records.{as_op}
+use Rattle.shapes.proofs.Agreements.{length-members, put-stays}
+use Rattle.shapes.proofs.Shapes.{len-keys}
+use Rattle.shapes.proofs.Targets.{members_part_names}
+use Rattle.call_stages.specs.Kinds.{gone_status}
+use Rattle.call_stages.specs.declared.once.Placed.{Placed}
+use Rattle.node_ops.specs.Asked.{name_asked}
+use Rattle.data_node.specs.Lists.{key_of}
+use Rattle.data_node.proofs.ListLemmas.{target_in}
+use Rattle.index_law.specs.Anchors.{anchors_of, anchors_in, gone_nodes, members_most}
+use Rattle.index_law.specs.Facts.{Facts, list_in}
+use Rattle.index_law.specs.Laws.{fresh_row}
+use Rattle.index_law.specs.Worlds.{facts}
+use Rattle.index_law.proofs.Fresh.{fresh_list, fresh_statuses}
+use Rattle.index_law.proofs.Holding.{idle_has_shape}
+use Rattle.index_law.proofs.Starts.{listed_within}
+use Rattle.lone_law.proofs.Locks.{worn_has_none}
 use Rattle.index_core.specs.Fresh.{IsFreshIndex}
 use Rattle.index_core.specs.Indexes.{Index, IsIndex, map_of_index, world}
-use Rattle.index_core.specs.Lone.{IsQuiet, FindsNoRoom, FindsWornNode, IsOver, IsWornNode, IsWholeAnswer, node_for, names_beside, locks_left}
-use Rattle.shapes.proofs.NameLists.{filter-all}
-use Rattle.shapes.proofs.Shapes.{len-keys}
-use Rattle.data_node.specs.Lists.{ListNode, IsChain, target_from, key_of}
-use Rattle.data_node.specs.Spots.{Means}
-use Rattle.data_node.proofs.CountLemmas.{names_fit}
-use Rattle.index_law.specs.Facts.{Facts, status_in}
-use Rattle.call_stages.specs.Kinds.{free_status, live_status}
-use Rattle.lone_law.specs.Splitting.{LacksFree}
-use Rattle.index_law.specs.Worlds.{facts}
-use Rattle.index_law.specs.Lawful.{IsList}
+use Rattle.index_core.specs.Lone.{IsQuiet, FindsNoRoom, FindsWornNode, HasSameList, IsOver, IsWornNode, IsWholeAnswer, RunsAlone, LeavesList, SplitsFor, SplitsNothing, node_for, locks_left}
 use Rattle.index_core.specs.declared.party.CoreCall.TheVariants as call
-use Rattle.node_ops.specs.Asked.{name_asked}
-use Rattle.index_law.proofs.Starts.{listed_within}
-use Rattle.data_node.proofs.ListLemmas.{target_in}
-use Rattle.lone_law.proofs.Locks.{worn_has_none}
 use Rattle.index_core.specs.declared.party.CoreCall.{CoreCall}
 use Rattle.index_core.specs.declared.party.Whole.{Whole}
 use Rattle.index_core.specs.declared.party.Whole.TheVariants as whole
 use Rattle.index_core.specs.CoreCalls.{op_of, limit_of}
-use Rattle.index_core.proofs.Tries.{rests}
+use Rattle.index_core.proofs.Tries.{quiet_parties}
 use Rattle.index_core.proofs.Fresh.{fresh_quiet, fresh_locks}
+use Rattle.index_core.proofs.Fulls.{no_room_is_full_put}
 use Rattle.index_core.proofs.Stepping.{respare}
-use Rattle.catalog_cli.specs.CoreMaps.{calls_left_of, IsUnlimited, IsCoreMap}
+use Rattle.catalog_cli.specs.CoreMaps.{calls_left_of, IsUnlimited, IsCoreMap, anchors_made}
 
 -- a put of a name that the map lacks adds one, and of one that it has adds none
-pub put_counted : (s s' : Index) (name : List ℕ) (value names names' : ℕ) (old : Option ℕ) (b : Bool) → IsCoreMap s names → IsIndex s' → IsQuiet s' → s'.layout ≡ s.layout →
+pub put_counted : (s s' : Index) (name : List ℕ) (value names names' : ℕ) (old : Option ℕ) (b : Bool) → IsCoreMap s names → IsIndex s' → IsQuiet s' →
     old ≡ at (map_of_index s) name → map_of_index s' ≡ insert (map_of_index s) name value → is_some old ≡ b → names' ≡ cond b names (names + 1) → IsCoreMap s' names'
-put_counted s s' name value names names' old b was index quiet layout told after is counts =
+put_counted s s' name value names names' old b was index quiet told after is counts =
     let m = map_of_index s in
     let has : is_some (at m name) ≡ b = sym (ap is_some told) ∙ is in
     record {
       index = index;
       quiet = quiet;
-      one_node = ap (λ (l : Layout). l.nodes) layout ∙ was.one_node;
       counted = counts ∙ ap (λ (n : ℕ). cond b n (n + 1)) was.counted
           ∙ sym (ap len after ∙ len-insert nat_list_cmp_total m name value ∙ ap (λ (c : Bool). cond c (len m) (len m + 1)) has);
     }
@@ -69,80 +74,70 @@ pub told_name : (s : Index) (name : List ℕ) (names : ℕ) (old : Option ℕ) �
 told_name s name names old was told is = let one = some_name (map_of_index s) name (sym (ap is_some told) ∙ is) in let counted = was.counted in omega (arith, one, counted)
 
 -- a removal of a name that the map has takes one, and of one that it lacks takes none
-pub removal_counted : (s s' : Index) (name : List ℕ) (names names' : ℕ) (old : Option ℕ) (b : Bool) → IsCoreMap s names → IsIndex s' → IsQuiet s' → s'.layout ≡ s.layout →
+pub removal_counted : (s s' : Index) (name : List ℕ) (names names' : ℕ) (old : Option ℕ) (b : Bool) → IsCoreMap s names → IsIndex s' → IsQuiet s' →
     old ≡ at (map_of_index s) name → map_of_index s' ≡ remove (map_of_index s) name → is_some old ≡ b → names' ≡ cond b (names - 1) names → IsCoreMap s' names'
-removal_counted s s' name names names' old b was index quiet layout told after is counts =
+removal_counted s s' name names names' old b was index quiet told after is counts =
     let m = map_of_index s in
     let has : is_some (at m name) ≡ b = sym (ap is_some told) ∙ is in
     record {
       index = index;
       quiet = quiet;
-      one_node = ap (λ (l : Layout). l.nodes) layout ∙ was.one_node;
       counted = counts ∙ ap (λ (n : ℕ). cond b (n - 1) n) was.counted
           ∙ sym (ap len after ∙ len-remove nat_list_cmp_total m name ∙ ap (λ (c : Bool). cond c (len m - 1) (len m)) has);
     }
 
--- with one node no other is listed, and every name belongs to node 0
-one_listed : (l : Layout) (f : Facts) → l.nodes ≡ 1 → IsList l f → f.list ≡ []
-one_listed l f one is = at f.list is.chain is.within
-  where
-    at : (list : List ListNode) → IsChain f.now 0 list → AllByRecursion (λ (m : ListNode). m.node < l.nodes) list → list ≡ []
-    at [] chain within = refl
-    at (m ∷ behind) chain within = let least = within.0 in absurd (chain.1 (omega arith))
+-- members have no more names in all than slots
+each_few : (members_are : List Member) (slots : ℕ) → slots ≤ 64 → AllByRecursion (λ (m : Member). length m.names ≤ slots) members_are →
+    length (flat_map (λ (m : Member). m.names) members_are) ≤ length members_are * 64
+each_few [] slots most fits = omega arith
+each_few (m ∷ later) slots most fits =
+    let here = fits.0 in
+    let rest = each_few later slots most fits.1 in
+    let both = length-append m.names (flat_map (λ (n : Member). n.names) later) in
+    omega arith
 
-all_beside : (s : Index) → IsIndex s → s.layout.nodes ≡ 1 → (name : List ℕ) → length (names_beside s name) ≡ len (map_of_index s)
-all_beside s is one name =
-    let none = one_listed s.layout (facts (world s)) one is.lawful.list in
-    (λ k. length (filter (λ other. target_from 0 (none k) (key_of other) == target_from 0 (none k) (key_of name)) (keys (map_of_index s))))
-    ∙ ap length (filter-all (λ other. 0 == 0) (keys (map_of_index s)) (each (keys (map_of_index s))))
-    ∙ sym (len-keys (map_of_index s))
-  where
-    each : (xs : List (List ℕ)) → AllByRecursion (λ x. (0 == 0) ≡ true) xs
-    each [] = tt
-    each (x ∷ xs) = (refl, each xs)
-
--- and none is FREE
-none_free : (s : Index) → IsIndex s → IsQuiet s → s.layout.nodes ≡ 1 → LacksFree s.layout s.generation s.words
-none_free s is quiet one m here free =
-    let first : m ≡ 0 = omega (arith, here, one) in
-    let live : status_in s.layout s.words m ≡ live_status = (rests s is quiet).live.live m (inl first) in
-    let both : free_status ≡ live_status = sym free ∙ live in
-    absurd (omega (arith, both))
-
--- so a put finds no room where the map lacks its name and has as many names as the node has slots
-pub lacks_room : (s : Index) (name : List ℕ) (value limit : ℕ) → IsIndex s → IsQuiet s → s.layout.nodes ≡ 1 → FindsNoRoom (call.Put name value limit) s ↔ LacksRoom s.layout.slots (map_of_index s) name
-lacks_room s name value limit is quiet one =
-    let all = all_beside s is one name in (
-      (λ none. (none.0, sym all ∙ none.1)),
-      (λ lacks. (lacks.0, all ∙ lacks.1, none_free s is quiet one)),
-    )
-
-pub full_exactly : (s t : Index) (names : ℕ) (name : List ℕ) (value limit : ℕ) {A : Type 0} → s ≡ t → IsCoreMap s names → A ↔ FindsNoRoom (call.Put name value limit) s → A ↔ LacksRoom t.layout.slots (map_of_index t) name
-full_exactly s t names name value limit {A} same is full =
-    let room = lacks_room s name value limit is.index is.quiet is.one_node in
-    subst (λ (u : Index). A ↔ LacksRoom u.layout.slots (map_of_index u) name) same
-    ((λ a. room.0 (full.0 a)), (λ lacks. full.1 (room.1 lacks)))
-
--- there is always a number for one name more
-pub few_names : (s : Index) (names : ℕ) → IsCoreMap s names → names ≤ 64
+-- so there is always a number for one name more
+pub few_names : (s : Index) (names : ℕ) → IsCoreMap s names → names ≤ 262144
 few_names s names is =
-    let rest = rests s is.index is.quiet in
-    let none = one_listed s.layout (facts (world s)) is.one_node is.index.lawful.list in
-    let means : Means s.layout.slots (λ _. true) ((facts (world s)).now 0) (map_of_index s) =
-    subst (λ (list : List ListNode). Means s.layout.slots (λ name. target_from 0 list (key_of name) == 0) ((facts (world s)).now 0) (map_of_index s)) none (rest.settled 0 (inl refl)).means in
-    let within = names_fit s.layout.slots ((facts (world s)).now 0) (map_of_index s) means rest.named in
-    let slots = is.index.lawful.row.layout.slots in
+    let w = world s in
+    let m = map_of_index s in
+    let shape = (idle_has_shape w is.index.lawful (quiet_parties s is.quiet)).0 in
+    let row = is.index.lawful.row.layout in
+    let slots = row.slots in
+    let nodes = row.nodes in
+    let members_few = shape.few in
+    let size = len-keys m in
+    let parts = ap length (members_part_names m (anchors_in w) shape.ordered) in
+    let each = each_few (members m (anchors_in w)) s.layout.slots slots.1 shape.fits in
+    let as_many = length-members m (anchors_in w) in
     let counted = is.counted in
-    omega (arith, within, slots.1, counted)
+    omega arith
 
 -- a fresh index, once room for writes is made
-pub fresh_map : (l : Layout) (s s' : Index) → l.nodes ≡ 1 → IsFreshIndex l s → s' ≡ record s { spare = s'.spare } → IsCoreMap s' 0
-fresh_map l s s' one fresh kept = record {
+pub fresh_map : (l : Layout) (s s' : Index) → IsFreshIndex l s → s' ≡ record s { spare = s'.spare } → IsCoreMap s' 0
+fresh_map l s s' fresh kept = record {
   index = subst IsIndex (sym kept) (respare s s'.spare fresh.index);
   quiet = subst IsQuiet (sym kept) (fresh_quiet l s fresh);
-  one_node = ap (λ (v : Index). v.layout.nodes) kept ∙ ap (λ (k : Layout). k.nodes) fresh.layout ∙ one;
   counted = sym (ap (λ (v : Index). len (map_of_index v)) kept ∙ (λ k. len (after_all (map_of (fresh.base k)) (fresh.history k))) ∙ len-empty name_cmp ℕ);
 }
+
+-- its one member has no names, and each node may be one
+pub fresh_anchors : (l : Layout) (s s' : Index) → IsLayout l → IsFreshIndex l s → s' ≡ record s { spare = s'.spare } → anchors_in (world s') ≡ [] ∷ []
+fresh_anchors l s s' layout fresh kept =
+    ap (λ (v : Index). anchors_in (world v)) kept ∙ (λ k. anchors_of (list_in (fresh.layout k) (fresh.words k))) ∙ ap anchors_of (fresh_list l layout)
+
+pub fresh_most : (l : Layout) (s s' : Index) → IsLayout l → IsFreshIndex l s → s' ≡ record s { spare = s'.spare } → members_most (world s') ≡ l.nodes
+fresh_most l s s' layout fresh kept =
+    ap (λ (v : Index). members_most (world v)) kept
+    ∙ (λ k. (fresh.layout k).nodes - gone_nodes (fresh.layout k).nodes (facts (world (record s { layout = fresh.layout k; words = fresh.words k }))))
+    ∙ ap (λ (gone : ℕ). l.nodes - gone) (none_gone l.nodes (facts (world (record s { layout = l; words = fresh_row l }))) (fresh_statuses l layout))
+    ∙ (let all : l.nodes - 0 ≡ l.nodes = omega arith in all)
+  where
+    none_gone : (n : ℕ) (f : Facts) → ((k : ℕ) → k < n → f.status k ≢ gone_status) → gone_nodes n f ≡ 0
+    none_gone zero f none = refl
+    none_gone (suc n) f none =
+        ap (λ (b : Bool). (if b then 1 else 0) + gone_nodes n f) (ne_eqb (f.status n) gone_status (none n (omega arith)))
+        ∙ zero-add (gone_nodes n f) ∙ none_gone n f (λ k below. none k (omega arith))
 
 -- it has a lock of its node left, and a number below 2^62 for its clock, for each of the calls
 pub fresh_calls : (l : Layout) (s s' : Index) (calls : ℕ) → IsLayout l → IsFreshIndex l s → s' ≡ record s { spare = s'.spare } → calls ≤ s'.spare →
@@ -183,3 +178,30 @@ goes_through s c new r is unlimited left answer = ⊎_elim
     both_worn : (node word : ℕ) → IsWornNode s c new node word → ⊥
     both_worn node word (inl first) = unworn s c is left first.0
     both_worn node word (inr split) = let two = locks_remain s left in let one = split.1 in omega (arith, two, one)
+
+-- a call finds no room exactly where it is a put that is full in the shape
+pub full_exactly : (s : Index) (c : CoreCall) → IsIndex s → IsQuiet s → IsName (name_asked (op_of c)) → 0 < calls_left_of s →
+    FindsNoRoom c s ↔ PutsFull s.layout.slots (members_most (world s)) (map_of_index s) (anchors_in (world s)) (as_op (op_of c))
+full_exactly s (call.Put name value limit) is quiet named left = let two = locks_remain s left in no_room_is_full_put s name value limit is quiet named (omega arith)
+full_exactly s (call.Get name) is quiet named left = ((λ none. none), (λ none. none))
+full_exactly s (call.Del name limit) is quiet named left = ((λ none. none), (λ none. none))
+
+-- one that takes place leaves the anchors that it makes
+pub placed_anchors : (s : Index) (c : CoreCall) (new : Index) (placed : Placed) → LeavesList c (whole.Placed placed) s new → anchors_in (world new) ≡ anchors_made s c
+placed_anchors s (call.Put name value limit) new placed list = ⊎_elim
+    (λ (same : HasSameList s new × SplitsNothing (call.Put name value limit) s). ap anchors_of same.0 ∙ sym (put-stays s.layout.slots (map_of_index s) (anchors_in (world s)) name same.1))
+    (λ (cut : SplitsFor (call.Put name value limit) s new). cut.1) list
+placed_anchors s (call.Get name) new placed list = ⊎_elim (λ (same : HasSameList s new × Unit {0}). ap anchors_of same.0) (λ (cut : SplitsFor (call.Get name) s new). absurd cut) list
+placed_anchors s (call.Del name limit) new placed list = ⊎_elim (λ (same : HasSameList s new × Unit {0}). ap anchors_of same.0) (λ (cut : SplitsFor (call.Del name limit) s new). absurd cut) list
+
+-- what a whole call that was answered so says of room and of the shape
+pub told_placed : (s : Index) (c : CoreCall) (new : Index) (r : Whole) (placed : Placed) → r ≡ whole.Placed placed → {caller : ℕ} → RunsAlone s caller c new r →
+    (FindsNoRoom c s → ⊥) × (anchors_in (world new) ≡ anchors_made s c)
+told_placed s c new r placed is {caller} runs =
+    let run : RunsAlone s caller c new (whole.Placed placed) = subst (RunsAlone s caller c new) is runs in
+    (run.answer.0.2, placed_anchors s c new placed run.list)
+
+pub told_full : (s : Index) (c : CoreCall) (new : Index) (r : Whole) → r ≡ whole.Full → {caller : ℕ} → RunsAlone s caller c new r → FindsNoRoom c s × (anchors_in (world new) ≡ anchors_in (world s))
+told_full s c new r is {caller} runs =
+    let run : RunsAlone s caller c new whole.Full = subst (RunsAlone s caller c new) is runs in
+    (run.answer.2, ap anchors_of run.list)

@@ -1,6 +1,6 @@
-pub mod Commands
 pub mod CoreMaps
+pub mod LonePlans
 pub mod LoneRoundSteps
+pub mod Outcomes
 pub mod Played
-pub mod Refusals
 pub mod ScriptCalls

@@ -1,5 +1,5 @@
 -- How a round of one caller goes on by one call.
-use Rattle.std.proofs.Common.{◌≡◌, ℕ, ◌+◌, ◌<◌, ◌≤◌, Bool, true, false, cond, List, [], ◌∷◌, ◌++◌, length, get_or, take, map, All, sym, ap, subst, ◌∙◌, arith, append-nil, zero-add}
+use Rattle.std.proofs.Common.{◌≡◌, ℕ, ◌+◌, ◌<◌, ◌≤◌, Bool, true, false, cond, List, [], ◌∷◌, ◌++◌, length, get_or, take, map, fold, All, ◌↔◌, sym, ap, subst, ◌∙◌, arith, append-nil, zero-add}
 use Rattle.std.proofs.lemmas.List.{map-append, take_more, length-take-le}
 use Rattle.std.proofs.lemmas.List.Elements.{All-take}
 use Rattle.std.proofs.lemmas.List.Sums.{fold-append}
@@ -11,6 +11,14 @@ use Rattle.cat_history.specs.declared.op.CallerOp.{CallerOp}
 use Rattle.cat_history.specs.declared.op.Write.{Write}
 use Rattle.cat_history.specs.declared.record.Record.{Record}
 use Rattle.cat_history.specs.declared.record.Reply.{Reply}
+use Rattle.shapes.specs.Anchors.{Anchors}
+use Rattle.cat_history.specs.Rounds.{IsWriter}
+use Rattle.cat_history.specs.declared.op.Op.{Op}
+use Rattle.cat_history.specs.declared.op.Op.TheVariants.{Put, Get, Del, Scan}
+use Rattle.cat_history.specs.declared.record.Reply.TheVariants.{Full}
+use Rattle.shapes.specs.ShapeRounds.{anchors_end, anchors_after, PutsFull}
+use Rattle.shapes.specs.Runs.{HoldsFrom, Standing, stands_after, ComesLate, IsFullInTime}
+use Rattle.shapes.proofs.RoundLemmas.{anchors_end-push}
 use Rattle.cat_history.proofs.LoneRoundLemmas.{writes_of-append, writes_of-cons, HoldsAlong-push, numbered-push}
 
 pub one_at_most : (b : Bool) (n : ℕ) → n ≡ cond b 1 0 → n ≤ 1
@@ -51,3 +59,47 @@ pub ends-push : (base now end : Map) (records : List Record) (r : Record) → no
 ends-push base now end records r ends left =
     left ∙ ap (λ (m : Map). after_all m (write_of r)) ends ∙ sym (fold-append (λ n (w : Write). changed n w.change) base (writes_of records) (write_of r))
     ∙ ap (after_all base) (sym (writes_of-push records r))
+
+-- what holds from an opening on holds of one record more of which it holds at their end
+holds-push : {S : Type 0} (next : S → Record → S) (P : S → Record → Type 0) (s : S) (records : List Record) (r : Record) → HoldsFrom next P s records → P (fold next s records) r →
+    HoldsFrom next P s (records ++ r ∷ [])
+holds-push next P s [] r holds here = (here, tt)
+holds-push next P s (q ∷ records) r holds here = (holds.0, holds-push next P (next s q) records r holds.1 here)
+
+-- a call that comes late is one that writes, when the places reach the limit
+late-to : (limit : ℕ) (s : Standing) (op : Op) → ComesLate limit s op → IsWriter op × (limit ≤ s.place)
+late-to limit s (Put name value) late = (tt, late)
+late-to limit s (Get name) late = absurd late
+late-to limit s (Del name) late = (tt, late)
+late-to limit s (Scan from count) late = absurd late
+
+late-from : (limit : ℕ) (s : Standing) (op : Op) → IsWriter op × (limit ≤ s.place) → ComesLate limit s op
+late-from limit s (Put name value) late = late.1
+late-from limit s (Get name) late = absurd late.0
+late-from limit s (Del name) late = late.1
+late-from limit s (Scan from count) late = absurd late.0
+
+-- `full` is told exactly by one call more
+pub full-push : (slots limit : ℕ) (opening now : Standing) (records : List Record) (r : Record) → IsFullInTime slots true limit opening records → fold (stands_after slots true) opening records ≡ now →
+    (r.reply ≡ Full) ↔ (((IsWriter r.op × (limit ≤ now.place)) → ⊥) × PutsFull slots now.most now.map now.anchors r.op) → IsFullInTime slots true limit opening (records ++ r ∷ [])
+full-push slots limit opening now records r full stands exact =
+    holds-push (stands_after slots true) (λ s q. (q.reply ≡ Full) ↔ ((ComesLate limit s q.op → ⊥) × PutsFull slots s.most s.map s.anchors q.op)) opening records r full
+    (subst (λ (s : Standing). (r.reply ≡ Full) ↔ ((ComesLate limit s r.op → ⊥) × PutsFull slots s.most s.map s.anchors r.op)) (sym stands)
+    ((λ is. ((λ late. (exact.0 is).0 (late-to limit now r.op late)), (exact.0 is).1)), (λ is. exact.1 ((λ late. is.0 (late-from limit now r.op late)), is.1))))
+
+-- where it stands after one call more
+pub stands-push : (slots : ℕ) (opening now : Standing) (records : List Record) (r : Record) (m : Map) (anchors : Anchors) (place : ℕ) → fold (stands_after slots true) opening records ≡ now →
+    m ≡ after_all now.map (write_of r) → anchors ≡ anchors_after slots now.map now.anchors r.op r.reply → place ≡ now.place + length (write_of r) →
+    fold (stands_after slots true) opening (records ++ r ∷ []) ≡ record { map = m; anchors = anchors; most = now.most; place = place }
+stands-push slots opening now records r m anchors place stands maps shapes places =
+    let left : record { map = m; anchors = anchors; most = now.most; place = place } ≡ stands_after slots true now r =
+    λ i. record { map = maps i; anchors = shapes i; most = now.most; place = places i } in
+    fold-append (stands_after slots true) opening records (r ∷ []) ∙ ap (λ (s : Standing). stands_after slots true s r) stands ∙ sym left
+
+-- the anchors that one call more leaves
+pub anchors-push : (slots : ℕ) (base now : Map) (anchors shape end : Anchors) (records : List Record) (r : Record) → now ≡ after_all base (writes_of records) → shape ≡ anchors_end slots base anchors records →
+    end ≡ anchors_after slots now shape r.op r.reply → end ≡ anchors_end slots base anchors (records ++ r ∷ [])
+anchors-push slots base now anchors shape end records r ends shape_ends left =
+    left ∙ ap (λ m. anchors_after slots m shape r.op r.reply) ends
+    ∙ ap (λ a. anchors_after slots (after_all base (writes_of records)) a r.op r.reply) shape_ends
+    ∙ sym (anchors_end-push slots base anchors records r)

@@ -1,39 +1,73 @@
 -- How many calls a script has.
-use Rattle.std.proofs.Common.{◌≡◌, ℕ, suc, ◌+◌, ◌<◌, ◌≤◌, Bool, true, false, cond, eqb, List, [], ◌∷◌, ◌++◌, length, get_or, drop, refl, sym, ap, ◌∙◌, arith, length-append}
-use Rattle.std.specs.List.{AllZip}
-use Rattle.std.proofs.lemmas.Bool.{true≢false}
-use Rattle.std.proofs.lemmas.List.Sums.{sum_by-cons, sum_by-drop_more}
-use Rattle.cat_history.specs.declared.op.CallerOp.{CallerOp}
-use Rattle.cat_text.specs.Scripts.{IsCallLine, IsScript, lines_after, lines_of}
-use Rattle.cat_text.specs.declared.script.RoundPlan.{RoundPlan}
+use Rattle.std.proofs.Common.{◌≡◌, ℕ, ◌+◌, ◌<◌, ◌≤◌, List, [], ◌∷◌, ◌++◌, length, get_or, drop, sum_by, refl, sym, ap, ◌∙◌, arith, inl, inr}
+use Rattle.std.proofs.lemmas.List.Sums.{sum_by-cons, sum_by-drop_more, sum_by_push}
+use Rattle.cat_history.specs.declared.plan.RoundPlan.{RoundPlan}
+use Rattle.cat_script.specs.Limits.{call_count}
+use Rattle.cat_script.specs.Rounds.{calls_in as asked_in, AreEnded, AreRounds}
+use Rattle.cat_script.specs.Scripts.{IsScript}
+use Rattle.cat_script.specs.declared.line.Line.{Line}
+use Rattle.cat_script.specs.declared.line.Line.TheVariants.{Blank, Call, Join, Crash, Updater, Limit}
+use Rattle.cat_script.specs.declared.script.Script.{Script}
 use Rattle.catalog_cli.specs.LoneCalls.{calls_in}
 
-one-line-at-most : (line : List ℕ) (b : Bool) → eqb (length line) 0 ≡ b → length (cond b [] (line ∷ [])) ≤ length line
-one-line-at-most line true is = omega arith
-one-line-at-most [] false is = absurd (true≢false is)
-one-line-at-most (byte ∷ line) false is = omega arith
+abbrev ops_count : RoundPlan → ℕ
+ops_count plan = length plan.ops
 
--- a text has no more lines than bytes
-lines-fit : (line bytes : List ℕ) → length (lines_after line bytes) ≤ length line + length bytes
-lines-fit line [] = omega (arith, one-line-at-most line (eqb (length line) 0) refl)
-lines-fit line (byte ∷ bytes) = by_cases (eqb byte 10) (lines-fit [] bytes) (lines-fit (line ++ byte ∷ []) bytes) where
-  by_cases : (b : Bool) → length (lines_after [] bytes) ≤ 0 + length bytes → length (lines_after (line ++ byte ∷ []) bytes) ≤ length (line ++ byte ∷ []) + length bytes →
-      length (cond b (line ∷ lines_after [] bytes) (lines_after (line ++ byte ∷ []) bytes)) ≤ length line + length (byte ∷ bytes)
-  by_cases true cut whole = omega (arith, cut)
-  by_cases false cut whole = omega (arith, whole, length-append line (byte ∷ []))
+counted : (lines : List Line) → length (asked_in lines) ≡ sum_by call_count lines
+counted [] = refl
+counted (Blank ∷ lines) = omega (arith, counted lines, sum_by-cons call_count Blank lines)
+counted (Call caller op ∷ lines) = omega (arith, counted lines, sum_by-cons call_count (Call caller op) lines)
+counted (Join ∷ lines) = omega (arith, counted lines, sum_by-cons call_count Join lines)
+counted (Crash plan ∷ lines) = omega (arith, counted lines, sum_by-cons call_count (Crash plan) lines)
+counted (Updater turns ∷ lines) = omega (arith, counted lines, sum_by-cons call_count (Updater turns) lines)
+counted (Limit limit ∷ lines) = omega (arith, counted lines, sum_by-cons call_count (Limit limit) lines)
 
-call-for-each-line : (lines : List (List ℕ)) (asked : List CallerOp) → AllZip IsCallLine lines asked → length asked ≡ length lines
-call-for-each-line [] [] zip = refl
-call-for-each-line [] (a ∷ asked) zip = absurd zip
-call-for-each-line (line ∷ lines) [] zip = absurd zip
-call-for-each-line (line ∷ lines) (a ∷ asked) zip = ap suc (call-for-each-line lines asked zip.1)
+parted : (a b : List Line) → length (asked_in (a ++ b)) ≡ length (asked_in a) + length (asked_in b)
+parted [] b = omega arith
+parted (Blank ∷ a) b = parted a b
+parted (Call caller op ∷ a) b = omega (arith, parted a b)
+parted (Join ∷ a) b = parted a b
+parted (Crash plan ∷ a) b = parted a b
+parted (Updater turns ∷ a) b = parted a b
+parted (Limit limit ∷ a) b = parted a b
 
--- the rounds of a script have no more calls than the script has bytes
-pub calls-of-script : (bytes : List ℕ) (plans : List RoundPlan) → IsScript bytes plans → calls_in plans ≤ length bytes
-calls-of-script bytes plans script =
-    let round : RoundPlan = record { ops = script.0 } in
-    let one : calls_in plans ≡ length script.0 + calls_in [] = ap calls_in script.1 ∙ sum_by-cons (λ (p : RoundPlan). length p.ops) round [] in
-    omega (arith, one, lines-fit [] bytes, call-for-each-line (lines_of bytes) script.0 script.2)
+one-line : (line : Line) (lines : List Line) → length (asked_in lines) ≤ length (asked_in (line ∷ lines))
+one-line Blank lines = omega arith
+one-line (Call caller op) lines = omega arith
+one-line Join lines = omega arith
+one-line (Crash plan) lines = omega arith
+one-line (Updater turns) lines = omega arith
+one-line (Limit limit) lines = omega arith
+
+of-ended : (before lines : List Line) (plans : List RoundPlan) → AreEnded before lines plans → calls_in plans ≤ length (asked_in lines)
+of-ended before lines [] ended = omega arith
+of-ended before lines (plan ∷ plans) ended =
+    let round = ended.0 in
+    let end = ended.1 in
+    let more = ended.2 in
+    let one : calls_in (plan ∷ plans) ≡ length plan.ops + calls_in plans = sum_by-cons ops_count plan plans in
+    let later = of-ended (before ++ round ++ end ∷ []) more plans ended.6 in
+    omega (arith, one, later, ap (λ (ls : List Line). length (asked_in ls)) ended.3, parted round (end ∷ more), one-line end more, ap length ended.4.ops)
+
+of-rounds : (lines : List Line) (plans : List RoundPlan) → AreRounds lines plans → calls_in plans ≤ length (asked_in lines)
+of-rounds lines plans is =
+    let cut = ap (λ (ls : List Line). length (asked_in ls)) is.cut ∙ parted is.closed is.rest in
+    elim is.finish [
+      | inl finish ↦ let front = of-ended [] is.closed plans finish.1 in omega arith
+      | inr finish ↦
+          let front = of-ended [] is.closed finish.1 finish.4 in
+          let all : calls_in plans ≡ calls_in finish.1 + length finish.2.ops = ap calls_in finish.3 ∙ sum_by_push ops_count finish.1 finish.2 in
+          let last = ap length finish.5.ops in
+          omega arith
+    ]
+
+-- the rounds of a script have no more calls than the limit says
+pub calls-of-script : (bytes : List ℕ) (script : Script) → IsScript bytes script → calls_in script.rounds ≤ 100000
+calls-of-script bytes script is =
+    let few = of-rounds is.said script.rounds is.rounds in
+    let as_many = counted is.said in
+    let limit = is.limits.calls in
+    omega arith
 
 -- one round fewer is to come
 pub calls-to-come : (plans : List RoundPlan) (i : ℕ) (plan : RoundPlan) → i < length plans → plan ≡ get_or plans i plan →

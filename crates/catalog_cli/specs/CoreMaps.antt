@@ -1,9 +1,12 @@
 -- The index, called by one caller with no other call in flight, as a map of names.
 use Rattle.std.specs.Prelude.{◌≡◌, ℕ, ◌-◌, ◌/◌, ◌^◌, min, length, IfSome}
 use Rattle.std.specs.FinMap.{len}
+use Rattle.shapes.specs.Anchors.{Anchors, put_anchors, deleted_anchors}
+use Rattle.index_law.specs.Anchors.{anchors_in}
 use Rattle.index_core.specs.declared.party.CoreCall.{CoreCall}
+use Rattle.index_core.specs.declared.party.CoreCall.TheVariants as call
 use Rattle.index_core.specs.CoreCalls.{limit_of}
-use Rattle.index_core.specs.Indexes.{Index, IsIndex, map_of_index}
+use Rattle.index_core.specs.Indexes.{Index, IsIndex, map_of_index, world}
 use Rattle.index_core.specs.Lone.{IsQuiet, locks_left}
 
 -- How many more calls it can have: each takes two locks of each node at most, places one write at most, and finds the
@@ -15,9 +18,14 @@ calls_left_of s = min (locks_left s / 2) (min s.spare (2 ^ 62 - length s.history
 abbrev pub IsUnlimited : CoreCall → Type 0
 IsUnlimited call = IfSome (limit_of call) (λ limit. limit ≡ 2 ^ 62)
 
+-- The anchors that a call leaves which takes place.
+abbrev pub anchors_made : Index → CoreCall → Anchors
+anchors_made s (call.Put name value limit) = put_anchors s.layout.slots (map_of_index s) (anchors_in (world s)) name
+anchors_made s (call.Get name) = anchors_in (world s)
+anchors_made s (call.Del name limit) = deleted_anchors s.layout.slots (map_of_index s) (anchors_in (world s)) name
+
 -- Between two calls none is in flight, and the names are counted.
 pub record IsCoreMap (s : Index) (names : ℕ) : Type 0 where
   pub index : IsIndex s
   pub quiet : IsQuiet s
-  pub one_node : s.layout.nodes ≡ 1  -- as `play` asks for
   pub counted : names ≡ len (map_of_index s)

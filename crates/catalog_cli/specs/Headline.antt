@@ -1,101 +1,215 @@
 -- What the program owes: what a script plays, what is reported of it, and what each status says of source and sink.
-use Rattle.std.specs.Prelude.{◌≡◌, ℕ, ◌<◌, ◌≤◌, ◌⊎◌, List, [], ◌∷◌, Option, IfSome, codes, length, take}
+use Rattle.std.specs.Prelude.{◌≡◌, ℕ, ◌<◌, ◌⊎◌, List, [], ◌∷◌, Option, IfSome, Some, None, All, length, take}
 use Rattle.std.specs.FinMap.{empty}
 use Rattle.std.specs.Io.KnownBytes.{Appends, Keeps}
+use Rattle.cat_command.specs.Commands.{IsCommand}
+use Rattle.cat_command.specs.declared.command.Command.{Command}
+use Rattle.cat_command.specs.declared.command.Command.TheVariants.{Play}
 use Rattle.cat_history.specs.Maps.{Map}
 use Rattle.cat_history.specs.Writes.{after_all}
 use Rattle.cat_history.specs.declared.op.Write.{Write}
-use Rattle.cat_text.specs.Scripts.{IsNumber, IsScript}
-use Rattle.cat_text.specs.declared.script.TheConstants.{MOST_BYTES}
+use Rattle.cat_history.specs.declared.plan.RoundPlan.{RoundPlan}
+use Rattle.cat_script.specs.Fits.{FitsCallers, IsUnfitBy}
+use Rattle.cat_script.specs.Scripts.{IsScript, IsFirstFault}
+use Rattle.cat_script.specs.declared.fault.ScriptFault.{ScriptFault}
+use Rattle.cat_script.specs.declared.fault.ScriptFault.TheVariants.{Bytes}
+use Rattle.cat_script.specs.declared.fault.TheConstants.{MOST_BYTES}
+use Rattle.cat_script.specs.declared.script.Script.{Script}
 use Rattle.cat_text.specs.Reports.{report_text}
 use Rattle.cat_text.specs.declared.report.RoundReport.{RoundReport}
-use Rattle.cat_text.specs.declared.script.RoundPlan.{RoundPlan}
-use Rattle.pm_words.specs.Layouts.{IsLayout}
 use Rattle.pm_words.specs.declared.layout.Layout.{Layout}
+use Rattle.shapes.specs.Anchors.{Anchors}
+use Rattle.shapes.specs.ShapeRounds.{anchors_end}
+use Rattle.catalog_cli.specs.Built.{unbuilt_command, first_unbuilt, IsCommandWord}
 use Rattle.catalog_cli.specs.Rounds.{IsPlayedRound}
-use Rattle.cat_text.specs.declared.script.ScriptFault.TheVariants.{Bytes}
-use Rattle.catalog_cli.specs.declared.status.Verb.TheVariants.{Play, Line}
+use Rattle.catalog_cli.specs.declared.status.Verb.{Verb}
 use Rattle.catalog_cli.specs.declared.status.Status.{Status}
-use Rattle.catalog_cli.specs.declared.status.Status.TheVariants.{Done, Script, Read, Write as WriteFailed, NoMemory}
-use Rattle.catalog_cli.specs.declared.status.Status.TheVariants.{NotBuilt}
+use Rattle.catalog_cli.specs.declared.status.Status.TheVariants as status
 
--- The words of a command that is built: `play`, and then the numbers of a layout with one node, written as in scripts.
-pub record IsPlayCommand (words : List (List ℕ)) (layout : Layout) : Type 0 where
-  pub nodes : List ℕ
-  pub slots : List ℕ
-  pub callers : List ℕ
-  pub in_order : words ≡ codes "play" ∷ nodes ∷ slots ∷ callers ∷ []
-  pub node_count : IsNumber nodes layout.nodes
-  pub slot_count : IsNumber slots layout.slots
-  pub caller_count : IsNumber callers layout.callers
-  pub one_node : layout.nodes ≡ 1
-  pub in_range : IsLayout layout
+-- ---- commands and scripts
+
+-- The words of a command that reads a script, to play it on an empty catalogue of this layout.
+abbrev pub ReadsScript : List (List ℕ) → Layout → Type 0
+ReadsScript words layout = IsCommand words (Play layout)
+
+-- The words of a command that isn't built, whose word is this one.
+abbrev pub NamesCommand : List (List ℕ) → Verb → Type 0
+NamesCommand words verb = (command : Command) × IsCommand words command × (unbuilt_command command ≡ Some verb)
+
+-- The bytes are this script, it fits so many callers, and each of its lines is built.
+pub record IsAccepted (callers : ℕ) (bytes : List ℕ) (script : Script) : Type 0 where
+  pub is_script : IsScript bytes script
+  pub fits : All (FitsCallers callers) script.lines
+  pub built : first_unbuilt None script.lines ≡ None
+
+-- The bytes are a script that doesn't fit so many callers, for this fault.
+abbrev pub IsUnfitScript : ℕ → List ℕ → ScriptFault → Type 0
+IsUnfitScript callers bytes fault = (script : Script) × IsScript bytes script × IsUnfitBy callers script.lines fault
+
+-- The bytes are too many, or no script with this first fault, or a script that doesn't fit for this fault.
+abbrev pub HasFault : ℕ → List ℕ → ScriptFault → Type 0
+HasFault callers bytes fault =
+    ((fault ≡ Bytes) × (MOST_BYTES < length bytes)) ⊎ IsFirstFault bytes fault ⊎ IsUnfitScript callers bytes fault
+
+-- The bytes are a script that fits so many callers, and the first of its lines that isn't built has this word.
+abbrev pub IsUnbuiltScript : ℕ → List ℕ → Verb → Type 0
+IsUnbuiltScript callers bytes verb = (script : Script) × IsScript bytes script ×
+    All (FitsCallers callers) script.lines × (first_unbuilt None script.lines ≡ Some verb)
+
+-- The bytes are refused so: in this order for their fault, or for a line that isn't built.
+abbrev pub IsRefusedBy : ℕ → List ℕ → Status → Type 0
+IsRefusedBy callers bytes status.Done = ⊥
+IsRefusedBy callers bytes status.Usage = ⊥
+IsRefusedBy callers bytes (status.Script fault) = HasFault callers bytes fault
+IsRefusedBy callers bytes status.Read = ⊥
+IsRefusedBy callers bytes status.Write = ⊥
+IsRefusedBy callers bytes status.NoMemory = ⊥
+IsRefusedBy callers bytes (status.NotBuilt verb) = IsUnbuiltScript callers bytes verb
+
+-- ---- reports
+
+-- Each round of the plan is played and reported, the first on the base and its shape, and each later one on the map and
+-- the shape that the calls of the one before it made of them.
+abbrev pub ArePlayedRounds : ℕ → ℕ → Map → Anchors → List RoundPlan → List RoundReport → Type 0
+ArePlayedRounds slots nodes base anchors [] [] = Unit {0}
+ArePlayedRounds slots nodes base anchors [] (report ∷ reports) = ⊥
+ArePlayedRounds slots nodes base anchors (plan ∷ plans) [] = ⊥
+ArePlayedRounds slots nodes base anchors (plan ∷ plans) (report ∷ reports) =
+    (writes : List Write) × IsPlayedRound slots nodes base anchors plan report writes ×
+    ArePlayedRounds slots nodes (after_all base writes) (anchors_end slots base anchors report.records) plans reports
+
+-- The text is the report of legal rounds that the bytes, read as a script, ask for, from an empty catalogue of this
+-- layout: its one member has no names.
+pub record IsReportOf (layout : Layout) (bytes text : List ℕ) : Type 0 where
+  pub script : Script
+  pub reports : List RoundReport
+  pub accepted : IsAccepted layout.callers bytes script
+  pub played : ArePlayedRounds layout.slots layout.nodes empty ([] ∷ []) script.rounds reports
+  pub told : text ≡ report_text reports
+
+-- ---- source and sink
 
 -- These are the bytes that the source has left, where it tells them.
 abbrev pub AreBytesLeft : Option (List ℕ) → List ℕ → Type 0
 AreBytesLeft left bytes = IfSome left (λ told. told ≡ bytes)
 
--- Each round of the plan is played and reported, the first on the base and each later one on the map that the one
--- before it left.
-abbrev pub ArePlayedRounds : ℕ → Map → List RoundPlan → List RoundReport → Type 0
-ArePlayedRounds room base [] [] = Unit {0}
-ArePlayedRounds room base [] (report ∷ reports) = ⊥
-ArePlayedRounds room base (plan ∷ plans) [] = ⊥
-ArePlayedRounds room base (plan ∷ plans) (report ∷ reports) =
-    (writes : List Write) × IsPlayedRound room base plan report writes ×
-    ArePlayedRounds room (after_all base writes) plans reports
-
--- The text is the report of legal rounds that the bytes, read as a script, ask for, from an empty catalogue with room
--- for so many names.
-pub record IsReportOf (room : ℕ) (bytes text : List ℕ) : Type 0 where
-  pub plans : List RoundPlan
-  pub reports : List RoundReport
-  pub short : length bytes ≤ MOST_BYTES
-  pub script : IsScript bytes plans
-  pub played : ArePlayedRounds room empty plans reports
-  pub told : text ≡ report_text reports
-
--- The report of the script that the source had left was appended to the sink.
-pub record Reports (room : ℕ) (left written written' : Option (List ℕ)) : Type 0 where
+-- The words are of a command that reads a script, and the report of the script that the source had left was appended to
+-- the sink.
+pub record Reports (words : List (List ℕ)) (left written written' : Option (List ℕ)) : Type 0 where
+  pub layout : Layout
   pub bytes : List ℕ
   pub text : List ℕ
+  pub command : ReadsScript words layout
   pub source : AreBytesLeft left bytes
-  pub report : IsReportOf room bytes text
+  pub report : IsReportOf layout bytes text
   pub sink : Appends written written' text
 
 -- A beginning of such a report was appended.
-pub record ReportsPart (room : ℕ) (left written written' : Option (List ℕ)) : Type 0 where
+pub record ReportsPart (words : List (List ℕ)) (left written written' : Option (List ℕ)) : Type 0 where
+  pub layout : Layout
   pub bytes : List ℕ
   pub text : List ℕ
   pub count : ℕ
+  pub command : ReadsScript words layout
   pub short : count < length text
   pub source : AreBytesLeft left bytes
-  pub report : IsReportOf room bytes text
+  pub report : IsReportOf layout bytes text
   pub sink : Appends written written' (take count text)
 
 -- What the sink has at each status: the report where the program is done, a beginning of it or nothing where a write
 -- failed or memory ran out, and else what it had.
-abbrev pub LeavesSink : Status → ℕ → Option (List ℕ) → Option (List ℕ) → Option (List ℕ) → Type 0
-LeavesSink Done room left written written' = Reports room left written written'
-LeavesSink WriteFailed room left written written' = ReportsPart room left written written'
-LeavesSink NoMemory room left written written' = Keeps written written' ⊎ ReportsPart room left written written'
-LeavesSink (Script fault) room left written written' = Keeps written written'
-LeavesSink Read room left written written' = Keeps written written'
-LeavesSink (NotBuilt verb) room left written written' = Keeps written written'
+abbrev pub LeavesSink : List (List ℕ) → Status → Option (List ℕ) → Option (List ℕ) → Option (List ℕ) → Type 0
+LeavesSink words status.Done left written written' = Reports words left written written'
+LeavesSink words status.Usage left written written' = Keeps written written'
+LeavesSink words (status.Script fault) left written written' = Keeps written written'
+LeavesSink words status.Read left written written' = Keeps written written'
+LeavesSink words status.Write left written written' = ReportsPart words left written written'
+LeavesSink words status.NoMemory left written written' =
+    Keeps written written' ⊎ ReportsPart words left written written'
+LeavesSink words (status.NotBuilt verb) left written written' = Keeps written written'
 
--- The source had bytes, few enough, that are no script: some line is neither a put nor a get.
-pub record HasForeignLine (most : ℕ) (left : Option (List ℕ)) : Type 0 where
-  pub bytes : List ℕ
-  pub source : AreBytesLeft left bytes
-  pub fits : length bytes ≤ most
-  pub refused : (plans : List RoundPlan) → ¬ (IsScript bytes plans)
+-- The status is that of a run that wrote nothing.
+abbrev pub WritesNothing : Status → Type 0
+WritesNothing status.Done = ⊥
+WritesNothing status.Usage = Unit {0}
+WritesNothing (status.Script fault) = Unit {0}
+WritesNothing status.Read = Unit {0}
+WritesNothing status.Write = ⊥
+WritesNothing status.NoMemory = ⊥
+WritesNothing (status.NotBuilt verb) = Unit {0}
 
--- Why there is no report: the cause of each status.
-abbrev pub IsCauseOf : ℕ → Status → Option (List ℕ) → ℕ → ℕ → Type 0
-IsCauseOf most Done left faults faults' = ⊥
-IsCauseOf most WriteFailed left faults faults' = ⊥
-IsCauseOf most NoMemory left faults faults' = Unit {0}
-IsCauseOf most Read left faults faults' = faults < faults'
-IsCauseOf most (Script fault) left faults faults' = (fault ≡ Bytes) × IfSome left (λ bytes. most < length bytes)
-IsCauseOf most (NotBuilt Play) left faults faults' = ⊥
-IsCauseOf most (NotBuilt Line) left faults faults' = HasForeignLine most left
+-- The status is that of words alone: nothing is read for it.
+abbrev pub IsOfWords : Status → Type 0
+IsOfWords status.Done = ⊥
+IsOfWords status.Usage = Unit {0}
+IsOfWords (status.Script fault) = ⊥
+IsOfWords status.Read = ⊥
+IsOfWords status.Write = ⊥
+IsOfWords status.NoMemory = ⊥
+IsOfWords (status.NotBuilt verb) = IsCommandWord verb
+
+-- The status comes only when the source was read to its end.
+abbrev pub IsAfterReading : Status → Type 0
+IsAfterReading status.Done = Unit {0}
+IsAfterReading status.Usage = ⊥
+IsAfterReading (status.Script fault) = fault ≡ Bytes → ⊥
+IsAfterReading status.Read = ⊥
+IsAfterReading status.Write = Unit {0}
+IsAfterReading status.NoMemory = ⊥
+IsAfterReading (status.NotBuilt verb) = IsCommandWord verb → ⊥
+
+-- ---- causes
+
+-- Some command that reads a script has these words.
+abbrev pub ReadsSome : List (List ℕ) → Type 0
+ReadsSome words = (layout : Layout) × ReadsScript words layout
+
+-- The bytes that the source had left are refused so. Where they are too many for a script, that is all that is known of
+-- those of a source that doesn't tell them.
+abbrev pub IsRefusalOf : ℕ → Option (List ℕ) → Status → Type 0
+IsRefusalOf callers left answer =
+    ((answer ≡ status.Script Bytes) × IfSome left (λ bytes. MOST_BYTES < length bytes)) ⊎
+    ((bytes : List ℕ) × AreBytesLeft left bytes × IsRefusedBy callers bytes answer)
+
+-- A command that reads a script has these words, and the bytes that the source had left are refused so.
+abbrev pub IsScriptCause : List (List ℕ) → Option (List ℕ) → Status → Type 0
+IsScriptCause words left answer = (layout : Layout) × ReadsScript words layout × IsRefusalOf layout.callers left answer
+
+-- Why a run ended so. Of the source and of the sink it is told how many of their calls failed before it and after it.
+abbrev pub IsCauseOf : List (List ℕ) → Option (List ℕ) → (reads reads' writes writes' : ℕ) → Status → Type 0
+IsCauseOf words left reads reads' writes writes' status.Done = ReadsSome words
+IsCauseOf words left reads reads' writes writes' status.Usage = (command : Command) → ¬ IsCommand words command
+IsCauseOf words left reads reads' writes writes' (status.Script fault) = IsScriptCause words left (status.Script fault)
+IsCauseOf words left reads reads' writes writes' status.Read = ReadsSome words × (reads < reads')
+IsCauseOf words left reads reads' writes writes' status.Write = ReadsSome words × (writes < writes')
+IsCauseOf words left reads reads' writes writes' status.NoMemory = ReadsSome words
+IsCauseOf words left reads reads' writes writes' (status.NotBuilt verb) =
+    NamesCommand words verb ⊎ IsScriptCause words left (status.NotBuilt verb)
+
+-- Why no report was made of what a source had left, on a layout of so many callers.
+abbrev pub HasNoReport : ℕ → Option (List ℕ) → (reads reads' : ℕ) → Status → Type 0
+HasNoReport callers left reads reads' status.Done = ⊥
+HasNoReport callers left reads reads' status.Usage = ⊥
+HasNoReport callers left reads reads' (status.Script fault) = IsRefusalOf callers left (status.Script fault)
+HasNoReport callers left reads reads' status.Read = reads < reads'
+HasNoReport callers left reads reads' status.Write = ⊥
+HasNoReport callers left reads reads' status.NoMemory = Unit {0}
+HasNoReport callers left reads reads' (status.NotBuilt verb) = IsRefusalOf callers left (status.NotBuilt verb)
+
+-- ---- exactly
+
+-- This comes, unless memory runs out.
+abbrev pub Comes : Status → Status → Type 0
+Comes answer wanted = (answer ≡ wanted) ⊎ (answer ≡ status.NoMemory)
+
+-- Where the source tells its bytes and no read of it fails, a command that reads a script answers as they are refused.
+abbrev pub TellsRefusal : List (List ℕ) → Option (List ℕ) → (reads reads' : ℕ) → Status → Type 0
+TellsRefusal words left reads reads' answer = (layout : Layout) (bytes : List ℕ) (wanted : Status) →
+    ReadsScript words layout → left ≡ Some bytes → reads' ≡ reads → IsRefusedBy layout.callers bytes wanted →
+    Comes answer wanted
+
+-- Where besides no write fails, it is done with a script that is accepted.
+abbrev pub FinishesAccepted : List (List ℕ) → Option (List ℕ) → (reads reads' writes writes' : ℕ) → Status → Type 0
+FinishesAccepted words left reads reads' writes writes' answer = (layout : Layout) (bytes : List ℕ) (script : Script) →
+    ReadsScript words layout → left ≡ Some bytes → reads' ≡ reads → writes' ≡ writes →
+    IsAccepted layout.callers bytes script → Comes answer status.Done

@@ -1,5 +1,7 @@
 pub mod Statuses
+pub mod Built
 pub mod Rounds
 pub mod Headline
 pub mod LoneCalls
 pub mod CoreMaps
+pub mod Refused

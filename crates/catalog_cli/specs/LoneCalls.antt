@@ -6,12 +6,20 @@ use Rattle.cat_history.specs.Writes.{after_all}
 use Rattle.cat_history.specs.LoneRounds.{write_of}
 use Rattle.cat_history.specs.declared.op.CallerOp.{CallerOp}
 use Rattle.cat_history.specs.declared.op.Op.{Op}
+use Rattle.cat_history.specs.declared.op.Op.TheVariants.{Put, Get, Del, Scan}
 use Rattle.cat_history.specs.declared.record.Reply.{Reply}
-use Rattle.cat_text.specs.declared.script.RoundPlan.{RoundPlan}
+use Rattle.cat_history.specs.declared.plan.RoundPlan.{RoundPlan}
 
--- Some caller makes all the calls.
-abbrev pub AreOfOneCaller : List CallerOp → Type 0
-AreOfOneCaller asked = (caller : ℕ) × All (λ a. a.caller ≡ caller) asked
+-- A call on one name: no scan.
+abbrev pub IsOnName : Op → Type 0
+IsOnName (Put name value) = Unit {0}
+IsOnName (Get name) = Unit {0}
+IsOnName (Del name) = Unit {0}
+IsOnName (Scan from count) = ⊥
+
+-- Some caller makes all the calls, each on one name.
+abbrev pub AreLoneCalls : List CallerOp → Type 0
+AreLoneCalls asked = (caller : ℕ) × All (λ a. (a.caller ≡ caller) × IsOnName a.op) asked
 
 -- How many calls the rounds have in all.
 abbrev pub calls_in : List RoundPlan → ℕ

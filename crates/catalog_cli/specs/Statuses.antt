@@ -1,32 +1,48 @@
 -- Statuses: their exit codes, what is told of them, and which of them the faults below come to.
 use Rattle.std.specs.Prelude.{ℕ, List, ◌++◌, codes}
-use Rattle.cat_text.specs.ScriptFaults.{script_fault_text}
+use Rattle.cat_script.specs.Faults.{script_fault_text}
+use Rattle.cat_script.specs.declared.fault.ScriptFault.{ScriptFault}
+use Rattle.cat_script.specs.declared.fault.ScriptFault.TheVariants as script
 use Rattle.cat_text.specs.declared.outside.source.ReadFault.{ReadFault}
 use Rattle.cat_text.specs.declared.outside.source.ReadFault.TheVariants as read
-use Rattle.cat_text.specs.declared.script.ScriptFault.{ScriptFault}
-use Rattle.cat_text.specs.declared.script.ScriptFault.TheVariants as script
 use Rattle.catalog_cli.specs.declared.status.Verb.{Verb}
-use Rattle.catalog_cli.specs.declared.status.Verb.TheVariants.{Play, Line}
+use Rattle.catalog_cli.specs.declared.status.Verb.TheVariants.{Format, Run, Words, Gen}
+use Rattle.catalog_cli.specs.declared.status.Verb.TheVariants.{Put, Get, Del, Scan, Updater, Crash}
 use Rattle.catalog_cli.specs.declared.status.Status.{Status}
-use Rattle.catalog_cli.specs.declared.status.Status.TheVariants.{Done, Script, Read, Write, NoMemory, NotBuilt}
+use Rattle.catalog_cli.specs.declared.status.Status.TheVariants.{Done, Usage, Script, Read, Write, NoMemory, NotBuilt}
 
 -- The exit code of a status.
 abbrev pub code_of : Status → ℕ
 code_of Done = 0
+code_of Usage = 2
 code_of (Script fault) = 3
 code_of Read = 4
 code_of Write = 5
 code_of NoMemory = 7
 code_of (NotBuilt verb) = 9
 
--- What is told of a thing that isn't built yet.
+-- The word of a command or a line that isn't built yet.
 abbrev pub verb_text : Verb → List ℕ
-verb_text Play = codes "play"
-verb_text Line = codes "line"
+verb_text Format = codes "format"
+verb_text Run = codes "run"
+verb_text Words = codes "words"
+verb_text Gen = codes "gen"
+verb_text Put = codes "put"
+verb_text Get = codes "get"
+verb_text Del = codes "del"
+verb_text Scan = codes "scan"
+verb_text Updater = codes "updater"
+verb_text Crash = codes "crash"
+
+-- The forms of the command line.
+abbrev pub usage_text : List ℕ
+usage_text = codes "usage: catalog format FILE NODES SLOTS CALLERS, run FILE, play NODES SLOTS CALLERS, " ++
+    codes "gen SEED COUNT CALLERS, words FILE FROM COUNT"
 
 -- What is told of a status.
 abbrev pub status_text : Status → List ℕ
 status_text Done = codes "done"
+status_text Usage = usage_text
 status_text (Script fault) = script_fault_text fault
 status_text Read = codes "script: cannot read"
 status_text Write = codes "report: cannot write"
@@ -39,8 +55,11 @@ status_of_read read.Failed = Read
 status_of_read read.TooLong = Script script.Bytes
 status_of_read read.NoMemory = NoMemory
 
--- What a text comes to that is no script: a line of another form isn't built yet.
+-- What a text comes to that is no script, or one that doesn't fit.
 abbrev pub status_of_script : ScriptFault → Status
 status_of_script script.Bytes = Script script.Bytes
-status_of_script (script.Line line) = NotBuilt Line
+status_of_script (script.Rounds line) = Script (script.Rounds line)
+status_of_script (script.Calls line) = Script (script.Calls line)
+status_of_script (script.Scans line) = Script (script.Scans line)
+status_of_script (script.Line line reason) = Script (script.Line line reason)
 status_of_script script.NoMemory = NoMemory

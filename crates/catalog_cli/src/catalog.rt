@@ -1,31 +1,34 @@
 //! The top call: from the words of a command and the bytes of a script to the bytes of a report.
 
-ghost use Rattle.std.specs.Prelude.{◌≡◌, ◌+◌, ◌<◌, ◌≤◌, ◌↔◌, ℕ, List, [], Some, Err, IfOk, IfErr, OnOk, IfSome, IsNone};
-ghost use Rattle.std.specs.Prelude.{length, map};
-ghost use Rattle.std.specs.FinMap.{empty};
+ghost use Rattle.std.specs.Prelude.{◌≡◌, ◌+◌, ◌≤◌, ◌↔◌, ℕ, List, [], Some, Err, IfOk, IfErr, OnOk, IfSome, length, map};
 ghost use Rattle.std.specs.Io.KnownBytes.{Keeps};
 ghost use Rattle.std.specs.String.{string_bytes};
+ghost use Rattle.cat_command.specs.Commands.{IsCommand};
+ghost use Rattle.cat_command.specs.declared.command.Command.{Command};
 ghost use Rattle.cat_text.specs.Outside.{ConsumesAtMost};
-ghost use Rattle.cat_text.specs.Scripts.{IsScript};
+ghost use Rattle.catalog_cli.specs.Headline.{AreBytesLeft, FinishesAccepted, HasNoReport, IsAccepted, IsAfterReading};
+ghost use Rattle.catalog_cli.specs.Headline.{IsCauseOf, IsOfWords, IsRefusedBy, IsReportOf, LeavesSink, NamesCommand};
+ghost use Rattle.catalog_cli.specs.Headline.{ReadsScript, TellsRefusal, WritesNothing};
+ghost use Rattle.catalog_cli.specs.Built.{IsCommandWord};
+ghost use Rattle.catalog_cli.specs.Refused.{IsOfNoScript, IsRefusedText};
 ghost use Rattle.pm_words.specs.Layouts.{IsLayout};
-ghost use Rattle.pm_words.specs.declared.layout.Layout.{Layout};
-ghost use Rattle.catalog_cli.specs.Headline.{IsPlayCommand, AreBytesLeft, ArePlayedRounds, IsReportOf, LeavesSink};
-ghost use Rattle.catalog_cli.specs.Headline.{HasForeignLine, IsCauseOf};
+ghost use Rattle.catalog_cli.specs.declared.status.Status.{Status};
+ghost use Rattle.catalog_cli.specs.declared.status.Verb.{Verb};
 
+use crate::built::{first_unbuilt, unbuilt_command};
 use crate::play::play;
-use crate::status::{Status, Verb};
-use cat_text::{
-    MOST_BYTES, ScriptFault, Sink, Source, WriteFault, print_report, read_number, read_script,
-    read_whole, write_whole,
-};
+use crate::status::Status;
+use cat_command::{Command, read_command};
+use cat_script::{MOST_BYTES, Script, fits, read_script};
+use cat_text::{Sink, Source, WriteFault, print_report, read_whole, write_whole};
 use pm_words::Layout;
 use std::alloc::Global;
 
 /// Runs the command that the words name: plays the script that the source gives, and writes its report to the sink.
 ///
-/// The one command that is built is `play 1 SLOTS CALLERS`, from an empty catalogue of one node, whose slots are its
-/// room for names. The script is read to its end before anything is played, and the report is made whole before its
-/// first byte is written.
+/// The one command that is built is `play NODES SLOTS CALLERS`, from an empty catalogue of that layout. The script is
+/// read to its end and looked through before anything is played, and the report is made whole before its first byte is
+/// written.
 pub fn catalog<S: Source, K: Sink>(
     alloc: Global,
     words: &[String],
@@ -33,30 +36,55 @@ pub fn catalog<S: Source, K: Sink>(
     out: &mut K,
 ) -> Status
     // What was written: the report of the script, each of whose rounds is legal; or a beginning of it; or nothing.
-    ensures sink { (layout : Layout) → IsPlayCommand (map string_bytes words.now) layout →
-        LeavesSink result layout.slots (S.left script.old) (K.written out.old) (K.written out.new) }
-    ensures read_to_end { result ≡ Status.Done → IfSome (S.left script.old) (λ _. S.left script.new ≡ Some []) }
+    ensures sink { LeavesSink (map string_bytes words.now) result (S.left script.old) (K.written out.old)
+        (K.written out.new) }
+    ensures nothing_written { WritesNothing result → out.new ≡ out.old }
 
-    // Each other status has its cause.
-    ensures no_command { result ≡ Status.NotBuilt Verb.Play ↔
-        ((layout : Layout) → ¬ IsPlayCommand (map string_bytes words.now) layout) }
-    ensures nothing_read { result ≡ Status.NotBuilt Verb.Play → script.new ≡ script.old }
-    ensures nothing_written { result ≡ Status.NotBuilt Verb.Play → out.new ≡ out.old }
-    ensures foreign_line { result ≡ Status.NotBuilt Verb.Line → HasForeignLine MOST_BYTES (S.left script.old) }
-    ensures read_before_foreign_line { result ≡ Status.NotBuilt Verb.Line →
-        IfSome (S.left script.old) (λ _. S.left script.new ≡ Some []) }
-    ensures too_long { (fault : _) → result ≡ Status.Script fault →
-        (fault ≡ ScriptFault.Bytes) × IfSome (S.left script.old) (λ bytes. MOST_BYTES < length bytes) }
-    ensures cannot_read { result ≡ Status.Read → S.faults script.old < S.faults script.new }
+    // Each status has its cause, and comes where that is given, unless memory runs out.
+    ensures cause { IsCauseOf (map string_bytes words.now) (S.left script.old) (S.faults script.old)
+        (S.faults script.new) (K.faults out.old) (K.faults out.new) result }
+    ensures usage { result ≡ Status.Usage ↔
+        ((command : Command) → ¬ IsCommand (map string_bytes words.now) command) }
+    ensures unbuilt_command { (verb : Verb) → IsCommandWord verb →
+        (result ≡ Status.NotBuilt verb) ↔ NamesCommand (map string_bytes words.now) verb }
+    ensures refused { TellsRefusal (map string_bytes words.now) (S.left script.old) (S.faults script.old)
+        (S.faults script.new) result }
+    ensures accepted { FinishesAccepted (map string_bytes words.now) (S.left script.old) (S.faults script.old)
+        (S.faults script.new) (K.faults out.old) (K.faults out.new) result }
+
+    // What was read: nothing for words alone, all of it for a script, and never more than tells that it is too long.
+    ensures nothing_read { IsOfWords result → script.new ≡ script.old }
+    ensures read_to_end { IsAfterReading result → IfSome (S.left script.old) (λ _. S.left script.new ≡ Some []) }
     ensures takes { ConsumesAtMost (MOST_BYTES + 1) (S.left script.old) (S.left script.new) }
     ensures source_never_falls { S.faults script.old ≤ S.faults script.new }
     ensures sink_never_falls { K.faults out.old ≤ K.faults out.new }
-    ensures cannot_write { result ≡ Status.Write → K.faults out.old < K.faults out.new }
 {
-    let Some(layout) = asked_layout(words) else {
-        return Status::NotBuilt(Verb::Play);
+    run_command(alloc, words, script, out)
+}
+
+/// The same, without what follows from each status having its cause.
+fn run_command<S: Source, K: Sink>(
+    alloc: Global,
+    words: &[String],
+    script: &mut S,
+    out: &mut K,
+) -> Status
+    ensures sink { LeavesSink (map string_bytes words.now) result (S.left script.old) (K.written out.old)
+        (K.written out.new) }
+    ensures nothing_written { WritesNothing result → out.new ≡ out.old }
+    ensures cause { IsCauseOf (map string_bytes words.now) (S.left script.old) (S.faults script.old)
+        (S.faults script.new) (K.faults out.old) (K.faults out.new) result }
+    ensures nothing_read { IsOfWords result → script.new ≡ script.old }
+    ensures read_to_end { IsAfterReading result → IfSome (S.left script.old) (λ _. S.left script.new ≡ Some []) }
+    ensures takes { ConsumesAtMost (MOST_BYTES + 1) (S.left script.old) (S.left script.new) }
+    ensures source_never_falls { S.faults script.old ≤ S.faults script.new }
+    ensures sink_never_falls { K.faults out.old ≤ K.faults out.new }
+{
+    let layout = match asked_layout(words) {
+        Ok(layout) => layout,
+        Err(status) => return status,
     };
-    match report_of(alloc, &layout, script) {
+    match report_of(alloc, layout, script) {
         Err(status) => status,
         Ok(text) => match write_whole(out, &text) {
             Ok(()) => Status::Done,
@@ -66,44 +94,50 @@ pub fn catalog<S: Source, K: Sink>(
     }
 }
 
-/// The layout that the words of a command ask for; None where they are not those of a command that is built.
-fn asked_layout(words: &[String]) -> Option<Layout>
-    ensures some { IfSome result (IsPlayCommand (map string_bytes words.now)) }
-    ensures none { IsNone result → (layout : Layout) → ¬ IsPlayCommand (map string_bytes words.now) layout }
+/// The layout on which the words of a command ask to play a script.
+fn asked_layout(words: &[String]) -> Result<Layout, Status>
+    ensures layout { IfOk result (ReadsScript (map string_bytes words.now)) }
+    ensures refused { IfErr result (IsOfNoScript (map string_bytes words.now)) }
 {
-    let [command, nodes, slots, callers] = words else {
-        return None;
-    };
-    if command.as_str() != "play" {
-        return None;
+    let command = read_command(words).ok_or(Status::Usage)?;
+    if let Some(verb) = unbuilt_command(&command) {
+        return Err(Status::NotBuilt(verb));
     }
-    let nodes = read_number(nodes.as_bytes())?;
-    let slots = read_number(slots.as_bytes())?;
-    let callers = read_number(callers.as_bytes())?;
-    let layout = Layout::new(nodes, slots, callers).ok()?;
-    if layout.nodes() != 1 {
-        return None;
+    match command {
+        Command::Play { layout } => Ok(layout),
+        _ => unreachable!(),
     }
-    Some(layout)
 }
 
 /// Reads the script, plays it on a catalogue of this layout, and makes its report.
-fn report_of<S: Source>(alloc: Global, layout: &Layout, script: &mut S) -> Result<Vec<u8>, Status>
-    requires layout { IsLayout layout.now }
-    requires one_node { layout.now.nodes ≡ 1 }
+fn report_of<S: Source>(alloc: Global, layout: Layout, script: &mut S) -> Result<Vec<u8>, Status>
+    requires layout { IsLayout layout }
     ensures report { IfOk result (λ text. (bytes : List ℕ) × AreBytesLeft (S.left script.old) bytes ×
-        IsReportOf layout.now.slots bytes text.items) }
+        IsReportOf layout bytes text.items) }
     ensures read_to_end { OnOk result (IfSome (S.left script.old) (λ _. S.left script.new ≡ Some [])) }
-    ensures read_before_foreign_line { result ≡ Err (Status.NotBuilt Verb.Line) →
-        IfSome (S.left script.old) (λ _. S.left script.new ≡ Some []) }
+    ensures read_before_refusal { IfErr result (λ status. IsAfterReading status →
+        IfSome (S.left script.old) (λ _. S.left script.new ≡ Some [])) }
     ensures takes { ConsumesAtMost (MOST_BYTES + 1) (S.left script.old) (S.left script.new) }
     ensures never_falls { S.faults script.old ≤ S.faults script.new }
-    ensures refusal { IfErr result (λ status. IsCauseOf MOST_BYTES status (S.left script.old) (S.faults script.old)
+    ensures refusal { IfErr result (HasNoReport layout.callers (S.left script.old) (S.faults script.old)
         (S.faults script.new)) }
 {
     let bytes = read_whole(alloc, script, MOST_BYTES)?;
-    let plans = read_script(alloc, &bytes)?;
-    let report = play(alloc, layout, &plans)?;
+    let script = read_accepted(alloc, layout, &bytes)?;
+    let report = play(alloc, &layout, &script)?;
     let text = print_report(alloc, &report)?;
     Ok(text)
+}
+
+/// Reads a text as a script that fits a layout and of which each line is built.
+fn read_accepted(alloc: Global, layout: Layout, bytes: &[u8]) -> Result<Script, Status>
+    ensures accepted { IfOk result (IsAccepted layout.callers bytes.now) }
+    ensures refused { IfErr result (IsRefusedText layout.callers bytes.now) }
+{
+    let script = read_script(alloc, bytes)?;
+    fits(&script, layout)?;
+    match first_unbuilt(script.lines.as_slice()) {
+        Some(verb) => Err(Status::NotBuilt(verb)),
+        None => Ok(script),
+    }
 }

@@ -1,22 +1,25 @@
 //! The core of the index as a map of names: each call is a whole call of one caller, with no other in flight.
 
-ghost use Rattle.std.specs.Prelude.{◌≡◌, ◌+◌, ◌*◌, ◌<◌, ◌≤◌, ◌↔◌, IfOk, OnOk, OnErr, IsErr};
+ghost use Rattle.std.specs.Prelude.{◌≡◌, ◌+◌, ◌*◌, ◌<◌, ◌≤◌, ◌↔◌, [], ◌∷◌, IfOk, OnOk, OnErr, IsErr};
 ghost use Rattle.std.specs.FinMap.{empty};
 ghost use Rattle.cat_history.specs.Maps.{at};
-ghost use Rattle.cat_history.specs.Records.{change_of};
+ghost use Rattle.cat_history.specs.Records.{as_op, change_of};
 ghost use Rattle.call_stages.specs.Stages.{pended};
 ghost use Rattle.pm_words.specs.Layouts.{IsLayout};
 ghost use Rattle.version_lock.specs.declared.TheConstants.{LAST_COUNT};
 ghost use Rattle.node_ops.specs.Asked.{name_asked};
 ghost use Rattle.index_core.specs.CoreCalls.{op_of};
-ghost use Rattle.index_core.specs.Indexes.{IsIndex, map_of_index};
-ghost use Rattle.index_core.specs.Lone.{IsQuiet, FindsNoRoom};
-ghost use Rattle.catalog_cli.specs.CoreMaps.{IsUnlimited, calls_left_of};
+ghost use Rattle.index_core.specs.Indexes.{IsIndex, map_of_index, world};
+ghost use Rattle.index_core.specs.Lone.{IsQuiet};
+ghost use Rattle.index_law.specs.Anchors.{anchors_in, members_most};
+ghost use Rattle.shapes.specs.ShapeRounds.{PutsFull};
+ghost use Rattle.catalog_cli.specs.CoreMaps.{IsUnlimited, anchors_made, calls_left_of};
 
-use cat_history::{Full, NameMap, NoMemory};
+use cat_history::NoMemory;
 use cat_key::Name;
 use index_core::{Core, CoreCall, Whole};
 use pm_words::{Layout, Steps};
+use shapes::{Full, NameMap};
 use std::alloc::Global;
 use std::marker::Model;
 use std::sync::ledger::Ledger;
@@ -56,10 +59,11 @@ impl<L: Ledger> CoreMap<L> {
         steps: Steps<L>,
     ) -> Result<CoreMap<L>, NoMemory>
         requires layout { IsLayout layout }
-        requires one_node { layout.nodes ≡ 1 }
         requires calls { 2 * calls ≤ LAST_COUNT }
         ensures empty { IfOk result (λ map. map_of_index map ≡ empty) }
-        ensures room { IfOk result (λ map. map.layout.slots ≡ layout.slots) }
+        ensures anchors { IfOk result (λ map. anchors_in (world map) ≡ [] ∷ []) }
+        ensures slots { IfOk result (λ map. map.layout.slots ≡ layout.slots) }
+        ensures most { IfOk result (λ map. members_most (world map) ≡ layout.nodes) }
         ensures calls_left { IfOk result (λ map. calls ≤ calls_left_of map) }
     {
         let mut core = Core::fresh(alloc, layout)?;
@@ -73,12 +77,17 @@ impl<L: Ledger> CoreMap<L> {
 }
 
 impl<L: Ledger> NameMap for CoreMap<L> {
-    ghost use Rattle.index_core.specs.Indexes.{map_of_index};
+    ghost use Rattle.index_core.specs.Indexes.{map_of_index, world};
+    ghost use Rattle.index_law.specs.Anchors.{anchors_in, members_most};
     ghost use Rattle.catalog_cli.specs.CoreMaps.{calls_left_of};
 
     ghost contents = { map_of_index };
 
-    ghost room = { λ map. map.layout.slots };
+    ghost anchors = { λ map. anchors_in (world map) };
+
+    ghost slots = { λ map. map.layout.slots };
+
+    ghost most = { λ map. members_most (world map) };
 
     ghost calls_left = { calls_left_of };
 
@@ -124,8 +133,8 @@ impl<L: Ledger> NameMap for CoreMap<L> {
     }
 }
 
-/// A whole call on an index that has calls left, with no other in flight. `Full` comes exactly where a put finds no
-/// room; else the answer is the number that the name had.
+/// A whole call on an index that has calls left, with no other in flight. `Full` comes exactly where a put is full in
+/// the shape, and then nothing changes; else the answer is the number that the name had.
 fn call_alone<L: Ledger>(
     core: &mut Core,
     call: CoreCall,
@@ -137,8 +146,12 @@ fn call_alone<L: Ledger>(
     requires calls_left { 0 < calls_left_of core.old }
     ensures old { IfOk result (λ old. old ≡ at (map_of_index core.old) (name_asked (op_of call))) }
     ensures ok { OnOk result (map_of_index core.new ≡ pended (change_of (op_of call)) (map_of_index core.old)) }
-    ensures full { IsErr result ↔ FindsNoRoom call core.old }
+    ensures anchors { OnOk result (anchors_in (world core.new) ≡ anchors_made core.old call) }
+    ensures full { IsErr result ↔ PutsFull core.old.layout.slots (members_most (world core.old))
+        (map_of_index core.old) (anchors_in (world core.old)) (as_op (op_of call)) }
     ensures err { OnErr result (map_of_index core.new ≡ map_of_index core.old) }
+    ensures err_anchors { OnErr result (anchors_in (world core.new) ≡ anchors_in (world core.old)) }
+    ensures most { members_most (world core.new) ≡ members_most (world core.old) }
     ensures layout { core.new.layout ≡ core.old.layout }
     ensures calls_left { calls_left_of core.old ≤ calls_left_of core.new + 1 }
     ensures quiet { IsQuiet core.new }

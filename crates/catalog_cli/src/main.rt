@@ -1,6 +1,7 @@
-//! `catalog`: plays scripts of puts and gets on a catalogue of names, and reports what each call was answered.
+//! `catalog`: plays scripts of calls on a catalogue of names, and reports what each call was answered.
 #![tactic(auto)]
 
+mod built;
 mod catalog;
 mod core_map;
 mod play;
@@ -16,13 +17,11 @@ use std::process::ExitCode;
 use std::rt::Env;
 use std::{env, io};
 
-/// The forms of the command line.
-const USAGE: &str =
-    "usage: catalog format FILE NODES SLOTS CALLERS, run FILE, play NODES SLOTS CALLERS, gen SEED COUNT CALLERS, words FILE FROM COUNT";
-
-/// What of them is built.
-const BUILT: &str =
-    "built so far: catalog play 1 SLOTS CALLERS, which reads a script on standard input";
+/// What is built of the forms of the command line.
+const BUILT: &str = "\
+    built so far: catalog play NODES SLOTS CALLERS, which reads a script on standard input\n\
+    lines built so far: CALLER put NAME NUMBER, CALLER get NAME, CALLER del NAME, join, limit WRITES\n\
+    the calls of a round are those of one caller";
 
 const VERSION: &str = "catalog 0.1.0";
 
@@ -42,7 +41,7 @@ fn run(rt: &HostRuntime) -> Status {
         Err(status) => return status,
     };
     match only_word(&words) {
-        Some("--help") => shown(println!(rt; "{USAGE}\n{BUILT}")),
+        Some("--help") => shown(println!(rt; "{}\n{BUILT}", Status::Usage)),
         Some("--version") => shown(println!(rt; "{VERSION}")),
         _ => {
             let mut script = ReadSource::new(rt.stdin());
@@ -65,7 +64,7 @@ fn arguments<R: Env + AllocGlobal>(rt: &R) -> Result<Vec<String>, Status> {
     let args = match env::args(rt) {
         Ok(args) => args,
         Err(error) if matches!(error.kind(), io::ErrorKind::InvalidData) => {
-            return Err(Status::NotBuilt(Verb::Play));
+            return Err(Status::Usage);
         }
         Err(_) => return Err(Status::NoMemory),
     };

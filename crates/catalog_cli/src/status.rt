@@ -3,16 +3,25 @@
 ghost use Rattle.std.specs.Prelude.{◌≡◌, Some};
 ghost use Rattle.catalog_cli.specs.Statuses.{code_of, status_text, verb_text};
 
-use cat_text::{NoMemory, ReadFault, ScriptFault};
+use cat_history::NoMemory;
+use cat_script::ScriptFault;
+use cat_text::ReadFault;
 use std::fmt;
 
-/// What the program doesn't do yet.
+/// The word of a command or of a script's line that isn't built yet.
 #[derive(Clone, Copy, Debug, PartialEq, Eq)]
 pub enum Verb {
-    /// Every command but `play` on a layout of one node.
-    Play,
-    /// Every line but a put and a get of caller 0.
-    Line,
+    Format,
+    Run,
+    Words,
+    Gen,
+    /// A put of another caller than that of its round's first call. So are a get and a delete.
+    Put,
+    Get,
+    Del,
+    Scan,
+    Updater,
+    Crash,
 }
 
 impl fmt::Display for Verb {
@@ -20,8 +29,16 @@ impl fmt::Display for Verb {
 
     fn fmt<W: fmt::Write>(&self, f: &mut fmt::Formatter<W>) -> fmt::Result {
         match self {
-            Verb::Play => write!(f, "play"),
-            Verb::Line => write!(f, "line"),
+            Verb::Format => write!(f, "format"),
+            Verb::Run => write!(f, "run"),
+            Verb::Words => write!(f, "words"),
+            Verb::Gen => write!(f, "gen"),
+            Verb::Put => write!(f, "put"),
+            Verb::Get => write!(f, "get"),
+            Verb::Del => write!(f, "del"),
+            Verb::Scan => write!(f, "scan"),
+            Verb::Updater => write!(f, "updater"),
+            Verb::Crash => write!(f, "crash"),
         }
     }
 }
@@ -31,6 +48,8 @@ impl fmt::Display for Verb {
 pub enum Status {
     /// The report was written whole.
     Done,
+    /// The words are no form of a command.
+    Usage,
     /// The script was refused.
     Script(ScriptFault),
     /// The script could not be read.
@@ -50,6 +69,7 @@ impl Status {
     {
         match self {
             Status::Done => 0,
+            Status::Usage => 2,
             Status::Script(_) => 3,
             Status::Read => 4,
             Status::Write => 5,
@@ -83,7 +103,13 @@ impl From<ScriptFault> for Status {
     fn from(fault: ScriptFault) -> Status {
         match fault {
             ScriptFault::Bytes => Status::Script(ScriptFault::Bytes),
-            ScriptFault::Line { .. } => Status::NotBuilt(Verb::Line),
+            ScriptFault::Rounds { line } => Status::Script(ScriptFault::Rounds { line }),
+            ScriptFault::Calls { line } => Status::Script(ScriptFault::Calls { line }),
+            ScriptFault::Scans { line } => Status::Script(ScriptFault::Scans { line }),
+            ScriptFault::Line { line, reason } => Status::Script(ScriptFault::Line {
+                line,
+                reason,
+            }),
             ScriptFault::NoMemory => Status::NoMemory,
         }
     }
@@ -106,6 +132,11 @@ impl fmt::Display for Status {
     fn fmt<W: fmt::Write>(&self, f: &mut fmt::Formatter<W>) -> fmt::Result {
         match self {
             Status::Done => write!(f, "done"),
+            Status::Usage => write!(
+                f,
+                "usage: catalog format FILE NODES SLOTS CALLERS, run FILE, play NODES SLOTS CALLERS, \
+                 gen SEED COUNT CALLERS, words FILE FROM COUNT"
+            ),
             Status::Script(fault) => write!(f, "{fault}"),
             Status::Read => write!(f, "script: cannot read"),
             Status::Write => write!(f, "report: cannot write"),

@@ -1,20 +1,22 @@
 //! The top call on whole scripts, over a source and a sink in memory.
 ghost use Rattle.std.specs.Prelude.{◌≡◌, ◌<◌, ◌≤◌, IfOk, length};
-ghost use Rattle.catalog_cli.specs.LoneCalls.{AreOfOneCaller};
+ghost use Rattle.catalog_cli.specs.LoneCalls.{AreLoneCalls};
 
 use super::*;
 use crate::core_map::CoreMap;
 use crate::round::run_lone_round;
-use cat_history::{CallerOp, Listed, NameMap, Op, PlainMap};
+use cat_history::{CallerOp, Listed, Op, RoundPlan};
 use cat_key::Name;
-use cat_text::{FaultPlan, MemorySink, MemorySource, Report, RoundPlan, ScriptFault, print_report};
+use cat_script::{Reason, ScriptFault};
+use cat_text::{FaultPlan, MemorySink, MemorySource, Report, print_report};
 use pm_words::{Layout, Steps};
+use shapes::{NameMap, PlainMap};
 use std::alloc::{AllocError, Global};
 use std::marker::Brand;
 use std::sync::ledger::{Blank, Ledger};
 use std::test::Fail;
 
-const PLAY: [&str; 4] = ["play", "1", "64", "1"];
+const PLAY: &str = "play 1 64 1";
 
 /// How the source and the sink of a run behave: the most bytes that one call moves, and the calls that fail.
 #[derive(Clone, Copy)]
@@ -39,15 +41,10 @@ struct Ran {
     left: usize,
 }
 
-fn run(
-    rt: &HostRuntime,
-    words: &[&str],
-    script: &[u8],
-    outside: &Outside,
-) -> Result<Ran, AllocError> {
+fn run(rt: &HostRuntime, words: &str, script: &[u8], outside: &Outside) -> Result<Ran, AllocError> {
     let alloc = rt.alloc();
     let mut command = Vec::new(alloc);
-    for word in words {
+    for word in words.split_whitespace() {
         command.push(String::from_str(alloc, word)?)?;
     }
     let largest = outside.largest.max(1);
@@ -63,44 +60,58 @@ fn run(
     })
 }
 
+/// The status of a script whose line of this number has this fault.
+fn at_line(line: u64, reason: Reason) -> Status {
+    Status::Script(ScriptFault::Line { line, reason })
+}
+
 #[test]
 fn plays_scripts(rt: HostRuntime) -> Result<(), Fail> {
-    let refused = Status::NotBuilt(Verb::Line);
     let rows = [
         (
             "0 put a 1\n0 get a\n",
-            Status::Done,
             "0 put a 1 -> none @0\n0 get a -> 1 @1\njoin 1 names 1\n",
         ),
         (
             "0 put a 1\n0 put a 2\n0 get a",
-            Status::Done,
             "0 put a 1 -> none @0\n0 put a 2 -> 1 @1\n0 get a -> 2 @2\njoin 2 names 1\n",
         ),
-        ("", Status::Done, "join 0 names 0\n"),
+        ("", "join 0 names 0\n"),
+        ("join\njoin\n", "join 0 names 0\njoin 0 names 0\n"),
         (
             "0 put abcdefghijklmnopqrstuvwx 1",
-            Status::Done,
             "0 put abcdefghijklmnopqrstuvwx 1 -> none @0\njoin 1 names 1\n",
         ),
         (
             "0 put a 18446744073709551615",
-            Status::Done,
             "0 put a 18446744073709551615 -> none @0\njoin 1 names 1\n",
         ),
+        ("00 put a 007\n", "0 put a 7 -> none @0\njoin 1 names 1\n"),
+        // Blank lines, comments, tabs and carriage returns.
         (
-            "0 put a 007\n",
-            Status::Done,
-            "0 put a 7 -> none @0\njoin 1 names 1\n",
+            "# \x01\n\n0 put a 1\r\n \t\r\n\t0  get\ta \n#",
+            "0 put a 1 -> none @0\n0 get a -> 1 @1\njoin 1 names 1\n",
         ),
-        ("0 scan a 1\n", refused, ""),
+        // Each round's places begin at 0, and it goes on from what the one before left.
         (
-            "0 put abcdefghijklmnopqrstuvwx 1\n0 put abcdefghijklmnopqrstuvwxy 1\n",
-            refused,
-            "",
+            "0 put a 1\n0 put a 2\n0 del a\n0 del a\njoin\n0 get a\n0 put b 2\njoin\n",
+            "0 put a 1 -> none @0\n0 put a 2 -> 1 @1\n0 del a -> 2 @2\n0 del a -> none @3\njoin 4 names 0\n\
+             0 get a -> none @0\n0 put b 2 -> none @0\njoin 1 names 1\n",
         ),
-        ("0 put a 18446744073709551616\n", refused, ""),
-        ("0 get a\n\n", refused, ""),
+        // The last limit of a round counts for all of it, and goes on.
+        (
+            "0 put a 1\n0 put b 2\nlimit 5\nlimit 1\n",
+            "0 put a 1 -> none @0\n0 put b 2 -> spent 1\njoin 1 names 1\n",
+        ),
+        (
+            "limit 1\n0 put a 1\n0 del a\n0 get a\njoin\n0 del a\n0 put c 3\nlimit 1\n",
+            "0 put a 1 -> none @0\n0 del a -> spent 1\n0 get a -> 1 @1\njoin 1 names 1\n\
+             0 del a -> 1 @0\n0 put c 3 -> spent 1\njoin 1 names 0\n",
+        ),
+        (
+            "limit 0\n0 put a 1\n0 del a\n0 get a\n",
+            "0 put a 1 -> spent 0\n0 del a -> spent 0\n0 get a -> none @0\njoin 0 names 0\n",
+        ),
     ];
     // One call at a time, a few bytes at a time, and all at once.
     for largest in [1, 7, 4096] {
@@ -109,13 +120,64 @@ fn plays_scripts(rt: HostRuntime) -> Result<(), Fail> {
             failing_reads: &[],
             failing_writes: &[],
         };
-        for (script, status, report) in &rows {
-            let ran = run(&rt, &PLAY, script.as_bytes(), &outside)?;
-            assert_eq!(rt; ran.status, *status, "{script}");
+        for (script, report) in &rows {
+            let ran = run(&rt, PLAY, script.as_bytes(), &outside)?;
+            assert_eq!(rt; ran.status, Status::Done, "{script}");
             assert_eq!(rt; ran.written.as_slice(), report.as_bytes(), "{script}");
             assert_eq!(rt; ran.left, 0, "{script}");
         }
     }
+    Ok(())
+}
+
+#[test]
+fn tells_what_is_wrong_with_scripts(rt: HostRuntime) -> Result<(), Fail> {
+    let rows = [
+        (
+            "0 put abcdefghijklmnopqrstuvwx 1\n0 put abcdefghijklmnopqrstuvwxy 1\n",
+            at_line(2, Reason::Name),
+        ),
+        ("0 put a 18446744073709551616\n", at_line(1, Reason::Number)),
+        ("2 get a", at_line(1, Reason::Caller)),
+        ("\n16 get a", at_line(2, Reason::Caller)),
+        ("crash 0 5 5", at_line(1, Reason::Words)),
+        ("0 get a b", at_line(1, Reason::Words)),
+        ("0 rename a b", at_line(1, Reason::Verb)),
+        ("0 get a\x7F", at_line(1, Reason::Byte)),
+        // What is no script is told before what doesn't fit, and that before what isn't built.
+        ("2 get a\n0 get", at_line(2, Reason::Words)),
+        ("updater 1\n2 get a\n0 get", at_line(3, Reason::Words)),
+        ("updater 1\n2 get a", at_line(2, Reason::Caller)),
+        ("updater 1\n0 scan a 1", Status::NotBuilt(Verb::Updater)),
+        ("0 scan a 1\nupdater 1", Status::NotBuilt(Verb::Scan)),
+        ("crash 0 5 5 5", Status::NotBuilt(Verb::Crash)),
+        ("0 get a\n1 put a 1", Status::NotBuilt(Verb::Put)),
+        ("1 get a\n0 get a", Status::NotBuilt(Verb::Get)),
+        ("1 get a\n1 get b\n0 del a", Status::NotBuilt(Verb::Del)),
+        ("0 get a\n1 scan a 1", Status::NotBuilt(Verb::Scan)),
+        (
+            "0 get a\njoin\n1 get a\nlimit 3\n0 get a",
+            Status::NotBuilt(Verb::Get),
+        ),
+    ];
+    for (script, status) in &rows {
+        let ran = run(&rt, "play 1 4 2", script.as_bytes(), &SOUND)?;
+        assert_eq!(rt; ran.status, *status, "{script}");
+        assert_eq!(rt; (ran.written.len(), ran.left), (0, 0), "{script}");
+    }
+    Ok(())
+}
+
+/// Each round may have another caller.
+#[test]
+fn any_caller_may_have_a_round(rt: HostRuntime) -> Result<(), Fail> {
+    let script = b"1 put a 1\n1 get a\njoin\n0 get a\njoin\njoin\n1 del a\n";
+    let report =
+        b"1 put a 1 -> none @0\n1 get a -> 1 @1\njoin 1 names 1\n0 get a -> 1 @0\njoin 0 names 1\n\
+                   join 0 names 1\n1 del a -> 1 @0\njoin 1 names 0\n";
+    let ran = run(&rt, "play 1 4 2", script, &SOUND)?;
+    assert_eq!(rt; ran.status, Status::Done);
+    assert_eq!(rt; ran.written.as_slice(), report.as_slice());
     Ok(())
 }
 
@@ -125,9 +187,34 @@ fn a_node_of_4_slots_has_room_for_4_names(rt: HostRuntime) -> Result<(), Fail> {
     let report =
         b"0 put a 1 -> none @0\n0 put b 2 -> none @1\n0 put c 3 -> none @2\n0 put d 4 -> none @3\n\
                    0 put a 9 -> 1 @4\n0 put e 5 -> full\njoin 5 names 4\n";
-    let ran = run(&rt, &["play", "1", "4", "1"], script, &SOUND)?;
+    let ran = run(&rt, "play 1 4 1", script, &SOUND)?;
     assert_eq!(rt; ran.status, Status::Done);
     assert_eq!(rt; ran.written.as_slice(), report.as_slice());
+    Ok(())
+}
+
+#[test]
+fn a_full_node_is_split_while_a_node_is_free(rt: HostRuntime) -> Result<(), Fail> {
+    let rows = [
+        ("", "join 0 names 0\n"),
+        (
+            "0 put a 1\n0 put b 2\n0 put c 3\n0 put d 4\n0 put e 5\n0 put f 6\n0 put g 7\n0 put aa 8\n",
+            "0 put a 1 -> none @0\n0 put b 2 -> none @1\n0 put c 3 -> none @2\n0 put d 4 -> none @3\n\
+             0 put e 5 -> none @4\n0 put f 6 -> none @5\n0 put g 7 -> full\n0 put aa 8 -> none @6\njoin 7 names 7\n",
+        ),
+        // In falling order the names that stay have room, and those that move have none.
+        (
+            "0 put f 1\n0 put e 2\n0 put d 3\n0 put c 4\n0 put b 5\n0 put a 6\n0 put aa 7\n0 put g 8\n0 get f\n",
+            "0 put f 1 -> none @0\n0 put e 2 -> none @1\n0 put d 3 -> none @2\n0 put c 4 -> none @3\n\
+             0 put b 5 -> none @4\n0 put a 6 -> none @5\n0 put aa 7 -> full\n0 put g 8 -> none @6\n\
+             0 get f -> 1 @7\njoin 7 names 7\n",
+        ),
+    ];
+    for (script, report) in &rows {
+        let ran = run(&rt, "play 2 4 1", script.as_bytes(), &SOUND)?;
+        assert_eq!(rt; ran.status, Status::Done, "{script}");
+        assert_eq!(rt; ran.written.as_slice(), report.as_bytes(), "{script}");
+    }
     Ok(())
 }
 
@@ -144,21 +231,23 @@ fn a_node_has_room_for_64_names(rt: HostRuntime) -> Result<(), Fail> {
     report.push_str(
         "0 put n64 1 -> full\n0 put n00 7 -> 1000 @64\n0 get n00 -> 7 @65\njoin 65 names 64\n",
     )?;
-    let ran = run(&rt, &PLAY, script.as_bytes(), &SOUND)?;
+    let ran = run(&rt, PLAY, script.as_bytes(), &SOUND)?;
     assert_eq!(rt; ran.status, Status::Done);
     assert_eq!(rt; ran.written.as_slice(), report.as_bytes());
     Ok(())
 }
 
 #[test]
-fn plays_on_one_node_of_any_layout(rt: HostRuntime) -> Result<(), Fail> {
-    let commands: [&[&str]; 5] = [
-        &["play", "1", "4", "1"],
-        &["play", "1", "64", "16"],
-        &["play", "1", "6", "2"],
+fn plays_on_any_layout(rt: HostRuntime) -> Result<(), Fail> {
+    let commands = [
+        "play 1 4 1",
+        "play 2 4 1",
+        "play 64 64 16",
+        "play 1 64 16",
+        "play 1 6 2",
         // A number may have leading zeros, 20 digits in all.
-        &["play", "01", "064", "1"],
-        &["play", "00000000000000000001", "64", "1"],
+        "play 01 064 1",
+        "play 00000000000000000001 64 1",
     ];
     for words in commands {
         let ran = run(&rt, words, b"0 get a\n", &SOUND)?;
@@ -172,27 +261,34 @@ fn plays_on_one_node_of_any_layout(rt: HostRuntime) -> Result<(), Fail> {
 }
 
 #[test]
-fn refuses_other_commands_unread(rt: HostRuntime) -> Result<(), Fail> {
-    let commands: [&[&str]; 14] = [
-        &[],
-        &["run", "c"],
-        &["Play", "1", "64", "1"],
-        &["play", "1", "4"],
-        &["play", "1", "64", "1", "1"],
-        &["play", "2", "4", "1"],
-        &["play", "1", "2", "1"],
-        &["play", "1", "5", "1"],
-        &["play", "1", "66", "1"],
-        &["play", "1", "4", "0"],
-        &["play", "1", "4", "17"],
-        &["play", "1", "+4", "1"],
-        &["play", "1", "", "1"],
-        &["play", "000000000000000000001", "64", "1"],
+fn refuses_other_words_unread(rt: HostRuntime) -> Result<(), Fail> {
+    let rows = [
+        ("format c 1 64 1", Status::NotBuilt(Verb::Format)),
+        ("run c", Status::NotBuilt(Verb::Run)),
+        ("words c 0 1", Status::NotBuilt(Verb::Words)),
+        ("gen 1 1 1", Status::NotBuilt(Verb::Gen)),
+        ("gen 1 1 16", Status::NotBuilt(Verb::Gen)),
+        ("", Status::Usage),
+        ("run", Status::Usage),
+        ("format c 1 65 1", Status::Usage),
+        ("gen 1 1 17", Status::Usage),
+        ("Play 1 64 1", Status::Usage),
+        ("play 1 4", Status::Usage),
+        ("play 1 64 1 1", Status::Usage),
+        ("play 0 4 1", Status::Usage),
+        ("play 4097 4 1", Status::Usage),
+        ("play 1 2 1", Status::Usage),
+        ("play 3 5 1", Status::Usage),
+        ("play 1 66 1", Status::Usage),
+        ("play 1 4 0", Status::Usage),
+        ("play 1 4 17", Status::Usage),
+        ("play 1 +4 1", Status::Usage),
+        ("play 000000000000000000001 64 1", Status::Usage),
     ];
-    for words in commands {
+    for (words, status) in &rows {
         let ran = run(&rt, words, b"0 get a\n", &SOUND)?;
-        assert_eq!(rt; ran.status, Status::NotBuilt(Verb::Play));
-        assert_eq!(rt; (ran.written.len(), ran.left), (0, 8));
+        assert_eq!(rt; ran.status, *status, "{words}");
+        assert_eq!(rt; (ran.written.len(), ran.left), (0, 8), "{words}");
     }
     Ok(())
 }
@@ -205,7 +301,7 @@ fn blames_the_outside_for_its_faults(rt: HostRuntime) -> Result<(), Fail> {
         failing_reads: &[2],
         failing_writes: &[],
     };
-    let ran = run(&rt, &PLAY, script, &second_read_fails)?;
+    let ran = run(&rt, PLAY, script, &second_read_fails)?;
     assert_eq!(rt; (ran.status, ran.written.len()), (Status::Read, 0));
 
     let second_write_fails = Outside {
@@ -213,19 +309,17 @@ fn blames_the_outside_for_its_faults(rt: HostRuntime) -> Result<(), Fail> {
         failing_reads: &[],
         failing_writes: &[2],
     };
-    let ran = run(&rt, &PLAY, script, &second_write_fails)?;
+    let ran = run(&rt, PLAY, script, &second_write_fails)?;
     assert_eq!(rt; ran.status, Status::Write);
     assert_eq!(rt; ran.written.as_slice(), b"0 pu".as_slice());
 
     let longest = vec![in rt.alloc(); b'#'; 4_194_304]?;
-    let ran = run(&rt, &PLAY, &longest, &SOUND)?;
-    assert_eq!(rt;
-        (ran.status, ran.written.len()),
-        (Status::NotBuilt(Verb::Line), 0)
-    );
+    let ran = run(&rt, PLAY, &longest, &SOUND)?;
+    assert_eq!(rt; ran.status, Status::Done);
+    assert_eq!(rt; ran.written.as_slice(), b"join 0 names 0\n".as_slice());
 
     let too_long = vec![in rt.alloc(); b'#'; 4_194_305]?;
-    let ran = run(&rt, &PLAY, &too_long, &SOUND)?;
+    let ran = run(&rt, PLAY, &too_long, &SOUND)?;
     assert_eq!(rt;
         (ran.status, ran.written.len()),
         (Status::Script(ScriptFault::Bytes), 0)
@@ -245,8 +339,38 @@ fn each_status_has_its_code_and_text(rt: HostRuntime) -> Result<(), Fail> {
         (Status::Read, 4, "script: cannot read"),
         (Status::Write, 5, "report: cannot write"),
         (Status::NoMemory, 7, "out of memory"),
-        (Status::NotBuilt(Verb::Play), 9, "not built: play"),
-        (Status::NotBuilt(Verb::Line), 9, "not built: line"),
+        (
+            Status::Usage,
+            2,
+            "usage: catalog format FILE NODES SLOTS CALLERS, run FILE, play NODES SLOTS CALLERS, \
+             gen SEED COUNT CALLERS, words FILE FROM COUNT",
+        ),
+        (at_line(3, Reason::Caller), 3, "script: line 3: caller"),
+        (
+            Status::Script(ScriptFault::Rounds { line: 7 }),
+            3,
+            "script: line 7: more than 1000 rounds",
+        ),
+        (
+            Status::Script(ScriptFault::Calls { line: 7 }),
+            3,
+            "script: line 7: more than 100000 calls",
+        ),
+        (
+            Status::Script(ScriptFault::Scans { line: 7 }),
+            3,
+            "script: line 7: more than 1000000 names",
+        ),
+        (Status::NotBuilt(Verb::Format), 9, "not built: format"),
+        (Status::NotBuilt(Verb::Run), 9, "not built: run"),
+        (Status::NotBuilt(Verb::Words), 9, "not built: words"),
+        (Status::NotBuilt(Verb::Gen), 9, "not built: gen"),
+        (Status::NotBuilt(Verb::Put), 9, "not built: put"),
+        (Status::NotBuilt(Verb::Get), 9, "not built: get"),
+        (Status::NotBuilt(Verb::Del), 9, "not built: del"),
+        (Status::NotBuilt(Verb::Scan), 9, "not built: scan"),
+        (Status::NotBuilt(Verb::Updater), 9, "not built: updater"),
+        (Status::NotBuilt(Verb::Crash), 9, "not built: crash"),
     ];
     for (status, code, text) in &rows {
         assert_eq!(rt; status.code(), *code);
@@ -257,7 +381,7 @@ fn each_status_has_its_code_and_text(rt: HostRuntime) -> Result<(), Fail> {
 
 /// Calls of one caller, drawn from a number: puts, gets and deletes of 80 names, more than there is room for.
 fn drawn_plan(alloc: Global, seed: u32) -> Result<RoundPlan, Fail>
-    ensures caller { IfOk result (λ plan. AreOfOneCaller plan.ops) }
+    ensures caller { IfOk result (λ plan. AreLoneCalls plan.ops) }
     ensures few { IfOk result (λ plan. length plan.ops ≤ 300) }
 {
     let mut state = seed;
@@ -274,8 +398,12 @@ fn drawn_plan(alloc: Global, seed: u32) -> Result<RoundPlan, Fail>
         };
         ops.push(CallerOp { caller: 0, op })?;
     }
+    // Most of the writes of a plan come before its limit.
     Ok(RoundPlan {
         ops: Listed::of(ops),
+        updater: 64,
+        limit: 200,
+        crash: None,
     })
 }
 
@@ -285,7 +413,7 @@ fn report_on<M: NameMap>(
     map: &mut M,
     plan: &RoundPlan,
 ) -> Result<Vec<u8>, AllocError>
-    requires caller { AreOfOneCaller plan.now.ops }
+    requires caller { AreLoneCalls plan.now.ops }
     requires calls { length plan.now.ops ≤ M.calls_left map.old }
 {
     let mut rounds = Vec::new(alloc);
@@ -293,16 +421,22 @@ fn report_on<M: NameMap>(
     print_report(alloc, &Report::of(rounds))
 }
 
-/// The printed report of a round on a core of 64 slots.
-fn report_on_core<L: Ledger>(alloc: Global, plan: &RoundPlan, blank: Blank) -> Result<Vec<u8>, Fail>
-    requires caller { AreOfOneCaller plan.now.ops }
+/// The printed report of a round on a core of so many nodes and slots.
+fn report_on_core<L: Ledger>(
+    alloc: Global,
+    plan: &RoundPlan,
+    nodes: u64,
+    slots: u64,
+    blank: Blank,
+) -> Result<Vec<u8>, Fail>
+    requires caller { AreLoneCalls plan.now.ops }
     requires calls { length plan.now.ops ≤ 300 }
     requires name { blank.name ≡ L.name }
     requires parts { (blank.parts ≡ L.parts) × (0 < L.parts) }
 {
     let (book, share) = blank.open::<L>();
     let steps = Steps::new(book, share);
-    let mut map = CoreMap::new(alloc, Layout::new(1, 64, 1)?, 300, steps)?;
+    let mut map = CoreMap::new(alloc, Layout::new(nodes, slots, 1)?, 300, steps)?;
     Ok(report_on(alloc, &mut map, plan)?)
 }
 
@@ -312,8 +446,27 @@ fn the_core_answers_as_the_plain_map(rt: HostRuntime) -> Result<(), Fail> {
         let plan = drawn_plan(rt.alloc(), seed)?;
         let mut plain = PlainMap::new(rt.alloc(), 64)?;
         let wanted = report_on(rt.alloc(), &mut plain, &plan)?;
-        let on_core = report_on_core::<Brand>(rt.alloc(), &plan, Blank::new(1))?;
+        let on_core = report_on_core::<Brand>(rt.alloc(), &plan, 1, 64, Blank::new(1))?;
         assert_eq!(rt; on_core.as_slice(), wanted.as_slice(), "core, seed {seed}");
+    }
+    Ok(())
+}
+
+/// No more nodes are split than there are calls.
+#[test]
+fn a_core_that_splits_answers_as_a_plain_map_with_room(rt: HostRuntime) -> Result<(), Fail> {
+    for seed in 1u32..=20 {
+        let plan = drawn_plan(rt.alloc(), seed)?;
+        let mut plain = PlainMap::new(rt.alloc(), 300)?;
+        let wanted = report_on(rt.alloc(), &mut plain, &plan)?;
+        for slots in [4, 6, 64] {
+            let on_core = report_on_core::<Brand>(rt.alloc(), &plan, 301, slots, Blank::new(1))?;
+            assert_eq!(rt;
+                on_core.as_slice(),
+                wanted.as_slice(),
+                "{slots} slots, seed {seed}"
+            );
+        }
     }
     Ok(())
 }

@@ -1,5 +1,14 @@
-use Rattle.std.proofs.Common.{refl}
+use Rattle.catalog_cli.proofs.Outcomes.{tells, finishes, usage-exactly, command-exactly}
 use Rattle.catalog_cli.proofs.catalog.catalog.Goals as goal
 
-pub returns-in_default-clause-no_command : goal.returns-in_default-clause-no_command
-returns-in_default-clause-no_command g c = (λ _. c.in_default.ensures.none refl, λ _. refl)
+pub returns-clause-usage : goal.returns-clause-usage
+returns-clause-usage g c = usage-exactly _ _ _ _ _ _ c.run_command.result c.run_command.ensures.cause
+
+pub returns-clause-unbuilt_command : goal.returns-clause-unbuilt_command
+returns-clause-unbuilt_command g c = command-exactly _ _ _ _ _ _ c.run_command.result c.run_command.ensures.cause
+
+pub returns-clause-refused : goal.returns-clause-refused
+returns-clause-refused g c = tells _ _ _ _ _ _ _ _ c.run_command.result c.run_command.ensures.sink c.run_command.ensures.cause
+
+pub returns-clause-accepted : goal.returns-clause-accepted
+returns-clause-accepted g c = finishes _ _ _ _ _ _ c.run_command.result c.run_command.ensures.cause

@@ -1,36 +1,48 @@
-use Rattle.std.proofs.Common.{◌∙◌, ap, refl, arith}
-use Rattle.catalog_cli.specs.LoneCalls.{calls_in}
+use Rattle.std.proofs.Common.{ℕ, ◌∙◌, ap, subst, refl, arith}
+use Rattle.cat_history.specs.LoneRounds.{writes_of}
+use Rattle.shapes.specs.ShapeRounds.{anchors_end}
+use Rattle.catalog_cli.specs.Rounds.{IsPlayedRound}
 use Rattle.catalog_cli.proofs.Played.{none-played-at, one-more-at, all-played, caller-of-plan}
 use Rattle.catalog_cli.proofs.ScriptCalls.{calls-to-come}
 use Rattle.catalog_cli.proofs.play.play_rounds.Goals as goal
 
 pub loop-plan-init : goal.loop-plan-init
 loop-plan-init g c =
-    let same = ap calls_in c.as_slice-plan-items.ensures in
     record {
-      room_stays = refl;
-      played = none-played-at _ _ _ _ c.in_ok-rounds.ensures.items refl;
-      calls = omega (arith, same, c.requires.calls);
+      slots_stay = refl;
+      most_stays = refl;
+      played = none-played-at _ _ _ _ _ c.in_ok-rounds.ensures.items;
+      calls = c.requires.calls;
     }
 
 pub run_lone_round-requires : goal.run_lone_round-requires
 run_lone_round-requires g c =
-    let plans = c.as_slice-plan-items.result.now in
+    let plans = c.args.plans.now in
     record {
-      caller = caller-of-plan c.args.plans.now plans c.loop-plan.plan-index c.plan-item.result c.requires.callers c.as_slice-plan-items.ensures c.loop-plan-test.true c.plan-item.is;
+      caller = caller-of-plan c.args.plans.now plans c.loop-plan.plan-index c.plan-item.result c.requires.callers refl c.loop-plan-test.true c.plan-item.is;
       calls = omega (arith, c.loop-plan.invariant.calls, calls-to-come plans c.loop-plan.plan-index c.plan-item.result c.loop-plan-test.true c.plan-item.is);
     }
 
 pub loop-plan-preserved : goal.loop-plan-preserved
 loop-plan-preserved g c =
     let was = c.loop-plan.invariant in
-    let plans = c.as_slice-plan-items.result.now in
+    let plans = c.args.plans.now in
+    let told = c.in_ok-run_lone_round.ensures in
+    let report = c.in_ok-run_lone_round.field-0 in
+    let now = g.M.NameMap.contents c.loop-plan.map in
+    let shape = g.M.NameMap.anchors c.loop-plan.map in
+    let slots = g.M.NameMap.slots c.args.map.now in
+    let most = g.M.NameMap.most c.args.map.now in
+    let round : IsPlayedRound slots most now shape c.plan-item.result report (writes_of report.records) =
+    subst (λ (k : ℕ). IsPlayedRound slots k now shape c.plan-item.result report (writes_of report.records)) was.most_stays
+    (subst (λ (k : ℕ). IsPlayedRound k (g.M.NameMap.most c.loop-plan.map) now shape c.plan-item.result report (writes_of report.records)) was.slots_stay told.played) in
     record {
-      room_stays = c.run_lone_round.ensures.room ∙ was.room_stays;
-      played = one-more-at _ _ _ _ _ _ _ _ _ _ _ _ was.played c.loop-plan-test.true c.plan-item.is was.room_stays
-          c.in_ok-run_lone_round.ensures.played c.in_ok-run_lone_round.ensures.after c.in_ok-push.ensures.items;
+      slots_stay = c.run_lone_round.ensures.slots ∙ was.slots_stay;
+      most_stays = c.run_lone_round.ensures.most ∙ was.most_stays;
+      played = one-more-at _ _ _ _ _ _ _ _ _ _ _ _ _ _ _ was.played c.loop-plan-test.true c.plan-item.is round
+          told.after (told.anchors ∙ ap (λ (k : ℕ). anchors_end k now shape report.records) was.slots_stay) c.in_ok-push.ensures.items;
       calls = omega (arith, was.calls, c.run_lone_round.ensures.calls_left, calls-to-come plans c.loop-plan.plan-index c.plan-item.result c.loop-plan-test.true c.plan-item.is);
     }
 
 pub returns : goal.returns
-returns g c = all-played _ _ _ _ _ _ _ _ c.loop-plan.invariant.played c.loop-plan-test.false c.as_slice-plan-items.ensures c.of.ensures
+returns g c = all-played _ _ _ _ _ _ _ _ _ _ _ c.loop-plan.invariant.played c.loop-plan-test.false refl c.of.ensures

@@ -3,13 +3,16 @@ use Rattle.catalog_cli.specs.LoneCalls.{calls_in}
 use Rattle.catalog_cli.proofs.Played.{GoOn}
 use Rattle.catalog_cli.proofs.play.play_rounds.Given as goal
 
--- the rounds so far are played, the rest goes on from the map as it is, and there are calls left for the rest
+-- the rounds so far are played, the rest goes on from the map and the shape as they are, and there are calls left for the rest
 abbrev pub invariant-loop-plan : goal.invariant-loop-plan
 invariant-loop-plan g l =
     let contents = g.M.NameMap.contents in
-    let room = g.M.NameMap.room in
+    let anchors = g.M.NameMap.anchors in
+    let slots = g.M.NameMap.slots in
+    let most = g.M.NameMap.most in
     record {
-      room_stays : room l.map ≡ room l.fn.map;
-      played : GoOn (room l.fn.map) (contents l.fn.map) (take l.plan-index l.plan-items) l.rounds.items (contents l.map);
-      calls : calls_in (drop l.plan-index l.plan-items) ≤ g.M.NameMap.calls_left l.map;
+      slots_stay : slots l.map ≡ slots l.fn.map;
+      most_stays : most l.map ≡ most l.fn.map;
+      played : GoOn (slots l.fn.map) (most l.fn.map) (contents l.fn.map) (anchors l.fn.map) (take l.plan-index l.plans) l.rounds.items (contents l.map) (anchors l.map);
+      calls : calls_in (drop l.plan-index l.plans) ≤ g.M.NameMap.calls_left l.map;
     }

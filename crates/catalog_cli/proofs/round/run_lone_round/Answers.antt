@@ -1,21 +1,29 @@
-use Rattle.std.proofs.Common.{◌≡◌, ℕ, ◌+◌, ◌↔◌, cond, List, [], ◌∷◌, ◌++◌, length, vec_len, All, refl, ap, subst, ◌∙◌, sym, arith, length-append}
+use Rattle.std.proofs.Common.{◌≡◌, ℕ, ◌+◌, ◌≤◌, ◌↔◌, cond, List, [], ◌∷◌, ◌++◌, length, All, refl, ap, subst, ◌∙◌, sym, arith, length-append}
 use Rattle.std.proofs.lemmas.List.{take_all}
 use Rattle.std.specs.FinMap.{len}
-use Rattle.std.specs.Result.{is_ok}
 use Rattle.cat_history.specs.Records.{numbered}
-use Rattle.cat_history.specs.LoneRounds.{write_of, writes_of, IsAnswerNow, PutsWithoutRoom}
+use Rattle.cat_history.specs.LoneRounds.{write_of, writes_of, IsAnswerNow, IsSpent}
+use Rattle.cat_history.specs.Rounds.{IsWriter}
+use Rattle.catalog_cli.specs.Rounds.{opening}
+use Rattle.catalog_cli.specs.LoneCalls.{IsOnName}
 use Rattle.cat_history.specs.declared.op.CallerOp.{CallerOp}
 use Rattle.cat_history.specs.declared.record.Record.{Record}
 use Rattle.cat_history.specs.declared.record.Reply.TheVariants.{Full}
 use Rattle.cat_history.proofs.LoneRoundLemmas.{lone_rounds_are_legal}
-use Rattle.catalog_cli.proofs.LoneRoundSteps.{one_at_most, recorded, writes_of-push, calls-push, along-push, ends-push}
+use Rattle.shapes.specs.ShapeRounds.{PutsFull, anchors_after}
+use Rattle.catalog_cli.proofs.LoneRoundSteps.{one_at_most, recorded, writes_of-push, calls-push, along-push, ends-push, full-push, stands-push, anchors-push}
 use Rattle.catalog_cli.proofs.round.run_lone_round.Goals.{then-is_placed_write, else-is_placed_write}
 use Rattle.catalog_cli.proofs.round.run_lone_round.Goals as goal
 
 pub answer-requires : goal.answer-requires
 answer-requires g c =
     let asked = ap length c.as_slice-asked.ensures in
-    omega (arith, asked, c.requires.calls, c.loop-index-test.true, c.loop-index.invariant.calls)
+    let ops = c.as_slice-asked.result.now in
+    let each = subst (λ (xs : List CallerOp). All (λ (a : CallerOp). (a.caller ≡ c.requires.caller.0) × IsOnName a.op) xs) (sym c.as_slice-asked.ensures) c.requires.caller.1 in
+    record {
+      calls = omega (arith, asked, c.requires.calls, c.loop-index-test.true, c.loop-index.invariant.calls);
+      name = subst (λ (a : CallerOp). IsOnName a.op) (sym c.index-asked-index.is) (each c.loop-index.index c.index-asked-index.result c.loop-index-test.true).1;
+    }
 
 pub loop-index-preserved : goal.loop-index-preserved
 loop-index-preserved g c =
@@ -26,11 +34,19 @@ loop-index-preserved g c =
     let records = c.loop-index.records.items in
     let base = g.M.NameMap.contents c.args.map.now in
     let now = g.M.NameMap.contents c.loop-index.map in
-    let room = g.M.NameMap.room c.args.map.now in
+    let anchors = g.M.NameMap.anchors c.args.map.now in
+    let slots = g.M.NameMap.slots c.args.map.now in
+    let most = g.M.NameMap.most c.args.map.now in
+    let shape = g.M.NameMap.anchors c.loop-index.map in
     let r : Record = recorded index call c.answer.result in
     let grown : c.push_reserved.new.self.items ≡ records ++ r ∷ [] = c.push_reserved.ensures.items in
-    let one = subst (λ (ops : List CallerOp). All (λ a. a.caller ≡ c.requires.caller.0) ops) (sym c.as_slice-asked.ensures) c.requires.caller.1 in
-    let full = subst (λ (k : ℕ). (c.answer.result ≡ Full) ↔ PutsWithoutRoom k now call.op) was.room_stays c.answer.ensures.full in
+    let callers : All (λ (a : CallerOp). a.caller ≡ c.requires.caller.0) c.args.plan.now.ops = λ k d within. (c.requires.caller.1 k d within).0 in
+    let one = subst (λ (ops : List CallerOp). All (λ a. a.caller ≡ c.requires.caller.0) ops) (sym c.as_slice-asked.ensures) callers in
+    let limit = c.args.plan.now.limit in
+    let late : Type 0 = IsWriter call.op × (limit ≤ c.loop-index.writes) in
+    let full = subst (λ (k : ℕ). (c.answer.result ≡ Full) ↔ ((late → ⊥) × PutsFull slots k now shape call.op)) was.most_stays
+    (subst (λ (k : ℕ). (c.answer.result ≡ Full) ↔ ((late → ⊥) × PutsFull k (g.M.NameMap.most c.loop-index.map) now shape call.op)) was.slots_stay c.answer.ensures.full) in
+    let left = c.answer.ensures.anchors ∙ ap (λ (k : ℕ). anchors_after k now shape call.op c.answer.result) was.slots_stay in
     let counted : c.if-is_placed_write.writes ≡ c.loop-index.writes + length (write_of r) =
     elim c.if-is_placed_write.branch [
       | then-is_placed_write w ↦ omega (arith, w.writes-is, c.is_placed_write.ensures, ap {B = ℕ} (λ b. cond b 1 0) w.if-is_placed_write.true)
@@ -39,11 +55,16 @@ loop-index-preserved g c =
     record {
       asked = rw grown (calls-push c.requires.caller.0 asked index call c.answer.result records one c.loop-index-test.true c.index-asked-index.is was.asked);
       answers = rw grown (along-push (λ m place q. IsAnswerNow m place q.op q.reply) base now c.loop-index.writes records r was.answers was.ends was.writes c.answer.ensures.answer);
-      full = rw grown (along-push (λ m place q. (q.reply ≡ Full) ↔ PutsWithoutRoom room m q.op) base now c.loop-index.writes records r was.full was.ends was.writes full);
+      spent = rw grown (along-push (λ m place q. IsSpent q.reply ↔ (IsWriter q.op × (limit ≤ place))) base now c.loop-index.writes records r was.spent was.ends was.writes c.answer.ensures.spent);
+      full = rw grown (full-push slots limit (opening most base anchors) (record { map = now; anchors = shape; most = most; place = c.loop-index.writes }) records r was.full was.stands full);
+      stands = rw grown (stands-push slots (opening most base anchors) (record { map = now; anchors = shape; most = most; place = c.loop-index.writes }) records r _ _ _ was.stands
+          (c.answer.ensures.left call.caller index) left counted);
       ends = rw grown (ends-push base now (g.M.NameMap.contents c.answer.new.map) records r was.ends (c.answer.ensures.left call.caller index));
+      shape_ends = rw grown (anchors-push slots base now anchors shape (g.M.NameMap.anchors c.answer.new.map) records r was.ends was.shape_ends left);
       writes = rw (grown, writes_of-push) (omega (arith, counted, was.writes, length-append (writes_of records) (write_of r)));
       few = omega (arith, counted, was.few, one_at_most c.is_placed_write.result (length (write_of r)) c.is_placed_write.ensures);
-      room_stays = c.answer.ensures.room ∙ was.room_stays;
+      slots_stay = c.answer.ensures.slots ∙ was.slots_stay;
+      most_stays = c.answer.ensures.most ∙ was.most_stays;
       calls = omega (arith, was.calls, c.answer.ensures.calls_left);
       made = c.push_reserved.ensures.len ∙ omega (arith, was.made);
       reserved = omega (arith, was.reserved, c.push_reserved.ensures.capacity);
@@ -52,9 +73,13 @@ loop-index-preserved g c =
 pub returns-clause-played : goal.returns-clause-played
 returns-clause-played g c =
     let was = c.loop-index.invariant in
+    let callers : All (λ (a : CallerOp). a.caller ≡ c.requires.caller.0) c.args.plan.now.ops = λ k d within. (c.requires.caller.1 k d within).0 in
     let calls = was.asked ∙ ap numbered (take_all c.loop-index.index c.as_slice-asked.result.now (omega (arith, c.loop-index-test.false)) ∙ c.as_slice-asked.ensures) in
     record {
-      legal = rw c.of.ensures (lone_rounds_are_legal (g.M.NameMap.contents c.args.map.now) c.requires.caller.0 c.args.plan.now.ops c.loop-index.records.items c.requires.caller.1 calls was.answers);
+      legal = rw c.of.ensures
+          (lone_rounds_are_legal (g.M.NameMap.contents c.args.map.now) c.requires.caller.0 c.args.plan.now.ops c.args.plan.now.limit c.loop-index.records.items callers calls was.answers was.spent);
+      answers = rw c.of.ensures was.answers;
+      spent = rw c.of.ensures was.spent;
       in_script_order = rw c.of.ensures calls;
       full = rw c.of.ensures was.full;
       joined = refl;

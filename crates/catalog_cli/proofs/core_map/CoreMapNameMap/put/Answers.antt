@@ -1,5 +1,5 @@
 use Rattle.std.proofs.Common.{refl, arith}
-use Rattle.catalog_cli.proofs.CoreMaps.{few_names, full_exactly, put_counted}
+use Rattle.catalog_cli.proofs.CoreMaps.{few_names, put_counted}
 use Rattle.catalog_cli.proofs.core_map.CoreMapNameMap.put.Goals as goal
 
 pub overflow_add-self : goal.overflow_add-self
@@ -8,18 +8,9 @@ overflow_add-self g c = let few = few_names c.self.inside.core c.self.inside.nam
 pub invariant_of-self-then-is_none : goal.invariant_of-self-then-is_none
 invariant_of-self-then-is_none g c =
     put_counted c.self.inside.core c.call_alone.new.core c.args.name.now c.args.value c.self.inside.names _ c.in_ok-old.old _ c.self.invariant c.call_alone.ensures.index
-    c.call_alone.ensures.quiet c.call_alone.ensures.layout c.in_ok-old.ensures.old c.in_ok-old.ensures.ok c.if-is_none.ensures refl
+    c.call_alone.ensures.quiet c.in_ok-old.ensures.old c.in_ok-old.ensures.ok c.if-is_none.ensures refl
 
 pub invariant_of-self-else-is_none : goal.invariant_of-self-else-is_none
 invariant_of-self-else-is_none g c =
     put_counted c.self.inside.core c.call_alone.new.core c.args.name.now c.args.value c.self.inside.names _ c.in_ok-old.old _ c.self.invariant c.call_alone.ensures.index
-    c.call_alone.ensures.quiet c.call_alone.ensures.layout c.in_ok-old.ensures.old c.in_ok-old.ensures.ok c.if-is_none.ensures refl
-
-pub returns-in_err-old-clause-full : goal.returns-in_err-old-clause-full
-returns-in_err-old-clause-full g c =
-    let exactly = full_exactly c.self.inside.core c.args.self.now c.self.inside.names c.args.name.now c.args.value 0 c.self.view_is c.self.invariant c.in_err-old.ensures.full in
-    ((λ _. exactly.0 refl), (λ _. c.from_residual.ensures.0))
-
-pub returns-then-is_none-clause-full : goal.returns-then-is_none-clause-full
-returns-then-is_none-clause-full g c =
-    full_exactly c.self.inside.core c.args.self.now c.self.inside.names c.args.name.now c.args.value 0 c.self.view_is c.self.invariant c.in_ok-old.ensures.full
+    c.call_alone.ensures.quiet c.in_ok-old.ensures.old c.in_ok-old.ensures.ok c.if-is_none.ensures refl

@@ -1,0 +1,17 @@
+use Rattle.std.proofs.Common.{ap, sym, subst, arith}
+use Rattle.std.specs.Prelude.{All}
+use Rattle.cat_history.specs.declared.plan.RoundPlan.{RoundPlan}
+use Rattle.catalog_cli.specs.LoneCalls.{AreLoneCalls, calls_in}
+use Rattle.catalog_cli.proofs.LonePlans.{script-of-one-caller}
+use Rattle.catalog_cli.proofs.ScriptCalls.{calls-of-script}
+use Rattle.catalog_cli.proofs.play.play.Goals as goal
+
+pub play_on_core-requires-clause-callers : goal.play_on_core-requires-clause-callers
+play_on_core-requires-clause-callers c =
+    let script = c.requires.script in
+    subst (All (λ (plan : RoundPlan). AreLoneCalls plan.ops)) (sym c.as_slice.ensures) (script-of-one-caller script.0 c.args.script.now script.1 c.requires.built)
+
+pub play_on_core-requires-clause-calls : goal.play_on_core-requires-clause-calls
+play_on_core-requires-clause-calls c =
+    let script = c.requires.script in
+    omega (arith, ap calls_in c.as_slice.ensures, calls-of-script script.0 c.args.script.now script.1)

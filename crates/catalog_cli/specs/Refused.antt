@@ -1,0 +1,21 @@
+-- Why words and texts are refused, before anything is played.
+use Rattle.std.specs.Prelude.{◌≡◌, ℕ, ◌⊎◌, List}
+use Rattle.cat_command.specs.Commands.{IsCommand}
+use Rattle.cat_command.specs.declared.command.Command.{Command}
+use Rattle.catalog_cli.specs.Headline.{IsRefusedBy, NamesCommand}
+use Rattle.catalog_cli.specs.declared.status.Status.{Status}
+use Rattle.catalog_cli.specs.declared.status.Status.TheVariants as status
+
+-- The words are those of no command that reads a script: of none at all, or of one that isn't built.
+abbrev pub IsOfNoScript : List (List ℕ) → Status → Type 0
+IsOfNoScript words status.Done = ⊥
+IsOfNoScript words status.Usage = (command : Command) → ¬ IsCommand words command
+IsOfNoScript words (status.Script fault) = ⊥
+IsOfNoScript words status.Read = ⊥
+IsOfNoScript words status.Write = ⊥
+IsOfNoScript words status.NoMemory = ⊥
+IsOfNoScript words (status.NotBuilt verb) = NamesCommand words verb
+
+-- The bytes are refused so, unless memory ran out.
+abbrev pub IsRefusedText : ℕ → List ℕ → Status → Type 0
+IsRefusedText callers bytes answer = (answer ≡ status.NoMemory) ⊎ IsRefusedBy callers bytes answer
