@@ -18,7 +18,7 @@ use Rattle.cat_history.proofs.LoneRoundLemmas.{writes_of-cons}
 use Rattle.shapes.specs.Anchors.{Anchors, IsFullPut}
 use Rattle.shapes.specs.Weights.{IsShape, weight, one_if, one_lacking}
 use Rattle.shapes.specs.ShapeRounds.{anchors_after, HoldsInShape, anchors_end, PutsFull, IsFullByShape, one_added, puts_added, FullIsPaid, LoneRoundsKeepShape, IsShapeWithin, LeavesShape, GoesOnFrom, RoundsArePaid}
-use Rattle.shapes.proofs.Shapes.{put_keeps_shape, deleted_keeps_shape, put_weighs, deleted_weighs, full_weighs}
+use Rattle.shapes.proofs.Shapes.{put_keeps_shape, delete_keeps_shape, put_weighs, delete_weighs, full_weighs}
 use Rattle.shapes.proofs.NameLists.{all_by}
 
 abbrev made : ℕ → ℕ → Op → Reply → Record
@@ -86,10 +86,10 @@ module _ (slots nodes : ℕ) (m : Map) (anchors : Anchors) (enough : 2 ≤ slots
   one-call caller index op (Cut mark) place answer exact = absurd answer
   one-call caller index op Unstarted place answer exact = absurd answer
   one-call caller index (Del name) (Old old at_place) place answer exact =
-      let weighs = deleted_weighs slots m anchors name in
+      let weighs = delete_weighs slots m anchors name shape.ordered in
       let names = del-names m name in
       record {
-        shape = deleted_keeps_shape slots nodes m anchors name shape;
+        shape = delete_keeps_shape slots nodes m anchors name shape;
         weighs = omega arith;
         names = omega arith;
         paid = λ full. absurd (old-not-full old at_place full);

@@ -8,14 +8,14 @@ use Rattle.cat_history.specs.Maps.{Map, at}
 use Rattle.shapes.specs.Anchors.{below, AnchorsRise, Anchors, AreAnchors, is_between, names_between, up_to, past, target_of, next_of, names_at, IsFullPut, splits, middle_of, put_anchors, merges, del_anchors}
 use Rattle.shapes.specs.Members.{Member, lower, upper, Placed, Puts, members}
 use Rattle.shapes.specs.Weights.{IsShape, members_weight, weight, one_if, one_lacking}
-use Rattle.shapes.specs.Laws.{PartsAgree, FreshIsShape, PutKeepsShape, DeleteKeepsShape, DeletedKeepsShape, DeletedWeighs, SplitIsEnough, PutWeighs, DeleteWeighs, MergePays, FullWeighs, OneNodeIsRoom}
+use Rattle.shapes.specs.Laws.{PartsAgree, FreshIsShape, PutKeepsShape, DeleteKeepsShape, PutKeepsMost, SplitIsEnough, PutWeighs, DeleteWeighs, MergePays, FullWeighs, OneNodeIsRoom}
 use Rattle.shapes.proofs.Orders.{true_or_false, clash, empty_first}
 use Rattle.shapes.proofs.NameLists.{all_append, all_first, all_second, filter-keeps, filter-drops, filter-short, with_name-there}
-use Rattle.shapes.proofs.Keys.{rise-keys, among-keys, keys-insert, del-between}
+use Rattle.shapes.proofs.Keys.{rise-keys, among-keys, keys-insert}
 use Rattle.shapes.proofs.Targets.{Parted, part, target-is, next-is, names_at-is, members_before, member_of, is-target, all-between, and_false}
 use Rattle.shapes.proofs.Turns.{Parts, one_target}
 use Rattle.shapes.proofs.Agreements.{put_agrees, delete_agrees, length-members, fits-target, none-is, some-none, put-stays, put-splits, by-keys, first-kept, and-first, and-second, split-are, split-members, split-few, lower-names, upper-names}
-use Rattle.shapes.proofs.MemberWeights.{each_weighs, split-weighs, put-weighs, put-fits, delete-weighs, delete-pays, delete-fits, without-short}
+use Rattle.shapes.proofs.MemberWeights.{each_weighs, split-weighs, put-weighs, put-fits, delete-weighs, delete-pays, delete-fits}
 
 pub len-keys : (m : Map) → len m ≡ length (keys m)
 len-keys m = len-entries m ∙ sym (length-map (entries m) (λ e. e.0))
@@ -104,6 +104,36 @@ put_keeps_shape slots nodes m anchors name value enough shape room =
       fits = put-fits slots nodes name (members m anchors) (members (insert m name value) (put_anchors slots m anchors name)) (put-there slots nodes m anchors name value enough shape room) shape.fits;
     }
 
+-- ---- puts take no member away
+
+parted-length : (name : List ℕ) (anchors : Anchors) → length (up_to anchors name) + length (past anchors name) ≡ length anchors
+parted-length name [] = refl
+parted-length name (a ∷ later) =
+    let rest = parted-length name later in
+    ⊎_elim
+    (λ (is : below name a ≡ true).
+    let low = ap length (filter-drops (λ anchor. not (below name anchor)) a later (ap not is)) in
+    let high = ap length (filter-keeps (λ anchor. below name anchor) a later is) in
+    omega arith)
+    (λ (isnt : below name a ≡ false).
+    let low = ap length (filter-keeps (λ anchor. not (below name anchor)) a later (ap not isnt)) in
+    let high = ap length (filter-drops (λ anchor. below name anchor) a later isnt) in
+    omega arith)
+    (true_or_false (below name a))
+
+pub put_keeps_most : PutKeepsMost
+put_keeps_most slots most m anchors name =
+    ⊎_elim
+    (λ (is : splits slots m anchors name ≡ true).
+    let middle : List ℕ = middle_of slots m anchors name in
+    let now : length (put_anchors slots m anchors name) ≡ length (up_to anchors name ++ middle ∷ past anchors name) =
+    ap (λ b. length (if b then up_to anchors name ++ middle ∷ past anchors name else anchors)) is in
+    let both = length-append (up_to anchors name) (middle ∷ past anchors name) in
+    let parts = parted-length name anchors in
+    omega arith)
+    (λ (isnt : splits slots m anchors name ≡ false). let same = ap length (put-stays slots m anchors name isnt) in omega arith)
+    (true_or_false (splits slots m anchors name))
+
 -- ---- deletes
 
 rise-less : (before : Anchors) (low : List ℕ) (after : Anchors) → AnchorsRise (before ++ low ∷ after) → AnchorsRise (before ++ low ∷ drop 1 after)
@@ -156,33 +186,6 @@ delete_keeps_shape slots nodes m anchors name shape =
     let here = ap length e in
     record { ordered = subst AreAnchors (sym e) shape.ordered; few = omega arith; fits = fits })
     (true_or_false (merges slots m anchors name))
-
--- ---- deletes that merge nothing
-
--- between two anchors are no more names than before
-fewer-between : (m : Map) (name low : List ℕ) (high : Option (List ℕ)) → length (names_between (remove m name) low high) ≤ length (names_between m low high)
-fewer-between m name low high =
-    let same = ap length (del-between m low high name) in
-    let short = without-short name (names_between m low high) in
-    omega arith
-
-fewer-fit : (slots : ℕ) (m : Map) (name : List ℕ) (anchors : Anchors) → Fits slots (members m anchors) → Fits slots (members (remove m name) anchors)
-fewer-fit slots m name [] fits = tt
-fewer-fit slots m name (a ∷ later) fits =
-    let less = fewer-between m name a (slice_get later 0) in
-    let its = fits.0 in
-    (omega arith, fewer-fit slots m name later fits.1)
-
-pub deleted_keeps_shape : DeletedKeepsShape
-deleted_keeps_shape slots nodes m anchors name shape =
-    record { ordered = shape.ordered; few = shape.few; fits = fewer-fit slots m name anchors shape.fits }
-
-pub deleted_weighs : DeletedWeighs
-deleted_weighs slots m [] name = omega arith
-deleted_weighs slots m (a ∷ later) name =
-    let less = fewer-between m name a (slice_get later 0) in
-    let rest : members_weight slots (members (remove m name) later) ≤ members_weight slots (members m later) = deleted_weighs slots m later name in
-    omega arith
 
 -- ---- splits
 

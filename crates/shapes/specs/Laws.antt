@@ -6,7 +6,7 @@ use Rattle.std.specs.List.{flat_map}
 use Rattle.std.specs.Option.{option_map}
 use Rattle.cat_history.specs.Maps.{Map, at, LacksRoom}
 use Rattle.shapes.specs.Anchors.{Anchors, AreAnchors, is_between, names_between, target_of, next_of, IsFullPut, splits}
-use Rattle.shapes.specs.Anchors.{middle_of, put_anchors, merges, del_anchors, deleted_anchors}
+use Rattle.shapes.specs.Anchors.{middle_of, put_anchors, merges, del_anchors, most_after}
 use Rattle.shapes.specs.Members.{Member, with_name, without_name, IsTargetMember, members, Outcome, Full, Placed, Puts}
 use Rattle.shapes.specs.Members.{Deletes}
 use Rattle.shapes.specs.Weights.{IsShape, weight, one_lacking}
@@ -54,10 +54,10 @@ abbrev pub DeleteKeepsShape : Type 0
 DeleteKeepsShape = (slots nodes : ℕ) (m : Map) (anchors : Anchors) (name : List ℕ) → IsShape slots nodes m anchors →
     IsShape slots nodes (remove m name) (del_anchors slots m anchors name)
 
--- The same of deletes as they are made today.
-abbrev pub DeletedKeepsShape : Type 0
-DeletedKeepsShape = (slots nodes : ℕ) (m : Map) (anchors : Anchors) (name : List ℕ) → IsShape slots nodes m anchors →
-    IsShape slots nodes (remove m name) (deleted_anchors slots m anchors name)
+-- No put takes a member away, so there can be as many after it.
+abbrev pub PutKeepsMost : Type 0
+PutKeepsMost = (slots most : ℕ) (m : Map) (anchors : Anchors) (name : List ℕ) →
+    most_after most anchors (put_anchors slots m anchors name) ≡ most
 
 -- What a split leaves: each half has half as many names as a node has slots, the shape is one that the nodes can hold
 -- where one is left, and weighs no more. So the same put, made again, splits nothing and isn't full.
@@ -87,11 +87,6 @@ PutWeighs = (slots nodes : ℕ) (m : Map) (anchors : Anchors) (name : List ℕ) 
 abbrev pub DeleteWeighs : Type 0
 DeleteWeighs = (slots : ℕ) (m : Map) (anchors : Anchors) (name : List ℕ) → AreAnchors anchors →
     weight slots (remove m name) (del_anchors slots m anchors name) ≤ weight slots m anchors
-
--- Nor does a delete as it is made today.
-abbrev pub DeletedWeighs : Type 0
-DeletedWeighs = (slots : ℕ) (m : Map) (anchors : Anchors) (name : List ℕ) →
-    weight slots (remove m name) (deleted_anchors slots m anchors name) ≤ weight slots m anchors
 
 -- A merge lowers it by half as many as a node has slots: so much weighs the node that it takes out of the list, as long
 -- as that one isn't free again.

@@ -1,5 +1,5 @@
 -- One definition for all that is said along the records of a lone round: of the map and the place, and of the shape.
-use Rattle.std.specs.Prelude.{◌≡◌, ℕ, ◌+◌, ◌-◌, ◌≤◌, ◌↔◌, Bool, if◌then◌else◌, List, [], ◌∷◌, length}
+use Rattle.std.specs.Prelude.{◌≡◌, ℕ, ◌+◌, ◌≤◌, ◌↔◌, Bool, if◌then◌else◌, List, [], ◌∷◌, length}
 use Rattle.cat_history.specs.Maps.{Map}
 use Rattle.cat_history.specs.Writes.{after_all}
 use Rattle.cat_history.specs.LoneRounds.{write_of, IsLoneRound, IsFullExactly}
@@ -7,7 +7,7 @@ use Rattle.cat_history.specs.declared.op.Op.{Op}
 use Rattle.cat_history.specs.declared.op.Op.TheVariants.{Put, Get, Del, Scan}
 use Rattle.cat_history.specs.declared.record.Record.{Record}
 use Rattle.cat_history.specs.declared.record.Reply.TheVariants.{Full}
-use Rattle.shapes.specs.Anchors.{Anchors}
+use Rattle.shapes.specs.Anchors.{Anchors, most_after}
 use Rattle.shapes.specs.Weights.{IsShape}
 use Rattle.shapes.specs.ShapeRounds.{anchors_after, PutsFull, IsFullByShape}
 
@@ -24,15 +24,14 @@ pub record Standing : Type 0 where
   pub most : ℕ
   pub place : ℕ
 
--- Where it stands after a record. Until there is an updater a member that a merge takes away can't come back, and so
--- leaves one member less that there can be.
+-- Where it stands after a record, where members that merges take away come back and where they don't.
 abbrev pub stands_after : ℕ → Bool → Standing → Record → Standing
 stands_after slots come_back s r =
     record {
       map = after_all s.map (write_of r);
       anchors = anchors_after slots s.map s.anchors r.op r.reply;
-      most = if come_back then s.most else s.most - (length s.anchors - length
-          (anchors_after slots s.map s.anchors r.op r.reply));
+      most = if come_back then s.most else most_after s.most s.anchors
+          (anchors_after slots s.map s.anchors r.op r.reply);
       place = s.place + length (write_of r);
     }
 

@@ -10,13 +10,13 @@ use Rattle.cat_history.specs.declared.op.Op.TheVariants.{Put, Get, Del, Scan}
 use Rattle.cat_history.specs.declared.record.Record.{Record}
 use Rattle.cat_history.specs.declared.record.Reply.{Reply}
 use Rattle.cat_history.specs.declared.record.Reply.TheVariants.{Old, Full}
-use Rattle.shapes.specs.Anchors.{Anchors, IsFullPut, put_anchors, deleted_anchors}
+use Rattle.shapes.specs.Anchors.{Anchors, IsFullPut, put_anchors, del_anchors}
 use Rattle.shapes.specs.Weights.{IsShape, weight}
 
 -- The anchors after a call that was answered so: a call that reads or is refused leaves them.
 abbrev pub anchors_after : ℕ → Map → Anchors → Op → Reply → Anchors
 anchors_after slots m anchors (Put name value) (Old old place) = put_anchors slots m anchors name
-anchors_after slots m anchors (Del name) (Old old place) = deleted_anchors slots m anchors name
+anchors_after slots m anchors (Del name) (Old old place) = del_anchors slots m anchors name
 anchors_after slots m anchors op reply = anchors
 
 -- The fact P holds of each record, with the map and the anchors that the records before it leave.

@@ -3,8 +3,8 @@
 ghost use Rattle.shapes.specs.Runs.{OneNodeRounds};
 ghost use Rattle.shapes.specs.ShapeRounds.{LoneRoundsKeepShape, RoundsArePaid};
 ghost use Rattle.shapes.specs.Laws.{MembersPartNames, PutAgrees, DeleteAgrees, PartsAgree, FreshIsShape, PutKeepsShape};
-ghost use Rattle.shapes.specs.Laws.{DeleteKeepsShape, DeletedKeepsShape, SplitIsEnough, PutWeighs, DeleteWeighs};
-ghost use Rattle.shapes.specs.Laws.{DeletedWeighs, MergePays, FullWeighs, OneNodeIsRoom, HalfIsSplit, DropIsMerge};
+ghost use Rattle.shapes.specs.Laws.{DeleteKeepsShape, PutKeepsMost, SplitIsEnough, PutWeighs, DeleteWeighs};
+ghost use Rattle.shapes.specs.Laws.{MergePays, FullWeighs, OneNodeIsRoom, HalfIsSplit, DropIsMerge};
 
 /// The members part the names of the map among them.
 pub fn parts_law()
@@ -19,12 +19,12 @@ pub fn shape_law()
     ensures one_node { OneNodeIsRoom }
 {}
 
-/// What nodes can hold, they can hold after each call.
+/// What nodes can hold, they can hold after each call, and no put leaves one member less that there can be.
 pub fn keeps_law()
     ensures fresh { FreshIsShape }
     ensures put { PutKeepsShape }
     ensures del { DeleteKeepsShape }
-    ensures deleted { DeletedKeepsShape }
+    ensures most { PutKeepsMost }
 {}
 
 /// One split is enough.
@@ -36,7 +36,6 @@ pub fn split_law()
 pub fn weight_law()
     ensures put { PutWeighs }
     ensures del { DeleteWeighs }
-    ensures deleted { DeletedWeighs }
     ensures merge { MergePays }
     ensures full { FullWeighs }
 {}

@@ -3,7 +3,7 @@
 ghost use Rattle.std.specs.Prelude.{◌≡◌, ◌+◌, ◌<◌, ◌≤◌, ◌↔◌, IfOk, OnOk, OnErr, IsErr};
 ghost use Rattle.std.specs.FinMap.{insert, remove, len};
 ghost use Rattle.cat_history.specs.Maps.{at};
-ghost use Rattle.shapes.specs.Anchors.{IsFullPut, deleted_anchors, put_anchors};
+ghost use Rattle.shapes.specs.Anchors.{IsFullPut, del_anchors, most_after, put_anchors};
 
 use cat_key::Name;
 
@@ -61,15 +61,16 @@ pub trait NameMap {
         ensures most { most self.new ≡ most self.old }
         ensures calls_left { calls_left self.old ≤ calls_left self.new + 1 };
 
-    /// Removes a name, and answers the number that it had; None where the map lacks it.
+    /// Removes a name, and answers the number that it had; None where the map lacks it. Where its target and the next
+    /// member then have few names together, that one is merged into it, and doesn't come back.
     fn del(&mut self, name: &Name) -> Option<u64>
         requires { 0 < calls_left self.old }
         ensures old { result ≡ at (contents self.old) name.now }
         ensures after { contents self.new ≡ remove (contents self.old) name.now }
-        ensures anchors { anchors self.new ≡ deleted_anchors (slots self.old) (contents self.old) (anchors self.old)
+        ensures anchors { anchors self.new ≡ del_anchors (slots self.old) (contents self.old) (anchors self.old)
             name.now }
         ensures slots { slots self.new ≡ slots self.old }
-        ensures most { most self.new ≡ most self.old }
+        ensures most { most self.new ≡ most_after (most self.old) (anchors self.old) (anchors self.new) }
         ensures calls_left { calls_left self.old ≤ calls_left self.new + 1 };
 
     /// How many names the map has.

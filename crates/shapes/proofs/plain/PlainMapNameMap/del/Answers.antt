@@ -3,6 +3,7 @@ use Rattle.std.specs.FinMap.{remove}
 use Rattle.cat_history.specs.Maps.{at, map_of}
 use Rattle.cat_history.proofs.PairLemmas.{at-lacking}
 use Rattle.shapes.proofs.PlainMapLemmas.{at-position, removed-lacking, map_of-removed, differ-removed}
+use Rattle.shapes.proofs.OneMember.{one_merges_none}
 use Rattle.shapes.proofs.plain.PlainMapNameMap.del.Goals as goal
 
 pub returns-in_err-position-clause-old : goal.returns-in_err-position-clause-old
@@ -43,3 +44,9 @@ returns-clause-after c =
     ap map_of c.remove.ensures.items
     ∙ map_of-removed c.self.inside.pairs.items c.in_ok-position.position c.args.name.now c.self.invariant.differ within named
     ∙ ap (λ m. remove m.contents c.args.name.now) c.self.view_is
+
+pub returns-in_err-position-clause-anchors : goal.returns-in_err-position-clause-anchors
+returns-in_err-position-clause-anchors c = sym (one_merges_none c.args.self.now.room c.args.self.now.contents c.args.name.now)
+
+pub returns-clause-anchors : goal.returns-clause-anchors
+returns-clause-anchors c = sym (one_merges_none c.args.self.now.room c.args.self.now.contents c.args.name.now)
