@@ -1,30 +1,23 @@
 -- Each turn of a call is a step of a kind.
-use Rattle.std.proofs.Common.{◌≡◌, ℕ, ◌/◌, ◌<◌, ◌≤◌, ◌^◌, true, false, [], ◌∷◌, ◌++◌, Option, Some, None, inl, inr, length, get_or, refl, sym, subst, ap, ◌∙◌, arith}
-use Rattle.std.specs.FinMap.{remove}
-use Rattle.cat_key.specs.Names.{words_of}
-use Rattle.cat_key.proofs.Packing.{length-words_of}
+use Rattle.std.proofs.Common.{◌≡◌, ℕ, ◌/◌, ◌<◌, ◌≤◌, ◌^◌, false, [], ◌∷◌, Option, Some, None, inl, inr, length, get_or, refl, sym, subst, ap, ◌∙◌, arith}
 use Rattle.cat_history.specs.declared.op.Change.TheVariants as change
 use Rattle.pm_words.specs.declared.layout.Layout.{Layout}
 use Rattle.pm_words.specs.declared.action.Action.{Action}
 use Rattle.pm_words.specs.declared.machine.Turn.{Turn}
 use Rattle.pm_words.specs.declared.machine.Turn.TheVariants.{Go, Done}
-use Rattle.data_node.specs.Slots.{IsLive, AreAllLive}
-use Rattle.data_node.specs.Bits.{without_live, lowest_clear}
-use Rattle.data_node.specs.Spots.{Spot, updated, bitmap_offset, slot_offset, IsLiveIn, name_words, Means}
-use Rattle.data_node.proofs.BitLemmas.{lowest_clear-some, without_live_below}
-use Rattle.data_node.proofs.SpotLemmas.{remove_absent}
-use Rattle.data_node.proofs.StoreLemmas.{means_valued, means_cleared}
+use Rattle.data_node.specs.Slots.{AreAllLive}
+use Rattle.data_node.specs.Bits.{lowest_clear}
+use Rattle.data_node.specs.Spots.{Spot, bitmap_offset, slot_offset}
+use Rattle.data_node.proofs.BitLemmas.{lowest_clear-some}
+use Rattle.data_node.proofs.StoreLemmas.{means_valued}
 use Rattle.call_stages.specs.declared.once.Once.{Once}
 use Rattle.call_stages.specs.declared.once.Placed.{Placed}
-use Rattle.call_stages.specs.Stages.{Held, Knows, Stage, Idle, Saw, Wears, Holds, Eyes, Splits, Leaves, Meets, Joins, IsLoose}
+use Rattle.call_stages.specs.Stages.{Held, Knows, Stage, Idle}
 use Rattle.call_stages.specs.declared.once.Once.TheVariants as once
 use Rattle.call_stages.specs.declared.view.View.{View}
 use Rattle.call_stages.specs.AnySteps.{AnyStep}
-use Rattle.call_stages.specs.Prevs.{no_debt, Deals, keeps}
-use Rattle.call_stages.specs.Footings.{Footing, FootStep, on_nodes}
+use Rattle.call_stages.specs.Footings.{FootStep}
 use Rattle.pm_words.specs.declared.again.Again.TheVariants as again
-use Rattle.data_list.specs.WalkStages.{walk_stage}
-use Rattle.data_list.proofs.WalkLaw.{walk_loose}
 use Rattle.index_law.proofs.Footings.{foot_any}
 use Rattle.split_merge.specs.declared.splitting.Split.{Split}
 use Rattle.split_merge.specs.declared.splitting.SplitAt.{SplitAt}
@@ -35,8 +28,6 @@ use Rattle.split_merge.specs.Splits.{LeadsIn, split_asks, split_at_asks, split_t
 use Rattle.split_merge.specs.SplitStages.{split_footing, split_at_footing, done_footing}
 use Rattle.split_merge.specs.SplitLaws.{MayBegin, SplitsSo}
 use Rattle.split_merge.proofs.SplitLaw.{splits_are_steps}
-use Rattle.node_ops.specs.declared.lookup.LookupAt.{LookupAt}
-use Rattle.node_ops.specs.declared.lookup.LookupAt.TheVariants as look
 use Rattle.call_stages.specs.Kinds.{Told, LeadsWithin, Step, commits, unlocks, reads}
 use Rattle.node_ops.specs.declared.call.Call.{Call}
 use Rattle.node_ops.specs.declared.lookup.Hold.{Hold}
@@ -52,7 +43,6 @@ use Rattle.node_ops.specs.declared.get.Get.{Get}
 use Rattle.node_ops.specs.declared.get.Get.TheVariants as get
 use Rattle.node_ops.specs.declared.put.Put.{Put}
 use Rattle.node_ops.specs.declared.put.Put.TheVariants as put
-use Rattle.node_ops.specs.declared.del.Del.{Del}
 use Rattle.node_ops.specs.declared.del.Del.TheVariants as del
 use Rattle.node_ops.specs.declared.running.Running.{Running}
 use Rattle.node_ops.specs.declared.running.Running.TheVariants.{Getting, Putting, Deleting}
@@ -63,32 +53,16 @@ use Rattle.node_ops.specs.FinishSteps.{finish_turned}
 use Rattle.node_ops.specs.FillSteps.{fill_turned}
 use Rattle.node_ops.specs.GetSteps.{IsGet, get_call, get_asks, get_turned, get_looked}
 use Rattle.node_ops.specs.PutSteps.{IsPut, put_call, put_asks, put_turned, put_looked, put_into, put_full, put_filled, put_finished, replaced, put_split, IsSplitting}
-use Rattle.node_ops.specs.DelSteps.{IsDel, del_call, del_asks, del_turned, del_looked, del_hit, del_finished, cleared}
 use Rattle.node_ops.specs.RunningSteps.{running_call, running_asks, running_turned, wrapped, IsRunning}
 use Rattle.node_ops.specs.Laws.{TurnsAreFootSteps, TurnsAreSteps, LeadsAreTaken}
-use Rattle.node_ops.specs.CallStages.{words_from, nothing, knows, decided, fence_rest, seen_hit, seen_fill, get_stage, put_stage, del_stage, stage_of, stage_after, reply_of, lookup_at_stage, found_full, footing_of, footing_after}
-use Rattle.node_ops.proofs.SeenLemmas.{Seen, Stand, seen_append, seen_front, seen_back, stand_whole, name_stands}
+use Rattle.node_ops.specs.CallStages.{words_from, nothing, knows, decided, fence_rest, seen_hit, seen_fill, get_stage, put_stage, stage_of, stage_after, reply_of, found_full, footing_of, footing_after}
+use Rattle.node_ops.proofs.SeenLemmas.{Stand, seen_append, seen_front, stand_whole}
 use Rattle.node_ops.proofs.LookupLaw.{hit_words, found_known, Leads_found, Leads, lookup_leads}
 use Rattle.node_ops.proofs.FinishLaw.{Finishes, finish_leads}
 use Rattle.node_ops.proofs.FillLaw.{Fills, fill_leads}
 use Rattle.node_ops.proofs.LookupSound.{SoundLooked, lookup_stays}
-
--- the name in the slot that has it
-hit_words_known : (s : Spot) (call : Call) (bitmap : ℕ) (hit : Hit) → IsCall call → Seen s (seen_hit call bitmap (Some hit)) → IsLive bitmap hit.slot
-    → IsLiveIn s hit.slot × (name_words s hit.slot ≡ words_of (name_in call))
-hit_words_known s call bitmap hit sound seen live =
-    let three : length call.name ≡ 3 = sym (ap length sound.packed.whole) ∙ length-words_of (name_in call) in (
-      subst (λ b. IsLive b hit.slot) (sym seen.0) live,
-      name_stands s hit.slot call.name three (subst (Stand s (slot_offset hit.slot 0) call.name) three (stand_whole s (slot_offset hit.slot 0) call.name seen.1)) ∙ sym sound.packed.whole,
-    )
-
--- a part of what is known once the name is looked up
-part_hit : (s : Spot) (call : Call) (found : Found) → Knows (name_in call) (found_known call found) s → Seen s (seen_hit call found.directory.bitmap found.hit)
-part_hit s call found known =
-    elim found.hit as (λ hit. Seen s (words_from 8 found.directory.prints ++ hit_words call hit) → Seen s (seen_hit call found.directory.bitmap hit)) [
-      | None ↦ λ seen. (known.seen.0, tt)
-      | Some hit ↦ λ seen. (known.seen.0, seen_back s (words_from 8 found.directory.prints) (words_from (slot_offset hit.slot 0) call.name) seen)
-    ] known.seen.1
+use Rattle.node_ops.proofs.PlainSteps.{hit_words_known, part_hit, Plain, IsSingle, IsPlainAfter, plain, looks_single}
+use Rattle.node_ops.proofs.DelLaw.{dels_are_steps, merge_leads}
 
 -- the kind of step of a turn of a get
 abbrev Gets : Call → Stage → Action → ℕ → Turn Get (Once Placed) → Type 0
@@ -99,11 +73,6 @@ Gets call stage action x (Done answer) = Step call.view.layout call.view.generat
 abbrev Puts : Call → Stage → Action → ℕ → Turn Put (Once Placed) → Type 0
 Puts call stage action x (Go put) = Step call.view.layout call.view.generation stage action x (put_stage put) None
 Puts call stage action x (Done answer) = Step call.view.layout call.view.generation stage action x Idle (Some answer)
-
--- of a delete
-abbrev Dels : Call → Stage → Action → ℕ → Turn Del (Once Placed) → Type 0
-Dels call stage action x (Go del) = Step call.view.layout call.view.generation stage action x (del_stage del) None
-Dels call stage action x (Done answer) = Step call.view.layout call.view.generation stage action x Idle (Some answer)
 
 module _ (call : Call) (sound : IsCall call) where
   abbrev slots : ℕ
@@ -195,38 +164,6 @@ module _ (call : Call) (sound : IsCall call) where
       let here = hit_words_known s call bitmap hit sound before.seen is.live in
       means_valued slots range s m (name_in call) value hit.slot limit sound.packed.named here.0 here.1 means)
 
-  del_hit_leads : (stage : Stage) (action : Action) (x : ℕ) (found : Found) (hit : Option Hit)
-      → Leads_found call stage action x (record found { hit = hit }) → Dels call stage action x (Go (del_hit call found.hold found.directory.bitmap hit))
-  del_hit_leads stage action x found (Some hit) leads =
-      leads (knows (seen_hit call found.directory.bitmap (Some hit))) None false tt
-      (λ s known. record { seen = part_hit s call (record found { hit = Some hit }) known; left = tt }) (λ range s m in_range old means. means)
-  del_hit_leads stage action x found None leads =
-      leads nothing (Some (change.Del (name_in call))) true refl (λ s known. record { seen = tt; left = tt })
-      (λ range s m in_range absent means. subst (Means slots range s) (sym (remove_absent m (name_in call) absent)) means)
-
-  del_looked_leads : (stage : Stage) (action : Action) (x : ℕ) (turn : Turn Lookup Looked) → Leads call stage action x turn → Dels call stage action x (del_looked call turn)
-  del_looked_leads stage action x (Go lookup) step = step
-  del_looked_leads stage action x (Done (looked.Early answer)) step = step
-  del_looked_leads stage action x (Done (looked.Found found)) leads = del_hit_leads stage action x found found.hit leads
-
-  del_finished_leads : (stage : Stage) (action : Action) (x : ℕ) (turn : Turn Finish (Once Placed)) → Finishes call stage action x turn → Dels call stage action x (del_finished turn)
-  del_finished_leads stage action x (Go finish) step = step
-  del_finished_leads stage action x (Done answer) step = step
-
-  -- the store of the bitmap without the slot
-  clearing_leads : (hold : Hold) (bitmap : ℕ) (hit : Hit) (x : ℕ) → bitmap < 2 ^ 64 → IsHit slots bitmap hit
-      → Step call.view.layout call.view.generation (del_stage (del.Clearing call hold bitmap hit)) (del_asks (del.Clearing call hold bitmap hit)) x
-      (del_stage (del.Finishing (cleared call hold hit))) None
-  clearing_leads hold bitmap hit x fits is =
-      commits {h = decided call hold (Some hit.value) (knows (seen_hit call bitmap (Some hit)))} {k = nothing}
-      {dirty = fence_rest (line_of bitmap_offset) fence_start ∷ []} {old = Some hit.value} {c = change.Del (name_in call)}
-      (sound.node, (omega arith)) (inl refl) (without_live_below 64 bitmap hit.slot fits) (record { pending = refl; ready = refl; placed = refl }) refl (inl (omega arith, omega arith)) refl refl
-      (λ s tidy before. record { seen = tt; left = tt })
-      (λ range s m in_range before old means.
-      let here = hit_words_known s call bitmap hit sound before.seen is.live in
-      subst (λ b. Means slots range (updated s bitmap_offset (without_live b hit.slot)) (remove m (name_in call))) before.seen.0
-      (means_cleared slots range s m (name_in call) hit.slot limit sound.packed.named here.0 here.1 means))
-
 get_leads : (get : Get) (x : ℕ) → IsGet get → Told (get_call get).view.layout (get_call get).view.generation (get_asks get) x → Gets (get_call get) (get_stage get) (get_asks get) x (get_turned get x)
 get_leads (get.Looking lookup) x sound told = get_looked_leads lookup.call sound.call _ _ x (lookup_turned lookup x) (lookup_leads lookup.call sound.call lookup.at x sound.here told)
 get_leads (get.Unlocking call hold old) x sound told = unlocks refl refl refl refl (reads refl refl refl)
@@ -245,11 +182,6 @@ put_leads (put.Replacing call hold bitmap hit value) x whole sound told = replac
 put_leads (put.Finishing finish) x whole sound told = put_finished_leads finish.call sound.call _ _ x (finish_turned finish x) (finish_leads finish x sound told.fits)
 put_leads (put.Splitting call hold bitmap value split) x whole sound told = absurd whole
 
-del_leads : (del : Del) (x : ℕ) → IsDel del → Told (del_call del).view.layout (del_call del).view.generation (del_asks del) x → Dels (del_call del) (del_stage del) (del_asks del) x (del_turned del x)
-del_leads (del.Looking lookup) x sound told = del_looked_leads lookup.call sound.call _ _ x (lookup_turned lookup x) (lookup_leads lookup.call sound.call lookup.at x sound.here told)
-del_leads (del.Clearing call hold bitmap hit) x sound told = clearing_leads call sound.call hold bitmap hit x sound.fits sound.hit
-del_leads (del.Finishing finish) x sound told = del_finished_leads finish.call sound.call _ _ x (finish_turned finish x) (finish_leads finish x sound told.fits)
-
 -- a part's step is the whole's
 as_get : (call : Call) (stage : Stage) (action : Action) (x : ℕ) (turn : Turn Get (Once Placed)) → Gets call stage action x turn
     → Step call.view.layout call.view.generation stage action x (stage_after (wrapped Getting turn)) (reply_of (wrapped Getting turn))
@@ -260,55 +192,6 @@ as_put : (call : Call) (stage : Stage) (action : Action) (x : ℕ) (turn : Turn 
     → Step call.view.layout call.view.generation stage action x (stage_after (wrapped Putting turn)) (reply_of (wrapped Putting turn))
 as_put call stage action x (Go put) step = step
 as_put call stage action x (Done answer) step = step
-
-as_del : (call : Call) (stage : Stage) (action : Action) (x : ℕ) (turn : Turn Del (Once Placed)) → Dels call stage action x turn
-    → Step call.view.layout call.view.generation stage action x (stage_after (wrapped Deleting turn)) (reply_of (wrapped Deleting turn))
-as_del call stage action x (Go del) step = step
-as_del call stage action x (Done answer) step = step
-
--- a step on nodes of a call that has no line and no debt
-abbrev Plain : Layout → ℕ → ℕ → Stage → Action → ℕ → Turn Running (Once Placed) → Type 0
-Plain l g c stage action x turn = FootStep l g c (record { stage = stage; line = None; debt = no_debt }) action x (footing_after turn) (reply_of turn)
-
--- the stage of a call that holds one node at most
-abbrev IsSingle : Stage → Type 0
-IsSingle (Splits left fresh phase) = ⊥
-IsSingle (Joins h left right pace) = ⊥
-IsSingle _ = Unit {0}
-
-single_deals : (s t : Stage) → IsSingle s → Deals s t no_debt no_debt
-single_deals s t single = keeps (λ q. subst IsSingle q.was single) (λ q. subst IsSingle q.was single) (λ q. absurd (subst IsSingle q.was single)) tt tt
-
--- what it goes on with has neither
-abbrev IsPlainAfter : Turn Running (Once Placed) → Type 0
-IsPlainAfter turn = footing_after turn ≡ record { stage = stage_after turn; line = None; debt = no_debt }
-
-plain : (l : Layout) (g c : ℕ) (s : Stage) (action : Action) (x : ℕ) (turn : Turn Running (Once Placed)) → IsSingle s → IsPlainAfter turn
-    → Step l g s action x (stage_after turn) (reply_of turn) → Plain l g c s action x turn
-plain l g c s action x turn single after step =
-    subst (λ (f : Footing). FootStep l g c (record { stage = s; line = None; debt = no_debt }) action x f (reply_of turn)) (sym after)
-    (on_nodes (inl refl) step (single_deals s (stage_after turn) single))
-
-loose_single : (s : Stage) → IsLoose s → IsSingle s
-loose_single Idle loose = tt
-loose_single (Saw n v w k) loose = tt
-loose_single (Wears n v) loose = tt
-loose_single (Holds n w h) loose = tt
-loose_single (Eyes n w h m v u free) loose = tt
-loose_single (Splits left fresh phase) loose = absurd loose
-loose_single (Leaves left) loose = tt
-loose_single (Meets n w h right) loose = tt
-loose_single (Joins h left right pace) loose = absurd loose
-
-looks_single : (call : Call) (at : LookupAt) → IsSingle (lookup_at_stage call at)
-looks_single call (look.Walk walk) = loose_single (walk_stage walk) (walk_loose walk.generation walk.node walk.at)
-looks_single call (look.Lock seen locked) = tt
-looks_single call (look.Clock locked) = tt
-looks_single call (look.Spent hold) = tt
-looks_single call (look.Bitmap hold) = tt
-looks_single call (look.Prints hold bitmap prints k) = tt
-looks_single call (look.Name hold directory left slot k) = tt
-looks_single call (look.Value hold directory slot) = tt
 
 get_single : (get : Get) → IsSingle (get_stage get)
 get_single (get.Looking lookup) = looks_single lookup.call lookup.at
@@ -321,44 +204,35 @@ put_single (put.Replacing call hold bitmap hit value) whole = tt
 put_single (put.Finishing finish) whole = tt
 put_single (put.Splitting call hold bitmap value split) whole = absurd whole
 
-del_single : (del : Del) → IsSingle (del_stage del)
-del_single (del.Looking lookup) = looks_single lookup.call lookup.at
-del_single (del.Clearing call hold bitmap hit) = tt
-del_single (del.Finishing finish) = tt
-
--- a get and a delete never have a line, and a put has none as it begins to split
-gets_plain : (turn : Turn Get (Once Placed)) → IsPlainAfter (wrapped Getting turn)
+-- a get never has a line, and a put has none as it begins to split
+gets_plain : (turn : Turn Get (Once Placed)) → IsPlainAfter None (wrapped Getting turn)
 gets_plain (Go get) = refl
 gets_plain (Done answer) = refl
 
-dels_plain : (turn : Turn Del (Once Placed)) → IsPlainAfter (wrapped Deleting turn)
-dels_plain (Go del) = refl
-dels_plain (Done answer) = refl
-
-puts_plain : (put : Put) (x : ℕ) → IsWhole put → IsPlainAfter (wrapped Putting (put_turned put x))
+puts_plain : (put : Put) (x : ℕ) → IsWhole put → IsPlainAfter None (wrapped Putting (put_turned put x))
 puts_plain (put.Looking lookup value) x whole = at (lookup_turned lookup x)
   where
-    full : (found : Found) (hit : Option Hit) → IsPlainAfter (Go (Putting (put_full lookup.call found.hold found.directory.bitmap hit value)))
+    full : (found : Found) (hit : Option Hit) → IsPlainAfter None (Go (Putting (put_full lookup.call found.hold found.directory.bitmap hit value)))
     full found (Some hit) = refl
     full found None = refl
 
-    into : (found : Found) (clear : Option ℕ) → IsPlainAfter (Go (Putting (put_into lookup.call found value clear)))
+    into : (found : Found) (clear : Option ℕ) → IsPlainAfter None (Go (Putting (put_into lookup.call found value clear)))
     into found (Some slot) = refl
     into found None = full found found.hit
 
-    at : (turn : Turn Lookup Looked) → IsPlainAfter (wrapped Putting (put_looked lookup.call value turn))
+    at : (turn : Turn Lookup Looked) → IsPlainAfter None (wrapped Putting (put_looked lookup.call value turn))
     at (Go next) = refl
     at (Done (looked.Early answer)) = refl
     at (Done (looked.Found found)) = into found (lowest_clear found.directory.bitmap lookup.call.view.layout.slots)
 puts_plain (put.Filling fill) x whole = at (fill_turned fill x)
   where
-    at : (turn : Turn Fill Finish) → IsPlainAfter (wrapped Putting (put_filled turn))
+    at : (turn : Turn Fill Finish) → IsPlainAfter None (wrapped Putting (put_filled turn))
     at (Go next) = refl
     at (Done finish) = refl
 puts_plain (put.Replacing call hold bitmap hit value) x whole = refl
 puts_plain (put.Finishing finish) x whole = at (finish_turned finish x)
   where
-    at : (turn : Turn Finish (Once Placed)) → IsPlainAfter (wrapped Putting (put_finished turn))
+    at : (turn : Turn Finish (Once Placed)) → IsPlainAfter None (wrapped Putting (put_finished turn))
     at (Go next) = refl
     at (Done answer) = refl
 puts_plain (put.Splitting call hold bitmap value split) x whole = absurd whole
@@ -397,23 +271,22 @@ module _ (call : Call) (hold : Hold) (bitmap value : ℕ) (split : Split) (sound
       (subst (λ (v : View). LeadsWithin v.layout (split_footing held split).stage (split_asks split) x) (sym sound.view) leads)))
 
 put_steps : (put : Put) (x : ℕ) → IsWhole put → IsPut put → Told (put_call put).view.layout (put_call put).view.generation (put_asks put) x
-    → Plain (put_call put).view.layout (put_call put).view.generation (put_call put).view.caller (put_stage put) (put_asks put) x (running_turned (Putting put) x)
+    → Plain (put_call put).view.layout (put_call put).view.generation (put_call put).view.caller None (put_stage put) (put_asks put) x (running_turned (Putting put) x)
 put_steps put x whole sound told =
-    plain _ _ _ (put_stage put) _ x (running_turned (Putting put) x) (put_single put whole) (puts_plain put x whole) (as_put (put_call put) _ _ x (put_turned put x) (put_leads put x whole sound told))
+    plain _ _ _ None (put_stage put) _ x (running_turned (Putting put) x) (put_single put whole) (puts_plain put x whole) (as_put (put_call put) _ _ x (put_turned put x) (put_leads put x whole sound told))
 
 own_steps : (running : Running) (x : ℕ) → IsRunning running → Told (running_call running).view.layout (running_call running).view.generation (running_asks running) x
     → LeadsWithin (running_call running).view.layout (stage_of running) (running_asks running) x
     → FootStep (running_call running).view.layout (running_call running).view.generation (running_call running).view.caller (footing_of running) (running_asks running) x
     (footing_after (running_turned running x)) (reply_of (running_turned running x))
 own_steps (Getting get) x sound told leads =
-    plain _ _ _ (get_stage get) _ x (running_turned (Getting get) x) (get_single get) (gets_plain (get_turned get x)) (as_get (get_call get) _ _ x (get_turned get x) (get_leads get x sound told))
+    plain _ _ _ None (get_stage get) _ x (running_turned (Getting get) x) (get_single get) (gets_plain (get_turned get x)) (as_get (get_call get) _ _ x (get_turned get x) (get_leads get x sound told))
 own_steps (Putting (put.Splitting call hold bitmap value split)) x sound told leads = splitting_leads call hold bitmap value split sound x told leads
 own_steps (Putting (put.Looking lookup value)) x sound told leads = put_steps (put.Looking lookup value) x tt sound told
 own_steps (Putting (put.Filling fill)) x sound told leads = put_steps (put.Filling fill) x tt sound told
 own_steps (Putting (put.Replacing call hold bitmap hit value)) x sound told leads = put_steps (put.Replacing call hold bitmap hit value) x tt sound told
 own_steps (Putting (put.Finishing finish)) x sound told leads = put_steps (put.Finishing finish) x tt sound told
-own_steps (Deleting del) x sound told leads =
-    plain _ _ _ (del_stage del) _ x (running_turned (Deleting del) x) (del_single del) (dels_plain (del_turned del x)) (as_del (del_call del) _ _ x (del_turned del x) (del_leads del x sound told))
+own_steps (Deleting del) x sound told leads = dels_are_steps del x sound told leads
 
 pub turns_are_foot_steps : TurnsAreFootSteps
 turns_are_foot_steps l g running x sound told leads =
@@ -432,7 +305,13 @@ footing_stage (Putting (put.Filling fill)) = refl
 footing_stage (Putting (put.Replacing call hold bitmap hit value)) = refl
 footing_stage (Putting (put.Finishing finish)) = refl
 footing_stage (Putting (put.Splitting call hold bitmap value split)) = refl
-footing_stage (Deleting del) = refl
+footing_stage (Deleting (del.Looking lookup)) = refl
+footing_stage (Deleting (del.Next call hold bitmap hit)) = refl
+footing_stage (Deleting (del.Taking call hold bitmap hit take)) = refl
+footing_stage (Deleting (del.Refusing call hold bitmap hit)) = refl
+footing_stage (Deleting (del.Clearing call hold bitmap hit line)) = refl
+footing_stage (Deleting (del.Finishing finish line)) = refl
+footing_stage (Deleting (del.Merging call hold old place merge)) = refl
 
 pub after_stage : (turn : Turn Running (Once Placed)) → (footing_after turn).stage ≡ stage_after turn
 after_stage (Go running) = footing_stage running
@@ -444,10 +323,16 @@ turns_are_steps l g running x sound told leads =
     subst (λ (q : Stage × Stage). AnyStep l g q.0 (running_asks running) x q.1 (reply_of turn)) (λ k. (footing_stage running k, after_stage turn k))
     (foot_any l g (running_call running).view.caller (footing_of running) (footing_after turn) (running_asks running) x (reply_of turn) (turns_are_foot_steps l g running x sound told leads))
 
--- a node that a split holds leads to one of the layout's
+-- a node that a split or a merge holds leads to one of the layout's
 pub leads_are_taken : LeadsAreTaken
 leads_are_taken l g (Getting get) x sound leads = tt
-leads_are_taken l g (Deleting del) x sound leads = tt
+leads_are_taken l g (Deleting (del.Looking lookup)) x sound leads = tt
+leads_are_taken l g (Deleting (del.Next call hold bitmap hit)) x sound leads = tt
+leads_are_taken l g (Deleting (del.Taking call hold bitmap hit take)) x sound leads = tt
+leads_are_taken l g (Deleting (del.Refusing call hold bitmap hit)) x sound leads = tt
+leads_are_taken l g (Deleting (del.Clearing call hold bitmap hit line)) x sound leads = tt
+leads_are_taken l g (Deleting (del.Finishing finish line)) x sound leads = tt
+leads_are_taken l g (Deleting (del.Merging call hold old place merge)) x sound leads = merge_leads l call hold old place merge x sound.here sound.layout leads
 leads_are_taken l g (Putting (put.Looking lookup value)) x sound leads = tt
 leads_are_taken l g (Putting (put.Filling fill)) x sound leads = tt
 leads_are_taken l g (Putting (put.Replacing call hold bitmap hit value)) x sound leads = tt

@@ -1,6 +1,6 @@
 -- The fields of a call keep what they keep, whatever its actions give.
-use Rattle.std.proofs.Common.{◌≡◌, ℕ, ◌+◌, ◌%◌, ◌<◌, ◌≤◌, ◌^◌, true, false, cond, ltb, Option, Some, None, IfSome, refl, sym, subst, ap, ◌∙◌, arith}
-use Rattle.std.proofs.lemmas.Bool.{ltb-true}
+use Rattle.std.proofs.Common.{◌≡◌, ℕ, ◌+◌, ◌*◌, ◌/◌, ◌%◌, ◌<◌, ◌≤◌, ◌^◌, ◌==◌, true, false, cond, ltb, Option, Some, None, IfSome, refl, sym, subst, ap, ◌∙◌, arith}
+use Rattle.std.proofs.lemmas.Bool.{ltb-true, ltb-false}
 use Rattle.pm_words.specs.declared.layout.Layout.{Layout}
 use Rattle.pm_words.specs.declared.machine.Turn.{Turn}
 use Rattle.pm_words.specs.declared.machine.Turn.TheVariants.{Go, Done}
@@ -47,7 +47,18 @@ use Rattle.split_merge.specs.Splits.{split_asks, split_turned}
 use Rattle.split_merge.specs.SplitLaws.{SplitStays}
 use Rattle.split_merge.proofs.SplitStaying.{splits_stay}
 use Rattle.call_stages.specs.declared.view.View.{View}
-use Rattle.node_ops.specs.DelSteps.{IsDel, del_call, del_asks, del_turned, del_looked, del_hit, del_finished}
+use Rattle.smo_log.specs.declared.take.Take.{Take}
+use Rattle.smo_log.specs.declared.take.Taken.{Taken}
+use Rattle.smo_log.specs.declared.take.Taken.TheVariants.{Line, Full}
+use Rattle.smo_log.specs.Takes.{take_from, take_asks, take_turned, take_held, TakeNotes}
+use Rattle.smo_log.proofs.LineLaw.{takes_are_notes}
+use Rattle.split_merge.specs.declared.merging.Merge.{Merge}
+use Rattle.split_merge.specs.declared.merging.Merged.{Merged}
+use Rattle.split_merge.specs.Splits.{IsOwnLine}
+use Rattle.split_merge.specs.Merges.{merge_asks, merge_turned}
+use Rattle.split_merge.specs.MergeLaws.{MergeStays}
+use Rattle.split_merge.proofs.MergeStaying.{merges_stay}
+use Rattle.node_ops.specs.DelSteps.{IsDel, IsClearing, IsEnding, IsUnplaced, IsTakeOf, LeavesFew, names_left, del_call, del_asks, del_turned, del_looked, del_slot, del_hit, del_taken, del_finished, del_merged, del_leads, cleared, goes_on, merges_at}
 use Rattle.node_ops.specs.RunningSteps.{running_call, running_asks, running_turned, wrapped, IsRunning, running_leads}
 use Rattle.node_ops.specs.CallStages.{SoundAfter}
 use Rattle.node_ops.specs.Laws.{TurnsStaySound}
@@ -186,24 +197,137 @@ put_stays (put.Splitting call hold bitmap value split) x sound told leads = at (
     )
     at (Done answer) is = tt
 
-pub del_stays : (del : Del) (x : ℕ) → IsDel del → Told (del_call del).view.layout (del_call del).view.generation (del_asks del) x → Stays IsDel del_call (del_call del) (del_turned del x)
-del_stays (del.Looking lookup) x sound told = at (lookup_turned lookup x) (lookup_stays lookup x sound told)
+pub del_is_call : (del : Del) → IsDel del → IsCall (del_call del)
+del_is_call (del.Looking lookup) is = is.call
+del_is_call (del.Next call hold bitmap hit) is = is.0.call
+del_is_call (del.Taking call hold bitmap hit take) is = is.0.call
+del_is_call (del.Refusing call hold bitmap hit) is = is.call
+del_is_call (del.Clearing call hold bitmap hit line) is = is.0.call
+del_is_call (del.Finishing finish line) is = is.0.here.call
+del_is_call (del.Merging call hold old place merge) is = is.call
+
+-- a line that is taken is one of its caller's
+taken_own : (view : View) (take : Take) (x line : ℕ) → IsTakeOf view take → x < 2 ^ 64 → take_turned take x ≡ Done (Line line) → IsOwnLine view line
+taken_own view take x line is fits taken =
+    let note = subst (TakeNotes take.layout take.caller (take_held take) (take_asks take) x) taken (takes_are_notes take x is.here fits) in (
+      note.1 ∙ is.caller_is,
+      subst (λ (l : Layout). line < 8 * l.callers) is.layout_is note.2,
+    )
+
+-- the end of a write keeps its line
+pub ending_on : (finish next : Finish) (line : Option ℕ) (x : ℕ) → IsEnding finish line → x < 2 ^ 64 → Go next ≡ finish_turned finish x → IsEnding next line
+ending_on finish next line x ending fits goes =
+    let so = subst (SoundFinish finish.call) (sym goes) (finish_stays finish x ending.here fits) in
+    record { here = so.0; own = subst (λ (call : Call). IfSome line (IsOwnLine call.view)) (sym so.1) ending.own }
+
+-- what goes on from a call goes on from that before it
+same_on : (before after : Call) (del : Del) → IsSame before after → IsDel del × IsSame after (del_call del) → IsDel del × IsSame before (del_call del)
+same_on before after del one stays = (stays.0, stays.1 ∙ ap (λ (call : Call). at_node call (del_call del).node (del_call del).hops) one)
+
+-- the end of a write goes on, and with a line it merges from its place on
+module _ (line : Option ℕ) where
+  ends_on : (finish : Finish) → IsFinish finish → IfSome line (IsOwnLine finish.call.view) → Stays IsDel del_call finish.call (Go (goes_on finish line))
+  ends_on finish is own =
+      elim line as (λ o. IfSome o (IsOwnLine finish.call.view) → Stays IsDel del_call finish.call (Go (goes_on finish o))) [
+        | None ↦ λ no. ((record { here = is; own = tt }, tt), refl)
+        | Some number ↦ λ has. at number has finish.at refl
+      ] own
+    where
+      at : (number : ℕ) → IsOwnLine finish.call.view number → (at : FinishAt) → finish.at ≡ at → Stays IsDel del_call finish.call (Go (merges_at finish number at))
+      at number has (finish_at.Fence first fence) same = ((record { here = is; own = has }, subst IsUnplaced (sym same) tt), refl)
+      at number has finish_at.Add same = ((record { here = is; own = has }, subst IsUnplaced (sym same) tt), refl)
+      at number has (finish_at.Unlock place) same = (
+        record {
+          call = is.call;
+          locked = is.locked;
+          here = record { view = is.call.view; node = is.call.node; lock = is.locked; line = has; here = tt };
+          view = refl;
+          node = refl;
+          word = refl;
+        },
+        refl,
+      )
+
+pub del_stays : (del : Del) (x : ℕ) → IsDel del → Told (del_call del).view.layout (del_call del).view.generation (del_asks del) x → del_leads del x → Stays IsDel del_call (del_call del) (del_turned del x)
+del_stays (del.Looking lookup) x sound told leads = at (lookup_turned lookup x) (lookup_stays lookup x sound told)
   where
+    slot : (found : Found) (h : Hit) → IsHit lookup.call.view.layout.slots found.directory.bitmap h → IsFoundBy lookup.call.view.layout.slots found
+        → Stays IsDel del_call lookup.call (Go (del_slot lookup.call found.hold found.directory.bitmap h))
+    slot found h is_hit is =
+        let bitmap = found.directory.bitmap in
+        let clears : IsClearing lookup.call found.hold bitmap h = record { call = sound.call; locked = is.locked; fits = is.directory.bitmap; hit = is_hit } in
+        elim (ltb (lookup.call.view.layout.slots / 2) (names_left lookup.call bitmap h)) as (λ b. ltb (lookup.call.view.layout.slots / 2) (names_left lookup.call bitmap h) ≡ b
+        → Stays IsDel del_call lookup.call (Go (cond b (del.Clearing lookup.call found.hold bitmap h None) (del.Next lookup.call found.hold bitmap h)))) [
+          | true ↦ λ many. ((clears, tt), refl)
+          | false ↦ λ few. ((clears, ltb-false _ _ few), refl)
+        ] refl
+
     hit : (found : Found) (hit : Option Hit) → IfSome hit (IsHit lookup.call.view.layout.slots found.directory.bitmap) → IsFoundBy lookup.call.view.layout.slots found
         → Stays IsDel del_call lookup.call (Go (del_hit lookup.call found.hold found.directory.bitmap hit))
-    hit found (Some h) is_hit is = (record { call = sound.call; locked = is.locked; fits = is.directory.bitmap; hit = is_hit }, refl)
-    hit found None is_hit is = (record { call = sound.call; locked = is.locked; here = tt }, refl)
+    hit found (Some h) is_hit is = slot found h is_hit is
+    hit found None is_hit is = ((record { here = record { call = sound.call; locked = is.locked; here = tt }; own = tt }, tt), refl)
 
     at : (turn : Turn Lookup Looked) → SoundLooked lookup.call turn → Stays IsDel del_call lookup.call (del_looked lookup.call turn)
     at (Go next) is = is
     at (Done (looked.Early answer)) is = tt
     at (Done (looked.Found found)) is = hit found found.hit is.hit is
-del_stays (del.Clearing call hold bitmap hit) x sound told = (record { call = sound.call; locked = sound.locked; here = (bitmap_inside call, starts) }, refl)
-del_stays (del.Finishing finish) x sound told = at (finish_turned finish x) (finish_stays finish x sound told.fits)
+del_stays (del.Next call hold bitmap hit) x sound told leads =
+    elim (x == 0) as (λ b. Stays IsDel del_call call (Go (cond b (del.Clearing call hold bitmap hit None) (del.Taking call hold bitmap hit (take_from call.view.layout call.view.caller))))) [
+      | true ↦ ((sound.0, tt), refl)
+      | false ↦ (
+        (
+          sound.0,
+          sound.1,
+          record {
+            here = record { layout = sound.0.call.view.layout; caller = sound.0.call.view.caller; index = omega arith; here = tt };
+            layout_is = refl;
+            caller_is = refl;
+          },
+        ),
+        refl,
+      )
+    ]
+del_stays (del.Taking call hold bitmap hit take) x sound told leads = at (take_turned take x) refl (takes_are_notes take x sound.2.here told.fits)
   where
-    at : (turn : Turn Finish (Once Placed)) → SoundFinish finish.call turn → Stays IsDel del_call finish.call (del_finished turn)
-    at (Go next) is = is
-    at (Done answer) is = tt
+    at : (turn : Turn Take Taken) → take_turned take x ≡ turn → TakeNotes take.layout take.caller (take_held take) (take_asks take) x turn
+        → Stays IsDel del_call call (del_taken call hold bitmap hit turn)
+    at (Go next) is note = ((sound.0, sound.1, record { here = note.1; layout_is = note.2 ∙ sound.2.layout_is; caller_is = note.3 ∙ sound.2.caller_is }), refl)
+    at (Done (Line line)) is note = ((sound.0, (sound.1, taken_own call.view take x line sound.2 told.fits is)), refl)
+    at (Done Full) is note = (sound.0, refl)
+del_stays (del.Refusing call hold bitmap hit) x sound told leads = tt
+del_stays (del.Clearing call hold bitmap hit line) x sound told leads =
+    elim line as (λ o. IfSome o (λ number. LeavesFew call bitmap hit × IsOwnLine call.view number) → Stays IsDel del_call call (Go (del.Finishing (cleared call hold hit) o))) [
+      | None ↦ λ no. ((record { here = finish; own = tt }, tt), refl)
+      | Some number ↦ λ has. ((record { here = finish; own = has.1 }, tt), refl)
+    ] sound.1
+  where
+    finish : IsFinish (cleared call hold hit)
+    finish = record { call = sound.0.call; locked = sound.0.locked; here = (bitmap_inside call, starts) }
+del_stays (del.Finishing finish line) x sound told leads = at (finish_turned finish x) refl (finish_stays finish x sound.0.here told.fits)
+  where
+    at : (turn : Turn Finish (Once Placed)) → finish_turned finish x ≡ turn → SoundFinish finish.call turn → Stays IsDel del_call finish.call (del_finished line turn)
+    at (Go next) goes is =
+        let ending = ending_on finish next line x sound.0 told.fits (sym goes) in
+        same_on finish.call next.call (goes_on next line) is.1 (ends_on line next ending.here ending.own)
+    at (Done answer) goes is = tt
+del_stays (del.Merging call hold old place merge) x sound told leads = at (merge_turned merge x) (merges_stay merge x (sound.here, own, leads))
+  where
+    own : Told merge.view.layout merge.view.generation (merge_asks merge) x
+    own = subst (λ (v : View). Told v.layout v.generation (merge_asks merge) x) (sym sound.view) told
+
+    at : (turn : Turn Merge Merged) → MergeStays merge turn → Stays IsDel del_call call (del_merged call hold old place turn)
+    at (Go next) is = (
+      record {
+        call = sound.call;
+        locked = sound.locked;
+        here = is.0;
+        view = is.1.view ∙ sound.view;
+        node = is.1.node ∙ sound.node;
+        word = is.1.word ∙ sound.word;
+      },
+      refl,
+    )
+    at (Done merged) is = tt
 
 -- a part stays sound, and so the whole
 as_whole : {M : Type 0} (sound : M → Type 0) (of : M → Call) (wrap : M → Running) (l : Layout) (g : ℕ) (call : Call) (turn : Turn M (Once Placed))
@@ -228,4 +352,4 @@ turns_stay_sound l g running x sound told leads =
         → Told (running_call running).view.layout (running_call running).view.generation (running_asks running) x → running_leads running x → SoundAfter l g (running_turned running x)
     at (Getting get) layout generation is own led = as_whole IsGet get_call (λ (m : Get). Getting m) l g (get_call get) (get_turned get x) (λ m s. s) (λ m. refl) layout generation (get_stays get x is own)
     at (Putting put) layout generation is own led = as_whole IsPut put_call (λ (m : Put). Putting m) l g (put_call put) (put_turned put x) (λ m s. s) (λ m. refl) layout generation (put_stays put x is own led)
-    at (Deleting del) layout generation is own led = as_whole IsDel del_call (λ (m : Del). Deleting m) l g (del_call del) (del_turned del x) (λ m s. s) (λ m. refl) layout generation (del_stays del x is own)
+    at (Deleting del) layout generation is own led = as_whole IsDel del_call (λ (m : Del). Deleting m) l g (del_call del) (del_turned del x) (λ m s. s) (λ m. refl) layout generation (del_stays del x is own led)

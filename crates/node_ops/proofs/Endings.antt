@@ -1,5 +1,5 @@
 -- What an answer says of the call that it ends.
-use Rattle.std.proofs.Common.{◌≡◌, ◌≢◌, ℕ, ◌+◌, ◌≤◌, true, false, cond, ltb, Option, Some, None, refl, sym, subst, ◌∙◌, arith}
+use Rattle.std.proofs.Common.{◌≡◌, ◌≢◌, ℕ, ◌+◌, ◌/◌, ◌≤◌, ◌==◌, true, false, cond, ltb, Option, Some, None, refl, sym, subst, ap, ◌∙◌, arith}
 use Rattle.std.specs.Prelude.{IsSomeAnd, ◌==◌}
 use Rattle.std.proofs.lemmas.Bool.{leb-true}
 use Rattle.pm_words.specs.declared.again.Again.{Again}
@@ -55,7 +55,14 @@ use Rattle.node_ops.specs.FinishSteps.{finish_asks, finish_turned, finish_at_tur
 use Rattle.node_ops.specs.FillSteps.{fill_turned, fill_at_turned, slot_fenced, print_fenced}
 use Rattle.node_ops.specs.GetSteps.{get_looked}
 use Rattle.node_ops.specs.PutSteps.{put_looked, put_into, put_full, put_filled, put_finished, put_split}
-use Rattle.node_ops.specs.DelSteps.{del_looked, del_hit, del_finished}
+use Rattle.smo_log.specs.declared.take.Take.{Take}
+use Rattle.smo_log.specs.declared.take.Taken.{Taken}
+use Rattle.smo_log.specs.declared.take.Taken.TheVariants.{Line, Full}
+use Rattle.smo_log.specs.Takes.{take_from, take_turned}
+use Rattle.split_merge.specs.declared.merging.Merge.{Merge}
+use Rattle.split_merge.specs.declared.merging.Merged.{Merged}
+use Rattle.split_merge.specs.Merges.{merge_asks, merge_turned}
+use Rattle.node_ops.specs.DelSteps.{names_left, del_looked, del_hit, del_taken, del_finished, del_merged, goes_on}
 use Rattle.node_ops.specs.RunningSteps.{IsRunning, running_call, running_asks, running_turned, wrapped}
 use Rattle.node_ops.specs.Asked.{op_in, op_of_finish}
 use Rattle.node_ops.specs.CallStages.{stage_of, lookup_at_stage, lookup_stage, finish_at_held, finish_stage, found_full}
@@ -66,6 +73,8 @@ use Rattle.split_merge.specs.SplitStages.{split_footing}
 use Rattle.split_merge.specs.OfSplits.{IsOfSplit}
 use Rattle.split_merge.proofs.OfSplits.{stages_are_of_splits}
 use Rattle.node_ops.proofs.SplitFacts.{split_uncounted, split_unplaced}
+use Rattle.node_ops.proofs.MergeFacts.{placed_still, merging_stage, merge_placed, merge_limited, merge_uncounted, goes_on_stage}
+use Rattle.cat_history.specs.declared.op.Change.{Change}
 use Rattle.node_ops.specs.Endings.{place_for, limit_in, IsPutOp, IsDone, DoneIsCounted, IsSpent, SpentIsLate, NoFreeIsOfPuts, RefusedIsUncounted, GoesOn, TurnsKeepPlace, LastCountsNothing, PlacedIsInTime}
 use Rattle.node_ops.proofs.OpLaw.{lookup_counts}
 
@@ -97,13 +106,13 @@ reached None clock e = absurd (cc)
 reached (Some most) clock e = leb-true most clock e
 
 -- how a look-up ends a call
-abbrev EndsEarly : Option ℕ → Once Placed → Type 0
+abbrev pub EndsEarly : Option ℕ → Once Placed → Type 0
 EndsEarly limit (once.Done placed) = ⊥
 EndsEarly limit (once.Spent clock) = IsSomeAnd limit (λ most. most ≤ clock)
 EndsEarly limit (once.Worn node word) = Unit {0}
 EndsEarly limit (once.Again why) = why ≢ again.NoFree
 
-abbrev LooksEnd : Option ℕ → Turn Lookup Looked → Type 0
+abbrev pub LooksEnd : Option ℕ → Turn Lookup Looked → Type 0
 LooksEnd limit (Go lookup) = Unit {0}
 LooksEnd limit (Done (looked.Early answer)) = EndsEarly limit answer
 LooksEnd limit (Done (looked.Found found)) = Unit {0}
@@ -278,11 +287,20 @@ put_turns (put.Splitting call hold bitmap value split) x is = at (split_turned s
     at (Go next) = keeps_none (Putting (put.Splitting call hold bitmap value split)) x (Putting (put.Splitting call hold bitmap value next)) (split_uncounted _ _ refl (has split)) (split_unplaced _ _ refl (has split)) (split_unplaced _ _ refl (has next))
     at (Done answer) = ((split_unplaced _ _ refl (has split), λ same. tt), split_uncounted _ _ refl (has split))
 
+-- a stage with the same place goes on alike
+same_place : (finish : Finish) (x : ℕ) (next other : Stage) → placed_in other ≡ placed_in next → (change : Option Change)
+    → GoesOn finish.call.view.layout (finish_stage finish) (finish_asks finish) x next change → GoesOn finish.call.view.layout (finish_stage finish) (finish_asks finish) x other change
+same_place finish x next other same None on = same ∙ on
+same_place finish x next other same (Some change) on = (on.0, on.1, same ∙ on.2)
+
 del_turns : (del : Del) (x : ℕ) → IsRunning (Deleting del) → Turns (Deleting del) x (running_turned (Deleting del) x)
 del_turns (del.Looking lookup) x is = at (lookup_turned lookup x) (looks_end lookup.call lookup.at x is.here)
   where
     hits : (found : Found) (hit : Option Hit) → placed_in (stage_of (Deleting (del_hit lookup.call found.hold found.directory.bitmap hit))) ≡ None
-    hits found (Some hit) = refl
+    hits found (Some hit) =
+        let bitmap = found.directory.bitmap in
+        elim (ltb (lookup.call.view.layout.slots / 2) (names_left lookup.call bitmap hit)) as (λ b.
+        placed_in (stage_of (Deleting (cond b (del.Clearing lookup.call found.hold bitmap hit None) (del.Next lookup.call found.hold bitmap hit)))) ≡ None) [ true ↦ refl | false ↦ refl ]
     hits found None = refl
 
     at : (turn : Turn Lookup Looked) → LooksEnd lookup.call.limit turn → Turns (Deleting (del.Looking lookup)) x (wrapped Deleting (del_looked lookup.call turn))
@@ -290,15 +308,36 @@ del_turns (del.Looking lookup) x is = at (lookup_turned lookup x) (looks_end loo
     at (Done (looked.Early answer)) early = ends_early (Deleting (del.Looking lookup)) x lookup.call.limit answer (lookup_uncounted lookup) (lookup_unplaced lookup) refl early
     at (Done (looked.Found found)) early =
         keeps_none (Deleting (del.Looking lookup)) x (Deleting (del_hit lookup.call found.hold found.directory.bitmap found.hit)) (lookup_uncounted lookup) (lookup_unplaced lookup) (hits found found.hit)
-del_turns (del.Clearing call hold bitmap hit) x is = refl
-del_turns (del.Finishing finish) x is = at (finish_turned finish x) (finish_turns finish x)
+del_turns (del.Next call hold bitmap hit) x is =
+    elim (x == 0) as (λ b. placed_in (stage_of (Deleting (cond b (del.Clearing call hold bitmap hit None) (del.Taking call hold bitmap hit (take_from call.view.layout call.view.caller))))) ≡ None) [ true ↦ refl | false ↦ refl ]
+del_turns (del.Taking call hold bitmap hit take) x is = at (take_turned take x)
   where
-    at : (turn : Turn Finish (Once Placed)) → FinishTurns finish x turn → Turns (Deleting (del.Finishing finish)) x (wrapped Deleting (del_finished turn))
-    at (Go next) turns = turns
+    at : (turn : Turn Take Taken) → Turns (Deleting (del.Taking call hold bitmap hit take)) x (wrapped Deleting (del_taken call hold bitmap hit turn))
+    at (Go next) = refl
+    at (Done (Line line)) = refl
+    at (Done Full) = refl
+del_turns (del.Refusing call hold bitmap hit) x is = ((refl, λ same. absurd (cc)), refl)
+del_turns (del.Clearing call hold bitmap hit line) x is = refl
+del_turns (del.Finishing finish line) x is = at (finish_turned finish x) (finish_turns finish x)
+  where
+    at : (turn : Turn Finish (Once Placed)) → FinishTurns finish x turn → Turns (Deleting (del.Finishing finish line)) x (wrapped Deleting (del_finished line turn))
+    at (Go next) turns = same_place finish x (finish_stage next) (stage_of (Deleting (goes_on next line))) (ap placed_in (goes_on_stage next line)) (counted (finish_stage finish)) turns
     at (Done (once.Done placed)) turns = (record { place = turns.0; limit = turns.1; hops = turns.2 }, turns.3)
     at (Done (once.Spent clock)) turns = absurd turns
     at (Done (once.Worn node word)) turns = absurd turns
     at (Done (once.Again why)) turns = absurd turns
+del_turns (del.Merging call hold old place merge) x is = at (merge_turned merge x)
+  where
+    uncounted : counted (stage_of (Deleting (del.Merging call hold old place merge))) ≡ None
+    uncounted = merge_uncounted _ _ (placed_still call old place) (merging_stage call old place merge)
+
+    has_it : (m : Merge) → placed_in (stage_of (Deleting (del.Merging call hold old place m))) ≡ Some place
+    has_it m = merge_placed _ _ (merging_stage call old place m)
+
+    at : (turn : Turn Merge Merged) → Turns (Deleting (del.Merging call hold old place merge)) x (wrapped Deleting (del_merged call hold old place turn))
+    at (Go next) = subst (GoesOn call.view.layout (stage_of (Deleting (del.Merging call hold old place merge))) (merge_asks merge) x (stage_of (Deleting (del.Merging call hold old place next)))) (sym uncounted)
+        (has_it next ∙ sym (has_it merge))
+    at (Done merged) = (record { place = has_it merge; limit = merge_limited _ _ (merging_stage call old place merge); hops = refl }, uncounted)
 
 turns : (running : Running) (x : ℕ) → IsRunning running → Turns running x (running_turned running x)
 turns (Getting get) x is = get_turns get x is
@@ -345,5 +384,9 @@ placed_is_in_time (Putting (put.Finishing finish)) placed = finish_in_time finis
 placed_is_in_time (Putting (put.Splitting call hold bitmap value split)) placed =
     absurd (placed (split_unplaced _ _ refl (stages_are_of_splits (found_full call hold bitmap) split)))
 placed_is_in_time (Deleting (del.Looking lookup)) placed = absurd (placed (lookup_unplaced lookup))
-placed_is_in_time (Deleting (del.Clearing call hold bitmap hit)) placed = refl
-placed_is_in_time (Deleting (del.Finishing finish)) placed = finish_in_time finish finish.at
+placed_is_in_time (Deleting (del.Next call hold bitmap hit)) placed = refl
+placed_is_in_time (Deleting (del.Taking call hold bitmap hit take)) placed = refl
+placed_is_in_time (Deleting (del.Refusing call hold bitmap hit)) placed = refl
+placed_is_in_time (Deleting (del.Clearing call hold bitmap hit line)) placed = refl
+placed_is_in_time (Deleting (del.Finishing finish line)) placed = finish_in_time finish finish.at
+placed_is_in_time (Deleting (del.Merging call hold old place merge)) placed = merge_limited _ _ (merging_stage call old place merge)

@@ -1,5 +1,5 @@
 -- A call comes by its node and its hops from its walk, and keeps them.
-use Rattle.std.proofs.Common.{◌≡◌, ℕ, ◌+◌, true, false, cond, ltb, Option, Some, None, refl, subst, arith}
+use Rattle.std.proofs.Common.{◌≡◌, ℕ, ◌+◌, ◌/◌, true, false, cond, ltb, Option, Some, None, refl, subst, ◌∙◌, arith}
 use Rattle.std.specs.Prelude.{◌==◌}
 use Rattle.pm_words.specs.declared.again.Again.TheVariants.{Moved}
 use Rattle.pm_words.specs.declared.machine.Turn.{Turn}
@@ -48,7 +48,14 @@ use Rattle.node_ops.specs.PutSteps.{put_call, put_looked, put_into, put_full, pu
 use Rattle.split_merge.specs.declared.splitting.Split.{Split}
 use Rattle.split_merge.specs.declared.splitting.SplitDone.{SplitDone}
 use Rattle.split_merge.specs.Splits.{split_turned}
-use Rattle.node_ops.specs.DelSteps.{del_call, del_looked, del_hit, del_finished}
+use Rattle.smo_log.specs.declared.take.Take.{Take}
+use Rattle.smo_log.specs.declared.take.Taken.{Taken}
+use Rattle.smo_log.specs.declared.take.Taken.TheVariants.{Line, Full}
+use Rattle.smo_log.specs.Takes.{take_from, take_turned}
+use Rattle.split_merge.specs.declared.merging.Merge.{Merge}
+use Rattle.split_merge.specs.declared.merging.Merged.{Merged}
+use Rattle.split_merge.specs.Merges.{merge_turned}
+use Rattle.node_ops.specs.DelSteps.{names_left, del_call, del_looked, del_hit, del_taken, del_finished, del_merged, goes_on, merges_at}
 use Rattle.node_ops.specs.RunningSteps.{running_call, running_turned, wrapped}
 use Rattle.node_ops.specs.Landings.{lookup_walk, walk_in, LandsBy, Lands, TurnsLand}
 
@@ -184,19 +191,45 @@ del_lands : (del : Del) (x : ℕ) → LandsAfter (Deleting del) x (running_turne
 del_lands (del.Looking lookup) x = at (lookup_turned lookup x) (looks_land lookup.call lookup.at x)
   where
     hits : (found : Found) (hit : Option Hit) → lookup.call ≡ del_call (del_hit lookup.call found.hold found.directory.bitmap hit)
-    hits found (Some hit) = refl
+    hits found (Some hit) =
+        let bitmap = found.directory.bitmap in
+        elim (ltb (lookup.call.view.layout.slots / 2) (names_left lookup.call bitmap hit)) as (λ b.
+        lookup.call ≡ del_call (cond b (del.Clearing lookup.call found.hold bitmap hit None) (del.Next lookup.call found.hold bitmap hit))) [ true ↦ refl | false ↦ refl ]
     hits found None = refl
 
     at : (turn : Turn Lookup Looked) → LooksLand lookup.call x (lookup_walk lookup.at) turn → LandsAfter (Deleting (del.Looking lookup)) x (wrapped Deleting (del_looked lookup.call turn))
     at (Go next) lands = lands
     at (Done (looked.Early answer)) lands = tt
     at (Done (looked.Found found)) lands = subst (Lands lookup.call x (lookup_walk lookup.at)) (hits found found.hit) lands
-del_lands (del.Clearing call hold bitmap hit) x = refl
-del_lands (del.Finishing finish) x = at (finish_turned finish x) (finish_keeps finish x)
+del_lands (del.Next call hold bitmap hit) x =
+    elim (x == 0) as (λ b. del_call (cond b (del.Clearing call hold bitmap hit None) (del.Taking call hold bitmap hit (take_from call.view.layout call.view.caller))) ≡ call) [ true ↦ refl | false ↦ refl ]
+del_lands (del.Taking call hold bitmap hit take) x = at (take_turned take x)
   where
-    at : (turn : Turn Finish (Once Placed)) → CallStays finish.call turn → LandsAfter (Deleting (del.Finishing finish)) x (wrapped Deleting (del_finished turn))
-    at (Go next) same = same
+    at : (turn : Turn Take Taken) → LandsAfter (Deleting (del.Taking call hold bitmap hit take)) x (wrapped Deleting (del_taken call hold bitmap hit turn))
+    at (Go next) = refl
+    at (Done (Line line)) = refl
+    at (Done Full) = refl
+del_lands (del.Refusing call hold bitmap hit) x = tt
+del_lands (del.Clearing call hold bitmap hit line) x = refl
+del_lands (del.Finishing finish line) x = at (finish_turned finish x) (finish_keeps finish x)
+  where
+    on : (next : Finish) (line : Option ℕ) → del_call (goes_on next line) ≡ next.call
+    on next None = refl
+    on next (Some number) = point next.at
+      where
+        point : (at : FinishAt) → del_call (merges_at next number at) ≡ next.call
+        point (finish_at.Fence first fence) = refl
+        point finish_at.Add = refl
+        point (finish_at.Unlock place) = refl
+
+    at : (turn : Turn Finish (Once Placed)) → CallStays finish.call turn → LandsAfter (Deleting (del.Finishing finish line)) x (wrapped Deleting (del_finished line turn))
+    at (Go next) same = on next line ∙ same
     at (Done answer) same = tt
+del_lands (del.Merging call hold old place merge) x = at (merge_turned merge x)
+  where
+    at : (turn : Turn Merge Merged) → LandsAfter (Deleting (del.Merging call hold old place merge)) x (wrapped Deleting (del_merged call hold old place turn))
+    at (Go next) = refl
+    at (Done merged) = tt
 
 pub turns_land : TurnsLand
 turns_land (Getting get) next x goes = subst (LandsAfter (Getting get) x) goes (get_lands get x)

@@ -1,5 +1,5 @@
 -- A look-up's fields keep what they keep, and what it found is in order.
-use Rattle.std.proofs.Common.{◌≡◌, ℕ, ◌+◌, ◌<◌, ◌≤◌, ◌^◌, ◌==◌, true, false, cond, ltb, List, Some, None, get_or, set, inl, inr, refl, sym, subst, ◌∙◌, arith}
+use Rattle.std.proofs.Common.{◌≡◌, ◌≢◌, ℕ, ◌+◌, ◌<◌, ◌≤◌, ◌^◌, ◌==◌, true, false, cond, ltb, List, Option, Some, None, IfSome, get_or, set, inl, inr, refl, sym, subst, ◌∙◌, arith}
 use Rattle.std.specs.Int.{bit_at}
 use Rattle.std.proofs.Math.ListN.{length-set}
 use Rattle.std.proofs.lemmas.Bool.{cases_eq, cases_lt, ltb-true}
@@ -33,7 +33,9 @@ use Rattle.data_list.specs.declared.target.Walked.{Walked}
 use Rattle.data_list.specs.declared.target.Walked.TheVariants as walked
 use Rattle.data_list.specs.declared.walk.Walk.{Walk}
 use Rattle.data_list.specs.Keys.{key_words}
-use Rattle.data_list.specs.Walks.{sighting_of, walk_asks, walk_turned}
+use Rattle.data_list.specs.Walks.{LeadsOn, sighting_of, walk_asks, walk_turned}
+use Rattle.data_list.specs.declared.target.Next.{Next}
+use Rattle.pm_words.specs.declared.layout.Layout.{Layout}
 use Rattle.data_list.specs.WalkStages.{walk_stage}
 use Rattle.data_list.specs.Laws.{IsTarget, Walks}
 use Rattle.version_lock.proofs.WordTests.{fresh_word}
@@ -69,6 +71,10 @@ lock_word generation version word small locking =
       fits = omega arith;
     }
 
+some_leads : (l : Layout) (next : Option Next) → IfSome next (λ n. LeadsOn l n.node) → IfSome next (λ n. n.node ≢ 0)
+some_leads l None leads = tt
+some_leads l (Some next) leads = leads.some
+
 module _ (call : Call) (sound : IsCall call) where
   abbrev slots : ℕ
   slots = call.view.layout.slots
@@ -97,7 +103,7 @@ module _ (call : Call) (sound : IsCall call) where
         | false ↦ λ fresh. (
           record {
             call = record { view = sound.view; node = t.here; packed = sound.packed; print = sound.print; limit = sound.limit };
-            here = record { locking = record { known = t.seen.free.known; free = t.seen.free.free; unworn = fresh_word target.version g fresh; locked = refl }; is = t.seen };
+            here = record { locking = record { known = t.seen.free.known; free = t.seen.free.free; unworn = fresh_word target.version g fresh; locked = refl }; is = t.seen; leads = some_leads call.view.layout target.next t.next };
           },
           refl,
         )

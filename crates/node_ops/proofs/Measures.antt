@@ -1,5 +1,5 @@
 -- What a turn leaves to be done.
-use Rattle.std.proofs.Common.{◌≡◌, ℕ, ◌+◌, ◌-◌, ◌*◌, ◌<◌, ◌≤◌, ◌==◌, true, false, cond, ltb, Option, Some, None, get_or, inl, inr, refl, sym, subst, ◌∙◌, arith}
+use Rattle.std.proofs.Common.{◌≡◌, ℕ, ◌+◌, ◌-◌, ◌*◌, ◌/◌, ◌<◌, ◌≤◌, ◌==◌, true, false, cond, ltb, Option, Some, None, get_or, inl, inr, refl, sym, subst, ◌∙◌, arith}
 use Rattle.std.specs.Int.{bit_at}
 use Rattle.std.proofs.lemmas.Bool.{cases_lt, ltb-true}
 use Rattle.pm_words.specs.declared.machine.Turn.{Turn}
@@ -27,6 +27,14 @@ use Rattle.pm_words.specs.Fences.{fence_next}
 use Rattle.node_ops.specs.RunningSteps.{running_left}
 use Rattle.node_ops.specs.LookupSteps.{IsLookup, IsLookupAt, IsComparing, lookup_left, lookup_at_left, saw_name, next_candidate, candidate_turned}
 use Rattle.node_ops.specs.FinishSteps.{finish_left}
+use Rattle.smo_log.specs.declared.take.Take.{Take}
+use Rattle.smo_log.specs.declared.take.Taken.{Taken}
+use Rattle.smo_log.specs.declared.take.Taken.TheVariants.{Line, Full}
+use Rattle.smo_log.specs.Takes.{IsTake, take_left}
+use Rattle.node_ops.specs.declared.lookup.Hit.{Hit}
+use Rattle.node_ops.specs.declared.lookup.Found.{Found}
+use Rattle.node_ops.specs.declared.del.Del.TheVariants as del
+use Rattle.node_ops.specs.DelSteps.{names_left, del_hit, del_found, took, del_left}
 use Rattle.node_ops.specs.FillSteps.{fill_turned, fill_at_turned, fill_left, fill_at_left, filled, slot_fenced, print_fenced}
 
 -- the slot that is compared is one of the slots
@@ -115,6 +123,24 @@ filled_fewer fill got finish is = at fill.at is
     at (fill_at.FenceSlot fence) is = absurd (slot_goes_on (fence_next fence got) is)
     at (fill_at.FencePrint fence) is = absurd (print_goes_on (fence_next fence got) is)
     at fill_at.Bitmap is = let same : finish ≡ filled fill = cc in subst (λ (f : Finish). finish_left f < 19) (sym same) (omega arith)
+
+-- what a delete has left once its name is looked up, and once it has looked for a line
+pub found_fewer : (call : Call) (found : Found) (more : ℕ) → del_left (del_found call found) < more + 30052
+found_fewer call found more = at found.hit
+  where
+    at : (hit : Option Hit) → del_left (del_hit call found.hold found.directory.bitmap hit) < more + 30052
+    at None = omega arith
+    at (Some hit) =
+        let bitmap = found.directory.bitmap in
+        elim (ltb (call.view.layout.slots / 2) (names_left call bitmap hit)) as (λ b. del_left (cond b (del.Clearing call found.hold bitmap hit None) (del.Next call found.hold bitmap hit)) < more + 30052) [
+          | true ↦ omega arith
+          | false ↦ omega arith
+        ]
+
+pub taken_fewer : (call : Call) (hold : Hold) (bitmap : ℕ) (hit : Hit) (take : Take) (taken : Taken) → IsTake take
+    → del_left (took call hold bitmap hit taken) < take_left take + 30025
+taken_fewer call hold bitmap hit take (Line line) is = let index : take.index < 8 = is.index in omega arith
+taken_fewer call hold bitmap hit take Full is = omega arith
 
 -- what is left after a turn: nothing once it is done
 abbrev pub turn_left : Turn Running (Once Placed) → ℕ

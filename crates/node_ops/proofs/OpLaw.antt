@@ -1,5 +1,5 @@
 -- A call stays one of its op, and makes no other change than the op's.
-use Rattle.std.proofs.Common.{◌≡◌, ℕ, ◌+◌, true, false, cond, ltb, List, Option, Some, None, IfSome, refl, sym, subst, ap, ◌∙◌}
+use Rattle.std.proofs.Common.{◌≡◌, ℕ, ◌+◌, ◌/◌, ◌==◌, true, false, cond, ltb, List, Option, Some, None, IfSome, refl, sym, subst, ap, ◌∙◌}
 use Rattle.pm_words.specs.declared.layout.Layout.{Layout}
 use Rattle.pm_words.specs.declared.machine.Turn.{Turn}
 use Rattle.pm_words.specs.declared.machine.Turn.TheVariants.{Go, Done}
@@ -44,15 +44,24 @@ use Rattle.node_ops.specs.FinishSteps.{finish_turned, finish_at_turned, finish_f
 use Rattle.node_ops.specs.FillSteps.{fill_turned, fill_at_turned, slot_fenced, print_fenced}
 use Rattle.node_ops.specs.GetSteps.{IsGet, get_call, get_turned}
 use Rattle.node_ops.specs.PutSteps.{IsPut, put_call, put_turned, put_looked, put_into, put_full, put_filled, put_finished, put_split}
-use Rattle.node_ops.specs.DelSteps.{IsDel, del_call, del_turned, del_looked, del_hit, del_finished}
+use Rattle.smo_log.specs.declared.take.Take.{Take}
+use Rattle.smo_log.specs.declared.take.Taken.{Taken}
+use Rattle.smo_log.specs.declared.take.Taken.TheVariants.{Line, Full}
+use Rattle.smo_log.specs.Takes.{take_from, take_turned}
+use Rattle.split_merge.specs.declared.merging.Merge.{Merge}
+use Rattle.split_merge.specs.declared.merging.Merged.{Merged}
+use Rattle.split_merge.specs.Merges.{merge_turned}
+use Rattle.split_merge.specs.MergeStages.{merge_footing}
+use Rattle.node_ops.specs.DelSteps.{IsDel, names_left, del_call, del_turned, del_looked, del_hit, del_taken, del_finished, del_merged, goes_on, merges_at}
 use Rattle.node_ops.specs.RunningSteps.{running_call, running_asks, running_turned, wrapped, IsRunning, running_leads}
-use Rattle.node_ops.specs.CallStages.{lookup_at_stage, finish_at_held, change_to, stage_of, found_full}
+use Rattle.node_ops.specs.CallStages.{lookup_at_stage, finish_at_held, change_to, stage_of, found_full, has_place}
 use Rattle.split_merge.specs.declared.splitting.Split.{Split}
 use Rattle.split_merge.specs.declared.splitting.SplitDone.{SplitDone}
 use Rattle.split_merge.specs.Splits.{split_turned}
 use Rattle.split_merge.specs.SplitStages.{split_footing}
 use Rattle.split_merge.proofs.OfSplits.{stages_are_of_splits}
 use Rattle.node_ops.proofs.SplitFacts.{split_uncounted, split_unpending, split_about}
+use Rattle.node_ops.proofs.MergeFacts.{placed_still, merging_stage, merge_uncounted, merge_unpending, merge_about}
 use Rattle.cat_history.specs.Records.{change_of}
 use Rattle.node_ops.specs.Asked.{Gives, TakesOut, IsOf, IsOfAfter, IsAbout, op_of_finish}
 use Rattle.node_ops.specs.Laws.{TurnsKeepOp, CountsOwnChange, HoldsOwnName, PendingIsOwnChange, OpIsTold}
@@ -141,19 +150,44 @@ del_keeps : (del : Del) (x : ℕ) → TakesOut del → TakesOutAfter (del_turned
 del_keeps (del.Looking lookup) x is = at (lookup_turned lookup x)
   where
     hit : (found : Found) (hit : Option Hit) → TakesOut (del_hit lookup.call found.hold found.directory.bitmap hit)
-    hit found (Some h) = tt
+    hit found (Some h) =
+        let bitmap = found.directory.bitmap in
+        elim (ltb (lookup.call.view.layout.slots / 2) (names_left lookup.call bitmap h)) as (λ b. TakesOut (cond b (del.Clearing lookup.call found.hold bitmap h None) (del.Next lookup.call found.hold bitmap h))) [ true ↦ tt | false ↦ tt ]
     hit found None = refl
 
     at : (turn : Turn Lookup Looked) → TakesOutAfter (del_looked lookup.call turn)
     at (Go next) = tt
     at (Done (looked.Early answer)) = tt
     at (Done (looked.Found found)) = hit found found.hit
-del_keeps (del.Clearing call hold bitmap hit) x is = refl
-del_keeps (del.Finishing finish) x is = at (finish_turned finish x) (finish_keeps finish x)
+del_keeps (del.Next call hold bitmap hit) x is =
+    elim (x == 0) as (λ b. TakesOut (cond b (del.Clearing call hold bitmap hit None) (del.Taking call hold bitmap hit (take_from call.view.layout call.view.caller)))) [ true ↦ tt | false ↦ tt ]
+del_keeps (del.Taking call hold bitmap hit take) x is = at (take_turned take x)
   where
-    at : (turn : Turn Finish (Once Placed)) → NewAfter finish.new turn → TakesOutAfter (del_finished turn)
-    at (Go next) same = same ∙ is
+    at : (turn : Turn Take Taken) → TakesOutAfter (del_taken call hold bitmap hit turn)
+    at (Go next) = tt
+    at (Done (Line line)) = tt
+    at (Done Full) = tt
+del_keeps (del.Refusing call hold bitmap hit) x is = tt
+del_keeps (del.Clearing call hold bitmap hit line) x is = refl
+del_keeps (del.Finishing finish line) x is = at (finish_turned finish x) (finish_keeps finish x)
+  where
+    on : (next : Finish) (line : Option ℕ) → next.new ≡ None → TakesOut (goes_on next line)
+    on next None none = none
+    on next (Some number) none = point next.at
+      where
+        point : (at : FinishAt) → TakesOut (merges_at next number at)
+        point (finish_at.Fence first fence) = none
+        point finish_at.Add = none
+        point (finish_at.Unlock place) = tt
+
+    at : (turn : Turn Finish (Once Placed)) → NewAfter finish.new turn → TakesOutAfter (del_finished line turn)
+    at (Go next) same = on next line (same ∙ is)
     at (Done answer) same = tt
+del_keeps (del.Merging call hold old place merge) x is = at (merge_turned merge x)
+  where
+    at : (turn : Turn Merge Merged) → TakesOutAfter (del_merged call hold old place turn)
+    at (Go next) = tt
+    at (Done merged) = tt
 
 get_of : (name : List ℕ) (call : Call) (turn : Turn Get (Once Placed)) → name_in call ≡ name → Stays IsGet get_call call turn → IsOfAfter (op.Get name) (wrapped Getting turn)
 get_of name call (Go get) is stays = ap name_in stays.1 ∙ is
@@ -178,7 +212,7 @@ own_keep (op.Put name value) (Putting put) x sound told leads is = put_of name v
 own_keep (op.Put name value) (Deleting del) x sound told leads is = absurd is
 own_keep (op.Del name) (Getting get) x sound told leads is = absurd is
 own_keep (op.Del name) (Putting put) x sound told leads is = absurd is
-own_keep (op.Del name) (Deleting del) x sound told leads is = del_of name (del_call del) (del_turned del x) is.0 (del_stays del x sound told) (del_keeps del x is.1)
+own_keep (op.Del name) (Deleting del) x sound told leads is = del_of name (del_call del) (del_turned del x) is.0 (del_stays del x sound told leads) (del_keeps del x is.1)
 
 pub turns_keep_op : TurnsKeepOp
 turns_keep_op l g op running x sound told leads is =
@@ -271,8 +305,13 @@ counts_own_change (op.Put name value) (Deleting del) is = absurd is
 counts_own_change (op.Del name) (Getting get) is = absurd is
 counts_own_change (op.Del name) (Putting put) is = absurd is
 counts_own_change (op.Del name) (Deleting (del.Looking lookup)) is = counts_nothing _ _ (lookup_counts lookup.call lookup.at)
-counts_own_change (op.Del name) (Deleting (del.Clearing call hold bitmap hit)) is = tt
-counts_own_change (op.Del name) (Deleting (del.Finishing finish)) is =
+counts_own_change (op.Del name) (Deleting (del.Next call hold bitmap hit)) is = tt
+counts_own_change (op.Del name) (Deleting (del.Taking call hold bitmap hit take)) is = tt
+counts_own_change (op.Del name) (Deleting (del.Refusing call hold bitmap hit)) is = tt
+counts_own_change (op.Del name) (Deleting (del.Clearing call hold bitmap hit line)) is = tt
+counts_own_change (op.Del name) (Deleting (del.Merging call hold old place merge)) is =
+    counts_nothing _ _ (merge_uncounted _ _ (placed_still call old place) (merging_stage call old place merge))
+counts_own_change (op.Del name) (Deleting (del.Finishing finish line)) is =
     finish_counts (λ c. Some (change.Del name) ≡ Some c) finish finish.at
     (ap Some (sym (ap (λ (n : Option ℕ). change_to (name_in finish.call) n) is.1 ∙ ap (λ (n : List ℕ). change.Del n) is.0)))
 
@@ -293,8 +332,13 @@ holds_own_name (op.Put name value) (Deleting del) is = absurd is
 holds_own_name (op.Del name) (Getting get) is = absurd is
 holds_own_name (op.Del name) (Putting put) is = absurd is
 holds_own_name (op.Del name) (Deleting (del.Looking lookup)) is = subst (λ n. IsAbout n (lookup_at_stage lookup.call lookup.at)) is.0 (lookup_about lookup.call lookup.at)
-holds_own_name (op.Del name) (Deleting (del.Clearing call hold bitmap hit)) is = is.0
-holds_own_name (op.Del name) (Deleting (del.Finishing finish)) is =
+holds_own_name (op.Del name) (Deleting (del.Next call hold bitmap hit)) is = is.0
+holds_own_name (op.Del name) (Deleting (del.Taking call hold bitmap hit take)) is = is.0
+holds_own_name (op.Del name) (Deleting (del.Refusing call hold bitmap hit)) is = is.0
+holds_own_name (op.Del name) (Deleting (del.Clearing call hold bitmap hit line)) is = is.0
+holds_own_name (op.Del name) (Deleting (del.Merging call hold old place merge)) is =
+    subst (λ n. IsAbout n (merge_footing (has_place call old place) merge).stage) is.0 (merge_about _ _ (merging_stage call old place merge))
+holds_own_name (op.Del name) (Deleting (del.Finishing finish line)) is =
     subst (λ n. IsAbout n (Holds finish.call.node finish.hold.locked (finish_at_held finish finish.at))) is.0 (finish_about finish finish.at)
 
 lookup_pends : (call : Call) (at : LookupAt) → pending_in (lookup_at_stage call at) ≡ None
@@ -330,8 +374,13 @@ pending_is_own (op.Put name value) (Deleting del) is = absurd is
 pending_is_own (op.Del name) (Getting get) is = absurd is
 pending_is_own (op.Del name) (Putting put) is = absurd is
 pending_is_own (op.Del name) (Deleting (del.Looking lookup)) is = counts_nothing _ _ (lookup_pends lookup.call lookup.at)
-pending_is_own (op.Del name) (Deleting (del.Clearing call hold bitmap hit)) is = tt
-pending_is_own (op.Del name) (Deleting (del.Finishing finish)) is =
+pending_is_own (op.Del name) (Deleting (del.Next call hold bitmap hit)) is = tt
+pending_is_own (op.Del name) (Deleting (del.Taking call hold bitmap hit take)) is = tt
+pending_is_own (op.Del name) (Deleting (del.Refusing call hold bitmap hit)) is = tt
+pending_is_own (op.Del name) (Deleting (del.Clearing call hold bitmap hit line)) is = tt
+pending_is_own (op.Del name) (Deleting (del.Merging call hold old place merge)) is =
+    counts_nothing _ _ (merge_unpending _ _ (placed_still call old place) (merging_stage call old place merge))
+pending_is_own (op.Del name) (Deleting (del.Finishing finish line)) is =
     finish_pends (λ c. Some (change.Del name) ≡ Some c) finish finish.at
     (ap Some (sym (ap (λ (n : Option ℕ). change_to (name_in finish.call) n) is.1 ∙ ap (λ (n : List ℕ). change.Del n) is.0)))
 
@@ -351,8 +400,13 @@ pending_is_unplaced (Putting (put.Finishing finish)) = finish_unplaced finish fi
 pending_is_unplaced (Putting (put.Splitting call hold bitmap number split)) =
     counts_nothing _ _ (split_unpending _ _ refl (stages_are_of_splits (found_full call hold bitmap) split))
 pending_is_unplaced (Deleting (del.Looking lookup)) = counts_nothing _ _ (lookup_pends lookup.call lookup.at)
-pending_is_unplaced (Deleting (del.Clearing call hold bitmap hit)) = tt
-pending_is_unplaced (Deleting (del.Finishing finish)) = finish_unplaced finish finish.at
+pending_is_unplaced (Deleting (del.Next call hold bitmap hit)) = tt
+pending_is_unplaced (Deleting (del.Taking call hold bitmap hit take)) = tt
+pending_is_unplaced (Deleting (del.Refusing call hold bitmap hit)) = tt
+pending_is_unplaced (Deleting (del.Clearing call hold bitmap hit line)) = tt
+pending_is_unplaced (Deleting (del.Finishing finish line)) = finish_unplaced finish finish.at
+pending_is_unplaced (Deleting (del.Merging call hold old place merge)) =
+    counts_nothing _ _ (merge_unpending _ _ (placed_still call old place) (merging_stage call old place merge))
 
 pub pends_own_change : PendingIsOwnChange
 pends_own_change op running change is pending = (
@@ -375,5 +429,9 @@ op_told (op.Put name value) (Deleting del) is = absurd is
 op_told (op.Del name) (Getting get) is = absurd is
 op_told (op.Del name) (Putting put) is = absurd is
 op_told (op.Del name) (Deleting (del.Looking lookup)) is = ap op.Del is.0
-op_told (op.Del name) (Deleting (del.Clearing call hold bitmap hit)) is = ap op.Del is.0
-op_told (op.Del name) (Deleting (del.Finishing finish)) is = ap (op_of_finish finish) is.1 ∙ ap op.Del is.0
+op_told (op.Del name) (Deleting (del.Next call hold bitmap hit)) is = ap op.Del is.0
+op_told (op.Del name) (Deleting (del.Taking call hold bitmap hit take)) is = ap op.Del is.0
+op_told (op.Del name) (Deleting (del.Refusing call hold bitmap hit)) is = ap op.Del is.0
+op_told (op.Del name) (Deleting (del.Clearing call hold bitmap hit line)) is = ap op.Del is.0
+op_told (op.Del name) (Deleting (del.Merging call hold old place merge)) is = ap op.Del is.0
+op_told (op.Del name) (Deleting (del.Finishing finish line)) is = ap (op_of_finish finish) is.1 ∙ ap op.Del is.0

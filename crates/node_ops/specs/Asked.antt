@@ -36,8 +36,12 @@ Gives value (put.Splitting call hold bitmap number split) = number ≡ value
 -- the delete leaves no value
 abbrev pub TakesOut : Del → Type 0
 TakesOut (del.Looking lookup) = Unit {0}
-TakesOut (del.Clearing call hold bitmap hit) = Unit {0}
-TakesOut (del.Finishing finish) = finish.new ≡ None
+TakesOut (del.Next call hold bitmap hit) = Unit {0}
+TakesOut (del.Taking call hold bitmap hit take) = Unit {0}
+TakesOut (del.Refusing call hold bitmap hit) = Unit {0}
+TakesOut (del.Clearing call hold bitmap hit line) = Unit {0}
+TakesOut (del.Finishing finish line) = finish.new ≡ None
+TakesOut (del.Merging call hold old place merge) = Unit {0}
 
 abbrev pub IsOf : NameOp → Running → Type 0
 IsOf (op.Get name) (Getting get) = name_in (get_call get) ≡ name
@@ -64,8 +68,12 @@ put_op (put.Splitting call hold bitmap value split) = op.Put (name_in call) valu
 
 abbrev pub del_op : Del → NameOp
 del_op (del.Looking lookup) = op.Del (name_in lookup.call)
-del_op (del.Clearing call hold bitmap hit) = op.Del (name_in call)
-del_op (del.Finishing finish) = op_of_finish finish finish.new
+del_op (del.Next call hold bitmap hit) = op.Del (name_in call)
+del_op (del.Taking call hold bitmap hit take) = op.Del (name_in call)
+del_op (del.Refusing call hold bitmap hit) = op.Del (name_in call)
+del_op (del.Clearing call hold bitmap hit line) = op.Del (name_in call)
+del_op (del.Finishing finish line) = op_of_finish finish finish.new
+del_op (del.Merging call hold old place merge) = op.Del (name_in call)
 
 abbrev pub op_in : Running → NameOp
 op_in (Getting get) = op.Get (name_in (get_call get))

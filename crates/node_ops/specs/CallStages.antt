@@ -12,7 +12,11 @@ use Rattle.call_stages.specs.declared.once.Once.{Once}
 use Rattle.call_stages.specs.declared.once.Placed.{Placed}
 use Rattle.call_stages.specs.Stages.{Known, Held, Stage, Idle, Saw, Holds, just_held}
 use Rattle.call_stages.specs.Prevs.{no_debt}
+use Rattle.call_stages.specs.Lines.{HeldLine}
 use Rattle.call_stages.specs.Footings.{Footing}
+use Rattle.smo_log.specs.LogLines.{empty_line}
+use Rattle.smo_log.specs.Takes.{take_held}
+use Rattle.split_merge.specs.MergeStages.{merge_footing}
 use Rattle.split_merge.specs.SplitStages.{split_footing}
 use Rattle.node_ops.specs.declared.call.Call.{Call}
 use Rattle.node_ops.specs.declared.lookup.Hold.{Hold}
@@ -240,11 +244,19 @@ put_stage (put.Replacing call hold bitmap hit value) =
 put_stage (put.Finishing finish) = finish_stage finish
 put_stage (put.Splitting call hold bitmap value split) = (split_footing (found_full call hold bitmap) split).stage
 
+-- the name is in this slot
+abbrev pub found_in : Call → Hold → ℕ → Hit → Stage
+found_in call hold bitmap hit =
+    Holds call.node hold.locked (decided call hold (Some hit.value) (knows (seen_hit call bitmap (Some hit))))
+
 abbrev pub del_stage : Del → Stage
 del_stage (del.Looking lookup) = lookup_stage lookup
-del_stage (del.Clearing call hold bitmap hit) =
-    Holds call.node hold.locked (decided call hold (Some hit.value) (knows (seen_hit call bitmap (Some hit))))
-del_stage (del.Finishing finish) = finish_stage finish
+del_stage (del.Next call hold bitmap hit) = found_in call hold bitmap hit
+del_stage (del.Taking call hold bitmap hit take) = found_in call hold bitmap hit
+del_stage (del.Refusing call hold bitmap hit) = found_in call hold bitmap hit
+del_stage (del.Clearing call hold bitmap hit line) = found_in call hold bitmap hit
+del_stage (del.Finishing finish line) = finish_stage finish
+del_stage (del.Merging call hold old place merge) = (merge_footing (has_place call old place) merge).stage
 
 abbrev pub stage_of : Running → Stage
 stage_of (Getting get) = get_stage get
@@ -252,9 +264,33 @@ stage_of (Putting put) = put_stage put
 stage_of (Deleting del) = del_stage del
 
 -- with its log line, and what it knows and owes of prevs
+abbrev pub put_footing : Put → Footing
+put_footing (put.Splitting call hold bitmap value split) = split_footing (found_full call hold bitmap) split
+put_footing put = record { stage = put_stage put; line = None; debt = no_debt }
+
+-- a line that is taken, and EMPTY, if there is one
+abbrev pub line_taken : Option ℕ → Option HeldLine
+line_taken None = None
+line_taken (Some line) = Some (empty_line line)
+
+abbrev pub del_footing : Del → Footing
+del_footing (del.Looking lookup) = record { stage = lookup_stage lookup; line = None; debt = no_debt }
+del_footing (del.Next call hold bitmap hit) =
+    record { stage = found_in call hold bitmap hit; line = None; debt = no_debt }
+del_footing (del.Taking call hold bitmap hit take) =
+    record { stage = found_in call hold bitmap hit; line = take_held take; debt = no_debt }
+del_footing (del.Refusing call hold bitmap hit) =
+    record { stage = found_in call hold bitmap hit; line = None; debt = no_debt }
+del_footing (del.Clearing call hold bitmap hit line) =
+    record { stage = found_in call hold bitmap hit; line = line_taken line; debt = no_debt }
+del_footing (del.Finishing finish line) =
+    record { stage = finish_stage finish; line = line_taken line; debt = no_debt }
+del_footing (del.Merging call hold old place merge) = merge_footing (has_place call old place) merge
+
 abbrev pub footing_of : Running → Footing
-footing_of (Putting (put.Splitting call hold bitmap value split)) = split_footing (found_full call hold bitmap) split
-footing_of running = record { stage = stage_of running; line = None; debt = no_debt }
+footing_of (Getting get) = record { stage = get_stage get; line = None; debt = no_debt }
+footing_of (Putting put) = put_footing put
+footing_of (Deleting del) = del_footing del
 
 abbrev pub footing_after : Turn Running (Once Placed) → Footing
 footing_after (Go running) = footing_of running

@@ -1,5 +1,5 @@
 -- Looking a name up under its node's lock, step by step.
-use Rattle.std.specs.Prelude.{◌≡◌, ℕ, ◌+◌, ◌-◌, ◌*◌, ◌^◌, ◌<◌, ◌≤◌, ◌==◌, Bool, false, nat_lt, nat_le, if◌then◌else◌}
+use Rattle.std.specs.Prelude.{◌≡◌, ◌≢◌, ℕ, ◌+◌, ◌-◌, ◌*◌, ◌^◌, ◌<◌, ◌≤◌, ◌==◌, Bool, false, nat_lt, nat_le, if◌then◌else◌}
 use Rattle.std.specs.Prelude.{List, length, Option, Some, None, IfSome, IsTrue, slice_index, slice_set, replicate}
 use Rattle.cat_key.specs.declared.TheConstants.{WORDS}
 use Rattle.pm_words.specs.declared.action.Action.{Action}
@@ -87,6 +87,12 @@ abbrev pub walked_on : Call → Turn Walk Walked → Turn Lookup Looked
 walked_on call (Go walk) = goes_to call (at.Walk walk)
 walked_on call (Done (walked.Again why)) = ends (once.Again why)
 walked_on call (Done (walked.Target target)) = came_to call target
+
+-- where the walk ended at its target, that one's version word was free, and of no later generation
+abbrev pub IsTargetOf : Call → Turn Walk Walked → Type 0
+IsTargetOf call (Done (walked.Target target)) = (generation_of target.version ≤ call.view.generation) ×
+    IsFree target.version call.view.generation
+IsTargetOf call _ = Unit {0}
 
 abbrev pub tried_lock : Call → ℕ → ℕ → ℕ → Turn Lookup Looked
 tried_lock call version locked found =
@@ -183,6 +189,7 @@ pub record IsWalking (call : Call) (walk : Walk) : Type 0 where
 pub record IsAtTarget (call : Call) (seen : Sighting) (locked : ℕ) : Type 0 where
   pub locking : IsLocking call.view.generation seen.version locked
   pub is : IsSighting call.view.generation (key_words call.name) seen
+  pub leads : IfSome seen.next (λ next. next.node ≢ 0)
 
 abbrev pub IsLookupAt : Call → LookupAt → Type 0
 IsLookupAt call (at.Walk walk) = IsWalking call walk

@@ -12,7 +12,7 @@ use Rattle.node_ops.specs.declared.running.Running.{Running}
 use Rattle.node_ops.specs.declared.running.Running.TheVariants.{Getting, Putting, Deleting}
 use Rattle.node_ops.specs.GetSteps.{IsGet, get_call, get_asks, get_turned, get_left}
 use Rattle.node_ops.specs.PutSteps.{IsPut, put_call, put_asks, put_turned, put_leads, put_left}
-use Rattle.node_ops.specs.DelSteps.{IsDel, del_call, del_asks, del_turned, del_left}
+use Rattle.node_ops.specs.DelSteps.{IsDel, del_call, del_asks, del_turned, del_leads, del_left}
 
 -- what stays the same while it is made
 abbrev pub running_call : Running → Call
@@ -41,10 +41,11 @@ IsRunning (Getting get) = IsGet get
 IsRunning (Putting put) = IsPut put
 IsRunning (Deleting del) = IsDel del
 
--- where a node is split, it leads to one of the layout's
+-- where a node is split, or merged with another, it leads to one of the layout's
 abbrev pub running_leads : Running → ℕ → Type 0
+running_leads (Getting get) got = Unit {0}
 running_leads (Putting put) got = put_leads put got
-running_leads _ got = Unit {0}
+running_leads (Deleting del) got = del_leads del got
 
 abbrev pub running_takes : Running → ℕ → Type 0
 running_takes running got = IsRunning running ×

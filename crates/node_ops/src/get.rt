@@ -84,18 +84,40 @@ impl Machine for Get {
     }
 
     fn resume(self, got: u64) -> Turn<Get, Once<Placed>> {
+        let mut next = self;
+        match next.advance(got) {
+            None => Turn::Go(next),
+            Some(answer) => Turn::Done(answer),
+        }
+    }
+}
+
+impl Get {
+    ghost use Rattle.std.specs.Prelude.{◌≡◌};
+    ghost use Rattle.pm_words.specs.Turns.{GoesBelow};
+    ghost use Rattle.split_merge.specs.Advances.{AdvancesTo};
+    ghost use Rattle.node_ops.specs.GetSteps.{get_left, get_takes, get_turned};
+
+    /// Tells it in place the number that its action gave. It goes on, or is done where there is an answer.
+    pub(crate) fn advance(&mut self, got: u64) -> Option<Once<Placed>>
+        requires { get_takes self.old got }
+        ensures turned { AdvancesTo (get_turned self.old got) self.new result }
+        ensures fewer { GoesBelow get_left (get_left self.old) (get_turned self.old got) }
+    {
         match self {
-            Get::Looking { lookup } => match lookup.resume(got) {
-                Turn::Go(lookup) => Turn::Go(Get::Looking { lookup }),
-                Turn::Done(Looked::Early(answer)) => Turn::Done(answer),
-                Turn::Done(Looked::Found(found)) => Turn::Go(Get::Unlocking {
-                    call: lookup.call,
-                    hold: found.hold,
-                    old: Hit::value_of(found.hit),
-                }),
+            Get::Looking { lookup } => match lookup.advance(got)? {
+                Looked::Early(answer) => Some(answer),
+                Looked::Found(found) => {
+                    *self = Get::Unlocking {
+                        call: lookup.call,
+                        hold: found.hold,
+                        old: Hit::value_of(found.hit),
+                    };
+                    None
+                }
             },
-            Get::Unlocking { call, hold, old } => Turn::Done(Once::Done(Placed {
-                old,
+            Get::Unlocking { call, hold, old } => Some(Once::Done(Placed {
+                old: *old,
                 place: hold.clock,
                 hops: call.hops,
             })),

@@ -155,56 +155,24 @@ impl Machine for Lookup {
     }
 
     fn resume(self, got: u64) -> Turn<Lookup, Looked> {
-        match self.at {
-            LookupAt::Walk { walk } => match walk.resume(got) {
-                Turn::Go(walk) => self.goes_to(LookupAt::Walk { walk }),
-                Turn::Done(Walked::Again(why)) => Turn::Done(Looked::Early(Once::Again(why))),
-                Turn::Done(Walked::Target(target)) => self.came_to(target),
-            },
-            LookupAt::Lock { seen, locked } => self.tried_lock(seen.version, locked, got),
-            LookupAt::Clock { locked } => self.saw_clock(Hold { locked, clock: got }),
-            LookupAt::Spent { hold } => Turn::Done(Looked::Early(Once::Spent {
-                clock: hold.clock,
-            })),
-            LookupAt::Bitmap { hold } => self.goes_to(LookupAt::Prints {
-                hold,
-                bitmap: got,
-                prints: [0; PRINT_WORDS],
-                at: 0,
-            }),
-            LookupAt::Prints {
-                hold,
-                bitmap,
-                prints,
-                at,
-            } => self.saw_prints(hold, bitmap, prints, at, got),
-            LookupAt::Name {
-                hold,
-                directory,
-                left,
-                slot,
-                at,
-            } => self.saw_name(hold, directory, left, slot, at, got),
-            LookupAt::Value {
-                hold,
-                directory,
-                slot,
-            } => Turn::Done(Looked::Found(Found {
-                hold,
-                directory,
-                hit: Some(Hit { slot, value: got }),
-            })),
+        let mut next = self;
+        match next.advance(got) {
+            None => Turn::Go(next),
+            Some(looked) => Turn::Done(looked),
         }
     }
 }
 
 impl Lookup {
-    ghost use Rattle.std.specs.Prelude.{◌≡◌, ℕ, ◌^◌, ◌<◌, ◌≤◌, IfSome};
+    ghost use Rattle.std.specs.Prelude.{◌≡◌, ℕ, ◌^◌, ◌<◌, ◌≤◌, List, IfSome};
+    ghost use Rattle.pm_words.specs.Turns.{GoesBelow};
+    ghost use Rattle.split_merge.specs.Advances.{AdvancesTo};
     ghost use Rattle.data_node.specs.Slots.{IsLive};
     ghost use Rattle.version_lock.specs.Versions.{generation_of, IsFree};
     ghost use Rattle.node_ops.specs.Calls.{IsCall};
-    ghost use Rattle.node_ops.specs.LookupSteps.{IsLookup, starts, goes_to, came_to, tried_lock, saw_clock, saw_prints};
-    ghost use Rattle.node_ops.specs.LookupSteps.{saw_name, next_candidate};
+    ghost use Rattle.node_ops.specs.LookupSteps.{IsLookup, starts, came_to, tried_lock, saw_clock, saw_prints};
+    ghost use Rattle.node_ops.specs.LookupSteps.{saw_name, next_candidate, walked_on, IsTargetOf, lookup_left, lookup_takes};
+    ghost use Rattle.node_ops.specs.LookupSteps.{lookup_turned};
 
     pub(crate) fn new(call: Call) -> Lookup
         requires { IsCall call }
@@ -219,136 +187,206 @@ impl Lookup {
         }
     }
 
-    /// It goes on there.
-    fn goes_to(self, at: LookupAt) -> Turn<Lookup, Looked>
-        ensures { result ≡ goes_to self.call at }
+    /// Tells it in place the number that its action gave. It goes on, or is done where there is an answer.
+    pub(crate) fn advance(&mut self, got: u64) -> Option<Looked>
+        requires { lookup_takes self.old got }
+        ensures turned { AdvancesTo (lookup_turned self.old got) self.new result }
+        ensures fewer { GoesBelow lookup_left (lookup_left self.old) (lookup_turned self.old got) }
+        ensures call { IfSome result (λ _. self.new.call ≡ self.old.call) }
     {
-        Turn::Go(Lookup { at, ..self })
+        match &mut self.at {
+            LookupAt::Walk { walk } => {
+                let turn = walk.resume(got);
+                self.walked(turn)
+            }
+            LookupAt::Lock { seen, locked } => {
+                let (version, locked) = (seen.version, *locked);
+                self.tried_lock(version, locked, got)
+            }
+            LookupAt::Clock { locked } => {
+                let locked = *locked;
+                self.saw_clock(Hold { locked, clock: got })
+            }
+            LookupAt::Spent { hold } => Some(Looked::Early(Once::Spent { clock: hold.clock })),
+            LookupAt::Bitmap { hold } => {
+                self.at = LookupAt::Prints {
+                    hold: *hold,
+                    bitmap: got,
+                    prints: [0; PRINT_WORDS],
+                    at: 0,
+                };
+                None
+            }
+            LookupAt::Prints { .. } => self.saw_prints(got),
+            LookupAt::Name { .. } => self.saw_name(got),
+            LookupAt::Value {
+                hold,
+                directory,
+                slot,
+            } => Some(Looked::Found(Found {
+                hold: *hold,
+                directory: *directory,
+                hit: Some(Hit {
+                    slot: *slot,
+                    value: got,
+                }),
+            })),
+        }
+    }
+
+    /// After a turn of the walk.
+    fn walked(&mut self, turn: Turn<Walk, Walked>) -> Option<Looked>
+        requires generation { self.old.call.view.generation < 2 ^ 24 }
+        requires target { IsTargetOf self.old.call turn }
+        ensures advances { AdvancesTo (walked_on self.old.call turn) self.new result }
+        ensures call { IfSome result (λ _. self.new.call ≡ self.old.call) }
+    {
+        match turn {
+            Turn::Go(walk) => {
+                self.at = LookupAt::Walk { walk };
+                None
+            }
+            Turn::Done(Walked::Again(why)) => Some(Looked::Early(Once::Again(why))),
+            Turn::Done(Walked::Target(target)) => self.came_to(target),
+        }
     }
 
     /// It is at the node of its name, which it locks next.
-    fn came_to(self, target: Target) -> Turn<Lookup, Looked>
-        requires known { generation_of target.version ≤ self.call.view.generation }
-        requires free { IsFree target.version self.call.view.generation }
-        requires in_range { self.call.view.generation < 2 ^ 24 }
-        ensures { result ≡ came_to self.call target }
+    fn came_to(&mut self, target: Target) -> Option<Looked>
+        requires known { generation_of target.version ≤ self.old.call.view.generation }
+        requires free { IsFree target.version self.old.call.view.generation }
+        requires in_range { self.old.call.view.generation < 2 ^ 24 }
+        ensures advances { AdvancesTo (came_to self.old.call target) self.new result }
+        ensures call { IfSome result (λ _. self.new.call ≡ self.old.call) }
     {
         let Target { node, hops, .. } = target;
         let seen = target.sighting();
-        match locked_of(seen.version, self.call.view.generation) {
-            None => Turn::Done(Looked::Early(Once::Worn {
+        let Some(locked) = locked_of(seen.version, self.call.view.generation) else {
+            return Some(Looked::Early(Once::Worn {
                 node,
                 word: seen.version,
-            })),
-            Some(locked) => Turn::Go(Lookup {
-                call: Call {
-                    node,
-                    hops,
-                    ..self.call
-                },
-                at: LookupAt::Lock { seen, locked },
-            }),
-        }
+            }));
+        };
+        self.call.node = node;
+        self.call.hops = hops;
+        self.at = LookupAt::Lock { seen, locked };
+        None
     }
 
-    fn tried_lock(self, version: u64, locked: u64, found: u64) -> Turn<Lookup, Looked>
-        ensures { result ≡ tried_lock self.call version locked found }
+    fn tried_lock(&mut self, version: u64, locked: u64, found: u64) -> Option<Looked>
+        ensures advances { AdvancesTo (tried_lock self.old.call version locked found) self.new result }
+        ensures call { self.new.call ≡ self.old.call }
     {
         if found == version {
-            return self.goes_to(LookupAt::Clock { locked });
+            self.at = LookupAt::Clock { locked };
+            return None;
         }
-        Turn::Done(Looked::Early(Once::Again(Again::Moved {
+        Some(Looked::Early(Once::Again(Again::Moved {
             node: self.call.node,
             first: version,
             second: found,
         })))
     }
 
-    fn saw_clock(self, hold: Hold) -> Turn<Lookup, Looked>
-        ensures { result ≡ saw_clock self.call hold }
+    fn saw_clock(&mut self, hold: Hold) -> Option<Looked>
+        ensures advances { AdvancesTo (saw_clock self.old.call hold) self.new result }
+        ensures call { self.new.call ≡ self.old.call }
     {
-        match self.call.limit {
-            Some(limit) if hold.clock >= limit => self.goes_to(LookupAt::Spent { hold }),
-            _ => self.goes_to(LookupAt::Bitmap { hold }),
-        }
+        self.at = match self.call.limit {
+            Some(limit) if hold.clock >= limit => LookupAt::Spent { hold },
+            _ => LookupAt::Bitmap { hold },
+        };
+        None
     }
 
-    fn saw_prints(
-        self,
-        hold: Hold,
-        bitmap: u64,
-        prints: [u64; PRINT_WORDS],
-        at: u64,
-        word: u64,
-    ) -> Turn<Lookup, Looked>
-        requires at { at < 8 }
-        requires slots { self.call.view.layout.slots ≤ 64 }
-        ensures { result ≡ saw_prints self.call hold bitmap prints at word }
+    /// Where it loads fingerprints, it has one word more of them, and after the last it knows the candidates.
+    fn saw_prints(&mut self, word: u64) -> Option<Looked>
+        requires here { IsLookup self.old }
+        ensures advances { (hold : Hold) (bitmap : ℕ) (prints : List ℕ) (k : ℕ)
+            → self.old.at ≡ LookupAt.Prints hold bitmap prints k
+            → AdvancesTo (saw_prints self.old.call hold bitmap prints k word) self.new result }
+        ensures call { self.new.call ≡ self.old.call }
     {
-        let mut prints = prints;
+        let LookupAt::Prints {
+            hold,
+            bitmap,
+            at,
+            ..
+        } = self.at
+        else {
+            return None;
+        };
+        let LookupAt::Prints { prints, .. } = &mut self.at else {
+            return None;
+        };
         prints[at as usize] = word;
         if at + 1 < PRINT_WORDS as u64 {
-            return self.goes_to(LookupAt::Prints {
-                hold,
-                bitmap,
-                prints,
-                at: at + 1,
-            });
+            if let LookupAt::Prints { at, .. } = &mut self.at {
+                *at += 1;
+            }
+            return None;
         }
+        let directory = Directory {
+            bitmap,
+            prints: *prints,
+        };
         let slots = self.call.view.layout.slots();
-        let left = candidates(bitmap, &prints, self.call.print, slots);
-        self.next_candidate(hold, Directory { bitmap, prints }, left)
+        let left = candidates(bitmap, &directory.prints, self.call.print, slots);
+        self.next_candidate(hold, directory, left)
     }
 
-    fn saw_name(
-        self,
-        hold: Hold,
-        directory: Directory,
-        left: u64,
-        slot: u64,
-        at: u64,
-        word: u64,
-    ) -> Turn<Lookup, Looked>
-        requires at { at < 3 }
-        requires slot { slot < 64 }
-        ensures { result ≡ saw_name self.call hold directory left slot at word }
+    /// Where it compares names, it has one word more of the slot's.
+    fn saw_name(&mut self, word: u64) -> Option<Looked>
+        requires here { IsLookup self.old }
+        ensures advances { (hold : Hold) (directory : Directory) (left slot k : ℕ)
+            → self.old.at ≡ LookupAt.Name hold directory left slot k
+            → AdvancesTo (saw_name self.old.call hold directory left slot k word) self.new result }
+        ensures call { self.new.call ≡ self.old.call }
     {
+        let LookupAt::Name {
+            hold,
+            directory,
+            left,
+            slot,
+            at,
+        } = self.at
+        else {
+            return None;
+        };
         if word != self.call.name[at as usize] {
             return self.next_candidate(hold, directory, without_live(left, slot));
         }
-        if at + 1 < WORDS as u64 {
-            return self.goes_to(LookupAt::Name {
+        if at + 1 == WORDS as u64 {
+            self.at = LookupAt::Value {
                 hold,
                 directory,
-                left,
                 slot,
-                at: at + 1,
-            });
+            };
+        } else if let LookupAt::Name { at, .. } = &mut self.at {
+            *at += 1;
         }
-        self.goes_to(LookupAt::Value {
-            hold,
-            directory,
-            slot,
-        })
+        None
     }
 
     /// It goes on with the lowest of these slots. Where there is none, no live slot has the name.
-    fn next_candidate(self, hold: Hold, directory: Directory, left: u64) -> Turn<Lookup, Looked>
-        ensures { result ≡ next_candidate self.call hold directory left }
+    fn next_candidate(&mut self, hold: Hold, directory: Directory, left: u64) -> Option<Looked>
+        ensures advances { AdvancesTo (next_candidate self.old.call hold directory left) self.new result }
+        ensures call { self.new.call ≡ self.old.call }
     {
-        match lowest_live(left) {
-            Some(slot) => self.goes_to(LookupAt::Name {
-                hold,
-                directory,
-                left,
-                slot,
-                at: 0,
-            }),
-            None => Turn::Done(Looked::Found(Found {
+        let Some(slot) = lowest_live(left) else {
+            return Some(Looked::Found(Found {
                 hold,
                 directory,
                 hit: None,
-            })),
-        }
+            }));
+        };
+        self.at = LookupAt::Name {
+            hold,
+            directory,
+            left,
+            slot,
+            at: 0,
+        };
+        None
     }
 }

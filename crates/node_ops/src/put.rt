@@ -209,13 +209,9 @@ impl Put {
         ensures fewer { GoesBelow put_left (put_left self.old) (put_turned self.old got) }
     {
         match self {
-            Put::Looking { lookup, value } => match lookup.resume(got) {
-                Turn::Go(next) => {
-                    *lookup = next;
-                    None
-                }
-                Turn::Done(Looked::Early(answer)) => Some(answer),
-                Turn::Done(Looked::Found(found)) => {
+            Put::Looking { lookup, value } => match lookup.advance(got)? {
+                Looked::Early(answer) => Some(answer),
+                Looked::Found(found) => {
                     *self = Put::found(lookup.call, found, *value);
                     None
                 }

@@ -65,21 +65,9 @@ impl Running {
         ensures fewer { GoesBelow running_left (running_left self.old) (running_turned self.old got) }
     {
         match self {
-            Running::Getting(get) => match get.resume(got) {
-                Turn::Go(next) => {
-                    *get = next;
-                    None
-                }
-                Turn::Done(answer) => Some(answer),
-            },
+            Running::Getting(get) => get.advance(got),
             Running::Putting(put) => put.advance(got),
-            Running::Deleting(del) => match del.resume(got) {
-                Turn::Go(next) => {
-                    *del = next;
-                    None
-                }
-                Turn::Done(answer) => Some(answer),
-            },
+            Running::Deleting(del) => del.advance(got),
         }
     }
 
@@ -115,7 +103,8 @@ impl Running {
     {
         match *self {
             Running::Putting(Put::Finishing { finish }) => finish.place(),
-            Running::Deleting(Del::Finishing { finish }) => finish.place(),
+            Running::Deleting(Del::Finishing { finish, .. }) => finish.place(),
+            Running::Deleting(Del::Merging { place, .. }) => Some(place),
             _ => None,
         }
     }
@@ -127,7 +116,7 @@ impl Running {
     {
         match *self {
             Running::Putting(Put::Finishing { finish }) => finish.counts(),
-            Running::Deleting(Del::Finishing { finish }) => finish.counts(),
+            Running::Deleting(Del::Finishing { finish, .. }) => finish.counts(),
             _ => None,
         }
     }

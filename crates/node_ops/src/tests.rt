@@ -8,31 +8,37 @@ use call_stages::{Once, Placed, View};
 use cat_key::Name;
 use pm_words::offsets::{node, volatile};
 use pm_words::{Action, Again, Layout, Machine, Turn};
-use split_merge::SplitAt;
+use split_merge::{MergeAt, SplitAt};
 use std::process::Abort;
 use std::test::Fail;
 use version_lock::{GENERATION_UNIT, LAST_COUNT};
 
 /// The limit of a call that is not to be refused.
-const FAR: u64 = 1 << 62;
+pub(crate) const FAR: u64 = 1 << 62;
 
 /// Words enough for the rows of all tests.
-const ROW: usize = 8000;
+pub(crate) const ROW: usize = 8000;
+
+/// So many stores of a call are noted.
+pub(crate) const STORES: usize = 32;
 
 /// The status of a node that is in use.
 const LIVE: u64 = 1;
 
-/// A row of words on which calls run alone in generation 1, and how many actions were done on it.
+/// A row of words on which calls run alone in generation 1, how many actions were done on it, and the addresses of the
+/// first words that were stored, exchanged or counted.
 #[derive(Drop)]
-struct Row {
-    layout: Layout,
+pub(crate) struct Row {
+    pub(crate) layout: Layout,
     words: Vec<u64>,
-    actions: u64,
+    pub(crate) actions: u64,
+    pub(crate) stores: [u64; STORES],
+    stored: usize,
     ghost in_range: { IsLayout layout },
 }
 
 impl Row {
-    fn new(layout: Layout, words: Vec<u64>) -> Row
+    pub(crate) fn new(layout: Layout, words: Vec<u64>) -> Row
         requires { IsLayout layout }
         ensures { result.layout ≡ layout }
     {
@@ -40,6 +46,27 @@ impl Row {
             layout,
             words,
             actions: 0,
+            stores: [0; STORES],
+            stored: 0,
+        }
+    }
+
+    /// Another call begins.
+    pub(crate) fn begin(&mut self)
+        ensures { self.new.layout ≡ self.old.layout }
+    {
+        self.actions = 0;
+        self.stores = [0; STORES];
+        self.stored = 0;
+    }
+
+    /// A word is stored here.
+    fn note(&mut self, address: u64)
+        ensures { self.new.layout ≡ self.old.layout }
+    {
+        if self.stored < STORES {
+            self.stores[self.stored] = address;
+            self.stored += 1;
         }
     }
 
@@ -56,10 +83,13 @@ impl Row {
         }
     }
 
-    fn act(&mut self, rt: &impl Abort, action: Action) -> u64
+    pub(crate) fn act(&mut self, rt: &impl Abort, action: Action) -> u64
         ensures { self.new.layout ≡ self.old.layout }
     {
         let address = self.address_of(rt, action) as usize;
+        if let Action::Store(..) | Action::Exchange(..) | Action::Add(_) = action {
+            self.note(address as u64);
+        }
         self.actions = self.actions.checked_add(1).expect(rt, "a count of actions");
         assert!(rt; address < self.words.len(), "{action:?}");
         let found = self.words[address];
@@ -85,7 +115,7 @@ impl Row {
 
 impl Row {
     /// A word of a node is as given, in both twins.
-    fn stand(&mut self, rt: &impl Abort, node: u64, offset: u64, word: u64)
+    pub(crate) fn stand(&mut self, rt: &impl Abort, node: u64, offset: u64, word: u64)
         ensures { self.new.layout ≡ self.old.layout }
     {
         let layout = self.layout;
@@ -97,7 +127,7 @@ impl Row {
     }
 
     /// A node is in use, and leads to this one, or to none.
-    fn live(&mut self, rt: &impl Abort, node: u64, next: u64)
+    pub(crate) fn live(&mut self, rt: &impl Abort, node: u64, next: u64)
         ensures { self.new.layout ≡ self.old.layout }
     {
         let layout = self.layout;
@@ -108,17 +138,47 @@ impl Row {
     }
 
     /// The cached and the durable word of a node with this offset.
-    fn twins(&self, rt: &impl Abort, node: u64, offset: u64) -> (u64, u64) {
+    pub(crate) fn twins(&self, rt: &impl Abort, node: u64, offset: u64) -> (u64, u64) {
         assert!(rt; node < self.layout.nodes(), "{node}");
         assert!(rt; offset < 16 + 4 * self.layout.slots(), "{offset}");
-        let word = self.layout.node_word(node, offset);
+        self.both(rt, self.layout.node_word(node, offset))
+    }
+
+    /// Those of a word of a line of caller 0.
+    pub(crate) fn line_twins(&self, rt: &impl Abort, index: u64, offset: u64) -> (u64, u64) {
+        assert!(rt; index < 8 && offset < 8, "{index}");
+        self.both(rt, self.layout.line_word(0, index, offset))
+    }
+
+    /// Those of a word of the image.
+    fn both(&self, rt: &impl Abort, word: u64) -> (u64, u64) {
+        assert!(rt; word < self.layout.image_words(), "{word}");
         let cached = self.layout.cached(word) as usize;
         let durable = self.layout.durable(word) as usize;
         assert!(rt;
             cached < self.words.len() && durable < self.words.len(),
-            "{offset}"
+            "{word}"
         );
         (self.words[cached], self.words[durable])
+    }
+
+    /// A volatile word of a node.
+    pub(crate) fn volatile(&self, rt: &impl Abort, node: u64, offset: u64) -> u64 {
+        assert!(rt; node < self.layout.nodes() && offset < 2, "{node}");
+        let address = self.layout.node_volatile(node, offset) as usize;
+        assert!(rt; address < self.words.len(), "{address}");
+        self.words[address]
+    }
+
+    /// A line of caller 0 has this state.
+    pub(crate) fn mark(&mut self, rt: &impl Abort, index: u64, state: u64)
+        ensures { self.new.layout ≡ self.old.layout }
+    {
+        let layout = self.layout;
+        assert!(rt; index < 8, "{index}");
+        let address = layout.cached(layout.line_word(0, index, 0));
+        self.act(rt, Action::Store(address, state));
+        self.act(rt, Action::Drain(address, state));
     }
 }
 
@@ -132,7 +192,7 @@ fn is_version(layout: &Layout, address: u64) -> bool
 }
 
 /// No version word is of a later run; node 0 is LIVE, with the anchor zero, and leads to no node that there isn't.
-fn tell(rt: &impl Abort, layout: &Layout, action: Action, got: u64)
+pub(crate) fn tell(rt: &impl Abort, layout: &Layout, action: Action, got: u64)
     requires { IsLayout layout.now }
     ensures { Told layout.now 1 action got }
 {
@@ -154,7 +214,7 @@ fn tell(rt: &impl Abort, layout: &Layout, action: Action, got: u64)
     }
 }
 
-/// Looks whether the node that a split is told of is one, where it asked for that.
+/// Looks whether the node that a split or a merge is told of is one, where it asked for that.
 fn see_next(rt: &impl Abort, call: &Running, got: u64)
     requires { IsRunning call.now }
     ensures { running_leads call.now got }
@@ -164,10 +224,15 @@ fn see_next(rt: &impl Abort, call: &Running, got: u64)
             assert!(rt; got < split.view.layout.nodes(), "{got}");
         }
     }
+    if let Running::Deleting(Del::Merging { merge, .. }) = call {
+        if let MergeAt::Next { .. } | MergeAt::Head { count: 2, .. } = merge.at {
+            assert!(rt; got < merge.view.layout.nodes(), "{got}");
+        }
+    }
 }
 
 /// Runs a call to its answer.
-fn run(rt: &impl Abort, row: &mut Row, call: Running) -> Once<Placed>
+pub(crate) fn run(rt: &impl Abort, row: &mut Row, call: Running) -> Once<Placed>
     requires { Sound row.old.layout 1 call }
     ensures { row.new.layout ≡ row.old.layout }
 {
@@ -188,13 +253,13 @@ fn run(rt: &impl Abort, row: &mut Row, call: Running) -> Once<Placed>
 
 /// What a caller asks. The names are of one letter.
 #[derive(Clone, Copy, Debug)]
-enum Ask {
+pub(crate) enum Ask {
     Put { letter: u8, value: u64, limit: u64 },
     Get { letter: u8 },
     Del { letter: u8, limit: u64 },
 }
 
-fn started(rt: &impl Abort, layout: Layout, ask: Ask) -> Running
+pub(crate) fn started(rt: &impl Abort, layout: Layout, ask: Ask) -> Running
     requires { IsLayout layout }
     ensures { Sound layout 1 result }
 {
@@ -225,11 +290,11 @@ fn started(rt: &impl Abort, layout: Layout, ask: Ask) -> Running
     }
 }
 
-fn done(old: Option<u64>, place: u64) -> Once<Placed> {
+pub(crate) fn done(old: Option<u64>, place: u64) -> Once<Placed> {
     done_after(old, place, 0)
 }
 
-fn done_after(old: Option<u64>, place: u64, hops: u64) -> Once<Placed> {
+pub(crate) fn done_after(old: Option<u64>, place: u64, hops: u64) -> Once<Placed> {
     Once::Done(Placed { old, place, hops })
 }
 
@@ -391,7 +456,7 @@ fn sixty_four_slots_take_no_longer(rt: HostRuntime) -> Result<(), Fail> {
                 limit: FAR,
             },
             done(Some(1), 1),
-            40,
+            41,
         ),
     ];
     for (ask, answer, actions) in calls {
@@ -479,7 +544,7 @@ fn calls_on_three_nodes(rt: HostRuntime) -> Result<(), Fail> {
                 limit: FAR,
             },
             done_after(Some(3), 3, 2),
-            walks[2] + 34,
+            walks[2] + 35,
         ),
         (
             Ask::Del {

@@ -23,7 +23,7 @@ tally_in p [] = 0
 tally_in p (x ∷ xs) = one_if (p x) + tally_in p xs
 
 -- how often a number stands there
-abbrev times : ℕ → List ℕ → ℕ
+abbrev pub times : ℕ → List ℕ → ℕ
 times v xs = tally_in (λ x. x == v) xs
 
 -- each comes before the later ones
@@ -32,11 +32,11 @@ Strict before [] = Unit {0}
 Strict before (x ∷ xs) = AllByRecursion (λ y. before x y ≡ true) xs × Strict before xs
 
 -- none comes before an earlier one
-abbrev Rises : (ℕ → ℕ → Bool) → List ℕ → Type 0
+abbrev pub Rises : (ℕ → ℕ → Bool) → List ℕ → Type 0
 Rises before [] = Unit {0}
 Rises before (x ∷ xs) = AllByRecursion (λ y. before y x ≡ false) xs × Rises before xs
 
-all_weaker : (P Q : ℕ → Type 0) → ((x : ℕ) → P x → Q x) → (xs : List ℕ) → AllByRecursion P xs → AllByRecursion Q xs
+pub all_weaker : (P Q : ℕ → Type 0) → ((x : ℕ) → P x → Q x) → (xs : List ℕ) → AllByRecursion P xs → AllByRecursion Q xs
 all_weaker P Q to [] all = tt
 all_weaker P Q to (x ∷ xs) all = (to x all.0, all_weaker P Q to xs all.1)
 
@@ -49,11 +49,11 @@ pub all_from : (P : ℕ → Type 0) (xs : List ℕ) → ((i : ℕ) → i < lengt
 all_from P [] each = tt
 all_from P (x ∷ xs) each = (each 0 (omega arith), all_from P xs (λ i within. each (suc i) (omega arith)))
 
-sum_tally : (p : ℕ → Bool) (xs : List ℕ) → sum_by (λ x. one_if (p x)) xs ≡ tally_in p xs
+pub sum_tally : (p : ℕ → Bool) (xs : List ℕ) → sum_by (λ x. one_if (p x)) xs ≡ tally_in p xs
 sum_tally p [] = refl
 sum_tally p (x ∷ xs) = sum_by-cons (λ k. one_if (p k)) x xs ∙ ap (λ k. one_if (p x) + k) (sum_tally p xs)
 
-tally_push : (p : ℕ → Bool) (xs : List ℕ) (x : ℕ) → tally_in p (xs ++ (x ∷ [])) ≡ one_if (p x) + tally_in p xs
+pub tally_push : (p : ℕ → Bool) (xs : List ℕ) (x : ℕ) → tally_in p (xs ++ (x ∷ [])) ≡ one_if (p x) + tally_in p xs
 tally_push p xs x =
     let all = sum_by_push (λ k. one_if (p k)) xs x in
     let before = sum_tally p xs in
@@ -61,7 +61,7 @@ tally_push p xs x =
     omega arith
 
 -- what holds of all holds of one that stands there
-one_of : (P : ℕ → Type 0) (v : ℕ) (xs : List ℕ) → AllByRecursion P xs → 1 ≤ times v xs → P v
+pub one_of : (P : ℕ → Type 0) (v : ℕ) (xs : List ℕ) → AllByRecursion P xs → 1 ≤ times v xs → P v
 one_of P v [] all some = absurd (omega arith)
 one_of P v (x ∷ xs) all some =
     elim (x == v) as (λ b. (x == v) ≡ b → 1 ≤ one_if b + times v xs → P v) [
@@ -101,7 +101,7 @@ one_order before total (x ∷ xs) (y ∷ ys) up up' same =
         total x y (one_of (λ v. before v y ≡ false) x ys up'.0 (omega arith)) (one_of (λ v. before v x ≡ false) y xs up.0 (omega arith))
 
 -- a slot that is put in counts as one more
-put_tally : (before : ℕ → ℕ → Bool) (p : ℕ → Bool) (x : ℕ) (xs : List ℕ) → tally_in p (put_in before x xs) ≡ one_if (p x) + tally_in p xs
+pub put_tally : (before : ℕ → ℕ → Bool) (p : ℕ → Bool) (x : ℕ) (xs : List ℕ) → tally_in p (put_in before x xs) ≡ one_if (p x) + tally_in p xs
 put_tally before p x [] = refl
 put_tally before p x (y ∷ ys) =
     elim (before x y) as (λ b. tally_in p (cond b (x ∷ y ∷ ys) (y ∷ put_in before x ys)) ≡ one_if (p x) + (one_if (p y) + tally_in p ys)) [
@@ -120,7 +120,7 @@ live_tally bitmap p (suc n) live =
     ap (λ b. tally_in p (cond b (live_slots bitmap n ++ (n ∷ [])) (live_slots bitmap n))) here ∙ tally_push p (live_slots bitmap n) n
     ∙ ap (λ k. one_if (p n) + k) (live_tally bitmap p n (λ slot within. live slot (omega arith)))
 
-put_size : (before : ℕ → ℕ → Bool) (x : ℕ) (xs : List ℕ) → length (put_in before x xs) ≡ suc (length xs)
+pub put_size : (before : ℕ → ℕ → Bool) (x : ℕ) (xs : List ℕ) → length (put_in before x xs) ≡ suc (length xs)
 put_size before x [] = refl
 put_size before x (y ∷ ys) =
     elim (before x y) as (λ b. length (cond b (x ∷ y ∷ ys) (y ∷ put_in before x ys)) ≡ suc (suc (length ys))) [
@@ -132,7 +132,7 @@ pub order_size : (before : ℕ → ℕ → Bool) (n : ℕ) → length (in_order 
 order_size before zero = refl
 order_size before (suc n) = put_size before n (in_order before n) ∙ ap suc (order_size before n)
 
-put_all : (before : ℕ → ℕ → Bool) (P : ℕ → Type 0) (x : ℕ) (xs : List ℕ) → P x → AllByRecursion P xs → AllByRecursion P (put_in before x xs)
+pub put_all : (before : ℕ → ℕ → Bool) (P : ℕ → Type 0) (x : ℕ) (xs : List ℕ) → P x → AllByRecursion P xs → AllByRecursion P (put_in before x xs)
 put_all before P x [] one all = (one, tt)
 put_all before P x (y ∷ ys) one all =
     elim (before x y) as (λ b. AllByRecursion P (cond b (x ∷ y ∷ ys) (y ∷ put_in before x ys))) [
@@ -172,7 +172,7 @@ order_has before n v below =
     (at.0, omega arith, at.2)
 
 module _ (before : ℕ → ℕ → Bool) (total : (x y : ℕ) → before x y ≡ false → before y x ≡ false → x ≡ y) (leads : (x y z : ℕ) → before x y ≡ true → before y z ≡ true → before x z ≡ true) where
-  put_strict : (x : ℕ) (xs : List ℕ) → AllByRecursion (λ y. y < x) xs → Strict before xs → Strict before (put_in before x xs)
+  pub put_strict : (x : ℕ) (xs : List ℕ) → AllByRecursion (λ y. y < x) xs → Strict before xs → Strict before (put_in before x xs)
   put_strict x [] low up = (tt, tt)
   put_strict x (y ∷ ys) low up =
       elim (before x y) as (λ b. before x y ≡ b → Strict before (cond b (x ∷ y ∷ ys) (y ∷ put_in before x ys))) [
@@ -197,7 +197,7 @@ strict_at before (x ∷ xs) up zero (suc j) less within = all_at (λ y. before x
 strict_at before (x ∷ xs) up (suc i) zero less within = absurd (omega arith)
 strict_at before (x ∷ xs) up (suc i) (suc j) less within = strict_at before xs up.1 i j (omega arith) (omega arith)
 
-strict_rises : (before : ℕ → ℕ → Bool) → ((x y : ℕ) → before x y ≡ true → before y x ≡ false) → (xs : List ℕ) → Strict before xs → Rises before xs
+pub strict_rises : (before : ℕ → ℕ → Bool) → ((x y : ℕ) → before x y ≡ true → before y x ≡ false) → (xs : List ℕ) → Strict before xs → Rises before xs
 strict_rises before one_way [] up = tt
 strict_rises before one_way (x ∷ xs) up = (all_weaker (λ y. before x y ≡ true) (λ y. before y x ≡ false) (λ y. one_way x y) xs up.0, strict_rises before one_way xs up.1)
 
@@ -216,10 +216,10 @@ first_pass p (x ∷ xs) (suc half) within low high =
 
 -- the order of slots by their names
 module _ (entries : List (List ℕ)) where
-  abbrev ranks : ℕ → ℕ → Ordering
+  abbrev pub ranks : ℕ → ℕ → Ordering
   ranks x y = ordering_then (slice_cmp nat_cmp (words_in entries x) (words_in entries y)) (nat_cmp x y)
 
-  is_total : IsTotalOrder ranks
+  pub is_total : IsTotalOrder ranks
   is_total = then_total (on_total (words_in entries) nat_list_cmp_total) nat_cmp_total
 
   tied : (o : Ordering) (x y : ℕ) → ordering_then o (nat_cmp x y) ≡ Equal → x ≡ y
@@ -246,7 +246,7 @@ module _ (entries : List (List ℕ)) where
   pub before_one_way : (x y : ℕ) → comes_before entries x y ≡ true → comes_before entries y x ≡ false
   before_one_way x y first = ap is_lt (is_total.antisymm y x ∙ ap ordering_reverse (is_less (ranks x y) first))
 
-  far_rises : (xs : List ℕ) → ((i j : ℕ) → i ≤ j → j < length xs → comes_before entries (slice_index xs j) (slice_index xs i) ≡ false) → Rises (comes_before entries) xs
+  pub far_rises : (xs : List ℕ) → ((i j : ℕ) → i ≤ j → j < length xs → comes_before entries (slice_index xs j) (slice_index xs i) ≡ false) → Rises (comes_before entries) xs
   far_rises [] far = tt
   far_rises (x ∷ xs) far = (
     all_from (λ y. comes_before entries y x ≡ false) xs (λ i within. far 0 (suc i) (omega arith) (omega arith)),

@@ -1,0 +1,141 @@
+-- What a delete is while it merges: it has its place, and no change that isn't counted.
+use Rattle.std.proofs.Common.{◌≡◌, ℕ, false, true, List, Option, Some, None, refl, sym, subst, ap, ◌∙◌}
+use Rattle.call_stages.specs.Stages.{Held, Stage, Idle, Saw, Wears, Holds, Eyes, Splits, Leaves, Meets, Joins, counted, pending_in, placed_in}
+use Rattle.call_stages.specs.Kinds.{IsStill}
+use Rattle.split_merge.specs.declared.uniting.Union.{Union}
+use Rattle.split_merge.specs.declared.joining.JoinAt.{JoinAt}
+use Rattle.split_merge.specs.declared.joining.JoinAt.TheVariants as join_at
+use Rattle.split_merge.specs.declared.merging.Merge.{Merge}
+use Rattle.split_merge.specs.declared.merging.MergeAt.{MergeAt}
+use Rattle.split_merge.specs.declared.merging.MergeAt.TheVariants as merge_at
+use Rattle.split_merge.specs.OfSplits.{StandsFor}
+use Rattle.split_merge.specs.JoinStages.{knowing, join_at_stage}
+use Rattle.split_merge.specs.MergeStages.{merge_at_footing, merge_footing}
+use Rattle.node_ops.specs.declared.call.Call.{Call}
+use Rattle.node_ops.specs.declared.finish.Finish.{Finish}
+use Rattle.node_ops.specs.declared.finish.FinishAt.{FinishAt}
+use Rattle.node_ops.specs.declared.finish.FinishAt.TheVariants as finish_at
+use Rattle.node_ops.specs.DelSteps.{goes_on, merges_at}
+use Rattle.node_ops.specs.CallStages.{has_place, del_stage, finish_stage, finish_at_held}
+use Rattle.node_ops.specs.Asked.{IsAbout}
+use Rattle.node_ops.specs.Endings.{limit_in}
+
+-- The stage is one of the merge of a node that is held as h says: it holds that node alone, or the next one too.
+abbrev pub IsOfMerge : Held → Stage → Type 0
+IsOfMerge h (Holds n w k) = StandsFor h k
+IsOfMerge h (Eyes n w k m v u free) = StandsFor h k
+IsOfMerge h (Meets n w k right) = StandsFor h k
+IsOfMerge h (Joins k left right pace) = StandsFor h k
+IsOfMerge h _ = ⊥
+
+-- what is known beside makes no difference
+stands_knowing : (h : Held) (seen dirty : List (ℕ × ℕ)) (hand : Option (ℕ × ℕ)) → StandsFor h (knowing seen dirty hand h)
+stands_knowing h seen dirty hand = record { name = refl; limit = refl; old = refl; pending = refl; ready = refl; placed = refl }
+
+joins_of_merge : (h : Held) (union : Union) (at : JoinAt) → IsStill h → IsOfMerge h (join_at_stage h union at)
+joins_of_merge h union (join_at.Open machine) is = stands_knowing h _ _ _
+joins_of_merge h union (join_at.Load left word) is = stands_knowing h _ _ _
+joins_of_merge h union (join_at.Copy left word value) is = stands_knowing h _ _ _
+joins_of_merge h union (join_at.Print word) is = stands_knowing h _ _ _
+joins_of_merge h union (join_at.FenceCopies first fence) is = stands_knowing h _ _ _
+joins_of_merge h union join_at.Bitmap is = stands_knowing h _ _ _
+joins_of_merge h union (join_at.FenceBitmap fence) is = stands_knowing h _ _ _
+joins_of_merge h union join_at.Switch is = stands_knowing h _ _ _
+joins_of_merge h union (join_at.FenceSwitch fence) is = stands_knowing h _ _ _
+joins_of_merge h union join_at.Retire is = stands_knowing h _ _ _
+joins_of_merge h union join_at.Prev is = stands_knowing h _ _ _
+joins_of_merge h union join_at.NextPrev is = stands_knowing h _ _ _
+joins_of_merge h union (join_at.Ready ready) is = stands_knowing h _ _ _
+joins_of_merge h union join_at.Clear is = stands_knowing h _ _ _
+joins_of_merge h union join_at.UnlockRight is = stands_knowing h _ _ _
+joins_of_merge h union join_at.Unlock is = record { name = refl; limit = refl; old = refl; pending = sym is.pending; ready = sym is.ready; placed = refl }
+
+pub of_merge : (h : Held) (merge : Merge) → IsStill h → IsOfMerge h (merge_footing h merge).stage
+of_merge h merge is = at merge.at
+  where
+    at : (at : MergeAt) → IsOfMerge h (merge_at_footing h merge at).stage
+    at merge_at.Bitmap = record { name = refl; limit = refl; old = refl; pending = refl; ready = refl; placed = refl }
+    at (merge_at.Next own) = stands_knowing h _ _ _
+    at (merge_at.Version near) = stands_knowing h _ _ _
+    at (merge_at.Lock near version locked) = stands_knowing h _ _ _
+    at (merge_at.Head near locked head count) = stands_knowing h _ _ _
+    at (merge_at.Prints near locked head prints count) = stands_knowing h _ _ _
+    at (merge_at.Join join) = joins_of_merge h join.union join.at is
+    at (merge_at.Part near locked bitmap) = stands_knowing h _ _ _
+    at (merge_at.Leave near) = stands_knowing h _ _ _
+
+-- it has the place and the limit of its call,
+pub merge_placed : (h : Held) (s : Stage) → IsOfMerge h s → placed_in s ≡ h.placed
+merge_placed h (Holds n w k) is = is.placed
+merge_placed h (Eyes n w k m v u free) is = is.placed
+merge_placed h (Meets n w k right) is = is.placed
+merge_placed h (Joins k left right pace) is = is.placed
+merge_placed h Idle is = absurd is
+merge_placed h (Saw n v w k) is = absurd is
+merge_placed h (Wears n v) is = absurd is
+merge_placed h (Splits left fresh phase) is = absurd is
+merge_placed h (Leaves left) is = absurd is
+
+pub merge_limited : (h : Held) (s : Stage) → IsOfMerge h s → limit_in s ≡ h.limit
+merge_limited h (Holds n w k) is = is.limit
+merge_limited h (Eyes n w k m v u free) is = is.limit
+merge_limited h (Meets n w k right) is = is.limit
+merge_limited h (Joins k left right pace) is = is.limit
+merge_limited h Idle is = absurd is
+merge_limited h (Saw n v w k) is = absurd is
+merge_limited h (Wears n v) is = absurd is
+merge_limited h (Splits left fresh phase) is = absurd is
+merge_limited h (Leaves left) is = absurd is
+
+-- nothing to count,
+pub merge_uncounted : (h : Held) (s : Stage) → IsStill h → IsOfMerge h s → counted s ≡ None
+merge_uncounted h (Holds n w k) still is = subst (λ b. elim b [ true ↦ k.pending | false ↦ None ] ≡ None) (sym (is.ready ∙ still.ready)) refl
+merge_uncounted h (Eyes n w k m v u free) still is = refl
+merge_uncounted h (Meets n w k right) still is = refl
+merge_uncounted h (Joins k left right pace) still is = refl
+merge_uncounted h Idle still is = absurd is
+merge_uncounted h (Saw n v w k) still is = absurd is
+merge_uncounted h (Wears n v) still is = absurd is
+merge_uncounted h (Splits left fresh phase) still is = absurd is
+merge_uncounted h (Leaves left) still is = absurd is
+
+-- no change that its node shows,
+pub merge_unpending : (h : Held) (s : Stage) → IsStill h → IsOfMerge h s → pending_in s ≡ None
+merge_unpending h (Holds n w k) still is = is.pending ∙ still.pending
+merge_unpending h (Eyes n w k m v u free) still is = refl
+merge_unpending h (Meets n w k right) still is = refl
+merge_unpending h (Joins k left right pace) still is = refl
+merge_unpending h Idle still is = absurd is
+merge_unpending h (Saw n v w k) still is = absurd is
+merge_unpending h (Wears n v) still is = absurd is
+merge_unpending h (Splits left fresh phase) still is = absurd is
+merge_unpending h (Leaves left) still is = absurd is
+
+-- and what it holds it holds for its name
+pub merge_about : (h : Held) (s : Stage) → IsOfMerge h s → IsAbout h.name s
+merge_about h (Holds n w k) is = is.name
+merge_about h (Eyes n w k m v u free) is = is.name
+merge_about h (Meets n w k right) is = is.name
+merge_about h (Joins k left right pace) is = is.name
+merge_about h Idle is = absurd is
+merge_about h (Saw n v w k) is = absurd is
+merge_about h (Wears n v) is = absurd is
+merge_about h (Splits left fresh phase) is = absurd is
+merge_about h (Leaves left) is = absurd is
+
+-- once its change has its place
+pub placed_still : (call : Call) (old : Option ℕ) (place : ℕ) → IsStill (has_place call old place)
+placed_still call old place = record { pending = refl; ready = refl }
+
+pub merging_stage : (call : Call) (old : Option ℕ) (place : ℕ) (merge : Merge) → IsOfMerge (has_place call old place) (merge_footing (has_place call old place) merge).stage
+merging_stage call old place merge = of_merge (has_place call old place) merge (placed_still call old place)
+
+-- with a line or without, the end of a write stands as it does alone
+pub goes_on_stage : (finish : Finish) (line : Option ℕ) → del_stage (goes_on finish line) ≡ finish_stage finish
+goes_on_stage finish None = refl
+goes_on_stage finish (Some number) = at finish.at refl
+  where
+    at : (at : FinishAt) → finish.at ≡ at → del_stage (merges_at finish number at) ≡ finish_stage finish
+    at (finish_at.Fence first fence) is = refl
+    at finish_at.Add is = refl
+    at (finish_at.Unlock place) is = ap (λ (at : FinishAt). Holds finish.call.node finish.hold.locked (finish_at_held finish at)) (sym is)

@@ -1,0 +1,89 @@
+-- Steps on nodes alone, of a call that has a log line or none and owes nothing; and what is known of the name's slot.
+use Rattle.std.proofs.Common.{◌≡◌, ℕ, ◌++◌, Option, Some, None, inl, length, refl, sym, subst, ap, ◌∙◌}
+use Rattle.cat_key.specs.Names.{words_of}
+use Rattle.cat_key.proofs.Packing.{length-words_of}
+use Rattle.pm_words.specs.declared.layout.Layout.{Layout}
+use Rattle.pm_words.specs.declared.action.Action.{Action}
+use Rattle.pm_words.specs.declared.machine.Turn.{Turn}
+use Rattle.data_node.specs.Slots.{IsLive}
+use Rattle.data_node.specs.Spots.{Spot, slot_offset, IsLiveIn, name_words}
+use Rattle.call_stages.specs.declared.once.Once.{Once}
+use Rattle.call_stages.specs.declared.once.Placed.{Placed}
+use Rattle.call_stages.specs.Stages.{Knows, Stage, Idle, Saw, Wears, Holds, Eyes, Splits, Leaves, Meets, Joins, IsLoose}
+use Rattle.call_stages.specs.Prevs.{no_debt, Deals, keeps}
+use Rattle.call_stages.specs.Footings.{Footing, FootStep, on_nodes}
+use Rattle.data_list.specs.WalkStages.{walk_stage}
+use Rattle.data_list.proofs.WalkLaw.{walk_loose}
+use Rattle.node_ops.specs.declared.lookup.LookupAt.{LookupAt}
+use Rattle.node_ops.specs.declared.lookup.LookupAt.TheVariants as look
+use Rattle.call_stages.specs.Kinds.{Step}
+use Rattle.node_ops.specs.declared.call.Call.{Call}
+use Rattle.node_ops.specs.declared.lookup.Hit.{Hit}
+use Rattle.node_ops.specs.declared.lookup.Found.{Found}
+use Rattle.node_ops.specs.declared.running.Running.{Running}
+use Rattle.node_ops.specs.Calls.{IsCall, name_in}
+use Rattle.call_stages.specs.Lines.{HeldLine}
+use Rattle.node_ops.specs.CallStages.{words_from, seen_hit, stage_after, reply_of, lookup_at_stage, footing_after}
+use Rattle.node_ops.proofs.SeenLemmas.{Seen, Stand, seen_back, stand_whole, name_stands}
+use Rattle.node_ops.proofs.LookupLaw.{hit_words, found_known}
+
+-- the name in the slot that has it
+pub hit_words_known : (s : Spot) (call : Call) (bitmap : ℕ) (hit : Hit) → IsCall call → Seen s (seen_hit call bitmap (Some hit)) → IsLive bitmap hit.slot
+    → IsLiveIn s hit.slot × (name_words s hit.slot ≡ words_of (name_in call))
+hit_words_known s call bitmap hit sound seen live =
+    let three : length call.name ≡ 3 = sym (ap length sound.packed.whole) ∙ length-words_of (name_in call) in (
+      subst (λ b. IsLive b hit.slot) (sym seen.0) live,
+      name_stands s hit.slot call.name three (subst (Stand s (slot_offset hit.slot 0) call.name) three (stand_whole s (slot_offset hit.slot 0) call.name seen.1)) ∙ sym sound.packed.whole,
+    )
+
+-- a part of what is known once the name is looked up
+pub part_hit : (s : Spot) (call : Call) (found : Found) → Knows (name_in call) (found_known call found) s → Seen s (seen_hit call found.directory.bitmap found.hit)
+part_hit s call found known =
+    elim found.hit as (λ hit. Seen s (words_from 8 found.directory.prints ++ hit_words call hit) → Seen s (seen_hit call found.directory.bitmap hit)) [
+      | None ↦ λ seen. (known.seen.0, tt)
+      | Some hit ↦ λ seen. (known.seen.0, seen_back s (words_from 8 found.directory.prints) (words_from (slot_offset hit.slot 0) call.name) seen)
+    ] known.seen.1
+
+-- a step on nodes of a call that has this line, if any, and no debt
+abbrev pub Plain : Layout → ℕ → ℕ → Option HeldLine → Stage → Action → ℕ → Turn Running (Once Placed) → Type 0
+Plain l g c line stage action x turn = FootStep l g c (record { stage = stage; line = line; debt = no_debt }) action x (footing_after turn) (reply_of turn)
+
+-- the stage of a call that holds one node at most
+abbrev pub IsSingle : Stage → Type 0
+IsSingle (Splits left fresh phase) = ⊥
+IsSingle (Joins h left right pace) = ⊥
+IsSingle _ = Unit {0}
+
+pub single_deals : (s t : Stage) → IsSingle s → Deals s t no_debt no_debt
+single_deals s t single = keeps (λ q. subst IsSingle q.was single) (λ q. subst IsSingle q.was single) (λ q. absurd (subst IsSingle q.was single)) tt tt
+
+-- what it goes on with has the same line, and no debt
+abbrev pub IsPlainAfter : Option HeldLine → Turn Running (Once Placed) → Type 0
+IsPlainAfter line turn = footing_after turn ≡ record { stage = stage_after turn; line = line; debt = no_debt }
+
+pub plain : (l : Layout) (g c : ℕ) (line : Option HeldLine) (s : Stage) (action : Action) (x : ℕ) (turn : Turn Running (Once Placed)) → IsSingle s → IsPlainAfter line turn
+    → Step l g s action x (stage_after turn) (reply_of turn) → Plain l g c line s action x turn
+plain l g c line s action x turn single after step =
+    subst (λ (f : Footing). FootStep l g c (record { stage = s; line = line; debt = no_debt }) action x f (reply_of turn)) (sym after)
+    (on_nodes (inl refl) step (single_deals s (stage_after turn) single))
+
+pub loose_single : (s : Stage) → IsLoose s → IsSingle s
+loose_single Idle loose = tt
+loose_single (Saw n v w k) loose = tt
+loose_single (Wears n v) loose = tt
+loose_single (Holds n w h) loose = tt
+loose_single (Eyes n w h m v u free) loose = tt
+loose_single (Splits left fresh phase) loose = absurd loose
+loose_single (Leaves left) loose = tt
+loose_single (Meets n w h right) loose = tt
+loose_single (Joins h left right pace) loose = absurd loose
+
+pub looks_single : (call : Call) (at : LookupAt) → IsSingle (lookup_at_stage call at)
+looks_single call (look.Walk walk) = loose_single (walk_stage walk) (walk_loose walk.generation walk.node walk.at)
+looks_single call (look.Lock seen locked) = tt
+looks_single call (look.Clock locked) = tt
+looks_single call (look.Spent hold) = tt
+looks_single call (look.Bitmap hold) = tt
+looks_single call (look.Prints hold bitmap prints k) = tt
+looks_single call (look.Name hold directory left slot k) = tt
+looks_single call (look.Value hold directory slot) = tt
