@@ -4,9 +4,12 @@ pub mod FinishSteps
 pub mod FillSteps
 pub mod GetSteps
 pub mod PutSteps
+pub mod PartSteps
 pub mod DelSteps
+pub mod DelEvents
 pub mod RunningSteps
 pub mod CallStages
+pub mod Parts
 pub mod Asked
 pub mod Endings
 pub mod Landings

@@ -72,3 +72,35 @@ ghost use Rattle.node_ops.specs.Landings.{TurnsLand};
 pub fn landing_law()
     ensures { TurnsLand }
 {}
+
+ghost use Rattle.node_ops.specs.DelEvents.{DelsHeed};
+
+/// A delete is answered that the log is full only where it was told that none of its caller's lines was EMPTY.
+pub fn deletes_heed()
+    ensures { DelsHeed }
+{}
+
+ghost use Rattle.node_ops.specs.Parts.{PartsAreSteps, PartsStay, PartTells, PartsHear};
+ghost use Rattle.node_ops.specs.Parts.{PartsSeeBehind, PartsKeepBehind, PartsAreRanges};
+
+/// Each turn of a part of a range scan, whatever number it is told, is a step of a get of its low name, with the answer
+/// of that get, and leaves a part of the same index.
+pub fn parts_are_steps()
+    ensures steps { PartsAreSteps }
+    ensures stay { PartsStay }
+{}
+
+/// A part that is answered lists the first names of its node's range from the low one on, with their numbers, as the
+/// map has them and as it had them at the part's place, and tells the node, the hops and the version word of its call.
+pub fn parts_tell()
+    ensures tells { PartTells }
+    ensures hears { PartsHear }
+{}
+
+/// A part has the next node as its walk saw it, from the turn on that takes the lock. As long as that is the next node,
+/// the names of the node's range from the low one on are those below the anchor that the part tells.
+pub fn parts_end_at_next()
+    ensures sees { PartsSeeBehind }
+    ensures keeps { PartsKeepBehind }
+    ensures ranges { PartsAreRanges }
+{}

@@ -1,0 +1,147 @@
+-- Where the range of a part ends: at the anchor of the next node, which its walk saw.
+use Rattle.std.proofs.Common.{◌≡◌, ◌≢◌, ℕ, ◌≤◌, ltb, true, false, not, ◌&&◌, Option, Some, None, IfSome, List, [], ◌∷◌, map, inl, inr, refl, sym, subst, ap, ◌∙◌, arith}
+use Rattle.std.specs.FinMap.{entries}
+use Rattle.std.specs.List.{AllByRecursion}
+use Rattle.std.proofs.lemmas.Bool.{eqb-true, eq-eqb, ltb-true, ltb-false}
+use Rattle.pm_words.specs.declared.layout.Layout.{Layout}
+use Rattle.pm_words.specs.declared.machine.Turn.{Turn}
+use Rattle.pm_words.specs.declared.machine.Turn.TheVariants.{Go, Done}
+use Rattle.cat_key.specs.Names.{IsName, AreNameWords}
+use Rattle.cat_history.specs.Scans.{is_below, is_under, is_between}
+use Rattle.data_node.specs.Spots.{Spot}
+use Rattle.data_node.specs.Lists.{ListNode, IsMember, IsChain, IsBetween, next_offset, key_of, number_of, anchor_in, anchor_words, target_from}
+use Rattle.data_node.proofs.KeyLemmas.{key-number, anchor-number, named_anchor}
+use Rattle.data_node.proofs.ListLemmas.{between_target, target_between, chain_closed}
+use Rattle.data_list.specs.declared.target.Next.{Next}
+use Rattle.data_list.specs.declared.target.Sighting.{Sighting}
+use Rattle.data_list.specs.Keys.{IsNameOf, key_words, words_in, name_kept}
+use Rattle.data_list.specs.Walks.{high_of}
+use Rattle.data_list.specs.WalkStages.{sight_in, leads_on}
+use Rattle.data_list.proofs.KeyLemmas.{name_kept_so}
+use Rattle.shapes.proofs.NameLists.{all_by, filter-alike}
+use Rattle.index_law.specs.Facts.{Facts, range_of, IsListed}
+use Rattle.index_law.specs.Lawful.{IsList, Stands, SureSaw, Sure}
+use Rattle.index_law.proofs.AnchorTexts.{key-order, named-text}
+use Rattle.index_law.proofs.Cutting.{all-named}
+use Rattle.index_law.proofs.Switch.{rise_from}
+use Rattle.call_stages.specs.declared.once.Once.{Once}
+use Rattle.node_ops.specs.declared.call.Call.{Call}
+use Rattle.node_ops.specs.declared.lookup.Looked.{Looked}
+use Rattle.node_ops.specs.declared.lookup.Looked.TheVariants as looked
+use Rattle.node_ops.specs.declared.lookup.Lookup.{Lookup}
+use Rattle.node_ops.specs.declared.lookup.LookupAt.{LookupAt}
+use Rattle.node_ops.specs.declared.part.PartWords.{PartWords}
+use Rattle.node_ops.specs.declared.part.Reading.{Reading}
+use Rattle.node_ops.specs.declared.part.ReadingAt.{ReadingAt}
+use Rattle.node_ops.specs.declared.part.ReadingAt.TheVariants as at
+use Rattle.node_ops.specs.declared.part.Part.{Part}
+use Rattle.node_ops.specs.declared.part.Part.TheVariants as part
+use Rattle.node_ops.specs.LookupSteps.{lookup_turned, IsLookupAt}
+use Rattle.node_ops.specs.CallStages.{lookup_at_stage}
+use Rattle.node_ops.specs.PartSteps.{part_behind, behind_of, part_looked, reading_turned}
+use Rattle.node_ops.specs.Parts.{from_name, IsBehind, HaveWords, PartsSeeBehind, PartsKeepBehind, PartsAreRanges}
+
+-- the anchor of a node behind is that of a name
+named_member : (now : ℕ → Spot) (here : ℕ) (list : List ListNode) → IsChain now here list → AllByRecursion (λ (m : ListNode). (name : List ℕ) × IsName name × (m.anchor ≡ key_of name)) list
+    → (n : ℕ) → IsMember list n → (name : List ℕ) × IsName name × (anchor_in (now n) ≡ key_of name)
+named_member now here [] chain named n among = absurd among
+named_member now here (m ∷ behind) chain named n (inl e) = (named.0.0, named.0.1, ap (λ k. anchor_in (now k)) e ∙ chain.2 ∙ named.0.2)
+named_member now here (m ∷ behind) chain named n (inr among) = named_member now m.node behind chain.3 named.1 n among
+
+module _ (l : Layout) (f : Facts) (list : IsList l f) (n : ℕ) where
+  -- the names of a listed node's range are those between its anchor and the next one
+  between_of : (name : List ℕ) → range_of l f n name ≡ true → IsBetween (f.now n) (f.now (f.now n next_offset)) (key_of name)
+  between_of name inside =
+      target_between f.now 0 f.list list.chain (key_of name) n (let lowest = list.lowest in omega arith) (eqb-true (target_from 0 f.list (key_of name)) n inside)
+
+  of_between : IsListed f n → (name : List ℕ) → IsBetween (f.now n) (f.now (f.now n next_offset)) (key_of name) → range_of l f n name ≡ true
+  of_between listed name between = eq-eqb (target_from 0 f.list (key_of name)) n (between_target f.now 0 f.list list.chain (rise_from l f list) n (key_of name) listed between)
+
+  module _ (fits : HaveWords f) (listed : IsListed f n) (low : List ℕ) (named_low : IsName low) (inside : range_of l f n low ≡ true) (name : List ℕ) (named : IsName name) where
+    order : is_below name low ≡ ltb (key_of name) (key_of low)
+    order = key-order name low (named-text name named) (named-text low named_low)
+
+    -- of the names from the low one on those below the end
+    upper : (behind : Option Next) → IsBehind f n behind → key_of low ≤ key_of name → (range_of l f n name && true) ≡ is_under (high_of behind) name
+    upper None none above =
+        let least = (between_of low inside).low in
+        ap (λ b. b && true) (of_between listed name (record { low = omega arith; high = λ some. absurd (some none) }))
+    upper (Some next) leads above =
+        let least = (between_of low inside).low in
+        let some : f.now n next_offset ≢ 0 = λ none. leads.1 (sym leads.0 ∙ none) in
+        let member : IsMember f.list next.node = subst (IsMember f.list) leads.0 (chain_closed f.now 0 f.list list.chain n listed some) in
+        let anchor = named_member f.now 0 f.list list.chain list.named next.node member in
+        let are : AreNameWords (words_in (key_words next.anchor)) = subst AreNameWords leads.2 (named_anchor (f.now next.node) anchor.0 (fits next.node) anchor.1 anchor.2) in
+        let there : anchor_in (f.now (f.now n next_offset)) ≡ anchor_in (f.now next.node) = ap (λ k. anchor_in (f.now k)) leads.0 in
+        elim (name_kept (key_words next.anchor)) as (λ o. IsNameOf (words_in (key_words next.anchor)) o → (range_of l f n name && true) ≡ is_under o name) [
+          | None ↦ λ is. absurd (let clash : false ≡ true = is.some.1 are in cc)
+          | Some high ↦ λ is.
+              let key : key_of high ≡ anchor_in (f.now next.node) = key-number high ∙ ap number_of (is.whole ∙ sym leads.2) ∙ sym (anchor-number (f.now next.node)) in
+              let under : is_below name high ≡ ltb (key_of name) (key_of high) = key-order name high (named-text name named) (named-text high is.named) in
+              elim (ltb (key_of name) (key_of high)) as (λ b. ltb (key_of name) (key_of high) ≡ b → (range_of l f n name && true) ≡ b) [
+                | true ↦ λ less. let short = ltb-true (key_of name) (key_of high) less in ap (λ b. b && true) (of_between listed name (record { low = omega arith; high = λ _. omega arith }))
+                | false ↦ λ more. elim (range_of l f n name) as (λ b. range_of l f n name ≡ b → (b && true) ≡ false) [
+                  | true ↦ λ in_range. let long = ltb-false (key_of name) (key_of high) more in let short = (between_of name in_range).high some in absurd (omega arith)
+                  | false ↦ λ _. refl
+                ] refl
+              ] refl ∙ sym under
+        ] (name_kept_so (key_words next.anchor))
+
+    bounds : (behind : Option Next) → IsBehind f n behind → from_name (range_of l f n) low name ≡ is_between low (high_of behind) name
+    bounds behind is =
+        elim (is_below name low) as (λ b. is_below name low ≡ b → (range_of l f n name && not b) ≡ (not b && is_under (high_of behind) name)) [
+          | true ↦ λ _. elim (range_of l f n name) as (λ b. (b && false) ≡ false) [ true ↦ refl | false ↦ refl ]
+          | false ↦ λ from. upper behind is (ltb-false (key_of name) (key_of low) (sym order ∙ from))
+        ] refl
+
+-- what holds of the keys holds of the entries by their keys
+all_keys : (P : List ℕ → Type 0) (es : List (List ℕ × ℕ)) → AllByRecursion P (map (λ (e : List ℕ × ℕ). e.0) es) → AllByRecursion (λ (e : List ℕ × ℕ). P e.0) es
+all_keys P [] all = tt
+all_keys P (e ∷ es) all = (all.0, all_keys P es all.1)
+
+pub parts_are_ranges : PartsAreRanges
+parts_are_ranges l f n behind low m list fits listed leads named_low inside named =
+    ap (map (λ (e : List ℕ × ℕ). record { name = e.0; value = e.1 }))
+    (filter-alike (λ (e : List ℕ × ℕ). from_name (range_of l f n) low e.0) (λ (e : List ℕ × ℕ). is_between low (high_of behind) e.0) (entries m)
+    (all_by (λ (e : List ℕ × ℕ). IsName e.0) (λ (e : List ℕ × ℕ). from_name (range_of l f n) low e.0 ≡ is_between low (high_of behind) e.0)
+    (λ e is_name. bounds l f list n fits listed low named_low inside e.0 is_name behind leads) (entries m) (all_keys IsName (entries m) (all-named m named))))
+
+-- the next node after a turn
+abbrev behind_after : Turn Part (Once PartWords) → Option Next → Option Next
+behind_after (Go next) other = part_behind next
+behind_after (Done answer) other = other
+
+looked_keeps : (call : Call) (count : ℕ) (behind : Option Next) (turn : Turn Lookup Looked) (next : Part) → part_looked call count behind turn ≡ Go next → part_behind next ≡ behind
+looked_keeps call count behind (Go lookup) next is = sym (ap (λ (turn : Turn Part (Once PartWords)). behind_after turn behind) is)
+looked_keeps call count behind (Done (looked.Early answer)) next is = absurd (cc)
+looked_keeps call count behind (Done (looked.Found found)) next is = sym (ap (λ (turn : Turn Part (Once PartWords)). behind_after turn behind) is)
+
+reading_keeps : (reading : Reading) (at : ReadingAt) (x : ℕ) (next : Part) → reading_turned reading at x ≡ Go next → part_behind next ≡ reading.behind
+reading_keeps reading (at.Load slot word) x next is = sym (ap (λ (turn : Turn Part (Once PartWords)). behind_after turn reading.behind) is)
+reading_keeps reading at.Unlock x next is = absurd (cc)
+
+pub parts_keep_behind : PartsKeepBehind
+parts_keep_behind (part.Looking lookup count behind) next x is = looked_keeps lookup.call count (behind_of lookup.at behind) (lookup_turned lookup x) next is
+parts_keep_behind (part.Reading reading) next x is = reading_keeps reading reading.at x next is
+
+-- what it saw stands at the lock
+sees_behind : (f : Facts) (n : ℕ) (seen : Sighting) → IfSome seen.next (λ next. next.node ≢ 0) → Stands f n (sight_in seen) → IsBehind f n seen.next
+sees_behind f n seen leads stands =
+    elim seen.next as (λ o. IfSome o (λ next. next.node ≢ 0) → Stands f n (leads_on (key_words seen.low) o) → IsBehind f n o) [
+      | None ↦ λ _ is. is.sees.seen.0
+      | Some next ↦ λ some is.
+          let to : f.now n next_offset ≡ next.node = is.sees.seen.0 in
+          let beyond = is.sees.beyond some in
+          let a = beyond.0.2 in
+          let b = beyond.1.0.2 in
+          let c = beyond.1.1.0.2 in
+          (to, some, subst (λ k. anchor_words (f.now k) ≡ words_in (key_words next.anchor)) to (λ i. a i ∷ b i ∷ c i ∷ []))
+    ] leads stands
+
+pub parts_see_behind : PartsSeeBehind
+parts_see_behind l g f caller index since lookup count behind seen locked next sound knows is now goes =
+    let here = subst (IsLookupAt lookup.call) is sound.here.here in
+    let sure : SureSaw l g f lookup.call.node seen.version locked (sight_in seen) = subst (λ (at : LookupAt). Sure l g f caller index since (lookup_at_stage lookup.call at)) is knows in
+    let stands = sure.stands now in
+    let kept : part_behind next ≡ seen.next = parts_keep_behind (part.Looking lookup count behind) next seen.version goes ∙ ap (λ (at : LookupAt). behind_of at behind) is in
+    (stands.listed here.is.live, subst (IsBehind f lookup.call.node) (sym kept) (sees_behind f lookup.call.node seen here.leads stands))

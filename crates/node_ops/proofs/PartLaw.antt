@@ -1,0 +1,262 @@
+-- Each turn of a part of a range scan is a step of a get of its low name, and leaves it sound.
+use Rattle.std.proofs.Common.{◌≡◌, ◌≢◌, ℕ, zero, suc, ◌+◌, ◌-◌, ◌<◌, ◌≤◌, ◌==◌, ltb, true, false, cond, Option, Some, None, List, [], ◌∷◌, length, get_or, set, inl, inr, refl, sym, subst, ap, ◌∙◌, arith}
+use Rattle.std.specs.Int.{bit_at}
+use Rattle.std.proofs.lemmas.Bool.{cases_eq, eqb-true, eq-eqb, ltb-true, ltb-false}
+use Rattle.std.proofs.lemmas.List.{get_or-set_same, get_or-set_other, get_or-replicate, get_or_default, length-set, length-replicate}
+use Rattle.pm_words.specs.declared.layout.Layout.{Layout}
+use Rattle.pm_words.specs.declared.action.Action.{Action}
+use Rattle.pm_words.specs.declared.action.Action.TheVariants.{Load}
+use Rattle.pm_words.specs.declared.machine.Turn.{Turn}
+use Rattle.pm_words.specs.declared.machine.Turn.TheVariants.{Go, Done}
+use Rattle.data_node.specs.Slots.{IsLive}
+use Rattle.data_node.specs.Spots.{Spot, bitmap_offset, slot_offset}
+use Rattle.data_list.specs.declared.target.Next.{Next}
+use Rattle.call_stages.specs.declared.once.Once.{Once}
+use Rattle.call_stages.specs.declared.once.Once.TheVariants as once
+use Rattle.call_stages.specs.declared.once.Placed.{Placed}
+use Rattle.call_stages.specs.Stages.{Stage, Idle, Holds}
+use Rattle.call_stages.specs.Kinds.{Told, Step, looks, learns, unlocks, reads}
+use Rattle.node_ops.specs.declared.call.Call.{Call}
+use Rattle.node_ops.specs.declared.lookup.Found.{Found}
+use Rattle.node_ops.specs.declared.lookup.Looked.{Looked}
+use Rattle.node_ops.specs.declared.lookup.Looked.TheVariants as looked
+use Rattle.node_ops.specs.declared.lookup.Lookup.{Lookup}
+use Rattle.node_ops.specs.declared.part.PartWords.{PartWords}
+use Rattle.node_ops.specs.declared.part.Reading.{Reading}
+use Rattle.node_ops.specs.declared.part.ReadingAt.{ReadingAt}
+use Rattle.node_ops.specs.declared.part.ReadingAt.TheVariants as at
+use Rattle.node_ops.specs.declared.part.Part.{Part}
+use Rattle.node_ops.specs.declared.part.Part.TheVariants as part
+use Rattle.node_ops.specs.Calls.{IsCall, call_address}
+use Rattle.node_ops.specs.CallStages.{knows, decided}
+use Rattle.node_ops.specs.LookupSteps.{IsFoundBy, lookup_turned}
+use Rattle.node_ops.specs.PartSteps.{no_entry, no_entries, entry_in, with_word, load_from, next_at, behind_of, part_found, early_of, part_looked, after_at, after_word, part_call, reading_at_asks, part_asks, reading_turned, part_turned, IsReadingAt, IsReading, IsPart}
+use Rattle.node_ops.specs.Parts.{words_loaded, slots_loaded, loaded_at, reading_stage, part_stage, stage_after_part, placed_of, placed_after, IsPartIn, IsPartAfter, PartsAreSteps, PartsStay}
+use Rattle.node_ops.proofs.SeenLemmas.{Seen}
+use Rattle.node_ops.proofs.LookupLaw.{Leads, lookup_leads}
+use Rattle.node_ops.proofs.LookupSound.{SoundLooked, lookup_stays}
+use Rattle.node_ops.proofs.Endings.{LooksEnd, looks_end}
+
+module _ (s : Spot) where
+  words_say : (entry : List ℕ) (slot n : ℕ) (others : List (ℕ × ℕ)) → Seen s (words_loaded entry slot n others) → (k : ℕ) → k < n → s (slot_offset slot k) ≡ get_or entry k 0
+  words_say entry slot zero others seen k below = absurd (omega arith)
+  words_say entry slot (suc n) others seen k below =
+      elim (cases_eq k n) [
+        | inl last ↦ subst (λ j. s (slot_offset slot j) ≡ get_or entry j 0) (sym last) seen.0
+        | inr other ↦ words_say entry slot n others seen.1 k (omega arith)
+      ]
+
+  words_past : (entry : List ℕ) (slot n : ℕ) (others : List (ℕ × ℕ)) → Seen s (words_loaded entry slot n others) → Seen s others
+  words_past entry slot zero others seen = seen
+  words_past entry slot (suc n) others seen = words_past entry slot n others seen.1
+
+  words_are : (entry : List ℕ) (slot n : ℕ) (others : List (ℕ × ℕ)) → ((k : ℕ) → k < n → s (slot_offset slot k) ≡ get_or entry k 0) → Seen s others → Seen s (words_loaded entry slot n others)
+  words_are entry slot zero others same seen = seen
+  words_are entry slot (suc n) others same seen = (same n (omega arith), words_are entry slot n others (λ k below. same k (omega arith)) seen)
+
+  -- the words of a slot are as loaded
+  abbrev pub HasEntry : List (List ℕ) → ℕ → Type 0
+  HasEntry entries slot = (k : ℕ) → k < 4 → s (slot_offset slot k) ≡ get_or (entry_in entries slot) k 0
+
+  pub slots_say : (entries : List (List ℕ)) (bitmap n : ℕ) → Seen s (slots_loaded entries bitmap n) → (slot : ℕ) → slot < n → IsLive bitmap slot → HasEntry entries slot
+  slots_say entries bitmap zero seen slot below live = absurd (omega arith)
+  slots_say entries bitmap (suc n) seen slot below live =
+      elim (bit_at bitmap n == 1) as (λ b. (bit_at bitmap n == 1) ≡ b → Seen s (cond b (words_loaded (entry_in entries n) n 4 (slots_loaded entries bitmap n)) (slots_loaded entries bitmap n)) → HasEntry entries slot) [
+        | true ↦ λ here is. elim (cases_eq slot n) [
+          | inl last ↦ subst (HasEntry entries) (sym last) (words_say (entry_in entries n) n 4 (slots_loaded entries bitmap n) is)
+          | inr other ↦ slots_say entries bitmap n (words_past (entry_in entries n) n 4 (slots_loaded entries bitmap n) is) slot (omega arith) live
+        ]
+        | false ↦ λ here is. elim (cases_eq slot n) [
+          | inl last ↦ absurd (let yes : (bit_at bitmap n == 1) ≡ true = eq-eqb (bit_at bitmap n) 1 (subst (IsLive bitmap) last live) in let no : true ≡ false = sym yes ∙ here in cc)
+          | inr other ↦ slots_say entries bitmap n is slot (omega arith) live
+        ]
+      ] refl seen
+
+  slots_are : (entries : List (List ℕ)) (bitmap n : ℕ) → ((slot : ℕ) → slot < n → IsLive bitmap slot → HasEntry entries slot) → Seen s (slots_loaded entries bitmap n)
+  slots_are entries bitmap zero each = tt
+  slots_are entries bitmap (suc n) each =
+      let rest = slots_are entries bitmap n (λ slot below live. each slot (omega arith) live) in
+      elim (bit_at bitmap n == 1) as (λ b. (bit_at bitmap n == 1) ≡ b → Seen s (cond b (words_loaded (entry_in entries n) n 4 (slots_loaded entries bitmap n)) (slots_loaded entries bitmap n))) [
+        | true ↦ λ here. words_are (entry_in entries n) n 4 (slots_loaded entries bitmap n) (each n (omega arith) (eqb-true (bit_at bitmap n) 1 here)) rest
+        | false ↦ λ here. rest
+      ] refl
+
+  -- on to the next live slot, once those below are loaded
+  next_loaded : (entries : List (List ℕ)) (bitmap slots slot more : ℕ) → slot + more ≡ slots → ((other : ℕ) → other < slot → IsLive bitmap other → HasEntry entries other)
+      → Seen s (loaded_at entries bitmap slots (load_from bitmap slot more))
+  next_loaded entries bitmap slots slot zero is each = slots_are entries bitmap slots (λ other below live. each other (omega arith) live)
+  next_loaded entries bitmap slots slot (suc more) is each =
+      elim (bit_at bitmap slot == 1) as (λ b. (bit_at bitmap slot == 1) ≡ b → Seen s (loaded_at entries bitmap slots (cond b (at.Load slot 0) (load_from bitmap (slot + 1) more)))) [
+        | true ↦ λ here. slots_are entries bitmap slot each
+        | false ↦ λ here. next_loaded entries bitmap slots (slot + 1) more (omega arith) (λ other below live. elim (cases_eq other slot) [
+          | inl last ↦ absurd (let yes : (bit_at bitmap slot == 1) ≡ true = eq-eqb (bit_at bitmap slot) 1 (subst (IsLive bitmap) last live) in let no : true ≡ false = sym yes ∙ here in cc)
+          | inr apart ↦ each other (omega arith) live
+        ])
+      ] refl
+
+  -- so of the slots from this one on
+  next_at_loaded : (entries : List (List ℕ)) (bitmap slots from : ℕ) → from ≤ slots → ((other : ℕ) → other < from → IsLive bitmap other → HasEntry entries other)
+      → Seen s (loaded_at entries bitmap slots (next_at bitmap from slots))
+  next_at_loaded entries bitmap slots from within each = next_loaded entries bitmap slots from (slots - from) (omega arith) each
+
+-- the words of the slot, and of each other one
+entry_here : (entries : List (List ℕ)) (slot word got : ℕ) → slot < length entries → entry_in (with_word entries slot word got) slot ≡ set (entry_in entries slot) word got
+entry_here entries slot word got within =
+    get_or-set_same entries slot (set (get_or entries slot []) word got) no_entry within ∙ ap (λ entry. set entry word got) (get_or_default entries slot [] no_entry within)
+
+entry_other : (entries : List (List ℕ)) (slot word got other : ℕ) → other ≢ slot → entry_in (with_word entries slot word got) other ≡ entry_in entries other
+entry_other entries slot word got other apart = get_or-set_other entries slot other (set (get_or entries slot []) word got) no_entry apart
+
+-- where it goes on is in order
+next_sound : (bitmap slots slot more : ℕ) → slot + more ≡ slots → IsReadingAt slots bitmap (load_from bitmap slot more)
+next_sound bitmap slots slot zero is = tt
+next_sound bitmap slots slot (suc more) is =
+    elim (bit_at bitmap slot == 1) as (λ b. (bit_at bitmap slot == 1) ≡ b → IsReadingAt slots bitmap (cond b (at.Load slot 0) (load_from bitmap (slot + 1) more))) [
+      | true ↦ λ here. (omega arith, eqb-true (bit_at bitmap slot) 1 here, omega arith)
+      | false ↦ λ here. next_sound bitmap slots (slot + 1) more (omega arith)
+    ] refl
+
+next_at_sound : (bitmap slots from : ℕ) → from ≤ slots → IsReadingAt slots bitmap (next_at bitmap from slots)
+next_at_sound bitmap slots from within = next_sound bitmap slots from (slots - from) (omega arith)
+
+found_reading_sound : (call : Call) (found : Found) (behind : Option Next) (count : ℕ) → IsCall call → IsFoundBy call.view.layout.slots found → IsPart (part_found call found behind count)
+found_reading_sound call found behind count sound is =
+    record {
+      call = sound;
+      locked = is.locked;
+      many = length-replicate 64 no_entry;
+      wide = λ slot small. ap length (get_or-replicate 64 slot no_entry no_entry small);
+      here = next_at_sound found.directory.bitmap call.view.layout.slots 0 (omega arith);
+    }
+
+module _ (reading : Reading) (sound : IsReading reading) (slot word got : ℕ) (here : IsReadingAt reading.call.view.layout.slots reading.bitmap (at.Load slot word)) where
+  abbrev slots : ℕ
+  slots = reading.call.view.layout.slots
+
+  limit : slots ≤ 64
+  limit = sound.call.view.layout.slots.1
+
+  within : slot < length reading.entries
+  within = let few : slots ≤ 64 = limit in let below : slot < slots = here.0 in let many : length reading.entries ≡ 64 = sound.many in omega arith
+
+  after_sound : IsReading (after_word reading slot word got)
+  after_sound =
+      let entry = get_or reading.entries slot [] in
+      record {
+        call = sound.call;
+        locked = sound.locked;
+        many = length-set reading.entries slot (set entry word got) ∙ sound.many;
+        wide = λ other small. elim (cases_eq other slot) [
+          | inl same ↦
+              subst (λ o. length (entry_in (with_word reading.entries slot word got) o) ≡ 4) (sym same)
+              (ap length (entry_here reading.entries slot word got within) ∙ length-set (entry_in reading.entries slot) word got ∙ subst (λ o. length (entry_in reading.entries o) ≡ 4) same (sound.wide other small))
+          | inr apart ↦ ap length (entry_other reading.entries slot word got other apart) ∙ sound.wide other small
+        ];
+        here = elim (ltb (word + 1) 4) as (λ b. ltb (word + 1) 4 ≡ b → IsReadingAt slots reading.bitmap (cond b (at.Load slot (word + 1)) (next_at reading.bitmap (slot + 1) slots))) [
+          | true ↦ λ more. (here.0, here.1, ltb-true _ _ more)
+          | false ↦ λ last. next_at_sound reading.bitmap slots (slot + 1) (let below : slot < slots = here.0 in omega arith)
+        ] refl;
+      }
+
+  -- what it knows with the word that it loads
+  learnt : (s : Spot) → Seen s (loaded_at reading.entries reading.bitmap slots (at.Load slot word)) → s (slot_offset slot word) ≡ got
+      → Seen s (loaded_at (with_word reading.entries slot word got) reading.bitmap slots (after_at reading slot word))
+  learnt s seen is =
+      let entries = with_word reading.entries slot word got in
+      let entry = entry_in reading.entries slot in
+      let below : slot < slots = here.0 in
+      let small : word < 4 = here.2 in
+      let few : slots ≤ 64 = limit in
+      let wide : length entry ≡ 4 = sound.wide slot (omega arith) in
+      let before = words_say s entry slot word (slots_loaded reading.entries reading.bitmap slot) seen in
+      let others : (other : ℕ) → other < slot → IsLive reading.bitmap other → HasEntry s entries other = λ other lower live k less.
+      slots_say s reading.entries reading.bitmap slot (words_past s entry slot word (slots_loaded reading.entries reading.bitmap slot) seen) other lower live k less
+      ∙ sym (ap (λ (e : List ℕ). get_or e k 0) (entry_other reading.entries slot word got other (omega arith))) in
+      let own : (k : ℕ) → k < word + 1 → s (slot_offset slot k) ≡ get_or (entry_in entries slot) k 0 = λ k less.
+      elim (cases_eq k word) [
+        | inl last ↦ ap (λ j. s (slot_offset slot j)) last ∙ is ∙ sym (get_or-set_same entry word got 0 (omega arith)) ∙ sym (ap (λ (e : List ℕ). get_or e word 0) (entry_here reading.entries slot word got within)) ∙ ap (λ j. get_or (entry_in entries slot) j 0) (sym last)
+        | inr apart ↦ before k (omega arith) ∙ sym (get_or-set_other entry word k got 0 apart) ∙ sym (ap (λ (e : List ℕ). get_or e k 0) (entry_here reading.entries slot word got within))
+      ] in
+      elim (ltb (word + 1) 4) as (λ b. ltb (word + 1) 4 ≡ b → Seen s (loaded_at entries reading.bitmap slots (cond b (at.Load slot (word + 1)) (next_at reading.bitmap (slot + 1) slots)))) [
+        | true ↦ λ more. words_are s (entry_in entries slot) slot (word + 1) (slots_loaded entries reading.bitmap slot) own (slots_are s entries reading.bitmap slot others)
+        | false ↦ λ last. let full : 4 ≤ word + 1 = ltb-false _ _ last in
+            next_at_loaded s entries reading.bitmap slots (slot + 1) (omega arith) (λ other lower live. elim (cases_eq other slot) [
+              | inl same ↦ subst (HasEntry s entries) (sym same) (λ k less. own k (omega arith))
+              | inr apart ↦ others other (omega arith) live
+            ])
+      ] refl
+
+  word_leads : Step reading.call.view.layout reading.call.view.generation (Holds reading.call.node reading.hold.locked (decided reading.call reading.hold reading.old
+      (knows ((bitmap_offset, reading.bitmap) ∷ loaded_at reading.entries reading.bitmap slots (at.Load slot word))))) (Load (call_address reading.call (slot_offset slot word))) got
+      (reading_stage (after_word reading slot word got)) None
+  word_leads =
+      let below : slot < slots = here.0 in
+      let small : word < 4 = here.2 in
+      looks (learns (sound.call.node, (omega arith)) (omega arith) refl (λ s tidy known is. record { seen = (known.seen.0, learnt s known.seen.1 is); left = tt }))
+
+abbrev Parts : Call → Stage → Action → ℕ → Turn Part (Once PartWords) → Type 0
+Parts call stage action x turn = Step call.view.layout call.view.generation stage action x (stage_after_part turn) (placed_after turn)
+
+-- an early answer is that of the look-up
+early_placed : (most : Option ℕ) (answer : Once Placed) → LooksEnd most (Done (looked.Early answer)) → placed_of (early_of answer) ≡ answer
+early_placed most (once.Done placed) ends = absurd ends
+early_placed most (once.Spent clock) ends = refl
+early_placed most (once.Worn node word) ends = refl
+early_placed most (once.Again why) ends = refl
+
+looked_leads : (call : Call) (stage : Stage) (action : Action) (x count : ℕ) (behind : Option Next) (turn : Turn Lookup Looked) → LooksEnd call.limit turn → Leads call stage action x turn
+    → Parts call stage action x (part_looked call count behind turn)
+looked_leads call stage action x count behind (Go lookup) ends step = step
+looked_leads call stage action x count behind (Done (looked.Early answer)) ends step =
+    subst (λ (a : Once Placed). Step call.view.layout call.view.generation stage action x Idle (Some a)) (sym (early_placed call.limit answer ends)) step
+looked_leads call stage action x count behind (Done (looked.Found found)) ends leads =
+    let slots = call.view.layout.slots in
+    let bitmap = found.directory.bitmap in
+    leads (knows ((bitmap_offset, bitmap) ∷ loaded_at no_entries bitmap slots (next_at bitmap 0 slots))) None false tt
+    (λ s known. record { seen = (known.seen.0, next_at_loaded s no_entries bitmap slots 0 (omega arith) (λ other below live. absurd (omega arith))); left = tt })
+    (λ range s m in_range old means. means)
+
+reading_leads : (reading : Reading) (at : ReadingAt) (x : ℕ) → IsReading (record reading { at = at })
+    → Parts reading.call (reading_stage (record reading { at = at })) (reading_at_asks reading.call reading.hold.locked at) x (reading_turned (record reading { at = at }) at x)
+reading_leads reading (at.Load slot word) x sound = word_leads (record reading { at = at.Load slot word }) sound slot word x sound.here
+reading_leads reading at.Unlock x sound = unlocks refl refl refl refl (reads refl refl refl)
+
+own_steps : (p : Part) (x : ℕ) → IsPart p → Told (part_call p).view.layout (part_call p).view.generation (part_asks p) x → Parts (part_call p) (part_stage p) (part_asks p) x (part_turned p x)
+own_steps (part.Looking lookup count behind) x sound told =
+    looked_leads lookup.call (part_stage (part.Looking lookup count behind)) (part_asks (part.Looking lookup count behind)) x count (behind_of lookup.at behind) (lookup_turned lookup x)
+    (looks_end lookup.call lookup.at x sound.here) (lookup_leads lookup.call sound.call lookup.at x sound.here told)
+own_steps (part.Reading reading) x sound told = reading_leads reading reading.at x sound
+
+own_told : (l : Layout) (g : ℕ) (p : Part) (x : ℕ) → IsPartIn l g p → Told l g (part_asks p) x → Told (part_call p).view.layout (part_call p).view.generation (part_asks p) x
+own_told l g p x sound told =
+    subst (λ (k : Layout). Told k (part_call p).view.generation (part_asks p) x) (sym sound.layout) (subst (λ (n : ℕ). Told l n (part_asks p) x) (sym sound.generation) told)
+
+pub parts_are_steps : PartsAreSteps
+parts_are_steps l g p x sound told =
+    let step = own_steps p x sound.here (own_told l g p x sound told) in
+    subst (λ (q : Layout × ℕ). Step q.0 q.1 (part_stage p) (part_asks p) x (stage_after_part (part_turned p x)) (placed_after (part_turned p x))) (λ i. (sound.layout i, sound.generation i)) step
+
+-- of the same view as before
+abbrev Stays : Call → Turn Part (Once PartWords) → Type 0
+Stays call (Go p) = IsPart p × ((part_call p).view ≡ call.view)
+Stays call (Done answer) = Unit {0}
+
+looked_stays : (call : Call) (count : ℕ) (behind : Option Next) (turn : Turn Lookup Looked) → IsCall call → SoundLooked call turn → Stays call (part_looked call count behind turn)
+looked_stays call count behind (Go lookup) sound stays = (stays.0, ap (λ (c : Call). c.view) stays.1)
+looked_stays call count behind (Done (looked.Early answer)) sound stays = tt
+looked_stays call count behind (Done (looked.Found found)) sound stays = (found_reading_sound call found behind count sound stays, refl)
+
+reading_stays : (reading : Reading) (at : ReadingAt) (x : ℕ) → IsReading (record reading { at = at }) → Stays reading.call (reading_turned (record reading { at = at }) at x)
+reading_stays reading (at.Load slot word) x sound = (after_sound (record reading { at = at.Load slot word }) sound slot word x sound.here, refl)
+reading_stays reading at.Unlock x sound = tt
+
+own_stays : (p : Part) (x : ℕ) → IsPart p → Told (part_call p).view.layout (part_call p).view.generation (part_asks p) x → Stays (part_call p) (part_turned p x)
+own_stays (part.Looking lookup count behind) x sound told = looked_stays lookup.call count (behind_of lookup.at behind) (lookup_turned lookup x) sound.call (lookup_stays lookup x sound told)
+own_stays (part.Reading reading) x sound told = reading_stays reading reading.at x sound
+
+pub parts_stay : PartsStay
+parts_stay l g p x sound told = after (part_turned p x) (own_stays p x sound.here (own_told l g p x sound told))
+  where
+    after : (turn : Turn Part (Once PartWords)) → Stays (part_call p) turn → IsPartAfter l g turn
+    after (Go next) stays = record { layout = ap (λ v. v.layout) stays.1 ∙ sound.layout; generation = ap (λ v. v.generation) stays.1 ∙ sound.generation; here = stays.0 }
+    after (Done answer) stays = tt

@@ -1,0 +1,250 @@
+-- What a part of a range scan tells is a part of the map.
+use Rattle.std.proofs.Common.{◌≡◌, ℕ, zero, suc, ◌+◌, ◌-◌, ◌<◌, ◌≤◌, ◌==◌, ltb, Bool, true, false, not, cond, ◌&&◌, Option, Some, List, [], ◌∷◌, ◌++◌, length, take, map, set, refl, sym, subst, ap, ◌∙◌, arith, append-nil}
+use Rattle.std.specs.Int.{bit_at}
+use Rattle.std.specs.FinMap.{entries}
+use Rattle.std.specs.FinMap.Entries.{where_key}
+use Rattle.std.specs.List.{filter, fold, AllByRecursion}
+use Rattle.std.proofs.Math.Seq.{take-nil}
+use Rattle.std.proofs.lemmas.Bool.{ltb-true, ltb-false}
+use Rattle.std.proofs.lemmas.List.{take_more_set, take-map, length-map, append_assoc, length-set, length-replicate}
+use Rattle.pm_words.specs.declared.layout.Layout.{Layout}
+use Rattle.pm_words.specs.declared.machine.Turn.{Turn}
+use Rattle.pm_words.specs.declared.machine.Turn.TheVariants.{Go, Done}
+use Rattle.cat_key.specs.Names.{IsName, AreNameWords, IsPacked, bytes_of, name_cmp}
+use Rattle.cat_key.specs.declared.Pair.{Pair}
+use Rattle.cat_history.specs.Maps.{Map, at as number_at}
+use Rattle.cat_history.specs.Scans.{is_below}
+use Rattle.cat_history.specs.Writes.{after}
+use Rattle.data_node.specs.Spots.{Spot, Finds, Means}
+use Rattle.data_node.specs.Lists.{number_of, key_of}
+use Rattle.data_node.specs.Orders.{comes_before}
+use Rattle.data_node.proofs.KeyLemmas.{key-number}
+use Rattle.shapes.proofs.NameLists.{all_by, filter-twice}
+use Rattle.index_law.specs.Facts.{Facts, map_now, range_of}
+use Rattle.index_law.specs.Lawful.{HasNames, SureHolds}
+use Rattle.index_law.proofs.AnchorTexts.{key-order, named-text}
+use Rattle.call_stages.specs.declared.once.Once.{Once}
+use Rattle.call_stages.specs.declared.once.Once.TheVariants as once
+use Rattle.call_stages.specs.declared.once.Placed.{Placed}
+use Rattle.split_merge.specs.Plans.{put_in}
+use Rattle.split_merge.proofs.Sorting.{put_size}
+use Rattle.node_ops.specs.declared.call.Call.{Call}
+use Rattle.node_ops.specs.declared.lookup.Looked.{Looked}
+use Rattle.node_ops.specs.declared.lookup.Looked.TheVariants as looked
+use Rattle.node_ops.specs.declared.lookup.Lookup.{Lookup}
+use Rattle.data_list.specs.declared.target.Next.{Next}
+use Rattle.node_ops.specs.declared.part.Listing.{Listing}
+use Rattle.node_ops.specs.declared.part.PartWords.{PartWords}
+use Rattle.node_ops.specs.declared.part.Reading.{Reading}
+use Rattle.node_ops.specs.declared.part.ReadingAt.{ReadingAt}
+use Rattle.node_ops.specs.declared.part.ReadingAt.TheVariants as at
+use Rattle.node_ops.specs.declared.part.Part.TheVariants as part
+use Rattle.node_ops.specs.Calls.{name_in}
+use Rattle.node_ops.specs.LookupSteps.{lookup_turned}
+use Rattle.node_ops.specs.PartSteps.{no_entry, no_listing, entry_in, entry_name, live_order, is_from, order_in, lists, part_words, behind_of, part_looked, early_of, IsReading, reading_turned}
+use Rattle.node_ops.specs.Parts.{reading_held, pair_of, IsPartOf, PartTells, IsHeard, PartsHear}
+use Rattle.node_ops.proofs.PartLaw.{slots_say}
+use Rattle.node_ops.proofs.PartNames.{pair_at, all_good, packed, names_are}
+
+-- no more slots are live than there are
+order_few : (before : ℕ → ℕ → Bool) (bitmap n : ℕ) → length (live_order before bitmap n) ≤ n
+order_few before bitmap zero = omega arith
+order_few before bitmap (suc n) =
+    let rest = order_few before bitmap n in
+    elim (bit_at bitmap n == 1) as (λ b. length (cond b (put_in before n (live_order before bitmap n)) (live_order before bitmap n)) ≤ suc n) [
+      | true ↦ let one = put_size before n (live_order before bitmap n) in omega arith
+      | false ↦ omega arith
+    ]
+
+module _ (reading : Reading) where
+  abbrev entry : ℕ → List ℕ
+  entry slot = entry_in reading.entries slot
+
+  -- the slot's name isn't below the low one
+  abbrev keeps : ℕ → Bool
+  keeps slot = is_from reading (entry slot)
+
+  abbrev more : Listing → ℕ → Listing
+  more listing slot = record { len = listing.len + 1; entries = set listing.entries listing.len (entry slot) }
+
+  -- it lists one name more at most for each slot
+  lists_few : (xs : List ℕ) (listing : Listing) → (fold (lists reading) listing xs).len ≤ listing.len + length xs
+  lists_few [] listing = omega arith
+  lists_few (x ∷ xs) listing =
+      elim (ltb listing.len reading.count && keeps x) as (λ b. (fold (lists reading) (cond b (more listing x) listing) xs).len ≤ listing.len + suc (length xs)) [
+        | true ↦ let rest = lists_few xs (more listing x) in omega arith
+        | false ↦ let rest = lists_few xs listing in omega arith
+      ]
+
+  -- it lists the first that it keeps
+  lists_first : (xs : List ℕ) (listing : Listing) → listing.len + length xs ≤ length listing.entries
+      → take (fold (lists reading) listing xs).len (fold (lists reading) listing xs).entries ≡ take listing.len listing.entries ++ take (reading.count - listing.len) (map entry (filter keeps xs))
+  lists_first [] listing room = sym (append-nil (take listing.len listing.entries)) ∙ ap (λ (ys : List (List ℕ)). take listing.len listing.entries ++ ys) (sym (take-nil (reading.count - listing.len)))
+  lists_first (x ∷ xs) listing room =
+      let had = take listing.len listing.entries in
+      let rest = filter keeps xs in
+      elim (ltb listing.len reading.count) as (λ b. ltb listing.len reading.count ≡ b
+      → take (fold (lists reading) (cond (b && keeps x) (more listing x) listing) xs).len (fold (lists reading) (cond (b && keeps x) (more listing x) listing) xs).entries
+      ≡ had ++ take (reading.count - listing.len) (map entry (cond (keeps x) (x ∷ rest) rest))) [
+        | false ↦ λ full.
+            let most : reading.count ≤ listing.len = ltb-false _ _ full in
+            let none : reading.count - listing.len ≡ 0 = omega arith in
+            lists_first xs listing (omega arith)
+            ∙ ap (λ n. had ++ take n (map entry rest)) none ∙ ap (λ n. had ++ take n (map entry (cond (keeps x) (x ∷ rest) rest))) (sym none)
+        | true ↦ λ less. elim (keeps x) as (λ b. take (fold (lists reading) (cond b (more listing x) listing) xs).len (fold (lists reading) (cond b (more listing x) listing) xs).entries
+            ≡ had ++ take (reading.count - listing.len) (map entry (cond b (x ∷ rest) rest))) [
+              | false ↦ lists_first xs listing (omega arith)
+              | true ↦
+                  let under : listing.len < reading.count = ltb-true _ _ less in
+                  let one : reading.count - listing.len ≡ suc (reading.count - (listing.len + 1)) = omega arith in
+                  let size = length-set listing.entries listing.len (entry x) in
+                  lists_first xs (more listing x) (omega arith)
+                  ∙ ap (λ (ys : List (List ℕ)). ys ++ take (reading.count - (listing.len + 1)) (map entry rest)) (take_more_set listing.entries listing.len (entry x) (omega arith))
+                  ∙ append_assoc had (entry x ∷ []) (take (reading.count - (listing.len + 1)) (map entry rest))
+                  ∙ ap (λ n. had ++ take n (map entry (x ∷ rest))) (sym one)
+            ]
+      ] refl
+
+-- what holds of each slot's words holds of those that are kept, and of the first of them
+all_kept : (reading : Reading) (P : List ℕ → Type 0) (xs : List ℕ) → AllByRecursion (λ slot. P (entry reading slot)) xs → AllByRecursion P (map (entry reading) (filter (keeps reading) xs))
+all_kept reading P [] all = tt
+all_kept reading P (x ∷ xs) all =
+    let rest = all_kept reading P xs all.1 in
+    elim (keeps reading x) as (λ b. AllByRecursion P (map (entry reading) (cond b (x ∷ filter (keeps reading) xs) (filter (keeps reading) xs)))) [
+      | true ↦ (all.0, rest)
+      | false ↦ rest
+    ]
+
+all_first : (P : List ℕ → Type 0) (n : ℕ) (xs : List (List ℕ)) → AllByRecursion P xs → AllByRecursion P (take n xs)
+all_first P zero xs all = tt
+all_first P (suc n) [] all = tt
+all_first P (suc n) (x ∷ xs) all = (all.0, all_first P n xs all.1)
+
+abbrev to_pair : List ℕ × ℕ → Pair
+to_pair e = record { name = e.0; value = e.1 }
+
+module _ (reading : Reading) (sound : IsReading reading) (f : Facts) (g caller index since : ℕ) (named : HasNames (map_now f))
+    (knows : SureHolds reading.call.view.layout g f caller index since reading.call.node reading.hold.locked (reading_held (record reading { at = at.Unlock }))) where
+  abbrev slots : ℕ
+  slots = reading.call.view.layout.slots
+
+  abbrev s : Spot
+  s = f.now reading.call.node
+
+  abbrev range : List ℕ → Bool
+  range = range_of reading.call.view.layout f reading.call.node
+
+  abbrev low : List ℕ
+  low = name_in reading.call
+
+  abbrev order : List ℕ
+  order = live_order (comes_before reading.entries) reading.bitmap slots
+
+  abbrev own : ℕ → List ℕ × ℕ
+  own = pair_at reading.entries reading.bitmap slots sound.many sound.call.view.layout.slots.1
+
+  pairs_as : (xs : List ℕ) → map pair_of (map (entry reading) xs) ≡ map to_pair (map own xs)
+  pairs_as [] = refl
+  pairs_as (x ∷ xs) = ap (λ (ps : List Pair). pair_of (entry reading x) ∷ ps) (pairs_as xs)
+
+  module _ (m : Map) (means : Means slots range s m) (names : (name : List ℕ) (value : ℕ) → range name ≡ true → number_at m name ≡ Some value → IsName name) where
+    abbrev above : List ℕ × ℕ → Bool
+    above e = not (is_below e.0 low)
+
+    are : map own order ≡ where_key name_cmp range (entries m)
+    are =
+        names_are reading.entries reading.bitmap slots sound.many sound.call.view.layout.slots.1 s knows.knows.seen.0 (slots_say s reading.entries reading.bitmap slots knows.knows.seen.1) range m means knows.stays names
+
+    is_packed : (slot : ℕ) → (slot < slots) × (bit_at reading.bitmap slot ≡ 1) → IsPacked (entry_name (entry reading slot))
+    is_packed slot good =
+        packed reading.entries reading.bitmap slots sound.many sound.call.view.layout.slots.1 s knows.knows.seen.0 (slots_say s reading.entries reading.bitmap slots knows.knows.seen.1) range m means knows.stays names slot good
+
+    keeps_above : (slot : ℕ) → (slot < slots) × (bit_at reading.bitmap slot ≡ 1) → keeps reading slot ≡ above (own slot)
+    keeps_above slot good =
+        let is = is_packed slot good in
+        let there = named-text (bytes_of (entry_name (entry reading slot))) is.named in
+        let first : number_of (entry_name (entry reading slot)) ≡ key_of (bytes_of (entry_name (entry reading slot))) = ap number_of (sym is.whole) ∙ sym (key-number (bytes_of (entry_name (entry reading slot)))) in
+        let second : number_of reading.call.name ≡ key_of low = ap number_of (sym sound.call.packed.whole) ∙ sym (key-number low) in
+        ap not ((λ i. ltb (first i) (second i)) ∙ sym (key-order (bytes_of (entry_name (entry reading slot))) low there (named-text low sound.call.packed.named)))
+
+    kept : (xs : List ℕ) → AllByRecursion (λ slot. (slot < slots) × (bit_at reading.bitmap slot ≡ 1)) xs → map own (filter (keeps reading) xs) ≡ filter above (map own xs)
+    kept [] good = refl
+    kept (x ∷ xs) good =
+        let rest = kept xs good.1 in
+        ap (λ b. map own (cond b (x ∷ filter (keeps reading) xs) (filter (keeps reading) xs))) (keeps_above x good.0)
+        ∙ elim (above (own x)) as (λ b. map own (cond b (x ∷ filter (keeps reading) xs) (filter (keeps reading) xs)) ≡ cond b (own x ∷ filter above (map own xs)) (filter above (map own xs))) [
+          | true ↦ ap (λ (es : List (List ℕ × ℕ)). own x ∷ es) rest
+          | false ↦ rest
+        ]
+
+    pub is_part : number_at m low ≡ reading.old → IsPartOf m range low reading.count (part_words reading)
+    unfolding order_in
+    is_part had =
+        let few = order_few (comes_before reading.entries) reading.bitmap slots in
+        let limit : slots ≤ 64 = sound.call.view.layout.slots.1 in
+        let size : length no_listing.entries ≡ 64 = length-replicate 64 no_entry in
+        let most = lists_few reading order no_listing in
+        let all = all_good reading.entries reading.bitmap slots sound.many sound.call.view.layout.slots.1 in
+        let count : reading.count - 0 ≡ reading.count = omega arith in
+        let first = lists_first reading order no_listing (omega arith) ∙ ap (λ n. take n (map (entry reading) (filter (keeps reading) order))) count in
+        record {
+          few = omega arith;
+          lists =
+              ap (map pair_of) first
+              ∙ sym (take-map pair_of reading.count (map (entry reading) (filter (keeps reading) order)))
+              ∙ ap (take reading.count)
+              (pairs_as (filter (keeps reading) order) ∙ ap (map to_pair) (kept order all ∙ ap (filter above) are ∙ filter-twice above (λ e. range e.0) (entries m)));
+          named =
+              subst (AllByRecursion (λ (e : List ℕ). AreNameWords (entry_name e))) (sym first)
+              (all_first (λ e. AreNameWords (entry_name e)) reading.count (map (entry reading) (filter (keeps reading) order)) (all_kept reading (λ e. AreNameWords (entry_name e)) order
+              (all_by (λ slot. (slot < slots) × (bit_at reading.bitmap slot ≡ 1)) (λ slot. AreNameWords (entry_name (entry reading slot))) (λ slot good. let is = is_packed slot good in (bytes_of (entry_name (entry reading slot)), is.named, is.whole)) order all)));
+          had = sym had;
+          compared = sym (length-map order own) ∙ ap length are ∙ sym (length-map (where_key name_cmp range (entries m)) to_pair);
+        }
+
+  pub tells_part : IsPartOf (map_now f) range low reading.count (part_words reading) × IsPartOf (after f.base f.history reading.hold.clock) range low reading.count (part_words reading)
+  tells_part =
+      let same = knows.time.same in
+      let past = after f.base f.history reading.hold.clock in (
+        is_part (map_now f) knows.means (λ name value inside there. named name value there) knows.old,
+        is_part past (record { tidy = knows.means.tidy; agrees = λ name is_name inside. subst (Finds slots s name) (sym (same name inside)) (knows.means.agrees name is_name inside) })
+            (λ name value inside there. named name value (sym (same name inside) ∙ there)) (same low knows.inside ∙ knows.old),
+      )
+
+-- only what it has read it tells
+not_early : (answer : Once Placed) (words : PartWords) → early_of answer ≡ once.Done words → ⊥
+not_early (once.Done placed) words is = cc
+not_early (once.Spent clock) words is = cc
+not_early (once.Worn node word) words is = cc
+not_early (once.Again why) words is = cc
+
+looked_on : (call : Call) (count : ℕ) (behind : Option Next) (turn : Turn Lookup Looked) (words : PartWords) → part_looked call count behind turn ≡ Done (once.Done words) → ⊥
+looked_on call count behind (Go lookup) words is = cc
+looked_on call count behind (Done (looked.Early answer)) words is = not_early answer words (cc)
+looked_on call count behind (Done (looked.Found found)) words is = cc
+
+done_words : (reading : Reading) (x : ℕ) (words : PartWords) → reading_turned reading at.Unlock x ≡ Done (once.Done words) → part_words reading ≡ words
+done_words reading x words is = cc
+
+reading_tells : (l : Layout) (g : ℕ) (f : Facts) (caller index since : ℕ) (reading : Reading) (at : ReadingAt) (x : ℕ) (words : PartWords) → reading.call.view.layout ≡ l → IsReading (record reading { at = at })
+    → HasNames (map_now f) → SureHolds l g f caller index since reading.call.node reading.hold.locked (reading_held (record reading { at = at })) → reading_turned reading at x ≡ Done (once.Done words)
+    → IsPartOf (map_now f) (range_of l f words.node) (name_in reading.call) reading.count words × IsPartOf (after f.base f.history words.place) (range_of l f words.node) (name_in reading.call) reading.count words
+unfolding order_in
+reading_tells l g f caller index since reading (at.Load slot word) x words layout sound named knows is = absurd (cc)
+reading_tells l g f caller index since reading at.Unlock x words layout sound named knows is =
+    let own = subst (λ k. SureHolds k g f caller index since reading.call.node reading.hold.locked (reading_held (record reading { at = at.Unlock }))) (sym layout) knows in
+    let told = tells_part (record reading { at = at.Unlock }) sound f g caller index since named own in
+    subst (λ (w : PartWords). IsPartOf (map_now f) (range_of l f w.node) (name_in reading.call) reading.count w × IsPartOf (after f.base f.history w.place) (range_of l f w.node) (name_in reading.call) reading.count w)
+    (done_words reading x words is) told
+
+pub part_tells : PartTells
+part_tells l g f caller index since (part.Looking lookup count behind) x words sound named knows is = absurd (looked_on lookup.call count (behind_of lookup.at behind) (lookup_turned lookup x) words is)
+part_tells l g f caller index since (part.Reading reading) x words sound named knows is = reading_tells l g f caller index since reading reading.at x words sound.layout sound.here named knows is
+
+pub parts_hear : PartsHear
+parts_hear (part.Looking lookup count behind) x words is = absurd (looked_on lookup.call count (behind_of lookup.at behind) (lookup_turned lookup x) words is)
+parts_hear (part.Reading reading) x words is = hears reading.at is
+  where
+    hears : (at : ReadingAt) → reading_turned reading at x ≡ Done (once.Done words) → IsHeard (part.Reading (record reading { at = at })) words
+    hears (at.Load slot word) is = absurd (cc)
+    hears at.Unlock is = subst (IsHeard (part.Reading (record reading { at = at.Unlock }))) (done_words reading x words is) (record { node = refl; hops = refl; version = refl; high = refl })

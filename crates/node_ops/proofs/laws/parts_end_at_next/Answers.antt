@@ -1,0 +1,11 @@
+use Rattle.node_ops.proofs.PartBounds.{parts_see_behind, parts_keep_behind, parts_are_ranges}
+use Rattle.node_ops.proofs.laws.parts_end_at_next.Goals as goal
+
+pub returns-clause-sees : goal.returns-clause-sees
+returns-clause-sees c = parts_see_behind
+
+pub returns-clause-keeps : goal.returns-clause-keeps
+returns-clause-keeps c = parts_keep_behind
+
+pub returns-clause-ranges : goal.returns-clause-ranges
+returns-clause-ranges c = parts_are_ranges
