@@ -1,5 +1,6 @@
 -- What a step does to the place that its call has, and to the list.
-use Rattle.std.proofs.Common.{◌≡◌, ◌==◌, ℕ, List, true, false, refl, sym, ap, ◌∙◌, subst}
+use Rattle.std.proofs.Common.{◌≡◌, ◌≢◌, ◌==◌, ℕ, ◌<◌, ◌⊎◌, inl, inr, cond, List, true, false, refl, sym, ap, ◌∙◌, subst, arith}
+use Rattle.std.proofs.lemmas.Bool.{eq-eqb, ne_eqb}
 use Rattle.std.specs.Prelude.{Option, Some, None, IfSome}
 use Rattle.pm_words.specs.declared.layout.Layout.{Layout}
 use Rattle.pm_words.specs.declared.action.Action.{Action}
@@ -8,8 +9,9 @@ use Rattle.call_stages.specs.declared.once.Once.{Once}
 use Rattle.call_stages.specs.declared.once.Once.TheVariants as once
 use Rattle.call_stages.specs.declared.once.Placed.{Placed}
 use Rattle.call_stages.specs.Stages.{Held, Grip, Stage, Idle, Saw, Wears, Holds, Eyes, Splits, Leaves, Meets, Joins, Filling, Linked, Parted, Phase, IsLoose, counted, placed_in}
-use Rattle.call_stages.specs.Kinds.{below_key, from_key, Look, turns_back, is_worn, wears, roams, roams_status, sees, misses, times, learns, decides, glances, finds_live, watches, watches_next, turns_away, steps_back, wanders, fills, lights, switches, glances_left, glances_fresh, drains_left, drains_fresh, trims, splits, meets, knows_own, knows_right, copies, takes_up, puts_down, parts, gathers, joins, glances_joined, drains_joined, retires, yields, merges, peeks, peeks_status, eyes, eyes_free, passes, loses, claims, publishes, leaves, Step, looks, locks, stores, commits, drains, counts, unlocks, GivesUp, Answers, writes, reads, is_spent, has_no_room, refuses}
-use Rattle.data_node.specs.Lists.{ListNode, target_from, key_of, with_member}
+use Rattle.call_stages.specs.Prevs.{IsJoin, IsRetire}
+use Rattle.call_stages.specs.Kinds.{gone_status, below_key, from_key, Look, turns_back, is_worn, wears, roams, roams_status, sees, misses, times, learns, decides, glances, finds_live, watches, watches_next, turns_away, steps_back, wanders, fills, lights, switches, glances_left, glances_fresh, drains_left, drains_fresh, trims, splits, meets, knows_own, knows_right, copies, takes_up, puts_down, parts, gathers, joins, glances_joined, drains_joined, retires, yields, merges, peeks, peeks_status, eyes, eyes_free, passes, loses, claims, publishes, leaves, Step, looks, locks, stores, commits, drains, counts, unlocks, GivesUp, Answers, writes, reads, is_spent, has_no_room, refuses}
+use Rattle.data_node.specs.Lists.{ListNode, target_from, key_of, with_member, without_member}
 use Rattle.data_node.specs.Weights.{names_in}
 use Rattle.cat_history.specs.Maps.{at}
 use Rattle.index_law.specs.Facts.{Facts, map_now, range_of}
@@ -19,7 +21,8 @@ use Rattle.index_law.specs.Shapes.{IsHalved}
 use Rattle.index_law.proofs.Locks.{cut_now}
 use Rattle.index_law.proofs.Moves.{fact_after}
 use Rattle.index_law.proofs.Loose.{loose_counted}
-use Rattle.lone_law.specs.Tries.{is_cut, IsFor}
+use Rattle.index_law.specs.LoneShapes.{has_merged, IsOut}
+use Rattle.lone_law.specs.Tries.{is_cut, has_retired}
 
 -- an answer that isn't Done
 abbrev pub IsDone : Once Placed → Type 0
@@ -37,15 +40,29 @@ pub record Cuts (l : Layout) (f : Facts) (list : List ListNode) (s : Stage) : Ty
   pub lower : (λ (other : List ℕ). target_from 0 list (key_of other) == halved.node) ≡ below_key (range_of l f halved.node) (key_of halved.anchor)
   pub upper : (λ (other : List ℕ). target_from 0 list (key_of other) == halved.fresh) ≡ from_key (range_of l f halved.node) (key_of halved.anchor)
 
--- What a step does, beside what it does to its node: f are the facts before it, and this is the list after it.
-pub data Effect (l : Layout) (f : Facts) (list : List ListNode) (s : Stage) (x : ℕ) (t : Stage) : Option (Once Placed) → Type 0 where
-  stays : counted s ≡ None → placed_in t ≡ placed_in s → is_cut t ≡ is_cut s → list ≡ f.list → Effect l f list s x t None
-  adds : {c : Change} → counted s ≡ Some c → placed_in s ≡ None → placed_in t ≡ Some x → is_cut s ≡ false → is_cut t ≡ false → list ≡ f.list → Effect l f list s x t None
-  cuts : counted s ≡ None → placed_in s ≡ None → placed_in t ≡ None → is_cut s ≡ false → is_cut t ≡ true → Cuts l f list s → Effect l f list s x t None
-  ends : {r : Once Placed} → counted s ≡ None → (IsDone r → ⊥) → placed_in s ≡ None → list ≡ f.list → Effect l f list s x t (Some r)
-  is_done : {r : Once Placed} → counted s ≡ None → IsDone r → list ≡ f.list → Effect l f list s x t (Some r)
+-- The step leaves whether the call has merged, and how far, or leads to a stage without a node of a call.
+abbrev pub Keeps : Stage → Stage → Type 0
+Keeps s t = IsOut t ⊎ ((has_merged t ≡ has_merged s) × (has_retired t ≡ has_retired s))
 
-loose_placed : (s : Stage) → IsLoose s → placed_in s ≡ None
+-- One more node is GONE.
+pub record Buries (nodes : ℕ) (f f' : Facts) : Type 0 where
+  pub node : ℕ
+  pub within : node < nodes
+  pub others : (k : ℕ) → k ≢ node → f'.status k ≡ f.status k
+  pub is : f'.status node ≡ gone_status
+  pub wasnt : f.status node ≢ gone_status
+
+-- What a step does, beside what it does to its node: f are the facts before it, and f' those after it.
+pub data Effect (l : Layout) (f f' : Facts) (s : Stage) (x : ℕ) (t : Stage) : Option (Once Placed) → Type 0 where
+  stays : counted s ≡ None → placed_in t ≡ placed_in s → is_cut t ≡ is_cut s → Keeps s t → f'.list ≡ f.list → Effect l f f' s x t None
+  adds : {c : Change} → counted s ≡ Some c → placed_in s ≡ None → placed_in t ≡ Some x → is_cut s ≡ false → is_cut t ≡ false → Keeps s t → f'.list ≡ f.list → Effect l f f' s x t None
+  cuts : counted s ≡ None → placed_in s ≡ None → placed_in t ≡ None → is_cut s ≡ false → is_cut t ≡ true → Keeps s t → Cuts l f f'.list s → Effect l f f' s x t None
+  drops : (join : IsJoin s t) → f'.list ≡ without_member join.right.node f.list → Effect l f f' s x t None
+  buries : IsRetire s t → f'.list ≡ f.list → Buries l.nodes f f' → Effect l f f' s x t None
+  ends : {r : Once Placed} → counted s ≡ None → (IsDone r → ⊥) → placed_in s ≡ None → f'.list ≡ f.list → Effect l f f' s x t (Some r)
+  is_done : {r : Once Placed} → counted s ≡ None → IsDone r → f'.list ≡ f.list → Effect l f f' s x t (Some r)
+
+pub loose_placed : (s : Stage) → IsLoose s → placed_in s ≡ None
 loose_placed Idle loose = refl
 loose_placed (Saw n v w k) loose = refl
 loose_placed (Wears n v) loose = refl
@@ -68,11 +85,11 @@ loose_cut (Meets n w h right) loose = absurd loose
 loose_cut (Joins h left right pace) loose = absurd loose
 
 -- a call that has no node goes on to a stage without a node
-from_loose : (l : Layout) (f : Facts) (s t : Stage) (x : ℕ) → IsLoose s → placed_in t ≡ None → is_cut t ≡ false → Effect l f f.list s x t None
-from_loose l f s t x loose placed cut = stays (loose_counted s loose) (placed ∙ sym (loose_placed s loose)) (cut ∙ sym (loose_cut s loose)) refl
+from_loose : (l : Layout) (f : Facts) (s t : Stage) (x : ℕ) → IsLoose s → placed_in t ≡ None → is_cut t ≡ false → IsOut t → Effect l f f s x t None
+from_loose l f s t x loose placed cut out = stays (loose_counted s loose) (placed ∙ sym (loose_placed s loose)) (cut ∙ sym (loose_cut s loose)) (inl out) refl
 
-gives_up : (l : Layout) (f : Facts) (s : Stage) (x : ℕ) (r : Option (Once Placed)) → IsLoose s → GivesUp r → Effect l f f.list s x Idle r
-gives_up l f s x None loose up = from_loose l f s Idle x loose refl refl
+gives_up : (l : Layout) (f : Facts) (s : Stage) (x : ℕ) (r : Option (Once Placed)) → IsLoose s → GivesUp r → Effect l f f s x Idle r
+gives_up l f s x None loose up = from_loose l f s Idle x loose refl refl tt
 gives_up l f s x (Some (once.Again why)) loose up = ends (loose_counted s loose) (λ no. no) (loose_placed s loose) refl
 gives_up l f s x (Some (once.Done placed)) loose up = absurd up
 gives_up l f s x (Some (once.Spent clock)) loose up = absurd up
@@ -88,56 +105,56 @@ same_phase left left' fresh fresh' (Filling lit) = refl
 same_phase left left' fresh fresh' Linked = refl
 same_phase left left' fresh fresh' Parted = refl
 
-answer_does : (l : Layout) (f : Facts) (n w x : ℕ) (h : Held) (r : Once Placed) → counted (Holds n w h) ≡ None → Answers l h r → Effect l f f.list (Holds n w h) x Idle (Some r)
-answer_does l f n w x h r none (writes placed old) = is_done none tt refl
-answer_does l f n w x h r none (reads unplaced time old) = is_done none tt refl
-answer_does l f n w x h r none (is_spent unplaced time) = ends none (λ no. no) unplaced refl
-answer_does l f n w x h r none (has_no_room unplaced time old full) = ends none (λ no. no) unplaced refl
-answer_does l f n w x h r none (refuses unplaced is) = ends none (λ no. no) unplaced refl
+answer_does : (l : Layout) (f f' : Facts) (n w x : ℕ) (h : Held) (r : Once Placed) → f'.list ≡ f.list → counted (Holds n w h) ≡ None → Answers l h r → Effect l f f' (Holds n w h) x Idle (Some r)
+answer_does l f f' n w x h r same none (writes placed old) = is_done none tt same
+answer_does l f f' n w x h r same none (reads unplaced time old) = is_done none tt same
+answer_does l f f' n w x h r same none (is_spent unplaced time) = ends none (λ no. no) unplaced same
+answer_does l f f' n w x h r same none (has_no_room unplaced time old full) = ends none (λ no. no) unplaced same
+answer_does l f f' n w x h r same none (refuses unplaced is) = ends none (λ no. no) unplaced same
 
 module _ {l : Layout} {g : ℕ} (f : Facts) (list : IsList l f) (caller index since : ℕ) where
-  look_does : {s : Stage} {a : Action} {x : ℕ} {t : Stage} {r : Option (Once Placed)} → Look l g s a x t r → Sure l g f caller index since s → Effect l f f.list s x t r
+  look_does : {s : Stage} {a : Action} {x : ℕ} {t : Stage} {r : Option (Once Placed)} → Look l g s a x t r → Sure l g f caller index since s → Effect l f f s x t r
   look_does (turns_back {s = s} {n = n} {x = x} loose here busy) knows = ends (loose_counted s loose) (λ no. no) (loose_placed s loose) refl
-  look_does (wears {s = s} {n = n} {x = x} loose here free worn) knows = from_loose l f s (Wears n x) x loose refl refl
-  look_does (roams has) knows = stays refl refl refl refl
-  look_does (roams_status here) knows = stays refl refl refl refl
+  look_does (wears {s = s} {n = n} {x = x} loose here free worn) knows = from_loose l f s (Wears n x) x loose refl refl tt
+  look_does (roams has) knows = stays refl refl refl (inl tt) refl
+  look_does (roams_status here) knows = stays refl refl refl (inl tt) refl
   look_does (is_worn has) knows = ends refl (λ no. no) refl refl
-  look_does (sees {s = s} {n = n} {x = x} {w = w} loose here free unworn lock) knows = from_loose l f s (Saw n x w _) x loose refl refl
-  look_does (finds_live here is) knows = stays refl refl refl refl
-  look_does (watches has positive live next learnt) knows = stays refl refl refl refl
-  look_does (watches_next has low high ne live live' next leads learnt) knows = stays refl refl refl refl
+  look_does (sees {s = s} {n = n} {x = x} {w = w} loose here free unworn lock) knows = from_loose l f s (Saw n x w _) x loose refl refl tt
+  look_does (finds_live here is) knows = stays refl refl refl (inl tt) refl
+  look_does (watches has positive live next learnt) knows = stays refl refl refl (inl tt) refl
+  look_does (watches_next has low high ne live live' next leads learnt) knows = stays refl refl refl (inl tt) refl
   look_does (turns_away {s = s} {x = x} {r = r} loose here up) knows = gives_up l f s x r loose up
   look_does (steps_back {s = s} {x = x} {r = r} loose here up) knows = gives_up l f s x r loose up
   look_does (wanders {s = s} {x = x} {r = r} loose here up) knows = gives_up l f s x r loose up
-  look_does (peeks {n = n} {w = w} {h = h} here is) knows = stays (unready n w h is) refl refl refl
-  look_does (peeks_status {n = n} {w = w} {h = h} here is) knows = stays (unready n w h is) refl refl refl
-  look_does (eyes {n = n} {w = w} {h = h} clean durable here nonzero free unworn lock) knows = stays (unready n w h clean.ready) refl refl refl
-  look_does (eyes_free here is) knows = stays refl refl refl refl
-  look_does (passes {n = n} {w = w} {h = h} here) knows = stays refl refl refl refl
-  look_does (loses here other) knows = stays refl refl refl refl
+  look_does (peeks {n = n} {w = w} {h = h} here is) knows = stays (unready n w h is) refl refl (inr (refl, refl)) refl
+  look_does (peeks_status {n = n} {w = w} {h = h} here is) knows = stays (unready n w h is) refl refl (inr (refl, refl)) refl
+  look_does (eyes {n = n} {w = w} {h = h} clean durable here nonzero free unworn lock) knows = stays (unready n w h clean.ready) refl refl (inr (refl, refl)) refl
+  look_does (eyes_free here is) knows = stays refl refl refl (inr (refl, refl)) refl
+  look_does (passes {n = n} {w = w} {h = h} here) knows = stays refl refl refl (inr (refl, refl)) refl
+  look_does (loses here other) knows = stays refl refl refl (inr (refl, refl)) refl
   look_does (misses other) knows = ends refl (λ no. no) refl refl
-  look_does (times {n = n} {w = w} {h = h} clean below) knows = stays (unready n w h clean.ready) refl refl refl
-  look_does (learns {n = n} {w = w} {h = h} has positive is learnt) knows = stays (unready n w h is) refl refl refl
-  look_does (decides {n = n} {w = w} {h = h} has positive clean durable about learnt decided) knows = stays (unready n w h clean.ready) refl refl refl
-  look_does (glances {n = n} {w = w} {h = h} has is) knows = stays (unready n w h is) refl refl refl
+  look_does (times {n = n} {w = w} {h = h} clean below) knows = stays (unready n w h clean.ready) refl refl (inr (refl, refl)) refl
+  look_does (learns {n = n} {w = w} {h = h} has positive is learnt) knows = stays (unready n w h is) refl refl (inr (refl, refl)) refl
+  look_does (decides {n = n} {w = w} {h = h} has positive clean durable about learnt decided) knows = stays (unready n w h clean.ready) refl refl (inr (refl, refl)) refl
+  look_does (glances {n = n} {w = w} {h = h} has is) knows = stays (unready n w h is) refl refl (inr (refl, refl)) refl
 
-  pub step_does : (name : List ℕ) {s : Stage} {a : Action} {x : ℕ} {t : Stage} {r : Option (Once Placed)} → (k : Step l g s a x t r) → IsFor name s → IsFor name t → Sure l g f caller index since s → Effect l f (fact_after k f caller index).list s x t r
-  step_does name (looks look) one other knows = look_does look knows
-  step_does name (locks same named live between) one other knows = stays refl refl refl refl
-  step_does name (stores {n = n} {w = w} {h = h} has content small clean soils learnt means) one other knows = stays (unready n w h clean.ready) refl refl refl
-  step_does name (commits {n = n} {w = w} {h = h} has content small clean durable soiled old about learnt means) one other knows = stays (unready n w h clean.ready) refl refl refl
-  step_does name (drains {n = n} {w = w} {h = h} has small is hand cleans) one other knows = stays (unready n w h is) refl refl refl
-  step_does name (counts {h = h} {c = c} durable ready pending unplaced) one other knows =
-      adds {c = c} (subst (λ b. elim b [ true ↦ h.pending | false ↦ None ] ≡ Some c) (sym ready) pending) unplaced refl refl refl refl
-  step_does name (unlocks {n = n} {w = w} {x = x} {h = h} {r = r} next pending durable is answers) one other knows = answer_does l f n w x h r (unready n w h is) answers
-  step_does name (claims may here same) one other knows = stays refl (sym may.unplaced) refl refl
-  step_does name (publishes next left fresh) one other knows = stays refl refl refl refl
-  step_does name (leaves next) one other knows = ends refl (λ no. no) refl refl
-  step_does name (splits (fills has positive small within soils told)) one other knows = stays refl refl refl refl
-  step_does name (splits (lights here leads)) one other knows = stays refl refl refl refl
-  step_does name (splits (switches {left = left} {fresh = fresh} {seen = seen} {dirty = dirty} here small durable soiled cut told means)) one other knows =
+  pub step_does : {s : Stage} {a : Action} {x : ℕ} {t : Stage} {r : Option (Once Placed)} → (k : Step l g s a x t r) → Sure l g f caller index since s → Effect l f (fact_after k f caller index) s x t r
+  step_does (looks look) knows = look_does look knows
+  step_does (locks same named live between) knows = stays refl refl refl (inr (refl, refl)) refl
+  step_does (stores {n = n} {w = w} {h = h} has content small clean soils learnt means) knows = stays (unready n w h clean.ready) refl refl (inr (refl, refl)) refl
+  step_does (commits {n = n} {w = w} {h = h} has content small clean durable soiled old about learnt means) knows = stays (unready n w h clean.ready) refl refl (inr (refl, refl)) refl
+  step_does (drains {n = n} {w = w} {h = h} has small is hand cleans) knows = stays (unready n w h is) refl refl (inr (refl, refl)) refl
+  step_does (counts {h = h} {c = c} durable ready pending unplaced) knows =
+      adds {c = c} (subst (λ b. elim b [ true ↦ h.pending | false ↦ None ] ≡ Some c) (sym ready) pending) unplaced refl refl refl (inr (refl, refl)) refl
+  step_does (unlocks {n = n} {w = w} {x = x} {h = h} {r = r} next pending durable is answers) knows = answer_does l f _ n w x h r refl (unready n w h is) answers
+  step_does (claims may here same) knows = stays refl (sym may.unplaced) refl (inl tt) refl
+  step_does (publishes next left fresh) knows = stays refl refl refl (inl tt) refl
+  step_does (leaves next) knows = ends refl (λ no. no) refl refl
+  step_does (splits (fills has positive small within soils told)) knows = stays refl refl refl (inl tt) refl
+  step_does (splits (lights here leads)) knows = stays refl refl refl (inl tt) refl
+  step_does (splits (switches {left = left} {fresh = fresh} {seen = seen} {dirty = dirty} here small durable soiled cut told means)) knows =
       let is = cut_now l g f left fresh knows cut in
-      cuts refl refl refl refl refl (record {
+      cuts refl refl refl refl refl (inl tt) (record {
         left = left;
         fresh = fresh;
         is = refl;
@@ -160,24 +177,31 @@ module _ {l : Layout} {g : ℕ} (f : Facts) (list : IsList l f) (caller index si
           longer = λ i. with_member left.node (record { node = fresh.node; anchor = is.anchored i }) 0 f.list;
         };
       })
-  step_does name (splits (glances_left {x = x} {offset = offset} {left = left} {fresh = fresh} {phase = phase} {seen = seen} has learnt)) one other knows = stays refl refl (same_phase left (record left { seen = seen; hand = Some (offset, x) }) fresh fresh phase) refl
-  step_does name (splits (glances_fresh {x = x} {offset = offset} {left = left} {fresh = fresh} {phase = phase} has)) one other knows = stays refl refl (same_phase left left fresh (record fresh { hand = Some (offset, x) }) phase) refl
-  step_does name (splits (drains_left {left = left} {fresh = fresh} {phase = phase} {dirty = dirty} has small hand cleans)) one other knows = stays refl refl (same_phase left (record left { dirty = dirty; hand = None }) fresh fresh phase) refl
-  step_does name (splits (drains_fresh {left = left} {fresh = fresh} {phase = phase} {dirty = dirty} has small hand cleans)) one other knows = stays refl refl (same_phase left left fresh (record fresh { dirty = dirty; hand = None }) phase) refl
-  step_does name (splits (trims here small durable soiled anchor told means)) one other knows = stays refl refl refl refl
-  step_does name (merges (meets here same may next)) one other knows = absurd other
-  step_does name (merges (knows_own has positive learnt)) one other knows = absurd one
-  step_does name (merges (knows_right has positive told)) one other knows = absurd one
-  step_does name (merges (copies has content small soils learnt means)) one other knows = absurd one
-  step_does name (merges (takes_up has)) one other knows = absurd one
-  step_does name (merges (puts_down has small hand cleans)) one other knows = absurd one
-  step_does name (merges (parts next)) one other knows = absurd one
-  step_does name (merges (gathers small durable soiled told gathered)) one other knows = absurd one
-  step_does name (merges (joins small durable soiled next told)) one other knows = absurd one
-  step_does name (merges (glances_joined has learnt)) one other knows = absurd one
-  step_does name (merges (drains_joined has small hand cleans)) one other knows = absurd one
-  step_does name (merges (retires durable)) one other knows = absurd one
-  step_does name (merges (yields next durable)) one other knows = absurd one
+  step_does (splits (glances_left {x = x} {offset = offset} {left = left} {fresh = fresh} {phase = phase} {seen = seen} has learnt)) knows = stays refl refl (same_phase left (record left { seen = seen; hand = Some (offset, x) }) fresh fresh phase) (inl tt) refl
+  step_does (splits (glances_fresh {x = x} {offset = offset} {left = left} {fresh = fresh} {phase = phase} has)) knows = stays refl refl (same_phase left left fresh (record fresh { hand = Some (offset, x) }) phase) (inl tt) refl
+  step_does (splits (drains_left {left = left} {fresh = fresh} {phase = phase} {dirty = dirty} has small hand cleans)) knows = stays refl refl (same_phase left (record left { dirty = dirty; hand = None }) fresh fresh phase) (inl tt) refl
+  step_does (splits (drains_fresh {left = left} {fresh = fresh} {phase = phase} {dirty = dirty} has small hand cleans)) knows = stays refl refl (same_phase left left fresh (record fresh { dirty = dirty; hand = None }) phase) (inl tt) refl
+  step_does (splits (trims here small durable soiled anchor told means)) knows = stays refl refl refl (inl tt) refl
+  step_does (merges (meets here same may next)) knows = stays refl refl refl (inr (refl, refl)) refl
+  step_does (merges (knows_own has positive learnt)) knows = stays refl refl refl (inr (refl, refl)) refl
+  step_does (merges (knows_right has positive told)) knows = stays refl refl refl (inr (refl, refl)) refl
+  step_does (merges (copies has content small soils learnt means)) knows = stays refl refl refl (inr (refl, refl)) refl
+  step_does (merges (takes_up has)) knows = stays refl refl refl (inr (refl, refl)) refl
+  step_does (merges (puts_down has small hand cleans)) knows = stays refl refl refl (inr (refl, refl)) refl
+  step_does (merges (parts next)) knows = stays refl refl refl (inr (refl, refl)) refl
+  step_does (merges (gathers small durable soiled told gathered)) knows = stays refl refl refl (inr (sym knows.1.unmerged, sym knows.1.unmerged)) refl
+  step_does (merges (joins {h = h} {left = left} {right = right} {seen = seen} {dirty = dirty} small durable soiled next told)) knows =
+      drops (record { held = h; left = left; right = right; after = record left { seen = seen; dirty = dirty; hand = None }; was = refl; is = refl }) refl
+  step_does (merges (glances_joined has learnt)) knows = stays refl refl refl (inr (refl, refl)) refl
+  step_does (merges (drains_joined has small hand cleans)) knows = stays refl refl refl (inr (refl, refl)) refl
+  step_does (merges (retires {h = h} {left = left} {right = right} durable)) knows = buries (record { held = h; left = left; right = right; was = refl; is = refl }) refl (record {
+    node = right.node;
+    within = knows.other.here;
+    others = λ k other. ap (λ b. cond b gone_status (f.status k)) (ne_eqb k right.node other);
+    is = ap (λ b. cond b gone_status (f.status right.node)) (eq-eqb right.node right.node refl);
+    wasnt = λ gone. let no : 1 ≡ 2 = sym knows.at.bright ∙ gone in omega arith;
+  })
+  step_does (merges (yields next durable)) knows = stays refl refl refl (inr (refl, refl)) refl
 
 -- after an answer it relies on nothing
 look_idle : {l : Layout} {g : ℕ} {s : Stage} {a : Action} {x : ℕ} {t : Stage} {r : Option (Once Placed)} {answer : Once Placed} → Look l g s a x t r → r ≡ Some answer → t ≡ Idle

@@ -1,6 +1,10 @@
 pub mod There
 pub mod Effects
+pub mod Standing
+pub mod MergeStands
+pub mod Foreseeing
 pub mod Tries
+pub mod Hops
 pub mod Rooms
 pub mod Went
 pub mod LoneCalls

@@ -1,5 +1,5 @@
 -- A whole try of any call, with no other in flight.
-use Rattle.std.proofs.Common.{◌≡◌, ◌≢◌, ℕ, ◌<◌, ◌≤◌, ◌^◌, ◌⊎◌, inl, inr, ⊎_elim, true, false, cond, List, ◌++◌, length, refl, sym, ap, ◌∙◌, subst, arith}
+use Rattle.std.proofs.Common.{◌≡◌, ◌≢◌, ℕ, ◌+◌, ◌<◌, ◌≤◌, ◌^◌, ◌⊎◌, inl, inr, ⊎_elim, Bool, true, false, cond, List, ◌++◌, length, refl, sym, ap, ◌∙◌, subst, arith}
 use Rattle.std.specs.Prelude.{Option, Some, None, IfSome, IsTrue, IsSome}
 use Rattle.std.specs.FinMap.{insert, get-insert}
 use Rattle.std.proofs.lemmas.Bool.{leb-true}
@@ -78,14 +78,14 @@ use Rattle.split_merge.specs.Splits.{IsSplitAt}
 use Rattle.split_merge.specs.SplitStages.{led, split_footing, split_at_footing}
 use Rattle.split_merge.specs.OfSplits.{IsOfSplit}
 use Rattle.split_merge.proofs.OfSplits.{stages_are_of_splits}
-use Rattle.node_ops.specs.DelSteps.{IsDel, del_call, del_turned}
+use Rattle.node_ops.specs.DelSteps.{IsDel, del_call, del_turned, del_merged}
 use Rattle.node_ops.specs.RunningSteps.{IsRunning, Sound, running_call, running_asks, running_turned, running_leads, wrapped}
-use Rattle.node_ops.specs.CallStages.{lookup_at_stage, stage_of, stage_after, reply_of, SoundAfter, found_full}
+use Rattle.node_ops.specs.CallStages.{lookup_at_stage, del_stage, has_place, stage_of, stage_after, reply_of, SoundAfter, found_full}
 use Rattle.node_ops.proofs.CallLaw.{turns_are_steps, leads_are_taken}
 use Rattle.node_ops.proofs.CallSound.{Stays, get_stays, put_stays, del_stays, turns_stay_sound}
 use Rattle.node_ops.proofs.OpLaw.{counts_own_change, holds_own_name, turns_keep_op}
 use Rattle.index_law.specs.Facts.{Facts, map_now, list_in}
-use Rattle.index_law.specs.Worlds.{Party, World, facts, stepped, started, written}
+use Rattle.index_law.specs.Worlds.{Party, World, facts, stepped, started, moved_on, written}
 use Rattle.index_law.proofs.Starts.{start_law, rest_law}
 use Rattle.index_law.proofs.Parties.{set_here, set_else}
 use Rattle.index_law.specs.Lawful.{Sure}
@@ -97,12 +97,22 @@ use Rattle.index_law.proofs.Own.{sure_within}
 use Rattle.index_law.proofs.Maps.{after_all-push}
 use Rattle.lone_law.specs.There.{nodes_in, IsAtNode}
 use Rattle.lone_law.specs.Rooms.{target_node}
-use Rattle.lone_law.specs.Locks.{MergesNone}
+use Rattle.lone_law.specs.Locks.{locks_of, HasLocked, HoldsBoth, PartsOnce, AfterLocks}
+use Rattle.lone_law.specs.Merging.{LeavesShape}
+use Rattle.lone_law.specs.MergeStands.{merge_leaves}
 use Rattle.lone_law.specs.Splitting.{AreEmpty, HasFree, LacksFree, HoldsAlone}
-use Rattle.lone_law.specs.Tries.{IsFor, IsHalvedSince, Trying, Says, LeavesHistory}
-use Rattle.lone_law.specs.LoneCalls.{MachinesMergeNone, HasClaimed, IsPast, IsThere, LoneCall, FindsFull, FindsWorn, IsLate, IsAnswered, AfterCall, LoneCallsGo, LoneCallsBegin}
+use Rattle.lone_law.specs.Tries.{IsFor, IsHalvedSince, is_same, Trying, HasKeptOrMerged, Says, LeavesHistory}
+use Rattle.lone_law.specs.LoneCalls.{HasClaimed, IsPast, IsThere, Foresees, is_leaving, LoneCall, FindsFull, FindsWorn, IsLate, IsAnswered, AfterCall, LoneCallsGo, LoneCallsBegin}
 use Rattle.lone_law.proofs.There.{rest_is_still}
-use Rattle.lone_law.proofs.Went.{limit_in}
+use Rattle.node_ops.specs.Endings.{limit_in, IsPutOp}
+use Rattle.lone_law.proofs.Foreseeing.{DelForeseesSo, EndsSo, del_foresees, del_ends}
+use Rattle.lone_law.proofs.Locks.{locks_go}
+use Rattle.lone_law.proofs.MergeStands.{merge_is_for, MergeParts, merge_parts}
+use Rattle.lone_law.proofs.Standing.{both}
+use Rattle.node_ops.proofs.MergeFacts.{merging_stage}
+use Rattle.split_merge.specs.declared.merging.Merge.{Merge}
+use Rattle.split_merge.specs.declared.merging.Merged.{Merged}
+use Rattle.split_merge.specs.Merges.{merge_turned}
 use Rattle.lone_law.proofs.Tries.{tries_go, tries_end}
 use Rattle.lone_law.proofs.Rooms.{added_had_room, refused_was_full, split_was_full}
 use Rattle.lone_law.proofs.Went.{HasEnded, NeedsPlace, MayLackRoom, KnowsOwn, Went, machine_went}
@@ -133,7 +143,7 @@ limit_kept : (machine : Running) (x : ℕ) → IsRunning machine → Told (runni
     → running_leads machine x → KeepsLimit (running_call machine).limit (running_turned machine x)
 limit_kept (Getting m) x sound told leads = keeps_limit IsGet get_call (λ (k : Get). Getting k) (get_call m) (get_turned m x) (λ k. refl) (get_stays m x sound told)
 limit_kept (Putting m) x sound told leads = keeps_limit IsPut put_call (λ (k : Put). Putting k) (put_call m) (put_turned m x) (λ k. refl) (put_stays m x sound told leads)
-limit_kept (Deleting m) x sound told leads = keeps_limit IsDel del_call (λ (k : Del). Deleting k) (del_call m) (del_turned m x) (λ k. refl) (del_stays m x sound told)
+limit_kept (Deleting m) x sound told leads = keeps_limit IsDel del_call (λ (k : Del). Deleting k) (del_call m) (del_turned m x) (λ k. refl) (del_stays m x sound told leads)
 
 -- a call that was refused for want of room held a full node
 record WasFull (l : Layout) (f : Facts) (since : ℕ) (name : List ℕ) : Type 0 where
@@ -160,10 +170,10 @@ sure_below l g f caller index since Idle knows = tt
 sure_below l g f caller index since (Saw n v w k) knows = tt
 sure_below l g f caller index since (Wears n v) knows = tt
 sure_below l g f caller index since (Holds n w h) knows = knows.below
-sure_below l g f caller index since (Eyes n w h m v u free) knows = tt
+sure_below l g f caller index since (Eyes n w h m v u free) knows = knows.0.below
 sure_below l g f caller index since (Splits left fresh phase) knows = tt
-sure_below l g f caller index since (Meets n w h right) knows = tt
-sure_below l g f caller index since (Joins h left right pace) knows = tt
+sure_below l g f caller index since (Meets n w h right) knows = knows.0.below
+sure_below l g f caller index since (Joins h left right pace) knows = knows.call.below
 sure_below l g f caller index since (Leaves left) knows = tt
 
 unspent : (limit : Option ℕ) (n : ℕ) → IfSome limit (λ most. n < most) → IsTrue (is_spent limit n) → ⊥
@@ -190,14 +200,14 @@ still_there m name value other number is =
     (by_names other name (λ b. IsSome (cond b (Some value) (at m other))) (λ _. refl) (λ _. subst IsSome (sym is) refl))
 
 -- it holds one node at most
-abbrev HoldsOne : Stage → Type 0
-HoldsOne Idle = Unit {0}
-HoldsOne (Saw n v w k) = Unit {0}
-HoldsOne (Wears n v) = Unit {0}
-HoldsOne (Holds n w h) = Unit {0}
-HoldsOne _ = ⊥
+abbrev HoldsFew : Stage → Type 0
+HoldsFew Idle = Unit {0}
+HoldsFew (Saw n v w k) = Unit {0}
+HoldsFew (Wears n v) = Unit {0}
+HoldsFew (Holds n w h) = Unit {0}
+HoldsFew _ = ⊥
 
-loose_one : (s : Stage) → IsLoose s → HoldsOne s
+loose_one : (s : Stage) → IsLoose s → HoldsFew s
 loose_one Idle loose = tt
 loose_one (Saw n v w k) loose = tt
 loose_one (Wears n v) loose = tt
@@ -208,7 +218,7 @@ loose_one (Meets n w h right) loose = absurd loose
 loose_one (Joins h left right pace) loose = absurd loose
 loose_one (Leaves left) loose = absurd loose
 
-looks_one : (call : Call) (at : LookupAt) → HoldsOne (lookup_at_stage call at)
+looks_one : (call : Call) (at : LookupAt) → HoldsFew (lookup_at_stage call at)
 looks_one call (look.Walk walk) = loose_one (walk_stage walk) (walk_loose walk.generation walk.node walk.at)
 looks_one call (look.Lock seen locked) = tt
 looks_one call (look.Clock locked) = tt
@@ -218,84 +228,122 @@ looks_one call (look.Prints hold bitmap prints k) = tt
 looks_one call (look.Name hold directory left slot k) = tt
 looks_one call (look.Value hold directory slot) = tt
 
--- what splits merges nothing, and is for its name
-split_merges_none : (h : Held) (s : Stage) → IsOfSplit h s → MergesNone s
-split_merges_none h Idle is = tt
-split_merges_none h (Saw n v w k) is = tt
-split_merges_none h (Wears n v) is = tt
-split_merges_none h (Holds n w k) is = tt
-split_merges_none h (Eyes n w k m v u free) is = tt
-split_merges_none h (Splits left fresh phase) is = tt
-split_merges_none h (Leaves left) is = tt
-split_merges_none h (Meets n w k right) is = absurd is
-split_merges_none h (Joins k left right pace) is = absurd is
+-- what splits is for its name
+split_is_for : (h : Held) (name : List ℕ) (own : Option Change) (s : Stage) → h.name ≡ name → h.old ≡ Some None → IsOfSplit h s → IsFor name own s
+split_is_for h name own Idle named lacked is = absurd is
+split_is_for h name own (Saw n v w k) named lacked is = absurd is
+split_is_for h name own (Wears n v) named lacked is = absurd is
+split_is_for h name own (Holds n w k) named lacked is = tt
+split_is_for h name own (Eyes n w k m v u free) named lacked is = tt
+split_is_for h name own (Splits left fresh phase) named lacked is = (is.0 ∙ named, is.1 ∙ lacked)
+split_is_for h name own (Leaves left) named lacked is = tt
+split_is_for h name own (Meets n w k right) named lacked is = absurd is
+split_is_for h name own (Joins k left right pace) named lacked is = absurd is
 
-split_is_for : (h : Held) (name : List ℕ) (s : Stage) → h.name ≡ name → h.old ≡ Some None → IsOfSplit h s → IsFor name s
-split_is_for h name Idle named lacked is = absurd is
-split_is_for h name (Saw n v w k) named lacked is = absurd is
-split_is_for h name (Wears n v) named lacked is = absurd is
-split_is_for h name (Holds n w k) named lacked is = tt
-split_is_for h name (Eyes n w k m v u free) named lacked is = tt
-split_is_for h name (Splits left fresh phase) named lacked is = (is.0 ∙ named, is.1 ∙ lacked)
-split_is_for h name (Leaves left) named lacked is = tt
-split_is_for h name (Meets n w k right) named lacked is = absurd is
-split_is_for h name (Joins k left right pace) named lacked is = absurd is
+-- and merges nothing
+split_parts : (h : Held) (s : Stage) → IsOfSplit h s → HoldsBoth s → ⊥
+split_parts h (Meets n w k right) is two = is
+split_parts h (Joins k left right pace) is two = is
+split_parts h Idle is two = two
+split_parts h (Saw n v w k) is two = two
+split_parts h (Wears n v) is two = two
+split_parts h (Holds n w k) is two = two
+split_parts h (Eyes n w k m v u free) is two = two
+split_parts h (Splits left fresh phase) is two = two
+split_parts h (Leaves left) is two = two
 
 -- the stage of a call that doesn't split
 abbrev HasOne : Running → Type 0
 HasOne (Putting (put.Splitting call hold bitmap value split)) = ⊥
 HasOne _ = Unit {0}
 
-one_merges_none : (s : Stage) → HoldsOne s → MergesNone s
-one_merges_none Idle one = tt
-one_merges_none (Saw n v w k) one = tt
-one_merges_none (Wears n v) one = tt
-one_merges_none (Holds n w h) one = tt
-one_merges_none (Eyes n w h m v u free) one = tt
-one_merges_none (Splits left fresh phase) one = tt
-one_merges_none (Leaves left) one = tt
-one_merges_none (Meets n w h right) one = absurd one
-one_merges_none (Joins h left right pace) one = absurd one
+few_parts : (s : Stage) → HoldsFew s → HoldsBoth s → ⊥
+few_parts (Meets n w h right) one two = one
+few_parts (Joins h left right pace) one two = one
+few_parts Idle one two = two
+few_parts (Saw n v w k) one two = two
+few_parts (Wears n v) one two = two
+few_parts (Holds n w h) one two = two
+few_parts (Eyes n w h m v u free) one two = two
+few_parts (Splits left fresh phase) one two = two
+few_parts (Leaves left) one two = two
 
--- get, put and delete merge nothing
-pub machines_merge_none : MachinesMergeNone
-machines_merge_none (Getting (get.Looking lookup)) = one_merges_none _ (looks_one lookup.call lookup.at)
-machines_merge_none (Getting (get.Unlocking call hold old)) = tt
-machines_merge_none (Putting (put.Looking lookup value)) = one_merges_none _ (looks_one lookup.call lookup.at)
-machines_merge_none (Putting (put.Filling fill)) = tt
-machines_merge_none (Putting (put.Replacing call hold bitmap hit value)) = tt
-machines_merge_none (Putting (put.Finishing finish)) = tt
-machines_merge_none (Putting (put.Splitting call hold bitmap value split)) = split_merges_none _ _ (stages_are_of_splits (found_full call hold bitmap) split)
-machines_merge_none (Deleting (del.Looking lookup)) = one_merges_none _ (looks_one lookup.call lookup.at)
-machines_merge_none (Deleting (del.Clearing call hold bitmap hit)) = tt
-machines_merge_none (Deleting (del.Finishing finish)) = tt
+-- a call that holds both nodes of no merge parts with none
+abbrev pub leaves_after : Turn Running (Once Placed) → Bool
+leaves_after (Go next) = is_leaving next
+leaves_after (Done answer) = false
 
-one_for : (name : List ℕ) (s : Stage) → HoldsOne s → IsFor name s
-one_for name Idle one = tt
-one_for name (Saw n v w k) one = tt
-one_for name (Wears n v) one = tt
-one_for name (Holds n w h) one = tt
-one_for name (Eyes n w h m v u free) one = absurd one
-one_for name (Splits left fresh phase) one = absurd one
-one_for name (Leaves left) one = absurd one
-one_for name (Meets n w h right) one = absurd one
-one_for name (Joins h left right pace) one = absurd one
+alone_parts : (s t : Stage) (after : Bool) (r : Option (Once Placed)) → (HoldsBoth s → ⊥) → PartsOnce s false t after r
+alone_parts s t after r alone = record { parts = λ two. absurd (alone two); last = λ leaves. absurd (both leaves refl) }
 
--- what a call splits it splits for its name
-machine_for : (asked : NameOp) (m : Running) → IsOf asked m → IsFor (name_asked asked) (stage_of m)
-machine_for asked (Getting (get.Looking lookup)) of = one_for _ _ (looks_one lookup.call lookup.at)
-machine_for asked (Getting (get.Unlocking call hold old)) of = tt
-machine_for asked (Putting (put.Looking lookup value)) of = one_for _ _ (looks_one lookup.call lookup.at)
-machine_for asked (Putting (put.Filling fill)) of = tt
-machine_for asked (Putting (put.Replacing call hold bitmap hit value)) of = tt
-machine_for asked (Putting (put.Finishing finish)) of = tt
-machine_for (op.Put name number) (Putting (put.Splitting call hold bitmap value split)) of =
-    split_is_for (found_full call hold bitmap) name _ of.0 refl (stages_are_of_splits (found_full call hold bitmap) split)
-machine_for (op.Get name) (Putting (put.Splitting call hold bitmap value split)) of = absurd of
-machine_for (op.Del name) (Putting (put.Splitting call hold bitmap value split)) of = absurd of
-machine_for asked (Deleting (del.Looking lookup)) of = one_for _ _ (looks_one lookup.call lookup.at)
-machine_for asked (Deleting (del.Clearing call hold bitmap hit)) of = tt
-machine_for asked (Deleting (del.Finishing finish)) of = tt
+-- each turn of a call parts with the node of its merge at last
+parts_once : (m : Running) (x : ℕ) → PartsOnce (stage_of m) (is_leaving m) (stage_after (running_turned m x)) (leaves_after (running_turned m x)) (reply_of (running_turned m x))
+parts_once (Getting (get.Looking lookup)) x = alone_parts _ _ _ _ (few_parts _ (looks_one lookup.call lookup.at))
+parts_once (Getting (get.Unlocking call hold old)) x = alone_parts _ _ _ _ (λ two. two)
+parts_once (Putting (put.Looking lookup value)) x = alone_parts _ _ _ _ (few_parts _ (looks_one lookup.call lookup.at))
+parts_once (Putting (put.Filling fill)) x = alone_parts _ _ _ _ (λ two. two)
+parts_once (Putting (put.Replacing call hold bitmap hit value)) x = alone_parts _ _ _ _ (λ two. two)
+parts_once (Putting (put.Finishing finish)) x = alone_parts _ _ _ _ (λ two. two)
+parts_once (Putting (put.Splitting call hold bitmap value split)) x = alone_parts _ _ _ _ (split_parts _ _ (stages_are_of_splits (found_full call hold bitmap) split))
+parts_once (Deleting (del.Looking lookup)) x = alone_parts _ _ _ _ (few_parts _ (looks_one lookup.call lookup.at))
+parts_once (Deleting (del.Next call hold bitmap hit)) x = alone_parts _ _ _ _ (λ two. two)
+parts_once (Deleting (del.Taking call hold bitmap hit take)) x = alone_parts _ _ _ _ (λ two. two)
+parts_once (Deleting (del.Refusing call hold bitmap hit)) x = alone_parts _ _ _ _ (λ two. two)
+parts_once (Deleting (del.Clearing call hold bitmap hit line)) x = alone_parts _ _ _ _ (λ two. two)
+parts_once (Deleting (del.Finishing finish line)) x = alone_parts _ _ _ _ (λ two. two)
+parts_once (Deleting (del.Merging call hold old place merge)) x = on (merge_turned merge x) (merge_parts (has_place call old place) merge x)
+  where
+    on : (turn : Turn Merge Merged) → MergeParts (has_place call old place) merge turn
+        → PartsOnce (del_stage (del.Merging call hold old place merge)) (merge_leaves merge.at) (stage_after (wrapped Deleting (del_merged call hold old place turn)))
+        (leaves_after (wrapped Deleting (del_merged call hold old place turn))) (reply_of (wrapped Deleting (del_merged call hold old place turn)))
+    on (Go next) so = record { parts = so.0; last = λ leaves one. absurd (so.1 leaves one) }
+    on (Done merged) so = record { parts = λ two one. absurd one; last = λ leaves one e. cc }
+
+one_for : (name : List ℕ) (own : Option Change) (s : Stage) → HoldsFew s → IsFor name own s
+one_for name own Idle one = tt
+one_for name own (Saw n v w k) one = tt
+one_for name own (Wears n v) one = tt
+one_for name own (Holds n w h) one = tt
+one_for name own (Eyes n w h m v u free) one = absurd one
+one_for name own (Splits left fresh phase) one = absurd one
+one_for name own (Leaves left) one = absurd one
+one_for name own (Meets n w h right) one = absurd one
+one_for name own (Joins h left right pace) one = absurd one
+
+-- what a call splits it splits for its name, and what it merges it merges for the delete of its name
+machine_for : (w0 : World) (asked : NameOp) (m : Running) → IsOf asked m → Foresees w0 asked m → IsFor (name_asked asked) (change_of asked) (stage_of m)
+machine_for w0 asked (Getting (get.Looking lookup)) of so = one_for _ _ _ (looks_one lookup.call lookup.at)
+machine_for w0 asked (Getting (get.Unlocking call hold old)) of so = tt
+machine_for w0 asked (Putting (put.Looking lookup value)) of so = one_for _ _ _ (looks_one lookup.call lookup.at)
+machine_for w0 asked (Putting (put.Filling fill)) of so = tt
+machine_for w0 asked (Putting (put.Replacing call hold bitmap hit value)) of so = tt
+machine_for w0 asked (Putting (put.Finishing finish)) of so = tt
+machine_for w0 (op.Put name number) (Putting (put.Splitting call hold bitmap value split)) of so =
+    split_is_for (found_full call hold bitmap) name _ _ of.0 refl (stages_are_of_splits (found_full call hold bitmap) split)
+machine_for w0 (op.Get name) (Putting (put.Splitting call hold bitmap value split)) of so = absurd of
+machine_for w0 (op.Del name) (Putting (put.Splitting call hold bitmap value split)) of so = absurd of
+machine_for w0 asked (Deleting (del.Looking lookup)) of so = one_for _ _ _ (looks_one lookup.call lookup.at)
+machine_for w0 asked (Deleting (del.Next call hold bitmap hit)) of so = tt
+machine_for w0 asked (Deleting (del.Taking call hold bitmap hit take)) of so = tt
+machine_for w0 asked (Deleting (del.Refusing call hold bitmap hit)) of so = tt
+machine_for w0 asked (Deleting (del.Clearing call hold bitmap hit line)) of so = tt
+machine_for w0 asked (Deleting (del.Finishing finish line)) of so = tt
+machine_for w0 (op.Del name) (Deleting (del.Merging call hold old place merge)) of so =
+    merge_is_for name (Some (change.Del name)) (has_place call old place) _ (merging_stage call old place merge)
+    (record { named = of.0; deletes = refl; placed = λ e. cc; value = so.0.0; old = ap (λ (q : Option ℕ). Some q) so.0.1 })
+machine_for w0 (op.Get name) (Deleting (del.Merging call hold old place merge)) of so = absurd of
+machine_for w0 (op.Put name number) (Deleting (del.Merging call hold old place merge)) of so = absurd of
+
+-- whether it could merge, as it is answered that it took place
+abbrev MergesEnd : World → NameOp → Stage → Type 0
+MergesEnd w0 (op.Get name) s = Unit {0}
+MergesEnd w0 (op.Put name value) s = Unit {0}
+MergesEnd w0 (op.Del name) s = EndsSo w0 name s
+
+-- what it has found out after a turn
+abbrev ForeseesTurn : World → NameOp → Turn Running (Once Placed) → Type 0
+ForeseesTurn w0 asked (Go next) = Foresees w0 asked next
+ForeseesTurn w0 asked (Done answer) = Unit {0}
 
 -- a turn leads to no split that has claimed a node
 abbrev IsNotPast : Turn Running (Once Placed) → Type 0
@@ -446,8 +494,8 @@ module _ (w0 : World) (i : ℕ) (asked : NameOp) (limit : Option ℕ) (w : World
   about : IsAbout (name_asked asked) p.stage
   about = subst (IsAbout (name_asked asked)) (sym o.stage) (holds_own_name asked machine o.of)
 
-  is_for : IsFor (name_asked asked) p.stage
-  is_for = subst (IsFor (name_asked asked)) (sym o.stage) (machine_for asked machine o.of)
+  is_for : IsFor (name_asked asked) own p.stage
+  is_for = subst (IsFor (name_asked asked) own) (sym o.stage) (machine_for w0 asked machine o.of o.foresees)
 
   layout_is : (running_call machine).view.layout ≡ w0.layout
   layout_is = o.sound.layout ∙ o.trying.layout
@@ -564,8 +612,9 @@ module _ (w0 : World) (i : ℕ) (asked : NameOp) (limit : Option ℕ) (w : World
       stands.unworn (subst (λ (q : ℕ × ℕ). IsWorn ((facts w0).version q.0) q.1) (λ k. (sym (stands.node ∙ ap (λ (n : List ℕ). target_node w0 n) name_is) k, sym generation_is k)) worn)
 
   -- it had room
-  had_room : (d : NameOp) → IsName (name_asked d) → IsAtRest w' → w'.history ≡ w0.history ++ written p.caller p.index (change_of d) → (facts w').list ≡ (facts w0).list → FindsFull w0 d → ⊥
-  had_room (op.Put name value) named rest' history list finds =
+  had_room : (d : NameOp) → IsName (name_asked d) → IsAtRest w' → w'.history ≡ w0.history ++ written p.caller p.index (change_of d) → (IsPutOp d → (facts w').list ≡ (facts w0).list) → FindsFull w0 d → ⊥
+  had_room (op.Put name value) named rest' history kept finds =
+      let list = kept tt in
       let map_is : map_now (facts w') ≡ insert (map_now (facts w0)) name value =
       (λ k. after_all (o.trying.base k) (history k)) ∙ after_all-push w0.base w0.history (record { caller = p.caller; index = p.index; change = change.Put name value }) in
       let now : (other : List ℕ) → at (map_now (facts w')) other ≡ at (insert (map_now (facts w0)) name value) other = λ other. ap (λ m. at m other) map_is in
@@ -574,68 +623,142 @@ module _ (w0 : World) (i : ℕ) (asked : NameOp) (limit : Option ℕ) (w : World
       (λ other number is. subst IsSome (sym (now other)) (still_there (map_now (facts w0)) name value other number is)) in
       let same = finds.1 in
       omega arith
-  had_room (op.Get name) named rest' history list finds = finds
-  had_room (op.Del name) named rest' history list finds = finds
+  had_room (op.Get name) named rest' history kept finds = finds
+  had_room (op.Del name) named rest' history kept finds = finds
 
-  answered : (answer : Once Placed) → IsAtRest w' → Says w0 w' (name_asked asked) answer → LeavesHistory own w0 w' p
+  -- whether it could merge, as it is answered that it took place
+  ends_so : (d : NameOp) (m : Running) (placed : Placed) → IsOf d m → IsRunning m → Foresees w0 d m → IsLegal l g (facts w') p.caller p.index p.since (stage_of m) (Some (once.Done placed))
+      → NeedsPlace m (placed_in (stage_of m)) → running_turned m x ≡ Done (once.Done placed) → MergesEnd w0 d (stage_of m)
+  ends_so (op.Get name) m placed is sound so legal needs done = tt
+  ends_so (op.Put name value) m placed is sound so legal needs done = tt
+  ends_so (op.Del name) (Deleting m) placed is sound so legal needs done =
+      del_ends w0 name l g (facts w') p.caller p.index p.since placed m x sound so legal needs (unwrapped (del_turned m x) done)
+    where
+      unwrapped : (turn : Turn Del (Once Placed)) → wrapped Deleting turn ≡ Done (once.Done placed) → turn ≡ Done (once.Done placed)
+      unwrapped (Go next) e = absurd (cc)
+      unwrapped (Done answer) e = cc
+  ends_so (op.Del name) (Getting m) placed is sound so legal needs done = absurd is
+  ends_so (op.Del name) (Putting m) placed is sound so legal needs done = absurd is
+
+  -- and what it leaves of the list
+  leaves_shape : (d : NameOp) (s : Stage) → HasKeptOrMerged w0 w' (name_asked d) (change_of d) s → MergesEnd w0 d s → LeavesShape w0 d w'
+  leaves_shape (op.Get name) s (inl kept) ends = inl ((λ none. none), kept.1)
+  leaves_shape (op.Get name) s (inr merged) ends = absurd (let no = merged.1 in cc)
+  leaves_shape (op.Put name value) s (inl kept) ends = inl ((λ none. none), kept.1)
+  leaves_shape (op.Put name value) s (inr merged) ends = absurd (let no = merged.1 in cc)
+  leaves_shape (op.Del name) s (inl kept) ends = inl (ends.0 kept.0, kept.1)
+  leaves_shape (op.Del name) s (inr merged) ends = inr ((merged.2, ends.1 merged.0), merged.3)
+
+  -- a put leaves the list
+  put_keeps : (d : NameOp) (s : Stage) → HasKeptOrMerged w0 w' (name_asked d) (change_of d) s → IsPutOp d → (facts w').list ≡ (facts w0).list
+  put_keeps (op.Get name) s left is = absurd is
+  put_keeps (op.Del name) s left is = absurd is
+  put_keeps (op.Put name value) s (inl kept) is = kept.1.0
+  put_keeps (op.Put name value) s (inr merged) is = absurd (let no = merged.1 in cc)
+
+  answered : (answer : Once Placed) → running_turned machine x ≡ Done answer → IsAtRest w' → Says w0 w' (name_asked asked) own p.stage answer → LeavesHistory own w0 w' p
       → IsLegal l g (facts w') p.caller p.index p.since p.stage (Some answer)
       → HasEnded w0.layout w0.generation w0.words (running_call machine) (NeedsPlace machine) (MayLackRoom machine) (placed_in (stage_of machine)) (limit_in (stage_of machine)) answer
       → IsAnswered w0 asked limit w' p answer
-  answered (once.Done placed) rest' says leaves legal ended =
+  answered (once.Done placed) done rest' says leaves legal ended =
       let same_place = ap placed_in o.stage in
       let history = wrote asked machine o.of (placed_in (stage_of machine)) ended.2 (λ e. leaves.0 (same_place ∙ e)) (λ some. leaves.1 (λ e. some (sym same_place ∙ e))) in
-      let named = named_by l g (facts w) (facts w') p.caller p.index p.since (name_asked asked) p.stage placed (o.trying.lawful.sure i p o.trying.there) about legal in (
-        (fresh ended.0, in_time ended.3, had_room asked named rest' history says.2),
+      let named = named_by l g (facts w) (facts w') p.caller p.index p.since (name_asked asked) p.stage placed (o.trying.lawful.sure i p o.trying.there) about legal in
+      let ends = ends_so asked machine placed o.of o.sound.here o.foresees (subst (λ (s : Stage). IsLegal l g (facts w') p.caller p.index p.since s (Some (once.Done placed))) o.stage legal) ended.2 done in (
+        (fresh ended.0, in_time ended.3, had_room asked named rest' history (put_keeps asked p.stage says.2)),
         says.0,
         says.1,
         ended.1 ∙ ended.0.hops ∙ ap (λ (n : List ℕ). position_from (list_in w0.layout w0.words) (key_of n)) name_is,
         history,
-        says.2,
+        leaves_shape asked p.stage says.2 (subst (MergesEnd w0 asked) (sym o.stage) ends),
       )
-  answered (once.Spent clock) rest' says leaves legal ended =
+  answered (once.Spent clock) done rest' says leaves legal ended =
       (fresh ended.1, subst (λ (q : Option ℕ × ℕ). IsTrue (is_spent q.0 q.1)) (λ k. (o.limited k, says.0 k)) ended.0, says.0, says.1, says.2)
-  answered (once.Worn node word) rest' says leaves legal ended =
+  answered (once.Worn node word) done rest' says leaves legal ended =
       let node_is : node ≡ target_node w0 (name_asked asked) = ended.0 ∙ ap (λ (n : List ℕ). target_node w0 n) name_is in
       (subst (λ (v : ℕ). IsWorn v w0.generation) (ended.1 ∙ ap (facts w0).version node_is) ended.2, node_is, ended.1, says.0, says.1)
-  answered (once.Again again.NoFree) rest' says leaves legal ended =
-      (fresh ended.0, split_late machine o.sound sure o.timely o.limited ended.1, full asked machine o.of ended.1 rest' about legal says.0 says.1, lacks ended.2, says.0, says.1)
-  answered (once.Again (again.NeedsSplit node)) rest' says leaves legal ended =
-      (fresh ended.0, split_late machine o.sound sure o.timely o.limited ended.1, was_split asked machine o.of ended.1 says.1, has ended.2, says.0, says.1)
-  answered (once.Again (again.Locked n word)) rest' says leaves legal ended = absurd ended
-  answered (once.Again (again.Moved n first second)) rest' says leaves legal ended = absurd ended
-  answered (once.Again (again.Hops count)) rest' says leaves legal ended = absurd ended
-  answered (once.Again again.LogFull) rest' says leaves legal ended = absurd ended
-  answered (once.Again (again.Held word)) rest' says leaves legal ended = absurd ended
-  answered (once.Again (again.Epoch first second)) rest' says leaves legal ended = absurd ended
+  answered (once.Again again.NoFree) done rest' says leaves legal ended =
+      (fresh ended.0, split_late machine o.sound sure o.timely o.limited ended.1, full asked machine o.of ended.1 rest' about legal says.0 says.1.0, lacks ended.2, says.0, says.1)
+  answered (once.Again (again.NeedsSplit node)) done rest' says leaves legal ended =
+      (fresh ended.0, split_late machine o.sound sure o.timely o.limited ended.1, was_split asked machine o.of ended.1 says.1, has ended.2, says.0, says.1, says.2)
+  answered (once.Again (again.Locked n word)) done rest' says leaves legal ended = absurd ended
+  answered (once.Again (again.Moved n first second)) done rest' says leaves legal ended = absurd ended
+  answered (once.Again (again.Hops count)) done rest' says leaves legal ended = absurd ended
+  answered (once.Again again.LogFull) done rest' says leaves legal ended = absurd ended
+  answered (once.Again (again.Held word)) done rest' says leaves legal ended = absurd ended
+  answered (once.Again (again.Epoch first second)) done rest' says leaves legal ended = absurd ended
 
-  after_turn : (t : Turn Running (Once Placed)) → AnyStep l g p.stage a x (stage_after t) (reply_of t) → SoundAfter l g t → IsOfAfter asked t → KeepsLimit (running_call machine).limit t
-      → (HasOne machine → IsNotPast t) → Went w0.layout w0.generation w0.words (acted w.layout w.words a) machine t → AfterCall w0 i asked limit w p machine t
-  after_turn (Go next) k sound of keeps begun been = record {
-    trying = tries_go (name_asked asked) own w0 i w p a x (stage_of next) o.trying is_for (machine_for asked next of) mine k told room;
+  -- the try goes on to each stage
+  goes_on_to : (next : Running) → running_turned machine x ≡ Go next → Trying (name_asked asked) own w0 i (stepped w i p a (stage_of next)) (moved_on p (stage_of next))
+  goes_on_to next turn = tries_go (name_asked asked) own w0 i w p a x (stage_of next) o.trying is_for mine
+      (subst (λ (t : Turn Running (Once Placed)). AnyStep l g p.stage a x (stage_after t) (reply_of t)) turn step) told room
+
+  -- the version words after a turn
+  locks_so : AfterLocks g (facts w0).version (facts (stepped w i p a (stage_after (running_turned machine x)))).version (leaves_after (running_turned machine x)) (stage_after (running_turned machine x)) (reply_of (running_turned machine x))
+  locks_so = locks_go (facts w0).version w i p (is_leaving machine) a x (stage_after (running_turned machine x)) (leaves_after (running_turned machine x)) (reply_of (running_turned machine x)) o.trying.lawful o.trying.there
+      (subst (HasLocked g (facts w0).version (facts w).version (is_leaving machine)) (sym o.stage) o.locks)
+      (subst (λ (s : Stage). PartsOnce s (is_leaving machine) (stage_after (running_turned machine x)) (leaves_after (running_turned machine x)) (reply_of (running_turned machine x))) (sym o.stage) (parts_once machine x))
+      step told
+
+  -- what it has found out after a turn
+  foresees_so : ForeseesTurn w0 asked (running_turned machine x)
+  foresees_so = of asked machine o.of o.foresees o.locks o.sound o.stage told o.trying goes_on_to
+    where
+      of : (d : NameOp) (m : Running) → IsOf d m → Foresees w0 d m → HasLocked g (facts w0).version (facts w).version (is_leaving m) (stage_of m) → Sound l g m → p.stage ≡ stage_of m → x ≡ got l w.words (running_asks m)
+          → Trying (name_asked d) (change_of d) w0 i w p
+          → ((next : Running) → running_turned m x ≡ Go next → Trying (name_asked d) (change_of d) w0 i (stepped w i p (running_asks m) (stage_of next)) (moved_on p (stage_of next)))
+          → ForeseesTurn w0 d (running_turned m x)
+      of d (Getting m) is so locks sound stage heard trying goes = on (get_turned m x)
+        where
+          on : (turn : Turn Get (Once Placed)) → ForeseesTurn w0 d (wrapped Getting turn)
+          on (Go next) = tt
+          on (Done answer) = tt
+      of d (Putting m) is so locks sound stage heard trying goes = on (put_turned m x)
+        where
+          on : (turn : Turn Put (Once Placed)) → ForeseesTurn w0 d (wrapped Putting turn)
+          on (Go next) = tt
+          on (Done answer) = tt
+      of (op.Del name) (Deleting m) is so locks sound stage heard trying goes = on (del_turned m x)
+          (del_foresees name w0 i w p trying rest m x sound.here is.0 sound.layout sound.generation stage so locks heard (λ next e. goes (Deleting next) (ap (wrapped Deleting) e)))
+        where
+          on : (turn : Turn Del (Once Placed)) → DelForeseesSo w0 name turn → ForeseesTurn w0 (op.Del name) (wrapped Deleting turn)
+          on (Go next) so = so
+          on (Done answer) so = tt
+      of (op.Get name) (Deleting m) is so locks sound stage heard trying goes = absurd is
+      of (op.Put name value) (Deleting m) is so locks sound stage heard trying goes = absurd is
+
+  after_turn : (t : Turn Running (Once Placed)) → running_turned machine x ≡ t → AnyStep l g p.stage a x (stage_after t) (reply_of t) → SoundAfter l g t → IsOfAfter asked t → KeepsLimit (running_call machine).limit t
+      → (HasOne machine → IsNotPast t) → ForeseesTurn w0 asked t → AfterLocks g (facts w0).version (facts (stepped w i p a (stage_after t))).version (leaves_after t) (stage_after t) (reply_of t)
+      → Went w0.layout w0.generation w0.words (acted w.layout w.words a) machine t → AfterCall w0 i asked limit w p machine t
+  after_turn (Go next) turn k sound of keeps begun foreseen locks been = record {
+    trying = goes_on_to next turn;
     stage = refl;
     sound = sound;
     of = of;
     limited = keeps ∙ o.limited;
     stands = been;
+    foresees = foreseen;
+    locks = locks;
     empty = o.empty;
     timely = λ past. ⊎_elim
         (λ (one : HasOne machine). absurd (begun one past))
         (λ (splits : MayLackRoom machine). split_late machine o.sound sure o.timely o.limited splits)
         (one_or_splits machine);
   }
-  after_turn (Done answer) k sound of keeps begun been =
+  after_turn (Done answer) turn k sound of keeps begun foreseen locks been =
       let end = tries_end (name_asked asked) own w0 i w p a x Idle answer o.trying is_for about k told room in
       let legal = (any_keeps w i p a x Idle (Some answer) o.trying.lawful o.trying.there k told room).legal in
-      (end.0, answered answer end.0 end.1 end.2 legal been)
+      (end.0, answered answer turn end.0 end.1 end.2 legal been, subst (λ (n : ℕ). (m : ℕ) → locks_of n ((facts w0).version m) ≤ locks_of n ((facts w').version m) + 1) o.trying.generation locks)
 
 pub lone_calls_go : LoneCallsGo
 lone_calls_go w0 i asked limit w p machine x o rest told room =
     let is_told = tells w0 i asked limit w p machine x o rest told room in
     let own_told = subst (λ (q : Layout × ℕ). Told q.0 q.1 (running_asks machine) x) (λ k. (sym o.sound.layout k, sym o.sound.generation k)) is_told in
     let led = takes w0 i asked limit w p machine x o rest told room in
-    after_turn w0 i asked limit w p machine x o rest told room (running_turned machine x) (step w0 i asked limit w p machine x o rest told room)
+    after_turn w0 i asked limit w p machine x o rest told room (running_turned machine x) refl (step w0 i asked limit w p machine x o rest told room)
     (turns_stay_sound w.layout w.generation machine x o.sound is_told led) (turns_keep_op w.layout w.generation asked machine x o.sound is_told led o.of)
-    (limit_kept machine x o.sound.here own_told led) (not_past machine x) (went w0 i asked limit w p machine x o rest told room)
+    (limit_kept machine x o.sound.here own_told led) (not_past machine x)
+    (foresees_so w0 i asked limit w p machine x o rest told room) (locks_so w0 i asked limit w p machine x o rest told room) (went w0 i asked limit w p machine x o rest told room)
 
 module _ (w0 : World) (i : ℕ) (limit : Option ℕ) (p : Party) (index : ℕ) (view : View) (name : List ℕ) (rest : IsAtRest w0) (there : get_elem? w0.parties i ≡ some p)
     (is_view : IsView view) (layout : view.layout ≡ w0.layout) (generation : view.generation ≡ w0.generation) (named : IsName name) (most : IfSome limit (λ m. m ≤ 2 ^ 62)) where
@@ -662,8 +785,10 @@ module _ (w0 : World) (i : ℕ) (limit : Option ℕ) (p : Party) (index : ℕ) (
     layout = refl;
     generation = refl;
     base = refl;
+    began = rest.list;
     written = inl (refl, refl);
-    shape = inl (refl, refl);
+    shape = is_same refl refl refl;
+    gone = omega arith;
   }
 
   on_way : IsOnWay w0.layout (nodes_in w0.layout w0.words) (position_from (list_in w0.layout w0.words) (key_number (key_words call.name))) (walk_from view.layout view.generation 0 (key_words call.name))
@@ -678,6 +803,8 @@ module _ (w0 : World) (i : ℕ) (limit : Option ℕ) (p : Party) (index : ℕ) (
 
 pub lone_calls_begin : LoneCallsBegin
 lone_calls_begin w0 i (op.Get name) limit p index view rest there is_view layout generation named most fits empty = record {
+  foresees = tt;
+  locks = λ m. refl;
   empty = empty;
   timely = λ past. absurd past;
   trying = tries w0 i limit p index view name rest there is_view layout generation named most None;
@@ -688,6 +815,8 @@ lone_calls_begin w0 i (op.Get name) limit p index view rest there is_view layout
   stands = (refl, on_way w0 i limit p index view name rest there is_view layout generation named most);
 }
 lone_calls_begin w0 i (op.Put name value) limit p index view rest there is_view layout generation named most fits empty = record {
+  foresees = tt;
+  locks = λ m. refl;
   empty = empty;
   timely = λ past. absurd past;
   trying = tries w0 i limit p index view name rest there is_view layout generation named most (Some (change.Put name value));
@@ -698,6 +827,8 @@ lone_calls_begin w0 i (op.Put name value) limit p index view rest there is_view 
   stands = (refl, on_way w0 i limit p index view name rest there is_view layout generation named most);
 }
 lone_calls_begin w0 i (op.Del name) limit p index view rest there is_view layout generation named most fits empty = record {
+  foresees = tt;
+  locks = λ m. refl;
   empty = empty;
   timely = λ past. absurd past;
   trying = tries w0 i limit p index view name rest there is_view layout generation named most (Some (change.Del name));

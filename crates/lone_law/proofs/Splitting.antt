@@ -79,7 +79,7 @@ module _ (take : Take) (sound : IsTake take) (words0 words : List ℕ) (n : ℕ)
   own_index : take_line take % 8 ≡ take.index
   own_index = let index = sound.index in omega arith
 
-  take_unmoved : IsUnmoved l words0 (acted l words (take_asks take)) n
+  pub take_unmoved : IsUnmoved l words0 (acted l words (take_asks take)) n
   take_unmoved = of take.at sound.here
     where
       of : (at : TakeAt) → IsTakeAt at → IsUnmoved l words0 (acted l words (take_at_asks l (take_line take) at)) n
@@ -92,7 +92,7 @@ module _ (take : Take) (sound : IsTake take) (words0 words : List ℕ) (n : ℕ)
               drained_unmoved l words0 words n (take_line take / 8) (take_line take % 8) fence.word value (let is = own_caller in omega arith) (let is = own_index in let small = sound.index in omega arith) here.word unmoved
 
   -- what it is told of a state
-  take_told : (x : ℕ) → x ≡ got l words (take_asks take) → take.at ≡ take_at.State → x ≡ line_in l words0 take.caller take.index 0
+  pub take_told : (x : ℕ) → x ≡ got l words (take_asks take) → take.at ≡ take_at.State → x ≡ line_in l words0 take.caller take.index 0
   take_told x told is =
       told ∙ ap (λ (at : TakeAt). got l words (take_at_asks l (take_line take) at)) is
       ∙ (λ k. location.at l words (Cached (Line (own_caller k) (own_index k) 0)))
@@ -105,11 +105,11 @@ worn_or_fresh v g = elim (is_worn_word v g) as (λ b. is_worn_word v g ≡ b →
 ] refl
 
 -- a look for a line goes on as one of the same caller
-abbrev TakeCaller : ℕ → Turn Take Taken → Type 0
+abbrev pub TakeCaller : ℕ → Turn Take Taken → Type 0
 TakeCaller c (Go take) = take.caller ≡ c
 TakeCaller c (Done answer) = Unit {0}
 
-take_stays : (take : Take) (x : ℕ) → IsTake take → x < 2 ^ 64 → TakeCaller take.caller (take_turned take x)
+pub take_stays : (take : Take) (x : ℕ) → IsTake take → x < 2 ^ 64 → TakeCaller take.caller (take_turned take x)
 take_stays take x is fits = of (take_turned take x) (takes_are_notes take x is fits)
   where
     of : (turn : Turn Take Taken) → TakeNotes take.layout take.caller (take_held take) (take_asks take) x turn → TakeCaller take.caller turn

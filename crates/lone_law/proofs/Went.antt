@@ -1,16 +1,17 @@
 -- Where the machine of a lone call is after a turn.
-use Rattle.std.proofs.Common.{◌≡◌, ◌≢◌, ℕ, ◌+◌, true, false, cond, ltb, List, inl, refl, sym, subst}
+use Rattle.std.proofs.Common.{◌≡◌, ◌≢◌, ℕ, ◌+◌, ◌/◌, ◌<◌, ◌^◌, ◌==◌, nat_lt, true, false, cond, ltb, List, inl, refl, sym, ◌∙◌, subst, arith}
 use Rattle.std.specs.Prelude.{Option, Some, None}
 use Rattle.pm_words.specs.declared.layout.Layout.{Layout}
 use Rattle.pm_words.specs.declared.again.Again.TheVariants as again
 use Rattle.pm_words.specs.declared.machine.Turn.{Turn}
 use Rattle.pm_words.specs.declared.machine.Turn.TheVariants.{Go, Done}
+use Rattle.pm_words.specs.declared.action.Action.TheVariants.{Load}
 use Rattle.pm_words.specs.Rows.{acted, got}
 use Rattle.data_node.specs.Bits.{lowest_clear}
 use Rattle.call_stages.specs.declared.once.Once.{Once}
 use Rattle.call_stages.specs.declared.once.Once.TheVariants as once
 use Rattle.call_stages.specs.declared.once.Placed.{Placed}
-use Rattle.call_stages.specs.Stages.{Stage, Holds, placed_in}
+use Rattle.call_stages.specs.Stages.{placed_in}
 use Rattle.data_list.specs.Still.{IsQuietList}
 use Rattle.node_ops.specs.declared.call.Call.{Call}
 use Rattle.node_ops.specs.declared.lookup.Hit.{Hit}
@@ -38,14 +39,27 @@ use Rattle.node_ops.specs.FinishSteps.{finish_turned, finish_at_turned, finish_f
 use Rattle.node_ops.specs.FillSteps.{fill_turned, fill_at_turned, slot_fenced, print_fenced}
 use Rattle.node_ops.specs.GetSteps.{IsGet, get_call, get_asks, get_turned}
 use Rattle.node_ops.specs.PutSteps.{IsPut, put_call, put_asks, put_turned, put_looked, put_into, put_full, put_filled, put_finished, put_split, IsSplitting}
-use Rattle.node_ops.specs.DelSteps.{IsDel, del_call, del_asks, del_turned, del_looked, del_hit, del_finished}
+use Rattle.node_ops.specs.DelSteps.{IsDel, IsTakeOf, names_left, del_call, del_asks, del_turned, del_looked, del_slot, del_hit, saw_next, del_taken, goes_on, merges_at, del_finished, del_merged}
 use Rattle.node_ops.specs.RunningSteps.{IsRunning, running_call, running_asks, running_turned, wrapped}
-use Rattle.node_ops.specs.CallStages.{stage_of, get_stage, put_stage, del_stage}
+use Rattle.node_ops.specs.CallStages.{stage_of, get_stage, put_stage, del_stage, has_place}
+use Rattle.node_ops.specs.Endings.{limit_in}
+use Rattle.node_ops.proofs.MergeFacts.{merging_stage, merge_placed, merge_limited}
+use Rattle.smo_log.specs.declared.take.Take.{Take}
+use Rattle.smo_log.specs.declared.take.TakeAt.TheVariants as take_at
+use Rattle.smo_log.specs.declared.take.Taken.{Taken}
+use Rattle.smo_log.specs.declared.take.Taken.TheVariants as taken
+use Rattle.smo_log.specs.Takes.{take_from, take_asks, take_turned}
+use Rattle.smo_log.specs.Laws.{HasLooked, TakeHeeds}
+use Rattle.smo_log.proofs.LineLaw.{takes_heed}
+use Rattle.split_merge.specs.declared.merging.Merge.{Merge}
+use Rattle.split_merge.specs.declared.merging.Merged.{Merged}
+use Rattle.split_merge.specs.Merges.{merge_turned}
+use Rattle.index_law.specs.Lines.{line_in}
 use Rattle.lone_law.specs.There.{nodes_in, IsAtNode, IsUnmoved, EndsEarly, LookedStands}
 use Rattle.lone_law.specs.Splitting.{AreEmpty, HasFree, LacksFree, SplitStands, SplitWent, IsReadyToSplit, HoldsAlone}
-use Rattle.lone_law.proofs.Splitting.{splits_come_there}
+use Rattle.lone_law.proofs.Splitting.{splits_come_there, TakeCaller, take_unmoved, take_told, take_stays}
 use Rattle.index_law.specs.Facts.{version_in, list_in}
-use Rattle.data_node.specs.Lists.{IsIn, key_of}
+use Rattle.data_node.specs.Lists.{IsIn, key_of, next_offset}
 use Rattle.data_node.proofs.ListLemmas.{target_in}
 use Rattle.call_stages.specs.Kinds.{Told}
 use Rattle.call_stages.specs.declared.view.View.{View}
@@ -55,16 +69,11 @@ use Rattle.split_merge.specs.declared.splitting.SplitDone.TheVariants as done
 use Rattle.split_merge.specs.Splits.{split_asks, split_turned}
 use Rattle.pm_words.specs.declared.again.Again.{Again}
 use Rattle.node_ops.specs.declared.lookup.Hold.{Hold}
-use Rattle.node_ops.specs.Calls.{name_in}
+use Rattle.node_ops.specs.Calls.{name_in, call_address}
 use Rattle.lone_law.specs.LoneCalls.{GetIsThere, PutIsThere, DelIsThere, IsThere}
-use Rattle.lone_law.proofs.There.{looks_come_there}
+use Rattle.lone_law.proofs.There.{looks_come_there, loaded_unmoved}
 use Rattle.node_ops.specs.declared.get.Get.TheVariants as get
 use Rattle.node_ops.specs.GetSteps.{get_looked}
-
--- the limit that its clock was below
-abbrev pub limit_in : Stage → Option ℕ
-limit_in (Holds n w h) = h.limit
-limit_in _ = None
 
 -- where a get is after a turn
 abbrev pub GetWent : Layout → ℕ → List ℕ → List ℕ → Call → Option ℕ → Turn Get (Once Placed) → Type 0
@@ -174,14 +183,48 @@ module _ (l : Layout) (g : ℕ) (words0 words : List ℕ) (R : Type 0) where
   put_looked_went call value place limit (Done (looked.Early answer)) is = early l g words0 call IsGiven R place limit answer is
   put_looked_went call value place limit (Done (looked.Found found)) is = into_stands call found value (lowest_clear found.directory.bitmap call.view.layout.slots) is
 
-  hit_stands : (call : Call) (found : Found) (hit : Option Hit) → IsAtNode l words0 call → DelIsThere l words0 words (del_hit call found.hold found.directory.bitmap hit)
-  hit_stands call found (Some hit) stands = stands
-  hit_stands call found None stands = stands
+  slot_stands : (call : Call) (hold : Hold) (bitmap : ℕ) (hit : Hit) → IsAtNode l words0 call × IsUnmoved l words0 words call.node → DelIsThere l words0 words (del_slot call hold bitmap hit)
+  slot_stands call hold bitmap hit stands = elim (nat_lt (call.view.layout.slots / 2) (names_left call bitmap hit)) as (λ b. DelIsThere l words0 words (cond b (del.Clearing call hold bitmap hit None) (del.Next call hold bitmap hit))) [
+    | true ↦ stands.0
+    | false ↦ stands
+  ]
+
+  hit_stands : (call : Call) (found : Found) (hit : Option Hit) → IsAtNode l words0 call × IsUnmoved l words0 words call.node → DelIsThere l words0 words (del_hit call found.hold found.directory.bitmap hit)
+  hit_stands call found (Some hit) stands = slot_stands call found.hold found.directory.bitmap hit stands
+  hit_stands call found None stands = stands.0
 
   del_looked_went : (call : Call) (place limit : Option ℕ) (turn : Turn Lookup Looked) → LookedStands l g words0 words call turn → DelWent call place limit (del_looked call turn)
   del_looked_went call place limit (Go next) is = is
   del_looked_went call place limit (Done (looked.Early answer)) is = early l g words0 call IsGiven R place limit answer is
-  del_looked_went call place limit (Done (looked.Found found)) is = hit_stands call found found.hit is.0
+  del_looked_went call place limit (Done (looked.Found found)) is = hit_stands call found found.hit is
+
+  -- a look for a line begins
+  next_went : (call : Call) (hold : Hold) (bitmap : ℕ) (hit : Hit) (place limit : Option ℕ) (next : ℕ) → IsAtNode l words0 call × IsUnmoved l words0 words call.node
+      → DelWent call place limit (Go (saw_next call hold bitmap hit next))
+  next_went call hold bitmap hit place limit next stands =
+      elim (next == 0) as (λ b. DelIsThere l words0 words (cond b (del.Clearing call hold bitmap hit None) (del.Taking call hold bitmap hit (take_from call.view.layout call.view.caller)))) [
+        | true ↦ stands.0
+        | false ↦ (stands.0, stands.1, λ index lt. absurd (let no : index < 0 = lt in omega arith))
+      ]
+
+  -- and it finds one, since each is EMPTY
+  del_taken_went : (call : Call) (hold : Hold) (bitmap : ℕ) (hit : Hit) (place limit : Option ℕ) (take : Take) → AreEmpty l words0 → take.caller < l.callers
+      → IsAtNode l words0 call → IsUnmoved l words0 words call.node → (turn : Turn Take Taken) → TakeHeeds take.caller (λ index. line_in l words0 take.caller index 0) take.index turn
+      → TakeCaller take.caller turn → DelWent call place limit (del_taken call hold bitmap hit turn)
+  del_taken_went call hold bitmap hit place limit take empty low there unmoved (Go take') heeds own =
+      (there, unmoved, subst (λ c. HasLooked (λ index. line_in l words0 c index 0) take'.index take'.at) (sym own) heeds)
+  del_taken_went call hold bitmap hit place limit take empty low there unmoved (Done (taken.Line line)) heeds own = there
+  del_taken_went call hold bitmap hit place limit take empty low there unmoved (Done taken.Full) heeds own = absurd (heeds 0 (omega arith) (empty take.caller 0 low (omega arith)))
+
+  -- the end of a write, which may go on with a merge
+  goes_on_there : (finish : Finish) (line : Option ℕ) → IsAtNode l words0 finish.call → DelIsThere l words0 words (goes_on finish line)
+  goes_on_there finish None stands = stands
+  goes_on_there finish (Some number) stands = at finish.at
+    where
+      at : (at : FinishAt) → DelIsThere l words0 words (merges_at finish number at)
+      at (finish_at.Fence first fence) = stands
+      at finish_at.Add = stands
+      at (finish_at.Unlock place) = stands
 
   put_filled_went : (call : Call) (place limit : Option ℕ) (turn : Turn Fill Finish) → FillWent turn → PutWent call place limit (put_filled turn)
   put_filled_went call place limit (Go next) is = is
@@ -191,9 +234,15 @@ module _ (l : Layout) (g : ℕ) (words0 words : List ℕ) (R : Type 0) where
   put_finished_went call place limit (Go next) is = is
   put_finished_went call place limit (Done answer) is = is
 
-  del_finished_went : (call : Call) (place limit : Option ℕ) (turn : Turn Finish (Once Placed)) → FinishWent call place limit turn → DelWent call place limit (del_finished turn)
-  del_finished_went call place limit (Go next) is = is
-  del_finished_went call place limit (Done answer) is = is
+  del_finished_went : (line : Option ℕ) (call : Call) (place limit : Option ℕ) (turn : Turn Finish (Once Placed)) → FinishWent call place limit turn → DelWent call place limit (del_finished line turn)
+  del_finished_went line call place limit (Go next) is = goes_on_there next line is
+  del_finished_went line call place limit (Done answer) is = is
+
+  -- a merge, at whose end it is answered
+  del_merged_went : (call : Call) (hold : Hold) (old place limit : Option ℕ) (number : ℕ) → IsAtNode l words0 call → place ≢ None → limit ≡ call.limit → (turn : Turn Merge Merged)
+      → DelWent call place limit (del_merged call hold old number turn)
+  del_merged_went call hold old place limit number stands given below (Go merge) = stands
+  del_merged_went call hold old place limit number stands given below (Done merged) = (stands, refl, given, below)
 
 -- a get needs no place
 abbrev pub NeedsPlace : Running → Option ℕ → Type 0
@@ -270,15 +319,44 @@ put_went (put.Splitting call hold bitmap value split) words0 words x sound still
         subst (λ (y : Again). HasEnded call.view.layout call.view.generation words0 call IsGiven (Unit {0}) (placed_in (put_stage (put.Splitting call hold bitmap value split)))
         (limit_in (put_stage (put.Splitting call hold bitmap value split))) (once.Again y)) (sym went.0) (stands.0, tt, went.1)
 
+-- a look for a line of a delete
+del_take_went : (call : Call) (hold : Hold) (bitmap : ℕ) (hit : Hit) (take : Take) (words0 words : List ℕ) (x : ℕ) (place limit : Option ℕ) → IsTakeOf call.view take → AreEmpty call.view.layout words0 → x < 2 ^ 64
+    → IsAtNode call.view.layout words0 call → IsUnmoved call.view.layout words0 words call.node → HasLooked (λ index. line_in call.view.layout words0 take.caller index 0) take.index take.at
+    → x ≡ got call.view.layout words (take_asks take)
+    → DelWent call.view.layout call.view.generation words0 (acted call.view.layout words (take_asks take)) ⊥ call place limit (del_taken call hold bitmap hit (take_turned take x))
+del_take_went call hold bitmap hit take words0 words x place limit is empty fits there still looked told =
+    let same = is.layout_is in
+    let unmoved = subst (λ (k : Layout). IsUnmoved k words0 words call.node) (sym same) still in
+    let own_told : x ≡ got take.layout words (take_asks take) = subst (λ (k : Layout). x ≡ got k words (take_asks take)) (sym same) told in
+    let now = subst (λ (k : Layout). IsUnmoved k words0 (acted k words (take_asks take)) call.node) same (take_unmoved take is.here words0 words call.node unmoved) in
+    let states : take.at ≡ take_at.State → x ≡ line_in call.view.layout words0 take.caller take.index 0 =
+    λ state. subst (λ (k : Layout). x ≡ line_in k words0 take.caller take.index 0) same (take_told take is.here words0 words call.node unmoved x own_told state) in
+    del_taken_went call.view.layout call.view.generation words0 (acted call.view.layout words (take_asks take)) ⊥ call hold bitmap hit place limit take empty
+    (subst (λ (k : Layout). take.caller < k.callers) same is.here.caller) there now (take_turned take x)
+    (takes_heed take (λ index. line_in call.view.layout words0 take.caller index 0) x is.here states looked) (take_stays take x is.here fits)
+
 del_went : (machine : Del) (words0 words : List ℕ) (x : ℕ) → IsDel machine
     → IsQuietList (del_call machine).view.layout (del_call machine).view.generation (nodes_in (del_call machine).view.layout words0)
+    → AreEmpty (del_call machine).view.layout words0 → Told (del_call machine).view.layout (del_call machine).view.generation (del_asks machine) x
     → DelIsThere (del_call machine).view.layout words0 words machine → x ≡ got (del_call machine).view.layout words (del_asks machine)
     → DelWent (del_call machine).view.layout (del_call machine).view.generation words0 (acted (del_call machine).view.layout words (del_asks machine)) ⊥ (del_call machine) (placed_in (del_stage machine)) (limit_in (del_stage machine)) (del_turned machine x)
-del_went (del.Looking lookup) words0 words x sound still stands told =
+del_went (del.Looking lookup) words0 words x sound still empty tells stands told =
     del_looked_went _ _ words0 _ ⊥ lookup.call (placed_in (del_stage (del.Looking lookup))) (limit_in (del_stage (del.Looking lookup))) (lookup_turned lookup x) (looks_come_there lookup words0 words x sound still stands told)
-del_went (del.Clearing call hold bitmap hit) words0 words x sound still stands told = stands
-del_went (del.Finishing finish) words0 words x sound still stands told =
-    del_finished_went _ _ words0 _ ⊥ finish.call (placed_in (put_stage (put.Finishing finish))) (limit_in (put_stage (put.Finishing finish))) (finish_turned finish x) (finish_went _ _ words0 words ⊥ finish x stands)
+del_went (del.Next call hold bitmap hit) words0 words x sound still empty tells stands told =
+    next_went call.view.layout call.view.generation words0 (acted call.view.layout words (Load (call_address call next_offset))) ⊥ call hold bitmap hit None call.limit x
+    (stands.0, loaded_unmoved call.view.layout words0 words call.node (call_address call next_offset) stands.1)
+del_went (del.Taking call hold bitmap hit take) words0 words x sound still empty tells stands told =
+    del_take_went call hold bitmap hit take words0 words x None call.limit sound.2 empty tells.fits stands.0 stands.1 stands.2 told
+del_went (del.Refusing call hold bitmap hit) words0 words x sound still empty tells stands told = absurd stands
+del_went (del.Clearing call hold bitmap hit line) words0 words x sound still empty tells stands told = stands
+del_went (del.Finishing finish line) words0 words x sound still empty tells stands told =
+    del_finished_went _ _ words0 _ ⊥ line finish.call (placed_in (put_stage (put.Finishing finish))) (limit_in (put_stage (put.Finishing finish))) (finish_turned finish x) (finish_went _ _ words0 words ⊥ finish x stands)
+del_went (del.Merging call hold old place merge) words0 words x sound still empty tells stands told =
+    let stage = del_stage (del.Merging call hold old place merge) in
+    let of = merging_stage call old place merge in
+    let placed : placed_in stage ≡ Some place = merge_placed (has_place call old place) stage of in
+    del_merged_went _ _ words0 _ ⊥ call hold old (placed_in stage) (limit_in stage) place stands (λ none. let no : Some place ≡ None = sym placed ∙ none in cc)
+    (merge_limited (has_place call old place) stage of) (merge_turned merge x)
 
 pub machine_went : (machine : Running) (words0 words : List ℕ) (x : ℕ) → IsRunning machine
     → IsQuietList (running_call machine).view.layout (running_call machine).view.generation (nodes_in (running_call machine).view.layout words0)
@@ -305,7 +383,7 @@ machine_went (Putting machine) words0 words x sound still empty tells mine stand
         → Went (put_call machine).view.layout (put_call machine).view.generation words0 (acted (put_call machine).view.layout words (put_asks machine)) (Putting machine) (wrapped Putting turn)
     at (Go next) is = is
     at (Done answer) is = is
-machine_went (Deleting machine) words0 words x sound still empty tells mine stands told = at (del_turned machine x) (del_went machine words0 words x sound still stands told)
+machine_went (Deleting machine) words0 words x sound still empty tells mine stands told = at (del_turned machine x) (del_went machine words0 words x sound still empty tells stands told)
   where
     at : (turn : Turn Del (Once Placed)) → DelWent (del_call machine).view.layout (del_call machine).view.generation words0 (acted (del_call machine).view.layout words (del_asks machine)) ⊥ (del_call machine) (placed_in (del_stage machine)) (limit_in (del_stage machine)) turn
         → Went (del_call machine).view.layout (del_call machine).view.generation words0 (acted (del_call machine).view.layout words (del_asks machine)) (Deleting machine) (wrapped Deleting turn)

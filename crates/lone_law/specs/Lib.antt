@@ -1,5 +1,7 @@
 pub mod There
 pub mod Splitting
+pub mod Merging
+pub mod MergeStands
 pub mod Tries
 pub mod Rooms
 pub mod LoneCalls

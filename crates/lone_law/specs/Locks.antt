@@ -1,5 +1,5 @@
 -- How often nodes can still be locked, and what a call that is made with no other in flight takes of that.
-use Rattle.std.specs.Prelude.{◌≡◌, ◌≢◌, ℕ, zero, suc, ◌+◌, ◌-◌, ◌<◌, ◌≤◌, min, Option, None, Some}
+use Rattle.std.specs.Prelude.{◌≡◌, ◌≢◌, ℕ, zero, suc, ◌+◌, ◌-◌, ◌<◌, ◌≤◌, min, Bool, true, false, Option, None, Some}
 use mathlib.Core.Option.{some}
 use lib.ListN.{get_elem?}
 use Rattle.pm_words.specs.declared.action.Action.{Action}
@@ -47,37 +47,58 @@ pub record IsLeft (g : ℕ) (before now : ℕ → ℕ) (n w : ℕ) : Type 0 wher
   pub taken : IsTaken g (before n) w
   pub others : (m : ℕ) → m ≢ n → locks_of g (before m) ≤ locks_of g (now m) + 1
 
--- The version words at this stage of a try that began with those before. A try that merges has none of these.
-abbrev pub HasLocked : ℕ → (ℕ → ℕ) → (ℕ → ℕ) → Stage → Type 0
-HasLocked g before now Idle = (m : ℕ) → now m ≡ before m
-HasLocked g before now (Saw n v w k) = (m : ℕ) → now m ≡ before m
-HasLocked g before now (Wears n v) = (m : ℕ) → now m ≡ before m
-HasLocked g before now (Holds n w h) = IsLockedOnce g before now n w
-HasLocked g before now (Eyes n w h m v u free) = IsLockedOnce g before now n w
-HasLocked g before now (Splits left fresh phase) = AreLocked g before now left.node left.lock fresh.node fresh.lock
-HasLocked g before now (Leaves left) = IsLeft g before now left.node left.lock
-HasLocked g before now _ = ⊥
+-- Its node is taken; if it has nothing more to do than to give that back, others may have lost a lock.
+abbrev pub HoldsLocked : ℕ → (ℕ → ℕ) → (ℕ → ℕ) → Bool → ℕ → ℕ → Type 0
+HoldsLocked g before now false n w = IsLockedOnce g before now n w
+HoldsLocked g before now true n w = IsLeft g before now n w
 
--- It merges nothing.
-abbrev pub MergesNone : Stage → Type 0
-MergesNone (Meets n w h right) = ⊥
-MergesNone (Joins h left right pace) = ⊥
-MergesNone _ = Unit {0}
+-- The version words at this stage of a try that began with those before, and may have nothing more to do than to give
+-- its node back.
+abbrev pub HasLocked : ℕ → (ℕ → ℕ) → (ℕ → ℕ) → Bool → Stage → Type 0
+HasLocked g before now leaving Idle = (m : ℕ) → now m ≡ before m
+HasLocked g before now leaving (Saw n v w k) = (m : ℕ) → now m ≡ before m
+HasLocked g before now leaving (Wears n v) = (m : ℕ) → now m ≡ before m
+HasLocked g before now leaving (Holds n w h) = HoldsLocked g before now leaving n w
+HasLocked g before now leaving (Eyes n w h m v u free) = IsLockedOnce g before now n w
+HasLocked g before now leaving (Splits left fresh phase) = AreLocked g before now left.node left.lock fresh.node
+    fresh.lock
+HasLocked g before now leaving (Leaves left) = IsLeft g before now left.node left.lock
+HasLocked g before now leaving (Meets n w h right) = AreLocked g before now n w right.node right.lock
+HasLocked g before now leaving (Joins h left right pace) = AreLocked g before now left.node left.lock right.node
+    right.lock
+
+-- It holds one node and looks at no other; or it holds both nodes of a merge.
+abbrev pub HoldsOne : Stage → Type 0
+HoldsOne (Holds n w h) = Unit {0}
+HoldsOne _ = ⊥
+
+abbrev pub HoldsBoth : Stage → Type 0
+HoldsBoth (Meets n w h right) = Unit {0}
+HoldsBoth (Joins h left right pace) = Unit {0}
+HoldsBoth _ = ⊥
+
+-- A try that held both nodes of a merge has then nothing more to do than to give its own back, and with that it is
+-- answered.
+pub record PartsOnce (stage : Stage) (leaving : Bool) (next : Stage) (after : Bool) (answer : Option (Once Placed)) :
+    Type 0 where
+  pub parts : HoldsBoth stage → HoldsOne next → after ≡ true
+  pub last : leaving ≡ true → HoldsOne stage → answer ≢ None
 
 -- After a step that isn't answered the words are those of its stage; after one that is, each node has lost one lock at
 -- most.
-abbrev pub AfterLocks : ℕ → (ℕ → ℕ) → (ℕ → ℕ) → Stage → Option (Once Placed) → Type 0
-AfterLocks g before now next None = HasLocked g before now next
-AfterLocks g before now next (Some answer) = (m : ℕ) → locks_of g (before m) ≤ locks_of g (now m) + 1
+abbrev pub AfterLocks : ℕ → (ℕ → ℕ) → (ℕ → ℕ) → Bool → Stage → Option (Once Placed) → Type 0
+AfterLocks g before now after next None = HasLocked g before now after next
+AfterLocks g before now after next (Some answer) = (m : ℕ) → locks_of g (before m) ≤ locks_of g (now m) + 1
 
--- A try that merges nothing takes one lock of each node at most.
+-- A try takes one lock of each node at most.
 abbrev pub LocksGo : Type 0
-LocksGo = (before : ℕ → ℕ) (w : World) (i : ℕ) (p : Party) (action : Action) (x : ℕ) (next : Stage)
-    (answer : Option (Once Placed)) → Lawful w →
-    get_elem? w.parties i ≡ some p → HasLocked w.generation before (facts w).version p.stage → MergesNone next →
+LocksGo = (before : ℕ → ℕ) (w : World) (i : ℕ) (p : Party) (leaving : Bool) (action : Action) (x : ℕ) (next : Stage)
+    (after : Bool) (answer : Option (Once Placed)) → Lawful w →
+    get_elem? w.parties i ≡ some p → HasLocked w.generation before (facts w).version leaving p.stage →
+    PartsOnce p.stage leaving next after answer →
     AnyStep w.layout w.generation p.stage action x next answer →
     x ≡ got w.layout w.words action →
-    AfterLocks w.generation before (facts (stepped w i p action next)).version next answer
+    AfterLocks w.generation before (facts (stepped w i p action next)).version after next answer
 
 -- Where each node has lost one at most, so have the fewest.
 abbrev pub FewestLose : Type 0

@@ -1,5 +1,6 @@
 -- A whole try of any call, with no other in flight.
-use Rattle.std.specs.Prelude.{◌≡◌, ℕ, ◌<◌, ◌≤◌, ◌^◌, List, ◌++◌, length, Option, None, IfSome, IsTrue}
+use Rattle.std.specs.Prelude.{◌≡◌, ℕ, ◌+◌, ◌/◌, ◌<◌, ◌≤◌, ◌^◌, ◌⊎◌, Bool, false, List, ◌++◌, length, Option, Some}
+use Rattle.std.specs.Prelude.{None, IfSome, IsTrue}
 use mathlib.Core.Option.{some}
 use lib.ListN.{get_elem?}
 use Rattle.pm_words.specs.declared.layout.Layout.{Layout}
@@ -21,6 +22,12 @@ use Rattle.data_list.specs.Still.{position_from}
 use Rattle.cat_key.specs.Names.{IsName}
 use Rattle.call_stages.specs.declared.view.View.{View}
 use Rattle.node_ops.specs.Calls.{new_call}
+use Rattle.node_ops.specs.declared.call.Call.{Call}
+use Rattle.node_ops.specs.declared.lookup.Hit.{Hit}
+use Rattle.node_ops.specs.DelSteps.{names_left}
+use Rattle.smo_log.specs.Laws.{HasLooked}
+use Rattle.index_law.specs.Lines.{line_in}
+use Rattle.index_law.specs.Anchors.{members_most}
 use Rattle.call_stages.specs.Views.{IsView}
 use Rattle.node_ops.specs.declared.get.Get.{Get}
 use Rattle.node_ops.specs.declared.get.Get.TheVariants as get
@@ -37,8 +44,10 @@ use Rattle.node_ops.specs.CallStages.{stage_of}
 use Rattle.index_law.specs.Facts.{map_now}
 use Rattle.index_law.specs.Worlds.{Party, World, facts, stepped, started, moved_on, written}
 use Rattle.index_law.specs.Laws.{IsAtRest}
-use Rattle.lone_law.specs.There.{IsAtNode, LookupStands}
-use Rattle.lone_law.specs.Locks.{MergesNone}
+use Rattle.lone_law.specs.There.{IsAtNode, IsUnmoved, LookupStands}
+use Rattle.lone_law.specs.Locks.{locks_of, HasLocked}
+use Rattle.lone_law.specs.Merging.{HasKeptList, LeavesShape}
+use Rattle.lone_law.specs.MergeStands.{merge_leaves, FindsNone, MergeForesees}
 use Rattle.lone_law.specs.Tries.{Trying, IsHalvedSince}
 use Rattle.split_merge.specs.declared.splitting.SplitAt.{SplitAt}
 use Rattle.split_merge.specs.declared.splitting.SplitAt.TheVariants as split_at
@@ -58,10 +67,16 @@ PutIsThere l words0 words (put.Finishing finish) = IsAtNode l words0 finish.call
 PutIsThere l words0 words (put.Splitting call hold bitmap value split) =
     IsAtNode l words0 call × SplitStands l call.view.generation words0 words call.node hold.locked split.at
 
+-- Until it has a line nothing but the lock has changed; and it finds one.
 abbrev pub DelIsThere : Layout → List ℕ → List ℕ → Del → Type 0
 DelIsThere l words0 words (del.Looking lookup) = LookupStands l words0 words lookup.call lookup.at
-DelIsThere l words0 words (del.Clearing call hold bitmap hit) = IsAtNode l words0 call
-DelIsThere l words0 words (del.Finishing finish) = IsAtNode l words0 finish.call
+DelIsThere l words0 words (del.Next call hold bitmap hit) = IsAtNode l words0 call × IsUnmoved l words0 words call.node
+DelIsThere l words0 words (del.Taking call hold bitmap hit take) = IsAtNode l words0 call ×
+    IsUnmoved l words0 words call.node × HasLooked (λ index. line_in l words0 take.caller index 0) take.index take.at
+DelIsThere l words0 words (del.Refusing call hold bitmap hit) = ⊥
+DelIsThere l words0 words (del.Clearing call hold bitmap hit line) = IsAtNode l words0 call
+DelIsThere l words0 words (del.Finishing finish line) = IsAtNode l words0 finish.call
+DelIsThere l words0 words (del.Merging call hold old place merge) = IsAtNode l words0 call
 
 abbrev pub IsThere : Layout → List ℕ → List ℕ → Running → Type 0
 IsThere l words0 words (Getting machine) = GetIsThere l words0 words machine
@@ -82,6 +97,38 @@ IsPast _ = ⊥
 abbrev pub IsLate : World → Option ℕ → Type 0
 IsLate w limit = IsTrue (is_spent limit (length w.history))
 
+-- Its node keeps more than half as many names as it has slots.
+abbrev pub LeavesMany : Call → ℕ → Hit → Type 0
+LeavesMany call bitmap hit = call.view.layout.slots / 2 < names_left call bitmap hit
+
+-- The name had a value.
+abbrev pub HadValue : Option ℕ → Type 0
+HadValue old = (value : ℕ) × (old ≡ Some value)
+
+-- A delete that takes no line has nothing to merge; one that took a line has taken a name out, and what its merge has
+-- found out is so.
+abbrev pub DelForesees : World → List ℕ → Del → Type 0
+DelForesees w name (del.Clearing call hold bitmap hit None) = LeavesMany call bitmap hit ⊎ FindsNone w name
+DelForesees w name (del.Finishing finish None) = FindsNone w name
+DelForesees w name (del.Finishing finish (Some line)) = HadValue finish.old
+DelForesees w name (del.Merging call hold old place merge) = HadValue old × MergeForesees w name merge.at
+DelForesees w name _ = Unit {0}
+
+abbrev pub Foresees : World → NameOp → Running → Type 0
+Foresees w asked (Getting machine) = Unit {0}
+Foresees w asked (Putting machine) = Unit {0}
+Foresees w asked (Deleting machine) = DelForesees w (name_asked asked) machine
+
+-- It merges two nodes, and holds both or has nothing more to do than to give its own back.
+abbrev pub del_leaves : Del → Bool
+del_leaves (del.Merging call hold old place merge) = merge_leaves merge.at
+del_leaves _ = false
+
+abbrev pub is_leaving : Running → Bool
+is_leaving (Getting machine) = false
+is_leaving (Putting machine) = false
+is_leaving (Deleting machine) = del_leaves machine
+
 -- A call of this op and limit is in flight, as the index was w0 when it began, and no other.
 pub record LoneCall (w0 : World) (i : ℕ) (asked : NameOp) (limit : Option ℕ) (w : World) (p : Party)
     (machine : Running) : Type 0 where
@@ -91,6 +138,8 @@ pub record LoneCall (w0 : World) (i : ℕ) (asked : NameOp) (limit : Option ℕ)
   pub of : IsOf asked machine
   pub limited : (running_call machine).limit ≡ limit
   pub stands : IsThere w0.layout w0.words w.words machine
+  pub foresees : Foresees w0 asked machine
+  pub locks : HasLocked w.generation (facts w0).version (facts w).version (is_leaving machine) (stage_of machine)
   pub empty : AreEmpty w0.layout w0.words  -- each log line was EMPTY
   pub timely : IsPast machine → IsLate w0 limit → ⊥
 
@@ -108,29 +157,34 @@ FindsWorn w asked = IsWorn ((facts w).version (target_node w (name_asked asked))
 abbrev pub IsAnswered : World → NameOp → Option ℕ → World → Party → Once Placed → Type 0
 IsAnswered w0 asked limit w p (once.Worn node word) =
     FindsWorn w0 asked × (node ≡ target_node w0 (name_asked asked)) × (word ≡ (facts w0).version node)
-    × (w.history ≡ w0.history) × ((facts w).list ≡ (facts w0).list)
+    × (w.history ≡ w0.history) × HasKeptList w0 w
 IsAnswered w0 asked limit w p (once.Spent clock) =
-    ¬ FindsWorn w0 asked × IsLate w0 limit × (clock ≡ length w0.history) × (w.history ≡ w0.history) ×
-    ((facts w).list ≡ (facts w0).list)
+    ¬ FindsWorn w0 asked × IsLate w0 limit × (clock ≡ length w0.history) × (w.history ≡ w0.history) × HasKeptList w0 w
 IsAnswered w0 asked limit w p (once.Again again.NoFree) =
     ¬ FindsWorn w0 asked × ¬ IsLate w0 limit × FindsFull w0 asked × LacksFree w0.layout w0.generation w0.words ×
-    (w.history ≡ w0.history) × ((facts w).list ≡ (facts w0).list)
+    (w.history ≡ w0.history) × HasKeptList w0 w
 IsAnswered w0 asked limit w p (once.Again (again.NeedsSplit node)) =
     ¬ FindsWorn w0 asked × ¬ IsLate w0 limit × FindsFull w0 asked × HasFree w0.layout w0.generation w0.words ×
-    (w.history ≡ w0.history) × IsHalvedSince (name_asked asked) w0 w
+    (w.history ≡ w0.history) × IsHalvedSince (name_asked asked) w0 w × (members_most w ≡ members_most w0)
 IsAnswered w0 asked limit w p (once.Done placed) =
     (¬ FindsWorn w0 asked × ¬ IsLate w0 limit × ¬ FindsFull w0 asked)
     × (placed.old ≡ at (map_now (facts w0)) (name_asked asked)) × (placed.place ≡ length w0.history)
     × (placed.hops ≡ position_from (facts w0).list (key_of (name_asked asked)))
-    × (w.history ≡ w0.history ++ written p.caller p.index (change_of asked)) × ((facts w).list ≡ (facts w0).list)
+    × (w.history ≡ w0.history ++ written p.caller p.index (change_of asked)) × LeavesShape w0 asked w
 IsAnswered w0 asked limit w p (once.Again why) = ⊥
+
+-- Each node has lost one lock at most.
+abbrev pub LosesLocks : World → World → Type 0
+LosesLocks w0 w = (n : ℕ) → locks_of w0.generation ((facts w0).version n) ≤
+    locks_of w0.generation ((facts w).version n) + 1
 
 abbrev pub AfterCall : World → ℕ → NameOp → Option ℕ → World → Party → Running → Turn Running (Once Placed) → Type 0
 AfterCall w0 i asked limit w p machine (Go next) =
     LoneCall w0 i asked limit (stepped w i p (running_asks machine) (stage_of next)) (moved_on p (stage_of next)) next
 AfterCall w0 i asked limit w p machine (Done answer) =
     IsAtRest (stepped w i p (running_asks machine) Idle) ×
-    IsAnswered w0 asked limit (stepped w i p (running_asks machine) Idle) p answer
+    IsAnswered w0 asked limit (stepped w i p (running_asks machine) Idle) p answer ×
+    LosesLocks w0 (stepped w i p (running_asks machine) Idle)
 
 abbrev pub LoneCallsGo : Type 0
 LoneCallsGo = (w0 : World) (i : ℕ) (asked : NameOp) (limit : Option ℕ) (w : World) (p : Party) (machine : Running)
@@ -161,7 +215,3 @@ LoneCallsBegin = (w0 : World) (i : ℕ) (asked : NameOp) (limit : Option ℕ) (p
       since = length w0.history;
       stage = Idle;
     }) (machine_for asked view limit)
-
--- A get, put or delete merges nothing.
-abbrev pub MachinesMergeNone : Type 0
-MachinesMergeNone = (machine : Running) → MergesNone (stage_of machine)

@@ -30,14 +30,13 @@ pub fn rooms()
     ensures first { FullIsFirst }
 {}
 
-ghost use Rattle.lone_law.specs.LoneCalls.{LoneCallsBegin, LoneCallsGo, MachinesMergeNone};
+ghost use Rattle.lone_law.specs.LoneCalls.{LoneCallsBegin, LoneCallsGo};
 ghost use Rattle.lone_law.specs.Locks.{LocksGo, FewestLose, WornHasNone};
 
 /// Each turn of a lone call, whatever its op, and how it is answered.
 pub fn lone_calls()
     ensures begins { LoneCallsBegin }
     ensures goes { LoneCallsGo }
-    ensures none { MachinesMergeNone }
 {}
 
 /// A try of a call that is made with no other in flight takes one lock of each node at most.
@@ -72,4 +71,11 @@ ghost use Rattle.lone_law.specs.Splitting.{SplitsComeThere};
 /// FREE whose lock can be taken.
 pub fn splits_come_there()
     ensures { SplitsComeThere }
+{}
+
+ghost use Rattle.lone_law.specs.Merging.{MergeKeepsHops};
+
+/// A merge takes out of the list the node behind the target of its name, and none before that.
+pub fn merges_keep_hops()
+    ensures { MergeKeepsHops }
 {}

@@ -1,4 +1,4 @@
-use Rattle.lone_law.proofs.LoneCalls.{lone_calls_begin, lone_calls_go, machines_merge_none}
+use Rattle.lone_law.proofs.LoneCalls.{lone_calls_begin, lone_calls_go}
 use Rattle.lone_law.proofs.laws.lone_calls.Goals as goal
 
 pub returns-clause-begins : goal.returns-clause-begins
@@ -6,6 +6,3 @@ returns-clause-begins c = lone_calls_begin
 
 pub returns-clause-goes : goal.returns-clause-goes
 returns-clause-goes c = lone_calls_go
-
-pub returns-clause-none : goal.returns-clause-none
-returns-clause-none c = machines_merge_none
