@@ -7,7 +7,8 @@ use mathlib.Core.Option.{some, some-injective}
 use lib.ListN.{get_elem?}
 use Rattle.pm_words.specs.declared.again.Again.TheVariants as again
 use Rattle.cat_key.specs.Names.{IsName}
-use Rattle.version_lock.specs.Versions.{IsWorn}
+use Rattle.version_lock.specs.Versions.{IsWorn, is_worn_word}
+use Rattle.version_lock.proofs.WordTests.{worn_word, fresh_word}
 use Rattle.cat_history.specs.Maps.{Map, at, map_of}
 use Rattle.cat_history.specs.Writes.{after_all}
 use Rattle.data_node.specs.Lists.{ListNode, target_from, key_of}
@@ -20,15 +21,18 @@ use Rattle.call_stages.specs.declared.once.Placed.{Placed}
 use Rattle.node_ops.specs.Asked.{name_asked}
 use Rattle.node_ops.specs.LookupSteps.{is_spent}
 use Rattle.index_law.specs.Facts.{range_of}
-use Rattle.index_law.specs.Worlds.{facts}
+use Rattle.index_law.specs.Worlds.{World, facts}
 use Rattle.index_law.specs.Laws.{IsAtRest}
-use Rattle.index_law.specs.Anchors.{anchors_of, members_most}
+use Rattle.index_law.specs.Anchors.{anchors_of, anchors_in, members_most}
+use Rattle.shapes.specs.Anchors.{merges}
 use Rattle.index_law.proofs.Parties.{at_set, set_here}
 use Rattle.index_law.proofs.Starts.{listed_within}
 use Rattle.lone_law.specs.LoneCalls.{FindsFull, FindsWorn, IsLate, IsAnswered}
 use Rattle.lone_law.specs.Splitting.{HasFree, LacksFree}
 use Rattle.lone_law.specs.Tries.{IsHalvedSince}
 use Rattle.lone_law.specs.Rooms.{target_node, target_names}
+use Rattle.lone_law.specs.Merging.{FindsMerge, HasKeptList, IsMergedSince, LeavesShape, NextIsWorn, next_node}
+use Rattle.lone_law.proofs.Hops.{merge_keeps_hops}
 use Rattle.lone_law.proofs.Locks.{worn_has_none}
 use Rattle.lone_law.proofs.Rooms.{names_most, cut_has_room}
 use Rattle.lone_law.proofs.Shapes.{room_is_no_split, cut_is_split}
@@ -40,10 +44,10 @@ use Rattle.index_core.specs.declared.party.Whole.TheVariants as whole
 use Rattle.index_core.specs.CoreCalls.{op_of, limit_of}
 use Rattle.index_core.specs.PartyStates.{party_of, state_counted}
 use Rattle.index_core.specs.Indexes.{Index, world, map_of_index, IsIndex}
-use Rattle.index_core.specs.Lone.{IsQuiet, FindsNoRoom, HasSameList, SplitsFor, SplitsNothing, LeavesList, TakesLocks, names_beside, locks_left, IsWholeAnswer, TriesAlone, RunsAlone, CountsCall, alone_writes, needs_split, whole_of, state_tried, state_done}
+use Rattle.index_core.specs.Lone.{IsQuiet, FindsNoRoom, HasSameList, SplitsFor, SplitsNothing, MergesFor, MergesNothing, LeavesList, LeavesMost, TakesLocks, LoseAtMost, TakesEachLock, names_beside, locks_left, IsWholeAnswer, TriesAlone, RunsAlone, CountsCall, alone_writes, needs_split, whole_of, state_tried, state_done}
 use Rattle.index_core.specs.Weights.{weight_of, added_by, added_whole}
 use Rattle.index_core.proofs.Lists.{set_twice}
-use Rattle.index_core.proofs.Tries.{rests}
+use Rattle.index_core.proofs.Quiet.{rests}
 
 -- to the node of a name belong as many names of the map as the node has
 pub target_has : (s : Index) → IsAtRest (world s) → (name : List ℕ) → target_names (world s) name ≡ length (names_beside s name)
@@ -90,7 +94,8 @@ pub record Ran (s0 s : Index) (i : ℕ) (c : CoreCall) (answer : Once Placed) : 
   pub generation : s.generation ≡ s0.generation
   pub base : s.base ≡ s0.base
   pub list : LeavesList c (whole_of answer) s0 s
-  pub most : members_most (world s) ≡ members_most (world s0)
+  pub most : LeavesMost c s0 s
+  pub each_lock : TakesEachLock c s0 s
   pub locks : TakesLocks c s0 s
   pub weighs : weight_of s ≤ weight_of s0 + added_whole (op_of c) (whole_of answer)
 
@@ -108,7 +113,7 @@ counted_runs s0 s i c answer ran states are = record {
   generation = ran.generation;
   base = ran.base;
   list = same_list (whole_of answer) ran.list;
-  most = ran.most;
+  most = same_most ran.most;
   weighs = ran.weighs;
 }
   where
@@ -116,6 +121,14 @@ counted_runs s0 s i c answer ran states are = record {
     same_split (call.Put name value limit) cut = cut
     same_split (call.Get name) cut = cut
     same_split (call.Del name limit) cut = cut
+
+    same_merge : (c : CoreCall) → MergesFor c s0 s → MergesFor c s0 (record s { states = states })
+    same_merge (call.Del name limit) merge = merge
+    same_merge (call.Put name value limit) merge = merge
+    same_merge (call.Get name) merge = merge
+
+    same_most : LeavesMost c s0 s → LeavesMost c s0 (record s { states = states })
+    same_most = ⊎_elim (λ same. inl same) (λ (merge : MergesFor c s0 s). inr (same_merge c merge))
 
     same_cause : (r : Whole) → IsWholeAnswer s0 c s r → IsWholeAnswer s0 c (record s { states = states }) r
     same_cause (whole.Worn node word) cause = ⊎_elim (λ first. inl first) (λ (second : SplitsFor c s0 s × (locks_left s0 ≤ 1) × (node ≡ target_node (world s) (name_asked (op_of c))) × IsWorn word s0.generation). inr (same_split c second.0, second.1, second.2, second.3)) cause
@@ -128,13 +141,21 @@ counted_runs s0 s i c answer ran states are = record {
     same_list (whole.Spent clock) list = list
     same_list whole.Full list = list
     same_list (whole.Placed placed) list =
-        ⊎_elim (λ (same : HasSameList s0 s × SplitsNothing c s0). inl same) (λ (cut : SplitsFor c s0 s). inr (same_split c cut)) list
+        ⊎_elim
+        (λ (same : HasSameList s0 s × SplitsNothing c s0 × MergesNothing c s0). inl same)
+        (λ (changed : SplitsFor c s0 s ⊎ MergesFor c s0 s). inr (⊎_elim (λ (cut : SplitsFor c s0 s). inl (same_split c cut)) (λ (merge : MergesFor c s0 s). inr (same_merge c merge)) changed))
+        list
 
 -- the same of an index that differs in the states of its parties alone
 other_states : (c : CoreCall) (s0 s : Index) (states : List PartyState) → TakesLocks c s0 s → TakesLocks c s0 (record s { states = states })
 other_states (call.Put name value limit) s0 s states locks = locks
 other_states (call.Get name) s0 s states locks = locks
 other_states (call.Del name limit) s0 s states locks = locks
+
+other_each : (c : CoreCall) (s0 s : Index) (states : List PartyState) → TakesEachLock c s0 s → TakesEachLock c s0 (record s { states = states })
+other_each (call.Put name value limit) s0 s states each = each
+other_each (call.Get name) s0 s states each = each
+other_each (call.Del name limit) s0 s states each = each
 
 -- a try counts the call unless it was turned back
 try_counts : (answer : Once Placed) (state : PartyState) (since : ℕ) → (whole_of answer ≡ whole.Full → ⊥) → state_tried state since answer ≡ state_done state since
@@ -166,6 +187,10 @@ pub full_locks : (s0 s : Index) (i : ℕ) (c : CoreCall) (answer : Once Placed) 
 full_locks s0 s i c answer ran new t =
     subst (TakesLocks c s0) (sym t.is) (other_states c s0 s (slice_set s.states i (state_counted t.state)) ran.locks)
 
+pub full_each : (s0 s : Index) (i : ℕ) (c : CoreCall) (answer : Once Placed) → Ran s0 s i c answer → (new : Index) → CountsCall s i new → TakesEachLock c s0 new
+full_each s0 s i c answer ran new t =
+    subst (TakesEachLock c s0) (sym t.is) (other_each c s0 s (slice_set s.states i (state_counted t.state)) ran.each_lock)
+
 -- what an answer adds
 adds : (c : CoreCall) (answer : Once Placed) → added_by (op_of c) answer ≡ added_whole (op_of c) (whole_of answer)
 adds c (once.Done placed) = refl
@@ -177,15 +202,38 @@ has_room : (o : Option ℕ) (n most : ℕ) → n ≤ most → ((o ≡ None) × (
 has_room (Some value) n most few not_full = inl refl
 has_room None n most few not_full = inr (⊎_elim (λ (less : n < most). less) (λ (as_many : most ≤ n). absurd (not_full (refl, omega arith))) (cases_lt n most))
 
--- the cause of an answer, and what it leaves of the history and of the list
+-- the cause of an answer, and what it leaves of the history, of the list, and of the nodes that may be listed
 record Ends (s0 s : Index) (i index : ℕ) (c : CoreCall) (r : Once Placed) : Type 0 where
   cause : IsWholeAnswer s0 c s (whole_of r)
   history : s.history ≡ s0.history ++ alone_writes i index c (whole_of r)
   list : LeavesList c (whole_of r) s0 s
+  most : LeavesMost c s0 s
+
+-- a call that finds nothing to merge is no delete that merges by the shape, or the next node is worn
+merges_nothing : (s : Index) (c : CoreCall) → (FindsMerge (world s) (op_of c) → ⊥) → MergesNothing c s
+merges_nothing s (call.Put name value limit) none = tt
+merges_nothing s (call.Get name) none = tt
+merges_nothing s (call.Del name limit) none =
+    let word = (facts (world s)).version (next_node (world s) name) in
+    elim (merges s.layout.slots (map_of_index s) (anchors_in (world s)) name)
+    as (λ shape. merges s.layout.slots (map_of_index s) (anchors_in (world s)) name ≡ shape → (shape ≡ false) ⊎ NextIsWorn (world s) name) [
+      | false ↦ λ _. inl refl
+      | true ↦ λ shape. elim (is_worn_word word s.generation)
+          as (λ worn. is_worn_word word s.generation ≡ worn → (true ≡ false) ⊎ NextIsWorn (world s) name) [
+            | true ↦ λ worn. inr (worn_word word s.generation worn)
+            | false ↦ λ unworn. absurd (none (shape, fresh_word word s.generation unworn))
+          ] refl
+    ] refl
+
+-- the shape that a call leaves which took place
+record Leaves (s0 s : Index) (c : CoreCall) : Type 0 where
+  list : (HasSameList s0 s × SplitsNothing c s0 × MergesNothing c s0) ⊎ (SplitsFor c s0 s ⊎ MergesFor c s0 s)
+  most : LeavesMost c s0 s
+  position : position_from (facts (world s0)).list (key_of (name_asked (op_of c))) ≡ position_from (facts (world s)).list (key_of (name_asked (op_of c)))
 
 -- a try that didn't split is the whole call
 module _ (s0 s : Index) (i : ℕ) (c : CoreCall) (is0 : IsIndex s0) (quiet0 : IsQuiet s0) (answer : Once Placed) (t : TriesAlone s0 i c s answer)
-    (locks : locks_left s0 ≤ locks_left s + 1) where
+    (each : LoseAtMost 1 s0 s) (locks : locks_left s0 ≤ locks_left s + 1) where
   rest0 : IsAtRest (world s0)
   rest0 = rests s0 is0 quiet0
 
@@ -197,21 +245,40 @@ module _ (s0 s : Index) (i : ℕ) (c : CoreCall) (is0 : IsIndex s0) (quiet0 : Is
   splits_nothing (call.Get name) named not_full = tt
   splits_nothing (call.Del name limit) named not_full = tt
 
+  merged : (c : CoreCall) → FindsMerge (world s0) (op_of c) → IsMergedSince (name_asked (op_of c)) (world s0) (world s) → Leaves s0 s c
+  merged (call.Put name value limit) finds since = absurd finds
+  merged (call.Get name) finds since = absurd finds
+  merged (call.Del name limit) finds since =
+      let merge : MergesFor (call.Del name limit) s0 s = (finds, since.anchors, since.most) in
+      record { list = inr (inr merge); most = inr merge; position = sym (merge_keeps_hops (world s0) (world s) name rest0 since) }
+
+  leaves : IsName (name_asked (op_of c)) → (FindsFull (world s0) (op_of c) → ⊥) → LeavesShape (world s0) (op_of c) (world s) → Leaves s0 s c
+  leaves named not_full = ⊎_elim
+      (λ (kept : (FindsMerge (world s0) (op_of c) → ⊥) × HasKeptList (world s0) (world s)). record {
+        list = inl (kept.1.0, splits_nothing c named not_full, merges_nothing s0 c kept.0);
+        most = inl kept.1.1;
+        position = ap (λ (l : List ListNode). position_from l (key_of (name_asked (op_of c)))) (sym kept.1.0);
+      })
+      (λ (since : FindsMerge (world s0) (op_of c) × IsMergedSince (name_asked (op_of c)) (world s0) (world s)). merged c since.0 since.1)
+
   ends : (r : Once Placed) → needs_split r ≡ false → IsAnswered (world s0) (op_of c) (limit_of c) (world s) (party_of t.state) r → Ends s0 s i t.state.index c r
-  ends (once.Worn node word) one (worn, node_is, word_is, same, list) = record {
-    cause = inl (worn, node_is, word_is, list);
+  ends (once.Worn node word) one (worn, node_is, word_is, same, kept) = record {
+    cause = inl (worn, node_is, word_is, kept.0);
     history = same ∙ sym (append-nil s0.history);
     list = tt;
+    most = inl kept.1;
   }
-  ends (once.Spent clock) one (unworn, late, clock_is, same, list) = record {
+  ends (once.Spent clock) one (unworn, late, clock_is, same, kept) = record {
     cause = (unworn, late_is (limit_of c) (length s0.history) late, clock_is);
     history = same ∙ sym (append-nil s0.history);
-    list = list;
+    list = kept.0;
+    most = inl kept.1;
   }
-  ends (once.Again again.NoFree) one (unworn, below, full, lacks, same, list) = record {
+  ends (once.Again again.NoFree) one (unworn, below, full, lacks, same, kept) = record {
     cause = (unworn, (λ over. below (late_was (limit_of c) (length s0.history) over)), no_room_is s0 c rest0 full lacks);
     history = same ∙ sym (append-nil s0.history);
-    list = list;
+    list = kept.0;
+    most = inl kept.1;
   }
   ends (once.Again (again.NeedsSplit n)) one end = absurd (cc)
   ends (once.Again (again.Locked n word)) one end = absurd end
@@ -220,16 +287,19 @@ module _ (s0 s : Index) (i : ℕ) (c : CoreCall) (is0 : IsIndex s0) (quiet0 : Is
   ends (once.Again again.LogFull) one end = absurd end
   ends (once.Again (again.Held word)) one end = absurd end
   ends (once.Again (again.Epoch first second)) one end = absurd end
-  ends (once.Done placed) one ((unworn, below, not_full), old, place, hops, write, list) = record {
-    cause = (
-      (unworn, (λ over. below (late_was (limit_of c) (length s0.history) over)), (λ none. not_full (no_room_was s0 c rest0 none))),
-      old,
-      place,
-      hops ∙ ap (λ (l : List ListNode). position_from l (key_of (name_asked (op_of c)))) (sym list),
-    );
-    history = write ∙ ap (λ (j : ℕ). s0.history ++ alone_writes j t.state.index c (whole.Placed placed)) (is0.states i t.state t.there).caller;
-    list = inl (list, splits_nothing c t.named not_full);
-  }
+  ends (once.Done placed) one ((unworn, below, not_full), old, place, hops, write, shape) =
+      let left = leaves t.named not_full shape in
+      record {
+        cause = (
+          (unworn, (λ over. below (late_was (limit_of c) (length s0.history) over)), (λ none. not_full (no_room_was s0 c rest0 none))),
+          old,
+          place,
+          hops ∙ left.position,
+        );
+        history = write ∙ ap (λ (j : ℕ). s0.history ++ alone_writes j t.state.index c (whole.Placed placed)) (is0.states i t.state t.there).caller;
+        list = left.list;
+        most = left.most;
+      }
 
   pub one_try : needs_split answer ≡ false → Ran s0 s i c answer
   one_try one =
@@ -247,7 +317,8 @@ module _ (s0 s : Index) (i : ℕ) (c : CoreCall) (is0 : IsIndex s0) (quiet0 : Is
         generation = t.generation;
         base = t.base;
         list = end.list;
-        most = t.most;
+        most = end.most;
+        each_lock = inl each;
         locks = inl locks;
         weighs = omega arith;
       }
@@ -286,11 +357,19 @@ record Split (s0 s1 : Index) (c : CoreCall) : Type 0 where
   free : HasFree s0.layout s0.generation s0.words
   history : s1.history ≡ s0.history
   halved : IsHalvedSince (name_asked (op_of c)) (world s0) (world s1)
+  most : members_most (world s1) ≡ members_most (world s0)
+
+-- a call that finds no room is a put, and merges nothing
+put_keeps : (c : CoreCall) (w0 w1 w : World) → FindsFull w0 (op_of c) → LeavesShape w1 (op_of c) w → HasKeptList w1 w
+put_keeps (call.Put name value limit) w0 w1 w full =
+    ⊎_elim (λ (kept : ¬ ⊥ × HasKeptList w1 w). kept.1) (λ (merge : ⊥ × IsMergedSince name w1 w). absurd merge.0)
+put_keeps (call.Get name) w0 w1 w full = absurd full
+put_keeps (call.Del name limit) w0 w1 w full = absurd full
 
 -- a try that split, and another
 module _ (s0 s1 s : Index) (i : ℕ) (c : CoreCall) (is0 : IsIndex s0) (quiet0 : IsQuiet s0) (is1 : IsIndex s1) (quiet1 : IsQuiet s1) (first answer : Once Placed)
     (t : TriesAlone s0 i c s1 first) (u : TriesAlone s1 i c s answer)
-    (locks : locks_left s0 ≤ locks_left s1 + 1) (locks_then : locks_left s1 ≤ locks_left s + 1) where
+    (each : LoseAtMost 1 s0 s1) (each_then : LoseAtMost 1 s1 s) (locks : locks_left s0 ≤ locks_left s1 + 1) (locks_then : locks_left s1 ≤ locks_left s + 1) where
   rest_before : IsAtRest (world s0)
   rest_before = rests s0 is0 quiet0
 
@@ -302,7 +381,15 @@ module _ (s0 s1 s : Index) (i : ℕ) (c : CoreCall) (is0 : IsIndex s0) (quiet0 :
   splits_first (once.Spent clock) again end = absurd (cc)
   splits_first (once.Done placed) again end = absurd (cc)
   splits_first (once.Again again.NoFree) again end = absurd (cc)
-  splits_first (once.Again (again.NeedsSplit n)) again (unworn, below, full, free, same, halved) = record { unworn = unworn; below = below; full = full; free = free; history = same; halved = halved }
+  splits_first (once.Again (again.NeedsSplit n)) again (unworn, below, full, free, same, halved, most) = record {
+    unworn = unworn;
+    below = below;
+    full = full;
+    free = free;
+    history = same;
+    halved = halved;
+    most = most;
+  }
   splits_first (once.Again (again.Locked n word)) again end = absurd end
   splits_first (once.Again (again.Moved n one two)) again end = absurd end
   splits_first (once.Again (again.Hops count)) again end = absurd end
@@ -327,42 +414,45 @@ module _ (s0 s1 s : Index) (i : ℕ) (c : CoreCall) (is0 : IsIndex s0) (quiet0 :
         (listed_within s1.layout (facts (world s1)) rest_between.list rest_between.row.layout n (target_in 0 (facts (world s1)).list (key_of (name_asked (op_of c))))) worn
 
     ends_then : (r : Once Placed) → IsAnswered (world s1) (op_of c) (limit_of c) (world s) (party_of u.state) r → Ends s0 s i u.state.index c r × SplitsFor c s0 s
-    ends_then (once.Worn node word) (worn, node_is, word_is, same, list) =
+    ends_then (once.Worn node word) (worn, node_is, word_is, same, kept) =
         let none = no_locks worn in
-        let split_now = split_on s0 s1 s c list split in (
+        let split_now = split_on s0 s1 s c kept.0 split in (
           record {
             cause = inr (
               split_now,
               omega arith,
-              node_is ∙ ap (λ (l : List ListNode). target_from 0 l (key_of (name_asked (op_of c)))) (sym list),
+              node_is ∙ ap (λ (l : List ListNode). target_from 0 l (key_of (name_asked (op_of c)))) (sym kept.0),
               subst (λ (q : ℕ × ℕ). IsWorn q.0 q.1) (λ k. ((sym word_is) k, t.generation k)) (subst (λ (n : ℕ). IsWorn ((facts (world s1)).version n) s1.generation) (sym node_is) worn),
             );
             history = same ∙ cut.history ∙ sym (append-nil s0.history);
             list = tt;
+            most = inl (kept.1 ∙ cut.most);
           },
           split_now,
         )
-    ends_then (once.Spent clock) (unworn, late, clock_is, same, list) =
+    ends_then (once.Spent clock) (unworn, late, clock_is, same, kept) =
         absurd (cut.below (subst (λ (n : ℕ). IsTrue (is_spent (limit_of c) n)) (ap length cut.history) late))
-    ends_then (once.Again again.NoFree) (unworn, below, full, lacks, same, list) = absurd (not_full full)
-    ends_then (once.Again (again.NeedsSplit n)) (unworn, below, full, free, same, halved) = absurd (not_full full)
+    ends_then (once.Again again.NoFree) (unworn, below, full, lacks, same, kept) = absurd (not_full full)
+    ends_then (once.Again (again.NeedsSplit n)) (unworn, below, full, free, same, halved, most) = absurd (not_full full)
     ends_then (once.Again (again.Locked n word)) end = absurd end
     ends_then (once.Again (again.Moved n one two)) end = absurd end
     ends_then (once.Again (again.Hops count)) end = absurd end
     ends_then (once.Again again.LogFull) end = absurd end
     ends_then (once.Again (again.Held word)) end = absurd end
     ends_then (once.Again (again.Epoch one two)) end = absurd end
-    ends_then (once.Done placed) ((unworn, below, has_room_now), old, place, hops, write, list) =
-        let split_now = split_on s0 s1 s c list split in (
+    ends_then (once.Done placed) ((unworn, below, has_room_now), old, place, hops, write, shape) =
+        let kept = put_keeps c (world s0) (world s1) (world s) cut.full shape in
+        let split_now = split_on s0 s1 s c kept.0 split in (
           record {
             cause = (
               (cut.unworn, (λ over. cut.below (late_was (limit_of c) (length s0.history) over)), (λ none. free_is_room s0 c cut.free none)),
               old ∙ ap (λ (m : Map). at m (name_asked (op_of c))) same_map,
               place ∙ ap length cut.history,
-              hops ∙ ap (λ (l : List ListNode). position_from l (key_of (name_asked (op_of c)))) (sym list),
+              hops ∙ ap (λ (l : List ListNode). position_from l (key_of (name_asked (op_of c)))) (sym kept.0),
             );
             history = write ∙ (λ k. cut.history k ++ alone_writes ((is1.states i u.state u.there).caller k) u.state.index c (whole.Placed placed));
-            list = inr split_now;
+            list = inr (inl split_now);
+            most = inl (kept.1 ∙ cut.most);
           },
           split_now,
         )
@@ -385,6 +475,13 @@ module _ (s0 s1 s : Index) (i : ℕ) (c : CoreCall) (is0 : IsIndex s0) (quiet0 :
   adds_nothing (once.Spent clock) again = absurd (cc)
   adds_nothing (once.Done placed) again = absurd (cc)
   adds_nothing (once.Again why) again = refl
+
+  -- both tries take two locks of a node at most
+  each_two : LoseAtMost 2 s0 s
+  each_two n =
+      let one = each n in
+      let another = each_then n in
+      omega arith
 
   pub two_tries : needs_split first ≡ true → Ran s0 s i c answer
   two_tries again =
@@ -411,18 +508,19 @@ module _ (s0 s1 s : Index) (i : ℕ) (c : CoreCall) (is0 : IsIndex s0) (quiet0 :
         generation = u.generation ∙ t.generation;
         base = u.base ∙ t.base;
         list = end.0.list;
-        most = u.most ∙ t.most;
+        most = end.0.most;
+        each_lock = inr (end.1, each_two);
         locks = inr (end.1, omega arith);
         weighs = omega arith;
       }
 
 -- the same of an index and an answer that equal those of the last try
-pub ran_once : {s0 s1 s : Index} {i : ℕ} {c : CoreCall} {first answer : Once Placed} → IsIndex s0 → IsQuiet s0 → TriesAlone s0 i c s1 first → locks_left s0 ≤ locks_left s1 + 1
-    → needs_split first ≡ false → s ≡ s1 → answer ≡ first → Ran s0 s i c answer
-ran_once {s0} {s1} {s} {i} {c} {first} {answer} is0 quiet0 t locks one same_index same_answer =
-    subst (λ (q : Index × Once Placed). Ran s0 q.0 i c q.1) (λ k. (sym same_index k, sym same_answer k)) (one_try s0 s1 i c is0 quiet0 first t locks one)
+pub ran_once : {s0 s1 s : Index} {i : ℕ} {c : CoreCall} {first answer : Once Placed} → IsIndex s0 → IsQuiet s0 → TriesAlone s0 i c s1 first → LoseAtMost 1 s0 s1
+    → locks_left s0 ≤ locks_left s1 + 1 → needs_split first ≡ false → s ≡ s1 → answer ≡ first → Ran s0 s i c answer
+ran_once {s0} {s1} {s} {i} {c} {first} {answer} is0 quiet0 t each locks one same_index same_answer =
+    subst (λ (q : Index × Once Placed). Ran s0 q.0 i c q.1) (λ k. (sym same_index k, sym same_answer k)) (one_try s0 s1 i c is0 quiet0 first t each locks one)
 
 pub ran_twice : {s0 s1 s2 s : Index} {i : ℕ} {c : CoreCall} {first second answer : Once Placed} → IsIndex s0 → IsQuiet s0 → IsIndex s1 → IsQuiet s1 → TriesAlone s0 i c s1 first → TriesAlone s1 i c s2 second
-    → locks_left s0 ≤ locks_left s1 + 1 → locks_left s1 ≤ locks_left s2 + 1 → needs_split first ≡ true → s ≡ s2 → answer ≡ second → Ran s0 s i c answer
-ran_twice {s0} {s1} {s2} {s} {i} {c} {first} {second} {answer} is0 quiet0 is1 quiet1 t u locks locks_then again same_index same_answer =
-    subst (λ (q : Index × Once Placed). Ran s0 q.0 i c q.1) (λ k. (sym same_index k, sym same_answer k)) (two_tries s0 s1 s2 i c is0 quiet0 is1 quiet1 first second t u locks locks_then again)
+    → LoseAtMost 1 s0 s1 → LoseAtMost 1 s1 s2 → locks_left s0 ≤ locks_left s1 + 1 → locks_left s1 ≤ locks_left s2 + 1 → needs_split first ≡ true → s ≡ s2 → answer ≡ second → Ran s0 s i c answer
+ran_twice {s0} {s1} {s2} {s} {i} {c} {first} {second} {answer} is0 quiet0 is1 quiet1 t u each each_then locks locks_then again same_index same_answer =
+    subst (λ (q : Index × Once Placed). Ran s0 q.0 i c q.1) (λ k. (sym same_index k, sym same_answer k)) (two_tries s0 s1 s2 i c is0 quiet0 is1 quiet1 first second t u each each_then locks locks_then again)

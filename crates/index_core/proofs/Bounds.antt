@@ -32,7 +32,7 @@ use Rattle.index_law.proofs.Parties.{at_set}
 use Rattle.index_core.specs.declared.party.PartyState.{PartyState}
 use Rattle.index_core.specs.PartyStates.{machine_stage, party_of, state_after, state_counted}
 use Rattle.index_core.specs.Indexes.{IsOwnWrite, parties_of, Index, IsIndex, HasLimit, IsBounded, MakesCall, world, told}
-use Rattle.index_core.proofs.Owing.{splitting_counts}
+use Rattle.index_core.proofs.Owing.{merging_counts, splitting_counts}
 use Rattle.index_core.proofs.Lists.{map_there, got_end, some_same, within}
 use Rattle.std.proofs.lemmas.Bool.{cases_lt}
 use Rattle.std.proofs.lemmas.Map.Made.{distinct_count-le}
@@ -103,8 +103,12 @@ counts_in_time (Putting (put.Replacing call hold bitmap hit value)) c is = refl
 counts_in_time (Putting (put.Finishing finish)) c is = finish_limit finish finish.at
 counts_in_time (Putting (put.Splitting call hold bitmap value split)) c is = absurd (let both : None ≡ Some c = sym (splitting_counts call hold bitmap value split) ∙ is in cc)
 counts_in_time (Deleting (del.Looking lookup)) c is = looking lookup.call lookup.at c is
-counts_in_time (Deleting (del.Clearing call hold bitmap hit)) c is = refl
-counts_in_time (Deleting (del.Finishing finish)) c is = finish_limit finish finish.at
+counts_in_time (Deleting (del.Next call hold bitmap hit)) c is = refl
+counts_in_time (Deleting (del.Taking call hold bitmap hit take)) c is = refl
+counts_in_time (Deleting (del.Refusing call hold bitmap hit)) c is = refl
+counts_in_time (Deleting (del.Clearing call hold bitmap hit line)) c is = refl
+counts_in_time (Deleting (del.Finishing finish line)) c is = finish_limit finish finish.at
+counts_in_time (Deleting (del.Merging call hold old place merge)) c is = absurd (let both : None ≡ Some c = sym (merging_counts call hold old place merge) ∙ is in cc)
 
 -- it has no place yet, and began below the limit
 record CountsBelow (stage : Stage) (since : ℕ) : Type 0 where

@@ -10,7 +10,7 @@ use Rattle.index_core.specs.Indexes.{Index, world}
 use Rattle.index_core.specs.Lone.{locks_left}
 use Rattle.index_core.specs.Fulls.{NoRoomIsFullPut, NoRoomListsEach}
 use Rattle.index_core.proofs.Alone.{target_has}
-use Rattle.index_core.proofs.Tries.{quiet_parties, rests}
+use Rattle.index_core.proofs.Quiet.{quiet_parties, rests}
 
 -- where a lock is left of each node, one whose lock can't be taken isn't FREE
 none_free : (s : Index) → 0 < locks_left s → LacksFree s.layout s.generation s.words → (k : ℕ) → k < s.layout.nodes → (facts (world s)).status k ≢ free_status

@@ -18,7 +18,6 @@ use mathlib.Core.Option.{some, some-injective, some-ne-none}
 use lib.ListN.{get_elem?}
 use Rattle.cat_history.specs.Maps.{map_of, Map, at}
 use Rattle.cat_history.specs.Writes.{after}
-use Rattle.cat_history.specs.Callers.{PlacesKeepLimit}
 use Rattle.cat_history.proofs.CallerLemmas.{late_writes_are_few}
 use Rattle.cat_history.specs.Records.{Call, as_op, call_of, change_of, change_asked, placed_write, placed_writes, Interval, interval, interval_at, interval_asked}
 use Rattle.cat_history.specs.Rounds.{IsAnswer, KeepsCallersOrder}

@@ -19,6 +19,7 @@ pub mod LegalRounds
 pub mod Shown
 pub mod WeightLaw
 pub mod MachineLaw
+pub mod Quiet
 pub mod Tries
 pub mod Alone
 pub mod Endings

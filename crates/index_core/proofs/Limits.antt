@@ -50,11 +50,11 @@ began_below s is i place state machine there flies told =
     at Idle sure = tt
     at (Saw n v w k) sure = tt
     at (Wears n v) sure = tt
-    at (Eyes n w h m v u free) sure = tt
+    at (Eyes n w h m v u free) sure = sure.0.below
     at (Splits left fresh phase) sure = tt
     at (Leaves left) sure = tt
-    at (Meets n w h right) sure = tt
-    at (Joins h left right pace) sure = tt
+    at (Meets n w h right) sure = sure.0.below
+    at (Joins h left right pace) sure = sure.call.below
     at (Holds n w h) sure = sure.below
 
 -- the caller of a call stands among the callers

@@ -15,6 +15,7 @@ use Rattle.node_ops.specs.declared.lookup.Hold.{Hold}
 use Rattle.split_merge.specs.declared.splitting.Split.{Split}
 use Rattle.split_merge.proofs.OfSplits.{stages_are_of_splits}
 use Rattle.node_ops.proofs.SplitFacts.{split_uncounted}
+use Rattle.node_ops.proofs.MergeFacts.{merge_uncounted, merging_stage, placed_still}
 use Rattle.node_ops.specs.declared.lookup.Looked.{Looked}
 use Rattle.node_ops.specs.declared.lookup.Looked.TheVariants as looked
 use Rattle.node_ops.specs.declared.lookup.Lookup.{Lookup}
@@ -35,9 +36,12 @@ use Rattle.node_ops.specs.LookupSteps.{lookup_turned}
 use Rattle.node_ops.specs.FinishSteps.{finish_fenced}
 use Rattle.node_ops.specs.GetSteps.{get_turned, get_looked}
 use Rattle.node_ops.specs.PutSteps.{put_finished}
-use Rattle.node_ops.specs.DelSteps.{del_finished}
+use Rattle.node_ops.specs.DelSteps.{del_finished, del_merged}
+use Rattle.split_merge.specs.declared.merging.Merge.{Merge}
+use Rattle.split_merge.specs.declared.merging.Merged.{Merged}
+use Rattle.split_merge.specs.Merges.{merge_turned}
 use Rattle.node_ops.specs.RunningSteps.{running_turned, wrapped}
-use Rattle.node_ops.specs.CallStages.{stage_of, lookup_stage, finish_stage, found_full}
+use Rattle.node_ops.specs.CallStages.{stage_of, lookup_stage, finish_stage, found_full, has_place}
 use Rattle.node_ops.proofs.OpLaw.{lookup_counts}
 use Rattle.index_law.specs.Worlds.{written}
 use Rattle.index_core.specs.PartyStates.{owes, machine_owes, owed}
@@ -65,10 +69,14 @@ put_one (put.Finishing finish) = at finish.at
 
 del_one : (del : Del) → owes (Deleting del) ≤ 1
 del_one (del.Looking lookup) = omega arith
-del_one (del.Clearing call hold bitmap hit) = omega arith
-del_one (del.Finishing finish) = at finish.at
+del_one (del.Next call hold bitmap hit) = omega arith
+del_one (del.Taking call hold bitmap hit take) = omega arith
+del_one (del.Refusing call hold bitmap hit) = omega arith
+del_one (del.Clearing call hold bitmap hit line) = omega arith
+del_one (del.Merging call hold old place merge) = omega arith
+del_one (del.Finishing finish line) = at finish.at
   where
-    at : (at : FinishAt) → owes (Deleting (del.Finishing (record finish { at = at }))) ≤ 1
+    at : (at : FinishAt) → owes (Deleting (del.Finishing (record finish { at = at }) line)) ≤ 1
     at (finish_at.Fence line fence) = omega arith
     at finish_at.Add = omega arith
     at (finish_at.Unlock place) = omega arith
@@ -102,19 +110,32 @@ put_finish_pays finish (finish_at.Fence line fence) x = fenced (fence_next fence
 put_finish_pays finish finish_at.Add x = omega arith
 put_finish_pays finish (finish_at.Unlock place) x = omega arith
 
-del_finish_pays : (finish : Finish) (at : FinishAt) (x : ℕ)
-    → owes_after (running_turned (Deleting (del.Finishing (record finish { at = at }))) x) + many (counted (finish_stage (record finish { at = at }))) ≤ owes (Deleting (del.Finishing (record finish { at = at })))
-del_finish_pays finish (finish_at.Fence line fence) x = fenced (fence_next fence x)
+-- a delete that merges has its place
+del_finish_pays : (finish : Finish) (line : Option ℕ) (at : FinishAt) (x : ℕ)
+    → owes_after (running_turned (Deleting (del.Finishing (record finish { at = at }) line)) x) + many (counted (finish_stage (record finish { at = at })))
+    ≤ owes (Deleting (del.Finishing (record finish { at = at }) line))
+del_finish_pays finish line (finish_at.Fence first fence) x = fenced line (fence_next fence x)
   where
-    fenced : (next : Option Fence) → owes_after (wrapped Deleting (del_finished (finish_fenced (record finish { at = finish_at.Fence line fence }) line next))) + 0 ≤ 1
-    fenced (Some next) = omega arith
-    fenced None = omega arith
-del_finish_pays finish finish_at.Add x = omega arith
-del_finish_pays finish (finish_at.Unlock place) x = omega arith
+    fenced : (line : Option ℕ) (next : Option Fence) → owes_after (wrapped Deleting (del_finished line (finish_fenced (record finish { at = finish_at.Fence first fence }) first next))) + 0 ≤ 1
+    fenced None (Some next) = omega arith
+    fenced None None = omega arith
+    fenced (Some number) (Some next) = omega arith
+    fenced (Some number) None = omega arith
+del_finish_pays finish None finish_at.Add x = omega arith
+del_finish_pays finish (Some number) finish_at.Add x = omega arith
+del_finish_pays finish line (finish_at.Unlock place) x = omega arith
 
 -- a put that splits counts nothing
 pub splitting_counts : (call : Call) (hold : Hold) (bitmap value : ℕ) (split : Split) → counted (stage_of (Putting (put.Splitting call hold bitmap value split))) ≡ None
 splitting_counts call hold bitmap value split = split_uncounted (found_full call hold bitmap) _ refl (stages_are_of_splits (found_full call hold bitmap) split)
+
+-- nor does a delete that merges
+pub merging_counts : (call : Call) (hold : Hold) (old : Option ℕ) (place : ℕ) (merge : Merge) → counted (stage_of (Deleting (del.Merging call hold old place merge))) ≡ None
+merging_counts call hold old place merge = merge_uncounted (has_place call old place) _ (placed_still call old place) (merging_stage call old place merge)
+
+merging_owes : (call : Call) (hold : Hold) (old : Option ℕ) (place : ℕ) (turn : Turn Merge Merged) → owes_after (wrapped Deleting (del_merged call hold old place turn)) ≡ 0
+merging_owes call hold old place (Go merge) = refl
+merging_owes call hold old place (Done merged) = refl
 
 pub pays : (running : Running) (x : ℕ) → owes_after (running_turned running x) + many (counted (stage_of running)) ≤ owes running
 pays (Getting get) x = let is = get_pays get x in let none : many (counted (stage_of (Getting get))) ≡ 0 = rw is.1 refl in let zero_after = is.0 in omega arith
@@ -133,8 +154,15 @@ pays (Deleting (del.Looking lookup)) x =
     let one = after_one (running_turned (Deleting (del.Looking lookup)) x) in
     let none : many (counted (lookup_stage lookup)) ≡ 0 = rw (lookup_counts lookup.call lookup.at) refl in
     omega arith
-pays (Deleting (del.Clearing call hold bitmap hit)) x = omega arith
-pays (Deleting (del.Finishing finish)) x = del_finish_pays finish finish.at x
+pays (Deleting (del.Next call hold bitmap hit)) x = let one = after_one (running_turned (Deleting (del.Next call hold bitmap hit)) x) in omega arith
+pays (Deleting (del.Taking call hold bitmap hit take)) x = let one = after_one (running_turned (Deleting (del.Taking call hold bitmap hit take)) x) in omega arith
+pays (Deleting (del.Refusing call hold bitmap hit)) x = omega arith
+pays (Deleting (del.Clearing call hold bitmap hit line)) x = omega arith
+pays (Deleting (del.Finishing finish line)) x = del_finish_pays finish line finish.at x
+pays (Deleting (del.Merging call hold old place merge)) x =
+    let nothing = merging_owes call hold old place (merge_turned merge x) in
+    let none : many (counted (stage_of (Deleting (del.Merging call hold old place merge)))) ≡ 0 = rw (merging_counts call hold old place merge) refl in
+    omega arith
 
 pub written-length : (caller index : ℕ) (change : Option Change) → length (written caller index change) ≡ many change
 written-length caller index None = refl

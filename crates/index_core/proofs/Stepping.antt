@@ -126,7 +126,7 @@ same_call fits of wrap c (Done answer) same stays = tt
 keeps_call : (machine : Running) (x : ℕ) → running_takes machine x → MakesCall (running_call machine) (running_turned machine x)
 keeps_call (Getting get) x takes = same_call IsGet get_call (λ (m : Get). Getting m) (get_call get) (get_turned get x) (λ m. refl) (get_stays get x takes.0 takes.1)
 keeps_call (Putting put) x takes = same_call IsPut put_call (λ (m : Put). Putting m) (put_call put) (put_turned put x) (λ m. refl) (put_stays put x takes.0 takes.1 takes.2)
-keeps_call (Deleting del) x takes = same_call IsDel del_call (λ (m : Del). Deleting m) (del_call del) (del_turned del x) (λ m. refl) (del_stays del x takes.0 takes.1)
+keeps_call (Deleting del) x takes = same_call IsDel del_call (λ (m : Del). Deleting m) (del_call del) (del_turned del x) (λ m. refl) (del_stays del x takes.0 takes.1 takes.2)
 
 calls_so : {i : ℕ} (machine : Running) (turn : Turn Running (Once Placed)) → (running_call machine).view.caller ≡ i → MakesCall (running_call machine) turn → CallsSo i turn
 calls_so machine (Go next) caller same = ap (λ (c : Call). c.view.caller) same ∙ caller

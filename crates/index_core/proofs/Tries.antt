@@ -1,5 +1,5 @@
 -- One try of a call, with no other in flight.
-use Rattle.std.proofs.Common.{◌≡◌, ◌≢◌, ℕ, suc, ◌+◌, ◌-◌, ◌<◌, ◌≤◌, ◌^◌, ⊎_elim, List, ◌++◌, length, set, slice_set, map, refl, sym, ap, ◌∙◌, subst, arith}
+use Rattle.std.proofs.Common.{◌≡◌, ◌≢◌, ℕ, suc, ◌+◌, ◌<◌, ◌≤◌, ◌^◌, inl, inr, ⊎_elim, List, ◌++◌, length, set, slice_set, map, refl, sym, ap, ◌∙◌, subst, arith}
 use Rattle.std.specs.Prelude.{Option, Some, None, IfSome}
 use mathlib.Core.Option.{some, none, some-injective}
 use lib.ListN.{get_elem?}
@@ -7,8 +7,7 @@ use Rattle.pm_words.specs.declared.again.Again.TheVariants as again
 use Rattle.pm_words.specs.declared.machine.Turn.{Turn}
 use Rattle.pm_words.specs.declared.machine.Turn.TheVariants.{Go, Done}
 use Rattle.pm_words.specs.Turns.{GoesBelow}
-use Rattle.pm_words.specs.declared.action.Action.{Action}
-use Rattle.pm_words.specs.Rows.{acted, got}
+use Rattle.pm_words.specs.Rows.{acted}
 use Rattle.cat_key.specs.Names.{IsName}
 use Rattle.cat_history.specs.Maps.{at, map_of}
 use Rattle.cat_history.specs.declared.op.NameOp.{NameOp}
@@ -16,34 +15,23 @@ use Rattle.call_stages.specs.declared.once.Once.{Once}
 use Rattle.call_stages.specs.declared.once.Once.TheVariants as once
 use Rattle.call_stages.specs.declared.once.Placed.{Placed}
 use Rattle.call_stages.specs.Stages.{Stage, Idle, counted}
-use Rattle.call_stages.specs.AnySteps.{AnyStep, on_nodes, beside}
-use Rattle.call_stages.specs.Prevs.{IsRetire}
 use Rattle.call_stages.specs.declared.view.View.{View}
 use Rattle.node_ops.specs.declared.running.Running.{Running}
 use Rattle.call_stages.specs.Views.{IsView}
 use Rattle.node_ops.specs.Asked.{IsOf, op_in, name_asked}
 use Rattle.node_ops.specs.RunningSteps.{running_call, running_asks, running_turned, running_left, IsRunning}
-use Rattle.node_ops.specs.CallStages.{stage_of, stage_after, reply_of}
+use Rattle.node_ops.specs.CallStages.{stage_of}
 use Rattle.node_ops.proofs.OpLaw.{op_told}
 use Rattle.index_law.specs.Facts.{Facts}
 use Rattle.index_law.specs.Worlds.{Party, World, facts, stepped, moved_on, written}
-use Rattle.index_law.specs.Anchors.{gone_nodes, members_most}
-use Rattle.index_law.specs.Lawful.{Each, Lawful}
-use Rattle.index_law.specs.Laws.{IsAtRest}
 use Rattle.index_law.specs.Weights.{weight_sum}
-use Rattle.index_law.proofs.AnySteps.{beside_keeps}
-use Rattle.index_law.proofs.GoneCounts.{step_counts_gone}
-use Rattle.index_law.proofs.Starts.{idle_law}
 use Rattle.index_law.proofs.Parties.{at_set, set_here}
-use Rattle.lone_law.specs.Locks.{locks_of, fewest_locks, HasLocked, MergesNone, AfterLocks}
-use Rattle.lone_law.specs.LoneCalls.{LoneCall, IsAnswered, AfterCall, ValueFits, machine_for}
-use Rattle.lone_law.specs.Splitting.{AreEmpty}
+use Rattle.lone_law.specs.Locks.{locks_of, fewest_locks}
+use Rattle.lone_law.specs.Merging.{FindsMerge, HasKeptList, IsMergedSince, LeavesShape}
+use Rattle.lone_law.specs.LoneCalls.{LoneCall, IsAnswered, LosesLocks, AfterCall, ValueFits, machine_for}
 use Rattle.lone_law.specs.Tries.{IsHalvedSince}
-use Rattle.call_stages.specs.Lines.{HeldLine}
-use Rattle.index_law.specs.Lines.{line_in}
-use Rattle.index_law.specs.Footings.{IsInHand}
-use Rattle.lone_law.proofs.Locks.{locks_go, fewest_lose}
-use Rattle.lone_law.proofs.LoneCalls.{lone_calls_begin, lone_calls_go, machines_merge_none}
+use Rattle.lone_law.proofs.Locks.{fewest_lose}
+use Rattle.lone_law.proofs.LoneCalls.{lone_calls_begin, lone_calls_go}
 use Rattle.index_core.specs.declared.party.PartyState.{PartyState}
 use Rattle.index_core.specs.declared.party.CoreCall.{CoreCall}
 use Rattle.index_core.specs.declared.party.CoreCall.TheVariants as call
@@ -52,43 +40,16 @@ use Rattle.index_core.specs.declared.party.CoreReply.TheVariants as reply
 use Rattle.index_core.specs.declared.party.Stepped.{Stepped}
 use Rattle.index_core.specs.declared.party.Stepped.TheVariants.{Going, Answered}
 use Rattle.index_core.specs.CoreCalls.{machine_of, op_of, limit_of, most_writes}
-use Rattle.index_core.specs.PartyStates.{machine_footing, machine_stage, party_of, state_with, state_after, stepped_of, machine_owes, owed}
-use Rattle.index_core.specs.Indexes.{Index, room_of, world, footed, IsIndex, IsInFlight, view_of, Starts, started_index, told, stepped_index, StepsTo}
-use Rattle.index_core.specs.Lone.{IsQuiet, TriesAlone, answer_in, locks_left}
+use Rattle.index_core.specs.PartyStates.{party_of, state_with, state_after, stepped_of, machine_owes, owed}
+use Rattle.index_core.specs.Indexes.{Index, room_of, world, IsIndex, IsInFlight, view_of, Starts, started_index, told, stepped_index, StepsTo}
+use Rattle.index_core.specs.Lone.{IsQuiet, TriesAlone, answer_in, locks_left, LoseAtMost}
 use Rattle.index_core.specs.MachineLaws.{MachineLaw, showing, showing_after}
 use Rattle.index_core.specs.Weights.{weight_of, added_by}
 use Rattle.index_core.proofs.Bounds.{bounded_small}
-use Rattle.index_core.proofs.Lists.{map_from, map_there, map_set, set_twice, owed-set, quiet-owed}
+use Rattle.index_core.proofs.Lists.{map_there, map_set, set_twice, owed-set, quiet-owed}
+use Rattle.index_core.proofs.Quiet.{quiet_empty, rests}
 use Rattle.index_core.proofs.MachineLaw.{machine_law, begin_law, idle_weigh}
-use Rattle.index_core.proofs.Stepping.{machine_idle, machine_writes, step_facts}
-
--- with no call in flight all parties are idle
-pub quiet_parties : (s : Index) → IsQuiet s → Each (λ p. p.stage ≡ Idle) (world s).parties
-quiet_parties s quiet i p at =
-    let from = map_from party_of s.states i p at in
-    subst (λ (q : Party). q.stage ≡ Idle) from.2 (ap machine_stage (quiet i from.0 from.1))
-
--- and no log line is in a hand, so each is EMPTY
-quiet_lines : (s : Index) → IsQuiet s → (i : ℕ) (e : Option HeldLine) → get_elem? (footed s).lines i ≡ some e → e ≡ None
-quiet_lines s quiet i e at =
-    let from = map_from (λ (state : PartyState). (machine_footing state.machine).line) s.states i e at in
-    sym from.2 ∙ ap (λ (machine : Option Running). (machine_footing machine).line) (quiet i from.0 from.1)
-
-pub quiet_empty : (s : Index) → IsIndex s → IsQuiet s → AreEmpty s.layout s.words
-quiet_empty s is quiet c j caller number = ⊎_elim
-    (λ (empty : line_in s.layout s.words c j 0 ≡ 0). empty)
-    (λ (hand : IsInHand (footed s) c j). absurd (let none = quiet_lines s quiet hand.number (Some hand.line) hand.there in cc))
-    (is.tended c j caller number)
-
--- a step of a call that merges nothing makes no node GONE
-gone_stays : (w : World) (i : ℕ) (p : Party) (action : Action) (x : ℕ) (next : Stage) (answer : Option (Once Placed)) → Lawful w → get_elem? w.parties i ≡ some p → MergesNone p.stage
-    → AnyStep w.layout w.generation p.stage action x next answer → x ≡ got w.layout w.words action
-    → gone_nodes w.layout.nodes (facts (stepped w i p action next)) ≡ gone_nodes w.layout.nodes (facts w)
-gone_stays w i p action x next answer lawful there alone (on_nodes k) gives = ⊎_elim
-    (λ (same : gone_nodes w.layout.nodes (facts (stepped w i p action next)) ≡ gone_nodes w.layout.nodes (facts w)). same)
-    (λ (one : IsRetire p.stage next × (gone_nodes w.layout.nodes (facts (stepped w i p action next)) ≡ gone_nodes w.layout.nodes (facts w) + 1)). absurd (subst MergesNone one.0.was alone))
-    (step_counts_gone w i p action x next answer lawful there k gives)
-gone_stays w i p action x next answer lawful there alone (beside uncounted is) gives = ap (gone_nodes w.layout.nodes) (beside_keeps w i p action lawful there uncounted is).facts
+use Rattle.index_core.proofs.Stepping.{machine_idle, machine_writes}
 
 -- One call is in flight, as the index was s0 before it.
 pub record Lone (s0 s : Index) (i : ℕ) (c : CoreCall) : Type 0 where
@@ -102,12 +63,10 @@ pub record Lone (s0 s : Index) (i : ℕ) (c : CoreCall) : Type 0 where
   pub index : IsIndex s
   pub call : LoneCall (world s0) i (op_of c) (limit_of c) (world s) (party_of (state_with state (length s0.history) machine)) machine
   pub same_base : s.base ≡ s0.base
-  pub locks : HasLocked s.generation (facts (world s0)).version (facts (world s)).version (stage_of machine)
-  pub most : members_most (world s) ≡ members_most (world s0)
   pub weighs : weight_sum (world s) ≤ weight_of s0 + showing (Some machine)
   pub room : length s0.history + s0.spare ≤ room_of s
 
--- a cut is one whatever the parties are
+-- a cut and a merge are such whatever the parties are
 with_parties : {name : List ℕ} {w0 w : World} {parties : List Party} → IsHalvedSince name w0 w → IsHalvedSince name w0 (record w { parties = parties })
 with_parties cut = record {
   before = cut.before;
@@ -121,6 +80,9 @@ with_parties cut = record {
   upper = cut.upper;
 }
 
+merge_with_parties : {name : List ℕ} {w0 w : World} {parties : List Party} → IsMergedSince name w0 w → IsMergedSince name w0 (record w { parties = parties })
+merge_with_parties merge = record { list = merge.list; anchors = merge.anchors; most = merge.most }
+
 -- how many actions it has left
 abbrev pub left_of : Option Running → ℕ
 left_of None = 0
@@ -133,10 +95,6 @@ pub begins_limit : (s : Index) (i : ℕ) (c : CoreCall) → (running_call (machi
 begins_limit s i (call.Put name value limit) = refl
 begins_limit s i (call.Get name) = refl
 begins_limit s i (call.Del name limit) = refl
-
--- an index with no call in flight is at rest
-pub rests : (s : Index) → IsIndex s → IsQuiet s → IsAtRest (world s)
-rests s is quiet = idle_law (world s) is.lawful (quiet_parties s quiet)
 
 -- what is asked of a call that begins
 record Asks (v : View) (c : CoreCall) : Type 0 where
@@ -172,9 +130,6 @@ begun_call s0 i e c n is quiet there here of =
     subst (λ (q : (List Party × Party) × Running). LoneCall (world s0) i (op_of c) (limit_of c) (record (world s0) { parties = q.0.0 }) q.0.1 q.1)
     (λ k. ((parties k, party k), same_machine_for v c k)) first
 
-idle_locked : (g : ℕ) (version : ℕ → ℕ) (s : Stage) → s ≡ Idle → HasLocked g version version s
-idle_locked g version s idle = subst (HasLocked g version version) (sym idle) (λ m. refl)
-
 pub lone_start : (s0 s : Index) (i : ℕ) (c : CoreCall) → IsIndex s0 → IsQuiet s0 → Starts s0 i c s → s.spare + most_writes c ≡ s0.spare → IsIndex s → Lone s0 s i c
 lone_start s0 s i c is0 quiet t spare is =
     let is' : IsIndex (started_index s0 i t.state c s.spare) = subst IsIndex t.is is in
@@ -199,8 +154,6 @@ lone_start s0 s i c is0 quiet t spare is =
       index = is';
       call = begun_call s0 i t.state c s.spare is0 quiet t.there here t.of;
       same_base = refl;
-      locks = idle_locked s0.generation (facts (world s0)).version (stage_of m) (machine_idle s0 i c);
-      most = refl;
       weighs = omega arith;
       room = room;
     })
@@ -282,28 +235,11 @@ module _ (s0 s s' : Index) (i : ℕ) (c : CoreCall) (result : Stepped) (o : Lone
   facts_are : (next : Stage) → facts (world s') ≡ facts (stepped (world s) i p (running_asks o.machine) next)
   facts_are next = ap (λ (v : Index). facts (world v)) is
 
-  -- as many nodes are GONE
-  most_after : (turn : Turn Running (Once Placed)) → running_turned o.machine x ≡ turn → members_most (world s') ≡ members_most (world s0)
-  most_after turn turned =
-      let step : AnyStep s.layout s.generation (stage_of o.machine) (running_asks o.machine) x (stage_after turn) (reply_of turn) =
-      subst (λ (q : Turn Running (Once Placed)). AnyStep s.layout s.generation (stage_of o.machine) (running_asks o.machine) x (stage_after q) (reply_of q)) turned
-      (step_facts s i e o.machine o.index at_i refl).is_step in
-      ap (λ (v : Index). members_most (world v)) is
-      ∙ ap (λ (gone : ℕ). s.layout.nodes - gone) (gone_stays (world s) i p (running_asks o.machine) x (stage_after turn) (reply_of turn) o.index.lawful o.call.trying.there (machines_merge_none o.machine) step refl)
-      ∙ o.most
+  same_generation : s'.generation ≡ s0.generation
+  same_generation = ap (λ (v : Index). v.generation) is ∙ o.call.trying.generation
 
-  locks_after : (turn : Turn Running (Once Placed)) → running_turned o.machine x ≡ turn → AfterLocks s.generation (facts (world s0)).version (facts (world s')).version (stage_after turn) (reply_of turn)
-  locks_after turn turned =
-      let held : MergesNone (stage_after turn) = one turn in
-      let step : AnyStep s.layout s.generation (stage_of o.machine) (running_asks o.machine) x (stage_after turn) (reply_of turn) =
-      subst (λ (q : Turn Running (Once Placed)). AnyStep s.layout s.generation (stage_of o.machine) (running_asks o.machine) x (stage_after q) (reply_of q)) turned
-      (step_facts s i e o.machine o.index at_i refl).is_step in
-      subst (λ (f : Facts). AfterLocks s.generation (facts (world s0)).version f.version (stage_after turn) (reply_of turn)) (sym (facts_are (stage_after turn)))
-      (locks_go (facts (world s0)).version (world s) i p (running_asks o.machine) x (stage_after turn) (reply_of turn) o.index.lawful o.call.trying.there o.locks held step refl)
-    where
-      one : (turn : Turn Running (Once Placed)) → MergesNone (stage_after turn)
-      one (Go next) = machines_merge_none next
-      one (Done answer) = tt
+  same_layout : s'.layout ≡ s0.layout
+  same_layout = ap (λ (v : Index). v.layout) is ∙ o.call.trying.layout
 
   pub lone_goes : result ≡ Going → Lone s0 s' i c × (suc (left_at s' i) ≤ left_at s i)
   lone_goes going =
@@ -332,8 +268,6 @@ module _ (s0 s s' : Index) (i : ℕ) (c : CoreCall) (result : Stepped) (o : Lone
           index = is';
           call = subst (λ (w : World). LoneCall (world s0) i (op_of c) (limit_of c) w (moved_on p (stage_of next)) next) (sym (world_is next go.1)) call_on;
           same_base = ap (λ (v : Index). v.base) is ∙ o.same_base;
-          locks = subst (λ (g : ℕ). HasLocked g (facts (world s0)).version (facts (world s')).version (stage_of next)) (sym (ap (λ (v : Index). v.generation) is)) (locks_after (Go next) go.1);
-          most = most_after (Go next) go.1;
           weighs = omega arith;
           room = omega arith;
         },
@@ -361,13 +295,18 @@ module _ (s0 s s' : Index) (i : ℕ) (c : CoreCall) (result : Stepped) (o : Lone
     ended = (subst (AfterCall (world s0) i (op_of c) (limit_of c) (world s) p o.machine) done goes).1
 
     -- with the parties as they are then
+    shape_of_party : LeavesShape (world s0) (op_of c) (stepped (world s) i p (running_asks o.machine) Idle) → LeavesShape (world s0) (op_of c) (world (stepped_index s i e o.machine s'.spare))
+    shape_of_party = ⊎_elim
+        (λ (none : (FindsMerge (world s0) (op_of c) → ⊥) × HasKeptList (world s0) (stepped (world s) i p (running_asks o.machine) Idle)). inl none)
+        (λ (merge : FindsMerge (world s0) (op_of c) × IsMergedSince (name_asked (op_of c)) (world s0) (stepped (world s) i p (running_asks o.machine) Idle)). inr (merge.0, merge_with_parties merge.1))
+
     of_party : (r : Once Placed) → IsAnswered (world s0) (op_of c) (limit_of c) (stepped (world s) i p (running_asks o.machine) Idle) p r
         → IsAnswered (world s0) (op_of c) (limit_of c) (world (stepped_index s i e o.machine s'.spare)) (party_of o.state) r
     of_party (once.Worn node word) end = end
     of_party (once.Spent clock) end = end
-    of_party (once.Done placed) end = end
+    of_party (once.Done placed) (causes, old, place, hops, same, shape) = (causes, old, place, hops, same, shape_of_party shape)
     of_party (once.Again again.NoFree) end = end
-    of_party (once.Again (again.NeedsSplit n)) (unworn, below, full, free, same, halved) = (unworn, below, full, free, same, with_parties halved)
+    of_party (once.Again (again.NeedsSplit n)) (unworn, below, full, free, same, halved, most) = (unworn, below, full, free, same, with_parties halved, most)
     of_party (once.Again (again.Locked n word)) end = absurd end
     of_party (once.Again (again.Moved n first second)) end = absurd end
     of_party (once.Again (again.Hops count)) end = absurd end
@@ -393,19 +332,26 @@ module _ (s0 s s' : Index) (i : ℕ) (c : CoreCall) (result : Stepped) (o : Lone
       named = o.named;
       answered = subst (λ (w : World). IsAnswered (world s0) (op_of c) (limit_of c) w (party_of o.state) answer) (sym (ap world is)) (of_party answer ended);
       states = entries_are (Done answer) done;
-      layout = ap (λ (v : Index). v.layout) is ∙ o.call.trying.layout;
-      generation = ap (λ (v : Index). v.generation) is ∙ o.call.trying.generation;
+      layout = same_layout;
+      generation = same_generation;
       base = ap (λ (v : Index). v.base) is ∙ o.same_base;
-      most = most_after (Done answer) done;
       weighs = weighs;
     }
 
+  -- each node has lost one lock at most
+  locks_after : (answer : Once Placed) → result ≡ Answered (reply.Placed answer) → LosesLocks (world s0) (world s')
+  locks_after answer answered =
+      subst (λ (f : Facts). (m : ℕ) → locks_of s0.generation ((facts (world s0)).version m) ≤ locks_of s0.generation (f.version m) + 1) (sym (facts_are Idle))
+      (subst (AfterCall (world s0) i (op_of c) (limit_of c) (world s) p o.machine) (done answer answered) goes).2
+
   lone_locks : (answer : Once Placed) → result ≡ Answered (reply.Placed answer) → locks_left s0 ≤ locks_left s' + 1
   lone_locks answer answered =
-      let after : (m : ℕ) → locks_of s.generation ((facts (world s0)).version m) ≤ locks_of s.generation ((facts (world s')).version m) + 1 = locks_after (Done answer) (done answer answered) in
-      let fewest = fewest_lose s.generation (facts (world s0)).version (facts (world s')).version s.layout.nodes after in
-      subst (λ (q : (ℕ × ℕ) × (ℕ × ℕ)). fewest_locks q.0.0 (facts (world s0)).version q.0.1 ≤ fewest_locks q.1.0 (facts (world s')).version q.1.1 + 1)
-      (λ k. ((o.call.trying.generation k, (o.call.trying.layout k).nodes), (ap (λ (v : Index). v.generation) (sym is) k, (ap (λ (v : Index). v.layout) (sym is) k).nodes))) fewest
+      subst (λ (q : ℕ × ℕ). locks_left s0 ≤ fewest_locks q.0 (facts (world s')).version q.1 + 1) (λ k. (sym same_generation k, (sym same_layout k).nodes))
+      (fewest_lose s0.generation (facts (world s0)).version (facts (world s')).version s0.layout.nodes (locks_after answer answered))
+
+  lone_each : (answer : Once Placed) → result ≡ Answered (reply.Placed answer) → LoseAtMost 1 s0 s'
+  lone_each answer answered n =
+      subst (λ (g : ℕ). locks_of s0.generation ((facts (world s0)).version n) ≤ locks_of g ((facts (world s')).version n) + 1) (sym same_generation) (locks_after answer answered n)
 
   -- the same of the answer as a step tells it
   pub reply_tries : (r : CoreReply) → result ≡ Answered r → TriesAlone s0 i c s' (answer_in r)
@@ -416,6 +362,9 @@ module _ (s0 s s' : Index) (i : ℕ) (c : CoreCall) (result : Stepped) (o : Lone
 
   pub reply_locks : (r : CoreReply) → result ≡ Answered r → locks_left s0 ≤ locks_left s' + 1
   reply_locks (reply.Placed answer) answered = lone_locks answer answered
+
+  pub reply_each : (r : CoreReply) → result ≡ Answered r → LoseAtMost 1 s0 s'
+  reply_each (reply.Placed answer) answered = lone_each answer answered
 
 -- what a try leaves spare
 pub spare_left : (s0 s s' : Index) (i : ℕ) (c : CoreCall) → Lone s0 s i c → room_of s ≤ room_of s' → IsQuiet s' → s0.spare + length s0.history ≤ s'.spare + length s'.history

@@ -36,7 +36,8 @@ use Rattle.index_core.specs.Schedules.{BegunCall, AnsweredCall, begun_call, flyi
 use Rattle.index_core.specs.Weights.{weight_of, put_count, added_if, added_by, added_whole, put_in}
 use Rattle.index_core.specs.WeightBounds.{names_added, puts_in_flight, WeightIsBounded}
 use Rattle.index_core.proofs.Crashing.{crash_light}
-use Rattle.index_core.proofs.Tries.{go_of, done_of, quiet_parties}
+use Rattle.index_core.proofs.Quiet.{quiet_parties}
+use Rattle.index_core.proofs.Tries.{go_of, done_of}
 use Rattle.index_core.proofs.Lists.{map_there, map_set}
 use Rattle.index_core.proofs.OneHistory.{none_flies}
 use Rattle.index_core.specs.MachineLaws.{shows}

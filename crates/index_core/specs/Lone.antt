@@ -15,15 +15,16 @@ use Rattle.call_stages.specs.declared.once.Once.TheVariants as once
 use Rattle.call_stages.specs.declared.once.Placed.{Placed}
 use Rattle.cat_history.specs.Records.{change_of}
 use Rattle.node_ops.specs.Asked.{name_asked}
-use Rattle.shapes.specs.Anchors.{splits, put_anchors}
+use Rattle.shapes.specs.Anchors.{splits, put_anchors, merges, del_anchors}
 use Rattle.version_lock.specs.Versions.{IsWorn}
 use Rattle.index_law.specs.Facts.{version_in}
 use Rattle.index_law.specs.Anchors.{anchors_in, members_most}
 use Rattle.index_law.specs.Worlds.{facts, written}
 use Rattle.lone_law.specs.Rooms.{target_node}
+use Rattle.lone_law.specs.Merging.{NextIsWorn}
 use Rattle.lone_law.specs.LoneCalls.{FindsWorn, IsAnswered}
 use Rattle.lone_law.specs.Splitting.{LacksFree}
-use Rattle.lone_law.specs.Locks.{locks_in}
+use Rattle.lone_law.specs.Locks.{locks_of, locks_in}
 use Rattle.index_core.specs.declared.party.CoreCall.{CoreCall}
 use Rattle.index_core.specs.declared.party.CoreCall.TheVariants as call
 use Rattle.index_core.specs.declared.party.CoreReply.{CoreReply}
@@ -89,6 +90,25 @@ SplitsNothing (call.Put name value limit) s =
     splits s.layout.slots (map_of_index s) (anchors_in (world s)) name ≡ false
 SplitsNothing _ s = Unit {0}
 
+-- It is a delete that merges the node of its name with the next one, which can be locked, and leaves the shape that such
+-- a delete leaves, with one node fewer to list.
+abbrev pub MergesFor : CoreCall → Index → Index → Type 0
+MergesFor (call.Del name limit) s new =
+    ((merges s.layout.slots (map_of_index s) (anchors_in (world s)) name ≡ true) × ¬ NextIsWorn (world s) name) ×
+    (anchors_in (world new) ≡ del_anchors s.layout.slots (map_of_index s) (anchors_in (world s)) name) ×
+    (members_most (world new) + 1 ≡ members_most (world s))
+MergesFor _ s new = ⊥
+
+-- It is no delete that would merge the node of its name with the next one, or that one can't be locked any more.
+abbrev pub MergesNothing : CoreCall → Index → Type 0
+MergesNothing (call.Del name limit) s =
+    (merges s.layout.slots (map_of_index s) (anchors_in (world s)) name ≡ false) ⊎ NextIsWorn (world s) name
+MergesNothing _ s = Unit {0}
+
+-- As many nodes as before may be listed, but for one that was merged into another.
+abbrev pub LeavesMost : CoreCall → Index → Index → Type 0
+LeavesMost c s new = (members_most (world new) ≡ members_most (world s)) ⊎ MergesFor c s new
+
 -- The node is that of the name, with this version word, from which no lock can be taken any more. Where it is the node
 -- of its name once that is split, the call took the last lock but one.
 abbrev pub IsWornNode : Index → CoreCall → Index → ℕ → ℕ → Type 0
@@ -108,15 +128,28 @@ IsWholeAnswer s c new (whole.Placed placed) =
     × (placed.old ≡ at (map_of_index s) (name_asked (op_of c))) × (placed.place ≡ length s.history) ×
     (placed.hops ≡ hops_before new (name_asked (op_of c)))
 
--- A call that took place split the node of its name exactly where the shape says so, and one that was refused or found
--- no room split none. Of a worn node its cause says it.
+-- A call that took place split the node of its name, or merged it with the next one, exactly where the shape says so;
+-- one that was refused or found no room did neither. Of a worn node its cause says it.
 abbrev pub LeavesList : CoreCall → Whole → Index → Index → Type 0
-LeavesList c (whole.Placed placed) s new = (HasSameList s new × SplitsNothing c s) ⊎ SplitsFor c s new
+LeavesList c (whole.Placed placed) s new =
+    (HasSameList s new × SplitsNothing c s × MergesNothing c s) ⊎ (SplitsFor c s new ⊎ MergesFor c s new)
 LeavesList c (whole.Spent clock) s new = HasSameList s new
 LeavesList c whole.Full s new = HasSameList s new
 LeavesList c (whole.Worn node word) s new = Unit {0}
 
--- Of each node one lock is taken at most, or two where its put split.
+-- How many more times one node can be locked.
+abbrev pub node_locks : Index → ℕ → ℕ
+node_locks s n = locks_of s.generation (version_in s.layout s.words n)
+
+-- Each node has lost so many locks at most.
+abbrev pub LoseAtMost : ℕ → Index → Index → Type 0
+LoseAtMost most s new = (n : ℕ) → node_locks s n ≤ node_locks new n + most
+
+-- Of each node one lock is taken at most, or two where the call's put split.
+abbrev pub TakesEachLock : CoreCall → Index → Index → Type 0
+TakesEachLock c s new = LoseAtMost 1 s new ⊎ (SplitsFor c s new × LoseAtMost 2 s new)
+
+-- So the fewest that are left of any node fall by one at most, or by two where its put split.
 abbrev pub TakesLocks : CoreCall → Index → Index → Type 0
 TakesLocks c s new =
     (locks_left s ≤ locks_left new + 1) ⊎ (SplitsFor c s new × (locks_left s ≤ locks_left new + 2))
@@ -169,7 +202,6 @@ pub record TriesAlone (old : Index) (caller : ℕ) (c : CoreCall) (new : Index) 
   pub layout : new.layout ≡ old.layout
   pub generation : new.generation ≡ old.generation
   pub base : new.base ≡ old.base
-  pub most : members_most (world new) ≡ members_most (world old)
   pub weighs : weight_of new ≤ weight_of old + added_by (op_of c) answer
 
 -- What a whole call answers and leaves.
@@ -184,7 +216,6 @@ pub record RunsAlone (old : Index) (caller : ℕ) (c : CoreCall) (new : Index) (
   pub generation : new.generation ≡ old.generation
   pub base : new.base ≡ old.base
   pub list : LeavesList c result old new
-  -- no node is taken out of use: as many as before may be listed
-  pub most : members_most (world new) ≡ members_most (world old)
+  pub most : LeavesMost c old new
   -- it weighs one more at most, and that only where it adds a name
   pub weighs : weight_of new ≤ weight_of old + added_whole (op_of c) result

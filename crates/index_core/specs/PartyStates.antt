@@ -96,7 +96,8 @@ put_owes (put.Finishing finish) = finish_owes finish.at
 put_owes _ = 1
 
 abbrev del_owes : Del → ℕ
-del_owes (del.Finishing finish) = finish_owes finish.at
+del_owes (del.Finishing finish line) = finish_owes finish.at
+del_owes (del.Merging call hold old place merge) = 0
 del_owes _ = 1
 
 abbrev pub owes : Running → ℕ

@@ -8,7 +8,8 @@ ghost use Rattle.index_core.specs.Fresh.{IsFreshIndex};
 ghost use Rattle.pm_words.specs.Locations.{image_words};
 ghost use Rattle.index_core.specs.Crashes.{IsCrash, evicted_index};
 ghost use Rattle.index_core.specs.PartsOf.{index_in};
-ghost use Rattle.index_core.specs.Lone.{CountsCall, IsQuiet, RunsAlone, TakesLocks, TriesAlone, locks_left};
+ghost use Rattle.index_core.specs.Lone.{CountsCall, IsQuiet, LoseAtMost, RunsAlone, TakesEachLock, TakesLocks};
+ghost use Rattle.index_core.specs.Lone.{TriesAlone, locks_left};
 
 use crate::crash::{Crashed, Cuts};
 use crate::party::{CoreCall, InFlight, PartyState, Stepped, Whole, idle_states, needs_split};
@@ -135,17 +136,16 @@ impl Core {
         ensures index { IsIndex self.new }
     {
         let at = party as usize;
-        let state = self.states[at];
-        if state.machine.is_some() {
+        if self.states[at].machine.is_some() {
             return Err(InFlight);
         }
-        let machine = call.machine(View {
+        let view = View {
             layout: self.memory.layout(),
             generation: self.generation,
             caller: party,
-        });
+        };
         let since = self.history.len() as u64;
-        self.states[at] = state.begins(since, machine);
+        self.states[at].begins(since, view, call);
         Ok(())
     }
 
@@ -211,8 +211,9 @@ impl Core {
 
     /// A whole call of a caller, with no other in flight. Its answer is told by its cause: the locks of the node are
     /// used up, else the clock has reached the limit, else there is no room for a new name, else it takes place. A put
-    /// that finds its node full splits it, and is made again. Of `spare` it takes one for a write that it places, and
-    /// none otherwise.
+    /// that finds its node full splits it, and is made again. A delete merges the node of its name with the next one
+    /// where both together are left with at most half as many names as a node has slots. Of `spare` a call takes one
+    /// for a write that it places, and none otherwise.
     pub fn run_alone<L: Ledger>(
         &mut self,
         caller: u64,
@@ -226,6 +227,7 @@ impl Core {
         ensures runs { RunsAlone self.old caller call self.new result }
         ensures quiet { IsQuiet self.new }
         ensures spare { self.old.spare + length self.old.history ≤ self.new.spare + length self.new.history }
+        ensures each_lock { TakesEachLock call self.old self.new }
         ensures locks { TakesLocks call self.old self.new }
         ensures index { IsIndex self.new }
     {
@@ -256,6 +258,7 @@ impl Core {
         ensures before { IsIndex self.old }
         ensures quiet { IsQuiet self.new }
         ensures spare { self.old.spare + length self.old.history ≤ self.new.spare + length self.new.history }
+        ensures each_lock { LoseAtMost 1 self.old self.new }
         ensures locks { locks_left self.old ≤ locks_left self.new + 1 }
         ensures index { IsIndex self.new }
     {

@@ -2,7 +2,7 @@ ghost use Rattle.std.specs.Prelude.{◌≡◌, IfOk};
 ghost use Rattle.index_core.specs.PartyStates.{idle_states};
 ghost use Rattle.index_core.specs.Lone.{needs_split};
 
-use call_stages::{Once, Placed};
+use call_stages::{Once, Placed, View};
 use cat_key::Name;
 use node_ops::Running;
 use pm_words::{Again, NoMemory};
@@ -96,7 +96,10 @@ impl PartyState {
     ghost use Rattle.std.specs.Prelude.{◌≡◌, IfSome, IsSomeAnd};
     ghost use Rattle.pm_words.specs.Turns.{GoesBelow};
     ghost use Rattle.pm_words.specs.declared.machine.Turn.TheVariants as Turn;
-    ghost use Rattle.node_ops.specs.RunningSteps.{running_left, running_takes, running_turned};
+    ghost use Rattle.call_stages.specs.Views.{IsView};
+    ghost use Rattle.node_ops.specs.Asked.{IsOf};
+    ghost use Rattle.node_ops.specs.RunningSteps.{IsRunning, running_left, running_takes, running_turned};
+    ghost use Rattle.index_core.specs.CoreCalls.{LimitFits, machine_of, op_of};
     ghost use Rattle.index_core.specs.PartyStates.{idle_state, state_with, state_after, state_counted, index_after};
     ghost use Rattle.index_core.specs.PartyStates.{stepped_of};
 
@@ -113,14 +116,15 @@ impl PartyState {
     }
 
     /// It begins a call, at this length of the history.
-    pub(crate) fn begins(self, since: u64, machine: Running) -> PartyState
-        ensures { result ≡ state_with self since machine }
+    pub(crate) fn begins(&mut self, since: u64, view: View, call: CoreCall)
+        requires view { IsView view }
+        requires limit { LimitFits call }
+        ensures state { self.new ≡ state_with self.old since (machine_of view call) }
+        ensures sound { IsRunning (machine_of view call) }
+        ensures op { IsOf (op_of call) (machine_of view call) }
     {
-        PartyState {
-            since,
-            machine: Some(machine),
-            ..self
-        }
+        self.since = since;
+        self.machine = Some(call.machine(view));
     }
 
     /// The index of its next call: one that is turned back uses up none.

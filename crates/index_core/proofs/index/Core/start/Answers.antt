@@ -1,4 +1,4 @@
-use Rattle.std.proofs.Common.{◌≡◌, ℕ, ◌+◌, arith, refl, ap, sym, ◌∙◌, subst}
+use Rattle.std.proofs.Common.{◌≡◌, ℕ, ◌+◌, ◌<◌, length, arith, refl, ap, sym, ◌∙◌, subst}
 use Rattle.std.specs.Prelude.{◌-◌, slice_set}
 use mathlib.Core.Option.{some-injective}
 use lib.ListN.{get_elem?}
@@ -41,22 +41,25 @@ pub returns-then-is_some-clause-index : goal.returns-then-is_some-clause-index
 returns-then-is_some-clause-index c =
     subst IsIndex c.self.view_is (respare _ _ c.self.invariant.0)
 
--- the machine that it has made
-made_at : (c : goal.After-self-1) → c.machine-machine.result ≡ machine_of (view_of (index_with c.self.inside 0) c.args.party) c.args.call
-made_at c =
-    c.machine-machine.ensures.machine
-    ∙ ap (λ (l : Layout). machine_of (record { layout = l; generation = c.self.inside.generation; caller = c.args.party }) c.args.call) c.layout.ensures.layout
+-- the machine that it makes
+made_at : (c : goal.After-self-1)
+    → machine_of (record { layout = c.layout.result; generation = c.self.inside.generation; caller = c.args.party }) c.args.call ≡ machine_of (view_of (index_with c.self.inside 0) c.args.party) c.args.call
+made_at c = ap (λ (l : Layout). machine_of (record { layout = l; generation = c.self.inside.generation; caller = c.args.party }) c.args.call) c.layout.ensures.layout
 
 -- what it has in hand once it has begun the call
-begun_at : (c : goal.After-self-1) → Begins (index_with c.self.inside 0) c.args.party c.index.result.now c.begins.result c.args.call
+begun_at : (c : goal.After-self-1) → Begins (index_with c.self.inside 0) c.args.party c.index_mut.result.now c.begins.new.self c.args.call
 begun_at c =
     let s = index_with c.self.inside 0 in
     let i = c.args.party in
     let callers = ap (λ (v : Index). v.layout.callers) c.self.view_is in
     let lt = c.requires.party in
-    let made = made_at c in
-    begins s i c.index.result.now c.begins.result c.args.call c.machine-machine.result c.len-since.result c.self.invariant.0 (omega (arith, c.self.invariant.0.parties, callers, lt)) c.index.ensures
-    (none_of c.index.result.now.machine (sym c.is_some.ensures ∙ c.if-is_some.false)) made c.machine-machine.ensures.sound (c.len-since.ensures ∙ c.self.inside.history.ok.0) c.begins.ensures
+    let within : i < length s.states = omega (arith, c.self.invariant.0.parties, callers, lt) in
+    let here = there_is s.states i within in
+    let looked = read_is s.states i here.0 c.index.result.now here.1 c.index.ensures in
+    let read = read_is s.states i here.0 c.index_mut.result.now here.1 c.index_mut.ensures.value in
+    let idle = none_of c.index.result.now.machine (sym c.is_some.ensures ∙ c.if-is_some.false) in
+    begins s i c.index_mut.result.now c.begins.new.self c.args.call _ c.len-since.result c.self.invariant.0 within c.index_mut.ensures.value
+    (ap (λ (d : PartyState). d.machine) (read ∙ sym looked) ∙ idle) (made_at c) c.begins.ensures.sound (c.len-since.ensures ∙ c.self.inside.history.ok.0) c.begins.ensures.state
 
 pub invariant_of-self : goal.invariant_of-self
 invariant_of-self c =
@@ -67,7 +70,7 @@ invariant_of-self c =
     let was = ap (λ (v : Index). v.spare) c.self.view_is in
     let room = c.self.invariant.1 in
     let wanted = c.requires.spare in
-    let n : ℕ = c.self.inside.history.cap - (c.self.inside.history.len + owed (slice_set s.states i c.begins.result)) in
+    let n : ℕ = c.self.inside.history.cap - (c.self.inside.history.len + owed (slice_set s.states i c.begins.new.self)) in
     (subst IsIndex (sym (begun.same 0)) (begun.kept 0), omega arith)
 
 pub returns-clause-in_flight : goal.returns-clause-in_flight
@@ -79,7 +82,7 @@ returns-clause-in_flight c =
     let was = ap (λ (v : Index). v.spare) c.self.view_is in
     let room = c.self.invariant.1 in
     let wanted = c.requires.spare in
-    let n : ℕ = c.self.inside.history.cap - (c.self.inside.history.len + owed (slice_set s.states i c.begins.result)) in (
+    let n : ℕ = c.self.inside.history.cap - (c.self.inside.history.len + owed (slice_set s.states i c.begins.new.self)) in (
       λ (e : _). absurd (cc),
       λ (f : IsInFlight _ i).
           let here = some-injective _ _ (sym begun.there ∙ ap (λ (v : Index). get_elem? v.states i) c.self.view_is ∙ f.there) in
@@ -92,12 +95,12 @@ returns-clause-started c =
     let s = index_with c.self.inside 0 in
     let i = c.args.party in
     let begun = begun_at c in
-    let n : ℕ = c.self.inside.history.cap - (c.self.inside.history.len + owed (slice_set s.states i c.begins.result)) in
+    let n : ℕ = c.self.inside.history.cap - (c.self.inside.history.len + owed (slice_set s.states i c.begins.new.self)) in
     record {
       state = begun.state;
       there = sym (ap (λ (v : Index). get_elem? v.states i) c.self.view_is) ∙ begun.there;
       is = begun.same n ∙ ap (λ (v : Index). started_index v i begun.state c.args.call n) c.self.view_is;
-      of = subst (IsOf (op_of c.args.call)) (made_at c ∙ ap (λ (v : Index). machine_of (view_of v i) c.args.call) c.self.view_is) c.machine-machine.ensures.op;
+      of = subst (IsOf (op_of c.args.call)) (made_at c ∙ ap (λ (v : Index). machine_of (view_of v i) c.args.call) c.self.view_is) c.begins.ensures.op;
     }
 
 pub returns-clause-spare : goal.returns-clause-spare
@@ -109,7 +112,7 @@ returns-clause-spare c =
     let was = ap (λ (v : Index). v.spare) c.self.view_is in
     let room = c.self.invariant.1 in
     let wanted = c.requires.spare in
-    let n : ℕ = c.self.inside.history.cap - (c.self.inside.history.len + owed (slice_set s.states i c.begins.result)) in
+    let n : ℕ = c.self.inside.history.cap - (c.self.inside.history.len + owed (slice_set s.states i c.begins.new.self)) in
     omega arith
 
 pub returns-clause-index : goal.returns-clause-index
@@ -117,7 +120,7 @@ returns-clause-index c =
     let s = index_with c.self.inside 0 in
     let i = c.args.party in
     let begun = begun_at c in
-    let n : ℕ = c.self.inside.history.cap - (c.self.inside.history.len + owed (slice_set s.states i c.begins.result)) in
+    let n : ℕ = c.self.inside.history.cap - (c.self.inside.history.len + owed (slice_set s.states i c.begins.new.self)) in
     subst IsIndex (sym (begun.same n)) (begun.kept n)
 
 pub returns-then-is_some-clause-before : goal.returns-then-is_some-clause-before

@@ -1,10 +1,7 @@
 use Rattle.std.proofs.Common.{◌≡◌, ℕ, ◌+◌, length, arith, refl, ap, sym, ◌∙◌, subst}
-use Rattle.std.specs.Prelude.{◌-◌, slice_set, Option, Some, IfSome, IsSomeAnd}
+use Rattle.std.specs.Prelude.{◌-◌, slice_set, Option, IfSome, IsSomeAnd}
 use lib.ListN.{get_elem?}
-use Rattle.pm_words.specs.declared.machine.Turn.{Turn}
 use Rattle.pm_words.specs.Turns.{GoesBelow}
-use Rattle.call_stages.specs.declared.once.Once.{Once}
-use Rattle.call_stages.specs.declared.once.Placed.{Placed}
 use Rattle.cat_history.specs.Maps.{map_of}
 use Rattle.cat_history.specs.declared.op.NameOp.{NameOp}
 use Rattle.node_ops.specs.Asked.{IsOf, IsOfAfter, op_in}

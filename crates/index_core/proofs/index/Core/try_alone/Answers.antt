@@ -1,6 +1,6 @@
 use Rattle.std.proofs.Common.{refl, sym, ◌∙◌, subst}
 use Rattle.index_core.specs.Lone.{TriesAlone}
-use Rattle.index_core.proofs.Tries.{lone_start, lone_flies, lone_goes, reply_tries, reply_quiet, reply_locks, spare_left}
+use Rattle.index_core.proofs.Tries.{lone_start, lone_flies, lone_goes, reply_tries, reply_quiet, reply_locks, reply_each, spare_left}
 use Rattle.index_core.proofs.index.Core.try_alone.Goals as goal
 
 pub unreachable-requires : goal.unreachable-requires
@@ -41,3 +41,7 @@ returns-in-Answered-clause-spare g c =
 pub returns-in-Answered-clause-locks : goal.returns-in-Answered-clause-locks
 returns-in-Answered-clause-locks g c =
     reply_locks c.args.self.now c.steps.self c.step.new.self c.args.caller c.args.call.now c.step.result c.steps.invariant c.step.ensures.stepped c.step.ensures.index c.step.ensures.spare.all c.in-Answered.reply c.in-Answered.is
+
+pub returns-in-Answered-clause-each_lock : goal.returns-in-Answered-clause-each_lock
+returns-in-Answered-clause-each_lock g c =
+    reply_each c.args.self.now c.steps.self c.step.new.self c.args.caller c.args.call.now c.step.result c.steps.invariant c.step.ensures.stepped c.step.ensures.index c.step.ensures.spare.all c.in-Answered.reply c.in-Answered.is
