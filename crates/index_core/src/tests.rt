@@ -2,9 +2,10 @@ ghost use Rattle.std.specs.Prelude.{◌≡◌, ◌<◌, ◌≤◌};
 ghost use Rattle.index_core.specs.CoreCalls.{LimitFits, most_writes};
 
 use super::*;
+use crate::party::needs_split;
 use call_stages::{Once, Placed};
 use cat_key::Name;
-use pm_words::{Layout, Steps};
+use pm_words::{Again, Layout, Steps};
 use shapes::{NameMap, PlainMap};
 use std::alloc::Global;
 use std::marker::Brand;
@@ -12,25 +13,28 @@ use std::sync::ledger::{Blank, Ledger};
 use std::test::Fail;
 
 mod crashes;
+mod drawn;
 mod events;
 mod indexes;
+mod merges;
+mod model;
 mod splits;
 
 /// No call has as many steps.
 const MANY: u64 = 1000;
 
 /// No history here is as long.
-const LIMIT: u64 = 1000;
+const LIMIT: u64 = 100_000;
 
-/// A put, a get or a delete of the one name of this test.
-fn call_of(kind: u64, name: Name) -> CoreCall
+/// A put of this number, a get or a delete.
+fn call_of(kind: u64, name: Name, value: u64) -> CoreCall
     ensures limit { LimitFits result }
     ensures writes { most_writes result ≤ 1 }
 {
     match kind {
         0 => CoreCall::Put {
             name,
-            value: 7,
+            value,
             limit: LIMIT,
         },
         1 => CoreCall::Get { name },
@@ -39,16 +43,22 @@ fn call_of(kind: u64, name: Name) -> CoreCall
 }
 
 /// Begins a call of a party that is idle.
-fn begin(core: &mut Core, party: u64, kind: u64) -> Result<(), Fail> {
-    let name = Name::read(b"a").ok().ok_or("a")?;
+fn begin_call(core: &mut Core, party: u64, call: CoreCall) -> Result<(), Fail>
+    requires limit { LimitFits call }
+    requires writes { most_writes call ≤ 1 }
+{
     core.reserve(1)?;
     if party >= core.layout().callers() {
         return Err("no such party")?;
     }
-    core.start(party, call_of(kind, name))
-        .ok()
-        .ok_or("in flight")?;
+    core.start(party, call).ok().ok_or("in flight")?;
     Ok(())
+}
+
+/// Begins a call of the one name of this test.
+fn begin(core: &mut Core, party: u64, kind: u64) -> Result<(), Fail> {
+    let name = Name::read(b"a").ok().ok_or("a")?;
+    begin_call(core, party, call_of(kind, name, 7))
 }
 
 /// At most so many steps of a party's call, and its answer if it is done. That the call is in flight is told by a
@@ -77,6 +87,40 @@ fn placed(answer: Option<Once<Placed>>) -> Option<Placed> {
     match answer {
         Some(Once::Done(placed)) => Some(placed),
         _ => None,
+    }
+}
+
+/// One try of a call of party 0, with no other in flight.
+fn one_try<L: Ledger>(
+    core: &mut Core,
+    call: &CoreCall,
+    steps: &mut Steps<L>,
+) -> Result<Once<Placed>, Fail>
+    requires limit { LimitFits call.now }
+    requires writes { most_writes call.now ≤ 1 }
+{
+    begin_call(core, 0, *call)?;
+    Ok(run(core, 0, MANY, steps)?.ok_or("an answer")?)
+}
+
+/// A whole call of party 0, with no other in flight, which is made again where it split its node. None where it finds
+/// no room.
+fn whole<L: Ledger>(
+    core: &mut Core,
+    call: &CoreCall,
+    steps: &mut Steps<L>,
+) -> Result<Option<Placed>, Fail>
+    requires limit { LimitFits call.now }
+    requires writes { most_writes call.now ≤ 1 }
+{
+    let mut answer = one_try(core, call, steps)?;
+    if needs_split(&answer) {
+        answer = one_try(core, call, steps)?;
+    }
+    match answer {
+        Once::Done(placed) => Ok(Some(placed)),
+        Once::Again(Again::NoFree) => Ok(None),
+        _ => Err("a call alone takes place or finds no room")?,
     }
 }
 
@@ -224,7 +268,7 @@ fn put_alone<L: Ledger>(alloc: Global, steps: &mut Steps<L>) -> Result<Option<Pl
     let name = Name::read(b"a").ok().ok_or("a")?;
     let mut core = Core::fresh(alloc, Layout::new(1, 4, 1)?)?;
     core.reserve(1)?;
-    match core.run_alone(0, call_of(0, name), steps) {
+    match core.run_alone(0, call_of(0, name, 7), steps) {
         Whole::Placed(placed) => Ok(Some(placed)),
         _ => Ok(None),
     }

@@ -1,9 +1,10 @@
 //! Crashes after each step of a write, with nothing, everything or every second word evicted before.
 
 ghost use Rattle.std.specs.Prelude.{◌≡◌, ◌<◌, ◌≤◌};
+ghost use Rattle.pm_words.specs.Layouts.{IsLayout};
 ghost use Rattle.index_core.specs.CoreCalls.{LimitFits, most_writes};
 
-use super::{LIMIT, MANY, run};
+use super::{LIMIT, begin_call, run, whole};
 use crate::{Core, CoreCall, Crashed, CutCall, Cuts};
 use cat_history::Change;
 use cat_key::Name;
@@ -15,23 +16,24 @@ use std::marker::Brand;
 use std::sync::ledger::{Blank, Ledger};
 use std::test::Fail;
 
-/// The names of these tests. A node has four slots.
-const NAMES: u64 = 6;
+/// How many names these tests have: letters, from `a` on. A node has four slots.
+pub(super) const NAMES: u64 = 12;
 
-fn name_of(number: u64) -> Result<Name, Fail> {
+pub(super) fn name_of(number: u64) -> Result<Name, Fail> {
     let byte = 0x61 + (number % NAMES) as u8;
     Ok(Name::read(&[byte]).ok().ok_or("a name")?)
 }
 
-/// A put, an overwrite or a delete, how many nodes the layout has, how many names there are before it, and after each
-/// of how many steps there is a crash.
+/// A put, an overwrite or a delete, how many nodes the layout has, how many names are put before it, which one of them
+/// is deleted then, and after each of how many steps there is a crash.
 #[derive(Clone, Copy)]
-struct Case {
-    nodes: u64,
-    put: bool,
-    number: u64,
-    before: u64,
-    steps: u64,
+pub(super) struct Case {
+    pub nodes: u64,
+    pub put: bool,
+    pub number: u64,
+    pub before: u64,
+    pub without: Option<u64>,
+    pub steps: u64,
 }
 
 impl Case {
@@ -59,18 +61,8 @@ fn call_of(change: Change) -> CoreCall
     }
 }
 
-/// Begins the write of a change by party 0.
-fn begin(core: &mut Core, change: Change) -> Result<(), Fail> {
-    core.reserve(1)?;
-    if core.layout().callers() == 0 {
-        return Err("no party")?;
-    }
-    core.start(0, call_of(change)).ok().ok_or("in flight")?;
-    Ok(())
-}
-
-/// Evicts the image words that the kind names: none, all, the odd or the even ones.
-fn evict(core: &mut Core, kind: u64) {
+/// Evicts the image words that the kind names: none, all, the even or the odd ones.
+pub(super) fn evict(core: &mut Core, kind: u64) {
     for word in 0..core.layout().image_words() {
         if word < core.layout().image_words() && (kind == 1 || kind >= 2 && word % 2 == kind % 2) {
             core.evict(word);
@@ -118,25 +110,51 @@ enum Shown {
     Found,
 }
 
-/// A core of so many nodes of four slots, with so many names.
-fn with_names<L: Ledger>(
+/// A core of so many nodes of four slots and so many callers, in which so many names were put, and then one of them was
+/// deleted.
+pub(super) fn with_names<L: Ledger>(
     alloc: Global,
-    nodes: u64,
+    layout: Layout,
     count: u64,
+    without: Option<u64>,
     steps: &mut Steps<L>,
-) -> Result<Core, Fail> {
-    let mut core = Core::fresh(alloc, Layout::new(nodes, 4, 1)?)?;
+) -> Result<Core, Fail>
+    requires { IsLayout layout }
+{
+    let mut core = Core::fresh(alloc, layout)?;
     for value in 0..count {
         let name = name_of(value)?;
-        begin(&mut core, Change::Put { name, value })?;
-        run(&mut core, 0, MANY, steps)?;
+        whole(&mut core, &call_of(Change::Put { name, value }), steps)?;
+    }
+    if let Some(number) = without {
+        let name = name_of(number)?;
+        whole(&mut core, &call_of(Change::Del { name }), steps)?;
     }
     Ok(core)
 }
 
-/// Whether the crash cut off a write of party 0 that has no place.
-fn is_unplaced(cuts: &Cuts) -> bool {
-    matches!(cuts.get(0), Some(CutCall { place: None, .. }))
+/// The write of this party that was cut off and has no place.
+fn unplaced(cuts: &Cuts, party: u64) -> Option<Change> {
+    let CutCall { call, place, .. } = cuts.get(party)?;
+    if place.is_some() {
+        return None;
+    }
+    match call {
+        CoreCall::Put { name, value, .. } => Some(Change::Put { name, value }),
+        CoreCall::Del { name, .. } => Some(Change::Del { name }),
+        CoreCall::Get { .. } => None,
+    }
+}
+
+/// Makes of the plain map what the writes make that were cut off without a place and are found in the image.
+pub(super) fn add_found(map: &mut PlainMap, image: &Image, cuts: &Cuts, parties: u64) {
+    for party in 0..parties {
+        if let Some(change) = unplaced(cuts, party) {
+            if is_found(image, &change) {
+                apply(map, &change);
+            }
+        }
+    }
 }
 
 /// Crashes a core in which a write of this change is in flight or answered.
@@ -144,10 +162,7 @@ fn shown_of(alloc: Global, core: Core, change: &Change) -> Result<Shown, Fail> {
     let mut map = map_of(alloc, &core)?;
     let Crashed { image, cuts } = core.crash();
     let found = is_found(&image, change);
-    // A write that has no place is in the map where it is found.
-    if found && is_unplaced(&cuts) {
-        apply(&mut map, change);
-    }
+    add_found(&mut map, &image, &cuts, 1);
     if !is_kept(&image, &mut map)? {
         return Ok(Shown::Wrong);
     }
@@ -162,9 +177,10 @@ fn crashed<L: Ledger>(
     evicts: u64,
     steps: &mut Steps<L>,
 ) -> Result<Shown, Fail> {
-    let mut core = with_names(alloc, case.nodes, case.before, steps)?;
+    let layout = Layout::new(case.nodes, 4, 1)?;
+    let mut core = with_names(alloc, layout, case.before, case.without, steps)?;
     let change = case.change()?;
-    begin(&mut core, change)?;
+    begin_call(&mut core, 0, call_of(change))?;
     run(&mut core, 0, before, steps)?;
     evict(&mut core, evicts);
     shown_of(alloc, core, &change)
@@ -192,7 +208,7 @@ fn found_from<L: Ledger>(
 }
 
 /// The same with each kind of eviction.
-fn found_by_evictions<L: Ledger>(
+pub(super) fn found_by_evictions<L: Ledger>(
     alloc: Global,
     blank: Blank,
     case: Case,
@@ -212,13 +228,15 @@ fn found_by_evictions<L: Ledger>(
 #[test]
 fn a_crash_keeps_the_map_with_what_is_found(rt: HostRuntime) -> Result<(), Fail> {
     // A write is found from the store of its word on where that word is evicted, and else from its drain on. The bitmap
-    // is word 17 of the image, which a put into a clear slot stores as its event 55 and drains as 59, and a delete as
-    // 22 and 26; the value of slot 0 is word 35, and is stored in place as event 22 and drained as event 30.
+    // is word 17 of the image, which a put into a clear slot stores as its event 55 and drains as 59, and a delete, which
+    // leaves few names and so looks where its node leads, as 23 and 27; the value of slot 0 is word 35, and is stored in
+    // place as event 22 and drained as event 30.
     let put = Case {
         nodes: 1,
         put: true,
         number: 1,
         before: 1,
+        without: None,
         steps: 75,
     };
     let overwrite = Case {
@@ -226,6 +244,7 @@ fn a_crash_keeps_the_map_with_what_is_found(rt: HostRuntime) -> Result<(), Fail>
         put: true,
         number: 0,
         before: 4,
+        without: None,
         steps: 75,
     };
     let delete = Case {
@@ -233,9 +252,10 @@ fn a_crash_keeps_the_map_with_what_is_found(rt: HostRuntime) -> Result<(), Fail>
         put: false,
         number: 0,
         before: 2,
+        without: None,
         steps: 75,
     };
-    for (case, stored, drained) in [(put, 55, 59), (overwrite, 22, 30), (delete, 22, 26)] {
+    for (case, stored, drained) in [(put, 55, 59), (overwrite, 22, 30), (delete, 23, 27)] {
         let found = found_by_evictions::<Brand>(rt.alloc(), Blank::new(1), case)?;
         assert_eq!(rt;
             found,
@@ -253,6 +273,7 @@ fn a_crash_in_a_split_keeps_the_map(rt: HostRuntime) -> Result<(), Fail> {
         put: true,
         number: 4,
         before: 4,
+        without: None,
         steps: 225,
     };
     let found = found_by_evictions::<Brand>(rt.alloc(), Blank::new(1), split)?;

@@ -3,10 +3,10 @@
 ghost use Rattle.std.specs.Prelude.{◌≡◌, ◌<◌, ◌≤◌, IfOk};
 ghost use Rattle.index_core.specs.CoreCalls.{LimitFits, most_writes};
 
-use super::crashes::{apply, is_kept, map_of};
-use super::{LIMIT, MANY, run};
+use super::crashes::{NAMES, apply, is_kept, map_of, name_of, with_names};
+use super::{LIMIT, MANY, begin_call, call_of, placed, run};
 use crate::{Core, CoreCall, Crashed, Whole};
-use call_stages::Once;
+use call_stages::{Once, Placed};
 use cat_key::Name;
 use pm_words::{Layout, Steps};
 use shapes::{NameMap, PlainMap};
@@ -71,83 +71,90 @@ fn a_full_node_is_split_while_one_is_free(rt: HostRuntime) -> Result<(), Fail> {
     Ok(())
 }
 
-/// One of the names `a` to `f`.
-fn name_of(number: u64) -> Result<Name, Fail> {
-    let byte = 0x61 + (number % 6) as u8;
-    Ok(Name::read(&[byte]).ok().ok_or("a name")?)
-}
-
-/// A put of this number, a get or a delete.
-fn call_of(kind: u64, name: Name, value: u64) -> CoreCall
-    ensures limit { LimitFits result }
-    ensures writes { most_writes result ≤ 1 }
-{
-    match kind {
-        0 => CoreCall::Put {
-            name,
-            value,
-            limit: LIMIT,
-        },
-        1 => CoreCall::Get { name },
-        _ => CoreCall::Del { name, limit: LIMIT },
-    }
-}
-
 /// Begins a call of a party that is idle, about the name of this number.
 fn begin(core: &mut Core, party: u64, kind: u64, number: u64) -> Result<(), Fail> {
     let name = name_of(number)?;
-    core.reserve(1)?;
-    if party >= core.layout().callers() {
-        return Err("no such party")?;
-    }
-    core.start(party, call_of(kind, name, party))
-        .ok()
-        .ok_or("in flight")?;
-    Ok(())
-}
-
-/// A full node of two, with the names `a` to `d`, which party 0 put.
-fn full_node<L: Ledger>(alloc: Global, steps: &mut Steps<L>) -> Result<Core, Fail> {
-    let mut core = Core::fresh(alloc, Layout::new(2, 4, 2)?)?;
-    for number in 0..4 {
-        begin(&mut core, 0, 0, number)?;
-        run(&mut core, 0, MANY, steps)?;
-    }
-    Ok(core)
+    begin_call(core, party, call_of(kind, name, party))
 }
 
 /// What the plain map has of the name of this number after so many of the core's writes.
-fn number_at(alloc: Global, core: &Core, number: u64, place: u64) -> Result<Option<u64>, Fail> {
-    let mut map = PlainMap::new(alloc, 6)?;
+pub(super) fn number_at(
+    alloc: Global,
+    core: &Core,
+    number: u64,
+    place: u64,
+) -> Result<Option<u64>, Fail> {
+    let mut map = PlainMap::new(alloc, NAMES)?;
     for write in core.history().iter().take(place as usize) {
         apply(&mut map, &write.change);
     }
     Ok(map.get(&name_of(number)?))
 }
 
-/// Whether all is as in the plain map, where party 1 makes a whole try of a call after so many steps of a put of `e`,
-/// which splits the full node.
-fn agrees<L: Ledger>(
+/// A try of party 0, and a call of party 1 beside it: the kinds and the numbers of the names of both, and how many
+/// steps the first has made as the second is made whole.
+#[derive(Clone, Copy)]
+pub(super) struct Beside {
+    pub first: [u64; 2],
+    pub before: u64,
+    pub second: [u64; 2],
+}
+
+/// A whole try of party 1, made again where it was turned back.
+fn second_try<L: Ledger>(
+    core: &mut Core,
+    beside: Beside,
+    steps: &mut Steps<L>,
+) -> Result<Once<Placed>, Fail> {
+    let [kind, number] = beside.second;
+    begin(core, 1, kind, number)?;
+    Ok(run(core, 1, MANY, steps)?.ok_or("an answer")?)
+}
+
+/// Whether all is as in the plain map, where party 1 makes its call after so many steps of the try of party 0; where
+/// it is turned back, it is made again once that one is answered.
+pub(super) fn agrees<L: Ledger>(
     alloc: Global,
-    before: u64,
-    kind: u64,
-    number: u64,
+    mut core: Core,
+    beside: Beside,
     steps: &mut Steps<L>,
 ) -> Result<bool, Fail> {
-    let mut core = full_node(alloc, steps)?;
-    begin(&mut core, 0, 0, 4)?;
-    run(&mut core, 0, before, steps)?;
-    begin(&mut core, 1, kind, number)?;
-    let answer = run(&mut core, 1, MANY, steps)?.ok_or("an answer")?;
-    run(&mut core, 0, MANY, steps)?;
-    if let Once::Done(placed) = answer {
-        if placed.old != number_at(alloc, &core, number, placed.place)? {
-            return Ok(false);
-        }
+    let [kind, number] = beside.first;
+    begin(&mut core, 0, kind, number)?;
+    let early = run(&mut core, 0, beside.before, steps)?;
+    let mut answer = second_try(&mut core, beside, steps)?;
+    if early.is_none() {
+        run(&mut core, 0, MANY, steps)?;
+    }
+    if let Once::Again(_) = answer {
+        answer = second_try(&mut core, beside, steps)?;
+    }
+    let Once::Done(placed) = answer else {
+        return Ok(false);
+    };
+    let [_, number] = beside.second;
+    if placed.old != number_at(alloc, &core, number, placed.place)? {
+        return Ok(false);
     }
     let mut map = map_of(alloc, &core)?;
+    let told = tells_map(&mut core, &mut map, steps)?;
     let Crashed { image, .. } = core.crash();
-    is_kept(&image, &mut map)
+    Ok(told && is_kept(&image, &mut map)?)
+}
+
+/// Whether gets of party 0 tell of each name what the map has.
+fn tells_map<L: Ledger>(
+    core: &mut Core,
+    map: &mut PlainMap,
+    steps: &mut Steps<L>,
+) -> Result<bool, Fail> {
+    let mut told = true;
+    for number in 0..NAMES {
+        begin(core, 0, 1, number)?;
+        let answer = placed(run(core, 0, MANY, steps)?).ok_or("a get alone takes place")?;
+        told = told && answer.old == map.get(&name_of(number)?);
+    }
+    Ok(told)
 }
 
 /// The first of these cases that doesn't agree: a put, a get and a delete each, of a name that stays and of one that
@@ -159,7 +166,14 @@ fn first_disagreed<L: Ledger>(alloc: Global, blank: Blank) -> Result<Option<u64>
     let (book, share) = blank.open::<L>();
     let mut steps = Steps::new(book, share);
     for case in 0..1350 {
-        if !agrees(alloc, case / 6, case % 3, case / 3 % 2 * 2, &mut steps)? {
+        // The put of `e` splits the node of `a` to `d`.
+        let core = with_names(alloc, Layout::new(2, 4, 2)?, 4, None, &mut steps)?;
+        let beside = Beside {
+            first: [0, 4],
+            before: case / 6,
+            second: [case % 3, case / 3 % 2 * 2],
+        };
+        if !agrees(alloc, core, beside, &mut steps)? {
             return Ok(Some(case));
         }
     }

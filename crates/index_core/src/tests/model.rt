@@ -1,0 +1,237 @@
+//! A slow model of an index with no call in flight, in the words of the rule alone: a list of members with their names.
+
+use call_stages::Placed;
+use cat_key::Name;
+use shapes::{NameMap, PlainMap};
+use std::alloc::Global;
+use std::test::Fail;
+
+/// How many names there are.
+pub(super) const NAMES: u64 = 64;
+
+/// The name of this number. They rise with their numbers.
+pub(super) fn name_of(number: u64) -> Result<Name, Fail> {
+    let bytes = [0x30 + (number / 8 % 8) as u8, 0x30 + (number % 8) as u8];
+    Ok(Name::read(&bytes).ok().ok_or("a name")?)
+}
+
+/// The bit of a name among the names of a member.
+fn bit_of(number: u64) -> u64 {
+    1 << (number % NAMES)
+}
+
+/// The number of the least of these names.
+fn least_of(names: u64) -> u64 {
+    for number in 0..NAMES {
+        if names & bit_of(number) != 0 {
+            return number;
+        }
+    }
+    NAMES
+}
+
+/// How many names these are.
+pub(super) fn count_of(names: u64) -> u64 {
+    let mut count: u64 = 0;
+    for number in 0..NAMES {
+        if names & bit_of(number) != 0 {
+            count = count.saturating_add(1);
+        }
+    }
+    count
+}
+
+/// So many of these names, the least ones.
+fn lowest_of(names: u64, count: u64) -> u64 {
+    let mut lowest = 0;
+    for number in 0..NAMES {
+        if names & bit_of(number) != 0 && count_of(lowest) < count {
+            lowest |= bit_of(number);
+        }
+    }
+    lowest
+}
+
+/// A member: the number of the name at which it begins, and its names, a bit for each.
+#[derive(Clone, Copy)]
+struct Member {
+    first: u64,
+    names: u64,
+}
+
+/// The members in the order of their names, and the number that each name has.
+#[derive(Drop)]
+pub(super) struct Model {
+    slots: u64,
+    /// How many members there can be: one that was merged into another doesn't come back.
+    most: u64,
+    members: Vec<Member>,
+    map: PlainMap,
+    writes: u64,
+}
+
+impl Model {
+    /// No names, in one member.
+    pub(super) fn new(alloc: Global, slots: u64, nodes: u64) -> Result<Model, Fail> {
+        let mut members = Vec::new(alloc);
+        members.push(Member { first: 0, names: 0 })?;
+        Ok(Model {
+            slots,
+            most: nodes,
+            members,
+            map: PlainMap::new(alloc, NAMES)?,
+            writes: 0,
+        })
+    }
+
+    /// How many members there can be.
+    pub(super) fn most(&self) -> u64 {
+        self.most
+    }
+
+    /// What a put of this number, a get or a delete is answered; None where it finds no room.
+    pub(super) fn answer(
+        &mut self,
+        alloc: Global,
+        kind: u64,
+        number: u64,
+        value: u64,
+    ) -> Result<Option<Placed>, Fail> {
+        match kind {
+            0 => self.put(alloc, number, value),
+            1 => Ok(Some(self.get(number)?)),
+            _ => Ok(Some(self.del(alloc, number)?)),
+        }
+    }
+
+    /// The target of a name: the last member that begins at most there.
+    fn target(&self, number: u64) -> usize {
+        let mut target = 0;
+        for (position, member) in self.members.iter().enumerate() {
+            if member.first <= number {
+                target = position;
+            }
+        }
+        target
+    }
+
+    /// The names of a member; none where there is no such member.
+    fn names_at(&self, position: usize) -> u64 {
+        match self.members.get(position) {
+            Some(member) => member.names,
+            None => 0,
+        }
+    }
+
+    /// Gives a member these names.
+    fn set_names(&mut self, position: usize, names: u64) {
+        if position < self.members.len() {
+            self.members[position].names = names;
+        }
+    }
+
+    fn get(&mut self, number: u64) -> Result<Placed, Fail> {
+        Ok(Placed {
+            old: self.map.get(&name_of(number)?),
+            place: self.writes,
+            hops: self.target(number) as u64,
+        })
+    }
+
+    /// A write of a name that had this number takes the next place.
+    fn placed(&mut self, old: Option<u64>, target: usize) -> Placed {
+        let place = self.writes;
+        self.writes = place.saturating_add(1);
+        Placed {
+            old,
+            place,
+            hops: target as u64,
+        }
+    }
+
+    fn put(&mut self, alloc: Global, number: u64, value: u64) -> Result<Option<Placed>, Fail> {
+        let name = name_of(number)?;
+        if self.map.get(&name).is_none() {
+            if !self.has_room(alloc, number)? {
+                return Ok(None);
+            }
+            let target = self.target(number);
+            let names = self.names_at(target);
+            self.set_names(target, names | bit_of(number));
+        }
+        let old = self.map.put(&name, value).ok().flatten();
+        let target = self.target(number);
+        Ok(Some(self.placed(old, target)))
+    }
+
+    /// Whether there is room for the name, once its target is split where it has as many names as slots and there can
+    /// be one member more.
+    fn has_room(&mut self, alloc: Global, number: u64) -> Result<bool, Fail> {
+        let target = self.target(number);
+        let names = self.names_at(target);
+        if count_of(names) < self.slots {
+            return Ok(true);
+        }
+        if self.members.len() as u64 >= self.most {
+            return Ok(false);
+        }
+        let lower = lowest_of(names, self.slots / 2);
+        let upper = names & !lower;
+        self.set_names(target, lower);
+        self.insert_behind(
+            alloc,
+            target,
+            Member {
+                first: least_of(upper),
+                names: upper,
+            },
+        )?;
+        Ok(true)
+    }
+
+    /// One member more, right behind this one.
+    fn insert_behind(&mut self, alloc: Global, target: usize, more: Member) -> Result<(), Fail> {
+        let mut members = Vec::new(alloc);
+        for (position, member) in self.members.iter().enumerate() {
+            members.push(*member)?;
+            if position == target {
+                members.push(more)?;
+            }
+        }
+        self.members = members;
+        Ok(())
+    }
+
+    fn del(&mut self, alloc: Global, number: u64) -> Result<Placed, Fail> {
+        let target = self.target(number);
+        let old = self.map.del(&name_of(number)?);
+        if old.is_some() {
+            let names = self.names_at(target) & !bit_of(number);
+            self.set_names(target, names);
+            self.merge_next(alloc, target)?;
+        }
+        Ok(self.placed(old, target))
+    }
+
+    /// The next member goes where both together have no more than half as many names as slots, and its names join those
+    /// of the target.
+    fn merge_next(&mut self, alloc: Global, target: usize) -> Result<(), Fail> {
+        let Some(next) = self.members.get(target.saturating_add(1)) else {
+            return Ok(());
+        };
+        let joined = self.names_at(target) | next.names;
+        if count_of(joined) > self.slots / 2 {
+            return Ok(());
+        }
+        let mut members = Vec::new(alloc);
+        for (position, member) in self.members.iter().enumerate() {
+            if position != target.saturating_add(1) {
+                members.push(*member)?;
+            }
+        }
+        self.members = members;
+        self.set_names(target, joined);
+        self.most = self.most.saturating_sub(1);
+        Ok(())
+    }
+}
