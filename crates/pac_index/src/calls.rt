@@ -59,7 +59,8 @@ impl Shared {
         self.try_call(caller, CoreCall::Get { name: *name }, &OpenGate)
     }
 
-    /// One try of a delete by one of the callers before the last, refused and placed as a put is.
+    /// One try of a delete by one of the callers before the last, refused and placed as a put is. One that leaves few
+    /// names may merge its node with the next one.
     pub fn del_once(&self, caller: &mut Caller, name: &Name, limit: u64) -> Tried<Placed>
         requires caller { IsCallerOf self.now caller.old }
         requires worker { caller.old.number < self.now.about.layout.callers }
@@ -110,6 +111,13 @@ impl Shared {
 }
 
 impl Caller {
+    /// Its number among the callers of its index.
+    pub fn number(&self) -> u64
+        ensures { result ≡ self.now.number }
+    {
+        self.number
+    }
+
     /// For how many more writes it has room.
     pub fn spare(&self) -> u64
         ensures { result ≡ spare_of self.now }

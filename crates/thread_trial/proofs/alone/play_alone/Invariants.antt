@@ -1,0 +1,5 @@
+use Rattle.thread_trial.proofs.alone.play_alone.Given as goal
+
+-- the ledger of the steps is the blank one
+abbrev pub ghosts-play_on_core : goal.ghosts-play_on_core
+ghosts-play_on_core a = record { name = a.blank.name; parts = a.blank.parts }

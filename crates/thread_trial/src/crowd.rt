@@ -1,0 +1,112 @@
+//! Callers on threads of their own.
+
+ghost use Rattle.std.specs.Prelude.{◌≡◌, ◌<◌, [], length, IfOk};
+ghost use Rattle.pm_words.specs.Layouts.{IsLayout};
+ghost use Rattle.index_core.specs.Lone.{IsQuiet};
+ghost use Rattle.pac_index.specs.Callers.{IsCallerOf, HasCallers};
+
+use crate::calls::{LIMIT, is_put, name_of};
+use call_stages::Once;
+use index_core::Core;
+use pac_index::{Caller, Shared, Tried};
+use pm_words::{Layout, NoMemory};
+use std::alloc::Global;
+use std::thread::{Threads, map_vec, yield_now};
+
+/// How often a call is made again at most, while it is turned back.
+const TRIES: u64 = 10_000_000;
+
+/// Each of the first `active` callers of a fresh index makes so many calls on a thread of its own, all at once. Returns
+/// the core in which they meet.
+pub fn meet<R: Threads + Sync>(
+    rt: &R,
+    alloc: Global,
+    layout: Layout,
+    active: u64,
+    calls: u64,
+) -> Result<Core, NoMemory>
+    requires { IsLayout layout }
+{
+    let core = fresh(alloc, layout)?;
+    let (shared, callers) = Shared::new(alloc, core)?;
+    let callers = all_play(rt, &shared, callers, active, calls)?;
+    shared.close(alloc, callers)
+}
+
+/// An index without names.
+pub fn fresh(alloc: Global, layout: Layout) -> Result<Core, NoMemory>
+    requires { IsLayout layout }
+    ensures { IfOk result (λ core. IsQuiet core × (core.history ≡ []) × (core.layout ≡ layout)) }
+{
+    let core = Core::fresh(alloc, layout)?;
+    Ok(core)
+}
+
+/// All callers at once.
+fn all_play<R: Threads + Sync>(
+    rt: &R,
+    shared: &Shared,
+    callers: Vec<Caller>,
+    active: u64,
+    calls: u64,
+) -> Result<Vec<Caller>, NoMemory>
+    requires { HasCallers shared.now (length callers.items) callers.items }
+    ensures { IfOk result (λ done. HasCallers shared.now (length callers.items) done.items) }
+{
+    let done = map_vec(
+        rt,
+        callers,
+        &|caller: Caller| -> Caller
+            requires { IsCallerOf shared.now caller }
+            ensures { IsCallerOf shared.entry.now result × (result.number ≡ caller.number) }
+        { plays(shared, caller, active, calls) },
+    )?;
+    Ok(done)
+}
+
+/// All calls of a caller, or those before the first that isn't answered. Only the first `active` ones have any.
+fn plays(shared: &Shared, caller: Caller, active: u64, calls: u64) -> Caller
+    requires { IsCallerOf shared.now caller }
+    ensures { IsCallerOf shared.now result × (result.number ≡ caller.number) }
+{
+    let mut caller = caller;
+    if caller.number() >= shared.layout().callers().min(active) {
+        return caller;
+    }
+    for number in 0..calls {
+        if !takes_place(shared, &mut caller, number) {
+            break;
+        }
+    }
+    caller
+}
+
+/// Makes the call of this number until it takes place.
+fn takes_place(shared: &Shared, caller: &mut Caller, number: u64) -> bool
+    requires { IsCallerOf shared.now caller.old × (caller.old.number < shared.now.about.layout.callers) }
+    ensures { IsCallerOf shared.now caller.new × (caller.new.number ≡ caller.old.number) }
+{
+    for _ in 0..TRIES {
+        match once(shared, caller, number) {
+            Some(true) => return true,
+            Some(false) => yield_now(),
+            None => return false,
+        }
+    }
+    false
+}
+
+/// One try, and whether the call took place; None where there is no memory for it.
+fn once(shared: &Shared, caller: &mut Caller, number: u64) -> Option<bool>
+    requires { IsCallerOf shared.now caller.old × (caller.old.number < shared.now.about.layout.callers) }
+    ensures { IsCallerOf shared.now caller.new × (caller.new.number ≡ caller.old.number) }
+{
+    caller.reserve(1).ok()?;
+    let name = name_of(caller.number(), number)?;
+    let tried = if is_put(number) {
+        shared.put_once(caller, &name, number, LIMIT)
+    } else {
+        shared.get_once(caller, &name)
+    };
+    Some(matches!(tried, Tried::Answered(Once::Done(_))))
+}
