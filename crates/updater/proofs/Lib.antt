@@ -1,0 +1,4 @@
+pub mod TakingLaw
+pub mod WorkSound
+pub mod WorkLaw
+pub mod DoingLaw

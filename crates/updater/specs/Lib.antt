@@ -1,0 +1,5 @@
+pub mod Takings
+pub mod Works
+pub mod Laws
+pub mod Events
+pub mod Doings

@@ -1,0 +1,36 @@
+//! The laws of turns.
+
+ghost use Rattle.updater.specs.Takings.{TakingsHeed};
+
+/// An attempt at the updater lock is answered by the word that its exchange found: it has taken the lock exactly where
+/// that is the free one, and is told the word where it is another.
+pub fn takings_heed()
+    ensures { TakingsHeed }
+{}
+
+ghost use Rattle.updater.specs.Laws.{WorksStaySound};
+
+/// A turn goes on as one whose fields keep the same, whatever it is told.
+pub fn works_stay_sound()
+    ensures { WorksStaySound }
+{}
+
+ghost use Rattle.updater.specs.Events.{WorksBegin, WorksHeed, WorksLeave};
+
+/// A turn answers by what it was told: how many READY lines it emptied, and how many it left, since the walk gave up or
+/// the version word of the target changed; how many nodes it made FREE; and whether no node was FREE at the end. It is
+/// done with the store that gives back the updater lock.
+pub fn works_heed()
+    ensures begins { WorksBegin }
+    ensures heeds { WorksHeed }
+    ensures leaves { WorksLeave }
+{}
+
+ghost use Rattle.updater.specs.Doings.{WorksDo};
+
+/// What a turn stores follows from what it was told: it leads the anchor of a READY line whose target stands to the node
+/// that has it, or to none, stamps the node of a merge, and empties that line; it makes a GONE node FREE whose stamp the
+/// release allows; it gives back the updater lock. It stores nothing else.
+pub fn works_do()
+    ensures { WorksDo }
+{}

@@ -1,0 +1,18 @@
+//! The updater's turn: it carries log lines to the search layer, and frees merged nodes.
+//!
+//! One party at a time makes a turn. `TakeTurn` takes the updater lock for it, and `Work` does it under the lock, which
+//! it gives back at its end.
+#![tactic(auto)]
+
+mod deciding;
+pub mod laws;
+mod taking;
+mod terms;
+mod work;
+
+pub use taking::{TakeTurn, Took};
+pub use terms::{Found, Tally, Terms, Turned};
+pub use work::{Work, WorkAt};
+
+#[cfg(test)]
+mod tests;
