@@ -1,6 +1,7 @@
 //! Printing reports. Each function `add_..` adds the text of one part at the end of the text so far.
 
 ghost use Rattle.std.specs.Prelude.{◌≡◌, ◌++◌, codes, decimal, flat_map, length, IfOk, OnOk};
+ghost use Rattle.cat_text.specs.ReportGrammar.{IsReport, IsReportText};
 ghost use Rattle.cat_text.specs.Reports.{cut_text, end_word, high_text, last_line, mark_text, old_text, op_text};
 ghost use Rattle.cat_text.specs.Reports.{pair_text, part_line, part_lines, record_line, record_text, reply_text};
 ghost use Rattle.cat_text.specs.Reports.{report_text, round_text};
@@ -12,10 +13,19 @@ use cat_key::{Name, Pair};
 use itoa::Buffer;
 use std::alloc::Global;
 
-/// The text of a report.
+/// The text of a report, which tells it.
 ///
 /// It is made whole, in time linear in its length; the error is that there was no memory for it.
 pub fn print_report(alloc: Global, report: &Report) -> Result<Vec<u8>, NoMemory>
+    requires report { IsReport report.now }
+    ensures text { IfOk result (λ text. text.items ≡ report_text report.now) }
+    ensures tells { IfOk result (λ text. IsReportText text.items report.now) }
+{
+    print_rounds(alloc, report)
+}
+
+/// The same of any rounds, also where they are no report.
+pub(crate) fn print_rounds(alloc: Global, report: &Report) -> Result<Vec<u8>, NoMemory>
     ensures { IfOk result (λ text. text.items ≡ report_text report.now) }
 {
     let mut text = Vec::new(alloc);

@@ -1,4 +1,5 @@
 use super::*;
+use crate::print::print_rounds;
 use cat_history::{CutMark, Listed, Op, Record, Reply, ScanPart};
 use cat_key::{Name, Pair};
 use std::alloc::Global;
@@ -71,7 +72,7 @@ fn prints_reports(rt: HostRuntime) -> Result<(), Fail> {
     Ok(())
 }
 
-/// The text of a report of one round, with one call of caller 3.
+/// The text of one round, with one call of caller 3.
 fn told(alloc: Global, op: Op, reply: Reply) -> Result<Vec<u8>, NoMemory> {
     let records = vec![in alloc;
         Record {
@@ -89,7 +90,7 @@ fn told(alloc: Global, op: Op, reply: Reply) -> Result<Vec<u8>, NoMemory> {
             names: 0,
         },
     ]?);
-    print_report(alloc, &report)
+    print_rounds(alloc, &report)
 }
 
 #[test]
