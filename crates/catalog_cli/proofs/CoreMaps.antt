@@ -1,5 +1,5 @@
 -- The index as a map of names: its names counted, its calls left, and its shape.
-use Rattle.std.proofs.Common.{◌≡◌, ◌≢◌, ℕ, zero, suc, ◌+◌, ◌-◌, ◌*◌, ◌/◌, ◌<◌, ◌≤◌, if◌then◌else◌, Bool, true, false, cond, List, [], ◌∷◌, length, ◌⊎◌, ⊎_elim, refl, le_trans, inl, inr, sym, ap, ◌∙◌, subst, arith, length-append, zero-add}
+use Rattle.std.proofs.Common.{◌≡◌, ◌≢◌, ℕ, zero, suc, ◌+◌, ◌-◌, ◌*◌, ◌/◌, ◌<◌, ◌≤◌, if◌then◌else◌, Bool, true, false, cond, List, [], ◌∷◌, length, drop, slice_get, ◌⊎◌, ⊎_elim, refl, le_trans, inl, inr, sym, ap, ◌∙◌, subst, arith, length-append, length-drop, zero-add}
 use Rattle.std.specs.Prelude.{Option, Some, None, IfSome, IsSomeAnd, min, ◌↔◌, ◌^◌}
 use Rattle.std.specs.List.{flat_map, AllByRecursion}
 use Rattle.std.specs.Option.{is_some}
@@ -16,14 +16,15 @@ use Rattle.version_lock.specs.declared.TheConstants.{LAST_COUNT}
 use Rattle.shapes.specs.Members.{Member, members}
 use Rattle.shapes.specs.ShapeRounds.{PutsFull}
 use Rattle.cat_history.specs.Records.{as_op}
-use Rattle.shapes.proofs.Agreements.{length-members, put-stays}
-use Rattle.shapes.proofs.Shapes.{len-keys}
-use Rattle.shapes.proofs.Targets.{members_part_names}
+use Rattle.shapes.specs.Anchors.{Anchors, AreAnchors, next_of, put_anchors, merges, del_anchors, most_after}
+use Rattle.shapes.proofs.Agreements.{length-members, put-stays, and-first, and-second}
+use Rattle.shapes.proofs.Shapes.{len-keys, put_keeps_most, del-merges, del-stays}
+use Rattle.shapes.proofs.Targets.{members_part_names, part, next-is}
 use Rattle.call_stages.specs.Kinds.{gone_status}
 use Rattle.call_stages.specs.declared.once.Placed.{Placed}
 use Rattle.node_ops.specs.Asked.{name_asked}
 use Rattle.data_node.specs.Lists.{key_of}
-use Rattle.data_node.proofs.ListLemmas.{target_in}
+use Rattle.data_node.proofs.ListLemmas.{chain_closed, target_in}
 use Rattle.index_law.specs.Anchors.{anchors_of, anchors_in, gone_nodes, members_most}
 use Rattle.index_law.specs.Facts.{Facts, list_in}
 use Rattle.index_law.specs.Laws.{fresh_row}
@@ -31,16 +32,17 @@ use Rattle.index_law.specs.Worlds.{facts}
 use Rattle.index_law.proofs.Fresh.{fresh_list, fresh_statuses}
 use Rattle.index_law.proofs.Holding.{idle_has_shape}
 use Rattle.index_law.proofs.Starts.{listed_within}
+use Rattle.lone_law.specs.Merging.{NextIsWorn, next_node}
 use Rattle.lone_law.proofs.Locks.{worn_has_none}
 use Rattle.index_core.specs.Fresh.{IsFreshIndex}
 use Rattle.index_core.specs.Indexes.{Index, IsIndex, map_of_index, world}
-use Rattle.index_core.specs.Lone.{IsQuiet, FindsNoRoom, FindsWornNode, HasSameList, IsOver, IsWornNode, IsWholeAnswer, RunsAlone, LeavesList, SplitsFor, SplitsNothing, node_for, locks_left}
+use Rattle.index_core.specs.Lone.{IsQuiet, FindsNoRoom, FindsWornNode, HasSameList, IsOver, IsWornNode, IsWholeAnswer, RunsAlone, LeavesList, LeavesMost, SplitsFor, SplitsNothing, MergesFor, MergesNothing, node_for, locks_left}
 use Rattle.index_core.specs.declared.party.CoreCall.TheVariants as call
 use Rattle.index_core.specs.declared.party.CoreCall.{CoreCall}
 use Rattle.index_core.specs.declared.party.Whole.{Whole}
 use Rattle.index_core.specs.declared.party.Whole.TheVariants as whole
 use Rattle.index_core.specs.CoreCalls.{op_of, limit_of}
-use Rattle.index_core.proofs.Tries.{quiet_parties}
+use Rattle.index_core.proofs.Quiet.{quiet_parties}
 use Rattle.index_core.proofs.Fresh.{fresh_quiet, fresh_locks}
 use Rattle.index_core.proofs.Fulls.{no_room_is_full_put}
 use Rattle.index_core.proofs.Stepping.{respare}
@@ -186,22 +188,114 @@ full_exactly s (call.Put name value limit) is quiet named left = let two = locks
 full_exactly s (call.Get name) is quiet named left = ((λ none. none), (λ none. none))
 full_exactly s (call.Del name limit) is quiet named left = ((λ none. none), (λ none. none))
 
--- one that takes place leaves the anchors that it makes
-pub placed_anchors : (s : Index) (c : CoreCall) (new : Index) (placed : Placed) → LeavesList c (whole.Placed placed) s new → anchors_in (world new) ≡ anchors_made s c
-placed_anchors s (call.Put name value limit) new placed list = ⊎_elim
-    (λ (same : HasSameList s new × SplitsNothing (call.Put name value limit) s). ap anchors_of same.0 ∙ sym (put-stays s.layout.slots (map_of_index s) (anchors_in (world s)) name same.1))
-    (λ (cut : SplitsFor (call.Put name value limit) s new). cut.1) list
-placed_anchors s (call.Get name) new placed list = ⊎_elim (λ (same : HasSameList s new × Unit {0}). ap anchors_of same.0) (λ (cut : SplitsFor (call.Get name) s new). absurd cut) list
-placed_anchors s (call.Del name limit) new placed list = ⊎_elim (λ (same : HasSameList s new × Unit {0}). ap anchors_of same.0) (λ (cut : SplitsFor (call.Del name limit) s new). absurd cut) list
+-- nor is the node worn behind that of a name
+next_unworn : (s : Index) (name : List ℕ) → IsIndex s → 0 < calls_left_of s → NextIsWorn (world s) name → ⊥
+next_unworn s name is left worn =
+    let f = facts (world s) in
+    let n = node_for s name in
+    let next = next_node (world s) name in
+    let within : next < s.layout.nodes =
+    listed_within s.layout f is.lawful.list is.lawful.row.layout next
+    (elim (cases_eq next 0) [ inl none ↦ inl none | inr some_one ↦ inr (chain_closed f.now 0 f.list is.lawful.list.chain n (target_in 0 f.list (key_of name)) some_one) ]) in
+    let none : locks_left s ≡ 0 = worn_has_none s.generation f.version next s.layout.nodes within worn in
+    let some_left = locks_remain s left in
+    omega arith
+
+-- a delete that merges takes one anchor away
+some_first : (anchors : Anchors) → is_some (slice_get anchors 0) ≡ true → 0 < length anchors
+some_first [] is = absurd (cc)
+some_first (anchor ∷ later) is = omega arith
+
+next_there : (slots : ℕ) (m : Map) (anchors : Anchors) (name : List ℕ) → merges slots m anchors name ≡ true → is_some (next_of anchors name) ≡ true
+next_there slots m anchors name is = and-first _ _ (and-second _ _ is)
+
+del_takes_one : (slots : ℕ) (m : Map) (anchors : Anchors) (name : List ℕ) → AreAnchors anchors → merges slots m anchors name ≡ true → length (del_anchors slots m anchors name) + 1 ≡ length anchors
+del_takes_one slots m anchors name are is =
+    let p = part anchors name are in
+    let behind : 0 < length p.after = some_first p.after (ap is_some (sym (next-is anchors name p)) ∙ next_there slots m anchors name is) in
+    let now = ap length (del-merges slots m anchors name p is) in
+    let was = ap length p.is in
+    let shorter = length-append p.before (p.low ∷ drop 1 p.after) in
+    let whole = length-append p.before (p.low ∷ p.after) in
+    let cut = length-drop 1 p.after in
+    omega arith
+
+same_most : (most : ℕ) (anchors after : Anchors) → after ≡ anchors → most ≡ most_after most anchors after
+same_most most anchors after same = let as_many = ap length same in omega arith
+
+-- one that takes place leaves the anchors that it makes, and as many members as there can be but for one that it merged
+pub record Made (s : Index) (c : CoreCall) (new : Index) : Type 0 where
+  pub anchors : anchors_in (world new) ≡ anchors_made s c
+  pub most : members_most (world new) ≡ most_after (members_most (world s)) (anchors_in (world s)) (anchors_in (world new))
+
+same_made : (s : Index) (c : CoreCall) (new : Index) → anchors_in (world s) ≡ anchors_made s c → HasSameList s new → members_most (world new) ≡ members_most (world s) → Made s c new
+same_made s c new made same most =
+    let anchors : anchors_in (world new) ≡ anchors_in (world s) = ap anchors_of same in
+    record { anchors = anchors ∙ made; most = most ∙ same_most (members_most (world s)) _ _ anchors }
+
+put_made : (s : Index) (name : List ℕ) (value limit : ℕ) (new : Index) → SplitsFor (call.Put name value limit) s new → members_most (world new) ≡ members_most (world s) → Made s (call.Put name value limit) new
+put_made s name value limit new cut most = record {
+  anchors = cut.1;
+  most = most
+      ∙ sym (ap (most_after (members_most (world s)) (anchors_in (world s))) cut.1 ∙ put_keeps_most s.layout.slots (members_most (world s)) (map_of_index s) (anchors_in (world s)) name);
+}
+
+del_made : (s : Index) (name : List ℕ) (limit : ℕ) (new : Index) → AreAnchors (anchors_in (world s)) → MergesFor (call.Del name limit) s new → Made s (call.Del name limit) new
+del_made s name limit new are merge =
+    let fewer = del_takes_one s.layout.slots (map_of_index s) (anchors_in (world s)) name are merge.0.0 in
+    let now = ap length merge.1 in
+    let most = merge.2 in
+    record { anchors = merge.1; most = omega arith }
+
+made : (s : Index) (c : CoreCall) (new : Index) (placed : Placed) → IsIndex s → IsQuiet s → 0 < calls_left_of s → LeavesList c (whole.Placed placed) s new → LeavesMost c s new → Made s c new
+made s (call.Put name value limit) new placed is quiet left list most =
+    let same : members_most (world new) ≡ members_most (world s) = ⊎_elim (λ (same : members_most (world new) ≡ members_most (world s)). same) (λ (merge : ⊥). absurd merge) most in
+    ⊎_elim
+    (λ (kept : HasSameList s new × SplitsNothing (call.Put name value limit) s × Unit {0}).
+    same_made s (call.Put name value limit) new (sym (put-stays s.layout.slots (map_of_index s) (anchors_in (world s)) name kept.1)) kept.0 same)
+    (λ (changed : SplitsFor (call.Put name value limit) s new ⊎ ⊥). ⊎_elim (λ (cut : SplitsFor (call.Put name value limit) s new). put_made s name value limit new cut same) (λ (merge : ⊥). absurd merge) changed)
+    list
+made s (call.Get name) new placed is quiet left list most =
+    let same : members_most (world new) ≡ members_most (world s) = ⊎_elim (λ (same : members_most (world new) ≡ members_most (world s)). same) (λ (merge : ⊥). absurd merge) most in
+    ⊎_elim
+    (λ (kept : HasSameList s new × Unit {0} × Unit {0}). same_made s (call.Get name) new refl kept.0 same)
+    (λ (changed : ⊥ ⊎ ⊥). ⊎_elim (λ (cut : ⊥). absurd cut) (λ (merge : ⊥). absurd merge) changed)
+    list
+made s (call.Del name limit) new placed is quiet left list most =
+    let merged = del_made s name limit new (idle_has_shape (world s) is.lawful (quiet_parties s quiet)).0.ordered in
+    ⊎_elim
+    (λ (kept : HasSameList s new × Unit {0} × MergesNothing (call.Del name limit) s).
+    let stays : merges s.layout.slots (map_of_index s) (anchors_in (world s)) name ≡ false =
+    ⊎_elim (λ (none : merges s.layout.slots (map_of_index s) (anchors_in (world s)) name ≡ false). none) (λ (worn : NextIsWorn (world s) name). absurd (next_unworn s name is left worn)) kept.2 in
+    ⊎_elim
+    (λ (same : members_most (world new) ≡ members_most (world s)). same_made s (call.Del name limit) new (sym (del-stays s.layout.slots (map_of_index s) (anchors_in (world s)) name stays)) kept.0 same)
+    (λ (merge : MergesFor (call.Del name limit) s new). merged merge)
+    most)
+    (λ (changed : ⊥ ⊎ MergesFor (call.Del name limit) s new). ⊎_elim (λ (cut : ⊥). absurd cut) (λ (merge : MergesFor (call.Del name limit) s new). merged merge) changed)
+    list
+
+-- one that finds no room is a put, and merges nothing
+full_most : (s : Index) (c : CoreCall) (new : Index) → FindsNoRoom c s → LeavesMost c s new → members_most (world new) ≡ members_most (world s)
+full_most s (call.Put name value limit) new none most = ⊎_elim (λ (same : members_most (world new) ≡ members_most (world s)). same) (λ (merge : ⊥). absurd merge) most
+full_most s (call.Get name) new none most = absurd none
+full_most s (call.Del name limit) new none most = absurd none
 
 -- what a whole call that was answered so says of room and of the shape
-pub told_placed : (s : Index) (c : CoreCall) (new : Index) (r : Whole) (placed : Placed) → r ≡ whole.Placed placed → {caller : ℕ} → RunsAlone s caller c new r →
-    (FindsNoRoom c s → ⊥) × (anchors_in (world new) ≡ anchors_made s c)
-told_placed s c new r placed is {caller} runs =
+pub told_placed : (s : Index) (c : CoreCall) (new : Index) (r : Whole) (placed : Placed) → IsIndex s → IsQuiet s → 0 < calls_left_of s → r ≡ whole.Placed placed → {caller : ℕ} → RunsAlone s caller c new r →
+    (FindsNoRoom c s → ⊥) × Made s c new
+told_placed s c new r placed index quiet left is {caller} runs =
     let run : RunsAlone s caller c new (whole.Placed placed) = subst (RunsAlone s caller c new) is runs in
-    (run.answer.0.2, placed_anchors s c new placed run.list)
+    (run.answer.0.2, made s c new placed index quiet left run.list run.most)
 
-pub told_full : (s : Index) (c : CoreCall) (new : Index) (r : Whole) → r ≡ whole.Full → {caller : ℕ} → RunsAlone s caller c new r → FindsNoRoom c s × (anchors_in (world new) ≡ anchors_in (world s))
+pub told_full : (s : Index) (c : CoreCall) (new : Index) (r : Whole) → r ≡ whole.Full → {caller : ℕ} → RunsAlone s caller c new r → FindsNoRoom c s × (anchors_in (world new) ≡ anchors_in (world s)) × (members_most (world new) ≡ most_after (members_most (world s)) (anchors_in (world s)) (anchors_in (world new)))
 told_full s c new r is {caller} runs =
     let run : RunsAlone s caller c new whole.Full = subst (RunsAlone s caller c new) is runs in
-    (run.answer.2, ap anchors_of run.list)
+    let same : anchors_in (world new) ≡ anchors_in (world s) = ap anchors_of run.list in
+    (run.answer.2, same, full_most s c new run.answer.2 run.most ∙ same_most (members_most (world s)) _ _ same)
+
+-- a put that takes place leaves as many members as there can be
+pub put_takes_none : (s s' : Index) (name : List ℕ) → anchors_in (world s') ≡ put_anchors s.layout.slots (map_of_index s) (anchors_in (world s)) name →
+    members_most (world s') ≡ most_after (members_most (world s)) (anchors_in (world s)) (anchors_in (world s')) → members_most (world s') ≡ members_most (world s)
+put_takes_none s s' name made most =
+    most ∙ ap (most_after (members_most (world s)) (anchors_in (world s))) made
+    ∙ put_keeps_most s.layout.slots (members_most (world s)) (map_of_index s) (anchors_in (world s)) name

@@ -1,7 +1,7 @@
 -- How a round of one caller goes on by one call.
 use Rattle.std.proofs.Common.{◌≡◌, ℕ, ◌+◌, ◌<◌, ◌≤◌, Bool, true, false, cond, List, [], ◌∷◌, ◌++◌, length, get_or, take, map, fold, All, ◌↔◌, sym, ap, subst, ◌∙◌, arith, append-nil, zero-add}
-use Rattle.std.proofs.lemmas.List.{map-append, take_more, length-take-le}
-use Rattle.std.proofs.lemmas.List.Elements.{All-take}
+use Rattle.std.proofs.lemmas.List.{map-append, take_all, take_more, length-take-le}
+use Rattle.std.proofs.lemmas.List.Elements.{All-push, All-take}
 use Rattle.std.proofs.lemmas.List.Sums.{fold-append}
 use Rattle.cat_history.specs.Maps.{Map}
 use Rattle.cat_history.specs.Writes.{after_all, changed}
@@ -11,11 +11,13 @@ use Rattle.cat_history.specs.declared.op.CallerOp.{CallerOp}
 use Rattle.cat_history.specs.declared.op.Write.{Write}
 use Rattle.cat_history.specs.declared.record.Record.{Record}
 use Rattle.cat_history.specs.declared.record.Reply.{Reply}
-use Rattle.shapes.specs.Anchors.{Anchors}
+use Rattle.shapes.specs.Anchors.{Anchors, most_after}
 use Rattle.cat_history.specs.Rounds.{IsWriter}
 use Rattle.cat_history.specs.declared.op.Op.{Op}
 use Rattle.cat_history.specs.declared.op.Op.TheVariants.{Put, Get, Del, Scan}
 use Rattle.cat_history.specs.declared.record.Reply.TheVariants.{Full}
+use Rattle.cat_text.specs.ReportGrammar.{IsReportRecord, IsReportReply}
+use Rattle.catalog_cli.specs.LoneCalls.{AreLoneCalls, AreReportCalls, IsReportCall}
 use Rattle.shapes.specs.ShapeRounds.{anchors_end, anchors_after, PutsFull}
 use Rattle.shapes.specs.Runs.{HoldsFrom, Standing, stands_after, ComesLate, IsFullInTime}
 use Rattle.shapes.proofs.RoundLemmas.{anchors_end-push}
@@ -45,6 +47,22 @@ calls-push caller asked index call reply records one within is calls =
     ∙ ap (λ (k : ℕ). numbered before ++ record { caller = call.caller; index = k; op = call.op } ∷ []) (sym size)
     ∙ sym (numbered-push caller before call (All-take (λ (a : CallerOp). a.caller ≡ caller) index asked one) same)
     ∙ ap numbered (sym longer)
+
+-- all calls of one caller
+pub of-one : (asked : List CallerOp) (lone : AreLoneCalls asked) → All (λ a. a.caller ≡ lone.0) asked
+of-one asked lone = λ k d within. (lone.1 k d within).0
+
+-- the records are those of all the calls, once the loop has come to their end
+pub calls-whole : (asked ops : List CallerOp) (index : ℕ) (records : List Record) → asked ≡ ops → length asked ≤ index → map call_of records ≡ numbered (take index asked) →
+    map call_of records ≡ numbered ops
+calls-whole asked ops index records same whole calls = calls ∙ ap numbered (take_all index asked whole ∙ same)
+
+-- the records so far are those of a report, and so is that of one call more
+pub told-push : (asked : List CallerOp) (index : ℕ) (call : CallerOp) (reply : Reply) (records : List Record) → AreReportCalls asked → index < length asked → call ≡ get_or asked index call →
+    IsReportReply call.op reply → All IsReportRecord records → All IsReportRecord (records ++ recorded index call reply ∷ [])
+told-push asked index call reply records calls within is answer told =
+    let here = subst IsReportCall (sym is) (calls index call within) in
+    All-push IsReportRecord records (recorded index call reply) told (record { caller = here.0; op = here.1; reply = answer })
 
 -- what holds along the records holds along one more of which it holds on the map that they left
 pub along-push : (P : Map → ℕ → Record → Type 0) (base now : Map) (place : ℕ) (records : List Record) (r : Record) → HoldsAlong P base 0 records →
@@ -80,21 +98,22 @@ late-from limit s (Del name) late = late.1
 late-from limit s (Scan from count) late = absurd late.0
 
 -- `full` is told exactly by one call more
-pub full-push : (slots limit : ℕ) (opening now : Standing) (records : List Record) (r : Record) → IsFullInTime slots true limit opening records → fold (stands_after slots true) opening records ≡ now →
-    (r.reply ≡ Full) ↔ (((IsWriter r.op × (limit ≤ now.place)) → ⊥) × PutsFull slots now.most now.map now.anchors r.op) → IsFullInTime slots true limit opening (records ++ r ∷ [])
+pub full-push : (slots limit : ℕ) (opening now : Standing) (records : List Record) (r : Record) → IsFullInTime slots false limit opening records → fold (stands_after slots false) opening records ≡ now →
+    (r.reply ≡ Full) ↔ (((IsWriter r.op × (limit ≤ now.place)) → ⊥) × PutsFull slots now.most now.map now.anchors r.op) → IsFullInTime slots false limit opening (records ++ r ∷ [])
 full-push slots limit opening now records r full stands exact =
-    holds-push (stands_after slots true) (λ s q. (q.reply ≡ Full) ↔ ((ComesLate limit s q.op → ⊥) × PutsFull slots s.most s.map s.anchors q.op)) opening records r full
+    holds-push (stands_after slots false) (λ s q. (q.reply ≡ Full) ↔ ((ComesLate limit s q.op → ⊥) × PutsFull slots s.most s.map s.anchors q.op)) opening records r full
     (subst (λ (s : Standing). (r.reply ≡ Full) ↔ ((ComesLate limit s r.op → ⊥) × PutsFull slots s.most s.map s.anchors r.op)) (sym stands)
     ((λ is. ((λ late. (exact.0 is).0 (late-to limit now r.op late)), (exact.0 is).1)), (λ is. exact.1 ((λ late. is.0 (late-from limit now r.op late)), is.1))))
 
 -- where it stands after one call more
-pub stands-push : (slots : ℕ) (opening now : Standing) (records : List Record) (r : Record) (m : Map) (anchors : Anchors) (place : ℕ) → fold (stands_after slots true) opening records ≡ now →
-    m ≡ after_all now.map (write_of r) → anchors ≡ anchors_after slots now.map now.anchors r.op r.reply → place ≡ now.place + length (write_of r) →
-    fold (stands_after slots true) opening (records ++ r ∷ []) ≡ record { map = m; anchors = anchors; most = now.most; place = place }
-stands-push slots opening now records r m anchors place stands maps shapes places =
-    let left : record { map = m; anchors = anchors; most = now.most; place = place } ≡ stands_after slots true now r =
-    λ i. record { map = maps i; anchors = shapes i; most = now.most; place = places i } in
-    fold-append (stands_after slots true) opening records (r ∷ []) ∙ ap (λ (s : Standing). stands_after slots true s r) stands ∙ sym left
+pub stands-push : (slots : ℕ) (opening now : Standing) (records : List Record) (r : Record) (m : Map) (anchors : Anchors) (most place : ℕ) → fold (stands_after slots false) opening records ≡ now →
+    m ≡ after_all now.map (write_of r) → anchors ≡ anchors_after slots now.map now.anchors r.op r.reply → most ≡ most_after now.most now.anchors anchors → place ≡ now.place + length (write_of r) →
+    fold (stands_after slots false) opening (records ++ r ∷ []) ≡ record { map = m; anchors = anchors; most = most; place = place }
+stands-push slots opening now records r m anchors most place stands maps shapes mosts places =
+    let few : most ≡ most_after now.most now.anchors (anchors_after slots now.map now.anchors r.op r.reply) = mosts ∙ ap (most_after now.most now.anchors) shapes in
+    let left : record { map = m; anchors = anchors; most = most; place = place } ≡ stands_after slots false now r =
+    λ i. record { map = maps i; anchors = shapes i; most = few i; place = places i } in
+    fold-append (stands_after slots false) opening records (r ∷ []) ∙ ap (λ (s : Standing). stands_after slots false s r) stands ∙ sym left
 
 -- the anchors that one call more leaves
 pub anchors-push : (slots : ℕ) (base now : Map) (anchors shape end : Anchors) (records : List Record) (r : Record) → now ≡ after_all base (writes_of records) → shape ≡ anchors_end slots base anchors records →

@@ -1,7 +1,7 @@
 -- The index, called by one caller with no other call in flight, as a map of names.
 use Rattle.std.specs.Prelude.{◌≡◌, ℕ, ◌-◌, ◌/◌, ◌^◌, min, length, IfSome}
 use Rattle.std.specs.FinMap.{len}
-use Rattle.shapes.specs.Anchors.{Anchors, put_anchors, deleted_anchors}
+use Rattle.shapes.specs.Anchors.{Anchors, put_anchors, del_anchors}
 use Rattle.index_law.specs.Anchors.{anchors_in}
 use Rattle.index_core.specs.declared.party.CoreCall.{CoreCall}
 use Rattle.index_core.specs.declared.party.CoreCall.TheVariants as call
@@ -22,7 +22,7 @@ IsUnlimited call = IfSome (limit_of call) (λ limit. limit ≡ 2 ^ 62)
 abbrev pub anchors_made : Index → CoreCall → Anchors
 anchors_made s (call.Put name value limit) = put_anchors s.layout.slots (map_of_index s) (anchors_in (world s)) name
 anchors_made s (call.Get name) = anchors_in (world s)
-anchors_made s (call.Del name limit) = deleted_anchors s.layout.slots (map_of_index s) (anchors_in (world s)) name
+anchors_made s (call.Del name limit) = del_anchors s.layout.slots (map_of_index s) (anchors_in (world s)) name
 
 -- Between two calls none is in flight, and the names are counted.
 pub record IsCoreMap (s : Index) (names : ℕ) : Type 0 where

@@ -15,13 +15,13 @@ use Rattle.cat_script.specs.declared.fault.ScriptFault.{ScriptFault}
 use Rattle.cat_script.specs.declared.fault.ScriptFault.TheVariants.{Bytes}
 use Rattle.cat_script.specs.declared.fault.TheConstants.{MOST_BYTES}
 use Rattle.cat_script.specs.declared.script.Script.{Script}
-use Rattle.cat_text.specs.Reports.{report_text}
+use Rattle.cat_text.specs.ReportGrammar.{IsReportText}
 use Rattle.cat_text.specs.declared.report.RoundReport.{RoundReport}
 use Rattle.pm_words.specs.declared.layout.Layout.{Layout}
 use Rattle.shapes.specs.Anchors.{Anchors}
 use Rattle.shapes.specs.ShapeRounds.{anchors_end}
 use Rattle.catalog_cli.specs.Built.{unbuilt_command, first_unbuilt, IsCommandWord}
-use Rattle.catalog_cli.specs.Rounds.{IsPlayedRound}
+use Rattle.catalog_cli.specs.Rounds.{IsPlayedRound, most_end}
 use Rattle.catalog_cli.specs.declared.status.Verb.{Verb}
 use Rattle.catalog_cli.specs.declared.status.Status.{Status}
 use Rattle.catalog_cli.specs.declared.status.Status.TheVariants as status
@@ -69,23 +69,24 @@ IsRefusedBy callers bytes (status.NotBuilt verb) = IsUnbuiltScript callers bytes
 -- ---- reports
 
 -- Each round of the plan is played and reported, the first on the base and its shape, and each later one on the map and
--- the shape that the calls of the one before it made of them.
+-- the shape that the calls of the one before it made of them, of as many members at most as those calls left.
 abbrev pub ArePlayedRounds : ℕ → ℕ → Map → Anchors → List RoundPlan → List RoundReport → Type 0
-ArePlayedRounds slots nodes base anchors [] [] = Unit {0}
-ArePlayedRounds slots nodes base anchors [] (report ∷ reports) = ⊥
-ArePlayedRounds slots nodes base anchors (plan ∷ plans) [] = ⊥
-ArePlayedRounds slots nodes base anchors (plan ∷ plans) (report ∷ reports) =
-    (writes : List Write) × IsPlayedRound slots nodes base anchors plan report writes ×
-    ArePlayedRounds slots nodes (after_all base writes) (anchors_end slots base anchors report.records) plans reports
+ArePlayedRounds slots most base anchors [] [] = Unit {0}
+ArePlayedRounds slots most base anchors [] (report ∷ reports) = ⊥
+ArePlayedRounds slots most base anchors (plan ∷ plans) [] = ⊥
+ArePlayedRounds slots most base anchors (plan ∷ plans) (report ∷ reports) =
+    (writes : List Write) × IsPlayedRound slots most base anchors plan report writes ×
+    ArePlayedRounds slots (most_end slots most base anchors report.records) (after_all base writes)
+    (anchors_end slots base anchors report.records) plans reports
 
--- The text is the report of legal rounds that the bytes, read as a script, ask for, from an empty catalogue of this
--- layout: its one member has no names.
+-- The text is that of a report of legal rounds that the bytes, read as a script, ask for, from an empty catalogue of
+-- this layout: its one member has no names. The report is one of the grammar, so that its text tells it alone.
 pub record IsReportOf (layout : Layout) (bytes text : List ℕ) : Type 0 where
   pub script : Script
   pub reports : List RoundReport
   pub accepted : IsAccepted layout.callers bytes script
   pub played : ArePlayedRounds layout.slots layout.nodes empty ([] ∷ []) script.rounds reports
-  pub told : text ≡ report_text reports
+  pub told : IsReportText text reports
 
 -- ---- source and sink
 

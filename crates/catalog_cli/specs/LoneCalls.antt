@@ -1,5 +1,5 @@
 -- The calls of a round that one caller makes.
-use Rattle.std.specs.Prelude.{◌≡◌, ℕ, List, All, length}
+use Rattle.std.specs.Prelude.{◌≡◌, ℕ, ◌<◌, List, All, length}
 use Rattle.std.specs.List.{sum_by}
 use Rattle.cat_history.specs.Maps.{Map}
 use Rattle.cat_history.specs.Writes.{after_all}
@@ -9,6 +9,7 @@ use Rattle.cat_history.specs.declared.op.Op.{Op}
 use Rattle.cat_history.specs.declared.op.Op.TheVariants.{Put, Get, Del, Scan}
 use Rattle.cat_history.specs.declared.record.Reply.{Reply}
 use Rattle.cat_history.specs.declared.plan.RoundPlan.{RoundPlan}
+use Rattle.cat_text.specs.ReportGrammar.{IsReportOp}
 
 -- A call on one name: no scan.
 abbrev pub IsOnName : Op → Type 0
@@ -20,6 +21,13 @@ IsOnName (Scan from count) = ⊥
 -- Some caller makes all the calls, each on one name.
 abbrev pub AreLoneCalls : List CallerOp → Type 0
 AreLoneCalls asked = (caller : ℕ) × All (λ a. (a.caller ≡ caller) × IsOnName a.op) asked
+
+-- A call of which a report can tell: of one of 16 callers, of a name, with a number below 2 ^ 64.
+abbrev pub IsReportCall : CallerOp → Type 0
+IsReportCall asked = (asked.caller < 16) × IsReportOp asked.op
+
+abbrev pub AreReportCalls : List CallerOp → Type 0
+AreReportCalls asked = All IsReportCall asked
 
 -- How many calls the rounds have in all.
 abbrev pub calls_in : List RoundPlan → ℕ

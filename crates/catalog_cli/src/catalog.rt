@@ -35,7 +35,8 @@ pub fn catalog<S: Source, K: Sink>(
     script: &mut S,
     out: &mut K,
 ) -> Status
-    // What was written: the report of the script, each of whose rounds is legal; or a beginning of it; or nothing.
+    // What was written: the text of a report of the grammar, that of the script, each of whose rounds is legal; or a
+    // beginning of it; or nothing.
     ensures sink { LeavesSink (map string_bytes words.now) result (S.left script.old) (K.written out.old)
         (K.written out.new) }
     ensures nothing_written { WritesNothing result → out.new ≡ out.old }

@@ -12,6 +12,7 @@ ghost use Rattle.index_core.specs.CoreCalls.{op_of};
 ghost use Rattle.index_core.specs.Indexes.{IsIndex, map_of_index, world};
 ghost use Rattle.index_core.specs.Lone.{IsQuiet};
 ghost use Rattle.index_law.specs.Anchors.{anchors_in, members_most};
+ghost use Rattle.shapes.specs.Anchors.{most_after};
 ghost use Rattle.shapes.specs.ShapeRounds.{PutsFull};
 ghost use Rattle.catalog_cli.specs.CoreMaps.{IsUnlimited, anchors_made, calls_left_of};
 
@@ -151,7 +152,8 @@ fn call_alone<L: Ledger>(
         (map_of_index core.old) (anchors_in (world core.old)) (as_op (op_of call)) }
     ensures err { OnErr result (map_of_index core.new ≡ map_of_index core.old) }
     ensures err_anchors { OnErr result (anchors_in (world core.new) ≡ anchors_in (world core.old)) }
-    ensures most { members_most (world core.new) ≡ members_most (world core.old) }
+    ensures most { members_most (world core.new) ≡ most_after (members_most (world core.old))
+        (anchors_in (world core.old)) (anchors_in (world core.new)) }
     ensures layout { core.new.layout ≡ core.old.layout }
     ensures calls_left { calls_left_of core.old ≤ calls_left_of core.new + 1 }
     ensures quiet { IsQuiet core.new }

@@ -4,9 +4,10 @@ ghost use Rattle.std.specs.Prelude.{◌≡◌, ℕ, ◌<◌, ◌≤◌, List, []
 ghost use Rattle.std.specs.FinMap.{empty};
 ghost use Rattle.cat_script.specs.Scripts.{IsScript};
 ghost use Rattle.pm_words.specs.Layouts.{IsLayout};
+ghost use Rattle.cat_text.specs.ReportGrammar.{IsReport, IsReportRound};
 ghost use Rattle.catalog_cli.specs.Built.{first_unbuilt};
 ghost use Rattle.catalog_cli.specs.Headline.{ArePlayedRounds};
-ghost use Rattle.catalog_cli.specs.LoneCalls.{AreLoneCalls, calls_in};
+ghost use Rattle.catalog_cli.specs.LoneCalls.{AreLoneCalls, AreReportCalls, calls_in};
 
 use crate::core_map::CoreMap;
 use crate::round::run_lone_round;
@@ -24,7 +25,8 @@ pub fn play(alloc: Global, layout: &Layout, script: &Script) -> Result<Report, N
     requires layout { IsLayout layout.now }
     requires script { (bytes : List ℕ) × IsScript bytes script.now }
     requires built { first_unbuilt None script.now.lines ≡ None }
-    ensures { IfOk result (ArePlayedRounds layout.now.slots layout.now.nodes empty ([] ∷ []) script.now.rounds) }
+    ensures played { IfOk result (ArePlayedRounds layout.now.slots layout.now.nodes empty ([] ∷ []) script.now.rounds) }
+    ensures report { IfOk result IsReport }
 {
     play_on_core::<Brand>(alloc, layout, script.rounds.as_slice(), Blank::new(1))
 }
@@ -38,10 +40,12 @@ fn play_on_core<L: Ledger>(
 ) -> Result<Report, NoMemory>
     requires layout { IsLayout layout.now }
     requires callers { All (λ plan. AreLoneCalls plan.ops) plans.now }
+    requires told { All (λ plan. AreReportCalls plan.ops) plans.now }
     requires calls { calls_in plans.now ≤ 100000 }
     requires name { blank.name ≡ L.name }
     requires parts { (blank.parts ≡ L.parts) × (0 < L.parts) }
-    ensures { IfOk result (ArePlayedRounds layout.now.slots layout.now.nodes empty ([] ∷ []) plans.now) }
+    ensures played { IfOk result (ArePlayedRounds layout.now.slots layout.now.nodes empty ([] ∷ []) plans.now) }
+    ensures report { IfOk result (All IsReportRound) }
 {
     let (book, share) = blank.open::<L>();
     let steps = Steps::new(book, share);
@@ -56,9 +60,11 @@ fn play_rounds<M: NameMap>(
     plans: &[RoundPlan],
 ) -> Result<Report, NoMemory>
     requires callers { All (λ plan. AreLoneCalls plan.ops) plans.now }
+    requires told { All (λ plan. AreReportCalls plan.ops) plans.now }
     requires calls { calls_in plans.now ≤ M.calls_left map.old }
-    ensures { IfOk result (ArePlayedRounds (M.slots map.old) (M.most map.old) (M.contents map.old) (M.anchors map.old)
-        plans.now) }
+    ensures played { IfOk result (ArePlayedRounds (M.slots map.old) (M.most map.old) (M.contents map.old)
+        (M.anchors map.old) plans.now) }
+    ensures report { IfOk result (All IsReportRound) }
 {
     let mut rounds = Vec::with_capacity(alloc, plans.len())?;
     for plan in plans {

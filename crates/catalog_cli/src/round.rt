@@ -5,9 +5,11 @@ ghost use Rattle.cat_history.specs.Records.{mark_place};
 ghost use Rattle.cat_history.specs.Rounds.{IsWriter};
 ghost use Rattle.cat_history.specs.Writes.{after_all};
 ghost use Rattle.cat_history.specs.LoneRounds.{write_of, writes_of, IsAnswerNow, IsSpent};
+ghost use Rattle.cat_text.specs.ReportGrammar.{IsReportReply, IsReportRound};
+ghost use Rattle.shapes.specs.Anchors.{most_after};
 ghost use Rattle.shapes.specs.ShapeRounds.{anchors_after, anchors_end, PutsFull};
-ghost use Rattle.catalog_cli.specs.LoneCalls.{AreLoneCalls, IsLeftBy, IsOnName};
-ghost use Rattle.catalog_cli.specs.Rounds.{IsPlayedRound};
+ghost use Rattle.catalog_cli.specs.LoneCalls.{AreLoneCalls, AreReportCalls, IsLeftBy, IsOnName};
+ghost use Rattle.catalog_cli.specs.Rounds.{IsPlayedRound, most_end};
 
 use cat_history::{CutMark, Listed, NoMemory, Op, Record, Reply, RoundPlan};
 use cat_text::RoundReport;
@@ -25,19 +27,23 @@ pub fn run_lone_round<M: NameMap>(
     plan: &RoundPlan,
 ) -> Result<RoundReport, NoMemory>
     requires caller { AreLoneCalls plan.now.ops }
+    requires told { AreReportCalls plan.now.ops }
     requires calls { length plan.now.ops ≤ M.calls_left map.old }
-    // The round is legal and reported, by the writes that its records tell.
+    // The round is legal and reported, by the writes that its records tell, and is one of a report.
     ensures played { IfOk result (λ report. IsPlayedRound (M.slots map.old) (M.most map.old) (M.contents map.old)
         (M.anchors map.old) plan.now report (writes_of report.records)) }
+    ensures report { IfOk result IsReportRound }
     ensures after { IfOk result
         (λ report. M.contents map.new ≡ after_all (M.contents map.old) (writes_of report.records)) }
     ensures anchors { IfOk result (λ report. M.anchors map.new ≡ anchors_end (M.slots map.old) (M.contents map.old)
         (M.anchors map.old) report.records) }
     ensures slots { M.slots map.new ≡ M.slots map.old }
-    ensures most { M.most map.new ≡ M.most map.old }
+    ensures most { IfOk result (λ report. M.most map.new ≡ most_end (M.slots map.old) (M.most map.old)
+        (M.contents map.old) (M.anchors map.old) report.records) }
     ensures calls_left { M.calls_left map.old ≤ M.calls_left map.new + length plan.now.ops }
     ensures err { OnErr result (M.contents map.new ≡ M.contents map.old) }
     ensures err_anchors { OnErr result (M.anchors map.new ≡ M.anchors map.old) }
+    ensures err_most { OnErr result (M.most map.new ≡ M.most map.old) }
 {
     let asked = plan.ops.as_slice();
     let mut records = Vec::with_capacity(alloc, asked.len())?;
@@ -69,6 +75,7 @@ fn answer<M: NameMap>(map: &mut M, op: &Op, place: u64, limit: u64) -> Reply
     requires calls { 0 < M.calls_left map.old }
     requires name { IsOnName op.now }
     ensures answer { IsAnswerNow (M.contents map.old) place op.now result }
+    ensures report { IsReportReply op.now result }
     ensures spent { IsSpent result ↔ (IsWriter op.now × (limit ≤ place)) }
     ensures full { (result ≡ Reply.Full) ↔ (((IsWriter op.now × (limit ≤ place)) → ⊥) ×
         PutsFull (M.slots map.old) (M.most map.old) (M.contents map.old) (M.anchors map.old) op.now) }
@@ -76,7 +83,7 @@ fn answer<M: NameMap>(map: &mut M, op: &Op, place: u64, limit: u64) -> Reply
     ensures anchors { M.anchors map.new ≡ anchors_after (M.slots map.old) (M.contents map.old) (M.anchors map.old)
         op.now result }
     ensures slots { M.slots map.new ≡ M.slots map.old }
-    ensures most { M.most map.new ≡ M.most map.old }
+    ensures most { M.most map.new ≡ most_after (M.most map.old) (M.anchors map.old) (M.anchors map.new) }
     ensures calls_left { M.calls_left map.old ≤ M.calls_left map.new + 1 }
 {
     if comes_late(op, place, limit) {
@@ -100,6 +107,7 @@ fn answer_in_time<M: NameMap>(map: &mut M, op: &Op, place: u64) -> Reply
     requires calls { 0 < M.calls_left map.old }
     requires name { IsOnName op.now }
     ensures answer { IsAnswerNow (M.contents map.old) place op.now result }
+    ensures report { IsReportReply op.now result }
     ensures full { (result ≡ Reply.Full) ↔ PutsFull (M.slots map.old) (M.most map.old) (M.contents map.old)
         (M.anchors map.old) op.now }
     ensures early { IsSpent result → ⊥ }
@@ -107,7 +115,7 @@ fn answer_in_time<M: NameMap>(map: &mut M, op: &Op, place: u64) -> Reply
     ensures anchors { M.anchors map.new ≡ anchors_after (M.slots map.old) (M.contents map.old) (M.anchors map.old)
         op.now result }
     ensures slots { M.slots map.new ≡ M.slots map.old }
-    ensures most { M.most map.new ≡ M.most map.old }
+    ensures most { M.most map.new ≡ most_after (M.most map.old) (M.anchors map.old) (M.anchors map.new) }
     ensures calls_left { M.calls_left map.old ≤ M.calls_left map.new + 1 }
 {
     match op {

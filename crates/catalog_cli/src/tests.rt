@@ -1,6 +1,7 @@
 //! The top call on whole scripts, over a source and a sink in memory.
 ghost use Rattle.std.specs.Prelude.{◌≡◌, ◌<◌, ◌≤◌, IfOk, length};
-ghost use Rattle.catalog_cli.specs.LoneCalls.{AreLoneCalls};
+ghost use Rattle.cat_text.specs.ReportGrammar.{IsReportOp};
+ghost use Rattle.catalog_cli.specs.LoneCalls.{AreLoneCalls, AreReportCalls, IsOnName};
 
 use super::*;
 use crate::core_map::CoreMap;
@@ -379,9 +380,22 @@ fn each_status_has_its_code_and_text(rt: HostRuntime) -> Result<(), Fail> {
     Ok(())
 }
 
+/// A call on this name, drawn from a number.
+fn drawn_op(name: Name, value: u64, draw: u32) -> Op
+    ensures on_name { IsOnName result }
+    ensures told { IsReportOp result }
+{
+    match draw % 8 {
+        0..=4 => Op::Put { name, value },
+        5 | 6 => Op::Get { name },
+        _ => Op::Del { name },
+    }
+}
+
 /// Calls of one caller, drawn from a number: puts, gets and deletes of 80 names, more than there is room for.
 fn drawn_plan(alloc: Global, seed: u32) -> Result<RoundPlan, Fail>
     ensures caller { IfOk result (λ plan. AreLoneCalls plan.ops) }
+    ensures told { IfOk result (λ plan. AreReportCalls plan.ops) }
     ensures few { IfOk result (λ plan. length plan.ops ≤ 300) }
 {
     let mut state = seed;
@@ -391,12 +405,10 @@ fn drawn_plan(alloc: Global, seed: u32) -> Result<RoundPlan, Fail>
         let draw = state / 65536;
         let text = format!(in alloc; "n{}", draw % 80)?;
         let name = Name::read(text.as_bytes()).ok().ok_or("a name")?;
-        let op = match draw / 80 % 8 {
-            0..=4 => Op::Put { name, value },
-            5 | 6 => Op::Get { name },
-            _ => Op::Del { name },
-        };
-        ops.push(CallerOp { caller: 0, op })?;
+        ops.push(CallerOp {
+            caller: 0,
+            op: drawn_op(name, value, draw / 80),
+        })?;
     }
     // Most of the writes of a plan come before its limit.
     Ok(RoundPlan {
@@ -414,6 +426,7 @@ fn report_on<M: NameMap>(
     plan: &RoundPlan,
 ) -> Result<Vec<u8>, AllocError>
     requires caller { AreLoneCalls plan.now.ops }
+    requires told { AreReportCalls plan.now.ops }
     requires calls { length plan.now.ops ≤ M.calls_left map.old }
 {
     let mut rounds = Vec::new(alloc);
@@ -430,6 +443,7 @@ fn report_on_core<L: Ledger>(
     blank: Blank,
 ) -> Result<Vec<u8>, Fail>
     requires caller { AreLoneCalls plan.now.ops }
+    requires told { AreReportCalls plan.now.ops }
     requires calls { length plan.now.ops ≤ 300 }
     requires name { blank.name ≡ L.name }
     requires parts { (blank.parts ≡ L.parts) × (0 < L.parts) }

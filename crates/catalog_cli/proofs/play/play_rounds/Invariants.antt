@@ -1,4 +1,5 @@
-use Rattle.std.proofs.Common.{◌≡◌, ◌≤◌, take, drop}
+use Rattle.std.proofs.Common.{◌≡◌, ◌≤◌, take, drop, All}
+use Rattle.cat_text.specs.ReportGrammar.{IsReportRound}
 use Rattle.catalog_cli.specs.LoneCalls.{calls_in}
 use Rattle.catalog_cli.proofs.Played.{GoOn}
 use Rattle.catalog_cli.proofs.play.play_rounds.Given as goal
@@ -12,7 +13,7 @@ invariant-loop-plan g l =
     let most = g.M.NameMap.most in
     record {
       slots_stay : slots l.map ≡ slots l.fn.map;
-      most_stays : most l.map ≡ most l.fn.map;
-      played : GoOn (slots l.fn.map) (most l.fn.map) (contents l.fn.map) (anchors l.fn.map) (take l.plan-index l.plans) l.rounds.items (contents l.map) (anchors l.map);
+      played : GoOn (slots l.fn.map) (most l.fn.map) (contents l.fn.map) (anchors l.fn.map) (take l.plan-index l.plans) l.rounds.items (most l.map) (contents l.map) (anchors l.map);
+      told : All IsReportRound l.rounds.items;
       calls : calls_in (drop l.plan-index l.plans) ≤ g.M.NameMap.calls_left l.map;
     }

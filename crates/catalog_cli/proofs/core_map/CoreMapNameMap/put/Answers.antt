@@ -1,5 +1,7 @@
-use Rattle.std.proofs.Common.{refl, arith}
-use Rattle.catalog_cli.proofs.CoreMaps.{few_names, put_counted}
+use Rattle.std.proofs.Common.{refl, ap, ◌∙◌, arith}
+use Rattle.index_core.specs.Indexes.{world}
+use Rattle.index_law.specs.Anchors.{members_most}
+use Rattle.catalog_cli.proofs.CoreMaps.{few_names, put_counted, put_takes_none}
 use Rattle.catalog_cli.proofs.core_map.CoreMapNameMap.put.Goals as goal
 
 pub overflow_add-self : goal.overflow_add-self
@@ -14,3 +16,9 @@ pub invariant_of-self-else-is_none : goal.invariant_of-self-else-is_none
 invariant_of-self-else-is_none g c =
     put_counted c.self.inside.core c.call_alone.new.core c.args.name.now c.args.value c.self.inside.names _ c.in_ok-old.old _ c.self.invariant c.call_alone.ensures.index
     c.call_alone.ensures.quiet c.in_ok-old.ensures.old c.in_ok-old.ensures.ok c.if-is_none.ensures refl
+
+-- a put takes no member away
+pub returns-then-is_none-clause-most : goal.returns-then-is_none-clause-most
+returns-then-is_none-clause-most g c =
+    put_takes_none c.self.inside.core c.call_alone.new.core c.args.name.now c.in_ok-old.ensures.anchors c.call_alone.ensures.most
+    ∙ ap (λ s. members_most (world s)) c.self.view_is
