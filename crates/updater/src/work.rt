@@ -262,7 +262,7 @@ impl Work {
     ghost use Rattle.updater.specs.Works.{IsTerms, IsEntry, walk_ended, saw_again, leaves};
 
     /// It leaves this line as it is.
-    fn leaves(&mut self, line: u64) -> ()
+    fn leaves(&mut self, line: u64)
         requires terms { IsTerms self.old.terms }
         requires line { line < 8 * self.old.terms.layout.callers }
         requires room { self.old.tally.left < 128 }
@@ -273,7 +273,7 @@ impl Work {
     }
 
     /// Its walk has ended.
-    fn walked(&mut self, line: u64, entry: Entry, walked: Walked) -> ()
+    fn walked(&mut self, line: u64, entry: Entry, walked: Walked)
         requires terms { IsTerms self.old.terms }
         requires line { line < 8 * self.old.terms.layout.callers }
         requires room { self.old.tally.left < 128 }
@@ -294,7 +294,7 @@ impl Work {
     }
 
     /// It has loaded the version word of the line's node once more.
-    fn saw_again(&mut self, line: u64, entry: Entry, found: Found, version: u64) -> ()
+    fn saw_again(&mut self, line: u64, entry: Entry, found: Found, version: u64)
         requires terms { IsTerms self.old.terms }
         requires line { line < 8 * self.old.terms.layout.callers }
         requires room { self.old.tally.left < 128 }
