@@ -100,16 +100,18 @@ fn run_alike<L: Ledger>(
     Ok(alike && count_of(gone_nodes(core)) == nodes.saturating_sub(model.most()))
 }
 
-/// The first of fifty sequences of two hundred calls that the model answers otherwise.
+/// The first sequence that the model answers otherwise, of fifty of two hundred calls, and then of one of ten thousand on
+/// each number of nodes.
 fn first_otherwise<L: Ledger>(alloc: Global, blank: Blank) -> Result<Option<u64>, Fail>
     requires name { blank.name ≡ L.name }
     requires parts { (blank.parts ≡ L.parts) × (0 < L.parts) }
 {
     let (book, share) = blank.open::<L>();
     let mut steps = Steps::new(book, share);
-    for sequence in 0..50 {
+    for sequence in 0..63 {
         let mut draws = Draws::new(sequence);
-        if !run_alike(alloc, 4 + sequence % 13, 200, &mut draws, &mut steps)? {
+        let calls = if sequence < 50 { 200 } else { 10_000 };
+        if !run_alike(alloc, 4 + sequence % 13, calls, &mut draws, &mut steps)? {
             return Ok(Some(sequence));
         }
     }
