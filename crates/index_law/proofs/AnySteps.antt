@@ -12,17 +12,20 @@ use Rattle.pm_words.specs.Rows.{IsRow, CanAct, acted, got}
 use Rattle.pm_words.proofs.Apart.{addresses_within, addresses_apart, at-set_other}
 use Rattle.pm_words.proofs.Kept.{action_address-drain, acted_row, outside_header, names_cached, keeps_header}
 use Rattle.cat_history.specs.declared.op.Change.{Change}
-use Rattle.call_stages.specs.Stages.{counted}
+use Rattle.call_stages.specs.Stages.{Stage, HoldsNode, counted}
 use Rattle.call_stages.specs.Kinds.{HasWordAt, word_address, status_address, clock_address}
 use Rattle.call_stages.specs.Lines.{line_address}
 use Rattle.call_stages.specs.AnySteps.{IsBeside, loads_line, stores_line, drains_line, stores_prev, on_nodes, beside}
+use Rattle.index_law.specs.Facts.{Facts, range_of}
 use Rattle.index_law.specs.Worlds.{Party, World, facts, stepped, written}
 use Rattle.index_law.specs.Lawful.{Lawful}
 use Rattle.index_law.specs.Laws.{Counts}
-use Rattle.index_law.specs.AnySteps.{AnyIsAllowed, AnyCanAct, BesideKeeps, AnyStepKeeps, AnyStepWeighs}
+use Rattle.index_law.specs.AnySteps.{AnyIsAllowed, AnyCanAct, BesideKeeps, AnyStepKeeps, AnyStepWeighs, HeldRangesStay}
 use Rattle.index_law.specs.Weights.{index_weight, lowered_sum, weight_sum}
 use Rattle.index_law.proofs.Actions.{action_law, told_leads, told_held, told_met}
 use Rattle.index_law.proofs.Law.{step_law}
+use Rattle.index_law.proofs.Locks.{steadies}
+use Rattle.index_law.proofs.Moves.{gives, facts_step}
 use Rattle.index_law.proofs.Noting.{beside_law}
 use Rattle.index_law.proofs.Own.{allow_law}
 use Rattle.index_law.proofs.Rows.{facts-elsewhere}
@@ -207,3 +210,16 @@ any_weighs w i p a x t r lawful there (beside none is) told =
     let same : weight_sum (stepped w i p a p.stage) ≡ weight_sum w =
     λ k. index_weight w.layout (law.facts k) + lowered_sum w.layout (law.facts k) (parties k) in
     inl (omega (arith, same))
+
+pub held_ranges_stay : HeldRangesStay
+held_ranges_stay w i j p q n lock h a x t r lawful ne there other holds (on_nodes k) told =
+    let l = w.layout in
+    let known = lawful.sure i p there in
+    let given = gives w.words w.base w.history p.caller p.index p.since k lawful.clock told known in
+    let same = facts_step w.words w.base w.history p.caller p.index p.since k lawful.row lawful.list told known in
+    let held : HoldsNode q.stage n = subst (λ (s : Stage). HoldsNode s n) (sym holds) refl in
+    ap (λ (f : Facts). range_of l f n) same
+    ∙ (steadies (facts w) p.caller p.index p.since k given lawful.list known q.caller q.index q.since q.stage
+    (λ m mine theirs. ne (lawful.alone i j m p q there other mine theirs)) (lawful.sure j q other) n held).range
+held_ranges_stay w i j p q n lock h a x t r lawful ne there other holds (beside none is) told =
+    ap (λ (f : Facts). range_of w.layout f n) (beside_keeps w i p a lawful there none is).facts

@@ -1,5 +1,5 @@
 -- What holds of all steps of a party, those on nodes and those beside them.
-use Rattle.std.specs.Prelude.{◌≡◌, ℕ, ◌<◌, ◌^◌, ◌⊎◌, length, Option, None}
+use Rattle.std.specs.Prelude.{◌≡◌, ◌≢◌, ℕ, ◌<◌, ◌^◌, ◌⊎◌, length, Option, None}
 use mathlib.Core.Option.{some}
 use lib.ListN.{get_elem?}
 use Rattle.pm_words.specs.declared.layout.Layout.{Layout}
@@ -7,8 +7,9 @@ use Rattle.pm_words.specs.declared.action.Action.{Action}
 use Rattle.pm_words.specs.Rows.{acted, got}
 use Rattle.call_stages.specs.declared.once.Once.{Once}
 use Rattle.call_stages.specs.declared.once.Placed.{Placed}
-use Rattle.call_stages.specs.Stages.{Stage, counted}
+use Rattle.call_stages.specs.Stages.{Held, Stage, Holds, counted}
 use Rattle.call_stages.specs.AnySteps.{IsBeside, AnyStep}
+use Rattle.index_law.specs.Facts.{range_of}
 use Rattle.index_law.specs.Worlds.{Party, World, facts, stepped}
 use Rattle.index_law.specs.Lawful.{Lawful}
 use Rattle.index_law.specs.Laws.{Allowed, IsWithin, ActionLaw, StepLaw}
@@ -53,3 +54,12 @@ AnyStepWeighs = (w : World) (i : ℕ) (p : Party) (action : Action) (x : ℕ) (n
     get_elem? w.parties i ≡ some p → AnyStep w.layout w.generation p.stage action x next answer →
     x ≡ got w.layout w.words action →
     RisesBy (AddsName w.layout p.stage action next) (weight_sum w) (weight_sum (stepped w i p action next))
+
+-- As long as a party holds a node, the steps of the others leave the names that belong there.
+abbrev pub HeldRangesStay : Type 0
+HeldRangesStay = (w : World) (i j : ℕ) (p q : Party) (n lock : ℕ) (h : Held) (action : Action) (x : ℕ) (next : Stage)
+    (answer : Option (Once Placed)) → Lawful w → i ≢ j →
+    get_elem? w.parties i ≡ some p → get_elem? w.parties j ≡ some q → q.stage ≡ Holds n lock h →
+    AnyStep w.layout w.generation p.stage action x next answer →
+    x ≡ got w.layout w.words action →
+    range_of w.layout (facts (stepped w i p action next)) n ≡ range_of w.layout (facts w) n

@@ -220,6 +220,13 @@ pub fn any_step_law()
     ensures weighs { AnyStepWeighs }
 {}
 
+ghost use Rattle.index_law.specs.AnySteps.{HeldRangesStay};
+
+/// As long as a party holds a node, the steps of the others leave the names that belong there.
+pub fn held_range_law()
+    ensures { HeldRangesStay }
+{}
+
 ghost use Rattle.index_law.specs.Footings.{FootStepIsAny, FootStepKeeps};
 
 /// A step of a party that has a log line, or knows or owes prevs, is one of all steps; and with the index it keeps what
