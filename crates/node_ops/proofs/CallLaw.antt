@@ -45,7 +45,7 @@ use Rattle.node_ops.specs.declared.put.Put.{Put}
 use Rattle.node_ops.specs.declared.put.Put.TheVariants as put
 use Rattle.node_ops.specs.declared.del.Del.TheVariants as del
 use Rattle.node_ops.specs.declared.running.Running.{Running}
-use Rattle.node_ops.specs.declared.running.Running.TheVariants.{Getting, Putting, Deleting}
+use Rattle.node_ops.specs.declared.running.Running.TheVariants.{Getting, Putting, Deleting, Parting}
 use Rattle.node_ops.specs.Calls.{IsCall, name_in}
 use Rattle.pm_words.specs.Fences.{line_of, fence_start}
 use Rattle.node_ops.specs.LookupSteps.{IsHit, IsFoundBy, lookup_turned}
@@ -53,15 +53,20 @@ use Rattle.node_ops.specs.FinishSteps.{finish_turned}
 use Rattle.node_ops.specs.FillSteps.{fill_turned}
 use Rattle.node_ops.specs.GetSteps.{IsGet, get_call, get_asks, get_turned, get_looked}
 use Rattle.node_ops.specs.PutSteps.{IsPut, put_call, put_asks, put_turned, put_looked, put_into, put_full, put_filled, put_finished, replaced, put_split, IsSplitting}
-use Rattle.node_ops.specs.RunningSteps.{running_call, running_asks, running_turned, wrapped, IsRunning}
+use Rattle.node_ops.specs.RunningSteps.{running_call, running_asks, running_turned, wrapped, wrapped_part, IsRunning}
 use Rattle.node_ops.specs.Laws.{TurnsAreFootSteps, TurnsAreSteps, LeadsAreTaken}
-use Rattle.node_ops.specs.CallStages.{words_from, nothing, knows, decided, fence_rest, seen_hit, seen_fill, get_stage, put_stage, stage_of, stage_after, reply_of, found_full, footing_of, footing_after}
+use Rattle.node_ops.specs.CallStages.{words_from, nothing, knows, decided, fence_rest, seen_hit, seen_fill, get_stage, put_stage, part_stage, stage_of, stage_after, reply_of, found_full, footing_of, footing_after}
 use Rattle.node_ops.proofs.SeenLemmas.{Stand, seen_append, seen_front, stand_whole}
 use Rattle.node_ops.proofs.LookupLaw.{hit_words, found_known, Leads_found, Leads, lookup_leads}
 use Rattle.node_ops.proofs.FinishLaw.{Finishes, finish_leads}
 use Rattle.node_ops.proofs.FillLaw.{Fills, fill_leads}
 use Rattle.node_ops.proofs.LookupSound.{SoundLooked, lookup_stays}
 use Rattle.node_ops.proofs.PlainSteps.{hit_words_known, part_hit, Plain, IsSingle, IsPlainAfter, plain, looks_single}
+use Rattle.node_ops.specs.declared.part.Part.{Part}
+use Rattle.node_ops.specs.declared.part.Part.TheVariants as part
+use Rattle.node_ops.specs.declared.part.PartWords.{PartWords}
+use Rattle.node_ops.specs.PartSteps.{part_turned}
+use Rattle.node_ops.proofs.PartLaw.{part_steps}
 use Rattle.node_ops.proofs.DelLaw.{dels_are_steps, merge_leads}
 
 -- the kind of step of a turn of a get
@@ -275,6 +280,14 @@ put_steps : (put : Put) (x : ℕ) → IsWhole put → IsPut put → Told (put_ca
 put_steps put x whole sound told =
     plain _ _ _ None (put_stage put) _ x (running_turned (Putting put) x) (put_single put whole) (puts_plain put x whole) (as_put (put_call put) _ _ x (put_turned put x) (put_leads put x whole sound told))
 
+part_single : (p : Part) → IsSingle (part_stage p)
+part_single (part.Looking lookup count behind) = looks_single lookup.call lookup.at
+part_single (part.Reading reading) = tt
+
+parts_plain : (turn : Turn Part (Once PartWords)) → IsPlainAfter None (wrapped_part turn)
+parts_plain (Go p) = refl
+parts_plain (Done answer) = refl
+
 own_steps : (running : Running) (x : ℕ) → IsRunning running → Told (running_call running).view.layout (running_call running).view.generation (running_asks running) x
     → LeadsWithin (running_call running).view.layout (stage_of running) (running_asks running) x
     → FootStep (running_call running).view.layout (running_call running).view.generation (running_call running).view.caller (footing_of running) (running_asks running) x
@@ -287,6 +300,8 @@ own_steps (Putting (put.Filling fill)) x sound told leads = put_steps (put.Filli
 own_steps (Putting (put.Replacing call hold bitmap hit value)) x sound told leads = put_steps (put.Replacing call hold bitmap hit value) x tt sound told
 own_steps (Putting (put.Finishing finish)) x sound told leads = put_steps (put.Finishing finish) x tt sound told
 own_steps (Deleting del) x sound told leads = dels_are_steps del x sound told leads
+own_steps (Parting p) x sound told leads =
+    plain _ _ _ None (part_stage p) _ x (running_turned (Parting p) x) (part_single p) (parts_plain (part_turned p x)) (part_steps p x sound told)
 
 pub turns_are_foot_steps : TurnsAreFootSteps
 turns_are_foot_steps l g running x sound told leads =
@@ -312,6 +327,7 @@ footing_stage (Deleting (del.Refusing call hold bitmap hit)) = refl
 footing_stage (Deleting (del.Clearing call hold bitmap hit line)) = refl
 footing_stage (Deleting (del.Finishing finish line)) = refl
 footing_stage (Deleting (del.Merging call hold old place merge)) = refl
+footing_stage (Parting p) = refl
 
 pub after_stage : (turn : Turn Running (Once Placed)) → (footing_after turn).stage ≡ stage_after turn
 after_stage (Go running) = footing_stage running
@@ -326,6 +342,7 @@ turns_are_steps l g running x sound told leads =
 -- a node that a split or a merge holds leads to one of the layout's
 pub leads_are_taken : LeadsAreTaken
 leads_are_taken l g (Getting get) x sound leads = tt
+leads_are_taken l g (Parting p) x sound leads = tt
 leads_are_taken l g (Deleting (del.Looking lookup)) x sound leads = tt
 leads_are_taken l g (Deleting (del.Next call hold bitmap hit)) x sound leads = tt
 leads_are_taken l g (Deleting (del.Taking call hold bitmap hit take)) x sound leads = tt

@@ -31,7 +31,7 @@ use Rattle.node_ops.specs.declared.put.Put.TheVariants as put
 use Rattle.node_ops.specs.declared.del.Del.{Del}
 use Rattle.node_ops.specs.declared.del.Del.TheVariants as del
 use Rattle.node_ops.specs.declared.running.Running.{Running}
-use Rattle.node_ops.specs.declared.running.Running.TheVariants.{Getting, Putting, Deleting}
+use Rattle.node_ops.specs.declared.running.Running.TheVariants.{Getting, Putting, Deleting, Parting}
 use Rattle.node_ops.specs.Calls.{IsCall, at_node, IsSame}
 use Rattle.pm_words.specs.Fences.{IsFence, line_of, fence_start, fence_next}
 use Rattle.pm_words.specs.Locations.{node_words}
@@ -62,7 +62,10 @@ use Rattle.node_ops.specs.DelSteps.{IsDel, IsClearing, IsEnding, IsUnplaced, IsT
 use Rattle.node_ops.specs.RunningSteps.{running_call, running_asks, running_turned, wrapped, IsRunning, running_leads}
 use Rattle.node_ops.specs.CallStages.{SoundAfter}
 use Rattle.node_ops.specs.Laws.{TurnsStaySound}
-use Rattle.node_ops.proofs.LookupSound.{SoundLooked, lookup_stays}
+use Rattle.node_ops.specs.declared.part.Part.{Part}
+use Rattle.node_ops.specs.PartSteps.{IsPart, part_call, placed_turn, part_turned}
+use Rattle.node_ops.proofs.PartSound.{part_stays}
+use Rattle.node_ops.proofs.LookupSound.{SoundLooked, lookup_stays, Stays}
 
 -- the fields after a turn, and that the call is the same
 abbrev SoundFinish : Call → Turn Finish (Once Placed) → Type 0
@@ -121,11 +124,6 @@ fill_stays fill x sound fits = at fill.at sound.here
     at (fill_at.FenceSlot fence) here = slot_fence (fence_next fence x) (fence_stays fence x here fits)
     at (fill_at.FencePrint fence) here = print_fence (fence_next fence x) (fence_stays fence x here fits)
     at fill_at.Bitmap here = (record { call = sound.call; locked = sound.locked; here = (bitmap_inside fill.call, starts) }, refl)
-
--- a call of this layout and generation
-abbrev pub Stays : {M : Type 0} → (M → Type 0) → (M → Call) → Call → Turn M (Once Placed) → Type 0
-Stays sound of call (Go machine) = sound machine × IsSame call (of machine)
-Stays sound of call (Done answer) = Unit {0}
 
 pub get_stays : (get : Get) (x : ℕ) → IsGet get → Told (get_call get).view.layout (get_call get).view.generation (get_asks get) x → Stays IsGet get_call (get_call get) (get_turned get x)
 get_stays (get.Looking lookup) x sound told = at (lookup_turned lookup x) (lookup_stays lookup x sound told)
@@ -353,3 +351,4 @@ turns_stay_sound l g running x sound told leads =
     at (Getting get) layout generation is own led = as_whole IsGet get_call (λ (m : Get). Getting m) l g (get_call get) (get_turned get x) (λ m s. s) (λ m. refl) layout generation (get_stays get x is own)
     at (Putting put) layout generation is own led = as_whole IsPut put_call (λ (m : Put). Putting m) l g (put_call put) (put_turned put x) (λ m s. s) (λ m. refl) layout generation (put_stays put x is own led)
     at (Deleting del) layout generation is own led = as_whole IsDel del_call (λ (m : Del). Deleting m) l g (del_call del) (del_turned del x) (λ m s. s) (λ m. refl) layout generation (del_stays del x is own led)
+    at (Parting p) layout generation is own led = as_whole IsPart part_call (λ (m : Part). Parting m) l g (part_call p) (placed_turn (part_turned p x)) (λ m s. s) (λ m. refl) layout generation (part_stays p x is own)

@@ -47,7 +47,7 @@ use Rattle.node_ops.specs.declared.put.Put.TheVariants as put
 use Rattle.node_ops.specs.declared.del.Del.{Del}
 use Rattle.node_ops.specs.declared.del.Del.TheVariants as del
 use Rattle.node_ops.specs.declared.running.Running.{Running}
-use Rattle.node_ops.specs.declared.running.Running.TheVariants.{Getting, Putting, Deleting}
+use Rattle.node_ops.specs.declared.running.Running.TheVariants.{Getting, Putting, Deleting, Parting}
 use Rattle.node_ops.specs.Calls.{at_node}
 use Rattle.pm_words.specs.Fences.{fence_next}
 use Rattle.node_ops.specs.LookupSteps.{value_of, is_spent, candidate_turned, came_to, walked_on, goes_to, ends, lookup_turned, lookup_at_turned, IsLookupAt}
@@ -63,7 +63,13 @@ use Rattle.split_merge.specs.declared.merging.Merge.{Merge}
 use Rattle.split_merge.specs.declared.merging.Merged.{Merged}
 use Rattle.split_merge.specs.Merges.{merge_asks, merge_turned}
 use Rattle.node_ops.specs.DelSteps.{names_left, del_looked, del_hit, del_taken, del_finished, del_merged, goes_on}
-use Rattle.node_ops.specs.RunningSteps.{IsRunning, running_call, running_asks, running_turned, wrapped}
+use Rattle.node_ops.specs.RunningSteps.{IsRunning, running_call, running_asks, running_turned, wrapped, wrapped_part}
+use Rattle.data_list.specs.declared.target.Next.{Next}
+use Rattle.node_ops.specs.declared.part.ReadingAt.{ReadingAt}
+use Rattle.node_ops.specs.declared.part.ReadingAt.TheVariants as read
+use Rattle.node_ops.specs.declared.part.Part.{Part}
+use Rattle.node_ops.specs.declared.part.Part.TheVariants as part
+use Rattle.node_ops.specs.PartSteps.{behind_of, part_found, part_looked, early_of, placed_of, reading_turned}
 use Rattle.node_ops.specs.Asked.{op_in, op_of_finish}
 use Rattle.node_ops.specs.CallStages.{stage_of, lookup_at_stage, lookup_stage, finish_at_held, finish_stage, found_full}
 use Rattle.split_merge.specs.declared.splitting.Split.{Split}
@@ -116,6 +122,13 @@ abbrev pub LooksEnd : Option ℕ → Turn Lookup Looked → Type 0
 LooksEnd limit (Go lookup) = Unit {0}
 LooksEnd limit (Done (looked.Early answer)) = EndsEarly limit answer
 LooksEnd limit (Done (looked.Found found)) = Unit {0}
+
+-- as it ends a part of a range scan
+pub early_placed : (limit : Option ℕ) (answer : Once Placed) → LooksEnd limit (Done (looked.Early answer)) → placed_of (early_of answer) ≡ answer
+early_placed limit (once.Done placed) ends = absurd ends
+early_placed limit (once.Spent clock) ends = refl
+early_placed limit (once.Worn node word) ends = refl
+early_placed limit (once.Again why) ends = refl
 
 not_no_free : (walk : Walk) (x : ℕ) (why : Again) → WalkGivesUp walk x why → why ≢ again.NoFree
 not_no_free walk x again.NoFree gives = absurd gives
@@ -339,10 +352,29 @@ del_turns (del.Merging call hold old place merge) x is = at (merge_turned merge 
         (has_it next ∙ sym (has_it merge))
     at (Done merged) = (record { place = has_it merge; limit = merge_limited _ _ (merging_stage call old place merge); hops = refl }, uncounted)
 
+part_turns : (p : Part) (x : ℕ) → IsRunning (Parting p) → Turns (Parting p) x (running_turned (Parting p) x)
+part_turns (part.Looking lookup count behind) x is = at (lookup_turned lookup x) (looks_end lookup.call lookup.at x is.here)
+  where
+    seen : Option Next
+    seen = behind_of lookup.at behind
+
+    at : (turn : Turn Lookup Looked) → LooksEnd lookup.call.limit turn → Turns (Parting (part.Looking lookup count behind)) x (wrapped_part (part_looked lookup.call count seen turn))
+    at (Go next) early = keeps_none (Parting (part.Looking lookup count behind)) x (Parting (part.Looking next count seen)) (lookup_uncounted lookup) (lookup_unplaced lookup) (lookup_unplaced next)
+    at (Done (looked.Early answer)) early =
+        subst (λ (a : Once Placed). Turns (Parting (part.Looking lookup count behind)) x (Done a)) (sym (early_placed lookup.call.limit answer early))
+        (ends_early (Parting (part.Looking lookup count behind)) x lookup.call.limit answer (lookup_uncounted lookup) (lookup_unplaced lookup) refl early)
+    at (Done (looked.Found found)) early = keeps_none (Parting (part.Looking lookup count behind)) x (Parting (part_found lookup.call found seen count)) (lookup_uncounted lookup) (lookup_unplaced lookup) refl
+part_turns (part.Reading reading) x is = at reading.at
+  where
+    at : (at : ReadingAt) → Turns (Parting (part.Reading (record reading { at = at }))) x (wrapped_part (reading_turned (record reading { at = at }) at x))
+    at (read.Load slot word) = refl
+    at read.Unlock = (record { place = refl; limit = refl; hops = refl }, refl)
+
 turns : (running : Running) (x : ℕ) → IsRunning running → Turns running x (running_turned running x)
 turns (Getting get) x is = get_turns get x is
 turns (Putting put) x is = put_turns put x is
 turns (Deleting del) x is = del_turns del x is
+turns (Parting p) x is = part_turns p x is
 
 ended : (running : Running) (x : ℕ) (answer : Once Placed) → IsRunning running → running_turned running x ≡ Done answer → EndsBy running answer × (counted (stage_of running) ≡ None)
 ended running x answer is ends = subst (Turns running x) ends (turns running x is)
@@ -390,3 +422,5 @@ placed_is_in_time (Deleting (del.Refusing call hold bitmap hit)) placed = refl
 placed_is_in_time (Deleting (del.Clearing call hold bitmap hit line)) placed = refl
 placed_is_in_time (Deleting (del.Finishing finish line)) placed = finish_in_time finish finish.at
 placed_is_in_time (Deleting (del.Merging call hold old place merge)) placed = merge_limited _ _ (merging_stage call old place merge)
+placed_is_in_time (Parting (part.Looking lookup count behind)) placed = absurd (placed (lookup_unplaced lookup))
+placed_is_in_time (Parting (part.Reading reading)) placed = refl

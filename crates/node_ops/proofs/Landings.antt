@@ -37,7 +37,7 @@ use Rattle.node_ops.specs.declared.put.Put.TheVariants as put
 use Rattle.node_ops.specs.declared.del.Del.{Del}
 use Rattle.node_ops.specs.declared.del.Del.TheVariants as del
 use Rattle.node_ops.specs.declared.running.Running.{Running}
-use Rattle.node_ops.specs.declared.running.Running.TheVariants.{Getting, Putting, Deleting}
+use Rattle.node_ops.specs.declared.running.Running.TheVariants.{Getting, Putting, Deleting, Parting}
 use Rattle.node_ops.specs.Calls.{at_node}
 use Rattle.pm_words.specs.Fences.{fence_next}
 use Rattle.node_ops.specs.LookupSteps.{is_spent, candidate_turned, walked_on, goes_to, ends, lookup_turned, lookup_at_turned}
@@ -56,7 +56,12 @@ use Rattle.split_merge.specs.declared.merging.Merge.{Merge}
 use Rattle.split_merge.specs.declared.merging.Merged.{Merged}
 use Rattle.split_merge.specs.Merges.{merge_turned}
 use Rattle.node_ops.specs.DelSteps.{names_left, del_call, del_looked, del_hit, del_taken, del_finished, del_merged, goes_on, merges_at}
-use Rattle.node_ops.specs.RunningSteps.{running_call, running_turned, wrapped}
+use Rattle.node_ops.specs.RunningSteps.{running_call, running_turned, wrapped, wrapped_part}
+use Rattle.node_ops.specs.declared.part.ReadingAt.{ReadingAt}
+use Rattle.node_ops.specs.declared.part.ReadingAt.TheVariants as read
+use Rattle.node_ops.specs.declared.part.Part.{Part}
+use Rattle.node_ops.specs.declared.part.Part.TheVariants as part
+use Rattle.node_ops.specs.PartSteps.{behind_of, part_looked, reading_turned}
 use Rattle.node_ops.specs.Landings.{lookup_walk, walk_in, LandsBy, Lands, TurnsLand}
 
 -- after a turn of a look-up that was on this walk, if on any
@@ -231,7 +236,22 @@ del_lands (del.Merging call hold old place merge) x = at (merge_turned merge x)
     at (Go next) = refl
     at (Done merged) = tt
 
+part_lands : (p : Part) (x : ℕ) → LandsAfter (Parting p) x (running_turned (Parting p) x)
+part_lands (part.Looking lookup count behind) x = at (lookup_turned lookup x) (looks_land lookup.call lookup.at x)
+  where
+    at : (turn : Turn Lookup Looked) → LooksLand lookup.call x (lookup_walk lookup.at) turn
+        → LandsAfter (Parting (part.Looking lookup count behind)) x (wrapped_part (part_looked lookup.call count (behind_of lookup.at behind) turn))
+    at (Go next) lands = lands
+    at (Done (looked.Early answer)) lands = tt
+    at (Done (looked.Found found)) lands = lands
+part_lands (part.Reading reading) x = at reading.at
+  where
+    at : (at : ReadingAt) → LandsAfter (Parting (part.Reading reading)) x (wrapped_part (reading_turned reading at x))
+    at (read.Load slot word) = refl
+    at read.Unlock = tt
+
 pub turns_land : TurnsLand
 turns_land (Getting get) next x goes = subst (LandsAfter (Getting get) x) goes (get_lands get x)
 turns_land (Putting put) next x goes = subst (LandsAfter (Putting put) x) goes (put_lands put x)
 turns_land (Deleting del) next x goes = subst (LandsAfter (Deleting del) x) goes (del_lands del x)
+turns_land (Parting p) next x goes = subst (LandsAfter (Parting p) x) goes (part_lands p x)

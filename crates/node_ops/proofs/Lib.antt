@@ -15,7 +15,9 @@ pub mod SplitFacts
 pub mod MergeFacts
 pub mod PartLemmas
 pub mod PartOrder
+pub mod PartSound
 pub mod PartLaw
 pub mod PartNames
 pub mod PartTelling
 pub mod PartBounds
+pub mod PartListing

@@ -13,7 +13,9 @@ use Rattle.version_lock.proofs.VersionFacts.{kept_count-earlier, kept_count-same
 use Rattle.data_node.specs.Slots.{IsLive}
 use Rattle.data_node.specs.Bits.{without_live, lowest_live, candidate_bits}
 use Rattle.data_node.proofs.BitLemmas.{lowest_live-some, without_live-same, without_live-other, without_live_below, candidate_bits-marks, candidate_bits_below}
+use Rattle.call_stages.specs.declared.once.Once.{Once}
 use Rattle.call_stages.specs.declared.once.Once.TheVariants as once
+use Rattle.call_stages.specs.declared.once.Placed.{Placed}
 use Rattle.call_stages.specs.Kinds.{Told}
 use Rattle.node_ops.specs.declared.call.Call.{Call}
 use Rattle.node_ops.specs.declared.lookup.Hold.{Hold}
@@ -46,6 +48,11 @@ abbrev pub SoundLooked : Call → Turn Lookup Looked → Type 0
 SoundLooked call (Go lookup) = IsLookup lookup × IsSame call lookup.call
 SoundLooked call (Done (looked.Early answer)) = Unit {0}
 SoundLooked call (Done (looked.Found found)) = IsFoundBy call.view.layout.slots found
+
+-- a call of this layout and generation
+abbrev pub Stays : {M : Type 0} → (M → Type 0) → (M → Call) → Call → Turn M (Once Placed) → Type 0
+Stays sound of call (Go machine) = sound machine × IsSame call (of machine)
+Stays sound of call (Done answer) = Unit {0}
 
 -- a locked word that was made of a free one can be given back
 pub lock_word : (generation version word : ℕ) → generation < GENERATION_LIMIT → IsLocking generation version word → IsLockWord word

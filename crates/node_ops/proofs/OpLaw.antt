@@ -36,7 +36,7 @@ use Rattle.node_ops.specs.declared.put.Put.TheVariants as put
 use Rattle.node_ops.specs.declared.del.Del.{Del}
 use Rattle.node_ops.specs.declared.del.Del.TheVariants as del
 use Rattle.node_ops.specs.declared.running.Running.{Running}
-use Rattle.node_ops.specs.declared.running.Running.TheVariants.{Getting, Putting, Deleting}
+use Rattle.node_ops.specs.declared.running.Running.TheVariants.{Getting, Putting, Deleting, Parting}
 use Rattle.node_ops.specs.Calls.{name_in}
 use Rattle.pm_words.specs.Fences.{fence_next}
 use Rattle.node_ops.specs.LookupSteps.{lookup_turned}
@@ -65,7 +65,12 @@ use Rattle.node_ops.proofs.MergeFacts.{placed_still, merging_stage, merge_uncoun
 use Rattle.cat_history.specs.Records.{change_of}
 use Rattle.node_ops.specs.Asked.{Gives, TakesOut, IsOf, IsOfAfter, IsAbout, op_of_finish}
 use Rattle.node_ops.specs.Laws.{TurnsKeepOp, CountsOwnChange, HoldsOwnName, PendingIsOwnChange, OpIsTold}
-use Rattle.node_ops.proofs.CallSound.{Stays, get_stays, put_stays, del_stays}
+use Rattle.node_ops.proofs.LookupSound.{Stays}
+use Rattle.node_ops.specs.declared.part.Part.{Part}
+use Rattle.node_ops.specs.declared.part.Part.TheVariants as part
+use Rattle.node_ops.specs.PartSteps.{IsPart, part_call, placed_turn, part_turned}
+use Rattle.node_ops.proofs.PartSound.{part_stays}
+use Rattle.node_ops.proofs.CallSound.{get_stays, put_stays, del_stays}
 
 -- what a finish leaves under the name is the same after a turn
 abbrev NewAfter : Option ℕ → Turn Finish (Once Placed) → Type 0
@@ -202,17 +207,24 @@ del_of : (name : List ℕ) (call : Call) (turn : Turn Del (Once Placed)) → nam
 del_of name call (Go del) is stays out = (ap name_in stays.1 ∙ is, out)
 del_of name call (Done answer) is stays out = tt
 
+part_of : (name : List ℕ) (call : Call) (turn : Turn Part (Once Placed)) → name_in call ≡ name → Stays IsPart part_call call turn → IsOfAfter (op.Get name) (wrapped Parting turn)
+part_of name call (Go p) is stays = ap name_in stays.1 ∙ is
+part_of name call (Done answer) is stays = tt
+
 own_keep : (op : NameOp) (running : Running) (x : ℕ) → IsRunning running → Told (running_call running).view.layout (running_call running).view.generation (running_asks running) x → running_leads running x → IsOf op running
     → IsOfAfter op (running_turned running x)
 own_keep (op.Get name) (Getting get) x sound told leads is = get_of name (get_call get) (get_turned get x) is (get_stays get x sound told)
 own_keep (op.Get name) (Putting put) x sound told leads is = absurd is
 own_keep (op.Get name) (Deleting del) x sound told leads is = absurd is
+own_keep (op.Get name) (Parting p) x sound told leads is = part_of name (part_call p) (placed_turn (part_turned p x)) is (part_stays p x sound told)
 own_keep (op.Put name value) (Getting get) x sound told leads is = absurd is
 own_keep (op.Put name value) (Putting put) x sound told leads is = put_of name value (put_call put) (put_turned put x) is.0 (put_stays put x sound told leads) (put_keeps value put x is.1)
 own_keep (op.Put name value) (Deleting del) x sound told leads is = absurd is
+own_keep (op.Put name value) (Parting p) x sound told leads is = absurd is
 own_keep (op.Del name) (Getting get) x sound told leads is = absurd is
 own_keep (op.Del name) (Putting put) x sound told leads is = absurd is
 own_keep (op.Del name) (Deleting del) x sound told leads is = del_of name (del_call del) (del_turned del x) is.0 (del_stays del x sound told leads) (del_keeps del x is.1)
+own_keep (op.Del name) (Parting p) x sound told leads is = absurd is
 
 pub turns_keep_op : TurnsKeepOp
 turns_keep_op l g op running x sound told leads is =
@@ -292,6 +304,8 @@ counts_own_change (op.Get name) (Getting (get.Looking lookup)) is = counts_nothi
 counts_own_change (op.Get name) (Getting (get.Unlocking call hold old)) is = tt
 counts_own_change (op.Get name) (Putting put) is = absurd is
 counts_own_change (op.Get name) (Deleting del) is = absurd is
+counts_own_change (op.Get name) (Parting (part.Looking lookup count behind)) is = counts_nothing _ _ (lookup_counts lookup.call lookup.at)
+counts_own_change (op.Get name) (Parting (part.Reading reading)) is = tt
 counts_own_change (op.Put name value) (Getting get) is = absurd is
 counts_own_change (op.Put name value) (Putting (put.Looking lookup number)) is = counts_nothing _ _ (lookup_counts lookup.call lookup.at)
 counts_own_change (op.Put name value) (Putting (put.Filling fill)) is = tt
@@ -302,6 +316,7 @@ counts_own_change (op.Put name value) (Putting (put.Finishing finish)) is =
 counts_own_change (op.Put name value) (Putting (put.Splitting call hold bitmap number split)) is =
     counts_nothing _ _ (split_uncounted _ _ refl (stages_are_of_splits (found_full call hold bitmap) split))
 counts_own_change (op.Put name value) (Deleting del) is = absurd is
+counts_own_change (op.Put name value) (Parting p) is = absurd is
 counts_own_change (op.Del name) (Getting get) is = absurd is
 counts_own_change (op.Del name) (Putting put) is = absurd is
 counts_own_change (op.Del name) (Deleting (del.Looking lookup)) is = counts_nothing _ _ (lookup_counts lookup.call lookup.at)
@@ -314,12 +329,15 @@ counts_own_change (op.Del name) (Deleting (del.Merging call hold old place merge
 counts_own_change (op.Del name) (Deleting (del.Finishing finish line)) is =
     finish_counts (λ c. Some (change.Del name) ≡ Some c) finish finish.at
     (ap Some (sym (ap (λ (n : Option ℕ). change_to (name_in finish.call) n) is.1 ∙ ap (λ (n : List ℕ). change.Del n) is.0)))
+counts_own_change (op.Del name) (Parting p) is = absurd is
 
 pub holds_own_name : HoldsOwnName
 holds_own_name (op.Get name) (Getting (get.Looking lookup)) is = subst (λ n. IsAbout n (lookup_at_stage lookup.call lookup.at)) is (lookup_about lookup.call lookup.at)
 holds_own_name (op.Get name) (Getting (get.Unlocking call hold old)) is = is
 holds_own_name (op.Get name) (Putting put) is = absurd is
 holds_own_name (op.Get name) (Deleting del) is = absurd is
+holds_own_name (op.Get name) (Parting (part.Looking lookup count behind)) is = subst (λ n. IsAbout n (lookup_at_stage lookup.call lookup.at)) is (lookup_about lookup.call lookup.at)
+holds_own_name (op.Get name) (Parting (part.Reading reading)) is = is
 holds_own_name (op.Put name value) (Getting get) is = absurd is
 holds_own_name (op.Put name value) (Putting (put.Looking lookup number)) is = subst (λ n. IsAbout n (lookup_at_stage lookup.call lookup.at)) is.0 (lookup_about lookup.call lookup.at)
 holds_own_name (op.Put name value) (Putting (put.Filling fill)) is = is.0
@@ -329,6 +347,7 @@ holds_own_name (op.Put name value) (Putting (put.Finishing finish)) is =
 holds_own_name (op.Put name value) (Putting (put.Splitting call hold bitmap number split)) is =
     subst (λ n. IsAbout n (split_footing (found_full call hold bitmap) split).stage) is.0 (split_about _ _ (stages_are_of_splits (found_full call hold bitmap) split))
 holds_own_name (op.Put name value) (Deleting del) is = absurd is
+holds_own_name (op.Put name value) (Parting p) is = absurd is
 holds_own_name (op.Del name) (Getting get) is = absurd is
 holds_own_name (op.Del name) (Putting put) is = absurd is
 holds_own_name (op.Del name) (Deleting (del.Looking lookup)) is = subst (λ n. IsAbout n (lookup_at_stage lookup.call lookup.at)) is.0 (lookup_about lookup.call lookup.at)
@@ -340,6 +359,7 @@ holds_own_name (op.Del name) (Deleting (del.Merging call hold old place merge)) 
     subst (λ n. IsAbout n (merge_footing (has_place call old place) merge).stage) is.0 (merge_about _ _ (merging_stage call old place merge))
 holds_own_name (op.Del name) (Deleting (del.Finishing finish line)) is =
     subst (λ n. IsAbout n (Holds finish.call.node finish.hold.locked (finish_at_held finish finish.at))) is.0 (finish_about finish finish.at)
+holds_own_name (op.Del name) (Parting p) is = absurd is
 
 lookup_pends : (call : Call) (at : LookupAt) → pending_in (lookup_at_stage call at) ≡ None
 lookup_pends call (look.Walk walk) = loose_pends (walk_stage walk) (walk_loose walk.generation walk.node walk.at)
@@ -361,6 +381,8 @@ pending_is_own (op.Get name) (Getting (get.Looking lookup)) is = counts_nothing 
 pending_is_own (op.Get name) (Getting (get.Unlocking call hold old)) is = tt
 pending_is_own (op.Get name) (Putting put) is = absurd is
 pending_is_own (op.Get name) (Deleting del) is = absurd is
+pending_is_own (op.Get name) (Parting (part.Looking lookup count behind)) is = counts_nothing _ _ (lookup_pends lookup.call lookup.at)
+pending_is_own (op.Get name) (Parting (part.Reading reading)) is = tt
 pending_is_own (op.Put name value) (Getting get) is = absurd is
 pending_is_own (op.Put name value) (Putting (put.Looking lookup number)) is = counts_nothing _ _ (lookup_pends lookup.call lookup.at)
 pending_is_own (op.Put name value) (Putting (put.Filling fill)) is = tt
@@ -371,6 +393,7 @@ pending_is_own (op.Put name value) (Putting (put.Finishing finish)) is =
 pending_is_own (op.Put name value) (Putting (put.Splitting call hold bitmap number split)) is =
     counts_nothing _ _ (split_unpending _ _ refl (stages_are_of_splits (found_full call hold bitmap) split))
 pending_is_own (op.Put name value) (Deleting del) is = absurd is
+pending_is_own (op.Put name value) (Parting p) is = absurd is
 pending_is_own (op.Del name) (Getting get) is = absurd is
 pending_is_own (op.Del name) (Putting put) is = absurd is
 pending_is_own (op.Del name) (Deleting (del.Looking lookup)) is = counts_nothing _ _ (lookup_pends lookup.call lookup.at)
@@ -383,6 +406,7 @@ pending_is_own (op.Del name) (Deleting (del.Merging call hold old place merge)) 
 pending_is_own (op.Del name) (Deleting (del.Finishing finish line)) is =
     finish_pends (λ c. Some (change.Del name) ≡ Some c) finish finish.at
     (ap Some (sym (ap (λ (n : Option ℕ). change_to (name_in finish.call) n) is.1 ∙ ap (λ (n : List ℕ). change.Del n) is.0)))
+pending_is_own (op.Del name) (Parting p) is = absurd is
 
 finish_unplaced : (finish : Finish) (at : FinishAt) → IfSome (finish_at_held finish at).pending (λ c. (finish_at_held finish at).placed ≡ None)
 finish_unplaced finish (finish_at.Fence line fence) = refl
@@ -407,6 +431,8 @@ pending_is_unplaced (Deleting (del.Clearing call hold bitmap hit line)) = tt
 pending_is_unplaced (Deleting (del.Finishing finish line)) = finish_unplaced finish finish.at
 pending_is_unplaced (Deleting (del.Merging call hold old place merge)) =
     counts_nothing _ _ (merge_unpending _ _ (placed_still call old place) (merging_stage call old place merge))
+pending_is_unplaced (Parting (part.Looking lookup count behind)) = counts_nothing _ _ (lookup_pends lookup.call lookup.at)
+pending_is_unplaced (Parting (part.Reading reading)) = tt
 
 pub pends_own_change : PendingIsOwnChange
 pends_own_change op running change is pending = (
@@ -419,6 +445,7 @@ pub op_told : OpIsTold
 op_told (op.Get name) (Getting get) is = ap op.Get is
 op_told (op.Get name) (Putting put) is = absurd is
 op_told (op.Get name) (Deleting del) is = absurd is
+op_told (op.Get name) (Parting p) is = ap op.Get is
 op_told (op.Put name value) (Getting get) is = absurd is
 op_told (op.Put name value) (Putting (put.Looking lookup number)) is = λ k. op.Put (is.0 k) (is.1 k)
 op_told (op.Put name value) (Putting (put.Filling fill)) is = λ k. op.Put (is.0 k) (is.1 k)
@@ -426,6 +453,7 @@ op_told (op.Put name value) (Putting (put.Replacing call hold bitmap hit number)
 op_told (op.Put name value) (Putting (put.Finishing finish)) is = ap (op_of_finish finish) is.1 ∙ ap (λ (n : List ℕ). op.Put n value) is.0
 op_told (op.Put name value) (Putting (put.Splitting call hold bitmap number split)) is = λ k. op.Put (is.0 k) (is.1 k)
 op_told (op.Put name value) (Deleting del) is = absurd is
+op_told (op.Put name value) (Parting p) is = absurd is
 op_told (op.Del name) (Getting get) is = absurd is
 op_told (op.Del name) (Putting put) is = absurd is
 op_told (op.Del name) (Deleting (del.Looking lookup)) is = ap op.Del is.0
@@ -435,3 +463,4 @@ op_told (op.Del name) (Deleting (del.Refusing call hold bitmap hit)) is = ap op.
 op_told (op.Del name) (Deleting (del.Clearing call hold bitmap hit line)) is = ap op.Del is.0
 op_told (op.Del name) (Deleting (del.Merging call hold old place merge)) is = ap op.Del is.0
 op_told (op.Del name) (Deleting (del.Finishing finish line)) is = ap (op_of_finish finish) is.1 ∙ ap op.Del is.0
+op_told (op.Del name) (Parting p) is = absurd is

@@ -1,8 +1,8 @@
 -- Where the range of a part ends: at the anchor of the next node, which its walk saw.
-use Rattle.std.proofs.Common.{◌≡◌, ◌≢◌, ℕ, ◌≤◌, ltb, true, false, not, ◌&&◌, Option, Some, None, IfSome, List, [], ◌∷◌, map, inl, inr, refl, sym, subst, ap, ◌∙◌, arith}
+use Rattle.std.proofs.Common.{◌≡◌, ◌≢◌, ℕ, ◌≤◌, ltb, Bool, true, false, not, ◌&&◌, Option, Some, None, IfSome, List, [], ◌∷◌, map, inl, inr, refl, sym, subst, ap, ◌∙◌, arith}
 use Rattle.std.specs.FinMap.{entries}
 use Rattle.std.specs.List.{AllByRecursion}
-use Rattle.std.proofs.lemmas.Bool.{eqb-true, eq-eqb, ltb-true, ltb-false}
+use Rattle.std.proofs.lemmas.Bool.{eqb-true, eq-eqb, lt-ltb, ltb-true, ltb-false}
 use Rattle.pm_words.specs.declared.layout.Layout.{Layout}
 use Rattle.pm_words.specs.declared.machine.Turn.{Turn}
 use Rattle.pm_words.specs.declared.machine.Turn.TheVariants.{Go, Done}
@@ -39,7 +39,7 @@ use Rattle.node_ops.specs.declared.part.Part.TheVariants as part
 use Rattle.node_ops.specs.LookupSteps.{lookup_turned, IsLookupAt}
 use Rattle.node_ops.specs.CallStages.{lookup_at_stage}
 use Rattle.node_ops.specs.PartSteps.{part_behind, behind_of, part_looked, reading_turned}
-use Rattle.node_ops.specs.Parts.{from_name, IsBehind, HaveWords, PartsSeeBehind, PartsKeepBehind, PartsAreRanges}
+use Rattle.node_ops.specs.Parts.{from_name, IsBehind, HaveWords, PartsSeeBehind, PartsKeepBehind, EndsAt, PartsEndThere, EndsAreRanges}
 
 -- the anchor of a node behind is that of a name
 named_member : (now : ℕ → Spot) (here : ℕ) (list : List ListNode) → IsChain now here list → AllByRecursion (λ (m : ListNode). (name : List ℕ) × IsName name × (m.anchor ≡ key_of name)) list
@@ -57,54 +57,80 @@ module _ (l : Layout) (f : Facts) (list : IsList l f) (n : ℕ) where
   of_between : IsListed f n → (name : List ℕ) → IsBetween (f.now n) (f.now (f.now n next_offset)) (key_of name) → range_of l f n name ≡ true
   of_between listed name between = eq-eqb (target_from 0 f.list (key_of name)) n (between_target f.now 0 f.list list.chain (rise_from l f list) n (key_of name) listed between)
 
-  module _ (fits : HaveWords f) (listed : IsListed f n) (low : List ℕ) (named_low : IsName low) (inside : range_of l f n low ≡ true) (name : List ℕ) (named : IsName name) where
-    order : is_below name low ≡ ltb (key_of name) (key_of low)
-    order = key-order name low (named-text name named) (named-text low named_low)
+  -- the range ends at this name, which is the anchor of the next node, or nowhere
+  abbrev IsEnd : Option (List ℕ) → Type 0
+  IsEnd None = f.now n next_offset ≡ 0
+  IsEnd (Some high) = IsName high × (f.now n next_offset ≢ 0) × (key_of high ≡ anchor_in (f.now (f.now n next_offset)))
 
-    -- of the names from the low one on those below the end
-    upper : (behind : Option Next) → IsBehind f n behind → key_of low ≤ key_of name → (range_of l f n name && true) ≡ is_under (high_of behind) name
-    upper None none above =
-        let least = (between_of low inside).low in
-        ap (λ b. b && true) (of_between listed name (record { low = omega arith; high = λ some. absurd (some none) }))
-    upper (Some next) leads above =
-        let least = (between_of low inside).low in
-        let some : f.now n next_offset ≢ 0 = λ none. leads.1 (sym leads.0 ∙ none) in
-        let member : IsMember f.list next.node = subst (IsMember f.list) leads.0 (chain_closed f.now 0 f.list list.chain n listed some) in
-        let anchor = named_member f.now 0 f.list list.chain list.named next.node member in
-        let are : AreNameWords (words_in (key_words next.anchor)) = subst AreNameWords leads.2 (named_anchor (f.now next.node) anchor.0 (fits next.node) anchor.1 anchor.2) in
-        let there : anchor_in (f.now (f.now n next_offset)) ≡ anchor_in (f.now next.node) = ap (λ k. anchor_in (f.now k)) leads.0 in
-        elim (name_kept (key_words next.anchor)) as (λ o. IsNameOf (words_in (key_words next.anchor)) o → (range_of l f n name && true) ≡ is_under o name) [
-          | None ↦ λ is. absurd (let clash : false ≡ true = is.some.1 are in cc)
-          | Some high ↦ λ is.
-              let key : key_of high ≡ anchor_in (f.now next.node) = key-number high ∙ ap number_of (is.whole ∙ sym leads.2) ∙ sym (anchor-number (f.now next.node)) in
-              let under : is_below name high ≡ ltb (key_of name) (key_of high) = key-order name high (named-text name named) (named-text high is.named) in
-              elim (ltb (key_of name) (key_of high)) as (λ b. ltb (key_of name) (key_of high) ≡ b → (range_of l f n name && true) ≡ b) [
-                | true ↦ λ less. let short = ltb-true (key_of name) (key_of high) less in ap (λ b. b && true) (of_between listed name (record { low = omega arith; high = λ _. omega arith }))
-                | false ↦ λ more. elim (range_of l f n name) as (λ b. range_of l f n name ≡ b → (b && true) ≡ false) [
-                  | true ↦ λ in_range. let long = ltb-false (key_of name) (key_of high) more in let short = (between_of name in_range).high some in absurd (omega arith)
-                  | false ↦ λ _. refl
-                ] refl
-              ] refl ∙ sym under
-        ] (name_kept_so (key_words next.anchor))
+  end_is : HaveWords f → IsListed f n → (behind : Option Next) → IsBehind f n behind → IsEnd (high_of behind)
+  end_is fits listed None none = none
+  end_is fits listed (Some next) leads =
+      let some : f.now n next_offset ≢ 0 = λ none. leads.1 (sym leads.0 ∙ none) in
+      let member : IsMember f.list next.node = subst (IsMember f.list) leads.0 (chain_closed f.now 0 f.list list.chain n listed some) in
+      let anchor = named_member f.now 0 f.list list.chain list.named next.node member in
+      let are : AreNameWords (words_in (key_words next.anchor)) = subst AreNameWords leads.2 (named_anchor (f.now next.node) anchor.0 (fits next.node) anchor.1 anchor.2) in
+      elim (name_kept (key_words next.anchor)) as (λ o. IsNameOf (words_in (key_words next.anchor)) o → IsEnd o) [
+        | None ↦ λ is. absurd (let clash : false ≡ true = is.some.1 are in cc)
+        | Some high ↦ λ is. (
+          is.named,
+          some,
+          key-number high ∙ ap number_of (is.whole ∙ sym leads.2) ∙ sym (anchor-number (f.now next.node)) ∙ ap (λ k. anchor_in (f.now k)) (sym leads.0),
+        )
+      ] (name_kept_so (key_words next.anchor))
 
-    bounds : (behind : Option Next) → IsBehind f n behind → from_name (range_of l f n) low name ≡ is_between low (high_of behind) name
-    bounds behind is =
-        elim (is_below name low) as (λ b. is_below name low ≡ b → (range_of l f n name && not b) ≡ (not b && is_under (high_of behind) name)) [
-          | true ↦ λ _. elim (range_of l f n name) as (λ b. (b && false) ≡ false) [ true ↦ refl | false ↦ refl ]
-          | false ↦ λ from. upper behind is (ltb-false (key_of name) (key_of low) (sym order ∙ from))
-        ] refl
+  module _ (listed : IsListed f n) (low : List ℕ) (named_low : IsName low) (inside : range_of l f n low ≡ true) where
+    -- it lies above
+    end_above : (high : Option (List ℕ)) → IsEnd high → IfSome high (λ h. IsName h × (is_below low h ≡ true))
+    end_above None none = tt
+    end_above (Some high) is = (
+      is.0,
+      key-order low high (named-text low named_low) (named-text high is.0)
+          ∙ lt-ltb (key_of low) (key_of high) (let short = (between_of low inside).high is.1 in let same = is.2 in omega arith),
+    )
+
+    -- of the names from the low one on those below it are the range's
+    ends_there : (high : Option (List ℕ)) → IsEnd high → (name : List ℕ) → IsName name → is_below name low ≡ false → range_of l f n name ≡ is_under high name
+    ends_there high is name named from =
+        let least = (between_of low inside).low in
+        let above : key_of low ≤ key_of name = ltb-false (key_of name) (key_of low) (sym (key-order name low (named-text name named) (named-text low named_low)) ∙ from) in
+        under high is (omega arith)
+      where
+        under : (high : Option (List ℕ)) → IsEnd high → anchor_in (f.now n) ≤ key_of name → range_of l f n name ≡ is_under high name
+        under None none least = of_between listed name (record { low = least; high = λ some. absurd (some none) })
+        under (Some high) is least =
+            let same = is.2 in
+            elim (ltb (key_of name) (key_of high)) as (λ b. ltb (key_of name) (key_of high) ≡ b → range_of l f n name ≡ b) [
+              | true ↦ λ less. let short = ltb-true (key_of name) (key_of high) less in of_between listed name (record { low = least; high = λ _. omega arith })
+              | false ↦ λ more. elim (range_of l f n name) as (λ b. range_of l f n name ≡ b → b ≡ false) [
+                | true ↦ λ in_range. let long = ltb-false (key_of name) (key_of high) more in let short = (between_of name in_range).high is.1 in absurd (omega arith)
+                | false ↦ λ _. refl
+              ] refl
+            ] refl ∙ sym (key-order name high (named-text name named) (named-text high is.0))
+
+pub parts_end_there : PartsEndThere
+parts_end_there l f n behind low list fits listed leads named_low inside =
+    let is = end_is l f list n fits listed behind leads in
+    record { above = end_above l f list n listed low named_low inside (high_of behind) is; ends = ends_there l f list n listed low named_low inside (high_of behind) is }
 
 -- what holds of the keys holds of the entries by their keys
 all_keys : (P : List ℕ → Type 0) (es : List (List ℕ × ℕ)) → AllByRecursion P (map (λ (e : List ℕ × ℕ). e.0) es) → AllByRecursion (λ (e : List ℕ × ℕ). P e.0) es
 all_keys P [] all = tt
 all_keys P (e ∷ es) all = (all.0, all_keys P es all.1)
 
-pub parts_are_ranges : PartsAreRanges
-parts_are_ranges l f n behind low m list fits listed leads named_low inside named =
+-- of the names of such a range those from the low one on are those between it and the end
+from_between : (in_range : List ℕ → Bool) (low : List ℕ) (high : Option (List ℕ)) → EndsAt in_range low high → (name : List ℕ) → IsName name → from_name in_range low name ≡ is_between low high name
+from_between in_range low high ends name named =
+    elim (is_below name low) as (λ b. is_below name low ≡ b → (in_range name && not b) ≡ (not b && is_under high name)) [
+      | true ↦ λ _. elim (in_range name) as (λ b. (b && false) ≡ false) [ true ↦ refl | false ↦ refl ]
+      | false ↦ λ from. elim (in_range name) as (λ b. b ≡ is_under high name → (b && true) ≡ is_under high name) [ true ↦ λ is. is | false ↦ λ is. is ] (ends.ends name named from)
+    ] refl
+
+pub ends_are_ranges : EndsAreRanges
+ends_are_ranges in_range low high m named_low ends named =
     ap (map (λ (e : List ℕ × ℕ). record { name = e.0; value = e.1 }))
-    (filter-alike (λ (e : List ℕ × ℕ). from_name (range_of l f n) low e.0) (λ (e : List ℕ × ℕ). is_between low (high_of behind) e.0) (entries m)
-    (all_by (λ (e : List ℕ × ℕ). IsName e.0) (λ (e : List ℕ × ℕ). from_name (range_of l f n) low e.0 ≡ is_between low (high_of behind) e.0)
-    (λ e is_name. bounds l f list n fits listed low named_low inside e.0 is_name behind leads) (entries m) (all_keys IsName (entries m) (all-named m named))))
+    (filter-alike (λ (e : List ℕ × ℕ). from_name in_range low e.0) (λ (e : List ℕ × ℕ). is_between low high e.0) (entries m)
+    (all_by (λ (e : List ℕ × ℕ). IsName e.0) (λ (e : List ℕ × ℕ). from_name in_range low e.0 ≡ is_between low high e.0)
+    (λ e is_name. from_between in_range low high ends e.0 is_name) (entries m) (all_keys IsName (entries m) (all-named m named))))
 
 -- the next node after a turn
 abbrev behind_after : Turn Part (Once PartWords) → Option Next → Option Next

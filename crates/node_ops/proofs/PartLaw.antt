@@ -1,9 +1,8 @@
--- Each turn of a part of a range scan is a step of a get of its low name, and leaves it sound.
-use Rattle.std.proofs.Common.{◌≡◌, ◌≢◌, ℕ, zero, suc, ◌+◌, ◌-◌, ◌<◌, ◌≤◌, ◌==◌, ltb, true, false, cond, Option, Some, None, List, [], ◌∷◌, length, get_or, set, inl, inr, refl, sym, subst, ap, ◌∙◌, arith}
+-- Each turn of a part of a range scan is a step of a get of its low name.
+use Rattle.std.proofs.Common.{◌≡◌, ℕ, zero, suc, ◌+◌, ◌-◌, ◌<◌, ◌≤◌, ◌==◌, ltb, true, false, cond, Option, Some, None, List, ◌∷◌, length, get_or, inl, inr, refl, sym, subst, ap, ◌∙◌, arith}
 use Rattle.std.specs.Int.{bit_at}
-use Rattle.std.proofs.lemmas.Bool.{cases_eq, eqb-true, eq-eqb, ltb-true, ltb-false}
-use Rattle.std.proofs.lemmas.List.{get_or-set_same, get_or-set_other, get_or-replicate, get_or_default, length-set, length-replicate}
-use Rattle.pm_words.specs.declared.layout.Layout.{Layout}
+use Rattle.std.proofs.lemmas.Bool.{cases_eq, eqb-true, eq-eqb, ltb-false}
+use Rattle.std.proofs.lemmas.List.{get_or-set_same, get_or-set_other}
 use Rattle.pm_words.specs.declared.action.Action.{Action}
 use Rattle.pm_words.specs.declared.action.Action.TheVariants.{Load}
 use Rattle.pm_words.specs.declared.machine.Turn.{Turn}
@@ -12,12 +11,10 @@ use Rattle.data_node.specs.Slots.{IsLive}
 use Rattle.data_node.specs.Spots.{Spot, bitmap_offset, slot_offset}
 use Rattle.data_list.specs.declared.target.Next.{Next}
 use Rattle.call_stages.specs.declared.once.Once.{Once}
-use Rattle.call_stages.specs.declared.once.Once.TheVariants as once
 use Rattle.call_stages.specs.declared.once.Placed.{Placed}
 use Rattle.call_stages.specs.Stages.{Stage, Idle, Holds}
 use Rattle.call_stages.specs.Kinds.{Told, Step, looks, learns, unlocks, reads}
 use Rattle.node_ops.specs.declared.call.Call.{Call}
-use Rattle.node_ops.specs.declared.lookup.Found.{Found}
 use Rattle.node_ops.specs.declared.lookup.Looked.{Looked}
 use Rattle.node_ops.specs.declared.lookup.Looked.TheVariants as looked
 use Rattle.node_ops.specs.declared.lookup.Lookup.{Lookup}
@@ -27,15 +24,15 @@ use Rattle.node_ops.specs.declared.part.ReadingAt.{ReadingAt}
 use Rattle.node_ops.specs.declared.part.ReadingAt.TheVariants as at
 use Rattle.node_ops.specs.declared.part.Part.{Part}
 use Rattle.node_ops.specs.declared.part.Part.TheVariants as part
-use Rattle.node_ops.specs.Calls.{IsCall, call_address}
-use Rattle.node_ops.specs.CallStages.{knows, decided}
-use Rattle.node_ops.specs.LookupSteps.{IsFoundBy, lookup_turned}
-use Rattle.node_ops.specs.PartSteps.{no_entry, no_entries, entry_in, with_word, load_from, next_at, behind_of, part_found, early_of, part_looked, after_at, after_word, part_call, reading_at_asks, part_asks, reading_turned, part_turned, IsReadingAt, IsReading, IsPart}
-use Rattle.node_ops.specs.Parts.{words_loaded, slots_loaded, loaded_at, reading_stage, part_stage, stage_after_part, placed_of, placed_after, IsPartIn, IsPartAfter, PartsAreSteps, PartsStay}
+use Rattle.node_ops.specs.Calls.{call_address}
+use Rattle.node_ops.specs.CallStages.{knows, decided, words_loaded, slots_loaded, loaded_at, reading_stage, part_stage, stage_after, reply_of}
+use Rattle.node_ops.specs.LookupSteps.{lookup_turned}
+use Rattle.node_ops.specs.PartSteps.{no_entries, entry_in, with_word, load_from, next_at, behind_of, part_looked, after_at, after_word, part_call, reading_at_asks, part_asks, reading_turned, part_turned, IsReadingAt, IsReading, IsPart}
+use Rattle.node_ops.specs.RunningSteps.{wrapped_part}
 use Rattle.node_ops.proofs.SeenLemmas.{Seen}
 use Rattle.node_ops.proofs.LookupLaw.{Leads, lookup_leads}
-use Rattle.node_ops.proofs.LookupSound.{SoundLooked, lookup_stays}
-use Rattle.node_ops.proofs.Endings.{LooksEnd, looks_end}
+use Rattle.node_ops.proofs.PartSound.{entry_here, entry_other, within}
+use Rattle.node_ops.proofs.Endings.{LooksEnd, looks_end, early_placed}
 
 module _ (s : Spot) where
   words_say : (entry : List ℕ) (slot n : ℕ) (others : List (ℕ × ℕ)) → Seen s (words_loaded entry slot n others) → (k : ℕ) → k < n → s (slot_offset slot k) ≡ get_or entry k 0
@@ -99,64 +96,9 @@ module _ (s : Spot) where
       → Seen s (loaded_at entries bitmap slots (next_at bitmap from slots))
   next_at_loaded entries bitmap slots from within each = next_loaded entries bitmap slots from (slots - from) (omega arith) each
 
--- the words of the slot, and of each other one
-entry_here : (entries : List (List ℕ)) (slot word got : ℕ) → slot < length entries → entry_in (with_word entries slot word got) slot ≡ set (entry_in entries slot) word got
-entry_here entries slot word got within =
-    get_or-set_same entries slot (set (get_or entries slot []) word got) no_entry within ∙ ap (λ entry. set entry word got) (get_or_default entries slot [] no_entry within)
-
-entry_other : (entries : List (List ℕ)) (slot word got other : ℕ) → other ≢ slot → entry_in (with_word entries slot word got) other ≡ entry_in entries other
-entry_other entries slot word got other apart = get_or-set_other entries slot other (set (get_or entries slot []) word got) no_entry apart
-
--- where it goes on is in order
-next_sound : (bitmap slots slot more : ℕ) → slot + more ≡ slots → IsReadingAt slots bitmap (load_from bitmap slot more)
-next_sound bitmap slots slot zero is = tt
-next_sound bitmap slots slot (suc more) is =
-    elim (bit_at bitmap slot == 1) as (λ b. (bit_at bitmap slot == 1) ≡ b → IsReadingAt slots bitmap (cond b (at.Load slot 0) (load_from bitmap (slot + 1) more))) [
-      | true ↦ λ here. (omega arith, eqb-true (bit_at bitmap slot) 1 here, omega arith)
-      | false ↦ λ here. next_sound bitmap slots (slot + 1) more (omega arith)
-    ] refl
-
-next_at_sound : (bitmap slots from : ℕ) → from ≤ slots → IsReadingAt slots bitmap (next_at bitmap from slots)
-next_at_sound bitmap slots from within = next_sound bitmap slots from (slots - from) (omega arith)
-
-found_reading_sound : (call : Call) (found : Found) (behind : Option Next) (count : ℕ) → IsCall call → IsFoundBy call.view.layout.slots found → IsPart (part_found call found behind count)
-found_reading_sound call found behind count sound is =
-    record {
-      call = sound;
-      locked = is.locked;
-      many = length-replicate 64 no_entry;
-      wide = λ slot small. ap length (get_or-replicate 64 slot no_entry no_entry small);
-      here = next_at_sound found.directory.bitmap call.view.layout.slots 0 (omega arith);
-    }
-
 module _ (reading : Reading) (sound : IsReading reading) (slot word got : ℕ) (here : IsReadingAt reading.call.view.layout.slots reading.bitmap (at.Load slot word)) where
   abbrev slots : ℕ
   slots = reading.call.view.layout.slots
-
-  limit : slots ≤ 64
-  limit = sound.call.view.layout.slots.1
-
-  within : slot < length reading.entries
-  within = let few : slots ≤ 64 = limit in let below : slot < slots = here.0 in let many : length reading.entries ≡ 64 = sound.many in omega arith
-
-  after_sound : IsReading (after_word reading slot word got)
-  after_sound =
-      let entry = get_or reading.entries slot [] in
-      record {
-        call = sound.call;
-        locked = sound.locked;
-        many = length-set reading.entries slot (set entry word got) ∙ sound.many;
-        wide = λ other small. elim (cases_eq other slot) [
-          | inl same ↦
-              subst (λ o. length (entry_in (with_word reading.entries slot word got) o) ≡ 4) (sym same)
-              (ap length (entry_here reading.entries slot word got within) ∙ length-set (entry_in reading.entries slot) word got ∙ subst (λ o. length (entry_in reading.entries o) ≡ 4) same (sound.wide other small))
-          | inr apart ↦ ap length (entry_other reading.entries slot word got other apart) ∙ sound.wide other small
-        ];
-        here = elim (ltb (word + 1) 4) as (λ b. ltb (word + 1) 4 ≡ b → IsReadingAt slots reading.bitmap (cond b (at.Load slot (word + 1)) (next_at reading.bitmap (slot + 1) slots))) [
-          | true ↦ λ more. (here.0, here.1, ltb-true _ _ more)
-          | false ↦ λ last. next_at_sound reading.bitmap slots (slot + 1) (let below : slot < slots = here.0 in omega arith)
-        ] refl;
-      }
 
   -- what it knows with the word that it loads
   learnt : (s : Spot) → Seen s (loaded_at reading.entries reading.bitmap slots (at.Load slot word)) → s (slot_offset slot word) ≡ got
@@ -166,7 +108,8 @@ module _ (reading : Reading) (sound : IsReading reading) (slot word got : ℕ) (
       let entry = entry_in reading.entries slot in
       let below : slot < slots = here.0 in
       let small : word < 4 = here.2 in
-      let few : slots ≤ 64 = limit in
+      let few : slots ≤ 64 = sound.call.view.layout.slots.1 in
+      let room : slot < length reading.entries = within reading sound slot word got here in
       let wide : length entry ≡ 4 = sound.wide slot (omega arith) in
       let before = words_say s entry slot word (slots_loaded reading.entries reading.bitmap slot) seen in
       let others : (other : ℕ) → other < slot → IsLive reading.bitmap other → HasEntry s entries other = λ other lower live k less.
@@ -174,8 +117,8 @@ module _ (reading : Reading) (sound : IsReading reading) (slot word got : ℕ) (
       ∙ sym (ap (λ (e : List ℕ). get_or e k 0) (entry_other reading.entries slot word got other (omega arith))) in
       let own : (k : ℕ) → k < word + 1 → s (slot_offset slot k) ≡ get_or (entry_in entries slot) k 0 = λ k less.
       elim (cases_eq k word) [
-        | inl last ↦ ap (λ j. s (slot_offset slot j)) last ∙ is ∙ sym (get_or-set_same entry word got 0 (omega arith)) ∙ sym (ap (λ (e : List ℕ). get_or e word 0) (entry_here reading.entries slot word got within)) ∙ ap (λ j. get_or (entry_in entries slot) j 0) (sym last)
-        | inr apart ↦ before k (omega arith) ∙ sym (get_or-set_other entry word k got 0 apart) ∙ sym (ap (λ (e : List ℕ). get_or e k 0) (entry_here reading.entries slot word got within))
+        | inl last ↦ ap (λ j. s (slot_offset slot j)) last ∙ is ∙ sym (get_or-set_same entry word got 0 (omega arith)) ∙ sym (ap (λ (e : List ℕ). get_or e word 0) (entry_here reading.entries slot word got room)) ∙ ap (λ j. get_or (entry_in entries slot) j 0) (sym last)
+        | inr apart ↦ before k (omega arith) ∙ sym (get_or-set_other entry word k got 0 apart) ∙ sym (ap (λ (e : List ℕ). get_or e k 0) (entry_here reading.entries slot word got room))
       ] in
       elim (ltb (word + 1) 4) as (λ b. ltb (word + 1) 4 ≡ b → Seen s (loaded_at entries reading.bitmap slots (cond b (at.Load slot (word + 1)) (next_at reading.bitmap (slot + 1) slots)))) [
         | true ↦ λ more. words_are s (entry_in entries slot) slot (word + 1) (slots_loaded entries reading.bitmap slot) own (slots_are s entries reading.bitmap slot others)
@@ -195,14 +138,7 @@ module _ (reading : Reading) (sound : IsReading reading) (slot word got : ℕ) (
       looks (learns (sound.call.node, (omega arith)) (omega arith) refl (λ s tidy known is. record { seen = (known.seen.0, learnt s known.seen.1 is); left = tt }))
 
 abbrev Parts : Call → Stage → Action → ℕ → Turn Part (Once PartWords) → Type 0
-Parts call stage action x turn = Step call.view.layout call.view.generation stage action x (stage_after_part turn) (placed_after turn)
-
--- an early answer is that of the look-up
-early_placed : (most : Option ℕ) (answer : Once Placed) → LooksEnd most (Done (looked.Early answer)) → placed_of (early_of answer) ≡ answer
-early_placed most (once.Done placed) ends = absurd ends
-early_placed most (once.Spent clock) ends = refl
-early_placed most (once.Worn node word) ends = refl
-early_placed most (once.Again why) ends = refl
+Parts call stage action x turn = Step call.view.layout call.view.generation stage action x (stage_after (wrapped_part turn)) (reply_of (wrapped_part turn))
 
 looked_leads : (call : Call) (stage : Stage) (action : Action) (x count : ℕ) (behind : Option Next) (turn : Turn Lookup Looked) → LooksEnd call.limit turn → Leads call stage action x turn
     → Parts call stage action x (part_looked call count behind turn)
@@ -221,42 +157,8 @@ reading_leads : (reading : Reading) (at : ReadingAt) (x : ℕ) → IsReading (re
 reading_leads reading (at.Load slot word) x sound = word_leads (record reading { at = at.Load slot word }) sound slot word x sound.here
 reading_leads reading at.Unlock x sound = unlocks refl refl refl refl (reads refl refl refl)
 
-own_steps : (p : Part) (x : ℕ) → IsPart p → Told (part_call p).view.layout (part_call p).view.generation (part_asks p) x → Parts (part_call p) (part_stage p) (part_asks p) x (part_turned p x)
-own_steps (part.Looking lookup count behind) x sound told =
+pub part_steps : (p : Part) (x : ℕ) → IsPart p → Told (part_call p).view.layout (part_call p).view.generation (part_asks p) x → Parts (part_call p) (part_stage p) (part_asks p) x (part_turned p x)
+part_steps (part.Looking lookup count behind) x sound told =
     looked_leads lookup.call (part_stage (part.Looking lookup count behind)) (part_asks (part.Looking lookup count behind)) x count (behind_of lookup.at behind) (lookup_turned lookup x)
     (looks_end lookup.call lookup.at x sound.here) (lookup_leads lookup.call sound.call lookup.at x sound.here told)
-own_steps (part.Reading reading) x sound told = reading_leads reading reading.at x sound
-
-own_told : (l : Layout) (g : ℕ) (p : Part) (x : ℕ) → IsPartIn l g p → Told l g (part_asks p) x → Told (part_call p).view.layout (part_call p).view.generation (part_asks p) x
-own_told l g p x sound told =
-    subst (λ (k : Layout). Told k (part_call p).view.generation (part_asks p) x) (sym sound.layout) (subst (λ (n : ℕ). Told l n (part_asks p) x) (sym sound.generation) told)
-
-pub parts_are_steps : PartsAreSteps
-parts_are_steps l g p x sound told =
-    let step = own_steps p x sound.here (own_told l g p x sound told) in
-    subst (λ (q : Layout × ℕ). Step q.0 q.1 (part_stage p) (part_asks p) x (stage_after_part (part_turned p x)) (placed_after (part_turned p x))) (λ i. (sound.layout i, sound.generation i)) step
-
--- of the same view as before
-abbrev Stays : Call → Turn Part (Once PartWords) → Type 0
-Stays call (Go p) = IsPart p × ((part_call p).view ≡ call.view)
-Stays call (Done answer) = Unit {0}
-
-looked_stays : (call : Call) (count : ℕ) (behind : Option Next) (turn : Turn Lookup Looked) → IsCall call → SoundLooked call turn → Stays call (part_looked call count behind turn)
-looked_stays call count behind (Go lookup) sound stays = (stays.0, ap (λ (c : Call). c.view) stays.1)
-looked_stays call count behind (Done (looked.Early answer)) sound stays = tt
-looked_stays call count behind (Done (looked.Found found)) sound stays = (found_reading_sound call found behind count sound stays, refl)
-
-reading_stays : (reading : Reading) (at : ReadingAt) (x : ℕ) → IsReading (record reading { at = at }) → Stays reading.call (reading_turned (record reading { at = at }) at x)
-reading_stays reading (at.Load slot word) x sound = (after_sound (record reading { at = at.Load slot word }) sound slot word x sound.here, refl)
-reading_stays reading at.Unlock x sound = tt
-
-own_stays : (p : Part) (x : ℕ) → IsPart p → Told (part_call p).view.layout (part_call p).view.generation (part_asks p) x → Stays (part_call p) (part_turned p x)
-own_stays (part.Looking lookup count behind) x sound told = looked_stays lookup.call count (behind_of lookup.at behind) (lookup_turned lookup x) sound.call (lookup_stays lookup x sound told)
-own_stays (part.Reading reading) x sound told = reading_stays reading reading.at x sound
-
-pub parts_stay : PartsStay
-parts_stay l g p x sound told = after (part_turned p x) (own_stays p x sound.here (own_told l g p x sound told))
-  where
-    after : (turn : Turn Part (Once PartWords)) → Stays (part_call p) turn → IsPartAfter l g turn
-    after (Go next) stays = record { layout = ap (λ v. v.layout) stays.1 ∙ sound.layout; generation = ap (λ v. v.generation) stays.1 ∙ sound.generation; here = stays.0 }
-    after (Done answer) stays = tt
+part_steps (part.Reading reading) x sound told = reading_leads reading reading.at x sound

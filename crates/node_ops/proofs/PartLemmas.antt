@@ -5,7 +5,7 @@ use Rattle.std.proofs.Math.Seq.{take-suc}
 use Rattle.std.proofs.lemmas.Bool.{eq-eqb, ne_eqb, ltb-true}
 use Rattle.std.proofs.lemmas.List.Sums.{fold-append}
 use Rattle.pm_words.specs.declared.machine.Turn.{Turn}
-use Rattle.pm_words.specs.declared.machine.Turn.TheVariants.{Go, Done}
+use Rattle.pm_words.specs.declared.machine.Turn.TheVariants.{Go}
 use Rattle.pm_words.specs.Turns.{GoesBelow}
 use Rattle.call_stages.specs.declared.once.Once.{Once}
 use Rattle.call_stages.specs.Kinds.{Told}
@@ -14,7 +14,6 @@ use Rattle.node_ops.specs.declared.call.Call.{Call}
 use Rattle.node_ops.specs.declared.lookup.Looked.{Looked}
 use Rattle.node_ops.specs.declared.lookup.Lookup.{Lookup}
 use Rattle.node_ops.specs.declared.part.PartWords.{PartWords}
-use Rattle.node_ops.specs.declared.part.Part.{Part}
 use Rattle.node_ops.specs.declared.part.Reading.{Reading}
 use Rattle.node_ops.specs.declared.part.ReadingAt.TheVariants as at
 use Rattle.node_ops.specs.LookupSteps.{IsLookup, lookup_asks, lookup_turned, lookup_left}
@@ -74,8 +73,3 @@ looking_fewer lookup next x count behind sound told is fewer =
     let stays = subst (SoundLooked lookup.call) (sym is) (lookup_stays lookup x sound told) in
     let same : next.call.view.layout.slots ≡ lookup.call.view.layout.slots = ap (λ (call : Call). call.view.layout.slots) stays.1 in
     subst (λ (turn : Turn Lookup Looked). GoesBelow {A = Once PartWords} part_left (lookup_left lookup + (4 * lookup.call.view.layout.slots + 2)) (part_looked lookup.call count behind turn)) is (omega arith)
-
--- what is left after a turn: nothing once it is done
-abbrev pub turn_left : Turn Part (Once PartWords) → ℕ
-turn_left (Go p) = part_left p + 1
-turn_left (Done answer) = 0

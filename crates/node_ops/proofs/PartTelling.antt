@@ -42,7 +42,8 @@ use Rattle.node_ops.specs.declared.part.Part.TheVariants as part
 use Rattle.node_ops.specs.Calls.{name_in}
 use Rattle.node_ops.specs.LookupSteps.{lookup_turned}
 use Rattle.node_ops.specs.PartSteps.{no_entry, no_listing, entry_in, entry_name, live_order, is_from, order_in, lists, part_words, behind_of, part_looked, early_of, IsReading, reading_turned}
-use Rattle.node_ops.specs.Parts.{reading_held, pair_of, IsPartOf, PartTells, IsHeard, PartsHear}
+use Rattle.node_ops.specs.CallStages.{reading_held}
+use Rattle.node_ops.specs.Parts.{pair_of, IsPartOf, PartTells, IsHeard, PartsHear}
 use Rattle.node_ops.proofs.PartLaw.{slots_say}
 use Rattle.node_ops.proofs.PartNames.{pair_at, all_good, packed, names_are}
 

@@ -13,11 +13,12 @@ use Rattle.node_ops.specs.declared.put.Put.TheVariants as put
 use Rattle.node_ops.specs.declared.del.Del.{Del}
 use Rattle.node_ops.specs.declared.del.Del.TheVariants as del
 use Rattle.node_ops.specs.declared.running.Running.{Running}
-use Rattle.node_ops.specs.declared.running.Running.TheVariants.{Getting, Putting, Deleting}
+use Rattle.node_ops.specs.declared.running.Running.TheVariants.{Getting, Putting, Deleting, Parting}
 use Rattle.node_ops.specs.Calls.{name_in}
 use Rattle.node_ops.specs.GetSteps.{get_call}
 use Rattle.node_ops.specs.PutSteps.{put_call}
 use Rattle.node_ops.specs.DelSteps.{del_call}
+use Rattle.node_ops.specs.PartSteps.{part_call}
 
 -- the name that an op is about
 abbrev pub name_asked : NameOp → List ℕ
@@ -43,8 +44,10 @@ TakesOut (del.Clearing call hold bitmap hit line) = Unit {0}
 TakesOut (del.Finishing finish line) = finish.new ≡ None
 TakesOut (del.Merging call hold old place merge) = Unit {0}
 
+-- A part of a range scan is a get of its low name.
 abbrev pub IsOf : NameOp → Running → Type 0
 IsOf (op.Get name) (Getting get) = name_in (get_call get) ≡ name
+IsOf (op.Get name) (Parting p) = name_in (part_call p) ≡ name
 IsOf (op.Put name value) (Putting put) = (name_in (put_call put) ≡ name) × Gives value put
 IsOf (op.Del name) (Deleting del) = (name_in (del_call del) ≡ name) × TakesOut del
 IsOf _ _ = ⊥
@@ -79,6 +82,7 @@ abbrev pub op_in : Running → NameOp
 op_in (Getting get) = op.Get (name_in (get_call get))
 op_in (Putting put) = put_op put
 op_in (Deleting del) = del_op del
+op_in (Parting p) = op.Get (name_in (part_call p))
 
 -- what is held is held for this name
 abbrev pub IsAbout : List ℕ → Stage → Type 0

@@ -1,5 +1,7 @@
 -- What a call in flight has and knows of its node.
-use Rattle.std.specs.Prelude.{ℕ, zero, suc, ◌+◌, ◌-◌, List, [], ◌∷◌, ◌++◌, take, Bool, true, false, Option, Some, None}
+use Rattle.std.specs.Prelude.{ℕ, zero, suc, ◌+◌, ◌-◌, List, [], ◌∷◌, ◌++◌, take, slice_index, Bool, true, false, Option, Some, None}
+use Rattle.std.specs.Prelude.{◌==◌, if◌then◌else◌}
+use Rattle.std.specs.Int.{bit_at}
 use Rattle.pm_words.specs.declared.TheConstants.{LINE}
 use Rattle.pm_words.specs.declared.machine.Turn.{Turn}
 use Rattle.pm_words.specs.declared.machine.Turn.TheVariants.{Go, Done}
@@ -39,7 +41,13 @@ use Rattle.node_ops.specs.declared.put.Put.TheVariants as put
 use Rattle.node_ops.specs.declared.del.Del.{Del}
 use Rattle.node_ops.specs.declared.del.Del.TheVariants as del
 use Rattle.node_ops.specs.declared.running.Running.{Running}
-use Rattle.node_ops.specs.declared.running.Running.TheVariants.{Getting, Putting, Deleting}
+use Rattle.node_ops.specs.declared.running.Running.TheVariants.{Getting, Putting, Deleting, Parting}
+use Rattle.node_ops.specs.declared.part.Reading.{Reading}
+use Rattle.node_ops.specs.declared.part.ReadingAt.{ReadingAt}
+use Rattle.node_ops.specs.declared.part.ReadingAt.TheVariants as at
+use Rattle.node_ops.specs.declared.part.Part.{Part}
+use Rattle.node_ops.specs.declared.part.Part.TheVariants as part
+use Rattle.node_ops.specs.PartSteps.{entry_in}
 use Rattle.data_list.specs.WalkStages.{walk_stage, sight_in}
 use Rattle.node_ops.specs.Calls.{name_in}
 use Rattle.node_ops.specs.LookupSteps.{value_of}
@@ -258,10 +266,45 @@ del_stage (del.Clearing call hold bitmap hit line) = found_in call hold bitmap h
 del_stage (del.Finishing finish line) = finish_stage finish
 del_stage (del.Merging call hold old place merge) = (merge_footing (has_place call old place) merge).stage
 
+-- so many words of a slot, with others
+abbrev pub words_loaded : List ℕ → ℕ → ℕ → List (ℕ × ℕ) → List (ℕ × ℕ)
+words_loaded entry slot zero others = others
+words_loaded entry slot (suc n) others = (slot_offset slot n, slice_index entry n) ∷ words_loaded entry slot n others
+
+-- the words of the live ones of the first so many slots
+abbrev pub slots_loaded : List (List ℕ) → ℕ → ℕ → List (ℕ × ℕ)
+slots_loaded entries bitmap zero = []
+slots_loaded entries bitmap (suc slot) =
+    if bit_at bitmap slot == 1
+    then words_loaded (entry_in entries slot) slot 4 (slots_loaded entries bitmap slot)
+    else slots_loaded entries bitmap slot
+
+-- what it has loaded: the words of the live slots below, and so many of this one; at last those of all live slots
+abbrev pub loaded_at : List (List ℕ) → ℕ → ℕ → ReadingAt → List (ℕ × ℕ)
+loaded_at entries bitmap slots (at.Load slot word) =
+    words_loaded (entry_in entries slot) slot word (slots_loaded entries bitmap slot)
+loaded_at entries bitmap slots at.Unlock = slots_loaded entries bitmap slots
+
+abbrev pub loaded : Reading → List (ℕ × ℕ)
+loaded reading = loaded_at reading.entries reading.bitmap reading.call.view.layout.slots reading.at
+
+-- it holds the node, as a get that knows what its name has
+abbrev pub reading_held : Reading → Held
+reading_held reading =
+    decided reading.call reading.hold reading.old (knows ((bitmap_offset, reading.bitmap) ∷ loaded reading))
+
+abbrev pub reading_stage : Reading → Stage
+reading_stage reading = Holds reading.call.node reading.hold.locked (reading_held reading)
+
+abbrev pub part_stage : Part → Stage
+part_stage (part.Looking lookup count behind) = lookup_stage lookup
+part_stage (part.Reading reading) = reading_stage reading
+
 abbrev pub stage_of : Running → Stage
 stage_of (Getting get) = get_stage get
 stage_of (Putting put) = put_stage put
 stage_of (Deleting del) = del_stage del
+stage_of (Parting p) = part_stage p
 
 -- with its log line, and what it knows and owes of prevs
 abbrev pub put_footing : Put → Footing
@@ -291,6 +334,7 @@ abbrev pub footing_of : Running → Footing
 footing_of (Getting get) = record { stage = get_stage get; line = None; debt = no_debt }
 footing_of (Putting put) = put_footing put
 footing_of (Deleting del) = del_footing del
+footing_of (Parting p) = record { stage = part_stage p; line = None; debt = no_debt }
 
 abbrev pub footing_after : Turn Running (Once Placed) → Footing
 footing_after (Go running) = footing_of running

@@ -12,8 +12,9 @@ use Rattle.node_ops.specs.declared.lookup.LookupAt.TheVariants as look
 use Rattle.node_ops.specs.declared.get.Get.TheVariants as get
 use Rattle.node_ops.specs.declared.put.Put.TheVariants as put
 use Rattle.node_ops.specs.declared.del.Del.TheVariants as del
+use Rattle.node_ops.specs.declared.part.Part.TheVariants as part
 use Rattle.node_ops.specs.declared.running.Running.{Running}
-use Rattle.node_ops.specs.declared.running.Running.TheVariants.{Getting, Putting, Deleting}
+use Rattle.node_ops.specs.declared.running.Running.TheVariants.{Getting, Putting, Deleting, Parting}
 use Rattle.node_ops.specs.Calls.{at_node}
 use Rattle.node_ops.specs.RunningSteps.{running_call, running_turned}
 
@@ -26,6 +27,7 @@ abbrev pub walk_in : Running → Option Walk
 walk_in (Getting (get.Looking lookup)) = lookup_walk lookup.at
 walk_in (Putting (put.Looking lookup value)) = lookup_walk lookup.at
 walk_in (Deleting (del.Looking lookup)) = lookup_walk lookup.at
+walk_in (Parting (part.Looking lookup count behind)) = lookup_walk lookup.at
 walk_in _ = None
 
 -- As the walk goes on, the call stays as it is. As it ends, the call has the target's node, and the hops of the walk.

@@ -1,6 +1,6 @@
 -- A part of a range scan, step by step.
 use Rattle.std.specs.Prelude.{◌≡◌, ℕ, zero, suc, ◌+◌, ◌-◌, ◌*◌, ◌<◌, ◌==◌, ◌&&◌, not, Bool, nat_lt, if◌then◌else◌, fold}
-use Rattle.std.specs.Prelude.{List, [], ◌∷◌, length, replicate, slice_index, slice_index_or, slice_set, Option}
+use Rattle.std.specs.Prelude.{List, [], ◌∷◌, length, replicate, slice_index, slice_index_or, slice_set, Option, Some, None}
 use Rattle.std.specs.Int.{bit_at}
 use Rattle.pm_words.specs.declared.action.Action.{Action}
 use Rattle.pm_words.specs.declared.action.Action.TheVariants.{Load, Store}
@@ -190,6 +190,30 @@ part_words reading =
       compared = length (order_in reading);
       hops = reading.call.hops;
     }
+
+-- where it gives the node back next
+abbrev pub listed_at : Reading → ReadingAt → Option PartWords
+listed_at reading (at.Load slot word) = None
+listed_at reading at.Unlock = Some (part_words reading)
+
+abbrev pub part_listed : Part → Option PartWords
+part_listed (part.Looking lookup count behind) = None
+part_listed (part.Reading reading) = listed_at reading reading.at
+
+-- its answer, as that of a get of its low name
+abbrev pub words_placed : PartWords → Placed
+words_placed words = record { old = words.old; place = words.place; hops = words.hops }
+
+abbrev pub placed_of : Once PartWords → Once Placed
+placed_of (once.Done words) = once.Done (words_placed words)
+placed_of (once.Spent clock) = once.Spent clock
+placed_of (once.Worn node word) = once.Worn node word
+placed_of (once.Again why) = once.Again why
+
+-- a turn with that answer
+abbrev pub placed_turn : Turn Part (Once PartWords) → Turn Part (Once Placed)
+placed_turn (Go p) = Go p
+placed_turn (Done answer) = Done (placed_of answer)
 
 abbrev pub reading_turned : Reading → ReadingAt → ℕ → Turn Part (Once PartWords)
 reading_turned reading (at.Load slot word) got = Go (part.Reading (after_word reading slot word got))

@@ -80,15 +80,8 @@ pub fn deletes_heed()
     ensures { DelsHeed }
 {}
 
-ghost use Rattle.node_ops.specs.Parts.{PartsAreSteps, PartsStay, PartTells, PartsHear};
-ghost use Rattle.node_ops.specs.Parts.{PartsSeeBehind, PartsKeepBehind, PartsAreRanges};
-
-/// Each turn of a part of a range scan, whatever number it is told, is a step of a get of its low name, with the answer
-/// of that get, and leaves a part of the same index.
-pub fn parts_are_steps()
-    ensures steps { PartsAreSteps }
-    ensures stay { PartsStay }
-{}
+ghost use Rattle.node_ops.specs.Parts.{PartTells, PartsHear, PartsSeeBehind, PartsKeepBehind, PartsEndThere};
+ghost use Rattle.node_ops.specs.Parts.{EndsAreRanges, ListedIsTold, ListedIsAnswered, DoneIsListed, CountStays};
 
 /// A part that is answered lists the first names of its node's range from the low one on, with their numbers, as the
 /// map has them and as it had them at the part's place, and tells the node, the hops and the version word of its call.
@@ -98,9 +91,18 @@ pub fn parts_tell()
 {}
 
 /// A part has the next node as its walk saw it, from the turn on that takes the lock. As long as that is the next node,
-/// the names of the node's range from the low one on are those below the anchor that the part tells.
+/// its node's range ends at the anchor that the part tells, so its names from the low one on are those below that anchor.
 pub fn parts_end_at_next()
     ensures sees { PartsSeeBehind }
     ensures keeps { PartsKeepBehind }
-    ensures ranges { PartsAreRanges }
+    ensures there { PartsEndThere }
+    ensures ranges { EndsAreRanges }
+{}
+
+/// A part that gives its node back next is answered with what it lists, and no part is done otherwise.
+pub fn listing_law()
+    ensures told { ListedIsTold }
+    ensures answered { ListedIsAnswered }
+    ensures done { DoneIsListed }
+    ensures count { CountStays }
 {}

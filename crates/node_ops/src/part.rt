@@ -97,7 +97,7 @@ impl Part {
     ghost use Rattle.call_stages.specs.Views.{IsView};
     ghost use Rattle.node_ops.specs.Calls.{IsCall, new_call};
     ghost use Rattle.node_ops.specs.LookupSteps.{IsFoundBy, starts};
-    ghost use Rattle.node_ops.specs.PartSteps.{IsPart, IsEarly, behind_of, early_of, part_found};
+    ghost use Rattle.node_ops.specs.PartSteps.{IsPart, IsEarly, behind_of, early_of, part_found, placed_of};
 
     /// The part that lists the first `count` names from this one on, of those that its node has.
     pub fn new(view: View, low: &Name, count: u64) -> Part
@@ -123,12 +123,28 @@ impl Part {
     }
 
     /// A look-up that ended early ends the part.
-    fn early(answer: Once<Placed>) -> Once<PartWords>
+    pub fn early(answer: Once<Placed>) -> Once<PartWords>
         requires { IsEarly answer }
         ensures { result ≡ early_of answer }
     {
         match answer {
             Once::Done(_) => unreachable!(),
+            Once::Spent { clock } => Once::Spent { clock },
+            Once::Worn { node, word } => Once::Worn { node, word },
+            Once::Again(why) => Once::Again(why),
+        }
+    }
+
+    /// Its answer, as that of a get of its low name.
+    pub(crate) fn placed(answer: Once<PartWords>) -> Once<Placed>
+        ensures { result ≡ placed_of answer }
+    {
+        match answer {
+            Once::Done(words) => Once::Done(Placed {
+                old: words.old,
+                place: words.place,
+                hops: words.hops,
+            }),
             Once::Spent { clock } => Once::Spent { clock },
             Once::Worn { node, word } => Once::Worn { node, word },
             Once::Again(why) => Once::Again(why),
@@ -153,6 +169,52 @@ impl Part {
                 entries: [[0; 4]; 64],
                 at: next_at(bitmap, 0, call.view.layout.slots()),
             },
+        }
+    }
+}
+
+impl Part {
+    ghost use Rattle.std.specs.Prelude.{◌≡◌, ◌↔◌, IsSome, IsTrue};
+    ghost use Rattle.node_ops.specs.PartSteps.{IsPart, part_call, part_count, part_listed};
+
+    /// What stays the same while it is made.
+    pub(crate) fn call(&self) -> Call
+        ensures { result ≡ part_call self.now }
+    {
+        match self {
+            Part::Looking { lookup, .. } => lookup.call,
+            Part::Reading { reading } => reading.call,
+        }
+    }
+
+    /// How many names it lists at most.
+    pub(crate) fn count(&self) -> u64
+        ensures { result ≡ part_count self.now }
+    {
+        match self {
+            Part::Looking { count, .. } => *count,
+            Part::Reading { reading } => reading.count,
+        }
+    }
+
+    /// What it tells, where it gives the node back next.
+    pub(crate) fn listed(&self) -> Option<PartWords>
+        requires { IsPart self.now }
+        ensures { result ≡ part_listed self.now }
+    {
+        match self {
+            Part::Looking { .. } => None,
+            Part::Reading { reading } => reading.listed(),
+        }
+    }
+
+    /// It gives the node back next.
+    pub(crate) fn has_listed(&self) -> bool
+        ensures { IsTrue result ↔ IsSome (part_listed self.now) }
+    {
+        match self {
+            Part::Looking { .. } => false,
+            Part::Reading { reading } => reading.has_listed(),
         }
     }
 }
@@ -231,10 +293,11 @@ impl Part {
 }
 
 impl Reading {
-    ghost use Rattle.std.specs.Prelude.{◌≡◌, ◌<◌, ◌≤◌};
+    ghost use Rattle.std.specs.Prelude.{◌≡◌, ◌<◌, ◌≤◌, ◌↔◌, IsSome, IsTrue};
     ghost use Rattle.data_list.specs.Walks.{high_of};
     ghost use Rattle.data_node.specs.Orders.{listed};
-    ghost use Rattle.node_ops.specs.PartSteps.{IsReading, after_word, lists, listing_in, part_words, reading_asks};
+    ghost use Rattle.node_ops.specs.PartSteps.{IsReading, after_word, lists, listed_at, listing_in, part_words};
+    ghost use Rattle.node_ops.specs.PartSteps.{reading_asks};
 
     fn action(&self) -> Action
         requires { IsReading self.now }
@@ -267,6 +330,27 @@ impl Reading {
         } else {
             next_at(self.bitmap, slot + 1, self.call.view.layout.slots())
         };
+    }
+
+    /// What it tells, where it gives the node back next.
+    fn listed(&self) -> Option<PartWords>
+        requires { IsReading self.now }
+        ensures { result ≡ listed_at self.now self.now.at }
+    {
+        match self.at {
+            ReadingAt::Load { .. } => None,
+            ReadingAt::Unlock => Some(self.words()),
+        }
+    }
+
+    /// It gives the node back next.
+    fn has_listed(&self) -> bool
+        ensures { IsTrue result ↔ IsSome (listed_at self.now self.now.at) }
+    {
+        match self.at {
+            ReadingAt::Load { .. } => false,
+            ReadingAt::Unlock => true,
+        }
     }
 
     /// What it tells.

@@ -1,20 +1,19 @@
-ghost use Rattle.std.specs.Prelude.{◌≡◌};
 ghost use Rattle.pm_words.specs.Layouts.{IsLayout};
-ghost use Rattle.node_ops.specs.Parts.{IsPartIn};
+ghost use Rattle.node_ops.specs.RunningSteps.{Sound};
 
 use super::*;
-use crate::tests::{Ask, FAR, ROW, Row, run, started, tell};
+use crate::tests::{Ask, FAR, ROW, Row, run, run_told, started};
 use call_stages::{Once, View};
 use cat_key::Name;
+use pm_words::Layout;
 use pm_words::offsets::node;
-use pm_words::{Layout, Machine, Turn};
 use std::process::Abort;
 use std::test::Fail;
 
 /// The part that begins with the name of this one letter.
-fn begun(rt: &impl Abort, layout: Layout, letter: u8, count: u64) -> Part
+fn begun(rt: &impl Abort, layout: Layout, letter: u8, count: u64) -> Running
     requires { IsLayout layout }
-    ensures { IsPartIn layout 1 result }
+    ensures { Sound layout 1 result }
 {
     let view = View {
         layout,
@@ -22,26 +21,7 @@ fn begun(rt: &impl Abort, layout: Layout, letter: u8, count: u64) -> Part
         caller: 0,
     };
     let name = Name::read(&[letter]).expect(rt, "a name");
-    Part::new(view, &name, count)
-}
-
-/// Runs a part to its answer.
-fn run_part(rt: &impl Abort, row: &mut Row, part: Part) -> Once<PartWords>
-    requires { IsPartIn row.old.layout 1 part }
-    ensures { row.new.layout ≡ row.old.layout }
-{
-    let mut turn = Turn::Go(part);
-    'turns: loop {
-        match turn {
-            Turn::Done(answer) => return answer,
-            Turn::Go(next) => {
-                let action = next.action();
-                let got = row.act(rt, action);
-                tell(rt, &row.layout, action, got);
-                turn = next.resume(got);
-            }
-        }
-    }
+    Running::Parting(Part::new(view, &name, count))
 }
 
 /// What a part tells, and in how many actions. Names have one letter.
@@ -71,9 +51,13 @@ fn number_of(letter: u8) -> u64 {
 fn see(rt: &impl Abort, row: &mut Row, place: u64, want: &Want) {
     row.begin();
     let part = begun(rt, row.layout, want.letter, want.count);
-    let Once::Done(told) = run_part(rt, row, part) else {
+    assert!(rt; part.count() == Some(want.count));
+    let (Some(told), Once::Done(placed)) = run_told(rt, row, part) else {
         panic!(rt; "no answer from {}", want.letter);
     };
+    assert_eq!(rt; placed.old, told.old);
+    assert_eq!(rt; placed.place, told.place);
+    assert_eq!(rt; placed.hops, told.hops);
     assert_eq!(rt; told.node, want.node);
     assert_eq!(rt; told.hops, want.node);
     assert_eq!(rt; told.version, row.twins(rt, told.node, node::VERSION).0);

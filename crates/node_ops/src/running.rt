@@ -4,6 +4,7 @@ ghost use Rattle.std.specs.Prelude.{◌≡◌, ℕ};
 
 use crate::del::Del;
 use crate::get::Get;
+use crate::part::{Part, PartWords};
 use crate::put::Put;
 use call_stages::{Once, Placed};
 use cat_history::{Change, NameOp};
@@ -15,6 +16,8 @@ pub enum Running {
     Getting(Get),
     Putting(Put),
     Deleting(Del),
+    /// A part of a range scan: to the law of the index a get of its low name.
+    Parting(Part),
 }
 
 impl Machine for Running {
@@ -37,6 +40,7 @@ impl Machine for Running {
             Running::Getting(get) => get.action(),
             Running::Putting(put) => put.action(),
             Running::Deleting(del) => del.action(),
+            Running::Parting(part) => part.action(),
         }
     }
 
@@ -50,11 +54,13 @@ impl Machine for Running {
 }
 
 impl Running {
-    ghost use Rattle.std.specs.Prelude.{◌≡◌};
+    ghost use Rattle.std.specs.Prelude.{◌≡◌, ◌↔◌, IsSome, IsTrue};
     ghost use Rattle.call_stages.specs.Stages.{counted, placed_in};
     ghost use Rattle.pm_words.specs.Turns.{GoesBelow};
     ghost use Rattle.split_merge.specs.Advances.{AdvancesTo};
+    ghost use Rattle.node_ops.specs.PartSteps.{part_left, part_takes, part_turned};
     ghost use Rattle.node_ops.specs.RunningSteps.{IsRunning, running_call, running_left, running_takes, running_turned};
+    ghost use Rattle.node_ops.specs.RunningSteps.{count_in, listed_in, wrapped_part};
     ghost use Rattle.node_ops.specs.CallStages.{stage_of};
     ghost use Rattle.node_ops.specs.Asked.{op_in};
 
@@ -68,6 +74,19 @@ impl Running {
             Running::Getting(get) => get.advance(got),
             Running::Putting(put) => put.advance(got),
             Running::Deleting(del) => del.advance(got),
+            Running::Parting(part) => Running::advance_part(part, got),
+        }
+    }
+
+    /// Tells it to a part, in a function of its own, so that no other turn clears the room of what a part tells.
+    fn advance_part(part: &mut Part, got: u64) -> Option<Once<Placed>>
+        requires { part_takes part.old got }
+        ensures turned { AdvancesTo (wrapped_part (part_turned part.old got)) (Running.Parting part.new) result }
+        ensures fewer { GoesBelow running_left (part_left part.old) (wrapped_part (part_turned part.old got)) }
+    {
+        match part.advance(got) {
+            None => None,
+            Some(answer) => Some(Part::placed(answer)),
         }
     }
 
@@ -79,6 +98,7 @@ impl Running {
             Running::Getting(get) => get.call(),
             Running::Putting(put) => put.call(),
             Running::Deleting(del) => del.call(),
+            Running::Parting(part) => part.call(),
         };
         call.limit
     }
@@ -94,6 +114,40 @@ impl Running {
             },
             Running::Putting(put) => put.op(),
             Running::Deleting(del) => del.op(),
+            Running::Parting(part) => NameOp::Get {
+                name: part.call().name(),
+            },
+        }
+    }
+
+    /// How many names it lists at most, if it is a part of a range scan.
+    pub fn count(&self) -> Option<u64>
+        ensures { result ≡ count_in self.now }
+    {
+        match self {
+            Running::Parting(part) => Some(part.count()),
+            _ => None,
+        }
+    }
+
+    /// What it tells, if it is a part of a range scan that gives its node back next.
+    pub fn listed(&self) -> Option<PartWords>
+        requires { IsRunning self.now }
+        ensures { result ≡ listed_in self.now }
+    {
+        match self {
+            Running::Parting(part) => part.listed(),
+            _ => None,
+        }
+    }
+
+    /// It is a part of a range scan that gives its node back next.
+    pub fn has_listed(&self) -> bool
+        ensures { IsTrue result ↔ IsSome (listed_in self.now) }
+    {
+        match self {
+            Running::Parting(part) => part.has_listed(),
+            _ => false,
         }
     }
 

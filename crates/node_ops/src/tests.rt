@@ -1,7 +1,9 @@
 ghost use Rattle.std.specs.Prelude.{◌≡◌, ℕ, IsTrue};
 ghost use Rattle.pm_words.specs.Layouts.{IsLayout};
 ghost use Rattle.call_stages.specs.Kinds.{Told, version_address};
-ghost use Rattle.node_ops.specs.RunningSteps.{IsRunning, Sound, running_leads};
+ghost use Rattle.pm_words.specs.Turns.{GoesBelow};
+ghost use Rattle.node_ops.specs.RunningSteps.{IsRunning, Sound, running_leads, running_left};
+ghost use Rattle.node_ops.specs.CallStages.{SoundAfter};
 
 use super::*;
 use call_stages::{Once, Placed, View};
@@ -231,24 +233,57 @@ fn see_next(rt: &impl Abort, call: &Running, got: u64)
     }
 }
 
+/// Makes a turn of a call.
+pub(crate) fn turned(rt: &impl Abort, row: &mut Row, call: Running) -> Turn<Running, Once<Placed>>
+    requires { Sound row.old.layout 1 call }
+    ensures layout { row.new.layout ≡ row.old.layout }
+    ensures sound { SoundAfter row.old.layout 1 result }
+    ensures fewer { GoesBelow running_left (running_left call) result }
+{
+    let action = call.action();
+    let got = row.act(rt, action);
+    tell(rt, &row.layout, action, got);
+    see_next(rt, &call, got);
+    call.resume(got)
+}
+
 /// Runs a call to its answer.
 pub(crate) fn run(rt: &impl Abort, row: &mut Row, call: Running) -> Once<Placed>
     requires { Sound row.old.layout 1 call }
     ensures { row.new.layout ≡ row.old.layout }
 {
+    run_told(rt, row, call).1
+}
+
+/// Runs a call to its answer, and tells with it what it lists before its last turn, if it is a part of a range scan.
+pub(crate) fn run_told(
+    rt: &impl Abort,
+    row: &mut Row,
+    call: Running,
+) -> (Option<PartWords>, Once<Placed>)
+    requires { Sound row.old.layout 1 call }
+    ensures { row.new.layout ≡ row.old.layout }
+{
+    let mut told = None;
     let mut turn = Turn::Go(call);
     'turns: loop {
         match turn {
-            Turn::Done(answer) => return answer,
+            Turn::Done(answer) => return (told, answer),
             Turn::Go(next) => {
-                let action = next.action();
-                let got = row.act(rt, action);
-                tell(rt, &row.layout, action, got);
-                see_next(rt, &next, got);
-                turn = next.resume(got);
+                told = listed(rt, &next);
+                turn = turned(rt, row, next);
             }
         }
     }
+}
+
+/// What a call lists, which it says beforehand.
+fn listed(rt: &impl Abort, call: &Running) -> Option<PartWords>
+    requires { IsRunning call.now }
+{
+    let told = call.listed();
+    assert!(rt; told.is_some() == call.has_listed());
+    told
 }
 
 /// What a caller asks. The names are of one letter.

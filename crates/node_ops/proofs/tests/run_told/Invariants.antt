@@ -1,7 +1,7 @@
 use Rattle.std.proofs.Common.{◌≡◌}
 use Rattle.node_ops.specs.CallStages.{SoundAfter}
 use Rattle.node_ops.proofs.Measures.{turn_left}
-use Rattle.node_ops.proofs.tests.run.Given as goal
+use Rattle.node_ops.proofs.tests.run_told.Given as goal
 
 abbrev pub invariant-turns : goal.invariant-turns
 invariant-turns g l = record { same : l.row.layout ≡ l.fn.row.layout; sound : SoundAfter l.fn.row.layout 1 l.turn }

@@ -1,0 +1,95 @@
+-- What a part lists as it gives its node back, and that its count stays.
+use Rattle.std.proofs.Common.{◌≡◌, ℕ, true, false, Option, Some, None, IsSome, refl, subst, ap}
+use Rattle.pm_words.specs.declared.machine.Turn.{Turn}
+use Rattle.pm_words.specs.declared.machine.Turn.TheVariants.{Go, Done}
+use Rattle.data_list.specs.declared.target.Next.{Next}
+use Rattle.call_stages.specs.declared.once.Once.{Once}
+use Rattle.call_stages.specs.declared.once.Once.TheVariants as once
+use Rattle.call_stages.specs.declared.once.Placed.{Placed}
+use Rattle.node_ops.specs.declared.call.Call.{Call}
+use Rattle.node_ops.specs.declared.lookup.Looked.{Looked}
+use Rattle.node_ops.specs.declared.lookup.Looked.TheVariants as looked
+use Rattle.node_ops.specs.declared.lookup.Lookup.{Lookup}
+use Rattle.node_ops.specs.declared.part.PartWords.{PartWords}
+use Rattle.node_ops.specs.declared.part.ReadingAt.TheVariants as at
+use Rattle.node_ops.specs.declared.part.Part.{Part}
+use Rattle.node_ops.specs.declared.part.Part.TheVariants as part
+use Rattle.node_ops.specs.declared.running.Running.{Running}
+use Rattle.node_ops.specs.declared.running.Running.TheVariants.{Getting, Putting, Deleting, Parting}
+use Rattle.node_ops.specs.LookupSteps.{lookup_turned}
+use Rattle.node_ops.specs.GetSteps.{get_turned}
+use Rattle.node_ops.specs.PutSteps.{put_turned}
+use Rattle.node_ops.specs.DelSteps.{del_turned}
+use Rattle.node_ops.specs.PartSteps.{part_turned, part_looked, early_of, listed_at, reading_turned, behind_of, words_placed}
+use Rattle.node_ops.specs.RunningSteps.{running_turned, wrapped, wrapped_part, count_in}
+use Rattle.node_ops.specs.Parts.{ListedIsTold, ListedIsAnswered, DoneIsListed, CountStays}
+
+pub listed_is_told : ListedIsTold
+listed_is_told (part.Looking lookup count behind) words is x = cc
+listed_is_told (part.Reading reading) words is x =
+    elim reading.at as (λ at. listed_at reading at ≡ Some words → reading_turned reading at x ≡ Done (once.Done words)) [
+      | at.Load slot word ↦ λ none. cc
+      | at.Unlock ↦ λ some. cc
+    ] is
+
+-- what its answer says of the whole call
+wrapped_told : (t : Turn Part (Once PartWords)) (words : PartWords) → t ≡ Done (once.Done words) →
+    wrapped_part t ≡ Done (once.Done (words_placed words))
+wrapped_told t words is = ap wrapped_part is
+
+pub listed_is_answered : ListedIsAnswered
+listed_is_answered (Getting get) words is x = absurd (cc)
+listed_is_answered (Putting put) words is x = absurd (cc)
+listed_is_answered (Deleting del) words is x = absurd (cc)
+listed_is_answered (Parting p) words is x = wrapped_told (part_turned p x) words (listed_is_told p words is x)
+
+-- a look-up that ends early isn't done
+looked_done : (call : Call) (count : ℕ) (behind : Option Next) (turn : Turn Lookup Looked) (placed : Placed) → wrapped_part (part_looked call count behind turn) ≡ Done (once.Done placed) → ⊥
+looked_done call count behind (Go lookup) placed is = cc
+looked_done call count behind (Done (looked.Early answer)) placed is = early answer is
+  where
+    early : (answer : Once Placed) → wrapped_part (Done (early_of answer)) ≡ Done (once.Done placed) → ⊥
+    early (once.Done other) is = cc
+    early (once.Spent clock) is = cc
+    early (once.Worn node word) is = cc
+    early (once.Again why) is = cc
+looked_done call count behind (Done (looked.Found found)) placed is = cc
+
+pub done_is_listed : DoneIsListed
+done_is_listed (Getting get) x placed counted is = absurd (let none : false ≡ true = counted in cc)
+done_is_listed (Putting put) x placed counted is = absurd (let none : false ≡ true = counted in cc)
+done_is_listed (Deleting del) x placed counted is = absurd (let none : false ≡ true = counted in cc)
+done_is_listed (Parting (part.Looking lookup count behind)) x placed counted is = absurd (looked_done lookup.call count (behind_of lookup.at behind) (lookup_turned lookup x) placed is)
+done_is_listed (Parting (part.Reading reading)) x placed counted is =
+    elim reading.at as (λ at. wrapped_part (reading_turned reading at x) ≡ Done (once.Done placed) → IsSome (listed_at reading at)) [
+      | at.Load slot word ↦ λ done. absurd (cc)
+      | at.Unlock ↦ λ done. refl
+    ] is
+
+-- how many names it lists at most after a turn, if it goes on
+abbrev CountAfter : Option ℕ → Turn Running (Once Placed) → Type 0
+CountAfter count (Go next) = count_in next ≡ count
+CountAfter count (Done answer) = Unit {0}
+
+-- what is no part stays none
+alone_stays : {M : Type 0} (wrap : M → Running) → ((machine : M) → count_in (wrap machine) ≡ None) → (turn : Turn M (Once Placed)) → CountAfter None (wrapped wrap turn)
+alone_stays wrap none (Go machine) = none machine
+alone_stays wrap none (Done answer) = tt
+
+looked_count : (call : Call) (count : ℕ) (behind : Option Next) (turn : Turn Lookup Looked) → CountAfter (Some count) (wrapped_part (part_looked call count behind turn))
+looked_count call count behind (Go lookup) = refl
+looked_count call count behind (Done (looked.Early answer)) = tt
+looked_count call count behind (Done (looked.Found found)) = refl
+
+counts_so : (running : Running) (x : ℕ) → CountAfter (count_in running) (running_turned running x)
+counts_so (Getting get) x = alone_stays (λ m. Getting m) (λ m. refl) (get_turned get x)
+counts_so (Putting put) x = alone_stays (λ m. Putting m) (λ m. refl) (put_turned put x)
+counts_so (Deleting del) x = alone_stays (λ m. Deleting m) (λ m. refl) (del_turned del x)
+counts_so (Parting (part.Looking lookup count behind)) x = looked_count lookup.call count (behind_of lookup.at behind) (lookup_turned lookup x)
+counts_so (Parting (part.Reading reading)) x = elim reading.at as (λ at. CountAfter (Some reading.count) (wrapped_part (reading_turned reading at x))) [
+  | at.Load slot word ↦ refl
+  | at.Unlock ↦ tt
+]
+
+pub count_stays : CountStays
+count_stays running next x goes = subst (CountAfter (count_in running)) goes (counts_so running x)
