@@ -48,8 +48,11 @@ use Rattle.data_list.proofs.WalkLaw.{walk_loose}
 use Rattle.node_ops.specs.declared.put.Put.{Put}
 use Rattle.node_ops.specs.declared.put.Put.TheVariants as put
 use Rattle.node_ops.specs.declared.del.Del.{Del}
+use Rattle.node_ops.specs.declared.part.Part.{Part}
+use Rattle.node_ops.specs.declared.part.Part.TheVariants as part
+use Rattle.node_ops.specs.declared.part.PartWords.{PartWords}
 use Rattle.node_ops.specs.declared.running.Running.{Running}
-use Rattle.node_ops.specs.declared.running.Running.TheVariants.{Getting, Putting, Deleting}
+use Rattle.node_ops.specs.declared.running.Running.TheVariants.{Getting, Putting, Deleting, Parting}
 use Rattle.node_ops.specs.Asked.{IsAbout, IsOf, IsOfAfter, name_asked}
 use Rattle.call_stages.specs.declared.view.View.{View}
 use Rattle.node_ops.specs.Calls.{new_call, name_in}
@@ -79,10 +82,13 @@ use Rattle.split_merge.specs.SplitStages.{led, split_footing, split_at_footing}
 use Rattle.split_merge.specs.OfSplits.{IsOfSplit}
 use Rattle.split_merge.proofs.OfSplits.{stages_are_of_splits}
 use Rattle.node_ops.specs.DelSteps.{IsDel, del_call, del_turned, del_merged}
-use Rattle.node_ops.specs.RunningSteps.{IsRunning, Sound, running_call, running_asks, running_turned, running_leads, wrapped}
+use Rattle.node_ops.specs.RunningSteps.{IsRunning, Sound, running_call, running_asks, running_turned, running_leads, wrapped, wrapped_part}
+use Rattle.node_ops.specs.PartSteps.{IsPart, part_call, part_turned, placed_turn}
 use Rattle.node_ops.specs.CallStages.{lookup_at_stage, del_stage, has_place, stage_of, stage_after, reply_of, SoundAfter, found_full}
 use Rattle.node_ops.proofs.CallLaw.{turns_are_steps, leads_are_taken}
-use Rattle.node_ops.proofs.CallSound.{Stays, get_stays, put_stays, del_stays, turns_stay_sound}
+use Rattle.node_ops.proofs.LookupSound.{Stays}
+use Rattle.node_ops.proofs.CallSound.{get_stays, put_stays, del_stays, turns_stay_sound}
+use Rattle.node_ops.proofs.PartSound.{part_stays}
 use Rattle.node_ops.proofs.OpLaw.{counts_own_change, holds_own_name, turns_keep_op}
 use Rattle.index_law.specs.Facts.{Facts, map_now, list_in}
 use Rattle.index_law.specs.Worlds.{Party, World, facts, stepped, started, moved_on, written}
@@ -102,7 +108,7 @@ use Rattle.lone_law.specs.Merging.{LeavesShape}
 use Rattle.lone_law.specs.MergeStands.{merge_leaves}
 use Rattle.lone_law.specs.Splitting.{AreEmpty, HasFree, LacksFree, HoldsAlone}
 use Rattle.lone_law.specs.Tries.{IsFor, IsHalvedSince, is_same, Trying, HasKeptOrMerged, Says, LeavesHistory}
-use Rattle.lone_law.specs.LoneCalls.{HasClaimed, IsPast, IsThere, Foresees, is_leaving, LoneCall, FindsFull, FindsWorn, IsLate, IsAnswered, AfterCall, LoneCallsGo, LoneCallsBegin}
+use Rattle.lone_law.specs.LoneCalls.{HasClaimed, IsPast, IsThere, Foresees, is_leaving, LoneCall, FindsFull, FindsWorn, IsLate, IsAnswered, AfterCall, LoneCallsGo, LoneCallsBegin, LonePartsBegin}
 use Rattle.lone_law.proofs.There.{rest_is_still}
 use Rattle.node_ops.specs.Endings.{limit_in, IsPutOp}
 use Rattle.lone_law.proofs.Foreseeing.{DelForeseesSo, EndsSo, del_foresees, del_ends}
@@ -122,12 +128,15 @@ of_name : (asked : NameOp) (machine : Running) → IsOf asked machine → name_i
 of_name (op.Get name) (Getting get) is = is
 of_name (op.Get name) (Putting put) is = absurd is
 of_name (op.Get name) (Deleting del) is = absurd is
+of_name (op.Get name) (Parting p) is = is
 of_name (op.Put name value) (Getting get) is = absurd is
 of_name (op.Put name value) (Putting put) is = is.0
 of_name (op.Put name value) (Deleting del) is = absurd is
+of_name (op.Put name value) (Parting p) is = absurd is
 of_name (op.Del name) (Getting get) is = absurd is
 of_name (op.Del name) (Putting put) is = absurd is
 of_name (op.Del name) (Deleting del) is = is.0
+of_name (op.Del name) (Parting p) is = absurd is
 
 -- its limit stays
 abbrev KeepsLimit : Option ℕ → Turn Running (Once Placed) → Type 0
@@ -144,6 +153,7 @@ limit_kept : (machine : Running) (x : ℕ) → IsRunning machine → Told (runni
 limit_kept (Getting m) x sound told leads = keeps_limit IsGet get_call (λ (k : Get). Getting k) (get_call m) (get_turned m x) (λ k. refl) (get_stays m x sound told)
 limit_kept (Putting m) x sound told leads = keeps_limit IsPut put_call (λ (k : Put). Putting k) (put_call m) (put_turned m x) (λ k. refl) (put_stays m x sound told leads)
 limit_kept (Deleting m) x sound told leads = keeps_limit IsDel del_call (λ (k : Del). Deleting k) (del_call m) (del_turned m x) (λ k. refl) (del_stays m x sound told leads)
+limit_kept (Parting m) x sound told leads = keeps_limit IsPart part_call (λ (k : Part). Parting k) (part_call m) (placed_turn (part_turned m x)) (λ k. refl) (part_stays m x sound told)
 
 -- a call that was refused for want of room held a full node
 record WasFull (l : Layout) (f : Facts) (since : ℕ) (name : List ℕ) : Type 0 where
@@ -298,6 +308,8 @@ parts_once (Deleting (del.Merging call hold old place merge)) x = on (merge_turn
         (leaves_after (wrapped Deleting (del_merged call hold old place turn))) (reply_of (wrapped Deleting (del_merged call hold old place turn)))
     on (Go next) so = record { parts = so.0; last = λ leaves one. absurd (so.1 leaves one) }
     on (Done merged) so = record { parts = λ two one. absurd one; last = λ leaves one e. cc }
+parts_once (Parting (part.Looking lookup count behind)) x = alone_parts _ _ _ _ (few_parts _ (looks_one lookup.call lookup.at))
+parts_once (Parting (part.Reading reading)) x = alone_parts _ _ _ _ (λ two. two)
 
 one_for : (name : List ℕ) (own : Option Change) (s : Stage) → HoldsFew s → IsFor name own s
 one_for name own Idle one = tt
@@ -333,6 +345,8 @@ machine_for w0 (op.Del name) (Deleting (del.Merging call hold old place merge)) 
     (record { named = of.0; deletes = refl; placed = λ e. cc; value = so.0.0; old = ap (λ (q : Option ℕ). Some q) so.0.1 })
 machine_for w0 (op.Get name) (Deleting (del.Merging call hold old place merge)) of so = absurd of
 machine_for w0 (op.Put name number) (Deleting (del.Merging call hold old place merge)) of so = absurd of
+machine_for w0 asked (Parting (part.Looking lookup count behind)) of so = one_for _ _ _ (looks_one lookup.call lookup.at)
+machine_for w0 asked (Parting (part.Reading reading)) of so = tt
 
 -- whether it could merge, as it is answered that it took place
 abbrev MergesEnd : World → NameOp → Stage → Type 0
@@ -353,6 +367,7 @@ IsNotPast (Done answer) = Unit {0}
 one_or_splits : (m : Running) → HasOne m ⊎ MayLackRoom m
 one_or_splits (Getting m) = inl tt
 one_or_splits (Deleting m) = inl tt
+one_or_splits (Parting m) = inl tt
 one_or_splits (Putting (put.Looking lookup value)) = inl tt
 one_or_splits (Putting (put.Filling fill)) = inl tt
 one_or_splits (Putting (put.Replacing call hold bitmap hit value)) = inl tt
@@ -368,6 +383,11 @@ not_past (Getting m) x one = of (get_turned m x)
 not_past (Deleting m) x one = of (del_turned m x)
   where
     of : (turn : Turn Del (Once Placed)) → IsNotPast (wrapped Deleting turn)
+    of (Go next) = λ past. past
+    of (Done answer) = tt
+not_past (Parting m) x one = of (part_turned m x)
+  where
+    of : (turn : Turn Part (Once PartWords)) → IsNotPast (wrapped_part turn)
     of (Go next) = λ past. past
     of (Done answer) = tt
 not_past (Putting (put.Looking lookup value)) x one = of (lookup_turned lookup x)
@@ -510,6 +530,7 @@ module _ (w0 : World) (i : ℕ) (asked : NameOp) (limit : Option ℕ) (w : World
       of : (m : Running) → Sound l g m → Sure l g (facts w) p.caller p.index p.since (stage_of m) → KnowsOwn l w.words m
       of (Getting m) is knows = tt
       of (Deleting m) is knows = tt
+      of (Parting m) is knows = tt
       of (Putting (put.Looking lookup value)) is knows = tt
       of (Putting (put.Filling fill)) is knows = tt
       of (Putting (put.Replacing call hold bitmap hit value)) is knows = tt
@@ -542,14 +563,18 @@ module _ (w0 : World) (i : ℕ) (asked : NameOp) (limit : Option ℕ) (w : World
       → (place ≢ None → w'.history ≡ w0.history ++ written p.caller p.index (change_of d)) → w'.history ≡ w0.history ++ written p.caller p.index (change_of d)
   wrote (op.Get name) (Getting m) is None needs before given = before refl ∙ sym (append-nil w0.history)
   wrote (op.Get name) (Getting m) is (Some place) needs before given = given (λ e. cc)
+  wrote (op.Get name) (Parting m) is None needs before given = before refl ∙ sym (append-nil w0.history)
+  wrote (op.Get name) (Parting m) is (Some place) needs before given = given (λ e. cc)
   wrote (op.Get name) (Putting m) is place needs before given = absurd is
   wrote (op.Get name) (Deleting m) is place needs before given = absurd is
   wrote (op.Put name value) (Getting m) is place needs before given = absurd is
   wrote (op.Put name value) (Putting m) is place needs before given = given needs
   wrote (op.Put name value) (Deleting m) is place needs before given = absurd is
+  wrote (op.Put name value) (Parting m) is place needs before given = absurd is
   wrote (op.Del name) (Getting m) is place needs before given = absurd is
   wrote (op.Del name) (Putting m) is place needs before given = absurd is
   wrote (op.Del name) (Deleting m) is place needs before given = given needs
+  wrote (op.Del name) (Parting m) is place needs before given = absurd is
 
   full : (d : NameOp) (m : Running) → IsOf d m → MayLackRoom m → IsAtRest w' → IsAbout (name_asked d) p.stage → IsLegal l g (facts w') p.caller p.index p.since p.stage (Some (once.Again again.NoFree))
       → w'.history ≡ w0.history → (facts w').list ≡ (facts w0).list → FindsFull w0 d
@@ -558,6 +583,7 @@ module _ (w0 : World) (i : ℕ) (asked : NameOp) (limit : Option ℕ) (w : World
       refused_was_full w0 w' name p.since was.node was.held rest rest' o.trying.layout list (λ k. after_all (o.trying.base k) (history k)) was.no_room was.about
   full (op.Get name) (Getting m) is may rest' about' legal history list = may
   full (op.Del name) (Deleting m) is may rest' about' legal history list = may
+  full d (Parting m) is may rest' about' legal history list = absurd may
   full (op.Get name) (Putting m) is may rest' about' legal history list = absurd is
   full (op.Get name) (Deleting m) is may rest' about' legal history list = absurd is
   full (op.Put name value) (Getting m) is may rest' about' legal history list = absurd is
@@ -585,6 +611,7 @@ module _ (w0 : World) (i : ℕ) (asked : NameOp) (limit : Option ℕ) (w : World
       (subst (λ (n : ℕ). Sure l n (facts w) p.caller p.index p.since (split_footing (found_full call hold bitmap) split).stage) (sym (ap (λ (v : View). v.generation) is.here.view ∙ is.generation)) knows))
   split_late (Getting m) is knows timely same splits late = splits
   split_late (Deleting m) is knows timely same splits late = splits
+  split_late (Parting m) is knows timely same splits late = splits
   split_late (Putting (put.Looking lookup value)) is knows timely same splits late = splits
   split_late (Putting (put.Filling fill)) is knows timely same splits late = splits
   split_late (Putting (put.Replacing call hold bitmap hit value)) is knows timely same splits late = splits
@@ -600,6 +627,7 @@ module _ (w0 : World) (i : ℕ) (asked : NameOp) (limit : Option ℕ) (w : World
   was_split (op.Put name value) (Putting m) is may cut = split_was_full w0 w' name rest o.trying.layout cut
   was_split (op.Get name) (Getting m) is may cut = may
   was_split (op.Del name) (Deleting m) is may cut = may
+  was_split d (Parting m) is may cut = absurd may
   was_split (op.Get name) (Putting m) is may cut = absurd is
   was_split (op.Get name) (Deleting m) is may cut = absurd is
   was_split (op.Put name value) (Getting m) is may cut = absurd is
@@ -639,6 +667,7 @@ module _ (w0 : World) (i : ℕ) (asked : NameOp) (limit : Option ℕ) (w : World
       unwrapped (Done answer) e = cc
   ends_so (op.Del name) (Getting m) placed is sound so legal needs done = absurd is
   ends_so (op.Del name) (Putting m) placed is sound so legal needs done = absurd is
+  ends_so (op.Del name) (Parting m) placed is sound so legal needs done = absurd is
 
   -- and what it leaves of the list
   leaves_shape : (d : NameOp) (s : Stage) → HasKeptOrMerged w0 w' (name_asked d) (change_of d) s → MergesEnd w0 d s → LeavesShape w0 d w'
@@ -716,6 +745,11 @@ module _ (w0 : World) (i : ℕ) (asked : NameOp) (limit : Option ℕ) (w : World
       of d (Putting m) is so locks sound stage heard trying goes = on (put_turned m x)
         where
           on : (turn : Turn Put (Once Placed)) → ForeseesTurn w0 d (wrapped Putting turn)
+          on (Go next) = tt
+          on (Done answer) = tt
+      of d (Parting m) is so locks sound stage heard trying goes = on (part_turned m x)
+        where
+          on : (turn : Turn Part (Once PartWords)) → ForeseesTurn w0 d (wrapped_part turn)
           on (Go next) = tt
           on (Done answer) = tt
       of (op.Del name) (Deleting m) is so locks sound stage heard trying goes = on (del_turned m x)
@@ -838,3 +872,28 @@ lone_calls_begin w0 i (op.Del name) limit p index view rest there is_view layout
   limited = refl;
   stands = (refl, on_way w0 i limit p index view name rest there is_view layout generation named most);
 }
+
+-- to the law a part is a get of its low name
+as_part : {w0 w : World} {i : ℕ} {asked : NameOp} {limit : Option ℕ} {p : Party} (lookup : Lookup) (count : ℕ) → LoneCall w0 i asked limit w p (Getting (get.Looking lookup))
+    → LoneCall w0 i asked limit w p (Parting (part.Looking lookup count None))
+as_part lookup count o = record {
+  trying = o.trying;
+  stage = o.stage;
+  sound = record { layout = o.sound.layout; generation = o.sound.generation; here = o.sound.here };
+  of = of_part _ o.of;
+  limited = o.limited;
+  stands = o.stands;
+  foresees = tt;
+  locks = o.locks;
+  empty = o.empty;
+  timely = λ past. absurd past;
+}
+  where
+    of_part : (asked : NameOp) → IsOf asked (Getting (get.Looking lookup)) → IsOf asked (Parting (part.Looking lookup count None))
+    of_part (op.Get name) is = is
+    of_part (op.Put name value) is = is
+    of_part (op.Del name) is = is
+
+pub lone_parts_begin : LonePartsBegin
+lone_parts_begin w0 i low count p index view rest there is_view layout generation named empty =
+    as_part (starts (new_call view low None)) count (lone_calls_begin w0 i (op.Get low) None p index view rest there is_view layout generation named tt tt empty)

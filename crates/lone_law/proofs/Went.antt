@@ -31,8 +31,15 @@ use Rattle.node_ops.specs.declared.put.Put.{Put}
 use Rattle.node_ops.specs.declared.put.Put.TheVariants as put
 use Rattle.node_ops.specs.declared.del.Del.{Del}
 use Rattle.node_ops.specs.declared.del.Del.TheVariants as del
+use Rattle.node_ops.specs.declared.part.Part.{Part}
+use Rattle.node_ops.specs.declared.part.Part.TheVariants as part
+use Rattle.node_ops.specs.declared.part.PartWords.{PartWords}
+use Rattle.node_ops.specs.declared.part.Reading.{Reading}
+use Rattle.node_ops.specs.declared.part.ReadingAt.{ReadingAt}
+use Rattle.node_ops.specs.declared.part.ReadingAt.TheVariants as reading_at
+use Rattle.data_list.specs.declared.target.Next.{Next}
 use Rattle.node_ops.specs.declared.running.Running.{Running}
-use Rattle.node_ops.specs.declared.running.Running.TheVariants.{Getting, Putting, Deleting}
+use Rattle.node_ops.specs.declared.running.Running.TheVariants.{Getting, Putting, Deleting, Parting}
 use Rattle.node_ops.specs.LookupSteps.{lookup_turned, lookup_asks}
 use Rattle.pm_words.specs.Fences.{fence_next}
 use Rattle.node_ops.specs.FinishSteps.{finish_turned, finish_at_turned, finish_fenced}
@@ -40,7 +47,8 @@ use Rattle.node_ops.specs.FillSteps.{fill_turned, fill_at_turned, slot_fenced, p
 use Rattle.node_ops.specs.GetSteps.{IsGet, get_call, get_asks, get_turned}
 use Rattle.node_ops.specs.PutSteps.{IsPut, put_call, put_asks, put_turned, put_looked, put_into, put_full, put_filled, put_finished, put_split, IsSplitting}
 use Rattle.node_ops.specs.DelSteps.{IsDel, IsTakeOf, names_left, del_call, del_asks, del_turned, del_looked, del_slot, del_hit, saw_next, del_taken, goes_on, merges_at, del_finished, del_merged}
-use Rattle.node_ops.specs.RunningSteps.{IsRunning, running_call, running_asks, running_turned, wrapped}
+use Rattle.node_ops.specs.RunningSteps.{IsRunning, running_call, running_asks, running_turned, wrapped, wrapped_part}
+use Rattle.node_ops.specs.PartSteps.{IsPart, part_call, part_asks, part_turned, part_looked, reading_turned, behind_of}
 use Rattle.node_ops.specs.CallStages.{stage_of, get_stage, put_stage, del_stage, has_place}
 use Rattle.node_ops.specs.Endings.{limit_in}
 use Rattle.node_ops.proofs.MergeFacts.{merging_stage, merge_placed, merge_limited}
@@ -70,7 +78,7 @@ use Rattle.split_merge.specs.Splits.{split_asks, split_turned}
 use Rattle.pm_words.specs.declared.again.Again.{Again}
 use Rattle.node_ops.specs.declared.lookup.Hold.{Hold}
 use Rattle.node_ops.specs.Calls.{name_in, call_address}
-use Rattle.lone_law.specs.LoneCalls.{GetIsThere, PutIsThere, DelIsThere, IsThere}
+use Rattle.lone_law.specs.LoneCalls.{GetIsThere, PutIsThere, DelIsThere, PartIsThere, IsThere}
 use Rattle.lone_law.proofs.There.{looks_come_there, loaded_unmoved}
 use Rattle.node_ops.specs.declared.get.Get.TheVariants as get
 use Rattle.node_ops.specs.GetSteps.{get_looked}
@@ -244,11 +252,12 @@ module _ (l : Layout) (g : ℕ) (words0 words : List ℕ) (R : Type 0) where
   del_merged_went call hold old place limit number stands given below (Go merge) = stands
   del_merged_went call hold old place limit number stands given below (Done merged) = (stands, refl, given, below)
 
--- a get needs no place
+-- a get and a part need no place
 abbrev pub NeedsPlace : Running → Option ℕ → Type 0
 NeedsPlace (Getting machine) place = Unit {0}
 NeedsPlace (Putting machine) place = IsGiven place
 NeedsPlace (Deleting machine) place = IsGiven place
+NeedsPlace (Parting machine) place = Unit {0}
 
 -- only a put that splits may find no room
 abbrev pub IsSplittingPut : Put → Type 0
@@ -259,6 +268,7 @@ abbrev pub MayLackRoom : Running → Type 0
 MayLackRoom (Getting machine) = ⊥
 MayLackRoom (Putting machine) = IsSplittingPut machine
 MayLackRoom (Deleting machine) = ⊥
+MayLackRoom (Parting machine) = ⊥
 
 abbrev pub Went : Layout → ℕ → List ℕ → List ℕ → Running → Turn Running (Once Placed) → Type 0
 Went l g words0 words machine (Go next) = IsThere l words0 words next
@@ -358,6 +368,31 @@ del_went (del.Merging call hold old place merge) words0 words x sound still empt
     del_merged_went _ _ words0 _ ⊥ call hold old (placed_in stage) (limit_in stage) place stands (λ none. let no : Some place ≡ None = sym placed ∙ none in cc)
     (merge_limited (has_place call old place) stage of) (merge_turned merge x)
 
+-- where a part is after a turn
+abbrev PartWent : Layout → ℕ → List ℕ → List ℕ → Part → Turn Part (Once PartWords) → Type 0
+PartWent l g words0 words machine turn = Went l g words0 words (Parting machine) (wrapped_part turn)
+
+part_looked_went : (l : Layout) (g : ℕ) (words0 words : List ℕ) (lookup : Lookup) (count : ℕ) (before behind : Option Next) (turn : Turn Lookup Looked) → LookedStands l g words0 words lookup.call turn
+    → PartWent l g words0 words (part.Looking lookup count before) (part_looked lookup.call count behind turn)
+part_looked_went l g words0 words lookup count before behind (Go next) is = is
+part_looked_went l g words0 words lookup count before behind (Done (looked.Early (once.Done placed))) is = absurd is
+part_looked_went l g words0 words lookup count before behind (Done (looked.Early (once.Worn node word))) is = is
+part_looked_went l g words0 words lookup count before behind (Done (looked.Early (once.Spent clock))) is = is
+part_looked_went l g words0 words lookup count before behind (Done (looked.Early (once.Again why))) is = absurd is
+part_looked_went l g words0 words lookup count before behind (Done (looked.Found found)) is = is.0
+
+reading_went : (l : Layout) (g : ℕ) (words0 words : List ℕ) (reading : Reading) (x : ℕ) → IsAtNode l words0 reading.call → (at : ReadingAt) → PartWent l g words0 words (part.Reading reading) (reading_turned reading at x)
+reading_went l g words0 words reading x stands (reading_at.Load slot word) = stands
+reading_went l g words0 words reading x stands reading_at.Unlock = (stands, refl, tt, refl)
+
+part_went : (machine : Part) (words0 words : List ℕ) (x : ℕ) → IsPart machine
+    → IsQuietList (part_call machine).view.layout (part_call machine).view.generation (nodes_in (part_call machine).view.layout words0)
+    → PartIsThere (part_call machine).view.layout words0 words machine → x ≡ got (part_call machine).view.layout words (part_asks machine)
+    → PartWent (part_call machine).view.layout (part_call machine).view.generation words0 (acted (part_call machine).view.layout words (part_asks machine)) machine (part_turned machine x)
+part_went (part.Looking lookup count behind) words0 words x sound still stands told =
+    part_looked_went _ _ words0 _ lookup count behind (behind_of lookup.at behind) (lookup_turned lookup x) (looks_come_there lookup words0 words x sound still stands told)
+part_went (part.Reading reading) words0 words x sound still stands told = reading_went _ _ words0 _ reading x stands reading.at
+
 pub machine_went : (machine : Running) (words0 words : List ℕ) (x : ℕ) → IsRunning machine
     → IsQuietList (running_call machine).view.layout (running_call machine).view.generation (nodes_in (running_call machine).view.layout words0)
     → AreEmpty (running_call machine).view.layout words0 → Told (running_call machine).view.layout (running_call machine).view.generation (running_asks machine) x
@@ -389,3 +424,4 @@ machine_went (Deleting machine) words0 words x sound still empty tells mine stan
         → Went (del_call machine).view.layout (del_call machine).view.generation words0 (acted (del_call machine).view.layout words (del_asks machine)) (Deleting machine) (wrapped Deleting turn)
     at (Go next) is = is
     at (Done answer) is = is
+machine_went (Parting machine) words0 words x sound still empty tells mine stands told = part_went machine words0 words x sound still stands told

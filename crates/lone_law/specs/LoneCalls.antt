@@ -35,8 +35,10 @@ use Rattle.node_ops.specs.declared.put.Put.{Put}
 use Rattle.node_ops.specs.declared.put.Put.TheVariants as put
 use Rattle.node_ops.specs.declared.del.Del.{Del}
 use Rattle.node_ops.specs.declared.del.Del.TheVariants as del
+use Rattle.node_ops.specs.declared.part.Part.{Part}
+use Rattle.node_ops.specs.declared.part.Part.TheVariants as part
 use Rattle.node_ops.specs.declared.running.Running.{Running}
-use Rattle.node_ops.specs.declared.running.Running.TheVariants.{Getting, Putting, Deleting}
+use Rattle.node_ops.specs.declared.running.Running.TheVariants.{Getting, Putting, Deleting, Parting}
 use Rattle.node_ops.specs.Asked.{IsOf, name_asked}
 use Rattle.node_ops.specs.LookupSteps.{starts, is_spent}
 use Rattle.node_ops.specs.RunningSteps.{Sound, running_call, running_asks, running_turned}
@@ -78,10 +80,16 @@ DelIsThere l words0 words (del.Clearing call hold bitmap hit line) = IsAtNode l 
 DelIsThere l words0 words (del.Finishing finish line) = IsAtNode l words0 finish.call
 DelIsThere l words0 words (del.Merging call hold old place merge) = IsAtNode l words0 call
 
+-- A part of a range scan stands where a get of its low name does.
+abbrev pub PartIsThere : Layout → List ℕ → List ℕ → Part → Type 0
+PartIsThere l words0 words (part.Looking lookup count behind) = LookupStands l words0 words lookup.call lookup.at
+PartIsThere l words0 words (part.Reading reading) = IsAtNode l words0 reading.call
+
 abbrev pub IsThere : Layout → List ℕ → List ℕ → Running → Type 0
 IsThere l words0 words (Getting machine) = GetIsThere l words0 words machine
 IsThere l words0 words (Putting machine) = PutIsThere l words0 words machine
 IsThere l words0 words (Deleting machine) = DelIsThere l words0 words machine
+IsThere l words0 words (Parting machine) = PartIsThere l words0 words machine
 
 -- It is a put that splits, and has claimed a node.
 abbrev pub HasClaimed : SplitAt → Type 0
@@ -118,6 +126,7 @@ abbrev pub Foresees : World → NameOp → Running → Type 0
 Foresees w asked (Getting machine) = Unit {0}
 Foresees w asked (Putting machine) = Unit {0}
 Foresees w asked (Deleting machine) = DelForesees w (name_asked asked) machine
+Foresees w asked (Parting machine) = Unit {0}
 
 -- It merges two nodes, and holds both or has nothing more to do than to give its own back.
 abbrev pub del_leaves : Del → Bool
@@ -128,6 +137,7 @@ abbrev pub is_leaving : Running → Bool
 is_leaving (Getting machine) = false
 is_leaving (Putting machine) = false
 is_leaving (Deleting machine) = del_leaves machine
+is_leaving (Parting machine) = false
 
 -- A call of this op and limit is in flight, as the index was w0 when it began, and no other.
 pub record LoneCall (w0 : World) (i : ℕ) (asked : NameOp) (limit : Option ℕ) (w : World) (p : Party)
@@ -203,15 +213,23 @@ ValueFits (op.Get name) = Unit {0}
 ValueFits (op.Put name value) = value < 2 ^ 64
 ValueFits (op.Del name) = Unit {0}
 
+-- The party of a call as it begins.
+abbrev pub begun_party : World → Party → ℕ → Party
+begun_party w0 p index = record { caller = p.caller; index = index; since = length w0.history; stage = Idle }
+
 -- A call of a party of an index in which nothing is in flight, as it begins.
 abbrev pub LoneCallsBegin : Type 0
 LoneCallsBegin = (w0 : World) (i : ℕ) (asked : NameOp) (limit : Option ℕ) (p : Party) (index : ℕ) (view : View) →
     IsAtRest w0 → get_elem? w0.parties i ≡ some p →
     IsView view → view.layout ≡ w0.layout → view.generation ≡ w0.generation → IsName (name_asked asked) →
     IfSome limit (λ most. most ≤ 2 ^ 62) → ValueFits asked → AreEmpty w0.layout w0.words →
-    LoneCall w0 i asked limit (started w0 i p index) (record {
-      caller = p.caller;
-      index = index;
-      since = length w0.history;
-      stage = Idle;
-    }) (machine_for asked view limit)
+    LoneCall w0 i asked limit (started w0 i p index) (begun_party w0 p index) (machine_for asked view limit)
+
+-- So does a part of a range scan, which is a call of a get of its low name.
+abbrev pub LonePartsBegin : Type 0
+LonePartsBegin = (w0 : World) (i : ℕ) (low : List ℕ) (count : ℕ) (p : Party) (index : ℕ) (view : View) →
+    IsAtRest w0 → get_elem? w0.parties i ≡ some p →
+    IsView view → view.layout ≡ w0.layout → view.generation ≡ w0.generation → IsName low →
+    AreEmpty w0.layout w0.words →
+    LoneCall w0 i (op.Get low) None (started w0 i p index) (begun_party w0 p index)
+    (Parting (part.Looking (starts (new_call view low None)) count None))

@@ -30,12 +30,14 @@ pub fn rooms()
     ensures first { FullIsFirst }
 {}
 
-ghost use Rattle.lone_law.specs.LoneCalls.{LoneCallsBegin, LoneCallsGo};
+ghost use Rattle.lone_law.specs.LoneCalls.{LoneCallsBegin, LonePartsBegin, LoneCallsGo};
 ghost use Rattle.lone_law.specs.Locks.{LocksGo, FewestLose, WornHasNone};
 
-/// Each turn of a lone call, whatever its op, and how it is answered.
+/// Each turn of a lone call, whatever its op, and how it is answered. To this law a part of a range scan is a get of its
+/// low name.
 pub fn lone_calls()
     ensures begins { LoneCallsBegin }
+    ensures parts_begin { LonePartsBegin }
     ensures goes { LoneCallsGo }
 {}
 
