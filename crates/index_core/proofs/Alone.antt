@@ -5,12 +5,14 @@ use Rattle.std.proofs.lemmas.Bool.{leb-true, le-leb, cases_lt}
 use Rattle.std.proofs.lemmas.List.{append-nil}
 use mathlib.Core.Option.{some, some-injective}
 use lib.ListN.{get_elem?}
+use Rattle.pm_words.specs.declared.again.Again.{Again}
 use Rattle.pm_words.specs.declared.again.Again.TheVariants as again
 use Rattle.cat_key.specs.Names.{IsName}
 use Rattle.version_lock.specs.Versions.{IsWorn, is_worn_word}
 use Rattle.version_lock.proofs.WordTests.{worn_word, fresh_word}
 use Rattle.cat_history.specs.Maps.{Map, at, map_of}
 use Rattle.cat_history.specs.Writes.{after_all}
+use Rattle.cat_history.specs.declared.op.NameOp.TheVariants as op
 use Rattle.data_node.specs.Lists.{ListNode, target_from, key_of}
 use Rattle.data_node.proofs.RangeNames.{range_names}
 use Rattle.data_node.proofs.ListLemmas.{target_in}
@@ -19,7 +21,9 @@ use Rattle.call_stages.specs.declared.once.Once.{Once}
 use Rattle.call_stages.specs.declared.once.Once.TheVariants as once
 use Rattle.call_stages.specs.declared.once.Placed.{Placed}
 use Rattle.node_ops.specs.Asked.{name_asked}
+use Rattle.node_ops.specs.declared.part.PartWords.{PartWords}
 use Rattle.node_ops.specs.LookupSteps.{is_spent}
+use Rattle.node_ops.specs.PartSteps.{IsEarly, early_of, words_placed}
 use Rattle.index_law.specs.Facts.{range_of}
 use Rattle.index_law.specs.Worlds.{World, facts}
 use Rattle.index_law.specs.Laws.{IsAtRest}
@@ -39,14 +43,15 @@ use Rattle.lone_law.proofs.Shapes.{room_is_no_split, cut_is_split}
 use Rattle.index_core.specs.declared.party.PartyState.{PartyState}
 use Rattle.index_core.specs.declared.party.CoreCall.{CoreCall}
 use Rattle.index_core.specs.declared.party.CoreCall.TheVariants as call
-use Rattle.index_core.specs.declared.party.Whole.{Whole}
 use Rattle.index_core.specs.declared.party.Whole.TheVariants as whole
-use Rattle.index_core.specs.CoreCalls.{op_of, limit_of}
+use Rattle.index_core.specs.CoreCalls.{op_of, limit_of, count_of}
 use Rattle.index_core.specs.PartyStates.{party_of, state_counted}
 use Rattle.index_core.specs.Indexes.{Index, world, map_of_index, IsIndex}
-use Rattle.index_core.specs.Lone.{IsQuiet, FindsNoRoom, HasSameList, SplitsFor, SplitsNothing, MergesFor, MergesNothing, LeavesList, LeavesMost, TakesLocks, LoseAtMost, TakesEachLock, names_beside, locks_left, IsWholeAnswer, TriesAlone, RunsAlone, CountsCall, alone_writes, needs_split, whole_of, state_tried, state_done}
-use Rattle.index_core.specs.Weights.{weight_of, added_by, added_whole}
+use Rattle.index_core.specs.Lone.{IsQuiet, FindsNoRoom, HasSameList, SplitsFor, SplitsNothing, MergesFor, MergesNothing, LeavesList, LeavesMost, TakesLocks, LoseAtMost, TakesEachLock, names_beside, locks_left, IsWholeAnswer, TriesAlone, RunsAlone, CountsCall, alone_writes, needs_split, node_for, part_whole, whole_of, state_tried, state_done}
+use Rattle.index_core.specs.Weights.{weight_of, added_by, added_if, added_whole}
+use Rattle.index_core.specs.Listings.{IsPartAt}
 use Rattle.index_core.proofs.Lists.{set_twice}
+use Rattle.index_core.proofs.PartsAlone.{whole_part}
 use Rattle.index_core.proofs.Quiet.{rests}
 
 -- to the node of a name belong as many names of the map as the node has
@@ -58,13 +63,11 @@ target_has s rest name =
 
 no_room_is : (s : Index) (c : CoreCall) → IsAtRest (world s) → FindsFull (world s) (op_of c) → LacksFree s.layout s.generation s.words → FindsNoRoom c s
 no_room_is s (call.Put name value limit) rest full lacks = (full.0, sym (target_has s rest name) ∙ full.1, lacks)
-no_room_is s (call.Get name) rest full lacks = full
-no_room_is s (call.Del name limit) rest full lacks = full
+no_room_is s c rest full lacks = absurd full
 
 no_room_was : (s : Index) (c : CoreCall) → IsAtRest (world s) → FindsNoRoom c s → FindsFull (world s) (op_of c)
 no_room_was s (call.Put name value limit) rest none = (none.0, target_has s rest name ∙ none.1)
-no_room_was s (call.Get name) rest none = none
-no_room_was s (call.Del name limit) rest none = none
+no_room_was s c rest none = absurd none
 
 -- a call is late where its limit is reached
 late_is : (o : Option ℕ) (n : ℕ) → IsTrue (is_spent o n) → IsSomeAnd o (λ limit. limit ≤ n)
@@ -106,41 +109,39 @@ counted_runs s0 s i c answer ran states are = record {
   state = ran.state;
   there = ran.there;
   named = ran.named;
-  answer = same_cause (whole_of answer) ran.cause;
+  answer = same_cause answer ran.cause;
   history = ran.history;
   states = are;
   layout = ran.layout;
   generation = ran.generation;
   base = ran.base;
-  list = same_list (whole_of answer) ran.list;
+  list = same_list answer ran.list;
   most = same_most ran.most;
   weighs = ran.weighs;
 }
   where
     same_split : (c : CoreCall) → SplitsFor c s0 s → SplitsFor c s0 (record s { states = states })
     same_split (call.Put name value limit) cut = cut
-    same_split (call.Get name) cut = cut
-    same_split (call.Del name limit) cut = cut
+    same_split c cut = absurd cut
 
     same_merge : (c : CoreCall) → MergesFor c s0 s → MergesFor c s0 (record s { states = states })
     same_merge (call.Del name limit) merge = merge
-    same_merge (call.Put name value limit) merge = merge
-    same_merge (call.Get name) merge = merge
+    same_merge c merge = absurd merge
 
     same_most : LeavesMost c s0 s → LeavesMost c s0 (record s { states = states })
     same_most = ⊎_elim (λ same. inl same) (λ (merge : MergesFor c s0 s). inr (same_merge c merge))
 
-    same_cause : (r : Whole) → IsWholeAnswer s0 c s r → IsWholeAnswer s0 c (record s { states = states }) r
-    same_cause (whole.Worn node word) cause = ⊎_elim (λ first. inl first) (λ (second : SplitsFor c s0 s × (locks_left s0 ≤ 1) × (node ≡ target_node (world s) (name_asked (op_of c))) × IsWorn word s0.generation). inr (same_split c second.0, second.1, second.2, second.3)) cause
-    same_cause (whole.Spent clock) cause = cause
-    same_cause whole.Full cause = cause
-    same_cause (whole.Placed placed) cause = cause
+    same_cause : (r : Once Placed) → IsWholeAnswer s0 c s (whole_of r) → IsWholeAnswer s0 c (record s { states = states }) (whole_of r)
+    same_cause (once.Worn node word) cause = ⊎_elim (λ first. inl first) (λ (second : SplitsFor c s0 s × (locks_left s0 ≤ 1) × (node ≡ target_node (world s) (name_asked (op_of c))) × IsWorn word s0.generation). inr (same_split c second.0, second.1, second.2, second.3)) cause
+    same_cause (once.Spent clock) cause = cause
+    same_cause (once.Again why) cause = cause
+    same_cause (once.Done placed) cause = cause
 
-    same_list : (r : Whole) → LeavesList c r s0 s → LeavesList c r s0 (record s { states = states })
-    same_list (whole.Worn node word) list = list
-    same_list (whole.Spent clock) list = list
-    same_list whole.Full list = list
-    same_list (whole.Placed placed) list =
+    same_list : (r : Once Placed) → LeavesList c (whole_of r) s0 s → LeavesList c (whole_of r) s0 (record s { states = states })
+    same_list (once.Worn node word) list = list
+    same_list (once.Spent clock) list = list
+    same_list (once.Again why) list = list
+    same_list (once.Done placed) list =
         ⊎_elim
         (λ (same : HasSameList s0 s × SplitsNothing c s0 × MergesNothing c s0). inl same)
         (λ (changed : SplitsFor c s0 s ⊎ MergesFor c s0 s). inr (⊎_elim (λ (cut : SplitsFor c s0 s). inl (same_split c cut)) (λ (merge : MergesFor c s0 s). inr (same_merge c merge)) changed))
@@ -149,13 +150,11 @@ counted_runs s0 s i c answer ran states are = record {
 -- the same of an index that differs in the states of its parties alone
 other_states : (c : CoreCall) (s0 s : Index) (states : List PartyState) → TakesLocks c s0 s → TakesLocks c s0 (record s { states = states })
 other_states (call.Put name value limit) s0 s states locks = locks
-other_states (call.Get name) s0 s states locks = locks
-other_states (call.Del name limit) s0 s states locks = locks
+other_states c s0 s states locks = locks
 
 other_each : (c : CoreCall) (s0 s : Index) (states : List PartyState) → TakesEachLock c s0 s → TakesEachLock c s0 (record s { states = states })
 other_each (call.Put name value limit) s0 s states each = each
-other_each (call.Get name) s0 s states each = each
-other_each (call.Del name limit) s0 s states each = each
+other_each c s0 s states each = each
 
 -- a try counts the call unless it was turned back
 try_counts : (answer : Once Placed) (state : PartyState) (since : ℕ) → (whole_of answer ≡ whole.Full → ⊥) → state_tried state since answer ≡ state_done state since
@@ -170,6 +169,12 @@ full_counts (once.Done placed) state since full = absurd cc
 full_counts (once.Spent clock) state since full = absurd cc
 full_counts (once.Worn node word) state since full = absurd cc
 full_counts (once.Again why) state since full = refl
+
+pub full_again : (answer : Once Placed) → whole_of answer ≡ whole.Full → (why : Again) × (answer ≡ once.Again why)
+full_again (once.Done placed) full = absurd cc
+full_again (once.Spent clock) full = absurd cc
+full_again (once.Worn node word) full = absurd cc
+full_again (once.Again why) full = (why, refl)
 
 pub ran_runs : (s0 s : Index) (i : ℕ) (c : CoreCall) (answer : Once Placed) → Ran s0 s i c answer → (whole_of answer ≡ whole.Full → ⊥) → RunsAlone s0 i c s (whole_of answer)
 ran_runs s0 s i c answer ran other = counted_runs s0 s i c answer ran s.states (ran.states ∙ ap (slice_set s0.states i) (try_counts answer ran.state (length s0.history) other))
@@ -211,8 +216,6 @@ record Ends (s0 s : Index) (i index : ℕ) (c : CoreCall) (r : Once Placed) : Ty
 
 -- a call that finds nothing to merge is no delete that merges by the shape, or the next node is worn
 merges_nothing : (s : Index) (c : CoreCall) → (FindsMerge (world s) (op_of c) → ⊥) → MergesNothing c s
-merges_nothing s (call.Put name value limit) none = tt
-merges_nothing s (call.Get name) none = tt
 merges_nothing s (call.Del name limit) none =
     let word = (facts (world s)).version (next_node (world s) name) in
     elim (merges s.layout.slots (map_of_index s) (anchors_in (world s)) name)
@@ -224,12 +227,24 @@ merges_nothing s (call.Del name limit) none =
             | false ↦ λ unworn. absurd (none (shape, fresh_word word s.generation unworn))
           ] refl
     ] refl
+merges_nothing s c none = tt
 
 -- the shape that a call leaves which took place
 record Leaves (s0 s : Index) (c : CoreCall) : Type 0 where
   list : (HasSameList s0 s × SplitsNothing c s0 × MergesNothing c s0) ⊎ (SplitsFor c s0 s ⊎ MergesFor c s0 s)
   most : LeavesMost c s0 s
   position : position_from (facts (world s0)).list (key_of (name_asked (op_of c))) ≡ position_from (facts (world s)).list (key_of (name_asked (op_of c)))
+
+-- A call that took place is one on a name, and no part of a scan, which lists names besides.
+abbrev IsOnName : CoreCall → Once Placed → Type 0
+IsOnName c (once.Done placed) = count_of c ≡ None
+IsOnName c _ = Unit {0}
+
+on_name : (c : CoreCall) (r : Once Placed) → count_of c ≡ None → IsOnName c r
+on_name c (once.Done placed) none = none
+on_name c (once.Spent clock) none = tt
+on_name c (once.Worn node word) none = tt
+on_name c (once.Again why) none = tt
 
 -- a try that didn't split is the whole call
 module _ (s0 s : Index) (i : ℕ) (c : CoreCall) (is0 : IsIndex s0) (quiet0 : IsQuiet s0) (answer : Once Placed) (t : TriesAlone s0 i c s answer)
@@ -242,15 +257,13 @@ module _ (s0 s : Index) (i : ℕ) (c : CoreCall) (is0 : IsIndex s0) (quiet0 : Is
   splits_nothing (call.Put name value limit) named not_full =
       (room_is_no_split (world s0) name rest0 named
       (has_room (at (map_of_index s0) name) (target_names (world s0) name) s0.layout.slots (names_most s0.layout.slots (range_of s0.layout (facts (world s0)) (target_node (world s0) name)) ((facts (world s0)).now (target_node (world s0) name))) not_full)).0
-  splits_nothing (call.Get name) named not_full = tt
-  splits_nothing (call.Del name limit) named not_full = tt
+  splits_nothing c named not_full = tt
 
   merged : (c : CoreCall) → FindsMerge (world s0) (op_of c) → IsMergedSince (name_asked (op_of c)) (world s0) (world s) → Leaves s0 s c
-  merged (call.Put name value limit) finds since = absurd finds
-  merged (call.Get name) finds since = absurd finds
   merged (call.Del name limit) finds since =
       let merge : MergesFor (call.Del name limit) s0 s = (finds, since.anchors, since.most) in
       record { list = inr (inr merge); most = inr merge; position = sym (merge_keeps_hops (world s0) (world s) name rest0 since) }
+  merged c finds since = absurd finds
 
   leaves : IsName (name_asked (op_of c)) → (FindsFull (world s0) (op_of c) → ⊥) → LeavesShape (world s0) (op_of c) (world s) → Leaves s0 s c
   leaves named not_full = ⊎_elim
@@ -261,36 +274,37 @@ module _ (s0 s : Index) (i : ℕ) (c : CoreCall) (is0 : IsIndex s0) (quiet0 : Is
       })
       (λ (since : FindsMerge (world s0) (op_of c) × IsMergedSince (name_asked (op_of c)) (world s0) (world s)). merged c since.0 since.1)
 
-  ends : (r : Once Placed) → needs_split r ≡ false → IsAnswered (world s0) (op_of c) (limit_of c) (world s) (party_of t.state) r → Ends s0 s i t.state.index c r
-  ends (once.Worn node word) one (worn, node_is, word_is, same, kept) = record {
+  ends : (r : Once Placed) → needs_split r ≡ false → IsOnName c r → IsAnswered (world s0) (op_of c) (limit_of c) (world s) (party_of t.state) r → Ends s0 s i t.state.index c r
+  ends (once.Worn node word) one on_name (worn, node_is, word_is, same, kept) = record {
     cause = inl (worn, node_is, word_is, kept.0);
     history = same ∙ sym (append-nil s0.history);
     list = tt;
     most = inl kept.1;
   }
-  ends (once.Spent clock) one (unworn, late, clock_is, same, kept) = record {
+  ends (once.Spent clock) one on_name (unworn, late, clock_is, same, kept) = record {
     cause = (unworn, late_is (limit_of c) (length s0.history) late, clock_is);
     history = same ∙ sym (append-nil s0.history);
     list = kept.0;
     most = inl kept.1;
   }
-  ends (once.Again again.NoFree) one (unworn, below, full, lacks, same, kept) = record {
+  ends (once.Again again.NoFree) one on_name (unworn, below, full, lacks, same, kept) = record {
     cause = (unworn, (λ over. below (late_was (limit_of c) (length s0.history) over)), no_room_is s0 c rest0 full lacks);
     history = same ∙ sym (append-nil s0.history);
     list = kept.0;
     most = inl kept.1;
   }
-  ends (once.Again (again.NeedsSplit n)) one end = absurd (cc)
-  ends (once.Again (again.Locked n word)) one end = absurd end
-  ends (once.Again (again.Moved n first second)) one end = absurd end
-  ends (once.Again (again.Hops count)) one end = absurd end
-  ends (once.Again again.LogFull) one end = absurd end
-  ends (once.Again (again.Held word)) one end = absurd end
-  ends (once.Again (again.Epoch first second)) one end = absurd end
-  ends (once.Done placed) one ((unworn, below, not_full), old, place, hops, write, shape) =
+  ends (once.Again (again.NeedsSplit n)) one on_name end = absurd (cc)
+  ends (once.Again (again.Locked n word)) one on_name end = absurd end
+  ends (once.Again (again.Moved n first second)) one on_name end = absurd end
+  ends (once.Again (again.Hops count)) one on_name end = absurd end
+  ends (once.Again again.LogFull) one on_name end = absurd end
+  ends (once.Again (again.Held word)) one on_name end = absurd end
+  ends (once.Again (again.Epoch first second)) one on_name end = absurd end
+  ends (once.Done placed) one on_name ((unworn, below, not_full), old, place, hops, write, shape) =
       let left = leaves t.named not_full shape in
       record {
         cause = (
+          on_name,
           (unworn, (λ over. below (late_was (limit_of c) (length s0.history) over)), (λ none. not_full (no_room_was s0 c rest0 none))),
           old,
           place,
@@ -301,9 +315,9 @@ module _ (s0 s : Index) (i : ℕ) (c : CoreCall) (is0 : IsIndex s0) (quiet0 : Is
         most = left.most;
       }
 
-  pub one_try : needs_split answer ≡ false → Ran s0 s i c answer
-  one_try one =
-      let end = ends answer one t.answered in
+  pub one_try : needs_split answer ≡ false → IsOnName c answer → Ran s0 s i c answer
+  one_try one on_name =
+      let end = ends answer one on_name t.answered in
       let added = adds c answer in
       let before = t.weighs in
       record {
@@ -326,13 +340,11 @@ module _ (s0 s : Index) (i : ℕ) (c : CoreCall) (is0 : IsIndex s0) (quiet0 : Is
 -- a split leaves the shape of its put, and whatever leaves the list then leaves that
 split_for : (s0 s1 : Index) (c : CoreCall) → IsAtRest (world s0) → s1.layout ≡ s0.layout → IsName (name_asked (op_of c)) → FindsFull (world s0) (op_of c) → IsHalvedSince (name_asked (op_of c)) (world s0) (world s1) → SplitsFor c s0 s1
 split_for s0 s1 (call.Put name value limit) rest layout named full halved = cut_is_split (world s0) (world s1) name rest layout named halved
-split_for s0 s1 (call.Get name) rest layout named full halved = absurd full
-split_for s0 s1 (call.Del name limit) rest layout named full halved = absurd full
+split_for s0 s1 c rest layout named full halved = absurd full
 
 split_on : (s0 s1 s : Index) (c : CoreCall) → (facts (world s)).list ≡ (facts (world s1)).list → SplitsFor c s0 s1 → SplitsFor c s0 s
 split_on s0 s1 s (call.Put name value limit) list cut = (cut.0, ap anchors_of list ∙ cut.1)
-split_on s0 s1 s (call.Get name) list cut = absurd cut
-split_on s0 s1 s (call.Del name limit) list cut = absurd cut
+split_on s0 s1 s c list cut = absurd cut
 
 -- then the put has room
 split_has_room : (s0 s1 : Index) (c : CoreCall) → IsAtRest (world s1) → map_of_index s1 ≡ map_of_index s0 → IsHalvedSince (name_asked (op_of c)) (world s0) (world s1) → FindsFull (world s1) (op_of c) → ⊥
@@ -340,14 +352,12 @@ split_has_room s0 s1 (call.Put name value limit) rest map halved full =
     let less = cut_has_room (world s0) (world s1) name rest map halved in
     let most = full.1 in
     omega arith
-split_has_room s0 s1 (call.Get name) rest map halved full = full
-split_has_room s0 s1 (call.Del name limit) rest map halved full = full
+split_has_room s0 s1 c rest map halved full = absurd full
 
 -- and where a node was free it had room before
 free_is_room : (s : Index) (c : CoreCall) → HasFree s.layout s.generation s.words → FindsNoRoom c s → ⊥
 free_is_room s (call.Put name value limit) free none = free.unworn (none.2 free.node free.within free.free)
-free_is_room s (call.Get name) free none = none
-free_is_room s (call.Del name limit) free none = none
+free_is_room s c free none = absurd none
 
 -- what a try says that split
 record Split (s0 s1 : Index) (c : CoreCall) : Type 0 where
@@ -363,12 +373,11 @@ record Split (s0 s1 : Index) (c : CoreCall) : Type 0 where
 put_keeps : (c : CoreCall) (w0 w1 w : World) → FindsFull w0 (op_of c) → LeavesShape w1 (op_of c) w → HasKeptList w1 w
 put_keeps (call.Put name value limit) w0 w1 w full =
     ⊎_elim (λ (kept : ¬ ⊥ × HasKeptList w1 w). kept.1) (λ (merge : ⊥ × IsMergedSince name w1 w). absurd merge.0)
-put_keeps (call.Get name) w0 w1 w full = absurd full
-put_keeps (call.Del name limit) w0 w1 w full = absurd full
+put_keeps c w0 w1 w full = absurd full
 
 -- a try that split, and another
 module _ (s0 s1 s : Index) (i : ℕ) (c : CoreCall) (is0 : IsIndex s0) (quiet0 : IsQuiet s0) (is1 : IsIndex s1) (quiet1 : IsQuiet s1) (first answer : Once Placed)
-    (t : TriesAlone s0 i c s1 first) (u : TriesAlone s1 i c s answer)
+    (none : count_of c ≡ None) (t : TriesAlone s0 i c s1 first) (u : TriesAlone s1 i c s answer)
     (each : LoseAtMost 1 s0 s1) (each_then : LoseAtMost 1 s1 s) (locks : locks_left s0 ≤ locks_left s1 + 1) (locks_then : locks_left s1 ≤ locks_left s + 1) where
   rest_before : IsAtRest (world s0)
   rest_before = rests s0 is0 quiet0
@@ -415,7 +424,7 @@ module _ (s0 s1 s : Index) (i : ℕ) (c : CoreCall) (is0 : IsIndex s0) (quiet0 :
 
     ends_then : (r : Once Placed) → IsAnswered (world s1) (op_of c) (limit_of c) (world s) (party_of u.state) r → Ends s0 s i u.state.index c r × SplitsFor c s0 s
     ends_then (once.Worn node word) (worn, node_is, word_is, same, kept) =
-        let none = no_locks worn in
+        let no_lock = no_locks worn in
         let split_now = split_on s0 s1 s c kept.0 split in (
           record {
             cause = inr (
@@ -445,6 +454,7 @@ module _ (s0 s1 s : Index) (i : ℕ) (c : CoreCall) (is0 : IsIndex s0) (quiet0 :
         let split_now = split_on s0 s1 s c kept.0 split in (
           record {
             cause = (
+              none,
               (cut.unworn, (λ over. cut.below (late_was (limit_of c) (length s0.history) over)), (λ none. free_is_room s0 c cut.free none)),
               old ∙ ap (λ (m : Map). at m (name_asked (op_of c))) same_map,
               place ∙ ap length cut.history,
@@ -491,7 +501,7 @@ module _ (s0 s1 s : Index) (i : ℕ) (c : CoreCall) (is0 : IsIndex s0) (quiet0 :
       let now : u.state ≡ tried = some-injective _ _ (sym u.there ∙ ap (λ (l : List PartyState). get_elem? l i) t.states ∙ set_here s0.states i tried t.state t.there) in
       let index : u.state.index ≡ t.state.index = ap (λ (d : PartyState). d.index) now ∙ same_index first again t.state in
       let added = adds c answer in
-      let none = adds_nothing first again in
+      let nothing = adds_nothing first again in
       let before = t.weighs in
       let after = u.weighs in
       record {
@@ -515,12 +525,62 @@ module _ (s0 s1 s : Index) (i : ℕ) (c : CoreCall) (is0 : IsIndex s0) (quiet0 :
       }
 
 -- the same of an index and an answer that equal those of the last try
-pub ran_once : {s0 s1 s : Index} {i : ℕ} {c : CoreCall} {first answer : Once Placed} → IsIndex s0 → IsQuiet s0 → TriesAlone s0 i c s1 first → LoseAtMost 1 s0 s1
+pub ran_once : {s0 s1 s : Index} {i : ℕ} {c : CoreCall} {first answer : Once Placed} → count_of c ≡ None → IsIndex s0 → IsQuiet s0 → TriesAlone s0 i c s1 first → LoseAtMost 1 s0 s1
     → locks_left s0 ≤ locks_left s1 + 1 → needs_split first ≡ false → s ≡ s1 → answer ≡ first → Ran s0 s i c answer
-ran_once {s0} {s1} {s} {i} {c} {first} {answer} is0 quiet0 t each locks one same_index same_answer =
-    subst (λ (q : Index × Once Placed). Ran s0 q.0 i c q.1) (λ k. (sym same_index k, sym same_answer k)) (one_try s0 s1 i c is0 quiet0 first t each locks one)
+ran_once {s0} {s1} {s} {i} {c} {first} {answer} none is0 quiet0 t each locks one same_index same_answer =
+    subst (λ (q : Index × Once Placed). Ran s0 q.0 i c q.1) (λ k. (sym same_index k, sym same_answer k)) (one_try s0 s1 i c is0 quiet0 first t each locks one (on_name c first none))
 
-pub ran_twice : {s0 s1 s2 s : Index} {i : ℕ} {c : CoreCall} {first second answer : Once Placed} → IsIndex s0 → IsQuiet s0 → IsIndex s1 → IsQuiet s1 → TriesAlone s0 i c s1 first → TriesAlone s1 i c s2 second
+pub ran_twice : {s0 s1 s2 s : Index} {i : ℕ} {c : CoreCall} {first second answer : Once Placed} → count_of c ≡ None → IsIndex s0 → IsQuiet s0 → IsIndex s1 → IsQuiet s1 → TriesAlone s0 i c s1 first → TriesAlone s1 i c s2 second
     → LoseAtMost 1 s0 s1 → LoseAtMost 1 s1 s2 → locks_left s0 ≤ locks_left s1 + 1 → locks_left s1 ≤ locks_left s2 + 1 → needs_split first ≡ true → s ≡ s2 → answer ≡ second → Ran s0 s i c answer
-ran_twice {s0} {s1} {s2} {s} {i} {c} {first} {second} {answer} is0 quiet0 is1 quiet1 t u each each_then locks locks_then again same_index same_answer =
-    subst (λ (q : Index × Once Placed). Ran s0 q.0 i c q.1) (λ k. (sym same_index k, sym same_answer k)) (two_tries s0 s1 s2 i c is0 quiet0 is1 quiet1 first second t u each each_then locks locks_then again)
+ran_twice {s0} {s1} {s2} {s} {i} {c} {first} {second} {answer} none is0 quiet0 is1 quiet1 t u each each_then locks locks_then again same_index same_answer =
+    subst (λ (q : Index × Once Placed). Ran s0 q.0 i c q.1) (λ k. (sym same_index k, sym same_answer k)) (two_tries s0 s1 s2 i c is0 quiet0 is1 quiet1 first second none t u each each_then locks locks_then again)
+
+-- a get adds no name
+gets_add_nothing : (name : List ℕ) (old : Option ℕ) → added_if (op.Get name) old ≡ 0
+gets_add_nothing name None = refl
+gets_add_nothing name (Some value) = refl
+
+-- the whole call of a part of a scan is one try
+module _ (s0 s : Index) (i : ℕ) (low : List ℕ) (count : ℕ) (is0 : IsIndex s0) (quiet0 : IsQuiet s0) where
+  abbrev c : CoreCall
+  c = call.Part low count
+
+  -- one that ended early is worn
+  pub part_early : (r : Once Placed) → IsEarly r → TriesAlone s0 i c s r → LoseAtMost 1 s0 s → locks_left s0 ≤ locks_left s + 1 → RunsAlone s0 i c s (part_whole (early_of r))
+  part_early (once.Worn node word) early t each locks =
+      ran_runs s0 s i c (once.Worn node word) (one_try s0 s i c is0 quiet0 (once.Worn node word) t each locks refl tt) (λ full. cc)
+  part_early (once.Spent clock) early t each locks = absurd (let late = t.answered.1 in cc)
+  part_early (once.Again again.NoFree) early t each locks = absurd t.answered.2
+  part_early (once.Again (again.NeedsSplit n)) early t each locks = absurd t.answered.2
+  part_early (once.Again (again.Locked n word)) early t each locks = absurd t.answered
+  part_early (once.Again (again.Moved n one two)) early t each locks = absurd t.answered
+  part_early (once.Again (again.Hops hops)) early t each locks = absurd t.answered
+  part_early (once.Again again.LogFull) early t each locks = absurd t.answered
+  part_early (once.Again (again.Held word)) early t each locks = absurd t.answered
+  part_early (once.Again (again.Epoch one two)) early t each locks = absurd t.answered
+  part_early (once.Done placed) early t each locks = absurd early
+
+  -- and one that lists its names takes place
+  pub part_done : (words : PartWords) → TriesAlone s0 i c s (once.Done (words_placed words)) → words.node ≡ node_for s0 low → IsPartAt s.layout (facts (world s)) low count words → RunsAlone s0 i c s (whole.Part words)
+  part_done words t node is =
+      let kept : HasKeptList (world s0) (world s) = ⊎_elim
+      (λ (same : ¬ ⊥ × HasKeptList (world s0) (world s)). same.1)
+      (λ (merge : ⊥ × IsMergedSince low (world s0) (world s)). absurd merge.0)
+      t.answered.5 in
+      let history : s.history ≡ s0.history = t.answered.4 ∙ append-nil s0.history in
+      let added = gets_add_nothing low words.old in
+      let before = t.weighs in
+      record {
+        state = t.state;
+        there = t.there;
+        named = t.named;
+        answer = (t.answered.0.0, whole_part s0 s low count words is0 quiet0 t.base history kept.0 t.named node t.answered.2 t.answered.3 t.answered.1 is);
+        history = t.answered.4;
+        states = t.states;
+        layout = t.layout;
+        generation = t.generation;
+        base = t.base;
+        list = kept.0;
+        most = inl kept.1;
+        weighs = omega arith;
+      }

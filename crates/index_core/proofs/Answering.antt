@@ -29,7 +29,6 @@ use Rattle.index_law.specs.Facts.{Facts}
 use Rattle.index_law.specs.Lawful.{HasWriteAt}
 use Rattle.index_law.specs.Laws.{HasNoRoom, IsCause, IsLegal}
 use Rattle.index_core.specs.declared.party.PartyState.{PartyState}
-use Rattle.index_core.specs.PartyStates.{stepped_of}
 use Rattle.index_core.specs.Answers.{HasOwnWrite, TookPlace, FoundNoRoom, IsAnswerOf, SaysOf}
 use Rattle.node_ops.specs.Endings.{place_for, limit_in}
 use Rattle.index_core.proofs.Endings.{EndsWith, ends_with}
@@ -128,10 +127,10 @@ answer_of l g f e m (once.Again why) of sound own ends legal = λ is.
 
 -- what a step of a call comes to, where an answer is legal
 pub says_of : (l : Layout) (g : ℕ) (f : Facts) (e : PartyState) (m : Running) (x : ℕ) → IsOf (op_in m) m → IsRunning m → OwnsWrites f.history e m → IsLegal l g f e.caller e.index e.since (stage_of m) (reply_of (running_turned m x))
-    → SaysOf l.slots f.base f.history e (op_in m) (running_call m).limit (stepped_of (running_turned m x))
+    → SaysOf l.slots f.base f.history e (op_in m) (running_call m).limit (reply_of (running_turned m x))
 says_of l g f e m x of sound own legal = at (running_turned m x) refl legal
   where
     at : (turn : Turn Running (Once Placed)) → running_turned m x ≡ turn → IsLegal l g f e.caller e.index e.since (stage_of m) (reply_of turn)
-        → SaysOf l.slots f.base f.history e (op_in m) (running_call m).limit (stepped_of turn)
+        → SaysOf l.slots f.base f.history e (op_in m) (running_call m).limit (reply_of turn)
     at (Go next) is legal = tt
     at (Done answer) is legal = answer_of l g f e m answer of sound own (ends_with m x answer sound is) legal

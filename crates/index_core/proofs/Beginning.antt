@@ -15,6 +15,7 @@ use Rattle.cat_history.specs.declared.op.Change.TheVariants as change
 use Rattle.cat_history.specs.declared.op.NameOp.{NameOp}
 use Rattle.cat_history.specs.declared.op.NameOp.TheVariants as op
 use Rattle.cat_history.specs.declared.op.Write.{Write}
+use Rattle.call_stages.specs.declared.once.Once.{Once}
 use Rattle.call_stages.specs.declared.once.Once.TheVariants as once
 use Rattle.call_stages.specs.declared.once.Placed.{Placed}
 use Rattle.node_ops.specs.declared.running.Running.{Running}
@@ -34,12 +35,14 @@ use Rattle.index_core.specs.declared.party.PartyState.{PartyState}
 use Rattle.index_core.specs.declared.party.Whole.{Whole}
 use Rattle.index_core.specs.declared.party.Whole.TheVariants as whole
 use Rattle.index_core.specs.Answers.{TookPlace, FoundNoRoom}
-use Rattle.index_core.specs.CoreCalls.{machine_of, op_of, limit_of}
+use Rattle.node_ops.specs.PartSteps.{words_placed}
+use Rattle.index_core.specs.CoreCalls.{machine_of, op_of, limit_of, count_of}
+use Rattle.index_core.specs.Listings.{ListsRange}
 use Rattle.index_core.specs.PartyStates.{state_with, next_index}
 use Rattle.index_core.specs.Indexes.{Index, IsIndex, map_of_index, view_of, started_index}
 use Rattle.index_core.specs.Lone.{IsQuiet, FindsNoRoom, names_beside, node_for, IsWholeAnswer, alone_writes, state_done}
-use Rattle.index_core.specs.Schedules.{BegunCall, AnsweredCall, begun_call, flying_call, once_of, IsNext, IsNextIndex, flying_in, IsAnsweredWrite, IsWriteInFlight, AreCounted}
-use Rattle.index_core.proofs.Tries.{begins_limit}
+use Rattle.index_core.specs.Schedules.{BegunCall, AnsweredCall, begun_call, flying_call, once_of, listed_of, CallLists, IsNext, IsNextIndex, flying_in, IsAnsweredWrite, IsWriteInFlight, AreCounted}
+use Rattle.index_core.proofs.Stepping.{begins_limit, begins_count}
 use Rattle.index_core.proofs.Flights.{each_starts, each_alone}
 use Rattle.index_core.proofs.Indexed.{next_other, next_own, indexes_push, states_set}
 use Rattle.index_core.proofs.Lists.{within, at_end, end_there, got_end}
@@ -52,6 +55,26 @@ below_limit (Some most) count none = elim (cases_lt count most) [
   | inl below ↦ below
   | inr above ↦ absurd (none above)
 ]
+
+-- a call with a count is a part of a scan, which has no limit and writes nothing
+counts_is : {P : ℕ → Type 0} (o : Option ℕ) → IsSomeAnd o P → (count : ℕ) × (o ≡ Some count) × P count
+counts_is None is = absurd is
+counts_is (Some count) is = (count, refl, is)
+
+counts_part : (c : CoreCall) (count : ℕ) → count_of c ≡ Some count → (limit_of c ≡ None) × (change_of (op_of c) ≡ None)
+counts_part (call.Put name value limit) count is = absurd cc
+counts_part (call.Get name) count is = absurd cc
+counts_part (call.Del name limit) count is = absurd cc
+counts_part (call.Part low most) count is = (refl, refl)
+counts_part (call.Recheck node version) count is = absurd cc
+
+-- what doesn't take place lists nothing
+none_lists : (base : Map) (history : List Write) (o : NameOp) (count : Option ℕ) (answer : Once Placed) → ((placed : Placed) → answer ≡ once.Done placed → ⊥) → CallLists base history o count answer None
+none_lists base history o None answer unplaced = refl
+none_lists base history o (Some count) (once.Done placed) unplaced = absurd (unplaced placed refl)
+none_lists base history o (Some count) (once.Spent clock) unplaced = refl
+none_lists base history o (Some count) (once.Worn node word) unplaced = refl
+none_lists base history o (Some count) (once.Again why) unplaced = refl
 
 -- one call more of a party that is idle
 module _ (first : Index) (begun : List BegunCall) (calls : List AnsweredCall) (s : Index) (i : ℕ) (e : PartyState) (c : CoreCall) (k : Kept first begun calls s) (there : get_elem? s.states i ≡ some e) (idle : e.machine ≡ None) where
@@ -96,7 +119,7 @@ module _ (first : Index) (begun : List BegunCall) (calls : List AnsweredCall) (s
       now = state_with e (length s.history) m
 
       now_flies : flying_call now m ≡ b
-      now_flies = λ t. record { caller = e.caller; index = e.index; op = op_told (op_of c) m of t; limit = begins_limit s i c t; since = length s.history }
+      now_flies = λ t. record { caller = e.caller; index = e.index; op = op_told (op_of c) m of t; limit = begins_limit s i c t; count = begins_count (view_of s i) c t; since = length s.history }
 
       pub kept_start : IsIndex (started_index s i e c n) → Kept first more calls (started_index s i e c n)
       kept_start index = record {
@@ -148,7 +171,7 @@ module _ (first : Index) (begun : List BegunCall) (calls : List AnsweredCall) (s
       history = s.history ++ alone_writes e.caller e.index c result
 
       abbrev a : AnsweredCall
-      a = record { call = b; until = length history; answer = once_of result; whole = true; next = next_index e.index }
+      a = record { call = b; until = length history; answer = once_of result; part = listed_of result; whole = true; next = next_index e.index }
 
       abbrev done : PartyState
       done = state_done e (length s.history)
@@ -206,16 +229,37 @@ module _ (first : Index) (begun : List BegunCall) (calls : List AnsweredCall) (s
           )
       lacked_room (call.Get name) none = absurd none
       lacked_room (call.Del name limit) none = absurd none
+      lacked_room (call.Part low count) none = absurd none
+      lacked_room (call.Recheck node version) none = absurd none
 
       tells : (r : Whole) → IsWholeAnswer s c new r
           → AnswerHolds first.layout.slots base (s.history ++ alone_writes e.caller e.index c r) b (length (s.history ++ alone_writes e.caller e.index c r)) (once_of r)
-      tells (whole.Placed placed) why = let both = took (op_of c) placed (below_limit (limit_of c) (length s.history) why.0.1) why.1 why.2 in (both, both.within)
+      tells (whole.Placed placed) why = let both = took (op_of c) placed (below_limit (limit_of c) (length s.history) why.1.1) why.2 why.3 in (both, both.within)
+      tells (whole.Part words) why =
+          let counted = counts_is (count_of c) why.1 in
+          let part = counts_part c counted.0 counted.1 in
+          let below : IfSome (limit_of c) (λ most. length s.history < most) = subst (λ (o : Option ℕ). IfSome o (λ most. length s.history < most)) (sym part.0) tt in
+          let both : TookPlace base (s.history ++ []) e.caller e.index (length s.history) (op_of c) (limit_of c) (words_placed words) =
+          subst (λ (o : Option Change). TookPlace base (s.history ++ written e.caller e.index o) e.caller e.index (length s.history) (op_of c) (limit_of c) (words_placed words)) part.1
+          (took (op_of c) (words_placed words) below counted.2.old counted.2.place) in
+          (both, both.within)
       tells whole.Full why = λ full. lacked_room c why.2
       tells (whole.Spent clock) why =
           let last = why.2 in
           let long = length-append s.history [] in
           record { reached = subst (λ (n : ℕ). IsSomeAnd (limit_of c) (λ limit. limit ≤ n)) (sym why.2) why.1; later = omega arith; within = omega arith }
       tells (whole.Worn node word) why = tt
+
+      -- a part lists the map as it was at the end of the history
+      lists : (r : Whole) → IsWholeAnswer s c new r → CallLists base (s.history ++ alone_writes e.caller e.index c r) (op_of c) (count_of c) (once_of r) (listed_of r)
+      lists (whole.Placed placed) why = subst (λ (o : Option ℕ). CallLists base (s.history ++ alone_writes e.caller e.index c (whole.Placed placed)) (op_of c) o (once.Done placed) None) (sym why.0) refl
+      lists (whole.Part words) why =
+          let counted = counts_is (count_of c) why.1 in
+          subst (λ (o : Option ℕ). CallLists base (s.history ++ []) (op_of c) o (once.Done (words_placed words)) (Some words)) (sym counted.1)
+          (record { placed_so = refl; lists = subst (λ (m : Map). ListsRange m (name_asked (op_of c)) counted.0 words) (sym (map_is [] words.place counted.2.place)) counted.2.lists })
+      lists whole.Full why = none_lists base _ (op_of c) (count_of c) _ (λ placed is. cc)
+      lists (whole.Spent clock) why = none_lists base _ (op_of c) (count_of c) _ (λ placed is. cc)
+      lists (whole.Worn node word) why = none_lists base _ (op_of c) (count_of c) _ (λ placed is. cc)
 
       -- its write is the last
       last_write : (r : Whole) → IsWholeAnswer s c new r → (place : ℕ) (write : Write) → slice_get (s.history ++ alone_writes e.caller e.index c r) place ≡ Some write
@@ -229,8 +273,9 @@ module _ (first : Index) (begun : List BegunCall) (calls : List AnsweredCall) (s
               ⊎_elim
               (λ (before : slice_get s.history place ≡ Some write). inl before)
               (λ (last : (place ≡ length s.history) × (record { caller = e.caller; index = e.index; change = change } ≡ write)).
-              inr (placed, refl, why.2 ∙ sym last.0, ap (λ (w : Write). w.caller) (sym last.1), ap (λ (w : Write). w.index) (sym last.1), asks ∙ ap (λ (w : Write). Some w.change) last.1))
+              inr (placed, refl, why.3 ∙ sym last.0, ap (λ (w : Write). w.caller) (sym last.1), ap (λ (w : Write). w.index) (sym last.1), asks ∙ ap (λ (w : Write). Some w.change) last.1))
               (got_end s.history (record { caller = e.caller; index = e.index; change = change }) write place stands)
+      last_write (whole.Part words) why place write stands = inl (subst (λ (h : List Write). slice_get h place ≡ Some write) (append-nil s.history) stands)
       last_write whole.Full why place write stands = inl (subst (λ (h : List Write). slice_get h place ≡ Some write) (append-nil s.history) stands)
       last_write (whole.Spent clock) why place write stands = inl (subst (λ (h : List Write). slice_get h place ≡ Some write) (append-nil s.history) stands)
       last_write (whole.Worn node word) why place write stands = inl (subst (λ (h : List Write). slice_get h place ≡ Some write) (append-nil s.history) stands)
@@ -238,6 +283,7 @@ module _ (first : Index) (begun : List BegunCall) (calls : List AnsweredCall) (s
       -- it counts whatever it is answered
       next_alone : (r : Whole) → IsNext e.index (next_index e.index) true (once_of r)
       next_alone (whole.Placed placed) = went_up
+      next_alone (whole.Part words) = went_up
       next_alone whole.Full = went_up
       next_alone (whole.Spent clock) = went_up
       next_alone (whole.Worn node word) = went_up
@@ -274,7 +320,7 @@ module _ (first : Index) (begun : List BegunCall) (calls : List AnsweredCall) (s
         base_is = k.base_is;
         holds = λ j d at. ⊎_elim
             (λ (old : get_elem? calls j ≡ some d). longer_call first.layout.slots base s.history (alone_writes e.caller e.index c result) d (k.holds j d old))
-            (λ (last : (j ≡ length calls) × (a ≡ d)). subst (CallHolds first.layout.slots base history) last.1 (tells result is, omega arith))
+            (λ (last : (j ≡ length calls) × (a ≡ d)). subst (CallHolds first.layout.slots base history) last.1 (tells result is, omega arith, lists result is))
             (at_end calls a d j at);
         order = ordered;
         earlier = λ j d p state at at_p caller. ⊎_elim

@@ -32,7 +32,7 @@ use Rattle.index_law.proofs.Parties.{at_set}
 use Rattle.index_core.specs.declared.party.PartyState.{PartyState}
 use Rattle.index_core.specs.PartyStates.{machine_stage, party_of, state_after, state_counted}
 use Rattle.index_core.specs.Indexes.{IsOwnWrite, parties_of, Index, IsIndex, HasLimit, IsBounded, MakesCall, world, told}
-use Rattle.index_core.proofs.Owing.{merging_counts, splitting_counts}
+use Rattle.index_core.proofs.Owing.{merging_counts, part_counts, splitting_counts}
 use Rattle.index_core.proofs.Lists.{map_there, got_end, some_same, within}
 use Rattle.std.proofs.lemmas.Bool.{cases_lt}
 use Rattle.std.proofs.lemmas.Map.Made.{distinct_count-le}
@@ -44,7 +44,7 @@ use Rattle.node_ops.specs.declared.finish.FinishAt.TheVariants as finish_at
 use Rattle.node_ops.specs.declared.get.Get.TheVariants as get
 use Rattle.node_ops.specs.declared.put.Put.TheVariants as put
 use Rattle.node_ops.specs.declared.del.Del.TheVariants as del
-use Rattle.node_ops.specs.declared.running.Running.TheVariants.{Getting, Putting, Deleting}
+use Rattle.node_ops.specs.declared.running.Running.TheVariants.{Getting, Putting, Deleting, Parting}
 use Rattle.node_ops.specs.CallStages.{lookup_at_stage, finish_at_held}
 use Rattle.node_ops.proofs.OpLaw.{lookup_counts}
 use Rattle.index_core.specs.declared.party.CoreCall.{CoreCall}
@@ -109,6 +109,7 @@ counts_in_time (Deleting (del.Refusing call hold bitmap hit)) c is = refl
 counts_in_time (Deleting (del.Clearing call hold bitmap hit line)) c is = refl
 counts_in_time (Deleting (del.Finishing finish line)) c is = finish_limit finish finish.at
 counts_in_time (Deleting (del.Merging call hold old place merge)) c is = absurd (let both : None ≡ Some c = sym (merging_counts call hold old place merge) ∙ is in cc)
+counts_in_time (Parting p) c is = absurd (let both : None ≡ Some c = sym (part_counts p) ∙ is in cc)
 
 -- it has no place yet, and began below the limit
 record CountsBelow (stage : Stage) (since : ℕ) : Type 0 where
@@ -207,6 +208,8 @@ call_limit : (s : Index) (party : ℕ) (c : CoreCall) → IsRunning (machine_of 
 call_limit s party (call.Put name value limit) here = here.0.call.limit
 call_limit s party (call.Get name) here = tt
 call_limit s party (call.Del name limit) here = here.call.limit
+call_limit s party (call.Part low count) here = tt
+call_limit s party (call.Recheck node version) here = tt
 
 -- and so does the start of a call
 pub start_bounded : (s : Index) (i : ℕ) (e : PartyState) (c : CoreCall) → IsIndex s → IsRunning (machine_of (view_of s i) c) → IsBounded (parties_of s.layout) (set s.states i (state_with e (length s.history) (machine_of (view_of s i) c))) s.history

@@ -1,6 +1,7 @@
 -- What an eviction keeps, and what a crash leaves of a lawful index.
 use Rattle.std.proofs.Common.{◌≡◌, ⊎_elim, ℕ, zero, suc, ◌<◌, ◌≤◌, List, [], ◌∷◌, refl, sym, ap, ◌∙◌, subst, arith}
 use Rattle.std.specs.Prelude.{Option, Some, None, IfSome, IsSomeAnd, slice_get, Contains}
+use Rattle.std.proofs.lemmas.Option.{IfSome_then}
 use Rattle.std.proofs.lemmas.List.Elements.{Contains-append_left, Contains-append_right}
 use mathlib.Core.Option.{some, some-injective, some-ne-none}
 use lib.ListN.{get_elem?}
@@ -15,6 +16,7 @@ use Rattle.node_ops.specs.RunningSteps.{IsRunning, Sound}
 use Rattle.node_ops.specs.CallStages.{stage_of}
 use Rattle.node_ops.proofs.OpLaw.{pends_own_change, holds_own_name}
 use Rattle.index_law.specs.Worlds.{Party, facts}
+use Rattle.index_law.specs.Facts.{Facts}
 use Rattle.index_law.specs.Lawful.{Sure, IsPlaced}
 use Rattle.index_law.specs.Laws.{HasPending}
 use Rattle.sound_image.specs.Sound.{image_map}
@@ -22,7 +24,7 @@ use Rattle.data_node.specs.Lists.{members_from}
 use Rattle.data_node.specs.Weights.{list_weight}
 use Rattle.index_law.specs.Weights.{weight_sum}
 use Rattle.index_law.proofs.Images.{image_law, in_image}
-use Rattle.index_law.proofs.Evictions.{evict_law}
+use Rattle.index_law.proofs.Evictions.{evict_facts, evict_law}
 use Rattle.index_law.proofs.Weights.{crash_weighs}
 use Rattle.index_core.specs.declared.party.PartyState.{PartyState}
 use Rattle.index_core.specs.Crashes.{IsCrash, AreRunning, evicted_index, unplaced, cut_change, cut_changes}
@@ -31,6 +33,7 @@ use Rattle.index_core.specs.Weights.{crash_weight}
 use Rattle.index_core.specs.Indexes.{Index, IsIndex, IsOwnWrite, footed, world}
 use Rattle.index_core.proofs.Footed.{evict_footed}
 use Rattle.index_core.proofs.Lists.{map_there, map_from}
+use Rattle.index_core.proofs.PartFacts.{running_listed}
 
 pub evict_keeps : (s : Index) (word : ℕ) → IsIndex s → word < image_words s.layout → IsIndex (evicted_index s word)
 evict_keeps s word is within =
@@ -42,6 +45,8 @@ evict_keeps s word is within =
       states = is.states;
       ordered = is.ordered;
       bounded = is.bounded;
+      named = is.named;
+      ends = λ i state at. IfSome_then state.machine (is.ends i state at) (λ m held. running_listed s.layout (facts (world s)) (facts (world (evicted_index s word))) m (ap (λ (f : Facts). f.list) (evict_facts (world s) word)) held);
     }
 
 -- the index with this row

@@ -1,6 +1,9 @@
 -- A fresh index is lawful.
 use Rattle.std.proofs.Common.{◌≡◌, ℕ, zero, suc, ◌<◌, ◌≤◌, List, [], map, refl, sym, ap, ◌∙◌, subst, arith}
-use Rattle.std.specs.Prelude.{Some, None}
+use Rattle.std.specs.Prelude.{Some, None, IfSome}
+use Rattle.std.proofs.lemmas.List.{take_all}
+use Rattle.cat_history.specs.Maps.{map_of}
+use Rattle.cat_history.specs.Writes.{after_all}
 use mathlib.Core.Option.{some}
 use lib.ListN.{get_elem?}
 use Rattle.pm_words.specs.declared.layout.Layout.{Layout}
@@ -8,8 +11,8 @@ use Rattle.pm_words.specs.Layouts.{IsLayout}
 use Rattle.version_lock.specs.declared.TheConstants.{LAST_COUNT}
 use Rattle.call_stages.specs.Stages.{Idle}
 use Rattle.index_law.specs.Facts.{version_in}
-use Rattle.index_law.specs.Worlds.{Party}
-use Rattle.index_law.specs.Lawful.{Each}
+use Rattle.index_law.specs.Worlds.{Party, facts}
+use Rattle.index_law.specs.Lawful.{Each, HasNames}
 use Rattle.index_law.specs.Laws.{fresh_row, fresh_world}
 use Rattle.index_law.proofs.Fresh.{fresh_law, fresh_versions}
 use Rattle.index_law.proofs.Starts.{rest_law}
@@ -17,7 +20,7 @@ use Rattle.lone_law.specs.Locks.{locks_of, fewest_locks}
 use Rattle.index_core.specs.PartyStates.{idle_state, idle_states, party_of, IsPartyState}
 use Rattle.index_core.specs.declared.party.PartyState.{PartyState}
 use Rattle.index_core.specs.Fresh.{IsFreshIndex}
-use Rattle.index_core.specs.Indexes.{Index, IsIndex, parties_of}
+use Rattle.index_core.specs.Indexes.{Index, IsIndex, RunningEnds, parties_of, world}
 use Rattle.index_core.specs.Lone.{IsQuiet, locks_left}
 use Rattle.index_core.proofs.Footed.{fresh_footed}
 use Rattle.index_core.proofs.Footings.{line_of, debt_of, free_states}
@@ -49,6 +52,8 @@ fresh_is l layout =
         writers = λ p w at. absurd (let none : None ≡ Some w = at in cc);
         late = λ p q v w at there less far. absurd (let none : None ≡ Some v = at in cc);
       };
+      named = λ place. subst HasNames (ap (after_all (map_of [])) (sym (take_all place [] (omega arith)))) rest.named;
+      ends = λ i state at. subst (λ (d : PartyState). IfSome d.machine (RunningEnds l (facts (world (fresh_index l))))) (sym (idle-each n i state at)) tt;
     }
 
 -- no call is in flight there

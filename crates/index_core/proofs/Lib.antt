@@ -4,6 +4,8 @@ pub mod Ordering
 pub mod Bounds
 pub mod Footed
 pub mod Footings
+pub mod PartFacts
+pub mod Ranges
 pub mod Stepping
 pub mod Reading
 pub mod Crashing
@@ -21,6 +23,9 @@ pub mod WeightLaw
 pub mod MachineLaw
 pub mod Quiet
 pub mod Tries
+pub mod PartsAlone
 pub mod Alone
+pub mod PartTries
 pub mod Endings
+pub mod Told
 pub mod Fulls

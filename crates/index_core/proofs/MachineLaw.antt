@@ -28,7 +28,7 @@ use Rattle.index_core.specs.declared.party.CoreCall.TheVariants as call
 use Rattle.index_core.specs.declared.party.PartyState.{PartyState}
 use Rattle.index_core.specs.CoreCalls.{machine_of}
 use Rattle.index_core.specs.PartyStates.{IsPartyState, state_after, state_with, machine_stage, party_of}
-use Rattle.index_core.specs.Indexes.{Index, IsIndex, footed, world, told, view_of, stepped_index}
+use Rattle.index_core.specs.Indexes.{Index, IsIndex, RunningEnds, footed, world, told, view_of, stepped_index}
 use Rattle.index_core.specs.MachineLaws.{IsReady, ReadyAfter, MachineKeeps, BeginKeeps, FirstIsReady, IdleKeep, place_told, place_now, place_next, PlacesFollow}
 use Rattle.cat_history.specs.declared.op.Change.TheVariants as change
 use Rattle.cat_history.specs.declared.op.NameOp.{NameOp}
@@ -45,7 +45,7 @@ use Rattle.index_core.proofs.Answering.{says_of}
 use Rattle.index_core.proofs.Lists.{map_from, map_there, map_set, set_twice}
 use Rattle.index_core.proofs.Footed.{rest_footed}
 use Rattle.index_core.proofs.Footings.{line_of, debt_of, free_states, may_do_names, swap_footed}
-use Rattle.index_core.proofs.Stepping.{may_do, step_facts, start_keeps, machine_idle}
+use Rattle.index_core.proofs.Stepping.{may_do, step_facts, start_keeps, machine_idle, ends_but}
 use Rattle.node_ops.specs.Endings.{GoesOn}
 use Rattle.node_ops.proofs.Endings.{turns_keep_place, last_counts_nothing}
 use Rattle.index_core.proofs.Endings.{EndsWith, ends_with}
@@ -121,6 +121,7 @@ machine_law s i e m is there flies =
       takes = step.takes;
       kept = step.kept s.spare;
       counts = step.counts;
+      lists = step.lists;
       says = says_of s.layout s.generation (facts (world new)) e m (told s m) of step.fits step.owns (step.legal s.spare);
       keeps_op = step.keeps_op (op_in m) of;
       keeps_call = step.keeps_call;
@@ -136,6 +137,8 @@ none_shown : (s : Index) (i : ℕ) (c : CoreCall) → showing (Some (machine_of 
 none_shown s i (call.Put name value limit) = refl
 none_shown s i (call.Get name) = refl
 none_shown s i (call.Del name limit) = refl
+none_shown s i (call.Part low count) = refl
+none_shown s i (call.Recheck node version) = refl
 
 -- an idle party may have another index
 module _ (s : Index) (i : ℕ) (e : PartyState) (index : ℕ) (is : IsIndex s) (there : get_elem? s.states i ≡ some e) (idle : e.machine ≡ None) where
@@ -176,6 +179,8 @@ module _ (s : Index) (i : ℕ) (e : PartyState) (index : ℕ) (is : IsIndex s) (
           writers = is.bounded.writers;
           late = is.bounded.late;
         };
+        named = is.named;
+        ends = ends_but s i now is (subst (λ (o : Option Running). IfSome o (RunningEnds s.layout (facts (world s)))) (sym idle) tt);
       }
 
 pub begin_law : BeginKeeps
@@ -200,6 +205,8 @@ pub first_ready : FirstIsReady
 first_ready v (call.Put name value limit) here = ready_idle v.layout v.generation (machine_of v (call.Put name value limit)) here.0.call.view.layout.nodes.0 (record { layout = refl; generation = refl; here = here }) refl
 first_ready v (call.Get name) here = ready_idle v.layout v.generation (machine_of v (call.Get name)) here.call.view.layout.nodes.0 (record { layout = refl; generation = refl; here = here }) refl
 first_ready v (call.Del name limit) here = ready_idle v.layout v.generation (machine_of v (call.Del name limit)) here.call.view.layout.nodes.0 (record { layout = refl; generation = refl; here = here }) refl
+first_ready v (call.Part low count) here = ready_idle v.layout v.generation (machine_of v (call.Part low count)) here.call.view.layout.nodes.0 (record { layout = refl; generation = refl; here = here }) refl
+first_ready v (call.Recheck node version) here = ready_idle v.layout v.generation (machine_of v (call.Recheck node version)) here.call.view.layout.nodes.0 (record { layout = refl; generation = refl; here = here }) refl
 
 -- an index with no call in flight is one with any other idle parties
 pub with_idle : IdleKeep
@@ -237,6 +244,8 @@ with_idle s states is quiet idle =
         writers = is.bounded.writers;
         late = is.bounded.late;
       };
+      named = is.named;
+      ends = λ i e at. subst (λ (o : Option Running). IfSome o (RunningEnds s.layout (facts (world s)))) (sym (idle.idle i e at)) tt;
     }
 
 -- a step's place, and that a step which counts had none before

@@ -21,21 +21,25 @@ use Rattle.call_stages.specs.declared.once.Placed.{Placed}
 use Rattle.call_stages.specs.Stages.{placed_in}
 use Rattle.node_ops.specs.declared.running.Running.{Running}
 use Rattle.node_ops.specs.Asked.{op_in}
-use Rattle.node_ops.specs.RunningSteps.{running_call, running_turned}
+use Rattle.node_ops.specs.RunningSteps.{running_call, running_turned, count_in, listed_in, IsRunning, Sound}
+use Rattle.index_law.specs.Worlds.{facts}
+use Rattle.index_core.specs.declared.party.CoreReply.{CoreReply}
+use Rattle.index_core.specs.declared.party.Stepped.{Stepped}
+use Rattle.index_core.specs.declared.party.Stepped.TheVariants.{Answered}
 use Rattle.node_ops.specs.CallStages.{stage_of}
 use Rattle.index_core.specs.declared.party.PartyState.{PartyState}
 use Rattle.index_core.specs.Answers.{IsAnswerOf}
-use Rattle.index_core.specs.Indexes.{Index, IsIndex, IsInFlight, parties_of, told}
+use Rattle.index_core.specs.Indexes.{Index, IsIndex, IsInFlight, parties_of, told, world}
 use Rattle.index_core.specs.Lone.{IsQuiet, alone_writes, state_done}
-use Rattle.index_core.specs.Schedules.{BegunCall, AnsweredCall, begun_call, flying_call, once_of, Runs, begins, starts, goes_on, answers, alone, evicts, reserves, StandsNowhere, StandsAt, WroteNothing, IsLegalAnswer, IsNext, interval_of, AnswersKeepOrder, EachWritesOnce, IsAnsweredWrite, IsWriteInFlight, IsLegalHistory, AreCounted, OneLegalHistory, FreshIndexBegins, flying_in, calls_in_flight}
+use Rattle.index_core.specs.Schedules.{BegunCall, AnsweredCall, begun_call, flying_call, once_of, listed_of, CallLists, Runs, begins, starts, goes_on, answers, alone, evicts, reserves, StandsNowhere, StandsAt, WroteNothing, IsLegalAnswer, IsNext, interval_of, AnswersKeepOrder, EachWritesOnce, IsAnsweredWrite, IsWriteInFlight, IsLegalHistory, AreCounted, OneLegalHistory, FreshIndexBegins, flying_in, calls_in_flight}
 use Rattle.index_core.proofs.Crashing.{placed_later}
 use Rattle.index_core.proofs.Limits.{write_end, places_keep_limit}
 use Rattle.index_core.proofs.Beginning.{kept_start, kept_alone}
 use Rattle.index_core.proofs.Scheduling.{IsEarlier, AnswerHolds, in_flight, Kept, place_le_end, else_there, took_one}
-use Rattle.index_core.specs.PartyStates.{idle_state, next_index, index_after}
+use Rattle.index_core.specs.PartyStates.{idle_state, next_index, index_after, stepped_of, reply_with, answer_in, listed_by}
 use Rattle.index_core.proofs.Fresh.{fresh_quiet}
 use Rattle.index_core.proofs.Lists.{some_same, idle-each}
-use Rattle.index_core.proofs.Tries.{go_of, done_of}
+use Rattle.index_core.proofs.Told.{go_of, done_of, told_lists}
 use Rattle.index_core.proofs.Scheduling as along
 use Rattle.index_core.proofs.Stepping.{respare}
 
@@ -89,6 +93,9 @@ none_flies s party e none there = at e.machine refl
     at None is = is
     at (Some machine) is = absurd (none (record { state = e; machine = machine; there = there; flies = is }))
 
+answered_same : {a b : CoreReply} → Path Stepped (Answered a) (Answered b) → a ≡ b
+answered_same is = cc
+
 kept : (first : Index) → IsIndex first → IsQuiet first → first.history ≡ [] → {begun : List BegunCall} {calls : List AnsweredCall} {s : Index} → Runs first begun calls s → AreCounted first begun
     → Kept first begun calls s
 kept first index quiet fresh begins few = kept_first first index quiet fresh
@@ -97,17 +104,26 @@ kept first index quiet fresh (starts {begun = begun} {calls = calls} {old = old}
     let idle = none_flies old party t.state none t.there in
     subst (Kept first (begun ++ b ∷ []) calls) (sym t.is)
     (kept_start first begun calls old party t.state c (kept first index quiet fresh run (fewer first begun (b ∷ []) few)) t.there idle few new.spare t.of (subst IsIndex t.is is))
-kept first index quiet fresh (goes_on {begun = begun} {calls = calls} {old = old} {new = new} {party = party} run t is) few =
+kept first index quiet fresh (goes_on {begun = begun} {calls = calls} {old = old} {new = new} {party = party} run step is) few =
+    let t = step.turned in
     let k = kept first index quiet fresh run few in
-    let go = go_of (running_turned t.machine (told old t.machine)) (sym t.comes_to) in
+    let go = go_of (running_turned t.machine (told old t.machine)) (sym t.answers) in
     subst (Kept first begun calls) (sym t.is)
     (along.goes_on first begun calls old party t.state t.machine k t.there t.flies go.0 go.1 (t.turn.keeps_op (op_in t.machine) (along.of first begun calls old party t.state t.machine k t.there t.flies)) t.turn.keeps_call new.spare (subst IsIndex t.is is))
-kept first index quiet fresh (answers {begun = begun} {calls = calls} {old = old} {new = new} {party = party} {answer = answer} run t is) few =
+kept first index quiet fresh (answers {begun = begun} {calls = calls} {old = old} {new = new} {party = party} {reply = reply} run step is) few =
+    let t = step.turned in
     let k = kept first index quiet fresh run few in
-    let done = done_of (running_turned t.machine (told old t.machine)) answer (sym t.comes_to) in
-    subst (λ (v : Index). Kept first begun (calls ++ record { call = flying_call t.state t.machine; until = length v.history; answer = answer; whole = false; next = index_after t.state.index answer } ∷ []) v) (sym t.is)
-    (along.is_answered first begun calls old party t.state t.machine k t.there t.flies answer done new.spare few
-    (subst (λ (v : Index). IsAnswerOf v.layout.slots (map_of v.base) v.history t.state (op_in t.machine) (running_call t.machine).limit answer) t.is t.answer) (subst IsIndex t.is is))
+    let answer = answer_in reply in
+    let done = done_of (running_turned t.machine (told old t.machine)) answer (sym t.answers) in
+    let replies : reply ≡ reply_with (count_in t.machine) (listed_in t.machine) answer = answered_same (step.comes_to ∙ ap (stepped_of t.machine) done) in
+    let sound : IsRunning t.machine = (subst (λ (o : Option Running). IfSome o (Sound old.layout old.generation)) t.flies (k.index.states party t.state t.there).machine).here in
+    let lists : CallLists (map_of new.base) new.history (op_in t.machine) (count_in t.machine) answer (listed_by reply) =
+    subst (λ (r : CoreReply). CallLists (map_of new.base) new.history (op_in t.machine) (count_in t.machine) answer (listed_by r)) (sym replies)
+    (told_lists new.layout (facts (world new)) t.machine (told old t.machine) answer done sound is.named t.lists) in
+    subst (λ (v : Index). Kept first begun (calls ++ record { call = flying_call t.state t.machine; until = length v.history; answer = answer; part = listed_by reply; whole = false; next = index_after t.state.index answer } ∷ []) v) (sym t.is)
+    (along.is_answered first begun calls old party t.state t.machine k t.there t.flies answer done new.spare few (listed_by reply)
+    (subst (λ (v : Index). IsAnswerOf v.layout.slots (map_of v.base) v.history t.state (op_in t.machine) (running_call t.machine).limit answer) t.is t.says)
+    (subst (λ (v : Index). CallLists (map_of v.base) v.history (op_in t.machine) (count_in t.machine) answer (listed_by reply)) t.is lists) (subst IsIndex t.is is))
 kept first index quiet fresh (alone {begun = begun} {calls = calls} {old = old} {new = new} {caller = party} {call = c} {result = result} run still r is) few =
     let b = begun_call r.state (length old.history) c in
     let k = kept first index quiet fresh run (fewer first begun (b ∷ []) few) in
@@ -115,7 +131,7 @@ kept first index quiet fresh (alone {begun = begun} {calls = calls} {old = old} 
     let history : new.history ≡ old.history ++ alone_writes r.state.caller r.state.index c result = r.history ∙ ap (λ (j : ℕ). old.history ++ alone_writes j r.state.index c result) (sym caller_is) in
     let same : Path Index new (record new { states = set old.states party (state_done r.state (length old.history)); base = old.base; history = old.history ++ alone_writes r.state.caller r.state.index c result }) =
     (λ t. record new { states = r.states t; base = r.base t; history = history t }) in
-    subst (λ (v : Index). Kept first (begun ++ b ∷ []) (calls ++ record { call = b; until = length v.history; answer = once_of result; whole = true; next = next_index r.state.index } ∷ []) v) (sym same)
+    subst (λ (v : Index). Kept first (begun ++ b ∷ []) (calls ++ record { call = b; until = length v.history; answer = once_of result; part = listed_of result; whole = true; next = next_index r.state.index } ∷ []) v) (sym same)
     (kept_alone first begun calls old party r.state c k r.there (still party r.state r.there) few result new still r.answer new r.layout (subst IsIndex same is))
 kept first index quiet fresh (evicts {begun = begun} {calls = calls} {old = old} {new = new} {word = word} run within e is) few =
     subst (Kept first begun calls) (sym e) (kept_as first begun calls old (evicted old.layout old.words word) old.spare (kept first index quiet fresh run few) (subst IsIndex e is))
@@ -270,6 +286,7 @@ module _ (first : Index) (begun : List BegunCall) (calls : List AnsweredCall) (s
         let holds = k.holds n c at in
         record {
           answer = subst (λ (l : Layout). IsLegalAnswer l.slots base s.history c.call c.until c.next c.answer) (sym k.layout_is) (legal_answer n c c.answer at refl holds.0);
+          lists = holds.2;
           within = holds.1;
           next = k.next n c at;
         };

@@ -29,19 +29,22 @@ use Rattle.node_ops.specs.declared.put.Put.{Put}
 use Rattle.node_ops.specs.declared.put.Put.TheVariants as put
 use Rattle.node_ops.specs.declared.del.Del.{Del}
 use Rattle.node_ops.specs.declared.del.Del.TheVariants as del
+use Rattle.node_ops.specs.declared.part.Part.{Part}
+use Rattle.node_ops.specs.declared.part.Part.TheVariants as part
 use Rattle.node_ops.specs.declared.running.Running.{Running}
-use Rattle.node_ops.specs.declared.running.Running.TheVariants.{Getting, Putting, Deleting}
+use Rattle.node_ops.specs.declared.running.Running.TheVariants.{Getting, Putting, Deleting, Parting}
 use Rattle.pm_words.specs.Fences.{fence_next}
 use Rattle.node_ops.specs.LookupSteps.{lookup_turned}
 use Rattle.node_ops.specs.FinishSteps.{finish_fenced}
 use Rattle.node_ops.specs.GetSteps.{get_turned, get_looked}
 use Rattle.node_ops.specs.PutSteps.{put_finished}
 use Rattle.node_ops.specs.DelSteps.{del_finished, del_merged}
+use Rattle.node_ops.specs.PartSteps.{part_turned, placed_turn}
 use Rattle.split_merge.specs.declared.merging.Merge.{Merge}
 use Rattle.split_merge.specs.declared.merging.Merged.{Merged}
 use Rattle.split_merge.specs.Merges.{merge_turned}
 use Rattle.node_ops.specs.RunningSteps.{running_turned, wrapped}
-use Rattle.node_ops.specs.CallStages.{stage_of, lookup_stage, finish_stage, found_full, has_place}
+use Rattle.node_ops.specs.CallStages.{stage_of, lookup_stage, finish_stage, part_stage, found_full, has_place}
 use Rattle.node_ops.proofs.OpLaw.{lookup_counts}
 use Rattle.index_law.specs.Worlds.{written}
 use Rattle.index_core.specs.PartyStates.{owes, machine_owes, owed}
@@ -85,6 +88,7 @@ pub owes_one : (running : Running) → owes running ≤ 1
 owes_one (Getting get) = omega arith
 owes_one (Putting put) = put_one put
 owes_one (Deleting del) = del_one del
+owes_one (Parting part) = omega arith
 
 -- a call that owes one and counts nothing may turn as it likes
 after_one : (turn : Turn Running (Once Placed)) → owes_after turn ≤ 1
@@ -99,6 +103,15 @@ get_pays (get.Looking lookup) x = (at (lookup_turned lookup x), lookup_counts lo
     at (Done (looked.Early answer)) = refl
     at (Done (looked.Found found)) = refl
 get_pays (get.Unlocking call hold old) x = (refl, refl)
+
+-- no turn of a part counts anything
+pub part_counts : (p : Part) → counted (part_stage p) ≡ None
+part_counts (part.Looking lookup count behind) = lookup_counts lookup.call lookup.at
+part_counts (part.Reading reading) = refl
+
+part_owes : (turn : Turn Part (Once Placed)) → owes_after (wrapped Parting turn) ≡ 0
+part_owes (Go p) = refl
+part_owes (Done answer) = refl
 
 put_finish_pays : (finish : Finish) (at : FinishAt) (x : ℕ)
     → owes_after (running_turned (Putting (put.Finishing (record finish { at = at }))) x) + many (counted (finish_stage (record finish { at = at }))) ≤ owes (Putting (put.Finishing (record finish { at = at })))
@@ -162,6 +175,10 @@ pays (Deleting (del.Finishing finish line)) x = del_finish_pays finish line fini
 pays (Deleting (del.Merging call hold old place merge)) x =
     let nothing = merging_owes call hold old place (merge_turned merge x) in
     let none : many (counted (stage_of (Deleting (del.Merging call hold old place merge)))) ≡ 0 = rw (merging_counts call hold old place merge) refl in
+    omega arith
+pays (Parting p) x =
+    let nothing = part_owes (placed_turn (part_turned p x)) in
+    let none : many (counted (stage_of (Parting p))) ≡ 0 = rw (part_counts p) refl in
     omega arith
 
 pub written-length : (caller index : ℕ) (change : Option Change) → length (written caller index change) ≡ many change

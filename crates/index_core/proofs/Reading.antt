@@ -21,7 +21,7 @@ use Rattle.index_core.specs.declared.party.CoreCall.{CoreCall}
 use Rattle.index_core.specs.declared.party.PartyState.{PartyState}
 use Rattle.index_core.specs.CoreCalls.{machine_of, most_writes}
 use Rattle.index_core.specs.PartyStates.{state_with, state_after, owed}
-use Rattle.index_core.specs.Indexes.{Index, IsIndex, IsInFlight, view_of, started_index, told, stepped_index}
+use Rattle.index_core.specs.Indexes.{Index, IsIndex, IsInFlight, TurnsTo, view_of, started_index, told, stepped_index}
 use Rattle.index_core.proofs.Lists.{there_is, read_is}
 use Rattle.index_core.proofs.Stepping.{StepFacts, step_facts, step_at, same_machine, step_room, start_keeps, start_owes, start_at}
 
@@ -47,6 +47,11 @@ reads s old i flies r machine states is found has =
       of = subst (λ (o : Option Running). IfSome o (λ q. IsOf (op_in q) q)) flies.flies (is.states i flies.state there).op;
       facts = step_facts s i flies.state flies.machine is there flies.flies;
     }
+
+-- So it is the machine that takes a turn there.
+pub reads_turned : (s old new : Index) (i : ℕ) (answer : Option (Once Placed)) (t : TurnsTo old i new answer) (r : PartyState) (machine : Running) → s.states ≡ old.states → IsIndex s → r ≡ get_or s.states i r → r.machine ≡ Some machine
+    → machine ≡ t.machine
+reads_turned s old new i answer t r machine states is found has = (reads s old i (record { state = t.state; machine = t.machine; there = t.there; flies = t.flies }) r machine states is found has).same
 
 -- The row, the state and the history that it has made are those of the step, and there is room for what is owed.
 pub record Leaves (s : Index) (i : ℕ) (e : PartyState) (m : Running) (row : Row) (turn : Turn Running (Once Placed)) (now : PartyState) (history : List Write) (len cap len' cap' : ℕ) : Type 0 where

@@ -28,7 +28,9 @@ use Rattle.call_stages.specs.Stages.{counted, placed_in}
 use Rattle.node_ops.specs.declared.call.Call.{Call}
 use Rattle.node_ops.specs.declared.running.Running.{Running}
 use Rattle.node_ops.specs.Asked.{IsOf, IsOfAfter, op_in, name_asked}
-use Rattle.node_ops.specs.RunningSteps.{running_call, running_asks, running_turned, Sound}
+use Rattle.node_ops.specs.declared.part.PartWords.{PartWords}
+use Rattle.node_ops.specs.RunningSteps.{running_call, running_asks, running_turned, count_in, Sound}
+use Rattle.node_ops.proofs.PartListing.{count_stays}
 use Rattle.node_ops.specs.CallStages.{stage_of}
 use Rattle.node_ops.proofs.OpLaw.{counts_own_change, op_told}
 use Rattle.node_ops.specs.Endings.{IsPutOp}
@@ -39,7 +41,8 @@ use Rattle.index_core.specs.declared.party.PartyState.{PartyState}
 use Rattle.index_core.specs.Answers.{TookPlace, WasReached, FoundNoRoom, IsAnswerOf}
 use Rattle.index_core.specs.PartyStates.{state_after, next_index, index_after, IsPartyState}
 use Rattle.index_core.specs.Indexes.{Index, IsIndex, told, stepped_index, MakesCall}
-use Rattle.index_core.specs.Schedules.{BegunCall, AnsweredCall, flying_call, IsNext, IsNextIndex, IndexesCount, StatesCount, flying_in, EachIsAnsweredOrFlies, IsAnsweredWrite, IsWriteInFlight, EachWriteIsOfACall, AreCounted}
+use Rattle.index_core.proofs.Told.{longer_lists}
+use Rattle.index_core.specs.Schedules.{BegunCall, AnsweredCall, CallLists, flying_call, IsNext, IsNextIndex, IndexesCount, StatesCount, flying_in, EachIsAnsweredOrFlies, IsAnsweredWrite, IsWriteInFlight, EachWriteIsOfACall, AreCounted}
 use Rattle.index_core.proofs.Flights.{each_goes_on, each_ends}
 use Rattle.index_core.proofs.Indexed.{next_other, next_own, indexes_push, states_set}
 use Rattle.index_core.proofs.Lists.{within, at_end, end_there, some_same, got_end}
@@ -62,7 +65,7 @@ AnswerHolds slots base history c until (once.Again why) = why ≡ NoFree → IsP
 
 -- the same of an answered call
 abbrev pub CallHolds : ℕ → Map → List Write → AnsweredCall → Type 0
-CallHolds slots base history c = AnswerHolds slots base history c.call c.until c.answer × (c.until ≤ length history)
+CallHolds slots base history c = AnswerHolds slots base history c.call c.until c.answer × (c.until ≤ length history) × CallLists base history c.call.op c.call.count c.answer c.part
 
 -- how many calls a caller has in flight
 abbrev pub in_flight : Option Running → ℕ
@@ -127,7 +130,17 @@ longer_holds slots base h more c until (once.Worn node word) is ended = tt
 longer_holds slots base h more c until (once.Again why) is ended = λ full. ((is full).0, longer_room slots base h more c.since until (name_asked c.op) (is full).1 ended)
 
 pub longer_call : (slots : ℕ) (base : Map) (h more : List Write) (c : AnsweredCall) → CallHolds slots base h c → CallHolds slots base (h ++ more) c
-longer_call slots base h more c is = let longer = length-append h more in let within = is.1 in (longer_holds slots base h more c.call c.until c.answer is.0 is.1, omega arith)
+longer_call slots base h more c is =
+    let longer = length-append h more in
+    let within = is.1 in (
+      longer_holds slots base h more c.call c.until c.answer is.0 is.1,
+      omega arith,
+      longer_lists base h more c.call.op c.call.count c.answer c.part (λ placed done.
+          let holds : AnswerHolds slots base h c.call c.until (once.Done placed) = subst (AnswerHolds slots base h c.call c.until) done is.0 in
+          let least = place_le_end c.call.op placed.place in
+          let ended = holds.1 in
+          omega arith) is.2,
+    )
 
 -- an state that stands elsewhere than the changed one
 pub else_there : (states : List PartyState) (i j : ℕ) (now state : PartyState) → j ≢ i → get_elem? states j ≡ some state → get_elem? (set states i now) j ≡ some state
@@ -197,7 +210,7 @@ module _ (first : Index) (begun : List BegunCall) (calls : List AnsweredCall) (s
     running_same = ap (λ (c : Call). c.limit) (subst (MakesCall (running_call m)) is keeps_call)
 
     same_call : flying_call e' next ≡ flying_call e m
-    same_call = λ t. record { caller = e.caller; index = e.index; op = op_same t; limit = running_same t; since = e.since }
+    same_call = λ t. record { caller = e.caller; index = e.index; op = op_same t; limit = running_same t; count = count_stays m next x is t; since = e.since }
 
     -- the place that it is told is the length of the history
     clock : running_asks m ≡ Add (clock_address (running_call m).view.layout) → x ≡ length s.history
@@ -324,12 +337,12 @@ module _ (first : Index) (begun : List BegunCall) (calls : List AnsweredCall) (s
         subst (Kept first begun calls) same (going (subst IsIndex (sym same) index))
 
   -- it is answered
-  module _ (answer : Once Placed) (is : running_turned m x ≡ Done answer) (n : ℕ) (few : AreCounted first begun) where
+  module _ (answer : Once Placed) (is : running_turned m x ≡ Done answer) (n : ℕ) (few : AreCounted first begun) (part : Option PartWords) where
     abbrev done : PartyState
     done = record e { index = index_after e.index answer; machine = None }
 
     abbrev call : AnsweredCall
-    call = record { call = flying_call e m; until = length s.history; answer = answer; whole = false; next = index_after e.index answer }
+    call = record { call = flying_call e m; until = length s.history; answer = answer; part = part; whole = false; next = index_after e.index answer }
 
     -- its index isn't at the end
     next_here : IsNext e.index (index_after e.index answer) false answer
@@ -428,15 +441,16 @@ module _ (first : Index) (begun : List BegunCall) (calls : List AnsweredCall) (s
         omega arith))
         (at_end calls call a p at_p)
 
-    answered : IsAnswerOf first.layout.slots base s.history e (op_in m) (running_call m).limit answer → IsIndex done_index → Kept first begun (calls ++ call ∷ []) done_index
-    answered says index = record {
+    answered : IsAnswerOf first.layout.slots base s.history e (op_in m) (running_call m).limit answer → CallLists base s.history (op_in m) (count_in m) answer part → IsIndex done_index
+        → Kept first begun (calls ++ call ∷ []) done_index
+    answered says lists index = record {
       index = index;
       layout_is = k.layout_is;
       base_is = k.base_is;
       holds = λ j c at. ⊎_elim
           (λ (old : get_elem? calls j ≡ some c). k.holds j c old)
           (λ (last : (j ≡ length calls) × (call ≡ c)).
-          subst (CallHolds first.layout.slots base s.history) last.1 (tells_it answer says, omega arith))
+          subst (CallHolds first.layout.slots base s.history) last.1 (tells_it answer says, omega arith, lists))
           (at_end calls call c j at);
       order = ordered;
       earlier = λ j c p state at at_p caller. ⊎_elim
@@ -472,9 +486,10 @@ module _ (first : Index) (begun : List BegunCall) (calls : List AnsweredCall) (s
           (at_set s.states i p done state at_p);
     }
 
-    pub is_answered : IsAnswerOf s.layout.slots (map_of (stepped_index s i e m n).base) (stepped_index s i e m n).history e (op_in m) (running_call m).limit answer → IsIndex (stepped_index s i e m n)
-        → Kept first begun (calls ++ record { call = flying_call e m; until = length (stepped_index s i e m n).history; answer = answer; whole = false; next = index_after e.index answer } ∷ []) (stepped_index s i e m n)
-    is_answered says index =
+    pub is_answered : IsAnswerOf s.layout.slots (map_of (stepped_index s i e m n).base) (stepped_index s i e m n).history e (op_in m) (running_call m).limit answer
+        → CallLists (map_of (stepped_index s i e m n).base) (stepped_index s i e m n).history (op_in m) (count_in m) answer part → IsIndex (stepped_index s i e m n)
+        → Kept first begun (calls ++ record { call = flying_call e m; until = length (stepped_index s i e m n).history; answer = answer; part = part; whole = false; next = index_after e.index answer } ∷ []) (stepped_index s i e m n)
+    is_answered says lists index =
         let same : Path Index done_index (stepped_index s i e m n) = (λ t. record s {
           words = acted s.layout s.words (running_asks m);
           states = slice_set s.states i (state_after e (sym is t));
@@ -483,4 +498,5 @@ module _ (first : Index) (begun : List BegunCall) (calls : List AnsweredCall) (s
         }) in
         let says_now : IsAnswerOf first.layout.slots base s.history e (op_in m) (running_call m).limit answer =
         subst (λ (q : ℕ × (Map × List Write)). IsAnswerOf q.0 q.1.0 q.1.1 e (op_in m) (running_call m).limit answer) (λ t. ((k.layout_is t).slots, (k.base_is t, unwritten t))) says in
-        subst (λ (v : Index). Kept first begun (calls ++ record { call = flying_call e m; until = length v.history; answer = answer; whole = false; next = index_after e.index answer } ∷ []) v) same (answered says_now (subst IsIndex (sym same) index))
+        let lists_now : CallLists base s.history (op_in m) (count_in m) answer part = subst (λ (q : Map × List Write). CallLists q.0 q.1 (op_in m) (count_in m) answer part) (λ t. (k.base_is t, unwritten t)) lists in
+        subst (λ (v : Index). Kept first begun (calls ++ record { call = flying_call e m; until = length v.history; answer = answer; part = part; whole = false; next = index_after e.index answer } ∷ []) v) same (answered says_now lists_now (subst IsIndex (sym same) index))

@@ -21,20 +21,24 @@ use Rattle.call_stages.specs.AnySteps.{AnyStep}
 use Rattle.call_stages.specs.Footings.{FootStep}
 use Rattle.call_stages.specs.declared.view.View.{View}
 use Rattle.node_ops.specs.declared.running.Running.{Running}
-use Rattle.node_ops.specs.RunningSteps.{wrapped, running_call, running_asks, running_turned, running_takes, IsRunning, Sound}
+use Rattle.node_ops.specs.RunningSteps.{wrapped, count_in, running_call, running_asks, running_turned, running_takes, IsRunning, Sound}
 use Rattle.node_ops.specs.CallStages.{stage_of, stage_after, footing_of, footing_after, reply_of, SoundAfter}
 use Rattle.node_ops.proofs.CallLaw.{turns_are_foot_steps, turns_are_steps, leads_are_taken}
-use Rattle.node_ops.proofs.CallSound.{Stays, get_stays, put_stays, del_stays, turns_stay_sound}
+use Rattle.node_ops.proofs.LookupSound.{Stays}
+use Rattle.node_ops.proofs.CallSound.{get_stays, put_stays, del_stays, turns_stay_sound}
 use Rattle.node_ops.proofs.OpLaw.{turns_keep_op, op_told}
 use Rattle.node_ops.specs.Asked.{IsOf, IsOfAfter, op_in}
 use Rattle.node_ops.specs.declared.call.Call.{Call}
 use Rattle.node_ops.specs.declared.get.Get.{Get}
 use Rattle.node_ops.specs.declared.put.Put.{Put}
 use Rattle.node_ops.specs.declared.del.Del.{Del}
-use Rattle.node_ops.specs.declared.running.Running.TheVariants.{Getting, Putting, Deleting}
+use Rattle.node_ops.specs.declared.running.Running.TheVariants.{Getting, Putting, Deleting, Parting}
 use Rattle.node_ops.specs.GetSteps.{IsGet, get_call, get_turned}
 use Rattle.node_ops.specs.PutSteps.{IsPut, put_call, put_turned}
 use Rattle.node_ops.specs.DelSteps.{IsDel, del_call, del_turned}
+use Rattle.node_ops.specs.declared.part.Part.{Part}
+use Rattle.node_ops.specs.PartSteps.{IsPart, part_call, part_turned, placed_turn}
+use Rattle.node_ops.proofs.PartSound.{part_stays}
 use Rattle.cat_history.specs.declared.op.NameOp.{NameOp}
 use Rattle.index_law.specs.Worlds.{Party, World, facts, written, moved_on, stepped}
 use Rattle.index_law.specs.Lawful.{Sure, Lawful}
@@ -50,10 +54,13 @@ use Rattle.index_law.proofs.Parties.{at_set, set_here}
 use Rattle.index_core.specs.declared.party.PartyState.{PartyState}
 use Rattle.index_core.specs.declared.party.CoreCall.{CoreCall}
 use Rattle.index_core.specs.declared.party.CoreCall.TheVariants as call
-use Rattle.index_core.specs.CoreCalls.{machine_of, most_writes}
+use Rattle.index_core.specs.CoreCalls.{machine_of, most_writes, limit_of, count_of}
 use Rattle.index_core.specs.PartyStates.{machine_stage, machine_footing, party_of, state_with, state_after, state_counted, machine_owes, owes, owed, IsPartyState}
 use Rattle.node_ops.specs.Calls.{IsSame}
-use Rattle.index_core.specs.Indexes.{Index, world, IsIndex, view_of, started_index, told, stepped_index, MakesCall}
+use Rattle.index_core.specs.Listings.{ListsAt}
+use Rattle.index_core.proofs.PartFacts.{idle_ends}
+use Rattle.index_core.proofs.Ranges.{lists_at, step_ends, step_named}
+use Rattle.index_core.specs.Indexes.{Index, world, IsIndex, RunningEnds, view_of, started_index, told, stepped_index, MakesCall}
 use Rattle.index_core.proofs.Footings.{swap_footed, step_footed}
 use Rattle.index_core.proofs.Lists.{map_there, map_set, owed-set, set_twice}
 use Rattle.index_core.proofs.Ordering.{OwnsWrites, start_ordered, count_ordered, step_ordered, owns}
@@ -71,6 +78,7 @@ pub record StepFacts (s : Index) (party : ℕ) (state : PartyState) (machine : R
   pub kept : (spare : ℕ) → IsIndex (stepped_index s party state machine spare)
   pub weighs : (spare : ℕ) → RisesBy (AddsName s.layout (stage_of machine) (running_asks machine) (stage_after (running_turned machine (told s machine)))) (weight_sum (world s)) (weight_sum (world (stepped_index s party state machine spare)))
   pub counts : Counts s.layout (length s.history) (running_asks machine) (told s machine) (counted (stage_of machine))
+  pub lists : ListsAt s.layout (facts (world (stepped_index s party state machine 0))) machine
   pub owns : OwnsWrites (s.history ++ written state.caller state.index (counted (stage_of machine))) state machine
   pub legal : (spare : ℕ) → IsLegal s.layout s.generation (facts (world (stepped_index s party state machine spare))) state.caller state.index state.since (stage_of machine) (reply_of (running_turned machine (told s machine)))
 
@@ -118,6 +126,15 @@ set_states l g states i now all is j state at =
     (λ (t : (j ≢ i) × (get_elem? states j ≡ some state)). all j state t.1)
     (at_set states i j now state at)
 
+-- and what parts have of ranges, of which one is another
+pub ends_but : (s : Index) (i : ℕ) (now : PartyState) → IsIndex s → IfSome now.machine (RunningEnds s.layout (facts (world s)))
+    → (j : ℕ) (state : PartyState) → get_elem? (set s.states i now) j ≡ some state → IfSome state.machine (RunningEnds s.layout (facts (world s)))
+ends_but s i now is here j state at =
+    ⊎_elim
+    (λ (t : (j ≡ i) × (now ≡ state)). subst (λ (d : PartyState). IfSome d.machine (RunningEnds s.layout (facts (world s)))) t.1 here)
+    (λ (t : (j ≢ i) × (get_elem? s.states j ≡ some state)). is.ends j state t.1)
+    (at_set s.states i j now state at)
+
 -- each turn makes the same call
 same_call : {M : Type 0} (fits : M → Type 0) (of : M → Call) (wrap : M → Running) (c : Call) (turn : Turn M (Once Placed)) → ((m : M) → running_call (wrap m) ≡ of m) → Stays fits of c turn → MakesCall c (wrapped wrap turn)
 same_call fits of wrap c (Go machine) same stays = subst (IsSame c) (sym (same machine)) stays.1
@@ -127,6 +144,7 @@ keeps_call : (machine : Running) (x : ℕ) → running_takes machine x → Makes
 keeps_call (Getting get) x takes = same_call IsGet get_call (λ (m : Get). Getting m) (get_call get) (get_turned get x) (λ m. refl) (get_stays get x takes.0 takes.1)
 keeps_call (Putting put) x takes = same_call IsPut put_call (λ (m : Put). Putting m) (put_call put) (put_turned put x) (λ m. refl) (put_stays put x takes.0 takes.1 takes.2)
 keeps_call (Deleting del) x takes = same_call IsDel del_call (λ (m : Del). Deleting m) (del_call del) (del_turned del x) (λ m. refl) (del_stays del x takes.0 takes.1 takes.2)
+keeps_call (Parting p) x takes = same_call IsPart part_call (λ (m : Part). Parting m) (part_call p) (placed_turn (part_turned p x)) (λ m. refl) (part_stays p x takes.0 takes.1)
 
 calls_so : {i : ℕ} (machine : Running) (turn : Turn Running (Once Placed)) → (running_call machine).view.caller ≡ i → MakesCall (running_call machine) turn → CallsSo i turn
 calls_so machine (Go next) caller same = ap (λ (c : Call). c.view.caller) same ∙ caller
@@ -193,7 +211,10 @@ step_facts s i state machine is there flies =
             (after_state l g i state (op_in machine) turn own.caller (turns_stay_sound l g machine x sound act.told taken) kept_op (calls_so machine turn (caller ∙ own.caller) (keeps_call machine x takes)));
         ordered = step_ordered s i state machine is.states is.ordered is.lawful.clock there flies kept_op;
         bounded = step_bounded s i state machine is there flies (keeps_call machine x takes) kept_op;
+        named = step_named s i state machine is lawful;
+        ends = step_ends s i state machine is there flies lawful step;
       };
+      lists = lists_at s i state machine is there flies;
       owns = owns s i state machine is.states is.ordered is.lawful.clock there flies;
       counts = subst (λ (u : Stage). Counts l (length s.history) a x (counted u)) stage law.counts;
       legal = λ spare. subst (λ (u : World). IsLegal l g (facts u) state.caller state.index state.since (stage_of machine) (reply_of turn)) same
@@ -221,32 +242,59 @@ pub machine_idle : (s : Index) (party : ℕ) (c : CoreCall) → stage_of (machin
 machine_idle s party (call.Put name value limit) = refl
 machine_idle s party (call.Get name) = refl
 machine_idle s party (call.Del name limit) = refl
+machine_idle s party (call.Part low count) = refl
+machine_idle s party (call.Recheck node version) = refl
 
 pub machine_begins : (s : Index) (party : ℕ) (c : CoreCall) → IsRunning (machine_of (view_of s party) c) → Sound s.layout s.generation (machine_of (view_of s party) c)
 machine_begins s party (call.Put name value limit) here = record { layout = refl; generation = refl; here = here }
 machine_begins s party (call.Get name) here = record { layout = refl; generation = refl; here = here }
 machine_begins s party (call.Del name limit) here = record { layout = refl; generation = refl; here = here }
+machine_begins s party (call.Part low count) here = record { layout = refl; generation = refl; here = here }
+machine_begins s party (call.Recheck node version) here = record { layout = refl; generation = refl; here = here }
 
 machine_op : (s : Index) (party : ℕ) (c : CoreCall) → IsOf (op_in (machine_of (view_of s party) c)) (machine_of (view_of s party) c)
 machine_op s party (call.Put name value limit) = (refl, refl)
 machine_op s party (call.Get name) = refl
 machine_op s party (call.Del name limit) = (refl, tt)
+machine_op s party (call.Part low count) = refl
+machine_op s party (call.Recheck node version) = refl
 
 begins_own : (s : Index) (party : ℕ) (c : CoreCall) → (running_call (machine_of (view_of s party) c)).view.caller ≡ party
 begins_own s party (call.Put name value limit) = refl
 begins_own s party (call.Get name) = refl
 begins_own s party (call.Del name limit) = refl
+begins_own s party (call.Part low count) = refl
+begins_own s party (call.Recheck node version) = refl
 
 -- and has no line, and owes nothing
 begins_free : (view : View) (c : CoreCall) → machine_footing (Some (machine_of view c)) ≡ machine_footing None
 begins_free view (call.Put name value limit) = refl
 begins_free view (call.Get name) = refl
 begins_free view (call.Del name limit) = refl
+begins_free view (call.Part low count) = refl
+begins_free view (call.Recheck node version) = refl
 
 pub machine_writes : (s : Index) (party : ℕ) (c : CoreCall) → owes (machine_of (view_of s party) c) ≡ most_writes c
 machine_writes s party (call.Put name value limit) = refl
 machine_writes s party (call.Get name) = refl
 machine_writes s party (call.Del name limit) = refl
+machine_writes s party (call.Part low count) = refl
+machine_writes s party (call.Recheck node version) = refl
+
+-- it has the limit and the count of the call
+pub begins_limit : (s : Index) (i : ℕ) (c : CoreCall) → (running_call (machine_of (view_of s i) c)).limit ≡ limit_of c
+begins_limit s i (call.Put name value limit) = refl
+begins_limit s i (call.Get name) = refl
+begins_limit s i (call.Del name limit) = refl
+begins_limit s i (call.Part low count) = refl
+begins_limit s i (call.Recheck node version) = refl
+
+pub begins_count : (v : View) (c : CoreCall) → count_in (machine_of v c) ≡ count_of c
+begins_count v (call.Put name value limit) = refl
+begins_count v (call.Get name) = refl
+begins_count v (call.Del name limit) = refl
+begins_count v (call.Part low count) = refl
+begins_count v (call.Recheck node version) = refl
 
 pub start_keeps : (s : Index) (party : ℕ) (state : PartyState) (c : CoreCall) (spare : ℕ) → IsIndex s → get_elem? s.states party ≡ some state → state.machine ≡ None
     → IsRunning (machine_of (view_of s party) c) → IsIndex (started_index s party state c spare)
@@ -267,6 +315,8 @@ start_keeps s i state c spare is there idle here =
       states = set_states s.layout s.generation s.states i now is.states (record { caller = (is.states i state there).caller; machine = machine_begins s i c here; op = machine_op s i c; own = begins_own s i c });
       ordered = start_ordered s.states s.history i state m is.ordered;
       bounded = start_bounded s i state c is here;
+      named = is.named;
+      ends = ends_but s i now is (idle_ends s.layout (facts (world s)) m (machine_idle s i c));
     }
 
 pub start_owes : (s : Index) (party : ℕ) (state : PartyState) (c : CoreCall) → get_elem? s.states party ≡ some state → state.machine ≡ None
@@ -296,6 +346,8 @@ count_keeps s i state spare is there idle =
       states = set_states s.layout s.generation s.states i now is.states (record { caller = own.caller; machine = own.machine; op = own.op; own = own.own });
       ordered = count_ordered s.states s.history i state idle is.ordered;
       bounded = count_bounded s i state is idle;
+      named = is.named;
+      ends = ends_but s i now is (subst (λ (o : Option Running). IfSome o (RunningEnds s.layout (facts (world s)))) (sym idle) tt);
     }
 
 -- and owes what it owed
@@ -304,7 +356,7 @@ count_owes s i state there = let moved = owed-set s.states i state (state_counte
 
 -- how much room is told of an index is none of its laws
 pub respare : (s : Index) (spare : ℕ) → IsIndex s → IsIndex (record s { spare = spare })
-respare s spare is = record { lawful = is.lawful; whole = is.whole; tended = is.tended; parties = is.parties; states = is.states; ordered = is.ordered; bounded = is.bounded }
+respare s spare is = record { lawful = is.lawful; whole = is.whole; tended = is.tended; parties = is.parties; states = is.states; ordered = is.ordered; bounded = is.bounded; named = is.named; ends = is.ends }
 
 -- the index that a step leaves, at values that are equal to its own
 pub step_at : (s : Index) (i : ℕ) (e r e' : PartyState) (m m' : Running) (row : Row) (got' : ℕ) (turn : Turn Running (Once Placed)) (history : List Write) (spare : ℕ)

@@ -1,5 +1,5 @@
 -- One try of a call, with no other in flight.
-use Rattle.std.proofs.Common.{◌≡◌, ◌≢◌, ℕ, suc, ◌+◌, ◌<◌, ◌≤◌, ◌^◌, inl, inr, ⊎_elim, List, ◌++◌, length, set, slice_set, map, refl, sym, ap, ◌∙◌, subst, arith}
+use Rattle.std.proofs.Common.{◌≡◌, ◌≢◌, ℕ, suc, ◌+◌, ◌<◌, ◌≤◌, ◌^◌, inl, inr, ⊎_elim, List, [], ◌++◌, length, set, slice_set, map, refl, sym, ap, ◌∙◌, subst, arith}
 use Rattle.std.specs.Prelude.{Option, Some, None, IfSome}
 use mathlib.Core.Option.{some, none, some-injective}
 use lib.ListN.{get_elem?}
@@ -19,37 +19,38 @@ use Rattle.call_stages.specs.declared.view.View.{View}
 use Rattle.node_ops.specs.declared.running.Running.{Running}
 use Rattle.call_stages.specs.Views.{IsView}
 use Rattle.node_ops.specs.Asked.{IsOf, op_in, name_asked}
-use Rattle.node_ops.specs.RunningSteps.{running_call, running_asks, running_turned, running_left, IsRunning}
-use Rattle.node_ops.specs.CallStages.{stage_of}
+use Rattle.node_ops.specs.RunningSteps.{running_asks, running_turned, running_left, count_in, IsRunning}
+use Rattle.node_ops.specs.CallStages.{stage_of, reply_of}
+use Rattle.node_ops.proofs.PartListing.{count_stays}
 use Rattle.node_ops.proofs.OpLaw.{op_told}
 use Rattle.index_law.specs.Facts.{Facts}
-use Rattle.index_law.specs.Worlds.{Party, World, facts, stepped, moved_on, written}
+use Rattle.index_law.specs.Worlds.{Party, World, facts, stepped, started, moved_on, written}
 use Rattle.index_law.specs.Weights.{weight_sum}
 use Rattle.index_law.proofs.Parties.{at_set, set_here}
 use Rattle.lone_law.specs.Locks.{locks_of, fewest_locks}
 use Rattle.lone_law.specs.Merging.{FindsMerge, HasKeptList, IsMergedSince, LeavesShape}
-use Rattle.lone_law.specs.LoneCalls.{LoneCall, IsAnswered, LosesLocks, AfterCall, ValueFits, machine_for}
+use Rattle.lone_law.specs.LoneCalls.{LoneCall, IsAnswered, LosesLocks, AfterCall, ValueFits, begun_party}
 use Rattle.lone_law.specs.Tries.{IsHalvedSince}
 use Rattle.lone_law.proofs.Locks.{fewest_lose}
-use Rattle.lone_law.proofs.LoneCalls.{lone_calls_begin, lone_calls_go}
+use Rattle.lone_law.proofs.LoneCalls.{lone_calls_begin, lone_parts_begin, lone_calls_go}
 use Rattle.index_core.specs.declared.party.PartyState.{PartyState}
 use Rattle.index_core.specs.declared.party.CoreCall.{CoreCall}
 use Rattle.index_core.specs.declared.party.CoreCall.TheVariants as call
-use Rattle.index_core.specs.declared.party.CoreReply.{CoreReply}
-use Rattle.index_core.specs.declared.party.CoreReply.TheVariants as reply
-use Rattle.index_core.specs.declared.party.Stepped.{Stepped}
-use Rattle.index_core.specs.declared.party.Stepped.TheVariants.{Going, Answered}
-use Rattle.index_core.specs.CoreCalls.{machine_of, op_of, limit_of, most_writes}
-use Rattle.index_core.specs.PartyStates.{party_of, state_with, state_after, stepped_of, machine_owes, owed}
-use Rattle.index_core.specs.Indexes.{Index, room_of, world, IsIndex, IsInFlight, view_of, Starts, started_index, told, stepped_index, StepsTo}
-use Rattle.index_core.specs.Lone.{IsQuiet, TriesAlone, answer_in, locks_left, LoseAtMost}
+use Rattle.index_core.specs.CoreCalls.{machine_of, op_of, limit_of, count_of, most_writes}
+use Rattle.index_core.specs.PartyStates.{party_of, state_with, state_after, machine_owes, owed}
+use Rattle.index_core.specs.Indexes.{Index, room_of, world, IsIndex, IsInFlight, view_of, Starts, started_index, told, stepped_index, TurnsTo}
+use Rattle.index_core.specs.Lone.{IsQuiet, TriesAlone, locks_left, LoseAtMost}
 use Rattle.index_core.specs.MachineLaws.{MachineLaw, showing, showing_after}
 use Rattle.index_core.specs.Weights.{weight_of, added_by}
 use Rattle.index_core.proofs.Bounds.{bounded_small}
 use Rattle.index_core.proofs.Lists.{map_there, map_set, set_twice, owed-set, quiet-owed}
 use Rattle.index_core.proofs.Quiet.{quiet_empty, rests}
+use Rattle.index_law.specs.Laws.{IsAtRest}
+use Rattle.lone_law.specs.Splitting.{AreEmpty}
+use Rattle.cat_history.specs.declared.op.NameOp.TheVariants as op
 use Rattle.index_core.proofs.MachineLaw.{machine_law, begin_law, idle_weigh}
-use Rattle.index_core.proofs.Stepping.{machine_idle, machine_writes}
+use Rattle.index_core.proofs.Stepping.{begins_count, machine_idle, machine_writes}
+use Rattle.index_core.proofs.Told.{go_of, done_of}
 
 -- One call is in flight, as the index was s0 before it.
 pub record Lone (s0 s : Index) (i : ℕ) (c : CoreCall) : Type 0 where
@@ -62,6 +63,7 @@ pub record Lone (s0 s : Index) (i : ℕ) (c : CoreCall) : Type 0 where
   pub states : s.states ≡ slice_set s0.states i (state_with state (length s0.history) machine)
   pub index : IsIndex s
   pub call : LoneCall (world s0) i (op_of c) (limit_of c) (world s) (party_of (state_with state (length s0.history) machine)) machine
+  pub count : count_in machine ≡ count_of c
   pub same_base : s.base ≡ s0.base
   pub weighs : weight_sum (world s) ≤ weight_of s0 + showing (Some machine)
   pub room : length s0.history + s0.spare ≤ room_of s
@@ -91,11 +93,6 @@ left_of (Some machine) = suc (running_left machine)
 abbrev pub left_at : Index → ℕ → ℕ
 left_at s i = elim (get_elem? s.states i) [ none ↦ 0 | some state ↦ left_of state.machine ]
 
-pub begins_limit : (s : Index) (i : ℕ) (c : CoreCall) → (running_call (machine_of (view_of s i) c)).limit ≡ limit_of c
-begins_limit s i (call.Put name value limit) = refl
-begins_limit s i (call.Get name) = refl
-begins_limit s i (call.Del name limit) = refl
-
 -- what is asked of a call that begins
 record Asks (v : View) (c : CoreCall) : Type 0 where
   view : IsView v
@@ -107,11 +104,22 @@ asks : (v : View) (c : CoreCall) → IsRunning (machine_of v c) → IsOf (op_of 
 asks v (call.Put name value limit) here of = record { view = here.0.call.view; named = subst IsName of.0 here.0.call.packed.named; limit = here.0.call.limit; value = here.1 }
 asks v (call.Get name) here of = record { view = here.call.view; named = subst IsName of here.call.packed.named; limit = tt; value = tt }
 asks v (call.Del name limit) here of = record { view = here.call.view; named = subst IsName of.0 here.call.packed.named; limit = here.call.limit; value = tt }
+asks v (call.Part low count) here of = record { view = here.call.view; named = subst IsName of here.call.packed.named; limit = tt; value = tt }
+asks v (call.Recheck node version) here of = record { view = here.call.view; named = subst IsName of here.call.packed.named; limit = tt; value = tt }
 
-same_machine_for : (v : View) (c : CoreCall) → machine_for (op_of c) v (limit_of c) ≡ machine_of v c
-same_machine_for v (call.Put name value limit) = refl
-same_machine_for v (call.Get name) = refl
-same_machine_for v (call.Del name limit) = refl
+-- whatever is called begins so
+begins_alone : (w0 : World) (i : ℕ) (c : CoreCall) (p : Party) (index : ℕ) (v : View) → IsAtRest w0 → get_elem? w0.parties i ≡ some p → v.layout ≡ w0.layout → v.generation ≡ w0.generation → AreEmpty w0.layout w0.words → Asks v c
+    → LoneCall w0 i (op_of c) (limit_of c) (started w0 i p index) (begun_party w0 p index) (machine_of v c)
+begins_alone w0 i (call.Put name value limit) p index v rest there layout generation empty ask =
+    lone_calls_begin w0 i (op.Put name value) (Some limit) p index v rest there ask.view layout generation ask.named ask.limit ask.value empty
+begins_alone w0 i (call.Get name) p index v rest there layout generation empty ask =
+    lone_calls_begin w0 i (op.Get name) None p index v rest there ask.view layout generation ask.named ask.limit ask.value empty
+begins_alone w0 i (call.Del name limit) p index v rest there layout generation empty ask =
+    lone_calls_begin w0 i (op.Del name) (Some limit) p index v rest there ask.view layout generation ask.named ask.limit ask.value empty
+begins_alone w0 i (call.Part low count) p index v rest there layout generation empty ask =
+    lone_parts_begin w0 i low count p index v rest there ask.view layout generation ask.named empty
+begins_alone w0 i (call.Recheck node version) p index v rest there layout generation empty ask =
+    lone_calls_begin w0 i (op.Get []) None p index v rest there ask.view layout generation ask.named ask.limit ask.value empty
 
 -- the call as it begins
 begun_call : (s0 : Index) (i : ℕ) (e : PartyState) (c : CoreCall) (n : ℕ) → IsIndex s0 → IsQuiet s0 → get_elem? s0.states i ≡ some e → IsRunning (machine_of (view_of s0 i) c)
@@ -121,14 +129,13 @@ begun_call s0 i e c n is quiet there here of =
     let v = view_of s0 i in
     let m = machine_of v c in
     let now = state_with e (length s0.history) m in
-    let ask = asks v c here of in
-    let first = lone_calls_begin (world s0) i (op_of c) (limit_of c) (party_of e) e.index v (rests s0 is quiet) (map_there party_of s0.states i e there) ask.view refl refl ask.named ask.limit ask.value (quiet_empty s0 is quiet) in
-    let idle : Party = record { caller = e.caller; index = e.index; since = length s0.history; stage = Idle } in
+    let first = begins_alone (world s0) i c (party_of e) e.index v (rests s0 is quiet) (map_there party_of s0.states i e there) refl refl (quiet_empty s0 is quiet) (asks v c here of) in
+    let idle : Party = begun_party (world s0) (party_of e) e.index in
     let party : idle ≡ party_of now = (λ k. record { caller = e.caller; index = e.index; since = length s0.history; stage = sym (machine_idle s0 i c) k }) in
     let parties : slice_set (map party_of s0.states) i idle ≡ map party_of (slice_set s0.states i now) =
     ap (slice_set (map party_of s0.states) i) party ∙ sym (map_set party_of s0.states i now) in
-    subst (λ (q : (List Party × Party) × Running). LoneCall (world s0) i (op_of c) (limit_of c) (record (world s0) { parties = q.0.0 }) q.0.1 q.1)
-    (λ k. ((parties k, party k), same_machine_for v c k)) first
+    subst (λ (q : List Party × Party). LoneCall (world s0) i (op_of c) (limit_of c) (record (world s0) { parties = q.0 }) q.1 m)
+    (λ k. (parties k, party k)) first
 
 pub lone_start : (s0 s : Index) (i : ℕ) (c : CoreCall) → IsIndex s0 → IsQuiet s0 → Starts s0 i c s → s.spare + most_writes c ≡ s0.spare → IsIndex s → Lone s0 s i c
 lone_start s0 s i c is0 quiet t spare is =
@@ -153,33 +160,33 @@ lone_start s0 s i c is0 quiet t spare is =
       states = refl;
       index = is';
       call = begun_call s0 i t.state c s.spare is0 quiet t.there here t.of;
+      count = begins_count (view_of s0 i) c;
       same_base = refl;
       weighs = omega arith;
       room = room;
     })
 
-pub go_of : (turn : Turn Running (Once Placed)) → stepped_of turn ≡ Going → (next : Running) × (turn ≡ Go next)
-go_of (Go next) is = (next, refl)
-go_of (Done answer) is = absurd (cc)
-
-pub done_of : (turn : Turn Running (Once Placed)) (answer : Once Placed) → stepped_of turn ≡ Answered (reply.Placed answer) → turn ≡ Done answer
-done_of (Go next) answer is = absurd (cc)
-done_of (Done other) answer is = cc
+pub lone_there : (s0 s : Index) (i : ℕ) (c : CoreCall) (o : Lone s0 s i c) → get_elem? s.states i ≡ some (state_with o.state (length s0.history) o.machine)
+lone_there s0 s i c o =
+    ap (λ (l : List PartyState). get_elem? l i) o.states ∙ set_here s0.states i (state_with o.state (length s0.history) o.machine) o.state o.there
 
 pub lone_flies : (s0 s : Index) (i : ℕ) (c : CoreCall) → Lone s0 s i c → IsInFlight s i
-lone_flies s0 s i c o =
-    let e = state_with o.state (length s0.history) o.machine in
-    record { state = e; machine = o.machine; there = ap (λ (l : List PartyState). get_elem? l i) o.states ∙ set_here s0.states i e o.state o.there; flies = refl }
+lone_flies s0 s i c o = record { state = state_with o.state (length s0.history) o.machine; machine = o.machine; there = lone_there s0 s i c o; flies = refl }
 
 some_same : {a b : Running} → Some a ≡ Some b → a ≡ b
 some_same e = cc
 
-module _ (s0 s s' : Index) (i : ℕ) (c : CoreCall) (result : Stepped) (o : Lone s0 s i c) (t : StepsTo s i s' result) (is' : IsIndex s') (room : room_of s ≤ room_of s') where
+-- the party that it is in flight of has that machine
+pub lone_machine : (s0 s : Index) (i : ℕ) (c : CoreCall) (o : Lone s0 s i c) (state : PartyState) (machine : Running) → get_elem? s.states i ≡ some state → state.machine ≡ Some machine → machine ≡ o.machine
+lone_machine s0 s i c o state machine there flies =
+    some_same (sym flies ∙ ap (λ (d : PartyState). d.machine) (some-injective _ _ (sym there ∙ lone_there s0 s i c o)))
+
+module _ (s0 s s' : Index) (i : ℕ) (c : CoreCall) (result : Option (Once Placed)) (o : Lone s0 s i c) (t : TurnsTo s i s' result) (is' : IsIndex s') (room : room_of s ≤ room_of s') where
   abbrev e : PartyState
   e = state_with o.state (length s0.history) o.machine
 
   at_i : get_elem? s.states i ≡ some e
-  at_i = ap (λ (l : List PartyState). get_elem? l i) o.states ∙ set_here s0.states i e o.state o.there
+  at_i = lone_there s0 s i c o
 
   abbrev x : ℕ
   x = told s o.machine
@@ -191,20 +198,20 @@ module _ (s0 s s' : Index) (i : ℕ) (c : CoreCall) (result : Stepped) (o : Lone
   entry_same : t.state ≡ e
   entry_same = some-injective _ _ (sym t.there ∙ at_i)
 
-  machine_same : t.machine ≡ o.machine
-  machine_same = some_same (sym t.flies ∙ ap (λ (d : PartyState). d.machine) entry_same)
+  pub turn_machine : t.machine ≡ o.machine
+  turn_machine = lone_machine s0 s i c o t.state t.machine t.there t.flies
 
   is : s' ≡ stepped_index s i e o.machine s'.spare
-  is = t.is ∙ (λ k. stepped_index s i (entry_same k) (machine_same k) s'.spare)
+  is = t.is ∙ (λ k. stepped_index s i (entry_same k) (turn_machine k) s'.spare)
 
-  comes_to : result ≡ stepped_of (running_turned o.machine x)
-  comes_to = t.comes_to ∙ ap (λ (m : Running). stepped_of (running_turned m (told s m))) machine_same
+  pub turn_told : result ≡ reply_of (running_turned o.machine x)
+  turn_told = t.answers ∙ ap (λ (m : Running). reply_of (running_turned m (told s m))) turn_machine
 
   law : MachineLaw s i e o.machine
   law = machine_law s i e o.machine o.index at_i refl
 
   fewer : GoesBelow running_left (running_left o.machine) (running_turned o.machine x)
-  fewer = subst (λ (m : Running). GoesBelow running_left (running_left m) (running_turned m (told s m))) machine_same t.fewer
+  fewer = subst (λ (m : Running). GoesBelow running_left (running_left m) (running_turned m (told s m))) turn_machine t.fewer
 
   goes : AfterCall (world s0) i (op_of c) (limit_of c) (world s) p o.machine (running_turned o.machine x)
   goes = lone_calls_go (world s0) i (op_of c) (limit_of c) (world s) p o.machine x o.call (rests s0 o.before o.quiet) refl (bounded_small s o.index)
@@ -241,9 +248,9 @@ module _ (s0 s s' : Index) (i : ℕ) (c : CoreCall) (result : Stepped) (o : Lone
   same_layout : s'.layout ≡ s0.layout
   same_layout = ap (λ (v : Index). v.layout) is ∙ o.call.trying.layout
 
-  pub lone_goes : result ≡ Going → Lone s0 s' i c × (suc (left_at s' i) ≤ left_at s i)
+  pub lone_goes : result ≡ None → Lone s0 s' i c × (suc (left_at s' i) ≤ left_at s i)
   lone_goes going =
-      let go = go_of (running_turned o.machine x) (sym comes_to ∙ going) in
+      let go = go_of (running_turned o.machine x) (sym turn_told ∙ going) in
       let next = go.0 in
       let states = entries_are (Go next) go.1 in
       let there = ap (λ (l : List PartyState). get_elem? l i) states ∙ set_here s0.states i (state_with o.state (length s0.history) next) o.state o.there in
@@ -267,6 +274,7 @@ module _ (s0 s s' : Index) (i : ℕ) (c : CoreCall) (result : Stepped) (o : Lone
           states = states;
           index = is';
           call = subst (λ (w : World). LoneCall (world s0) i (op_of c) (limit_of c) w (moved_on p (stage_of next)) next) (sym (world_is next go.1)) call_on;
+          count = count_stays o.machine next x go.1 ∙ o.count;
           same_base = ap (λ (v : Index). v.base) is ∙ o.same_base;
           weighs = omega arith;
           room = omega arith;
@@ -277,9 +285,9 @@ module _ (s0 s s' : Index) (i : ℕ) (c : CoreCall) (result : Stepped) (o : Lone
       left_in : mathlib.Core.Option.Option PartyState → ℕ
       left_in found = elim found [ none ↦ 0 | some state ↦ left_of state.machine ]
 
-  lone_quiet : (answer : Once Placed) → result ≡ Answered (reply.Placed answer) → IsQuiet s'
+  pub lone_quiet : (answer : Once Placed) → result ≡ Some answer → IsQuiet s'
   lone_quiet answer answered j state at =
-      let done = done_of (running_turned o.machine x) answer (sym comes_to ∙ answered) in
+      let done = done_of (running_turned o.machine x) answer (sym turn_told ∙ answered) in
       let states = entries_are (Done answer) done in
       ⊎_elim
       (λ (mine : (j ≡ i) × (state_after e (Done answer) ≡ state)). ap (λ (d : PartyState). d.machine) (sym mine.1))
@@ -287,9 +295,9 @@ module _ (s0 s s' : Index) (i : ℕ) (c : CoreCall) (result : Stepped) (o : Lone
       (at_set s0.states i j (state_after e (Done answer)) state (ap (λ (l : List PartyState). get_elem? l j) (sym states) ∙ at))
 
   -- how it ends
-  module _ (answer : Once Placed) (answered : result ≡ Answered (reply.Placed answer)) where
+  module _ (answer : Once Placed) (answered : result ≡ Some answer) where
     done : running_turned o.machine x ≡ Done answer
-    done = done_of (running_turned o.machine x) answer (sym comes_to ∙ answered)
+    done = done_of (running_turned o.machine x) answer (sym turn_told ∙ answered)
 
     ended : IsAnswered (world s0) (op_of c) (limit_of c) (stepped (world s) i p (running_asks o.machine) Idle) p answer
     ended = (subst (AfterCall (world s0) i (op_of c) (limit_of c) (world s) p o.machine) done goes).1
@@ -325,7 +333,7 @@ module _ (s0 s s' : Index) (i : ℕ) (c : CoreCall) (result : Stepped) (o : Lone
         let after = idle_weigh s' (lone_quiet answer answered) in
         omega arith
 
-    lone_tries : TriesAlone s0 i c s' answer
+    pub lone_tries : TriesAlone s0 i c s' answer
     lone_tries = record {
       state = o.state;
       there = o.there;
@@ -339,32 +347,19 @@ module _ (s0 s s' : Index) (i : ℕ) (c : CoreCall) (result : Stepped) (o : Lone
     }
 
   -- each node has lost one lock at most
-  locks_after : (answer : Once Placed) → result ≡ Answered (reply.Placed answer) → LosesLocks (world s0) (world s')
+  locks_after : (answer : Once Placed) → result ≡ Some answer → LosesLocks (world s0) (world s')
   locks_after answer answered =
       subst (λ (f : Facts). (m : ℕ) → locks_of s0.generation ((facts (world s0)).version m) ≤ locks_of s0.generation (f.version m) + 1) (sym (facts_are Idle))
       (subst (AfterCall (world s0) i (op_of c) (limit_of c) (world s) p o.machine) (done answer answered) goes).2
 
-  lone_locks : (answer : Once Placed) → result ≡ Answered (reply.Placed answer) → locks_left s0 ≤ locks_left s' + 1
+  pub lone_locks : (answer : Once Placed) → result ≡ Some answer → locks_left s0 ≤ locks_left s' + 1
   lone_locks answer answered =
       subst (λ (q : ℕ × ℕ). locks_left s0 ≤ fewest_locks q.0 (facts (world s')).version q.1 + 1) (λ k. (sym same_generation k, (sym same_layout k).nodes))
       (fewest_lose s0.generation (facts (world s0)).version (facts (world s')).version s0.layout.nodes (locks_after answer answered))
 
-  lone_each : (answer : Once Placed) → result ≡ Answered (reply.Placed answer) → LoseAtMost 1 s0 s'
+  pub lone_each : (answer : Once Placed) → result ≡ Some answer → LoseAtMost 1 s0 s'
   lone_each answer answered n =
       subst (λ (g : ℕ). locks_of s0.generation ((facts (world s0)).version n) ≤ locks_of g ((facts (world s')).version n) + 1) (sym same_generation) (locks_after answer answered n)
-
-  -- the same of the answer as a step tells it
-  pub reply_tries : (r : CoreReply) → result ≡ Answered r → TriesAlone s0 i c s' (answer_in r)
-  reply_tries (reply.Placed answer) answered = lone_tries answer answered
-
-  pub reply_quiet : (r : CoreReply) → result ≡ Answered r → IsQuiet s'
-  reply_quiet (reply.Placed answer) answered = lone_quiet answer answered
-
-  pub reply_locks : (r : CoreReply) → result ≡ Answered r → locks_left s0 ≤ locks_left s' + 1
-  reply_locks (reply.Placed answer) answered = lone_locks answer answered
-
-  pub reply_each : (r : CoreReply) → result ≡ Answered r → LoseAtMost 1 s0 s'
-  reply_each (reply.Placed answer) answered = lone_each answer answered
 
 -- what a try leaves spare
 pub spare_left : (s0 s s' : Index) (i : ℕ) (c : CoreCall) → Lone s0 s i c → room_of s ≤ room_of s' → IsQuiet s' → s0.spare + length s0.history ≤ s'.spare + length s'.history

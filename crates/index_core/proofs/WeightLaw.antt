@@ -29,15 +29,15 @@ use Rattle.index_core.specs.declared.party.PartyState.{PartyState}
 use Rattle.index_core.specs.declared.party.Whole.{Whole}
 use Rattle.index_core.specs.declared.party.Whole.TheVariants as whole
 use Rattle.index_core.specs.CoreCalls.{op_of, machine_of}
-use Rattle.index_core.specs.PartyStates.{machine_stage, party_of, state_with, state_after, index_after, next_index}
+use Rattle.index_core.specs.PartyStates.{machine_stage, party_of, state_with, state_after, index_after, next_index, answer_in, listed_by}
 use Rattle.index_core.specs.Indexes.{Index, IsIndex, world, view_of, told}
 use Rattle.index_core.specs.Lone.{IsQuiet, state_done}
-use Rattle.index_core.specs.Schedules.{BegunCall, AnsweredCall, begun_call, flying_call, once_of, Runs, begins, starts, goes_on, answers, alone, evicts, reserves}
+use Rattle.index_core.specs.Schedules.{BegunCall, AnsweredCall, begun_call, flying_call, once_of, listed_of, Runs, begins, starts, goes_on, answers, alone, evicts, reserves}
 use Rattle.index_core.specs.Weights.{weight_of, put_count, added_if, added_by, added_whole, put_in}
 use Rattle.index_core.specs.WeightBounds.{names_added, puts_in_flight, WeightIsBounded}
 use Rattle.index_core.proofs.Crashing.{crash_light}
 use Rattle.index_core.proofs.Quiet.{quiet_parties}
-use Rattle.index_core.proofs.Tries.{go_of, done_of}
+use Rattle.index_core.proofs.Told.{go_of, done_of}
 use Rattle.index_core.proofs.Lists.{map_there, map_set}
 use Rattle.index_core.proofs.OneHistory.{none_flies}
 use Rattle.index_core.specs.MachineLaws.{shows}
@@ -159,11 +159,13 @@ record Weighs (first : Index) (calls : List AnsweredCall) (s : Index) : Type 0 w
   pub index : IsIndex s
   pub sum : weight_sum (world s) ≤ bound first calls s
 
-same_added : (asked : NameOp) (result : Whole) → added_by asked (once_of result) ≡ added_whole asked result
-same_added asked (whole.Placed placed) = refl
-same_added asked whole.Full = refl
-same_added asked (whole.Spent clock) = refl
-same_added asked (whole.Worn node word) = refl
+-- a whole call adds no more than is counted
+counts_added : (asked : NameOp) (result : Whole) → added_whole asked result ≤ added_by asked (once_of result)
+counts_added asked (whole.Placed placed) = omega arith
+counts_added asked (whole.Part words) = omega arith
+counts_added asked whole.Full = omega arith
+counts_added asked (whole.Spent clock) = omega arith
+counts_added asked (whole.Worn node word) = omega arith
 
 -- with no call in flight the sum is the weight
 quiet_sum : (s : Index) → IsQuiet s → weight_sum (world s) ≡ weight_of s
@@ -203,11 +205,12 @@ module _ (first : Index) (quiet : IsQuiet first) (index : IsIndex first) where
       let now : weight_sum (world new) ≡ weight_sum (world old) = ap (λ (v : Index). weight_sum (world v)) t.is ∙ same.0 in
       let shown : showing_sum new.states ≡ showing_sum old.states = ap (λ (v : Index). showing_sum v.states) t.is ∙ same.1 in
       record { index = is; sum = omega arith }
-  weighs (goes_on {calls = calls} {old = old} {new = new} {party = party} run t is) =
+  weighs (goes_on {calls = calls} {old = old} {new = new} {party = party} run step is) =
+      let t = step.turned in
       let before = weighs run in
       let sum = before.sum in
       let m = t.machine in
-      let go = go_of (running_turned m (told old m)) (sym t.comes_to) in
+      let go = go_of (running_turned m (told old m)) (sym t.answers) in
       let next = go.0 in
       let of : IsOf (op_in m) m = subst (λ (o : Option Running). IfSome o (λ q. IsOf (op_in q) q)) t.flies (before.index.states party t.state t.there).op in
       let of_next : IsOf (op_in m) next = subst (IsOfAfter (op_in m)) go.1 (t.turn.keeps_op (op_in m) of) in
@@ -232,11 +235,13 @@ module _ (first : Index) (quiet : IsQuiet first) (index : IsIndex first) where
             omega arith)
             t.turn.weighs;
       }
-  weighs (answers {calls = calls} {old = old} {new = new} {party = party} {answer = answer} run t is) =
+  weighs (answers {calls = calls} {old = old} {new = new} {party = party} {reply = reply} run step is) =
+      let t = step.turned in
+      let answer = answer_in reply in
       let before = weighs run in
       let sum = before.sum in
       let m = t.machine in
-      let done = done_of (running_turned m (told old m)) answer (sym t.comes_to) in
+      let done = done_of (running_turned m (told old m)) answer (sym t.answers) in
       let states = ap (λ (v : Index). v.states) t.is in
       let state' = state_after t.state (Done answer) in
       let now : showing_sum new.states ≡ showing_sum (set old.states party state') = ap showing_sum (states ∙ ap (λ (turn : Turn Running (Once Placed)). set old.states party (state_after t.state turn)) done) in
@@ -245,7 +250,7 @@ module _ (first : Index) (quiet : IsQuiet first) (index : IsIndex first) where
       let told_it : shows (stage_of m) ≤ 0 + told_new (Some answer) = subst (λ (turn : Turn Running (Once Placed)). shows (stage_of m) ≤ shows (stage_after turn) + told_new (reply_of turn)) done (step_shows t.turn.kind) in
       let up : showing (Some m) ≤ showing_of (op_in m) (told_new (Some answer)) = showing_up (op_in m) (shows (stage_of m)) (told_new (Some answer)) (omega arith) in
       let added = told_added (op_in m) answer in
-      let call : AnsweredCall = record { call = flying_call t.state m; until = length new.history; answer = answer; whole = false; next = index_after t.state.index answer } in
+      let call : AnsweredCall = record { call = flying_call t.state m; until = length new.history; answer = answer; part = listed_by reply; whole = false; next = index_after t.state.index answer } in
       let longer = sum_by_push (λ (d : AnsweredCall). added_by d.call.op d.answer) calls call in
       record {
         index = is;
@@ -266,8 +271,8 @@ module _ (first : Index) (quiet : IsQuiet first) (index : IsIndex first) where
       let more : weight_sum (world new) ≤ weight_sum (world old) + added_whole (op_of c) result =
       subst (λ (q : ℕ × ℕ). q.0 ≤ q.1 + added_whole (op_of c) result) (λ k. (sym (quiet_sum new quiet_new) k, sym (quiet_sum old still) k)) r.weighs in
       let none = quiet_shows old.states still in
-      let same = same_added (op_of c) result in
-      let call : AnsweredCall = record { call = begun_call r.state (length old.history) c; until = length new.history; answer = once_of result; whole = true; next = next_index r.state.index } in
+      let within = counts_added (op_of c) result in
+      let call : AnsweredCall = record { call = begun_call r.state (length old.history) c; until = length new.history; answer = once_of result; part = listed_of result; whole = true; next = next_index r.state.index } in
       let longer = sum_by_push (λ (d : AnsweredCall). added_by d.call.op d.answer) calls call in
       record { index = is; sum = omega arith }
   weighs (evicts {calls = calls} {old = old} {new = new} {word = word} run within e is) =

@@ -14,9 +14,6 @@ use Rattle.call_stages.specs.declared.once.Placed.{Placed}
 use Rattle.node_ops.specs.Asked.{name_asked}
 use Rattle.node_ops.specs.Endings.{IsPutOp}
 use Rattle.index_core.specs.declared.party.PartyState.{PartyState}
-use Rattle.index_core.specs.declared.party.CoreReply.TheVariants as reply
-use Rattle.index_core.specs.declared.party.Stepped.{Stepped}
-use Rattle.index_core.specs.declared.party.Stepped.TheVariants.{Going, Answered}
 
 -- The write of the call stands at this place, with the change of the call; one that changes nothing has none.
 abbrev pub HasOwnWrite : List Write → ℕ → ℕ → Option Change → ℕ → Type 0
@@ -60,8 +57,7 @@ IsAnswerOf slots base history state op limit (once.Worn node word) = Unit {0}
 IsAnswerOf slots base history state op limit (once.Again why) =
     why ≡ NoFree → IsPutOp op × FoundNoRoom slots base history state.since (length history) (name_asked op)
 
--- What a step of it comes to.
-abbrev pub SaysOf : ℕ → Map → List Write → PartyState → NameOp → Option ℕ → Stepped → Type 0
-SaysOf slots base history state op limit Going = Unit {0}
-SaysOf slots base history state op limit (Answered (reply.Placed answer)) =
-    IsAnswerOf slots base history state op limit answer
+-- What a step of it is answered, if it is.
+abbrev pub SaysOf : ℕ → Map → List Write → PartyState → NameOp → Option ℕ → Option (Once Placed) → Type 0
+SaysOf slots base history state op limit None = Unit {0}
+SaysOf slots base history state op limit (Some answer) = IsAnswerOf slots base history state op limit answer

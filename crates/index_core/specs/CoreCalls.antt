@@ -1,43 +1,66 @@
 -- What is called of the core.
-use Rattle.std.specs.Prelude.{ℕ, ◌≤◌, ◌^◌, Option, Some, None}
+use Rattle.std.specs.Prelude.{ℕ, ◌≤◌, ◌^◌, [], Option, Some, None}
 use Rattle.cat_history.specs.declared.op.NameOp.{NameOp}
 use Rattle.cat_history.specs.declared.op.NameOp.TheVariants as op
 use Rattle.call_stages.specs.declared.view.View.{View}
 use Rattle.node_ops.specs.declared.get.Get.TheVariants as get
 use Rattle.node_ops.specs.declared.put.Put.TheVariants as put
 use Rattle.node_ops.specs.declared.del.Del.TheVariants as del
+use Rattle.node_ops.specs.declared.part.Part.TheVariants as part
 use Rattle.node_ops.specs.declared.running.Running.{Running}
-use Rattle.node_ops.specs.declared.running.Running.TheVariants.{Getting, Putting, Deleting}
+use Rattle.node_ops.specs.declared.running.Running.TheVariants.{Getting, Putting, Deleting, Parting}
 use Rattle.node_ops.specs.Calls.{new_call}
 use Rattle.node_ops.specs.LookupSteps.{starts}
 use Rattle.index_core.specs.declared.party.CoreCall.{CoreCall}
 use Rattle.index_core.specs.declared.party.CoreCall.TheVariants as call
 
--- What the call asks.
+-- No call begins as a recheck yet (`MayBegin`), so what stands for one in the functions below, a get of no name, says
+-- nothing.
+
+-- What the call asks. A part of a scan asks what its low name has, and lists besides.
 abbrev pub op_of : CoreCall → NameOp
 op_of (call.Put name value limit) = op.Put name value
 op_of (call.Get name) = op.Get name
 op_of (call.Del name limit) = op.Del name
+op_of (call.Part low count) = op.Get low
+op_of (call.Recheck node version) = op.Get []
+
+-- How many names it lists at most, if it is a part of a scan.
+abbrev pub count_of : CoreCall → Option ℕ
+count_of (call.Put name value limit) = None
+count_of (call.Get name) = None
+count_of (call.Del name limit) = None
+count_of (call.Part low count) = Some count
+count_of (call.Recheck node version) = None
 
 -- The clock at which it is refused, if there is one.
 abbrev pub limit_of : CoreCall → Option ℕ
 limit_of (call.Put name value limit) = Some limit
 limit_of (call.Get name) = None
 limit_of (call.Del name limit) = Some limit
+limit_of (call.Part low count) = None
+limit_of (call.Recheck node version) = None
 
 -- How many writes it may place.
 abbrev pub most_writes : CoreCall → ℕ
 most_writes (call.Put name value limit) = 1
 most_writes (call.Get name) = 0
 most_writes (call.Del name limit) = 1
+most_writes (call.Part low count) = 0
+most_writes (call.Recheck node version) = 0
 
-abbrev pub LimitFits : CoreCall → Type 0
-LimitFits (call.Put name value limit) = limit ≤ 2 ^ 62
-LimitFits (call.Get name) = Unit {0}
-LimitFits (call.Del name limit) = limit ≤ 2 ^ 62
+-- Its limit, if it has one, is at most 2^62, and it is no recheck.
+abbrev pub MayBegin : CoreCall → Type 0
+MayBegin (call.Put name value limit) = limit ≤ 2 ^ 62
+MayBegin (call.Get name) = Unit {0}
+MayBegin (call.Del name limit) = limit ≤ 2 ^ 62
+MayBegin (call.Part low count) = Unit {0}
+MayBegin (call.Recheck node version) = ⊥
 
 -- The machine that makes the call, before its first action.
 abbrev pub machine_of : View → CoreCall → Running
 machine_of view (call.Put name value limit) = Putting (put.Looking (starts (new_call view name (Some limit))) value)
 machine_of view (call.Get name) = Getting (get.Looking (starts (new_call view name None)))
 machine_of view (call.Del name limit) = Deleting (del.Looking (starts (new_call view name (Some limit))))
+machine_of view (call.Part low count) = Parting (part.Looking (starts (new_call view low None)) count None)
+machine_of view (call.Recheck node version) = Getting (get.Looking (starts (new_call view [] None)))

@@ -15,7 +15,7 @@ use Rattle.call_stages.specs.Stages.{placed_in}
 use Rattle.node_ops.specs.declared.running.Running.{Running}
 use Rattle.cat_history.specs.Records.{change_of}
 use Rattle.node_ops.specs.Asked.{op_in}
-use Rattle.node_ops.specs.RunningSteps.{IsRunning, running_call}
+use Rattle.node_ops.specs.RunningSteps.{IsRunning, running_call, count_in}
 use Rattle.node_ops.specs.CallStages.{stage_of}
 use Rattle.index_core.specs.declared.party.CoreCall.{CoreCall}
 use Rattle.index_core.specs.declared.party.CoreCall.TheVariants as call
@@ -34,15 +34,20 @@ abbrev pub limit_or_most : Option ℕ → ℕ
 limit_or_most None = 2 ^ 62
 limit_or_most (Some limit) = limit
 
--- The call of an op with this limit.
-abbrev pub call_with : NameOp → ℕ → CoreCall
-call_with (op.Put name value) limit = call.Put name value limit
-call_with (op.Get name) limit = call.Get name
-call_with (op.Del name) limit = call.Del name limit
+-- A get, or the part of a scan that lists so many names.
+abbrev pub call_from : List ℕ → Option ℕ → CoreCall
+call_from name None = call.Get name
+call_from name (Some count) = call.Part name count
+
+-- The call of an op with this limit, and this count if it is a part of a scan.
+abbrev pub call_with : NameOp → ℕ → Option ℕ → CoreCall
+call_with (op.Put name value) limit count = call.Put name value limit
+call_with (op.Get name) limit count = call_from name count
+call_with (op.Del name) limit count = call.Del name limit
 
 -- The call that a machine makes.
 abbrev pub call_in : Running → CoreCall
-call_in machine = call_with (op_in machine) (limit_or_most (running_call machine).limit)
+call_in machine = call_with (op_in machine) (limit_or_most (running_call machine).limit) (count_in machine)
 
 -- The call of a party that a crash cuts off, if one is in flight.
 abbrev pub cut_call : ℕ → Option Running → Option CutCall

@@ -1,6 +1,6 @@
 -- The index as contracts see it.
 use Rattle.std.specs.Prelude.{◌≡◌, ◌≢◌, ℕ, ◌+◌, ◌<◌, ◌≤◌, ◌^◌, ◌⊎◌, List, ◌++◌, length, map, slice_get, slice_set, Some}
-use Rattle.std.specs.Prelude.{IfSome, IsSomeAnd}
+use Rattle.std.specs.Prelude.{IfSome, IsSomeAnd, Option}
 use Rattle.cat_history.specs.Records.{change_of}
 use mathlib.Core.Option.{some}
 use lib.ListN.{get_elem?}
@@ -8,12 +8,15 @@ use Rattle.cat_key.specs.declared.Pair.{Pair}
 use Rattle.pm_words.specs.declared.layout.Layout.{Layout}
 use Rattle.pm_words.specs.Rows.{acted, got}
 use Rattle.cat_history.specs.Maps.{Map, map_of}
-use Rattle.cat_history.specs.Writes.{after_all}
+use Rattle.cat_history.specs.Writes.{after, after_all}
 use Rattle.cat_history.specs.declared.op.Write.{Write}
-use Rattle.call_stages.specs.Stages.{counted, placed_in}
+use Rattle.call_stages.specs.Stages.{Stage, Idle, Saw, Wears, Holds, Eyes, Splits, Leaves, Meets, Joins, counted}
+use Rattle.call_stages.specs.Stages.{placed_in}
 use Rattle.call_stages.specs.AnySteps.{AnyStep}
 use Rattle.call_stages.specs.declared.view.View.{View}
+use Rattle.data_list.specs.Walks.{high_of}
 use Rattle.node_ops.specs.declared.running.Running.{Running}
+use Rattle.node_ops.specs.declared.running.Running.TheVariants.{Getting, Putting, Deleting, Parting}
 use Rattle.pm_words.specs.declared.machine.Turn.{Turn}
 use Rattle.pm_words.specs.declared.machine.Turn.TheVariants.{Go, Done}
 use Rattle.pm_words.specs.Turns.{GoesBelow}
@@ -21,12 +24,15 @@ use Rattle.call_stages.specs.declared.once.Once.{Once}
 use Rattle.call_stages.specs.declared.once.Placed.{Placed}
 use Rattle.cat_history.specs.declared.op.NameOp.{NameOp}
 use Rattle.node_ops.specs.declared.call.Call.{Call}
-use Rattle.node_ops.specs.Calls.{IsSame}
+use Rattle.node_ops.specs.Calls.{IsSame, name_in}
 use Rattle.node_ops.specs.Asked.{IsOf, IsOfAfter, op_in}
 use Rattle.node_ops.specs.RunningSteps.{running_asks, running_turned, running_call, running_left}
-use Rattle.node_ops.specs.CallStages.{stage_of, stage_after, reply_of}
+use Rattle.node_ops.specs.CallStages.{stage_of, stage_after, reply_of, part_stage}
+use Rattle.node_ops.specs.PartSteps.{part_call, part_behind}
+use Rattle.node_ops.specs.Parts.{EndsAt}
+use Rattle.index_law.specs.Facts.{Facts, range_of}
 use Rattle.index_law.specs.Worlds.{World, facts, written}
-use Rattle.index_law.specs.Lawful.{Lawful}
+use Rattle.index_law.specs.Lawful.{HasNames, Lawful}
 use Rattle.index_law.specs.Laws.{IsLegal}
 use Rattle.index_law.specs.Whole.{Whole, IsWhole}
 use Rattle.index_law.specs.Footings.{AreTended}
@@ -36,8 +42,9 @@ use Rattle.index_core.specs.declared.party.PartyState.{PartyState}
 use Rattle.index_core.specs.declared.party.Stepped.{Stepped}
 use Rattle.index_core.specs.Answers.{SaysOf}
 use Rattle.index_core.specs.CoreCalls.{machine_of, op_of}
+use Rattle.index_core.specs.Listings.{ListsAt}
 use Rattle.index_core.specs.PartyStates.{machine_footing, party_of, state_with, state_after, stepped_of, owed}
-use Rattle.index_core.specs.PartyStates.{IsPartyState}
+use Rattle.index_core.specs.PartyStates.{answered_by, IsPartyState}
 
 pub record Index : Type 0 where
   pub layout : Layout
@@ -101,6 +108,25 @@ pub record IsBounded (parties : ℕ) (states : List PartyState) (history : List 
 abbrev pub parties_of : Layout → ℕ
 parties_of l = l.callers + 1
 
+-- The range of a node that is held from this name on ends at this next one, or nowhere.
+abbrev pub HeldEnds : Layout → Facts → Stage → List ℕ → Option (List ℕ) → Type 0
+HeldEnds l f Idle low high = Unit {0}
+HeldEnds l f (Saw n v w k) low high = Unit {0}
+HeldEnds l f (Wears n v) low high = Unit {0}
+HeldEnds l f (Holds n w h) low high = EndsAt (range_of l f n) low high
+HeldEnds l f (Eyes n w h m v u free) low high = Unit {0}
+HeldEnds l f (Splits left fresh phase) low high = Unit {0}
+HeldEnds l f (Leaves left) low high = Unit {0}
+HeldEnds l f (Meets n w h right) low high = Unit {0}
+HeldEnds l f (Joins h left right pace) low high = Unit {0}
+
+-- As long as a part of a scan holds its node, the node's range ends at the next node's anchor, as the part has it.
+abbrev pub RunningEnds : Layout → Facts → Running → Type 0
+RunningEnds l f (Getting get) = Unit {0}
+RunningEnds l f (Putting put) = Unit {0}
+RunningEnds l f (Deleting del) = Unit {0}
+RunningEnds l f (Parting part) = HeldEnds l f (part_stage part) (name_in (part_call part)) (high_of (part_behind part))
+
 -- The index is lawful, each party's machine makes its call, and a party's writes come in order.
 pub record IsIndex (s : Index) : Type 0 where
   pub lawful : Lawful (world s)
@@ -111,6 +137,9 @@ pub record IsIndex (s : Index) : Type 0 where
       IsPartyState s.layout s.generation i state
   pub ordered : AreOrdered s.states s.history
   pub bounded : IsBounded (parties_of s.layout) s.states s.history
+  pub named : (place : ℕ) → HasNames (after (map_of s.base) s.history place)  -- the map at each place, too
+  pub ends : (i : ℕ) (state : PartyState) → get_elem? s.states i ≡ some state →
+      IfSome state.machine (RunningEnds s.layout (facts (world s)))
 
 -- The party's call, and the party that makes it.
 pub record IsInFlight (s : Index) (party : ℕ) : Type 0 where
@@ -181,17 +210,24 @@ pub record IsTurn (old new : Index) (state : PartyState) (machine : Running) : T
   pub legal : IsLegal new.layout new.generation (facts (world new)) state.caller state.index state.since
       (stage_of machine) (reply_of (running_turned machine (told old machine)))
 
--- One step of the party's call, and what it comes to.
-pub record StepsTo (old : Index) (party : ℕ) (new : Index) (result : Stepped) : Type 0 where
+-- One turn of the party's call, and its answer, if that ends it.
+pub record TurnsTo (old : Index) (party : ℕ) (new : Index) (result : Option (Once Placed)) : Type 0 where
   pub state : PartyState
   pub machine : Running
   pub there : get_elem? old.states party ≡ some state
   pub flies : state.machine ≡ Some machine
   pub is : new ≡ stepped_index old party state machine new.spare
-  pub comes_to : result ≡ stepped_of (running_turned machine (told old machine))
+  pub answers : result ≡ reply_of (running_turned machine (told old machine))
   -- an answer is the map's, a write that took place stands in the history, and a refusal has its cause
-  pub answer : SaysOf new.layout.slots (map_of new.base) new.history state (op_in machine) (running_call machine).limit
+  pub says : SaysOf new.layout.slots (map_of new.base) new.history state (op_in machine) (running_call machine).limit
       result
+  -- where it has a listing, that is the map's as it was at its place
+  pub lists : ListsAt new.layout (facts (world new)) machine
   -- it has fewer actions left
   pub fewer : GoesBelow running_left (running_left machine) (running_turned machine (told old machine))
   pub turn : IsTurn old new state machine
+
+-- One step of the party's call, and what it comes to: a part that is answered tells its listing.
+pub record StepsTo (old : Index) (party : ℕ) (new : Index) (result : Stepped) : Type 0 where
+  pub turned : TurnsTo old party new (answered_by result)
+  pub comes_to : result ≡ stepped_of turned.machine (running_turned turned.machine (told old turned.machine))

@@ -1,6 +1,7 @@
 pub mod CoreCalls
 pub mod PartyStates
 pub mod Answers
+pub mod Listings
 pub mod Indexes
 pub mod Cores
 pub mod Fresh

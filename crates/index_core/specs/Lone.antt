@@ -1,5 +1,5 @@
 -- A call that is made with no other in flight.
-use Rattle.std.specs.Prelude.{◌≡◌, ℕ, ◌+◌, ◌≤◌, ◌==◌, ◌⊎◌, Bool, true, false, List, [], ◌++◌, length, slice_set, None, IsSomeAnd}
+use Rattle.std.specs.Prelude.{◌≡◌, ℕ, ◌+◌, ◌≤◌, ◌==◌, ◌⊎◌, Bool, true, false, List, [], ◌++◌, length, slice_set, Some, None, IsSomeAnd}
 use Rattle.std.specs.FinMap.{keys}
 use Rattle.std.specs.List.{filter}
 use mathlib.Core.Option.{some}
@@ -14,8 +14,11 @@ use Rattle.call_stages.specs.declared.once.Once.{Once}
 use Rattle.call_stages.specs.declared.once.Once.TheVariants as once
 use Rattle.call_stages.specs.declared.once.Placed.{Placed}
 use Rattle.cat_history.specs.Records.{change_of}
+use Rattle.node_ops.specs.declared.part.PartWords.{PartWords}
+use Rattle.node_ops.specs.declared.running.Running.{Running}
 use Rattle.node_ops.specs.Asked.{name_asked}
-use Rattle.shapes.specs.Anchors.{splits, put_anchors, merges, del_anchors}
+use Rattle.node_ops.specs.RunningSteps.{listed_in}
+use Rattle.shapes.specs.Anchors.{next_of, names_at, splits, put_anchors, merges, del_anchors}
 use Rattle.version_lock.specs.Versions.{IsWorn}
 use Rattle.index_law.specs.Facts.{version_in}
 use Rattle.index_law.specs.Anchors.{anchors_in, members_most}
@@ -27,12 +30,11 @@ use Rattle.lone_law.specs.Splitting.{LacksFree}
 use Rattle.lone_law.specs.Locks.{locks_of, locks_in}
 use Rattle.index_core.specs.declared.party.CoreCall.{CoreCall}
 use Rattle.index_core.specs.declared.party.CoreCall.TheVariants as call
-use Rattle.index_core.specs.declared.party.CoreReply.{CoreReply}
-use Rattle.index_core.specs.declared.party.CoreReply.TheVariants as reply
 use Rattle.index_core.specs.declared.party.PartyState.{PartyState}
 use Rattle.index_core.specs.declared.party.Whole.{Whole}
 use Rattle.index_core.specs.declared.party.Whole.TheVariants as whole
-use Rattle.index_core.specs.CoreCalls.{op_of, limit_of}
+use Rattle.index_core.specs.CoreCalls.{op_of, limit_of, count_of}
+use Rattle.index_core.specs.Listings.{ListsRange}
 use Rattle.index_core.specs.PartyStates.{party_of, next_index, index_after, state_counted}
 use Rattle.index_core.specs.Indexes.{Index, map_of_index, world}
 use Rattle.index_core.specs.Weights.{weight_of, added_by, added_whole}
@@ -118,13 +120,27 @@ IsWornNode s c new node word =
     ⊎ (SplitsFor c s new × (locks_left s ≤ 1) × (node ≡ node_for new (name_asked (op_of c))) ×
     IsWorn word s.generation)
 
--- The answer by its cause: of these four, exactly one holds where two locks are left of each node.
+-- A part of a scan from this low name on lists the names of the map that belong to the low one's node, up to the next
+-- node's anchor.
+pub record IsWholePart (s : Index) (low : List ℕ) (count : ℕ) (new : Index) (words : PartWords) : Type 0 where
+  pub node : words.node ≡ node_for s low
+  pub version : version_in new.layout new.words words.node ≡ words.version
+  pub place : words.place ≡ length s.history
+  pub hops : words.hops ≡ hops_before s low
+  pub old : words.old ≡ at (map_of_index s) low
+  pub high : words.high ≡ next_of (anchors_in (world s)) low
+  pub lists : ListsRange (map_of_index s) low count words
+  pub compared : words.compared ≡ length (names_at (map_of_index s) (anchors_in (world s)) low)
+
+-- The answer by its cause: of these five, exactly one holds where two locks are left of each node.
 abbrev pub IsWholeAnswer : Index → CoreCall → Index → Whole → Type 0
 IsWholeAnswer s c new (whole.Worn node word) = IsWornNode s c new node word
 IsWholeAnswer s c new (whole.Spent clock) = ¬ FindsWornNode c s × IsOver c s × (clock ≡ length s.history)
 IsWholeAnswer s c new whole.Full = ¬ FindsWornNode c s × ¬ IsOver c s × FindsNoRoom c s
+IsWholeAnswer s c new (whole.Part words) =
+    ¬ FindsWornNode c s × IsSomeAnd (count_of c) (λ count. IsWholePart s (name_asked (op_of c)) count new words)
 IsWholeAnswer s c new (whole.Placed placed) =
-    (¬ FindsWornNode c s × ¬ IsOver c s × ¬ FindsNoRoom c s)
+    (count_of c ≡ None) × (¬ FindsWornNode c s × ¬ IsOver c s × ¬ FindsNoRoom c s)
     × (placed.old ≡ at (map_of_index s) (name_asked (op_of c))) × (placed.place ≡ length s.history) ×
     (placed.hops ≡ hops_before new (name_asked (op_of c)))
 
@@ -133,6 +149,7 @@ IsWholeAnswer s c new (whole.Placed placed) =
 abbrev pub LeavesList : CoreCall → Whole → Index → Index → Type 0
 LeavesList c (whole.Placed placed) s new =
     (HasSameList s new × SplitsNothing c s × MergesNothing c s) ⊎ (SplitsFor c s new ⊎ MergesFor c s new)
+LeavesList c (whole.Part words) s new = HasSameList s new
 LeavesList c (whole.Spent clock) s new = HasSameList s new
 LeavesList c whole.Full s new = HasSameList s new
 LeavesList c (whole.Worn node word) s new = Unit {0}
@@ -165,8 +182,22 @@ whole_of (once.Spent clock) = whole.Spent clock
 whole_of (once.Worn node word) = whole.Worn node word
 whole_of (once.Again why) = whole.Full
 
-abbrev pub answer_in : CoreReply → Once Placed
-answer_in (reply.Placed answer) = answer
+abbrev pub part_whole : Once PartWords → Whole
+part_whole (once.Done words) = whole.Part words
+part_whole (once.Spent clock) = whole.Spent clock
+part_whole (once.Worn node word) = whole.Worn node word
+part_whole (once.Again why) = whole.Full
+
+-- The party's call is a part of a scan that gives its node back next, and has listed these words.
+pub record HasListed (s : Index) (party : ℕ) (words : PartWords) : Type 0 where
+  pub state : PartyState
+  pub machine : Running
+  pub there : get_elem? s.states party ≡ some state
+  pub flies : state.machine ≡ Some machine
+  pub listed : listed_in machine ≡ Some words
+
+abbrev pub HasListing : Index → ℕ → Type 0
+HasListing s party = (words : PartWords) × HasListed s party words
 
 -- The call is to be made again, since its node was full.
 abbrev pub needs_split : Once Placed → Bool

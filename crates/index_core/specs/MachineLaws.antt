@@ -22,15 +22,16 @@ use Rattle.call_stages.specs.declared.view.View.{View}
 use Rattle.node_ops.specs.declared.running.Running.{Running}
 use Rattle.node_ops.specs.Asked.{IsOfAfter, op_in}
 use Rattle.node_ops.specs.RunningSteps.{running_asks, running_turned, running_takes, running_call, IsRunning, Sound}
-use Rattle.node_ops.specs.CallStages.{stage_of}
+use Rattle.node_ops.specs.CallStages.{stage_of, reply_of}
 use Rattle.node_ops.specs.Endings.{place_for}
 use Rattle.index_law.specs.Laws.{Counts}
+use Rattle.index_law.specs.Worlds.{facts}
 use Rattle.index_law.specs.Weights.{weight_sum}
 use Rattle.index_core.specs.declared.party.CoreCall.{CoreCall}
 use Rattle.index_core.specs.declared.party.PartyState.{PartyState}
 use Rattle.index_core.specs.Answers.{SaysOf}
+use Rattle.index_core.specs.Listings.{ListsAt}
 use Rattle.index_core.specs.CoreCalls.{machine_of}
-use Rattle.index_core.specs.PartyStates.{stepped_of}
 use Rattle.index_core.specs.Indexes.{Index, IsIndex, MakesCall, view_of, started_index, stepped_index, told, world}
 use Rattle.index_core.specs.Indexes.{parties_of}
 use Rattle.index_core.specs.Lone.{IsQuiet}
@@ -90,7 +91,9 @@ pub record MachineLaw (s : Index) (party : ℕ) (state : PartyState) (machine : 
   -- an answer is the map's at its place, or has its cause
   pub says : SaysOf s.layout.slots (map_of s.base) (stepped_index s party state machine s.spare).history state
       (op_in machine) (running_call machine).limit
-      (stepped_of (running_turned machine (told s machine)))
+      (reply_of (running_turned machine (told s machine)))
+  -- the listing of a part, if it has one now, is that of the map at its place
+  pub lists : ListsAt s.layout (facts (world (stepped_index s party state machine s.spare))) machine
   -- it goes on with the same call
   pub keeps_op : IsOfAfter (op_in machine) (running_turned machine (told s machine))
   pub keeps_call : MakesCall (running_call machine) (running_turned machine (told s machine))

@@ -15,13 +15,16 @@ use Rattle.node_ops.specs.declared.put.Put.{Put}
 use Rattle.node_ops.specs.declared.put.Put.TheVariants as put
 use Rattle.node_ops.specs.declared.del.Del.{Del}
 use Rattle.node_ops.specs.declared.del.Del.TheVariants as del
+use Rattle.node_ops.specs.declared.part.PartWords.{PartWords}
 use Rattle.node_ops.specs.declared.running.Running.{Running}
-use Rattle.node_ops.specs.declared.running.Running.TheVariants.{Getting, Putting, Deleting}
+use Rattle.node_ops.specs.declared.running.Running.TheVariants.{Getting, Putting, Deleting, Parting}
 use Rattle.node_ops.specs.CallStages.{stage_of, footing_of}
-use Rattle.node_ops.specs.RunningSteps.{Sound, running_call}
+use Rattle.node_ops.specs.PartSteps.{early_of, placed_of}
+use Rattle.node_ops.specs.RunningSteps.{Sound, running_call, count_in, listed_in}
 use Rattle.node_ops.specs.Asked.{IsOf, op_in}
 use Rattle.index_law.specs.Worlds.{Party}
 use Rattle.index_core.specs.declared.party.PartyState.{PartyState}
+use Rattle.index_core.specs.declared.party.CoreReply.{CoreReply}
 use Rattle.index_core.specs.declared.party.CoreReply.TheVariants as reply
 use Rattle.index_core.specs.declared.party.Stepped.{Stepped}
 use Rattle.index_core.specs.declared.party.Stepped.TheVariants.{Going, Answered}
@@ -81,9 +84,41 @@ abbrev pub state_after : PartyState → Turn Running (Once Placed) → PartyStat
 state_after state (Go machine) = record state { machine = Some machine }
 state_after state (Done answer) = record state { index = index_after state.index answer; machine = None }
 
-abbrev pub stepped_of : Turn Running (Once Placed) → Stepped
-stepped_of (Go machine) = Going
-stepped_of (Done answer) = Answered (reply.Placed answer)
+-- What a part is answered: its listing, if it has one, and else why it ended early.
+abbrev pub part_answer : Option PartWords → Once Placed → Once PartWords
+part_answer None answer = early_of answer
+part_answer (Some words) answer = once.Done words
+
+-- What a call is answered. One with a count is a part of a scan.
+abbrev pub reply_with : Option ℕ → Option PartWords → Once Placed → CoreReply
+reply_with None listed answer = reply.Placed answer
+reply_with (Some count) listed answer = reply.Part (part_answer listed answer)
+
+-- What a machine's turn comes to.
+abbrev pub stepped_of : Running → Turn Running (Once Placed) → Stepped
+stepped_of machine (Go next) = Going
+stepped_of machine (Done answer) = Answered (reply_with (count_in machine) (listed_in machine) answer)
+
+-- What the try of a call was answered, which of a part is the answer of a get of its low name.
+abbrev pub answer_in : CoreReply → Once Placed
+answer_in (reply.Placed answer) = answer
+answer_in (reply.Part answer) = placed_of answer
+
+-- What a part listed, if it took place.
+abbrev pub words_told : Once PartWords → Option PartWords
+words_told (once.Done words) = Some words
+words_told (once.Spent clock) = None
+words_told (once.Worn node word) = None
+words_told (once.Again why) = None
+
+abbrev pub listed_by : CoreReply → Option PartWords
+listed_by (reply.Placed answer) = None
+listed_by (reply.Part answer) = words_told answer
+
+-- What a step's call is answered, if it is.
+abbrev pub answered_by : Stepped → Option (Once Placed)
+answered_by Going = None
+answered_by (Answered reply) = Some (answer_in reply)
 
 -- How many writes a call in flight may still place.
 abbrev finish_owes : FinishAt → ℕ
@@ -104,6 +139,7 @@ abbrev pub owes : Running → ℕ
 owes (Getting get) = 0
 owes (Putting put) = put_owes put
 owes (Deleting del) = del_owes del
+owes (Parting part) = 0
 
 abbrev pub machine_owes : Option Running → ℕ
 machine_owes None = 0

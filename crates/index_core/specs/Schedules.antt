@@ -1,6 +1,6 @@
 -- Schedules of the core, and what is legal of all that they answer.
 use Rattle.std.specs.Prelude.{◌≡◌, ℕ, ◌+◌, ◌^◌, ◌<◌, ◌≤◌, ◌⊎◌, List, [], ◌∷◌, ◌++◌, length, slice_get, Option, Some}
-use Rattle.std.specs.Prelude.{None, IfSome, All, map, take, Bool, true, false, if◌then◌else◌, ◌==◌}
+use Rattle.std.specs.Prelude.{None, IfSome, IsSomeAnd, All, map, take, Bool, true, false, if◌then◌else◌, ◌==◌}
 use Rattle.std.specs.List.Sorted.{IsPermutation}
 use mathlib.Core.Option.{some}
 use lib.ListN.{get_elem?}
@@ -10,6 +10,7 @@ use Rattle.pm_words.specs.declared.again.Again.{Again}
 use Rattle.pm_words.specs.declared.again.Again.TheVariants as again
 use Rattle.cat_history.specs.Callers.{PlacesKeepLimit}
 use Rattle.cat_history.specs.Maps.{Map, map_of}
+use Rattle.cat_history.specs.Writes.{after}
 use Rattle.cat_history.specs.Records.{Interval, interval_at, change_of}
 use Rattle.cat_history.specs.declared.op.Change.{Change}
 use Rattle.cat_history.specs.declared.op.NameOp.{NameOp}
@@ -18,20 +19,23 @@ use Rattle.call_stages.specs.declared.once.Once.{Once}
 use Rattle.call_stages.specs.declared.once.Once.TheVariants as once
 use Rattle.call_stages.specs.declared.once.Placed.{Placed}
 use Rattle.call_stages.specs.Stages.{placed_in}
+use Rattle.node_ops.specs.declared.part.PartWords.{PartWords}
 use Rattle.node_ops.specs.declared.running.Running.{Running}
 use Rattle.node_ops.specs.Asked.{op_in, name_asked}
-use Rattle.node_ops.specs.RunningSteps.{running_call}
+use Rattle.node_ops.specs.RunningSteps.{running_call, count_in}
 use Rattle.node_ops.specs.CallStages.{stage_of}
+use Rattle.node_ops.specs.PartSteps.{words_placed}
 use Rattle.node_ops.specs.Endings.{IsPutOp}
 use Rattle.index_core.specs.declared.party.CoreCall.{CoreCall}
-use Rattle.index_core.specs.declared.party.CoreReply.TheVariants as reply
+use Rattle.index_core.specs.declared.party.CoreReply.{CoreReply}
 use Rattle.index_core.specs.declared.party.PartyState.{PartyState}
 use Rattle.index_core.specs.declared.party.Stepped.TheVariants.{Going, Answered}
 use Rattle.index_core.specs.declared.party.Whole.{Whole}
 use Rattle.index_core.specs.declared.party.Whole.TheVariants as whole
 use Rattle.index_core.specs.Answers.{TookPlace, WasReached, FoundNoRoom}
-use Rattle.index_core.specs.CoreCalls.{op_of, limit_of}
-use Rattle.index_core.specs.PartyStates.{next_index, index_after}
+use Rattle.index_core.specs.CoreCalls.{op_of, limit_of, count_of}
+use Rattle.index_core.specs.Listings.{ListsRange}
+use Rattle.index_core.specs.PartyStates.{next_index, index_after, answer_in, listed_by}
 use Rattle.index_core.specs.Indexes.{Index, IsIndex, IsInFlight, Starts, StepsTo}
 use Rattle.index_core.specs.Crashes.{evicted_index}
 use Rattle.index_core.specs.Fresh.{IsFreshIndex}
@@ -43,6 +47,7 @@ pub record BegunCall : Type 0 where
   pub index : ℕ  -- how many of its caller's calls before it were answered other than by being turned back
   pub op : NameOp
   pub limit : Option ℕ  -- the clock at which it is refused, if there is one
+  pub count : Option ℕ  -- how many names it lists at most, if it is a part of a scan
   pub since : ℕ  -- how long the history was as it began
 
 -- A call that was answered.
@@ -50,6 +55,7 @@ pub record AnsweredCall : Type 0 where
   pub call : BegunCall
   pub until : ℕ  -- how long the history was as it was answered
   pub answer : Once Placed
+  pub part : Option PartWords  -- what it listed, if it was a part that took place
   pub whole : Bool  -- whether it was made whole, with no other in flight
   pub next : ℕ  -- the index of its caller's next call
 
@@ -60,6 +66,7 @@ begun_call state since call = record {
   index = state.index;
   op = op_of call;
   limit = limit_of call;
+  count = count_of call;
   since = since;
 }
 
@@ -71,15 +78,25 @@ flying_call state machine =
       index = state.index;
       op = op_in machine;
       limit = (running_call machine).limit;
+      count = count_in machine;
       since = state.since;
     }
 
 -- What a whole call that was alone is answered, as one try of it is: only a full node turns it back.
 abbrev pub once_of : Whole → Once Placed
 once_of (whole.Placed placed) = once.Done placed
+once_of (whole.Part words) = once.Done (words_placed words)
 once_of whole.Full = once.Again again.NoFree
 once_of (whole.Spent clock) = once.Spent clock
 once_of (whole.Worn node word) = once.Worn node word
+
+-- What it listed, if it was a part of a scan that took place.
+abbrev pub listed_of : Whole → Option PartWords
+listed_of (whole.Placed placed) = None
+listed_of (whole.Part words) = Some words
+listed_of whole.Full = None
+listed_of (whole.Spent clock) = None
+listed_of (whole.Worn node word) = None
 
 -- A schedule of the core from this index to another: calls of the core one after another, each with what its contract
 -- says. The first list has the calls that were begun on the way, in their order, the second those that were answered,
@@ -94,16 +111,17 @@ pub data Runs (first : Index) : List BegunCall → List AnsweredCall → Index �
   goes_on : {begun : List BegunCall} {calls : List AnsweredCall} {old new : Index} {party : ℕ} →
       Runs first begun calls old →
       StepsTo old party new Going → IsIndex new → Runs first begun calls new
-  answers : {begun : List BegunCall} {calls : List AnsweredCall} {old new : Index} {party : ℕ} {answer : Once Placed} →
+  answers : {begun : List BegunCall} {calls : List AnsweredCall} {old new : Index} {party : ℕ} {reply : CoreReply} →
       Runs first begun calls old →
-      (step : StepsTo old party new (Answered (reply.Placed answer))) → IsIndex new →
+      (step : StepsTo old party new (Answered reply)) → IsIndex new →
       Runs first begun
       (calls ++ record {
-        call = flying_call step.state step.machine;
+        call = flying_call step.turned.state step.turned.machine;
         until = length new.history;
-        answer = answer;
+        answer = answer_in reply;
+        part = listed_by reply;
         whole = false;
-        next = index_after step.state.index answer;
+        next = index_after step.turned.state.index (answer_in reply);
       } ∷ []) new
   alone : {begun : List BegunCall} {calls : List AnsweredCall} {old new : Index} {caller : ℕ} {call : CoreCall}
       {result : Whole} →
@@ -113,6 +131,7 @@ pub data Runs (first : Index) : List BegunCall → List AnsweredCall → Index �
         call = begun_call run.state (length old.history) call;
         until = length new.history;
         answer = once_of result;
+        part = listed_of result;
         whole = true;
         next = next_index run.state.index;
       } ∷ []) new
@@ -202,9 +221,28 @@ abbrev pub StatesCount : Index → List AnsweredCall → List PartyState → Typ
 StatesCount first calls states = (i : ℕ) (state : PartyState) → get_elem? states i ≡ some state →
     IsNextIndex first calls i state.index
 
+-- These words are the answer of a part that took place so: they list the map as it was at its place.
+pub record IsListing (base : Map) (history : List Write) (low : List ℕ) (count : ℕ) (placed : Placed)
+    (words : PartWords) : Type 0 where
+  pub placed_so : words_placed words ≡ placed
+  pub lists : ListsRange (after base history words.place) low count words
+
+-- What a call lists that has a count, by its answer: as a part that took place, and else nothing.
+abbrev pub PartLists : Map → List Write → List ℕ → ℕ → Once Placed → Option PartWords → Type 0
+PartLists base history low count (once.Done placed) part = IsSomeAnd part (IsListing base history low count placed)
+PartLists base history low count (once.Spent clock) part = part ≡ None
+PartLists base history low count (once.Worn node word) part = part ≡ None
+PartLists base history low count (once.Again why) part = part ≡ None
+
+-- The same of any call: one without a count lists nothing.
+abbrev pub CallLists : Map → List Write → NameOp → Option ℕ → Once Placed → Option PartWords → Type 0
+CallLists base history op None answer part = part ≡ None
+CallLists base history op (Some count) answer part = PartLists base history (name_asked op) count answer part
+
 -- A call is answered legally.
 pub record IsLegalCall (slots : ℕ) (base : Map) (history : List Write) (c : AnsweredCall) : Type 0 where
   pub answer : IsLegalAnswer slots base history c.call c.until c.next c.answer
+  pub lists : CallLists base history c.call.op c.call.count c.answer c.part
   pub within : c.until ≤ length history
   pub next : IsNext c.call.index c.next c.whole c.answer
 

@@ -4,18 +4,18 @@ ghost use Rattle.cat_key.specs.Names.{IsName};
 use crate::party::CoreCall;
 use call_stages::View;
 use cat_key::Name;
-use node_ops::{Del, Get, Put, Running};
+use node_ops::{Del, Get, Part, Put, Running};
 
 impl CoreCall {
     ghost use Rattle.node_ops.specs.Asked.{IsOf};
     ghost use Rattle.call_stages.specs.Views.{IsView};
     ghost use Rattle.node_ops.specs.RunningSteps.{IsRunning};
-    ghost use Rattle.index_core.specs.CoreCalls.{LimitFits, machine_of, op_of};
+    ghost use Rattle.index_core.specs.CoreCalls.{MayBegin, machine_of, op_of};
 
     /// The machine that makes the call.
     pub fn machine(self, view: View) -> Running
         requires view { IsView view }
-        requires limit { LimitFits self }
+        requires begins { MayBegin self }
         ensures machine { result ≡ machine_of view self }
         ensures sound { IsRunning result }
         ensures op { IsOf (op_of self) result }
@@ -26,6 +26,8 @@ impl CoreCall {
             }
             CoreCall::Get { name } => Running::Getting(Get::new(view, &named(name))),
             CoreCall::Del { name, limit } => Running::Deleting(Del::new(view, &named(name), limit)),
+            CoreCall::Part { low, count } => Running::Parting(Part::new(view, &named(low), count)),
+            CoreCall::Recheck { .. } => unreachable!(),
         }
     }
 }

@@ -82,7 +82,10 @@ impl CoreCall {
         let limit = machine.limit().unwrap_or(MOST_LIMIT);
         match machine.op() {
             NameOp::Put { name, value } => CoreCall::Put { name, value, limit },
-            NameOp::Get { name } => CoreCall::Get { name },
+            NameOp::Get { name: low } => match machine.count() {
+                Some(count) => CoreCall::Part { low, count },
+                None => CoreCall::Get { name: low },
+            },
             NameOp::Del { name } => CoreCall::Del { name, limit },
         }
     }

@@ -1,21 +1,21 @@
 ghost use Rattle.std.specs.Prelude.{◌≡◌, ℕ, ◌+◌, ◌-◌, ◌<◌, ◌≤◌, ◌↔◌, List, ◌++◌, length, replicate, IfOk, OnOk, OnErr};
-ghost use Rattle.std.specs.Prelude.{IsErr, vec_len, vec_capacity, Some, None};
+ghost use Rattle.std.specs.Prelude.{IsErr, IsTrue, vec_len, vec_capacity, Some, None};
 ghost use Rattle.pm_words.specs.Layouts.{IsLayout};
 ghost use Rattle.index_law.specs.Worlds.{written};
-ghost use Rattle.index_core.specs.CoreCalls.{LimitFits, most_writes};
-ghost use Rattle.index_core.specs.Indexes.{IsInFlight, IsIndex, KeepsRoom, Starts, StepsTo};
+ghost use Rattle.index_core.specs.CoreCalls.{MayBegin, most_writes};
+ghost use Rattle.index_core.specs.Indexes.{IsInFlight, IsIndex, KeepsRoom, Starts, StepsTo, TurnsTo};
 ghost use Rattle.index_core.specs.Fresh.{IsFreshIndex};
 ghost use Rattle.pm_words.specs.Locations.{image_words};
 ghost use Rattle.index_core.specs.Crashes.{IsCrash, evicted_index};
 ghost use Rattle.index_core.specs.PartsOf.{index_in};
-ghost use Rattle.index_core.specs.Lone.{CountsCall, IsQuiet, LoseAtMost, RunsAlone, TakesEachLock, TakesLocks};
-ghost use Rattle.index_core.specs.Lone.{TriesAlone, locks_left};
+ghost use Rattle.index_core.specs.Lone.{CountsCall, HasListed, HasListing, IsQuiet};
 
 use crate::crash::{Crashed, Cuts};
-use crate::party::{CoreCall, InFlight, PartyState, Stepped, Whole, idle_states, needs_split};
+use crate::party::{CoreCall, CoreReply, InFlight, PartyState, Stepped, idle_states};
 use call_stages::{Once, Placed, View};
 use cat_history::{Change, Listed, Write};
 use cat_key::Pair;
+use node_ops::PartWords;
 use pm_words::offsets::volatile;
 use pm_words::{Image, Layout, Machine, Memory, NoMemory, Steps};
 use std::alloc::Global;
@@ -126,7 +126,7 @@ impl Core {
     /// party's last call isn't answered, and then nothing changes.
     pub fn start(&mut self, party: u64, call: CoreCall) -> Result<(), InFlight>
         requires party { party < self.old.layout.callers }
-        requires limit { LimitFits call }
+        requires begins { MayBegin call }
         requires spare { most_writes call ≤ self.old.spare }
         ensures in_flight { IsErr result ↔ IsInFlight self.old party }
         ensures err { OnErr result (self.new ≡ self.old) }
@@ -151,11 +151,36 @@ impl Core {
 
     /// Takes one step of the party's call, which is in flight: one action on one word, counted in `steps` as one event.
     /// Returns whether the call goes on or is answered. A call that took place is answered with the number of its name
-    /// in the map at its place, which lies in the call's time, and its write stands in the history there. Any other is
-    /// told its cause, and a put or delete gives the room for its write back to `spare`.
+    /// in the map at its place, which lies in the call's time, and its write stands in the history there. A part of a
+    /// scan that took place lists the names that the map at its place has up to where its node ends. Any other is told
+    /// its cause, and a put or delete gives the room for its write back to `spare`.
     pub fn step<L: Ledger>(&mut self, party: u64, steps: &mut Steps<L>) -> Stepped
         requires flies { IsInFlight self.old party }
         ensures stepped { StepsTo self.old party self.new result }
+        ensures spare { KeepsRoom self.old self.new }
+        ensures tick { steps.new ≡ steps.old + 1 }
+        ensures index { IsIndex self.new }
+    {
+        let Some(machine) = &self.states[party as usize].machine else {
+            unreachable!()
+        };
+        let count = machine.count();
+        let listed = machine.listed();
+        match self.turn(party, steps) {
+            None => Stepped::Going,
+            Some(answer) => Stepped::Answered(CoreReply::of(count, listed, answer)),
+        }
+    }
+
+    /// Takes one step of the party's call, which is in flight, and returns its answer, if it is answered. What a part
+    /// lists its machine tells before this.
+    pub(crate) fn turn<L: Ledger>(
+        &mut self,
+        party: u64,
+        steps: &mut Steps<L>,
+    ) -> Option<Once<Placed>>
+        requires flies { IsInFlight self.old party }
+        ensures turned { TurnsTo self.old party self.new result }
         ensures spare { KeepsRoom self.old self.new }
         ensures tick { steps.new ≡ steps.old + 1 }
         ensures index { IsIndex self.new }
@@ -209,71 +234,33 @@ impl Core {
         self.history.reserve((writes as usize).saturating_add(owed))
     }
 
-    /// A whole call of a caller, with no other in flight. Its answer is told by its cause: the locks of the node are
-    /// used up, else the clock has reached the limit, else there is no room for a new name, else it takes place. A put
-    /// that finds its node full splits it, and is made again. A delete merges the node of its name with the next one
-    /// where both together are left with at most half as many names as a node has slots. Of `spare` a call takes one
-    /// for a write that it places, and none otherwise.
-    pub fn run_alone<L: Ledger>(
-        &mut self,
-        caller: u64,
-        call: CoreCall,
-        steps: &mut Steps<L>,
-    ) -> Whole
-        requires caller { caller < self.old.layout.callers }
-        requires limit { LimitFits call }
-        requires spare { most_writes call ≤ self.old.spare }
-        requires quiet { IsQuiet self.old }
-        ensures runs { RunsAlone self.old caller call self.new result }
-        ensures quiet { IsQuiet self.new }
-        ensures spare { self.old.spare + length self.old.history ≤ self.new.spare + length self.new.history }
-        ensures each_lock { TakesEachLock call self.old self.new }
-        ensures locks { TakesLocks call self.old self.new }
-        ensures index { IsIndex self.new }
+    /// Whether the party's call is a part of a scan that gives its node back next, and so has listed its names.
+    pub(crate) fn has_listed(&self, party: u64) -> bool
+        requires { IsInFlight self.now party }
+        ensures { IsTrue result ↔ HasListing self.now party }
     {
-        let mut answer = self.try_alone(caller, &call, steps);
-        if needs_split(&answer) {
-            // The node is split now, and has room.
-            answer = self.try_alone(caller, &call, steps);
-        }
-        let whole = Whole::of(answer);
-        if let Whole::Full = whole {
-            self.count_call(caller);
-        }
-        whole
-    }
-
-    /// One try of a call, with no other in flight.
-    fn try_alone<L: Ledger>(
-        &mut self,
-        caller: u64,
-        call: &CoreCall,
-        steps: &mut Steps<L>,
-    ) -> Once<Placed>
-        requires caller { caller < self.old.layout.callers }
-        requires limit { LimitFits call.now }
-        requires spare { most_writes call.now ≤ self.old.spare }
-        requires quiet { IsQuiet self.old }
-        ensures tries { TriesAlone self.old caller call.now self.new result }
-        ensures before { IsIndex self.old }
-        ensures quiet { IsQuiet self.new }
-        ensures spare { self.old.spare + length self.old.history ≤ self.new.spare + length self.new.history }
-        ensures each_lock { LoseAtMost 1 self.old self.new }
-        ensures locks { locks_left self.old ≤ locks_left self.new + 1 }
-        ensures index { IsIndex self.new }
-    {
-        let Ok(()) = self.start(caller, *call) else {
+        let Some(machine) = &self.states[party as usize].machine else {
             unreachable!()
         };
-        'steps: loop {
-            if let Stepped::Answered(reply) = self.step(caller, steps) {
-                return reply.answer();
-            }
-        }
+        machine.has_listed()
+    }
+
+    /// What it lists.
+    pub(crate) fn listing(&self, party: u64) -> PartWords
+        requires { HasListing self.now party }
+        ensures { HasListed self.now party result }
+    {
+        let Some(machine) = &self.states[party as usize].machine else {
+            unreachable!()
+        };
+        let Some(words) = machine.listed() else {
+            unreachable!()
+        };
+        words
     }
 
     /// Counts a whole call of the party that was turned back for want of room: to its caller it was answered.
-    fn count_call(&mut self, party: u64)
+    pub(crate) fn count_call(&mut self, party: u64)
         requires party { party < self.old.layout.callers }
         requires quiet { IsQuiet self.old }
         ensures counts { CountsCall self.old party self.new }

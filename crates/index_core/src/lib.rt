@@ -8,6 +8,7 @@ mod call;
 mod crash;
 mod index;
 pub mod laws;
+mod lone;
 mod party;
 
 pub use crash::{Crashed, CutCall, Cuts};

@@ -4,17 +4,22 @@ ghost use Rattle.index_core.specs.Lone.{needs_split};
 
 use call_stages::{Once, Placed, View};
 use cat_key::Name;
-use node_ops::Running;
+use node_ops::{Part, PartWords, Running};
 use pm_words::{Again, NoMemory};
 use std::alloc::Global;
 
-/// What a party calls. A put or delete is refused where the clock, loaded under the lock of its node, has reached
-/// `limit`.
+/// What a party calls.
 #[derive(Clone, Copy)]
 pub enum CoreCall {
+    /// Refused where the clock, loaded under the lock of the name's node, has reached `limit`.
     Put { name: Name, value: u64, limit: u64 },
     Get { name: Name },
+    /// Refused as a put is.
     Del { name: Name, limit: u64 },
+    /// Lists the first `count` names from the low one on, of those that the low one's node has.
+    Part { low: Name, count: u64 },
+    /// Tells whether the node's version word is still this one. No such call begins yet.
+    Recheck { node: u64, version: u64 },
 }
 
 /// A party and its call in flight, if it has one.
@@ -36,6 +41,8 @@ pub struct PartyState {
 pub enum CoreReply {
     /// The answer of one try of a put, a get or a delete.
     Placed(Once<Placed>),
+    /// The answer of one try of a part of a range scan.
+    Part(Once<PartWords>),
 }
 
 /// What one step comes to.
@@ -49,6 +56,8 @@ pub enum Stepped {
 #[derive(Clone, Copy)]
 pub enum Whole {
     Placed(Placed),
+    /// What a part of a range scan lists.
+    Part(PartWords),
     /// A put found no room: the map lacks the name, its node has as many names as slots, and no FREE node can be locked.
     Full,
     /// The clock had reached the call's limit.
@@ -63,7 +72,7 @@ pub struct InFlight;
 
 impl Whole {
     ghost use Rattle.std.specs.Prelude.{◌≡◌};
-    ghost use Rattle.index_core.specs.Lone.{whole_of};
+    ghost use Rattle.index_core.specs.Lone.{part_whole, whole_of};
 
     /// A call that is alone, and made again where it split, is turned back for want of room only.
     pub(crate) fn of(answer: Once<Placed>) -> Whole
@@ -76,19 +85,41 @@ impl Whole {
             Once::Again(_) => Whole::Full,
         }
     }
+
+    /// A part of a scan that is alone is `Done` or `Worn`.
+    pub(crate) fn of_part(answer: Once<PartWords>) -> Whole
+        ensures { result ≡ part_whole answer }
+    {
+        match answer {
+            Once::Done(words) => Whole::Part(words),
+            Once::Spent { clock } => Whole::Spent { clock },
+            Once::Worn { node, word } => Whole::Worn { node, word },
+            Once::Again(_) => Whole::Full,
+        }
+    }
 }
 
 impl CoreReply {
-    ghost use Rattle.std.specs.Prelude.{◌≡◌};
-    ghost use Rattle.index_core.specs.Lone.{answer_in};
+    ghost use Rattle.std.specs.Prelude.{◌≡◌, IsSome, None};
+    ghost use Rattle.node_ops.specs.PartSteps.{IsEarly};
+    ghost use Rattle.index_core.specs.PartyStates.{reply_with};
 
-    /// What the try of its call was answered.
-    pub(crate) fn answer(self) -> Once<Placed>
-        ensures { result ≡ answer_in self }
+    /// The answer of a call, which is a part of a scan where it has a count, and has listed names where it took place.
+    pub(crate) fn of(
+        count: Option<u64>,
+        listed: Option<PartWords>,
+        answer: Once<Placed>,
+    ) -> CoreReply
+        requires { IsSome count → listed ≡ None → IsEarly answer }
+        ensures { result ≡ reply_with count listed answer }
     {
-        match self {
-            CoreReply::Placed(answer) => answer,
+        if count.is_none() {
+            return CoreReply::Placed(answer);
         }
+        CoreReply::Part(match listed {
+            Some(words) => Once::Done(words),
+            None => Part::early(answer),
+        })
     }
 }
 
@@ -98,10 +129,10 @@ impl PartyState {
     ghost use Rattle.pm_words.specs.declared.machine.Turn.TheVariants as Turn;
     ghost use Rattle.call_stages.specs.Views.{IsView};
     ghost use Rattle.node_ops.specs.Asked.{IsOf};
+    ghost use Rattle.node_ops.specs.CallStages.{reply_of};
     ghost use Rattle.node_ops.specs.RunningSteps.{IsRunning, running_left, running_takes, running_turned};
-    ghost use Rattle.index_core.specs.CoreCalls.{LimitFits, machine_of, op_of};
+    ghost use Rattle.index_core.specs.CoreCalls.{MayBegin, machine_of, op_of};
     ghost use Rattle.index_core.specs.PartyStates.{idle_state, state_with, state_after, state_counted, index_after};
-    ghost use Rattle.index_core.specs.PartyStates.{stepped_of};
 
     /// A party that has made no call.
     pub(crate) fn idle(caller: u64) -> PartyState
@@ -118,7 +149,7 @@ impl PartyState {
     /// It begins a call, at this length of the history.
     pub(crate) fn begins(&mut self, since: u64, view: View, call: CoreCall)
         requires view { IsView view }
-        requires limit { LimitFits call }
+        requires begins { MayBegin call }
         ensures state { self.new ≡ state_with self.old since (machine_of view call) }
         ensures sound { IsRunning (machine_of view call) }
         ensures op { IsOf (op_of call) (machine_of view call) }
@@ -148,24 +179,22 @@ impl PartyState {
     }
 
     /// Tells its call in flight the number that its action gave.
-    pub(crate) fn advance(&mut self, got: u64) -> Stepped
+    pub(crate) fn advance(&mut self, got: u64) -> Option<Once<Placed>>
         requires { IsSomeAnd self.old.machine (λ machine. running_takes machine got) }
         ensures state { IfSome self.old.machine
             (λ machine. self.new ≡ state_after self.old (running_turned machine got)) }
-        ensures stepped { IfSome self.old.machine (λ machine. result ≡ stepped_of (running_turned machine got)) }
+        ensures answer { IfSome self.old.machine (λ machine. result ≡ reply_of (running_turned machine got)) }
         ensures fewer { IfSome self.old.machine
             (λ machine. GoesBelow running_left (running_left machine) (running_turned machine got)) }
     {
         let Some(machine) = &mut self.machine else {
             unreachable!()
         };
-        match machine.advance(got) {
-            None => Stepped::Going,
-            Some(answer) => {
-                self.ends(answer);
-                Stepped::Answered(CoreReply::Placed(answer))
-            }
+        let answer = machine.advance(got);
+        if let Some(once) = answer {
+            self.ends(once);
         }
+        answer
     }
 
     /// Its call is answered.

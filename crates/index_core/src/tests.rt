@@ -1,5 +1,5 @@
 ghost use Rattle.std.specs.Prelude.{◌≡◌, ◌<◌, ◌≤◌};
-ghost use Rattle.index_core.specs.CoreCalls.{LimitFits, most_writes};
+ghost use Rattle.index_core.specs.CoreCalls.{MayBegin, most_writes};
 
 use super::*;
 use crate::party::needs_split;
@@ -16,8 +16,10 @@ mod crashes;
 mod drawn;
 mod events;
 mod indexes;
+mod lone_parts;
 mod merges;
 mod model;
+mod parts;
 mod splits;
 
 /// No call has as many steps.
@@ -28,7 +30,7 @@ const LIMIT: u64 = 100_000;
 
 /// A put of this number, a get or a delete.
 fn call_of(kind: u64, name: Name, value: u64) -> CoreCall
-    ensures limit { LimitFits result }
+    ensures begins { MayBegin result }
     ensures writes { most_writes result ≤ 1 }
 {
     match kind {
@@ -44,7 +46,7 @@ fn call_of(kind: u64, name: Name, value: u64) -> CoreCall
 
 /// Begins a call of a party that is idle.
 fn begin_call(core: &mut Core, party: u64, call: CoreCall) -> Result<(), Fail>
-    requires limit { LimitFits call }
+    requires begins { MayBegin call }
     requires writes { most_writes call ≤ 1 }
 {
     core.reserve(1)?;
@@ -61,25 +63,37 @@ fn begin(core: &mut Core, party: u64, kind: u64) -> Result<(), Fail> {
     begin_call(core, party, call_of(kind, name, 7))
 }
 
-/// At most so many steps of a party's call, and its answer if it is done. That the call is in flight is told by a
+/// At most so many steps of a party's call, and its reply if it is answered. That the call is in flight is told by a
 /// start, which is refused and changes nothing.
+fn run_to_reply<L: Ledger>(
+    core: &mut Core,
+    party: u64,
+    most: u64,
+    steps: &mut Steps<L>,
+) -> Result<Option<CoreReply>, Fail> {
+    let name = Name::read(b"z").ok().ok_or("z")?;
+    for _ in 0..most {
+        if party >= core.layout().callers() || core.start(party, CoreCall::Get { name }).is_ok() {
+            return Ok(None);
+        }
+        if let Stepped::Answered(reply) = core.step(party, steps) {
+            return Ok(Some(reply));
+        }
+    }
+    Ok(None)
+}
+
+/// The same of a call on one name, and its answer.
 fn run<L: Ledger>(
     core: &mut Core,
     party: u64,
     most: u64,
     steps: &mut Steps<L>,
 ) -> Result<Option<Once<Placed>>, Fail> {
-    let name = Name::read(b"z").ok().ok_or("z")?;
-    for _ in 0..most {
-        if party >= core.layout().callers() || core.start(party, CoreCall::Get { name }).is_ok() {
-            return Ok(None);
-        }
-        let Stepped::Answered(CoreReply::Placed(answer)) = core.step(party, steps) else {
-            continue;
-        };
-        return Ok(Some(answer));
+    match run_to_reply(core, party, most, steps)? {
+        Some(CoreReply::Placed(answer)) => Ok(Some(answer)),
+        _ => Ok(None),
     }
-    Ok(None)
 }
 
 /// A party's answer and its place, if it took place.
@@ -96,7 +110,7 @@ fn one_try<L: Ledger>(
     call: &CoreCall,
     steps: &mut Steps<L>,
 ) -> Result<Once<Placed>, Fail>
-    requires limit { LimitFits call.now }
+    requires begins { MayBegin call.now }
     requires writes { most_writes call.now ≤ 1 }
 {
     begin_call(core, 0, *call)?;
@@ -110,7 +124,7 @@ fn whole<L: Ledger>(
     call: &CoreCall,
     steps: &mut Steps<L>,
 ) -> Result<Option<Placed>, Fail>
-    requires limit { LimitFits call.now }
+    requires begins { MayBegin call.now }
     requires writes { most_writes call.now ≤ 1 }
 {
     let mut answer = one_try(core, call, steps)?;

@@ -2,7 +2,7 @@
 
 ghost use Rattle.std.specs.Prelude.{◌≡◌, ◌<◌, ◌≤◌};
 ghost use Rattle.pm_words.specs.Layouts.{IsLayout};
-ghost use Rattle.index_core.specs.CoreCalls.{LimitFits, most_writes};
+ghost use Rattle.index_core.specs.CoreCalls.{MayBegin, most_writes};
 
 use super::{LIMIT, begin_call, run, whole};
 use crate::{Core, CoreCall, Crashed, CutCall, Cuts};
@@ -48,7 +48,7 @@ impl Case {
 }
 
 fn call_of(change: Change) -> CoreCall
-    ensures limit { LimitFits result }
+    ensures begins { MayBegin result }
     ensures writes { most_writes result ≤ 1 }
 {
     match change {
@@ -142,7 +142,7 @@ fn unplaced(cuts: &Cuts, party: u64) -> Option<Change> {
     match call {
         CoreCall::Put { name, value, .. } => Some(Change::Put { name, value }),
         CoreCall::Del { name, .. } => Some(Change::Del { name }),
-        CoreCall::Get { .. } => None,
+        _ => None,
     }
 }
 

@@ -1,7 +1,7 @@
 //! How many events calls take on a node of 64 names.
 
 ghost use Rattle.std.specs.Prelude.{◌≡◌, ◌<◌, ◌≤◌};
-ghost use Rattle.index_core.specs.CoreCalls.{LimitFits, most_writes};
+ghost use Rattle.index_core.specs.CoreCalls.{MayBegin, most_writes};
 
 use super::{LIMIT, MANY, run};
 use crate::{Core, CoreCall};
@@ -20,7 +20,7 @@ fn name_of(number: u64) -> Result<Name, Fail> {
 
 /// How many events a whole call of party 0 takes.
 fn events_of<L: Ledger>(core: &mut Core, call: CoreCall, steps: &mut Steps<L>) -> Result<u64, Fail>
-    requires limit { LimitFits call }
+    requires begins { MayBegin call }
     requires writes { most_writes call ≤ 1 }
 {
     core.reserve(1)?;

@@ -1,7 +1,7 @@
 //! Which calls use up an index.
 
 ghost use Rattle.std.specs.Prelude.{◌≡◌, ◌<◌, ◌≤◌, IfOk};
-ghost use Rattle.index_core.specs.CoreCalls.{LimitFits, most_writes};
+ghost use Rattle.index_core.specs.CoreCalls.{MayBegin, most_writes};
 
 use super::{LIMIT, MANY, begin, run};
 use crate::{Core, CoreCall, Whole};
@@ -55,7 +55,7 @@ fn a_call_that_is_turned_back_is_made_again_under_its_index(rt: HostRuntime) -> 
 
 /// A put of one of five names.
 fn put_of(number: u64) -> Result<CoreCall, Fail>
-    ensures limit { IfOk result LimitFits }
+    ensures begins { IfOk result MayBegin }
     ensures writes { IfOk result (λ call. most_writes call ≤ 1) }
 {
     let byte = 0x61 + (number % 5) as u8;

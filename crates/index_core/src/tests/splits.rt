@@ -1,7 +1,7 @@
 //! Puts that split full nodes.
 
 ghost use Rattle.std.specs.Prelude.{◌≡◌, ◌<◌, ◌≤◌, IfOk};
-ghost use Rattle.index_core.specs.CoreCalls.{LimitFits, most_writes};
+ghost use Rattle.index_core.specs.CoreCalls.{MayBegin, most_writes};
 
 use super::crashes::{NAMES, apply, is_kept, map_of, name_of, with_names};
 use super::{LIMIT, MANY, begin_call, call_of, placed, run};
@@ -17,7 +17,7 @@ use std::test::Fail;
 
 /// A put of one of the names `a` to `g`, and `aa`.
 fn put_of(number: u64) -> Result<CoreCall, Fail>
-    ensures limit { IfOk result LimitFits }
+    ensures begins { IfOk result MayBegin }
     ensures writes { IfOk result (λ call. most_writes call ≤ 1) }
 {
     let name = if number == 7 {

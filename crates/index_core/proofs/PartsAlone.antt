@@ -1,0 +1,165 @@
+-- What a part of a scan lists that is made with no other call in flight: names of the member of its low name, up to the
+-- next member's anchor.
+use Rattle.std.proofs.Common.{◌≡◌, ℕ, Bool, true, false, not, ◌&&◌, List, [], ◌∷◌, ◌++◌, inl, inr, ◌⊎◌, ⊎_elim, length, map, slice_get, refl, sym, ap, ◌∙◌, subst, arith}
+use Rattle.std.specs.Prelude.{Option, Some, None, IfSome}
+use Rattle.std.specs.FinMap.{entries, keys}
+use Rattle.std.specs.List.{filter, AllByRecursion}
+use Rattle.std.proofs.lemmas.Bool.{eq-eqb}
+use Rattle.std.proofs.lemmas.List.{length-map, take_all}
+use Rattle.pm_words.specs.declared.layout.Layout.{Layout}
+use Rattle.cat_key.specs.Names.{IsName}
+use Rattle.cat_history.specs.Maps.{Map, at, map_of}
+use Rattle.cat_history.specs.Scans.{is_under}
+use Rattle.cat_history.specs.Writes.{after, after_all}
+use Rattle.cat_history.specs.declared.op.NameOp.TheVariants as op
+use Rattle.shapes.specs.Anchors as shape
+use Rattle.shapes.specs.Anchors.{Anchors, below, names_at, next_of, target_of}
+use Rattle.shapes.proofs.Orders.{true_or_false, clash, not_itself, not_back, upto-chain, empty_first, neither, same-is}
+use Rattle.shapes.proofs.NameLists.{all_second, filter-keeps, filter-drops}
+use Rattle.shapes.proofs.Targets.{part, target-is, next-is}
+use Rattle.data_node.specs.Lists.{ListNode, key_of, range_in, target_from}
+use Rattle.index_law.specs.Anchors.{anchors_of, text_of_key}
+use Rattle.index_law.specs.Facts.{Facts, list_in, range_of}
+use Rattle.index_law.specs.Laws.{IsAtRest}
+use Rattle.index_law.specs.Lawful.{HasNames, IsList}
+use Rattle.index_law.specs.Worlds.{facts}
+use Rattle.index_law.proofs.Anchored.{Named, texts, list_has_anchors, ranges_are_members}
+use Rattle.index_law.proofs.AnchorTexts.{key-back}
+use Rattle.index_law.proofs.Cutting.{range-names}
+use Rattle.node_ops.specs.declared.part.PartWords.{PartWords}
+use Rattle.node_ops.specs.declared.part.ReadingAt.{ReadingAt}
+use Rattle.node_ops.specs.declared.part.ReadingAt.TheVariants as reading_at
+use Rattle.node_ops.specs.declared.part.Part.TheVariants as part_at
+use Rattle.node_ops.specs.declared.running.Running.{Running}
+use Rattle.node_ops.specs.declared.running.Running.TheVariants.{Getting, Putting, Deleting, Parting}
+use Rattle.node_ops.specs.Asked.{IsOf}
+use Rattle.node_ops.specs.PartSteps.{listed_at, part_words}
+use Rattle.node_ops.specs.Parts.{EndsAt, pairs_in}
+use Rattle.node_ops.specs.RunningSteps.{listed_in}
+use Rattle.lone_law.specs.LoneCalls.{IsThere}
+use Rattle.index_core.specs.Indexes.{Index, world, map_of_index, IsIndex}
+use Rattle.index_core.specs.Listings.{IsPartAt, ListsRange}
+use Rattle.index_core.specs.Lone.{IsQuiet, IsWholePart, hops_before, node_for}
+use Rattle.index_core.proofs.PartFacts.{lists_range}
+use Rattle.index_core.proofs.Quiet.{rests}
+
+-- the end of a range is past it
+past_end : (in_range : List ℕ → Bool) (low high : List ℕ) → EndsAt in_range low (Some high) → in_range high ≡ false
+past_end in_range low high is = is.ends high is.above.0 (not_back low high is.above.1) ∙ not_itself high
+
+-- a range from a name on has one end
+ends_once : (in_range : List ℕ → Bool) (low : List ℕ) (one two : Option (List ℕ)) → EndsAt in_range low one → EndsAt in_range low two → one ≡ two
+ends_once in_range low None None is so = refl
+ends_once in_range low (Some a) None is so = clash (so.ends a is.above.0 (not_back low a is.above.1)) (past_end in_range low a is)
+ends_once in_range low None (Some b) is so = clash (is.ends b so.above.0 (not_back low b so.above.1)) (past_end in_range low b so)
+ends_once in_range low (Some a) (Some b) is so =
+    let not_below : below a b ≡ false = sym (so.ends a is.above.0 (not_back low a is.above.1)) ∙ past_end in_range low a is in
+    let not_above : below b a ≡ false = sym (is.ends b so.above.0 (not_back low b so.above.1)) ∙ past_end in_range low b so in
+    ap (λ (x : List ℕ). Some x) (same-is a b (neither a b not_below not_above))
+
+same_under : (high : Option (List ℕ)) (name : List ℕ) → shape.is_under high name ≡ is_under high name
+same_under None name = refl
+same_under (Some high) name = refl
+
+-- the texts of anchors are the empty one and names
+abbrev IsAnchorText : List ℕ → Type 0
+IsAnchorText text = (text ≡ []) ⊎ IsName text
+
+named_texts : (list : List ListNode) → Named list → AllByRecursion IsAnchorText (texts list)
+named_texts [] named = tt
+named_texts (m ∷ behind) named =
+    (inr (subst IsName (sym (ap text_of_key named.0.2 ∙ key-back named.0.0 named.0.1)) named.0.1), named_texts behind named.1)
+
+-- the first of those above a name is a name
+first_above : (low : List ℕ) (anchors : Anchors) → AllByRecursion IsAnchorText anchors → AllByRecursion (λ (anchor : List ℕ). below low anchor ≡ true) anchors
+    → IfSome (slice_get anchors 0) (λ high. IsName high × (below low high ≡ true))
+first_above low [] named above = tt
+first_above low (anchor ∷ behind) named above =
+    (⊎_elim (λ (empty : anchor ≡ []). clash above.0 (subst (λ (text : List ℕ). below low text ≡ false) (sym empty) (empty_first low))) (λ (is : IsName anchor). is) named.0, above.0)
+
+-- a node's range from one of its names on ends at the next member's anchor
+next_ends : (l : Layout) (f : Facts) (n : ℕ) (low : List ℕ) → IsList l f → IsName low → range_of l f n low ≡ true → EndsAt (range_of l f n) low (next_of (anchors_of f.list) low)
+next_ends l f n low list named inside =
+    let anchors : Anchors = anchors_of f.list in
+    let p = part anchors low (list_has_anchors l f list) in
+    let all : AllByRecursion IsAnchorText (p.before ++ p.low ∷ p.after) = subst (AllByRecursion IsAnchorText) p.is (inl refl, named_texts f.list list.named) in
+    record {
+      above = subst (λ (high : Option (List ℕ)). IfSome high (λ h. IsName h × (below low h ≡ true))) (sym (next-is anchors low p))
+          (first_above low p.after (all_second IsAnchorText p.before (p.low ∷ p.after) all).1 p.above);
+      ends = λ name is from.
+          ranges_are_members l f n low name list named is inside
+          ∙ ap (λ (b : Bool). not b && shape.is_under (next_of anchors low) name) (ap (λ (anchor : List ℕ). below name anchor) (target-is anchors low p) ∙ upto-chain p.low low name p.at_most from)
+          ∙ same_under (next_of anchors low) name;
+    }
+
+-- as many entries as keys
+as_many : (test : List ℕ → Bool) (es : List (List ℕ × ℕ)) → length (filter (λ (e : List ℕ × ℕ). test e.0) es) ≡ length (filter test (map (λ (e : List ℕ × ℕ). e.0) es))
+as_many test [] = refl
+as_many test (e ∷ es) =
+    let more = as_many test es in
+    ⊎_elim
+    (λ (is : test e.0 ≡ true).
+    let one = ap length (filter-keeps (λ (d : List ℕ × ℕ). test d.0) e es is) in
+    let other = ap length (filter-keeps test e.0 (map (λ (d : List ℕ × ℕ). d.0) es) is) in
+    omega arith)
+    (λ (isnt : test e.0 ≡ false).
+    let one = ap length (filter-drops (λ (d : List ℕ × ℕ). test d.0) e es isnt) in
+    let other = ap length (filter-drops test e.0 (map (λ (d : List ℕ × ℕ). d.0) es) isnt) in
+    omega arith)
+    (true_or_false (test e.0))
+
+pairs_are_names : (m : Map) (test : List ℕ → Bool) → length (pairs_in m test) ≡ length (filter test (keys m))
+pairs_are_names m test = length-map (filter (λ (e : List ℕ × ℕ). test e.0) (entries m)) _ ∙ as_many test (entries m)
+
+-- the node that a part gives back is the target of its low name
+pub listed_node : (l : Layout) (words0 words : List ℕ) (low : List ℕ) (m : Running) (listing : PartWords) → listed_in m ≡ Some listing → IsOf (op.Get low) m → IsThere l words0 words m → listing.node ≡ target_from 0 (list_in l words0) (key_of low)
+listed_node l words0 words low (Getting get) listing none of there = absurd (cc)
+listed_node l words0 words low (Putting put) listing none of there = absurd (cc)
+listed_node l words0 words low (Deleting del) listing none of there = absurd (cc)
+listed_node l words0 words low (Parting (part_at.Looking lookup count behind)) listing none of there = absurd (cc)
+listed_node l words0 words low (Parting (part_at.Reading reading)) listing some of there =
+    elim reading.at as (λ (a : ReadingAt). listed_at reading a ≡ Some listing → listing.node ≡ target_from 0 (list_in l words0) (key_of low)) [
+      | reading_at.Load slot word ↦ λ none. absurd (cc)
+      | reading_at.Unlock ↦ λ is.
+          let same : part_words reading ≡ listing = cc in
+          sym (ap (λ (w : PartWords). w.node) same) ∙ there.node ∙ ap (λ (name : List ℕ). target_from 0 (list_in l words0) (key_of name)) of
+    ] some
+
+module _ (s0 s : Index) (low : List ℕ) (count : ℕ) (words : PartWords) (is0 : IsIndex s0) (quiet0 : IsQuiet s0) where
+  abbrev l : Layout
+  l = s0.layout
+
+  abbrev f : Facts
+  f = facts (world s0)
+
+  abbrev n : ℕ
+  n = node_for s0 low
+
+  rest : IsAtRest (world s0)
+  rest = rests s0 is0 quiet0
+
+  inside : range_of l f n low ≡ true
+  inside = eq-eqb n n refl
+
+  -- where the map and the list are as before
+  pub whole_part : s.base ≡ s0.base → s.history ≡ s0.history → (facts (world s)).list ≡ f.list → IsName low → words.node ≡ n → words.place ≡ length s0.history → words.hops ≡ hops_before s0 low → words.old ≡ at (map_of_index s0) low
+      → IsPartAt s.layout (facts (world s)) low count words → IsWholePart s0 low count s words
+  whole_part base history list named node place hops old is =
+      let map_is : after (map_of s.base) s.history words.place ≡ map_of_index s0 =
+      (λ k. after (map_of (base k)) (history k) (place k)) ∙ ap (after_all (map_of s0.base)) (take_all (length s0.history) s0.history (omega arith)) in
+      let range : range_of s.layout (facts (world s)) words.node ≡ range_of l f n = λ k. range_in (list k) (node k) in
+      let ends : EndsAt (range_of l f n) low words.high = subst (λ (r : List ℕ → Bool). EndsAt r low words.high) range is.ends in
+      let names : HasNames (after (map_of s.base) s.history words.place) = subst HasNames (sym map_is) rest.named in
+      record {
+        node = node;
+        version = is.version;
+        place = place;
+        hops = hops;
+        old = old;
+        high = ends_once (range_of l f n) low words.high (next_of (anchors_of f.list) low) ends (next_ends l f n low rest.list named inside);
+        lists = subst (λ (m : Map). ListsRange m low count words) map_is (lists_range s.layout (facts (world s)) low count words named names is);
+        compared = is.part.compared
+            ∙ (λ k. length (pairs_in (map_is k) (range k)))
+            ∙ pairs_are_names (map_of_index s0) (range_of l f n)
+            ∙ ap length (range-names l f rest.list rest.named n low named inside);
+      }

@@ -1,0 +1,144 @@
+//! Calls that are made with no other in flight.
+//!
+//! A call on one name answers little, and what a part of a scan lists takes some 2 KB. So each has a function of its own,
+//! and a call on a name clears no such room.
+
+ghost use Rattle.std.specs.Prelude.{◌≡◌, ◌+◌, ◌<◌, ◌≤◌, length, None};
+ghost use Rattle.index_core.specs.declared.party.CoreCall.TheVariants as CoreCall;
+ghost use Rattle.index_core.specs.CoreCalls.{MayBegin, count_of, most_writes};
+ghost use Rattle.index_core.specs.Indexes.{IsIndex};
+ghost use Rattle.index_core.specs.Lone.{IsQuiet, LoseAtMost, RunsAlone, TakesEachLock, TakesLocks, TriesAlone};
+ghost use Rattle.index_core.specs.Lone.{locks_left, part_whole, whole_of};
+
+use crate::index::Core;
+use crate::party::{CoreCall, Whole, needs_split};
+use call_stages::{Once, Placed};
+use cat_key::Name;
+use node_ops::{Part, PartWords};
+use pm_words::Steps;
+use std::sync::ledger::Ledger;
+
+impl Core {
+    /// A whole call of a caller, with no other in flight. Its answer is told by its cause: the locks of the node are
+    /// used up, else the clock has reached the limit, else there is no room for a new name, else it takes place. A put
+    /// that finds its node full splits it, and is made again. A delete merges the node of its name with the next one
+    /// where both together are left with at most half as many names as a node has slots. A part of a scan lists the
+    /// names of its low name's node from that one on. Of `spare` a call takes one for a write that it places, and none
+    /// otherwise.
+    pub fn run_alone<L: Ledger>(
+        &mut self,
+        caller: u64,
+        call: CoreCall,
+        steps: &mut Steps<L>,
+    ) -> Whole
+        requires caller { caller < self.old.layout.callers }
+        requires begins { MayBegin call }
+        requires spare { most_writes call ≤ self.old.spare }
+        requires quiet { IsQuiet self.old }
+        ensures runs { RunsAlone self.old caller call self.new result }
+        ensures quiet { IsQuiet self.new }
+        ensures spare { self.old.spare + length self.old.history ≤ self.new.spare + length self.new.history }
+        ensures each_lock { TakesEachLock call self.old self.new }
+        ensures locks { TakesLocks call self.old self.new }
+        ensures index { IsIndex self.new }
+    {
+        match call {
+            CoreCall::Part { low, count } => {
+                Whole::of_part(self.part_alone(caller, low, count, steps))
+            }
+            _ => Whole::of(self.name_alone(caller, call, steps)),
+        }
+    }
+
+    /// A whole call on one name, as `run_alone` makes it: a put, a get or a delete. `Again` says that there is no room.
+    pub fn name_alone<L: Ledger>(
+        &mut self,
+        caller: u64,
+        call: CoreCall,
+        steps: &mut Steps<L>,
+    ) -> Once<Placed>
+        requires caller { caller < self.old.layout.callers }
+        requires begins { MayBegin call }
+        requires name { count_of call ≡ None }
+        requires spare { most_writes call ≤ self.old.spare }
+        requires quiet { IsQuiet self.old }
+        ensures runs { RunsAlone self.old caller call self.new (whole_of result) }
+        ensures quiet { IsQuiet self.new }
+        ensures spare { self.old.spare + length self.old.history ≤ self.new.spare + length self.new.history }
+        ensures each_lock { TakesEachLock call self.old self.new }
+        ensures locks { TakesLocks call self.old self.new }
+        ensures index { IsIndex self.new }
+    {
+        let mut answer = self.try_alone(caller, &call, steps);
+        if needs_split(&answer) {
+            // The node is split now, and has room.
+            answer = self.try_alone(caller, &call, steps);
+        }
+        if let Once::Again(_) = answer {
+            self.count_call(caller);
+        }
+        answer
+    }
+
+    /// A whole part of a scan, as `run_alone` makes it: it lists the first `count` names from the low one on, of those
+    /// that belong to the low one's node. It is answered `Done` or `Worn`.
+    pub fn part_alone<L: Ledger>(
+        &mut self,
+        caller: u64,
+        low: Name,
+        count: u64,
+        steps: &mut Steps<L>,
+    ) -> Once<PartWords>
+        requires caller { caller < self.old.layout.callers }
+        requires quiet { IsQuiet self.old }
+        ensures runs { RunsAlone self.old caller (CoreCall.Part low count) self.new (part_whole result) }
+        ensures quiet { IsQuiet self.new }
+        ensures spare { self.old.spare + length self.old.history ≤ self.new.spare + length self.new.history }
+        ensures each_lock { LoseAtMost 1 self.old self.new }
+        ensures locks { locks_left self.old ≤ locks_left self.new + 1 }
+        ensures index { IsIndex self.new }
+    {
+        let Ok(()) = self.start(caller, CoreCall::Part { low, count }) else {
+            unreachable!()
+        };
+        'steps: loop {
+            if self.has_listed(caller) {
+                let words = self.listing(caller);
+                self.turn(caller, steps);
+                return Once::Done(words);
+            }
+            if let Some(answer) = self.turn(caller, steps) {
+                return Part::early(answer);
+            }
+        }
+    }
+
+    /// One try of a call, with no other in flight.
+    fn try_alone<L: Ledger>(
+        &mut self,
+        caller: u64,
+        call: &CoreCall,
+        steps: &mut Steps<L>,
+    ) -> Once<Placed>
+        requires caller { caller < self.old.layout.callers }
+        requires begins { MayBegin call.now }
+        requires spare { most_writes call.now ≤ self.old.spare }
+        requires quiet { IsQuiet self.old }
+        ensures tries { TriesAlone self.old caller call.now self.new result }
+        ensures before { IsIndex self.old }
+        ensures quiet { IsQuiet self.new }
+        ensures spare { self.old.spare + length self.old.history ≤ self.new.spare + length self.new.history }
+        ensures each_lock { LoseAtMost 1 self.old self.new }
+        ensures locks { locks_left self.old ≤ locks_left self.new + 1 }
+        ensures index { IsIndex self.new }
+    {
+        let Ok(()) = self.start(caller, *call) else {
+            unreachable!()
+        };
+        'steps: loop {
+            if let Some(answer) = self.turn(caller, steps) {
+                return answer;
+            }
+        }
+    }
+}
