@@ -19,7 +19,7 @@ use Rattle.call_stages.specs.Stages.{counted}
 use Rattle.node_ops.specs.declared.running.Running.{Running}
 use Rattle.node_ops.specs.Asked.{op_in}
 use Rattle.node_ops.specs.RunningSteps.{running_asks, running_turned, running_call, IsRunning}
-use Rattle.node_ops.specs.CallStages.{stage_of}
+use Rattle.node_ops.specs.CallStages.{stage_of, reply_of}
 use Rattle.index_law.specs.Worlds.{written}
 use Rattle.index_law.specs.Laws.{Counts}
 use Rattle.index_law.proofs.Parties.{at_set, set_here, set_else}
@@ -27,7 +27,7 @@ use Rattle.index_core.specs.declared.party.CoreCall.{CoreCall}
 use Rattle.index_core.specs.declared.party.PartyState.{PartyState}
 use Rattle.index_core.specs.Answers.{SaysOf}
 use Rattle.index_core.specs.CoreCalls.{machine_of}
-use Rattle.index_core.specs.PartyStates.{state_with, state_after, stepped_of}
+use Rattle.index_core.specs.PartyStates.{state_with, state_after}
 use Rattle.index_core.specs.MachineLaws.{ReadyAfter, showing, showing_after}
 use Rattle.cat_history.specs.declared.op.NameOp.{NameOp}
 use Rattle.index_law.specs.Weights.{weight_sum}
@@ -142,7 +142,7 @@ module _ (about : About) (id : ℕ) (v : Member) (m : Running) (f : ℕ → ℕ)
           added = refl;
           seen = begins_more v.seen h more own.seen;
           own = placed ∙ ap (λ (l : List (ℕ × Write)). l ++ noted x more) own.own;
-          says = subst (λ (b : About). SaysOf b.layout.slots (map_of b.base) (h ++ more) v.state (op_in m) (running_call m).limit (stepped_of turn)) (sym own.same) step.says;
+          says = subst (λ (b : About). SaysOf b.layout.slots (map_of b.base) (h ++ more) v.state (op_in m) (running_call m).limit (reply_of turn)) (sym own.same) step.says;
           op_on = step.keeps_op;
           call_on = step.keeps_call;
           ready = subst (λ (b : About). ReadyAfter b.layout b.generation turn) (sym own.same) step.ready;

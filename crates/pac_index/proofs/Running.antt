@@ -19,7 +19,7 @@ use Rattle.node_ops.specs.declared.running.Running.{Running}
 use Rattle.node_ops.specs.Asked.{IsOf, IsOfAfter, op_in, name_asked}
 use Rattle.node_ops.specs.Calls.{IsSame, at_node}
 use Rattle.node_ops.specs.RunningSteps.{running_call, running_left, running_turned, IsRunning, Sound}
-use Rattle.node_ops.specs.CallStages.{stage_of}
+use Rattle.node_ops.specs.CallStages.{stage_of, reply_of}
 use Rattle.node_ops.proofs.OpLaw.{counts_own_change, op_told}
 use Rattle.index_law.specs.Worlds.{written}
 use Rattle.index_core.specs.declared.party.CoreCall.{CoreCall}
@@ -27,7 +27,7 @@ use Rattle.index_core.specs.declared.party.CoreCall.TheVariants as call
 use Rattle.index_core.specs.declared.party.PartyState.{PartyState}
 use Rattle.index_core.specs.Answers.{HasOwnWrite, FoundNoRoom, SaysOf, IsAnswerOf}
 use Rattle.index_core.specs.CoreCalls.{machine_of, op_of, limit_of}
-use Rattle.index_core.specs.PartyStates.{state_after, stepped_of}
+use Rattle.index_core.specs.PartyStates.{state_after}
 use Rattle.index_core.specs.Indexes.{MakesCall}
 use Rattle.pac_index.specs.declared.rule.About.{About}
 use Rattle.pac_index.specs.declared.rule.Member.{Member}
@@ -73,7 +73,7 @@ answer_by slots base h e d op limit (once.Again why) caller index le is = λ non
     ((is none).0, record { clock = room.clock; later = omega arith; within = room.within; lacked = room.lacked; many = room.many })
 
 says_by : (slots : ℕ) (base : Map) (h : List Write) (e d : PartyState) (op : NameOp) (limit : Option ℕ) (turn : Turn Running (Once Placed)) → e.caller ≡ d.caller → e.index ≡ d.index → d.since ≤ e.since
-    → SaysOf slots base h e op limit (stepped_of turn) → SaysOf slots base h d op limit (stepped_of turn)
+    → SaysOf slots base h e op limit (reply_of turn) → SaysOf slots base h d op limit (reply_of turn)
 says_by slots base h e d op limit (Go m) caller index le is = tt
 says_by slots base h e d op limit (Done answer) caller index le is = answer_by slots base h e d op limit answer caller index le is
 
@@ -85,6 +85,8 @@ first_limit : (v : Member) (c : CoreCall) → (running_call (machine_in v c)).li
 first_limit v (call.Put name value limit) = refl
 first_limit v (call.Get name) = refl
 first_limit v (call.Del name limit) = refl
+first_limit v (call.Part low count) = refl
+first_limit v (call.Recheck node version) = refl
 
 first_op : (v : Member) (c : CoreCall) → IsOf (op_of c) (machine_in v c) → IsOf (op_of c) (machine_in v c)
 first_op v c of = of
@@ -93,6 +95,8 @@ first_unplaced : (v : Member) (c : CoreCall) → placed_in (stage_of (machine_in
 first_unplaced v (call.Put name value limit) = refl
 first_unplaced v (call.Get name) = refl
 first_unplaced v (call.Del name limit) = refl
+first_unplaced v (call.Part low count) = refl
+first_unplaced v (call.Recheck node version) = refl
 
 -- a call that begins
 pub runs_first : (c : CoreCall) (n : ℕ) (old : Member) (since : ℕ) → length old.seen ≤ since → IsRunning (machine_in old c) → IsOf (op_of c) (machine_in old c) → Runs c n old (Go (machine_in old c)) (calling old c n since)
@@ -163,7 +167,7 @@ runs_on c n old v w turn m x runs is goes =
       own = more ∙ ap (λ (l : List (ℕ × Write)). l ++ noted x (written i n (counted (stage_of m)))) was ∙ append_assoc (placed_by i old.seen) (own_at i n (change_of op) (placed_in (stage_of m))) (noted x (written i n (counted (stage_of m))))
           ∙ ap (λ (l : List (ℕ × Write)). placed_by i old.seen ++ l) (sym own);
       says = says_by old.about.layout.slots (map_of old.about.base) w.seen v.state (began c n old runs.since) op (limit_of c) turn' caller index (subst (λ (e : PartyState). runs.since ≤ e.since) (sym state) (let le : runs.since ≤ runs.since = omega arith in le))
-          (subst (λ (q : NameOp × Option ℕ × About). SaysOf q.2.layout.slots (map_of q.2.base) w.seen v.state q.0 q.1 (stepped_of turn')) (λ k. (same k, limit k, runs.about k)) goes.says);
+          (subst (λ (q : NameOp × Option ℕ × About). SaysOf q.2.layout.slots (map_of q.2.base) w.seen v.state q.0 q.1 (reply_of turn')) (λ k. (same k, limit k, runs.about k)) goes.says);
       ready = subst (λ (b : About). ReadyAfter b.layout b.generation turn') runs.about goes.ready;
     }
 
@@ -182,7 +186,7 @@ ends_so c n old v turn answer runs is =
       seen = runs.seen;
       own = runs.own ∙ ap (λ (t : Turn Running (Once Placed)). placed_by i old.seen ++ own_at i n (change_of (op_of c)) (place_now (change_of (op_of c)) t)) is;
       says = answer_by old.about.layout.slots (map_of old.about.base) v.seen (began c n old runs.since) (record old.state { index = n; since = length old.seen }) (op_of c) (limit_of c) answer refl refl runs.later
-          (subst (λ (t : Turn Running (Once Placed)). SaysOf old.about.layout.slots (map_of old.about.base) v.seen (began c n old runs.since) (op_of c) (limit_of c) (stepped_of t)) is runs.says);
+          (subst (λ (t : Turn Running (Once Placed)). SaysOf old.about.layout.slots (map_of old.about.base) v.seen (began c n old runs.since) (op_of c) (limit_of c) (reply_of t)) is runs.says);
     }
 
 pub lessens : (m : Running) (turn : Turn Running (Once Placed)) → GoesBelow running_left (running_left m) turn → turn_left turn < turn_left (Go m)

@@ -10,12 +10,17 @@ use Rattle.pm_words.specs.Images.{Row}
 use Rattle.pm_words.specs.Rows.{IsRow, CanAct}
 use Rattle.pm_words.proofs.Apart.{at-set_same, at-set_other, addresses_within}
 use Rattle.pm_words.proofs.Kept.{acted_row, outside_header}
+use Rattle.std.proofs.lemmas.Option.{IfSome_then}
+use Rattle.node_ops.specs.declared.running.Running.{Running}
+use Rattle.index_law.specs.Facts.{Facts}
+use Rattle.index_law.specs.Worlds.{facts}
 use Rattle.index_law.specs.Weights.{index_weight}
 use Rattle.index_law.proofs.Noting.{beside_law}
 use Rattle.index_law.proofs.Rows.{facts-elsewhere}
 use Rattle.index_law.proofs.Twins.{nearer, store_closer}
 use Rattle.index_core.specs.Indexes.{Index, IsIndex, footed, world}
 use Rattle.index_core.proofs.Footed.{stamp_footed}
+use Rattle.index_core.proofs.PartFacts.{running_listed}
 use Rattle.index_core.specs.Weights.{weight_of}
 use Rattle.pac_index.specs.Stamps.{stamp_in, with_words, SettlesTo}
 
@@ -37,9 +42,10 @@ can_stamp l words n here = ((addresses_within l (Volatile n 2) (here, omega arit
 keeps_index : (l : Layout) (words : List ℕ) (n : ℕ) → n < l.nodes → (s : Index) → IsIndex (with_words s l words) → IsIndex (with_words s l (stamped l words n))
 keeps_index l words n here s is =
     let has : HasLocation l (Volatile n 2) = (here, omega arith) in
+    let same = facts-elsewhere l words (map_of s.base) s.history (Volatile n 2) 1 has (λ m o e. cc, λ m e. let no : 2 ≡ 0 = ap offset_of e in omega arith) in
     let lawful = beside_law (world (with_words s l words)) (stamped l words n) is.lawful
     (acted_row l words (Store (address_of l (Volatile n 2)) 1) is.lawful.row (can_stamp l words n here))
-    (facts-elsewhere l words (map_of s.base) s.history (Volatile n 2) 1 has (λ m o e. cc, λ m e. let no : 2 ≡ 0 = ap offset_of e in omega arith))
+    same
     (nearer l words (stamped l words n) (store_closer l words (Volatile n 2) 1 has (λ v e. cc)))
     (at-set_other l words (Volatile n 2) Clock 1 has tt (λ e. cc))
     (λ v there none. at-set_other l words (Volatile n 2) (Cached v) 1 has there (λ e. cc)) in
@@ -52,6 +58,8 @@ keeps_index l words n here s is =
       states = is.states;
       ordered = is.ordered;
       bounded = is.bounded;
+      named = is.named;
+      ends = λ i state at. IfSome_then state.machine (is.ends i state at) (λ (m : Running) held. running_listed l (facts (world (with_words s l words))) (facts (world (with_words s l (stamped l words n)))) m (ap (λ (f : Facts). f.list) same) held);
     }
 
 keeps_weight : (l : Layout) (words : List ℕ) (n : ℕ) → n < l.nodes → (s : Index) → weight_of (with_words s l (stamped l words n)) ≡ weight_of (with_words s l words)

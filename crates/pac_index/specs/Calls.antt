@@ -11,13 +11,14 @@ use Rattle.call_stages.specs.declared.once.Once.TheVariants as once
 use Rattle.call_stages.specs.declared.once.Placed.{Placed}
 use Rattle.node_ops.specs.declared.running.Running.{Running}
 use Rattle.node_ops.specs.Asked.{IsOfAfter}
+use Rattle.node_ops.specs.CallStages.{reply_of}
 use Rattle.node_ops.specs.RunningSteps.{running_call, running_left, running_turned}
 use Rattle.index_law.specs.Worlds.{written}
 use Rattle.index_core.specs.declared.party.CoreCall.{CoreCall}
 use Rattle.index_core.specs.declared.party.PartyState.{PartyState}
 use Rattle.index_core.specs.Answers.{IsAnswerOf, SaysOf}
 use Rattle.index_core.specs.CoreCalls.{op_of, limit_of}
-use Rattle.index_core.specs.PartyStates.{state_with, state_after, next_index, stepped_of}
+use Rattle.index_core.specs.PartyStates.{state_with, state_after, next_index}
 use Rattle.index_core.specs.Indexes.{MakesCall}
 use Rattle.index_core.specs.MachineLaws.{ReadyAfter, place_told, place_now}
 use Rattle.pac_index.specs.declared.tried.Tried.{Tried}
@@ -93,7 +94,7 @@ pub record Runs (call : CoreCall) (index : ℕ) (old : Member) (turn : Turn Runn
   pub own : placed_by old.state.caller new.seen ≡ placed_by old.state.caller old.seen ++ own_at old.state.caller index
       (change_of (op_of call)) (place_now (change_of (op_of call)) turn)
   pub says : SaysOf old.about.layout.slots (map_of old.about.base) new.seen (began call index old since) (op_of call)
-      (limit_of call) (stepped_of turn)
+      (limit_of call) (reply_of turn)
   pub ready : ReadyAfter old.about.layout old.about.generation turn
 
 abbrev pub turn_left : Turn Running (Once Placed) → ℕ

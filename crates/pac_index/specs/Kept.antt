@@ -16,13 +16,13 @@ use Rattle.call_stages.specs.declared.view.View.{View}
 use Rattle.node_ops.specs.declared.running.Running.{Running}
 use Rattle.node_ops.specs.Asked.{IsOfAfter, op_in}
 use Rattle.node_ops.specs.RunningSteps.{running_asks, running_turned, running_takes, running_call}
-use Rattle.node_ops.specs.CallStages.{stage_of}
+use Rattle.node_ops.specs.CallStages.{stage_of, reply_of}
 use Rattle.index_law.specs.Worlds.{written}
 use Rattle.index_core.specs.declared.party.PartyState.{PartyState}
 use Rattle.index_core.specs.declared.party.CoreCall.{CoreCall}
 use Rattle.index_core.specs.Answers.{SaysOf}
 use Rattle.index_core.specs.CoreCalls.{machine_of}
-use Rattle.index_core.specs.PartyStates.{idle_states, state_with, state_after, stepped_of}
+use Rattle.index_core.specs.PartyStates.{idle_states, state_with, state_after}
 use Rattle.index_core.specs.Indexes.{Index, IsIndex, MakesCall, world, parties_of}
 use Rattle.index_core.specs.MachineLaws.{ReadyAfter, showing}
 use Rattle.index_core.specs.Weights.{added_by}
@@ -174,7 +174,7 @@ pub record Goes (m : Running) (v : Member) (x : ℕ) (w : Member) : Type 0 where
   pub own : placed_by v.state.caller w.seen ≡ placed_by v.state.caller v.seen ++ noted x
       (written v.state.caller v.state.index (counted (stage_of m)))
   pub says : SaysOf v.about.layout.slots (map_of v.about.base) w.seen v.state (op_in m) (running_call m).limit
-      (stepped_of (running_turned m x))
+      (reply_of (running_turned m x))
   -- it goes on with the same call
   pub op_on : IsOfAfter (op_in m) (running_turned m x)
   pub call_on : MakesCall (running_call m) (running_turned m x)

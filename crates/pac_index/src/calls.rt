@@ -1,7 +1,7 @@
 ghost use Rattle.pac_index.specs.declared.shared.Shared.{Shared};
 ghost use Rattle.std.specs.Prelude.{OnOk, IfSome, ◌≡◌, ◌+◌, ◌++◌, ◌≤◌, ◌<◌, ◌^◌, length};
 ghost use Rattle.cat_history.specs.Records.{change_of};
-ghost use Rattle.index_core.specs.CoreCalls.{LimitFits, op_of, most_writes};
+ghost use Rattle.index_core.specs.CoreCalls.{MayBegin, op_of, most_writes};
 ghost use Rattle.index_core.specs.declared.party.CoreCall.TheVariants as call;
 ghost use Rattle.index_core.specs.MachineLaws.{place_told};
 ghost use Rattle.pac_index.specs.Calls.{Answers, IsAnswered, own_at, own_of, counted_index};
@@ -87,7 +87,7 @@ impl Shared {
     ) -> Tried<Placed>
         requires caller { IsCallerOf self.now caller.old }
         requires worker { caller.old.number < self.now.about.layout.callers }
-        requires limit { LimitFits call }
+        requires begins { MayBegin call }
         requires spare { most_writes call ≤ spare_of caller.old }
         ensures caller { IsCallerOf self.now caller.new }
         ensures number { caller.new.number ≡ caller.old.number }
@@ -173,8 +173,8 @@ fn change_of(call: &CoreCall) -> Option<Change>
 {
     match *call {
         CoreCall::Put { name, value, .. } => Some(Change::Put { name, value }),
-        CoreCall::Get { .. } => None,
         CoreCall::Del { name, .. } => Some(Change::Del { name }),
+        CoreCall::Get { .. } | CoreCall::Part { .. } | CoreCall::Recheck { .. } => None,
     }
 }
 

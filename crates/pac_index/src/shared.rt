@@ -2,7 +2,7 @@ ghost use Rattle.std.specs.Prelude.{◌≡◌, ◌<◌, ◌^◌, None};
 ghost use Rattle.pm_words.specs.Layouts.{IsLayout};
 ghost use Rattle.pm_words.specs.Locations.{row_words};
 ghost use Rattle.version_lock.specs.declared.TheConstants.{GENERATION_LIMIT};
-ghost use Rattle.index_core.specs.CoreCalls.{LimitFits};
+ghost use Rattle.index_core.specs.CoreCalls.{MayBegin};
 ghost use Rattle.pac_index.specs.Kept.{May, WasTold, IsLone, party};
 ghost use Rattle.pac_index.specs.Calls.{Answers};
 
@@ -78,7 +78,7 @@ impl Shared {
         requires about { (party seat.old.me).about ≡ self.now.about }
         requires idle { (party seat.old.me).state.machine ≡ None }
         requires number { ((party seat.old.me).state.caller ≡ number) × (number < self.now.about.layout.callers) }
-        requires limit { LimitFits call }
+        requires begins { MayBegin call }
         ensures seat { (seat.new.table_id ≡ seat.old.table_id) × (seat.new.id ≡ seat.old.id) }
         ensures lone { IsLone seat.new.me }
         ensures answered { Answers call index (party seat.old.me) result (party seat.new.me) }

@@ -1,7 +1,7 @@
 //! What each caller asks.
 
 ghost use Rattle.std.specs.Prelude.{IfSome, ◌≤◌};
-ghost use Rattle.index_core.specs.CoreCalls.{LimitFits, most_writes};
+ghost use Rattle.index_core.specs.CoreCalls.{MayBegin, most_writes};
 
 use cat_key::Name;
 use index_core::CoreCall;
@@ -30,7 +30,7 @@ pub fn name_of(caller: u64, number: u64) -> Option<Name> {
 
 /// The same as a call of a core.
 pub fn call_of(caller: u64, number: u64) -> Option<CoreCall>
-    ensures { IfSome result (λ call. LimitFits call × (most_writes call ≤ 1)) }
+    ensures { IfSome result (λ call. MayBegin call × (most_writes call ≤ 1)) }
 {
     let name = name_of(caller, number)?;
     Some(if is_put(number) {
