@@ -1,5 +1,5 @@
 -- A map of one member that there can be.
-use Rattle.std.proofs.Common.{◌≡◌, ℕ, ◌/◌, ◌≤◌, nat_le, true, false, ◌&&◌, ◌↔◌, is_some, is_none, Option, None, Some, List, [], ◌∷◌, length, slice_get, ⊎_elim, refl, ap, ◌∙◌, leb-true}
+use Rattle.std.proofs.Common.{◌≡◌, ℕ, ◌/◌, ◌≤◌, nat_le, Bool, true, false, ◌&&◌, ◌↔◌, is_some, is_none, Option, None, Some, List, [], ◌∷◌, length, slice_get, ⊎_elim, refl, ap, ◌∙◌, leb-true}
 use Rattle.std.specs.FinMap.{len, remove}
 use Rattle.cat_history.specs.Maps.{Map, at, LacksRoom}
 use Rattle.shapes.specs.Anchors.{Anchors, below, past, next_of, target_of, names_between, names_at, IsFullPut, splits, put_anchors, del_anchors}
@@ -19,11 +19,14 @@ none-if : (o : Option ℕ) → is_none o ≡ true → o ≡ None
 none-if None is = refl
 none-if (Some x) is = clash is refl
 
--- where there is no next member a delete merges nothing
+-- there is no next member,
+pub one_ends : (name : List ℕ) → next_of ([] ∷ []) name ≡ None
+one_ends name = ap (λ (xs : Anchors). slice_get xs 0) (filter-drops (λ anchor. below name anchor) [] [] (empty_first name))
+
+-- so a delete merges nothing
 pub one_merges_none : (slots : ℕ) (m : Map) (name : List ℕ) → del_anchors slots m ([] ∷ []) name ≡ [] ∷ []
 one_merges_none slots m name =
-    let past_none : past ([] ∷ []) name ≡ [] = filter-drops (λ anchor. below name anchor) [] [] (empty_first name) in
-    let none : is_some (next_of ([] ∷ []) name) ≡ false = ap (λ (xs : Anchors). is_some (slice_get xs 0)) past_none in
+    let none : is_some (next_of ([] ∷ []) name) ≡ false = ap {B = Bool} is_some (one_ends name) in
     del-stays slots m ([] ∷ []) name
     (ap (λ b. is_some (at m name) && (b && nat_le
     (length (names_between (remove m name) (target_of ([] ∷ []) name) (slice_get (past ([] ∷ []) name) 1))) (slots / 2))) none

@@ -1,14 +1,18 @@
 -- The laws of shapes.
 use Rattle.std.specs.Prelude.{◌≡◌, ℕ, ◌+◌, ◌*◌, ◌/◌, ◌%◌, ◌≤◌, ◌⊎◌, ◌↔◌, true, false, List, [], ◌∷◌, Some, IsSome}
-use Rattle.std.specs.Prelude.{length, slice_get}
+use Rattle.std.specs.Prelude.{All, length, slice_get}
 use Rattle.std.specs.FinMap.{insert, remove, keys, len}
 use Rattle.std.specs.List.{flat_map}
 use Rattle.std.specs.Option.{option_map}
 use Rattle.cat_history.specs.Maps.{Map, at, LacksRoom}
+use Rattle.cat_history.specs.Scans.{IsLegalScan}
+use Rattle.cat_history.specs.declared.record.Reply.TheVariants.{Parts}
+use Rattle.cat_history.specs.declared.record.ScanPart.{ScanPart}
 use Rattle.shapes.specs.Anchors.{Anchors, AreAnchors, is_between, names_between, target_of, next_of, IsFullPut, splits}
 use Rattle.shapes.specs.Anchors.{middle_of, put_anchors, merges, del_anchors, most_after}
 use Rattle.shapes.specs.Members.{Member, with_name, without_name, IsTargetMember, members, Outcome, Full, Placed, Puts}
 use Rattle.shapes.specs.Members.{Deletes}
+use Rattle.shapes.specs.ShapeRounds.{EndsWithMembers}
 use Rattle.shapes.specs.Weights.{IsShape, weight, one_lacking}
 
 -- The names of all members, one member after another, are those of the map.
@@ -38,6 +42,24 @@ PartsAgree = (m : Map) (anchors : Anchors) (low : List ℕ) (before after : List
     AreAnchors anchors →
     IsTargetMember low (members m anchors) before target after →
     option_map (λ (member : Member). member.anchor) (slice_get after 0) ≡ next_of anchors low
+
+-- The parts are those of a scan of the map that was answered at once, at this place, each of which ends with a member.
+pub record IsScanByShape (m : Map) (anchors : Anchors) (from : List ℕ) (count place : ℕ) (parts : List ScanPart) :
+    Type 0 where
+  pub legal : IsLegalScan (λ _. m) from count false parts
+  pub at_once : All (λ part. part.place ≡ place) parts
+  pub ends : EndsWithMembers anchors (Parts parts false)
+
+-- Of a map that stays, a scan whose parts end with the members has one answer: two scans of the same names, at the same
+-- place, have the same parts,
+abbrev pub ScansAreOne : Type 0
+ScansAreOne = (m : Map) (anchors : Anchors) (from : List ℕ) (count place : ℕ) (a b : List ScanPart) →
+    IsScanByShape m anchors from count place a → IsScanByShape m anchors from count place b → a ≡ b
+
+-- and no more of them than there are members.
+abbrev pub ScansAreShort : Type 0
+ScansAreShort = (m : Map) (anchors : Anchors) (from : List ℕ) (count place : ℕ) (parts : List ScanPart) →
+    AreAnchors anchors → IsScanByShape m anchors from count place parts → length parts ≤ length anchors
 
 -- A fresh index is a shape of one member.
 abbrev pub FreshIsShape : Type 0

@@ -9,8 +9,8 @@ use Rattle.cat_history.specs.declared.op.Op.{Op}
 use Rattle.cat_history.specs.declared.op.Op.TheVariants.{Put, Get, Del, Scan}
 use Rattle.cat_history.specs.declared.record.Record.{Record}
 use Rattle.cat_history.specs.declared.record.Reply.{Reply}
-use Rattle.cat_history.specs.declared.record.Reply.TheVariants.{Old, Full}
-use Rattle.shapes.specs.Anchors.{Anchors, IsFullPut, put_anchors, del_anchors}
+use Rattle.cat_history.specs.declared.record.Reply.TheVariants.{Old, Parts, Full, Spent, Cut, Unstarted}
+use Rattle.shapes.specs.Anchors.{Anchors, next_of, IsFullPut, put_anchors, del_anchors}
 use Rattle.shapes.specs.Weights.{IsShape, weight}
 
 -- The anchors after a call that was answered so: a call that reads or is refused leaves them.
@@ -42,6 +42,21 @@ PutsFull slots nodes m anchors (Scan from count) = ⊥
 abbrev pub IsFullByShape : ℕ → ℕ → Map → Anchors → List Record → Type 0
 IsFullByShape slots nodes base anchors records =
     HoldsInShape slots (λ m shape r. (r.reply ≡ Full) ↔ PutsFull slots nodes m shape r.op) base anchors records
+
+-- Each part of a scan ends with a member: where the one behind that of its low name begins, or nowhere, where there is
+-- none.
+abbrev pub EndsWithMembers : Anchors → Reply → Type 0
+EndsWithMembers anchors (Old old place) = Unit {0}
+EndsWithMembers anchors (Parts parts cut) = All (λ part. part.high ≡ next_of anchors part.low) parts
+EndsWithMembers anchors Full = Unit {0}
+EndsWithMembers anchors (Spent clock) = Unit {0}
+EndsWithMembers anchors (Cut mark) = Unit {0}
+EndsWithMembers anchors Unstarted = Unit {0}
+
+-- The parts of each scan are bounded by the shape that the earlier calls left.
+abbrev pub IsBoundedByShape : ℕ → Map → Anchors → List Record → Type 0
+IsBoundedByShape slots base anchors records =
+    HoldsInShape slots (λ m shape r. EndsWithMembers shape r.reply) base anchors records
 
 -- One for the record of a put that added a name.
 abbrev pub one_added : Op → Reply → ℕ

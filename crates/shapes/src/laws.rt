@@ -4,7 +4,8 @@ ghost use Rattle.shapes.specs.Runs.{OneNodeRounds};
 ghost use Rattle.shapes.specs.ShapeRounds.{LoneRoundsKeepShape, RoundsArePaid};
 ghost use Rattle.shapes.specs.Laws.{MembersPartNames, PutAgrees, DeleteAgrees, PartsAgree, FreshIsShape, PutKeepsShape};
 ghost use Rattle.shapes.specs.Laws.{DeleteKeepsShape, PutKeepsMost, SplitIsEnough, PutWeighs, DeleteWeighs};
-ghost use Rattle.shapes.specs.Laws.{MergePays, FullWeighs, OneNodeIsRoom, HalfIsSplit, DropIsMerge};
+ghost use Rattle.shapes.specs.Laws.{MergePays, FullWeighs, OneNodeIsRoom, HalfIsSplit, DropIsMerge, ScansAreOne};
+ghost use Rattle.shapes.specs.Laws.{ScansAreShort};
 
 /// The members part the names of the map among them.
 pub fn parts_law()
@@ -17,6 +18,12 @@ pub fn shape_law()
     ensures del { DeleteAgrees }
     ensures part { PartsAgree }
     ensures one_node { OneNodeIsRoom }
+{}
+
+/// What the shape says of a scan that is answered at once: which parts it has, and how many at most.
+pub fn scan_law()
+    ensures one { ScansAreOne }
+    ensures few { ScansAreShort }
 {}
 
 /// What nodes can hold, they can hold after each call, and no put leaves one member less that there can be.

@@ -6,5 +6,5 @@ pub mod laws;
 mod map;
 mod plain;
 
-pub use map::{Full, NameMap};
+pub use map::{Full, MapPart, NameMap};
 pub use plain::PlainMap;

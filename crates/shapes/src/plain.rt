@@ -1,10 +1,14 @@
 //! The slow plain map of the definitions: pairs in no order, each looked for from the front.
 
-ghost use Rattle.std.specs.Prelude.{◌≡◌, IfOk};
+ghost use Rattle.std.specs.Prelude.{◌≡◌, ◌<◌, ◌^◌, All, IfOk, not, take};
 ghost use Rattle.std.specs.FinMap.{empty};
+ghost use Rattle.std.specs.List.{filter};
+ghost use Rattle.std.specs.List.Sorted.{IsPermutation, IsSortedByKey};
+ghost use Rattle.cat_key.specs.Names.{IsName, name_cmp};
+ghost use Rattle.cat_history.specs.Scans.{is_below};
 
-use crate::map::{Full, NameMap};
-use cat_history::{NoMemory, number_in, position_of};
+use crate::map::{Full, MapPart, NameMap};
+use cat_history::{Listed, NoMemory, number_in, position_of};
 use cat_key::{Name, Pair};
 use std::alloc::Global;
 use std::marker::Model;
@@ -62,8 +66,24 @@ impl NameMap for PlainMap {
     // No call uses anything up.
     ghost calls_left = { λ _. 2 ^ 64 };
 
+    ghost writes_left = { λ _. 2 ^ 64 };
+
+    fn has_shape(&self) {
+        // Its fields have what is known of it.
+        let _room = self.room;
+    }
+
     fn get(&mut self, name: &Name) -> Option<u64> {
         number_in(&self.pairs, name)
+    }
+
+    fn part(&mut self, alloc: Global, low: &Name, count: u64) -> Result<MapPart, NoMemory> {
+        let pairs = in_order(alloc, &self.pairs)?;
+        let listed = first_from(alloc, &pairs, low, count)?;
+        Ok(MapPart {
+            high: None,
+            pairs: Listed::of(listed),
+        })
     }
 
     fn put(&mut self, name: &Name, value: u64) -> Result<Option<u64>, Full> {
@@ -87,6 +107,39 @@ impl NameMap for PlainMap {
     fn len(&self) -> u64 {
         self.pairs.len() as u64
     }
+}
+
+/// The pairs in rising order of names.
+fn in_order(alloc: Global, pairs: &[Pair]) -> Result<Vec<Pair>, NoMemory>
+    ensures same { IfOk result (λ sorted. IsPermutation pairs.now sorted.items) }
+    ensures rising { IfOk result (λ sorted. IsSortedByKey (λ pair. pair.name) name_cmp sorted.items) }
+{
+    let mut sorted = pairs.to_vec(alloc)?;
+    sorted.sort_unstable_by_key(|pair| pair.name);
+    Ok(sorted)
+}
+
+/// The first of the pairs, so many at most, whose names are at least this one.
+fn first_from(alloc: Global, pairs: &[Pair], low: &Name, count: u64) -> Result<Vec<Pair>, NoMemory>
+    ensures first { IfOk result
+        (λ first. first.items ≡ take count (filter (λ pair. not (is_below pair.name low.now)) pairs.now)) }
+    ensures named { IfOk result (λ first. All (λ pair. IsName pair.name × (pair.value < 2 ^ 64)) first.items) }
+{
+    let mut first = Vec::new(alloc);
+    for pair in pairs {
+        if (first.len() as u64) < count && pair.name >= *low {
+            first.push(told(*pair))?;
+        }
+    }
+    Ok(first)
+}
+
+/// The pair itself: a name with a number.
+fn told(pair: Pair) -> Pair
+    ensures same { result ≡ pair }
+    ensures named { IsName result.name × (result.value < 2 ^ 64) }
+{
+    pair
 }
 
 #[cfg(test)]
@@ -130,6 +183,36 @@ mod tests {
             [map.get(&a), map.get(&b), map.get(&c)],
             [None, Some(5), Some(6)]
         );
+        Ok(())
+    }
+
+    #[test]
+    fn lists_its_names_in_order(rt: HostRuntime) -> Result<(), Fail> {
+        let mut map = PlainMap::new(rt.alloc(), 4)?;
+        for (text, value) in [("d", 1), ("b", 2), ("c", 3)] {
+            let name = Name::read(text.as_bytes()).ok().ok_or("a name")?;
+            assert_eq!(rt; map.put(&name, value), Ok(None), "{text}");
+        }
+
+        // From where, how many at most, and the numbers that are listed.
+        let cases: [(&str, u64, &[u64]); 6] = [
+            ("a", 10, &[2, 3, 1]),
+            ("b", 3, &[2, 3, 1]),
+            ("b", 2, &[2, 3]),
+            ("bb", 10, &[3, 1]),
+            ("d", 0, &[]),
+            ("e", 10, &[]),
+        ];
+        for (text, count, numbers) in cases {
+            let low = Name::read(text.as_bytes()).ok().ok_or("a name")?;
+            let part = map.part(rt.alloc(), &low, count)?;
+            assert!(rt; part.high.is_none(), "{text}");
+            let listed = part.pairs.as_slice();
+            assert_eq!(rt; listed.len(), numbers.len(), "{text}");
+            for (pair, number) in listed.iter().zip(numbers) {
+                assert_eq!(rt; pair.value, *number, "{text}");
+            }
+        }
         Ok(())
     }
 }
