@@ -4,4 +4,5 @@ pub mod ReportGrammar
 pub mod Outside
 pub mod OutsideMemory
 pub mod Shelves
+pub mod Summaries
 pub mod WordLines

@@ -5,6 +5,7 @@ pub mod laws;
 mod outside;
 mod print;
 mod report;
+mod summary;
 #[cfg(test)]
 mod tests;
 mod word_line;
@@ -19,6 +20,7 @@ pub use outside::source::{Failed, ReadFault, Source, read_whole};
 pub use outside::streams::{ReadSource, WriteSink};
 pub use print::print_report;
 pub use report::{Report, RoundReport};
+pub use summary::{Summary, print_summary};
 /// There was no memory.
 pub use std::alloc::AllocError as NoMemory;
 pub use word_line::add_word;

@@ -1,0 +1,72 @@
+//! The line that sums up a round.
+
+ghost use Rattle.std.specs.Prelude.{◌≡◌, ◌++◌, codes, decimal, IfOk, OnOk};
+ghost use Rattle.cat_text.specs.Summaries.{summary_field, summary_line};
+
+use crate::NoMemory;
+use crate::print::add_number;
+use std::alloc::Global;
+
+/// What a round comes to in numbers.
+#[derive(Clone, Copy, Debug, PartialEq, Eq)]
+pub struct Summary {
+    /// How many calls it has.
+    pub calls: u64,
+    /// How many of them are puts.
+    pub puts: u64,
+    /// How many of them are deletes.
+    pub dels: u64,
+    /// How many names there are at its end.
+    pub names: u64,
+    /// The sum of their numbers.
+    pub sum: u64,
+    /// How many calls were answered that there is no room.
+    pub full: u64,
+}
+
+/// The line of a summary.
+///
+/// The error is that there was no memory for it.
+pub fn print_summary(alloc: Global, summary: &Summary) -> Result<Vec<u8>, NoMemory>
+    ensures { IfOk result (λ text. text.items ≡ summary_line summary.now) }
+{
+    let mut text = Vec::new(alloc);
+    add_field(&mut text, "calls ", summary.calls)?;
+    add_field(&mut text, " puts ", summary.puts)?;
+    add_field(&mut text, " dels ", summary.dels)?;
+    add_field(&mut text, " names ", summary.names)?;
+    add_field(&mut text, " sum ", summary.sum)?;
+    add_field(&mut text, " full ", summary.full)?;
+    text.extend_from_slice(b"\n")?;
+    Ok(text)
+}
+
+/// Adds a word and a number.
+fn add_field(text: &mut Vec<u8>, word: &str, number: u64) -> Result<(), NoMemory>
+    ensures { OnOk result (text.new.items ≡ text.old.items ++ summary_field word.now number) }
+{
+    text.extend_from_slice(word.as_bytes())?;
+    add_number(text, number)
+}
+
+#[cfg(test)]
+mod tests {
+    use super::*;
+    use std::test::Fail;
+
+    #[test]
+    fn line_of_a_summary(rt: HostRuntime) -> Result<(), Fail> {
+        let summary = Summary {
+            calls: 100,
+            puts: 52,
+            dels: 9,
+            names: 0,
+            sum: u64::MAX,
+            full: 1,
+        };
+        let text = print_summary(rt.alloc(), &summary)?;
+        let want = b"calls 100 puts 52 dels 9 names 0 sum 18446744073709551615 full 1\n";
+        assert_eq!(rt; text.as_slice(), want.as_slice());
+        Ok(())
+    }
+}
