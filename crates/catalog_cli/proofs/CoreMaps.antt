@@ -1,11 +1,11 @@
 -- The index as a map of names: its names counted, its calls left, and its shape.
 use Rattle.std.proofs.Common.{◌≡◌, ◌≢◌, ℕ, zero, suc, ◌+◌, ◌-◌, ◌*◌, ◌/◌, ◌<◌, ◌≤◌, if◌then◌else◌, Bool, true, false, cond, List, [], ◌∷◌, length, drop, slice_get, ◌⊎◌, ⊎_elim, refl, le_trans, inl, inr, sym, ap, ◌∙◌, subst, arith, length-append, length-drop, zero-add}
-use Rattle.std.specs.Prelude.{Option, Some, None, IfSome, IsSomeAnd, min, ◌↔◌, ◌^◌}
+use Rattle.std.specs.Prelude.{Option, ◌↔◌, ◌^◌}
 use Rattle.std.specs.List.{flat_map, AllByRecursion}
 use Rattle.std.specs.Option.{is_some}
 use Rattle.std.specs.FinMap.{insert, remove, len, len-insert, len-remove, len-empty, empty_of_len, get-empty}
 use Rattle.std.proofs.lemmas.Bool.{cases_eq, ne_eqb, false≢true}
-use Rattle.std.proofs.Math.Nat.{le-min, min-le_left}
+use Rattle.std.proofs.Math.Nat.{le-min, min-le_right}
 use Rattle.std.proofs.lemmas.Cmp.{nat_list_cmp_total}
 use Rattle.cat_key.specs.Names.{IsName, name_cmp}
 use Rattle.cat_history.specs.Maps.{Map, at, map_of}
@@ -15,13 +15,18 @@ use Rattle.pm_words.specs.Layouts.{IsLayout}
 use Rattle.version_lock.specs.declared.TheConstants.{LAST_COUNT}
 use Rattle.shapes.specs.Members.{Member, members}
 use Rattle.shapes.specs.ShapeRounds.{PutsFull}
+use Rattle.shapes.specs.Weights.{IsShape}
 use Rattle.cat_history.specs.Records.{as_op}
 use Rattle.shapes.specs.Anchors.{Anchors, AreAnchors, next_of, put_anchors, merges, del_anchors, most_after}
 use Rattle.shapes.proofs.Agreements.{length-members, put-stays, and-first, and-second}
 use Rattle.shapes.proofs.Shapes.{len-keys, put_keeps_most, del-merges, del-stays}
 use Rattle.shapes.proofs.Targets.{members_part_names, part, next-is}
 use Rattle.call_stages.specs.Kinds.{gone_status}
+use Rattle.call_stages.specs.declared.once.Once.{Once}
+use Rattle.call_stages.specs.declared.once.Once.TheVariants as once
 use Rattle.call_stages.specs.declared.once.Placed.{Placed}
+use Rattle.node_ops.specs.declared.part.PartWords.{PartWords}
+use Rattle.pm_words.specs.declared.again.Again.{Again}
 use Rattle.node_ops.specs.Asked.{name_asked}
 use Rattle.data_node.specs.Lists.{key_of}
 use Rattle.data_node.proofs.ListLemmas.{chain_closed, target_in}
@@ -36,17 +41,17 @@ use Rattle.lone_law.specs.Merging.{NextIsWorn, next_node}
 use Rattle.lone_law.proofs.Locks.{worn_has_none}
 use Rattle.index_core.specs.Fresh.{IsFreshIndex}
 use Rattle.index_core.specs.Indexes.{Index, IsIndex, map_of_index, world}
-use Rattle.index_core.specs.Lone.{IsQuiet, FindsNoRoom, FindsWornNode, HasSameList, IsOver, IsWornNode, IsWholeAnswer, RunsAlone, LeavesList, LeavesMost, SplitsFor, SplitsNothing, MergesFor, MergesNothing, node_for, locks_left}
+use Rattle.index_core.specs.Lone.{IsQuiet, FindsNoRoom, FindsWornNode, HasSameList, IsOver, IsWornNode, IsWholeAnswer, RunsAlone, LeavesList, LeavesMost, SplitsFor, SplitsNothing, MergesFor, MergesNothing, node_for, locks_left, alone_writes, whole_of, part_whole}
 use Rattle.index_core.specs.declared.party.CoreCall.TheVariants as call
 use Rattle.index_core.specs.declared.party.CoreCall.{CoreCall}
 use Rattle.index_core.specs.declared.party.Whole.{Whole}
 use Rattle.index_core.specs.declared.party.Whole.TheVariants as whole
-use Rattle.index_core.specs.CoreCalls.{op_of, limit_of}
+use Rattle.index_core.specs.CoreCalls.{op_of, most_writes}
 use Rattle.index_core.proofs.Quiet.{quiet_parties}
 use Rattle.index_core.proofs.Fresh.{fresh_quiet, fresh_locks}
 use Rattle.index_core.proofs.Fulls.{no_room_is_full_put}
 use Rattle.index_core.proofs.Stepping.{respare}
-use Rattle.catalog_cli.specs.CoreMaps.{calls_left_of, IsUnlimited, IsCoreMap, anchors_made}
+use Rattle.catalog_cli.specs.CoreMaps.{calls_left_of, writes_left_of, IsUnlimited, IsCoreMap, anchors_made}
 
 -- a put of a name that the map lacks adds one, and of one that it has adds none
 pub put_counted : (s s' : Index) (name : List ℕ) (value names names' : ℕ) (old : Option ℕ) (b : Bool) → IsCoreMap s names → IsIndex s' → IsQuiet s' →
@@ -141,19 +146,19 @@ fresh_most l s s' layout fresh kept =
         ap (λ (b : Bool). (if b then 1 else 0) + gone_nodes n f) (ne_eqb (f.status n) gone_status (none n (omega arith)))
         ∙ zero-add (gone_nodes n f) ∙ none_gone n f (λ k below. none k (omega arith))
 
--- it has a lock of its node left, and a number below 2^62 for its clock, for each of the calls
-pub fresh_calls : (l : Layout) (s s' : Index) (calls : ℕ) → IsLayout l → IsFreshIndex l s → s' ≡ record s { spare = s'.spare } → calls ≤ s'.spare →
-    2 * calls ≤ LAST_COUNT → calls ≤ calls_left_of s'
-fresh_calls l s s' calls layout fresh kept spare few =
-    let locks : locks_left s' ≡ LAST_COUNT = ap locks_left kept ∙ fresh_locks l s layout fresh in
+-- all locks of its nodes are left,
+pub fresh_calls : (l : Layout) (s s' : Index) → IsLayout l → IsFreshIndex l s → s' ≡ record s { spare = s'.spare } → calls_left_of s' ≡ LAST_COUNT / 2
+fresh_calls l s s' layout fresh kept = ap (λ (n : ℕ). n / 2) (ap locks_left kept ∙ fresh_locks l s layout fresh)
+
+-- and a number below 2^62 for its clock, for each of the writes
+pub fresh_writes : (l : Layout) (s s' : Index) (writes : ℕ) → IsFreshIndex l s → s' ≡ record s { spare = s'.spare } → writes ≤ s'.spare → writes ≤ 2 ^ 62 → writes ≤ writes_left_of s'
+fresh_writes l s s' writes fresh kept spare few =
     let history : length s'.history ≡ 0 = ap (λ (v : Index). length v.history) kept ∙ ap length fresh.history in
-    le-min (omega (arith, locks, few)) (le-min spare (omega (arith, history, few)))
+    le-min spare (omega (arith, history, few))
 
 -- where calls are left, so are two locks of each node
 locks_remain : (s : Index) → 0 < calls_left_of s → 2 ≤ locks_left s
-locks_remain s left =
-    let half : 0 < locks_left s / 2 = le_trans left (min-le_left (locks_left s / 2) (min s.spare (2 ^ 62 - length s.history))) in
-    omega (arith, half)
+locks_remain s left = omega (arith, left)
 
 -- then no node is worn, and no clock has come to a limit that is none
 pub unworn : (s : Index) (c : CoreCall) → IsIndex s → 0 < calls_left_of s → FindsWornNode c s → ⊥
@@ -164,18 +169,18 @@ unworn s c is left worn =
     let some_left = locks_remain s left in
     omega arith
 
-pub in_time : (s : Index) (c : CoreCall) → IsUnlimited c → 0 < calls_left_of s → IsOver c s → ⊥
-in_time s c unlimited left over = at (limit_of c) unlimited over
-  where
-    at : (o : Option ℕ) → IfSome o (λ limit. limit ≡ 2 ^ 62) → IsSomeAnd o (λ limit. limit ≤ length s.history) → ⊥
-    at None is past = past
-    at (Some limit) is past = let room : 0 < 2 ^ 62 - length s.history = omega arith in omega arith
+pub in_time : (s : Index) (c : CoreCall) → IsUnlimited c → most_writes c ≤ writes_left_of s → IsOver c s → ⊥
+in_time s (call.Put name value limit) unlimited left over = let room : 0 < 2 ^ 62 - length s.history = le_trans left (min-le_right s.spare (2 ^ 62 - length s.history)) in omega (arith, room, unlimited, over)
+in_time s (call.Get name) unlimited left over = over
+in_time s (call.Part low count) unlimited left over = over
+in_time s (call.Recheck node version) unlimited left over = over
+in_time s (call.Del name limit) unlimited left over = let room : 0 < 2 ^ 62 - length s.history = le_trans left (min-le_right s.spare (2 ^ 62 - length s.history)) in omega (arith, room, unlimited, over)
 
-pub goes_through : (s : Index) (c : CoreCall) (new : Index) (r : Whole) → IsIndex s → IsUnlimited c → 0 < calls_left_of s → IsWholeAnswer s c new r
-    → ((clock : ℕ) × (r ≡ whole.Spent clock)) ⊎ ((node : ℕ) × (word : ℕ) × (r ≡ whole.Worn node word)) → ⊥
-goes_through s c new r is unlimited left answer = ⊎_elim
-    (λ (late : (clock : ℕ) × (r ≡ whole.Spent clock)). in_time s c unlimited left (subst (IsWholeAnswer s c new) late.1 answer).1)
-    (λ (worn : (node : ℕ) × (word : ℕ) × (r ≡ whole.Worn node word)). both_worn worn.0 worn.1 (subst (IsWholeAnswer s c new) worn.2 answer))
+pub goes_through : (s : Index) (c : CoreCall) (new : Index) (r : Once Placed) → IsIndex s → IsUnlimited c → 0 < calls_left_of s → most_writes c ≤ writes_left_of s → IsWholeAnswer s c new (whole_of r)
+    → ((clock : ℕ) × (r ≡ once.Spent clock)) ⊎ ((node : ℕ) × (word : ℕ) × (r ≡ once.Worn node word)) → ⊥
+goes_through s c new r is unlimited left writes answer = ⊎_elim
+    (λ (late : (clock : ℕ) × (r ≡ once.Spent clock)). in_time s c unlimited writes (subst (λ (o : Once Placed). IsWholeAnswer s c new (whole_of o)) late.1 answer).1)
+    (λ (worn : (node : ℕ) × (word : ℕ) × (r ≡ once.Worn node word)). both_worn worn.0 worn.1 (subst (λ (o : Once Placed). IsWholeAnswer s c new (whole_of o)) worn.2 answer))
   where
     both_worn : (node word : ℕ) → IsWornNode s c new node word → ⊥
     both_worn node word (inl first) = unworn s c is left first.0
@@ -187,6 +192,8 @@ pub full_exactly : (s : Index) (c : CoreCall) → IsIndex s → IsQuiet s → Is
 full_exactly s (call.Put name value limit) is quiet named left = let two = locks_remain s left in no_room_is_full_put s name value limit is quiet named (omega arith)
 full_exactly s (call.Get name) is quiet named left = ((λ none. none), (λ none. none))
 full_exactly s (call.Del name limit) is quiet named left = ((λ none. none), (λ none. none))
+full_exactly s (call.Part low count) is quiet named left = ((λ none. none), (λ none. none))
+full_exactly s (call.Recheck node version) is quiet named left = ((λ none. none), (λ none. none))
 
 -- nor is the node worn behind that of a name
 next_unworn : (s : Index) (name : List ℕ) → IsIndex s → 0 < calls_left_of s → NextIsWorn (world s) name → ⊥
@@ -247,21 +254,23 @@ del_made s name limit new are merge =
     let most = merge.2 in
     record { anchors = merge.1; most = omega arith }
 
-made : (s : Index) (c : CoreCall) (new : Index) (placed : Placed) → IsIndex s → IsQuiet s → 0 < calls_left_of s → LeavesList c (whole.Placed placed) s new → LeavesMost c s new → Made s c new
-made s (call.Put name value limit) new placed is quiet left list most =
+made : (s : Index) (c : CoreCall) (new : Index) (placed : Placed) → IsIndex s → IsQuiet s → IsUnlimited c → 0 < calls_left_of s → LeavesList c (whole.Placed placed) s new → LeavesMost c s new → Made s c new
+made s (call.Put name value limit) new placed is quiet unlimited left list most =
     let same : members_most (world new) ≡ members_most (world s) = ⊎_elim (λ (same : members_most (world new) ≡ members_most (world s)). same) (λ (merge : ⊥). absurd merge) most in
     ⊎_elim
     (λ (kept : HasSameList s new × SplitsNothing (call.Put name value limit) s × Unit {0}).
     same_made s (call.Put name value limit) new (sym (put-stays s.layout.slots (map_of_index s) (anchors_in (world s)) name kept.1)) kept.0 same)
     (λ (changed : SplitsFor (call.Put name value limit) s new ⊎ ⊥). ⊎_elim (λ (cut : SplitsFor (call.Put name value limit) s new). put_made s name value limit new cut same) (λ (merge : ⊥). absurd merge) changed)
     list
-made s (call.Get name) new placed is quiet left list most =
+made s (call.Get name) new placed is quiet unlimited left list most =
     let same : members_most (world new) ≡ members_most (world s) = ⊎_elim (λ (same : members_most (world new) ≡ members_most (world s)). same) (λ (merge : ⊥). absurd merge) most in
     ⊎_elim
     (λ (kept : HasSameList s new × Unit {0} × Unit {0}). same_made s (call.Get name) new refl kept.0 same)
     (λ (changed : ⊥ ⊎ ⊥). ⊎_elim (λ (cut : ⊥). absurd cut) (λ (merge : ⊥). absurd merge) changed)
     list
-made s (call.Del name limit) new placed is quiet left list most =
+made s (call.Part low count) new placed is quiet unlimited left list most = absurd unlimited
+made s (call.Recheck node version) new placed is quiet unlimited left list most = absurd unlimited
+made s (call.Del name limit) new placed is quiet unlimited left list most =
     let merged = del_made s name limit new (idle_has_shape (world s) is.lawful (quiet_parties s quiet)).0.ordered in
     ⊎_elim
     (λ (kept : HasSameList s new × Unit {0} × MergesNothing (call.Del name limit) s).
@@ -279,13 +288,15 @@ full_most : (s : Index) (c : CoreCall) (new : Index) → FindsNoRoom c s → Lea
 full_most s (call.Put name value limit) new none most = ⊎_elim (λ (same : members_most (world new) ≡ members_most (world s)). same) (λ (merge : ⊥). absurd merge) most
 full_most s (call.Get name) new none most = absurd none
 full_most s (call.Del name limit) new none most = absurd none
+full_most s (call.Part low count) new none most = absurd none
+full_most s (call.Recheck node version) new none most = absurd none
 
 -- what a whole call that was answered so says of room and of the shape
-pub told_placed : (s : Index) (c : CoreCall) (new : Index) (r : Whole) (placed : Placed) → IsIndex s → IsQuiet s → 0 < calls_left_of s → r ≡ whole.Placed placed → {caller : ℕ} → RunsAlone s caller c new r →
+pub told_placed : (s : Index) (c : CoreCall) (new : Index) (r : Whole) (placed : Placed) → IsIndex s → IsQuiet s → IsUnlimited c → 0 < calls_left_of s → r ≡ whole.Placed placed → {caller : ℕ} → RunsAlone s caller c new r →
     (FindsNoRoom c s → ⊥) × Made s c new
-told_placed s c new r placed index quiet left is {caller} runs =
+told_placed s c new r placed index quiet unlimited left is {caller} runs =
     let run : RunsAlone s caller c new (whole.Placed placed) = subst (RunsAlone s caller c new) is runs in
-    (run.answer.0.2, made s c new placed index quiet left run.list run.most)
+    (run.answer.1.2, made s c new placed index quiet unlimited left run.list run.most)
 
 pub told_full : (s : Index) (c : CoreCall) (new : Index) (r : Whole) → r ≡ whole.Full → {caller : ℕ} → RunsAlone s caller c new r → FindsNoRoom c s × (anchors_in (world new) ≡ anchors_in (world s)) × (members_most (world new) ≡ most_after (members_most (world s)) (anchors_in (world s)) (anchors_in (world new)))
 told_full s c new r is {caller} runs =
@@ -299,3 +310,46 @@ pub put_takes_none : (s s' : Index) (name : List ℕ) → anchors_in (world s') 
 put_takes_none s s' name made most =
     most ∙ ap (most_after (members_most (world s)) (anchors_in (world s))) made
     ∙ put_keeps_most s.layout.slots (members_most (world s)) (map_of_index s) (anchors_in (world s)) name
+
+-- with no call in flight it has a shape that its members can have
+pub core_shape : (s : Index) (names : ℕ) → IsCoreMap s names → IsShape s.layout.slots (members_most (world s)) (map_of_index s) (anchors_in (world s))
+core_shape s names is = (idle_has_shape (world s) is.index.lawful (quiet_parties s is.quiet)).0
+
+-- of what is left for writes a call takes one at most, for its write
+few_writes : (c : CoreCall) (r : Whole) (caller index : ℕ) → length (alone_writes caller index c r) ≤ most_writes c
+few_writes (call.Put name value limit) (whole.Placed placed) caller index = omega arith
+few_writes (call.Get name) (whole.Placed placed) caller index = omega arith
+few_writes (call.Del name limit) (whole.Placed placed) caller index = omega arith
+few_writes (call.Part low count) (whole.Placed placed) caller index = omega arith
+few_writes (call.Recheck node version) (whole.Placed placed) caller index = omega arith
+few_writes c (whole.Part words) caller index = omega arith
+few_writes c (whole.Spent clock) caller index = omega arith
+few_writes c whole.Full caller index = omega arith
+few_writes c (whole.Worn node word) caller index = omega arith
+
+pub writes_fall : (s s' : Index) (c : CoreCall) (r : Whole) (caller : ℕ) → RunsAlone s caller c s' r → s.spare + length s.history ≤ s'.spare + length s'.history →
+    writes_left_of s ≤ writes_left_of s' + most_writes c
+writes_fall s s' c r caller runs spare =
+    let few = few_writes c r caller runs.state.index in
+    let grown = ap length runs.history in
+    let both = length-append s.history (alone_writes caller runs.state.index c r) in
+    omega (arith, few, grown, both, spare)
+
+-- ---- parts of scans
+
+-- where calls are left a part is done
+pub part_goes_through : (s : Index) (low : List ℕ) (count : ℕ) (new : Index) (r : Once PartWords) → IsIndex s → 0 < calls_left_of s → IsWholeAnswer s (call.Part low count) new (part_whole r) →
+    ((clock : ℕ) × (r ≡ once.Spent clock)) ⊎ (((node : ℕ) × (word : ℕ) × (r ≡ once.Worn node word)) ⊎ ((why : Again) × (r ≡ once.Again why))) → ⊥
+part_goes_through s low count new r is left answer = ⊎_elim
+    (λ (late : (clock : ℕ) × (r ≡ once.Spent clock)). (at late.1).1)
+    (λ (rest : ((node : ℕ) × (word : ℕ) × (r ≡ once.Worn node word)) ⊎ ((why : Again) × (r ≡ once.Again why))). ⊎_elim
+    (λ (worn : (node : ℕ) × (word : ℕ) × (r ≡ once.Worn node word)). is_worn worn.0 worn.1 (at worn.2))
+    (λ (turned : (why : Again) × (r ≡ once.Again why)). (at turned.1).2)
+    rest)
+  where
+    at : {o : Once PartWords} → r ≡ o → IsWholeAnswer s (call.Part low count) new (part_whole o)
+    at same = subst (λ (o : Once PartWords). IsWholeAnswer s (call.Part low count) new (part_whole o)) same answer
+
+    is_worn : (node word : ℕ) → IsWornNode s (call.Part low count) new node word → ⊥
+    is_worn node word (inl first) = unworn s (call.Part low count) is left first.0
+    is_worn node word (inr split) = split.0

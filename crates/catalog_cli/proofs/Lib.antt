@@ -1,7 +1,10 @@
 pub mod CoreMaps
+pub mod SeededCalls
 pub mod LonePlans
 pub mod LoneRoundSteps
 pub mod Outcomes
 pub mod Played
 pub mod ReportCalls
+pub mod ScanSteps
 pub mod ScriptCalls
+pub mod Summing

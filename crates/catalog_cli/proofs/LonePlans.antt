@@ -1,4 +1,4 @@
--- A script of which each line is built has rounds of one caller each, whose calls are on names.
+-- A script of which each line is built has rounds of one caller each.
 use Rattle.std.proofs.Common.{◌≡◌, ℕ, ◌+◌, cond, not, List, [], ◌∷◌, ◌++◌, refl, sym, ap, subst, ◌∙◌, append_assoc, append-nil, inl, inr}
 use Rattle.std.specs.Prelude.{Option, Some, None, All, unwrap_or}
 use Rattle.std.specs.List.{AllByRecursion}
@@ -16,7 +16,7 @@ use Rattle.cat_script.specs.declared.line.Line.{Line}
 use Rattle.cat_script.specs.declared.line.Line.TheVariants.{Blank, Call, Join, Crash, Updater, Limit}
 use Rattle.cat_script.specs.declared.script.Script.{Script}
 use Rattle.catalog_cli.specs.Built.{is_of_other, unbuilt_call, first_word, first_unbuilt}
-use Rattle.catalog_cli.specs.LoneCalls.{AreLoneCalls, IsOnName}
+use Rattle.catalog_cli.specs.LoneCalls.{AreLoneCalls}
 use Rattle.catalog_cli.specs.declared.status.Verb.{Verb}
 use Rattle.catalog_cli.specs.declared.status.Verb.TheVariants as word
 
@@ -29,7 +29,7 @@ IsOfFirst (Some first) caller = caller ≡ first
 abbrev AreBuilt : Option ℕ → List Line → Type 0
 AreBuilt first [] = Unit {0}
 AreBuilt first (Blank ∷ lines) = AreBuilt first lines
-AreBuilt first (Call caller op ∷ lines) = (IsOfFirst first caller × IsOnName op) × AreBuilt (Some (unwrap_or first caller)) lines
+AreBuilt first (Call caller op ∷ lines) = IsOfFirst first caller × AreBuilt (Some (unwrap_or first caller)) lines
 AreBuilt first (Join ∷ lines) = AreBuilt None lines
 AreBuilt first (Crash plan ∷ lines) = ⊥
 AreBuilt first (Updater turns ∷ lines) = ⊥
@@ -46,11 +46,11 @@ of-first (Some first) caller verb is = elim (cases_eq first caller) [
   | inr other ↦ absurd (none-some verb (sym (ap (λ b. cond (not b) (Some verb) None) (sym (ne_eqb first caller other)) ∙ is)))
 ]
 
-call-built : (first : Option ℕ) (caller : ℕ) (op : Op) → unbuilt_call first caller (verb_of_op op) ≡ None → IsOfFirst first caller × IsOnName op
-call-built first caller (Put name value) is = (of-first first caller word.Put is, tt)
-call-built first caller (Get name) is = (of-first first caller word.Get is, tt)
-call-built first caller (Del name) is = (of-first first caller word.Del is, tt)
-call-built first caller (Scan from count) is = absurd (none-some word.Scan (sym is))
+call-built : (first : Option ℕ) (caller : ℕ) (op : Op) → unbuilt_call first caller (verb_of_op op) ≡ None → IsOfFirst first caller
+call-built first caller (Put name value) is = of-first first caller word.Put is
+call-built first caller (Get name) is = of-first first caller word.Get is
+call-built first caller (Del name) is = of-first first caller word.Del is
+call-built first caller (Scan from count) is = of-first first caller word.Scan is
 
 lines-built : (first : Option ℕ) (number : ℕ) (lines : List Line) → first_unbuilt first (numbered number lines) ≡ None → AreBuilt first lines
 lines-built first number [] is = tt
@@ -63,9 +63,9 @@ lines-built first number (Crash plan ∷ lines) is = absurd (none-some word.Cras
 lines-built first number (Updater turns ∷ lines) is = absurd (none-some word.Updater (sym is))
 lines-built first number (Limit limit ∷ lines) is = lines-built first (number + 1) lines is
 
--- a call of this caller on a name
+-- a call of this caller
 abbrev IsLoneOf : ℕ → CallerOp → Type 0
-IsLoneOf caller a = (a.caller ≡ caller) × IsOnName a.op
+IsLoneOf caller a = a.caller ≡ caller
 
 -- the lines of a round behind its first call
 more-calls : (caller : ℕ) (lines rest : List Line) → AllByRecursion GoesOn lines → AreBuilt (Some caller) (lines ++ rest) →
@@ -90,7 +90,7 @@ one-round [] rest going built = record { caller = 0; calls = tt; first = None; b
 one-round (Blank ∷ lines) rest going built = let more = one-round lines rest going.1 built in record { caller = more.caller; calls = more.calls; first = more.first; behind = more.behind }
 one-round (Call caller op ∷ lines) rest going built =
     let more = more-calls caller lines rest going.1 built.1 in
-    record { caller = caller; calls = ((refl, built.0.1), more.0); first = Some caller; behind = more.1 }
+    record { caller = caller; calls = (refl, more.0); first = Some caller; behind = more.1 }
 one-round (Join ∷ lines) rest going built = absurd going.0
 one-round (Crash plan ∷ lines) rest going built = absurd going.0
 one-round (Updater turns ∷ lines) rest going built = absurd built

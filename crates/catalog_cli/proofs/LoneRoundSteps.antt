@@ -1,5 +1,5 @@
 -- How a round of one caller goes on by one call.
-use Rattle.std.proofs.Common.{◌≡◌, ℕ, ◌+◌, ◌<◌, ◌≤◌, Bool, true, false, cond, List, [], ◌∷◌, ◌++◌, length, get_or, take, map, fold, All, ◌↔◌, sym, ap, subst, ◌∙◌, arith, append-nil, zero-add}
+use Rattle.std.proofs.Common.{◌≡◌, ℕ, ◌+◌, ◌<◌, ◌≤◌, Bool, true, false, cond, List, [], ◌∷◌, ◌++◌, length, get_or, take, map, fold, All, ◌↔◌, refl, sym, ap, subst, ◌∙◌, arith, append-nil, zero-add}
 use Rattle.std.proofs.lemmas.List.{map-append, take_all, take_more, length-take-le}
 use Rattle.std.proofs.lemmas.List.Elements.{All-push, All-take}
 use Rattle.std.proofs.lemmas.List.Sums.{fold-append}
@@ -8,6 +8,7 @@ use Rattle.cat_history.specs.Writes.{after_all, changed}
 use Rattle.cat_history.specs.Records.{Call, call_of, numbered}
 use Rattle.cat_history.specs.LoneRounds.{write_of, writes_of, HoldsAlong}
 use Rattle.cat_history.specs.declared.op.CallerOp.{CallerOp}
+use Rattle.cat_history.specs.declared.plan.RoundPlan.{RoundPlan}
 use Rattle.cat_history.specs.declared.op.Write.{Write}
 use Rattle.cat_history.specs.declared.record.Record.{Record}
 use Rattle.cat_history.specs.declared.record.Reply.{Reply}
@@ -17,10 +18,11 @@ use Rattle.cat_history.specs.declared.op.Op.{Op}
 use Rattle.cat_history.specs.declared.op.Op.TheVariants.{Put, Get, Del, Scan}
 use Rattle.cat_history.specs.declared.record.Reply.TheVariants.{Full}
 use Rattle.cat_text.specs.ReportGrammar.{IsReportRecord, IsReportReply}
-use Rattle.catalog_cli.specs.LoneCalls.{AreLoneCalls, AreReportCalls, IsReportCall}
-use Rattle.shapes.specs.ShapeRounds.{anchors_end, anchors_after, PutsFull}
+use Rattle.catalog_cli.specs.LoneCalls.{AreReportCalls, IsReportCall}
+use Rattle.catalog_cli.specs.Rounds.{StopsWithin}
+use Rattle.shapes.specs.ShapeRounds.{anchors_end, anchors_after, PutsFull, EndsWithMembers, IsBoundedByShape}
 use Rattle.shapes.specs.Runs.{HoldsFrom, Standing, stands_after, ComesLate, IsFullInTime}
-use Rattle.shapes.proofs.RoundLemmas.{anchors_end-push}
+use Rattle.shapes.proofs.RoundLemmas.{HoldsInShape-push, anchors_end-push}
 use Rattle.cat_history.proofs.LoneRoundLemmas.{writes_of-append, writes_of-cons, HoldsAlong-push, numbered-push}
 
 pub one_at_most : (b : Bool) (n : ℕ) → n ≡ cond b 1 0 → n ≤ 1
@@ -47,10 +49,6 @@ calls-push caller asked index call reply records one within is calls =
     ∙ ap (λ (k : ℕ). numbered before ++ record { caller = call.caller; index = k; op = call.op } ∷ []) (sym size)
     ∙ sym (numbered-push caller before call (All-take (λ (a : CallerOp). a.caller ≡ caller) index asked one) same)
     ∙ ap numbered (sym longer)
-
--- all calls of one caller
-pub of-one : (asked : List CallerOp) (lone : AreLoneCalls asked) → All (λ a. a.caller ≡ lone.0) asked
-of-one asked lone = λ k d within. (lone.1 k d within).0
 
 -- the records are those of all the calls, once the loop has come to their end
 pub calls-whole : (asked ops : List CallerOp) (index : ℕ) (records : List Record) → asked ≡ ops → length asked ≤ index → map call_of records ≡ numbered (take index asked) →
@@ -122,3 +120,14 @@ anchors-push slots base now anchors shape end records r ends shape_ends left =
     left ∙ ap (λ m. anchors_after slots m shape r.op r.reply) ends
     ∙ ap (λ a. anchors_after slots (after_all base (writes_of records)) a r.op r.reply) shape_ends
     ∙ sym (anchors_end-push slots base anchors records r)
+
+-- the bounds of one call more
+pub bounds-push : (slots : ℕ) (base : Map) (anchors shape : Anchors) (records : List Record) (r : Record) → IsBoundedByShape slots base anchors records → shape ≡ anchors_end slots base anchors records →
+    EndsWithMembers shape r.reply → IsBoundedByShape slots base anchors (records ++ r ∷ [])
+bounds-push slots base anchors shape records r bounds ends here =
+    HoldsInShape-push slots (λ m a q. EndsWithMembers a q.reply) base anchors records r bounds (subst (λ a. EndsWithMembers a r.reply) ends here)
+
+-- no call is played yet
+pub none-so-far : (slots most : ℕ) (base : Map) (anchors : Anchors) (plan : RoundPlan) → StopsWithin slots most base anchors plan most base anchors
+none-so-far slots most base anchors plan =
+    (0, [], record { answers = tt; in_script_order = refl; spent = tt; full = tt; bounds = tt; after = refl; after_shape = refl; after_most = refl })

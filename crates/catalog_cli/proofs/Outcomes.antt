@@ -1,9 +1,11 @@
 -- How a run ended, by its causes: of the causes no two are given together.
-use Rattle.std.proofs.Common.{◌≡◌, ℕ, ◌==◌, ◌<◌, ◌⊎◌, ◌↔◌, Bool, true, false, cond, List, [], ◌∷◌, ◌++◌, length, get_or, refl, sym, ap, subst, ◌∙◌, arith, inl, inr}
+use Rattle.std.proofs.Common.{◌≡◌, ℕ, ◌==◌, ◌<◌, ◌⊎◌, ◌↔◌, Bool, true, false, cond, T, List, [], ◌∷◌, ◌++◌, length, get_or, refl, sym, ap, subst, ◌∙◌, arith, inl, inr}
 use Rattle.std.specs.Prelude.{Option, Some, None, All, IfSome}
+use Rattle.std.specs.Io.KnownBytes.{Appends}
 use Rattle.std.specs.List.{AllByRecursion}
 use Rattle.std.specs.Str.Parse.{digits_value}
 use Rattle.std.proofs.lemmas.List.Elements.{recursion_from_All}
+use Rattle.std.proofs.lemmas.Bool.{cases_eq, ne_eqb}
 use Rattle.std.proofs.lemmas.Option.{none-some, same_Some}
 use Rattle.cat_command.specs.Commands.{IsCommand}
 use Rattle.cat_command.specs.declared.command.Command.{Command}
@@ -21,9 +23,11 @@ use Rattle.cat_script.specs.declared.script.ScriptLine.{ScriptLine}
 use Rattle.cat_script.specs.declared.verb.Verb.{Verb as LineVerb}
 use Rattle.cat_script.specs.declared.verb.Verb.TheVariants as line
 use Rattle.pm_words.specs.declared.layout.Layout.{Layout}
+use Rattle.cat_text.specs.Outside.{AppendsPart}
 use Rattle.catalog_cli.specs.Built.{unbuilt_command, unbuilt_call, unbuilt_form, is_of_other, first_behind, first_word, first_unbuilt, IsCommandWord}
-use Rattle.catalog_cli.specs.Headline.{ReadsScript, NamesCommand, IsAccepted, HasFault, IsRefusedBy, AreBytesLeft, LeavesSink, IsRefusalOf, IsScriptCause, IsCauseOf, HasNoReport, IsOfWords, TellsRefusal, FinishesAccepted}
-use Rattle.catalog_cli.specs.Refused.{IsRefusedText}
+use Rattle.catalog_cli.specs.Headline.{ReadsScript, NamesCommand, IsAccepted, HasFault, IsRefusedBy, AreBytesLeft, LeavesSink, IsRefusalOf, IsScriptCause, IsCauseOf, HasNoReport, HasNoText, IsOfWords, TellsRefusal, FinishesAccepted, FinishesGenerated, ReadsSome, Generates, GeneratesSome, PlaysSome, Prints, PrintsAll, PrintsPart}
+use Rattle.catalog_cli.specs.Headline.Prints.{reports, sums_up}
+use Rattle.catalog_cli.specs.Refused.{IsOfNoCommand, IsRefusedText}
 use Rattle.catalog_cli.specs.Statuses.{status_of_script}
 use Rattle.catalog_cli.specs.declared.status.Verb.{Verb}
 use Rattle.catalog_cli.specs.declared.status.Verb.TheVariants as word
@@ -50,22 +54,46 @@ letter-is words (Play layout) is = ap first_letter is.4
 letter-is words (Gen seed count callers) is = ap first_letter is.7
 letter-is words (Words from count) is = ap first_letter is.6
 
-abbrev word_by : ℕ → Option Verb
-word_by n = cond (n == 102) (Some word.Format) (cond (n == 114) (Some word.Run) (cond (n == 103) (Some word.Gen) (cond (n == 119) (Some word.Words) None)))
+abbrev word_by : ℕ → ℕ → Option Verb
+word_by n callers =
+    cond (n == 102) (Some word.Format) (cond (n == 114) (Some word.Run) (cond (n == 103) (cond (callers == 1) None (Some word.Gen)) (cond (n == 119) (Some word.Words) None)))
 
-word-is : (c : Command) → unbuilt_command c ≡ word_by (letter c)
-word-is (Format layout) = refl
-word-is Run = refl
-word-is (Play layout) = refl
-word-is (Gen seed count callers) = refl
-word-is (Words from count) = refl
+-- the number of callers of a command that tells it in its fourth word
+abbrev callers_told : List (List ℕ) → ℕ
+callers_told words = digits_value 10 (get_or words 3 [])
+
+word-is : (words : List (List ℕ)) (c : Command) → IsCommand words c → unbuilt_command c ≡ word_by (letter c) (callers_told words)
+word-is words (Format layout) is = refl
+word-is words Run is = refl
+word-is words (Play layout) is = refl
+word-is words (Gen seed count callers) is = ap (λ (n : ℕ). cond (n == 1) None (Some word.Gen)) (sym is.5.value ∙ ap callers_told (sym is.7))
+word-is words (Words from count) is = refl
 
 one-word : (words : List (List ℕ)) (a b : Command) → IsCommand words a → IsCommand words b → unbuilt_command a ≡ unbuilt_command b
-one-word words a b is is' = word-is a ∙ ap word_by (sym (letter-is words a is) ∙ letter-is words b is') ∙ sym (word-is b)
+one-word words a b is is' =
+    word-is words a is ∙ ap (λ (n : ℕ). word_by n (callers_told words)) (sym (letter-is words a is) ∙ letter-is words b is') ∙ sym (word-is words b is')
 
--- a command that reads a script isn't one that isn't built
-no-name : (words : List (List ℕ)) (layout : Layout) (verb : Verb) → ReadsScript words layout → NamesCommand words verb → ⊥
-no-name words layout verb reads names = none-some verb (one-word words (Play layout) names.0 reads names.1 ∙ names.2)
+-- a command that is built isn't one that isn't
+no-name : (words : List (List ℕ)) (verb : Verb) → PlaysSome words → NamesCommand words verb → ⊥
+no-name words verb (inl reads) names = none-some verb (one-word words (Play reads.0) names.0 reads.1 names.1 ∙ names.2)
+no-name words verb (inr makes) names = none-some verb (one-word words (Gen makes.0 makes.1 1) names.0 makes.2 names.1 ∙ names.2)
+
+-- it has a form
+no-form : (words : List (List ℕ)) → PlaysSome words → ((command : Command) → ¬ IsCommand words command) → ⊥
+no-form words (inl reads) none = none (Play reads.0) reads.1
+no-form words (inr makes) none = none (Gen makes.0 makes.1 1) makes.2
+
+-- a command that reads a script makes no calls from a seed
+pub not-both : (words : List (List ℕ)) → ReadsSome words → GeneratesSome words → ⊥
+not-both words reads makes =
+    subst (λ (n : ℕ). T (n == 112)) (sym (letter-is words (Play reads.0) reads.1) ∙ letter-is words (Gen makes.0 makes.1 1) makes.2) tt
+
+-- of a command that makes calls from a seed and is built the callers are one
+one-caller : (callers : ℕ) → cond (callers == 1) None (Some word.Gen) ≡ None → callers ≡ 1
+one-caller callers is = elim (cases_eq callers 1) [
+  | inl one ↦ one
+  | inr other ↦ absurd (none-some word.Gen (sym (sym (ap (λ (b : Bool). cond b None (Some word.Gen)) (ne_eqb callers 1 other)) ∙ is)))
+]
 
 same-callers : (words : List (List ℕ)) (a b : Layout) → ReadsScript words a → ReadsScript words b → a.callers ≡ b.callers
 same-callers words a b is is' =
@@ -195,7 +223,10 @@ of-call first caller line.Del w is command = by_case (is_of_other first caller) 
   by_case : (b : Bool) → cond b (Some word.Del) None ≡ Some w → ⊥
   by_case true is = subst IsCommandWord (sym (same_Some word.Del w is)) command
   by_case false is = none-some w is
-of-call first caller line.Scan w is command = subst IsCommandWord (sym (same_Some word.Scan w is)) command
+of-call first caller line.Scan w is command = by_case (is_of_other first caller) is where
+  by_case : (b : Bool) → cond b (Some word.Scan) None ≡ Some w → ⊥
+  by_case true is = subst IsCommandWord (sym (same_Some word.Scan w is)) command
+  by_case false is = none-some w is
 
 of-form : (first : Option ℕ) (f : Form) (w : Verb) → unbuilt_form first f ≡ Some w → IsCommandWord w → ⊥
 of-form first (form.Call caller verb) w is command = of-call first caller verb w is command
@@ -231,6 +262,43 @@ not-of-words callers left reads reads' status.Write cause of_words = of_words
 not-of-words callers left reads reads' status.NoMemory cause of_words = of_words
 not-of-words callers left reads reads' (status.NotBuilt verb) cause of_words = of-script callers left verb cause of_words
 
+-- why no report was made is why there is nothing to print
+pub no-report : (words : List (List ℕ)) (layout : Layout) (left : Option (List ℕ)) (reads reads' : ℕ) (answer : Status) → ReadsScript words layout →
+    HasNoReport layout.callers left reads reads' answer → HasNoText words left reads reads' answer
+no-report words layout left reads reads' status.Done is cause = cause
+no-report words layout left reads reads' status.Usage is cause = absurd cause
+no-report words layout left reads reads' (status.Script what) is cause = (layout, is, cause)
+no-report words layout left reads reads' status.Read is cause = ((layout, is), cause)
+no-report words layout left reads reads' status.Write is cause = cause
+no-report words layout left reads reads' status.NoMemory is cause = inl (layout, is)
+no-report words layout left reads reads' (status.NotBuilt verb) is cause = inr (layout, is, cause)
+
+-- neither do words that name no command that is built
+pub no-command : (words : List (List ℕ)) (left : Option (List ℕ)) (reads : ℕ) (answer : Status) → IsOfNoCommand words answer → HasNoText words left reads reads answer
+no-command words left reads status.Done cause = cause
+no-command words left reads status.Usage cause = cause
+no-command words left reads (status.Script what) cause = absurd cause
+no-command words left reads status.Read cause = absurd cause
+no-command words left reads status.Write cause = cause
+no-command words left reads status.NoMemory cause = absurd cause
+no-command words left reads (status.NotBuilt verb) cause = inl cause
+
+-- a run that has nothing to print ends so
+pub ends-so : (words : List (List ℕ)) (left : Option (List ℕ)) (reads reads' writes : ℕ) (answer : Status) → HasNoText words left reads reads' answer →
+    IsCauseOf words left reads reads' writes writes answer
+ends-so words left reads reads' writes status.Done cause = absurd cause
+ends-so words left reads reads' writes status.Usage cause = cause
+ends-so words left reads reads' writes (status.Script what) cause = cause
+ends-so words left reads reads' writes status.Read cause = cause
+ends-so words left reads reads' writes status.Write cause = absurd cause
+ends-so words left reads reads' writes status.NoMemory cause = cause
+ends-so words left reads reads' writes (status.NotBuilt verb) cause = cause
+
+-- what is printed is that of a command that is built
+pub printed-plays : (words : List (List ℕ)) (left : Option (List ℕ)) (text : List ℕ) → Prints words left text → PlaysSome words
+printed-plays words left text (reports layout bytes reads source report) = inl (layout, reads)
+printed-plays words left text (sums_up seed count makes sum) = inr (seed, count, makes)
+
 -- a script that doesn't fit is refused for its fault
 pub unfit-refused : (callers : ℕ) (bytes : List ℕ) (script : Script) (what : ScriptFault) → IsScript bytes script → IsUnfitBy callers script.lines what → IsRefusedText callers bytes (status_of_script what)
 unfit-refused callers bytes script fault.Bytes is unfit = absurd unfit
@@ -257,18 +325,24 @@ refusal-is words layout told bytes left answer reads reads' is (inr refused) =
     subst (λ n. IsRefusedBy n bytes answer) (same-callers words told layout reads' reads)
     (subst (λ bs. IsRefusedBy told.callers bs answer) (sym (subst (λ l. AreBytesLeft l refused.0) is refused.1)) refused.2)
 
+printed-unrefused : (words : List (List ℕ)) (layout : Layout) (bytes text : List ℕ) (left : Option (List ℕ)) (wanted : Status) → ReadsScript words layout → left ≡ Some bytes →
+    Prints words left text → IsRefusedBy layout.callers bytes wanted → ⊥
+printed-unrefused words layout bytes text left wanted is told (reports other read reads source report) refused =
+    unrefused layout.callers bytes report.script wanted (report-is words layout other bytes read report.script left is reads told source report.accepted) refused
+printed-unrefused words layout bytes text left wanted is told (sums_up seed count makes sum) refused = not-both words (layout, is) (seed, count, makes)
+
 pub tells : (words : List (List ℕ)) (left written written' : Option (List ℕ)) (reads reads' writes writes' : ℕ) (answer : Status) → LeavesSink words answer left written written' →
     IsCauseOf words left reads reads' writes writes' answer → TellsRefusal words left reads reads' answer
 tells words left written written' reads reads' writes writes' status.Done sink cause layout bytes wanted is told same refused =
-    absurd (unrefused layout.callers bytes sink.report.script wanted (report-is words layout sink.layout bytes sink.bytes sink.report.script left is sink.command told sink.source sink.report.accepted) refused)
+    absurd (printed-unrefused words layout bytes sink.text left wanted is told sink.prints refused)
 tells words left written written' reads reads' writes writes' status.Usage sink cause layout bytes wanted is told same refused = absurd (cause (Play layout) is)
 tells words left written written' reads reads' writes writes' (status.Script what) sink cause layout bytes wanted is told same refused =
     inl (one-refusal layout.callers bytes (status.Script what) wanted (refusal-is words layout cause.0 bytes left (status.Script what) is cause.1 told cause.2) refused)
 tells words left written written' reads reads' writes writes' status.Read sink cause layout bytes wanted is told same refused = absurd (omega (arith, cause.1, same))
 tells words left written written' reads reads' writes writes' status.Write sink cause layout bytes wanted is told same refused =
-    absurd (unrefused layout.callers bytes sink.report.script wanted (report-is words layout sink.layout bytes sink.bytes sink.report.script left is sink.command told sink.source sink.report.accepted) refused)
+    absurd (printed-unrefused words layout bytes sink.text left wanted is told sink.prints refused)
 tells words left written written' reads reads' writes writes' status.NoMemory sink cause layout bytes wanted is told same refused = inr refl
-tells words left written written' reads reads' writes writes' (status.NotBuilt verb) sink (inl names) layout bytes wanted is told same refused = absurd (no-name words layout verb is names)
+tells words left written written' reads reads' writes writes' (status.NotBuilt verb) sink (inl names) layout bytes wanted is told same refused = absurd (no-name words verb (inl (layout, is)) names)
 tells words left written written' reads reads' writes writes' (status.NotBuilt verb) sink (inr cause) layout bytes wanted is told same refused =
     inl (one-refusal layout.callers bytes (status.NotBuilt verb) wanted (refusal-is words layout cause.0 bytes left (status.NotBuilt verb) is cause.1 told cause.2) refused)
 
@@ -281,19 +355,31 @@ finishes words left reads reads' writes writes' (status.Script what) cause layou
 finishes words left reads reads' writes writes' status.Read cause layout bytes script is told same same' accepted = absurd (omega (arith, cause.1, same))
 finishes words left reads reads' writes writes' status.Write cause layout bytes script is told same same' accepted = absurd (omega (arith, cause.1, same'))
 finishes words left reads reads' writes writes' status.NoMemory cause layout bytes script is told same same' accepted = inr refl
-finishes words left reads reads' writes writes' (status.NotBuilt verb) (inl names) layout bytes script is told same same' accepted = absurd (no-name words layout verb is names)
+finishes words left reads reads' writes writes' (status.NotBuilt verb) (inl names) layout bytes script is told same same' accepted = absurd (no-name words verb (inl (layout, is)) names)
 finishes words left reads reads' writes writes' (status.NotBuilt verb) (inr cause) layout bytes script is told same same' accepted =
     absurd (unrefused layout.callers bytes script (status.NotBuilt verb) accepted (refusal-is words layout cause.0 bytes left (status.NotBuilt verb) is cause.1 told cause.2))
+
+-- a generated round is played to its end
+pub finishes-generated : (words : List (List ℕ)) (left : Option (List ℕ)) (reads reads' writes writes' : ℕ) (answer : Status) →
+    IsCauseOf words left reads reads' writes writes' answer → FinishesGenerated words writes writes' answer
+finishes-generated words left reads reads' writes writes' status.Done cause makes same = inl refl
+finishes-generated words left reads reads' writes writes' status.Usage cause makes same = absurd (no-form words (inr makes) cause)
+finishes-generated words left reads reads' writes writes' (status.Script what) cause makes same = absurd (not-both words (cause.0, cause.1) makes)
+finishes-generated words left reads reads' writes writes' status.Read cause makes same = absurd (not-both words cause.0 makes)
+finishes-generated words left reads reads' writes writes' status.Write cause makes same = absurd (omega (arith, cause.1, same))
+finishes-generated words left reads reads' writes writes' status.NoMemory cause makes same = inr refl
+finishes-generated words left reads reads' writes writes' (status.NotBuilt verb) (inl names) makes same = absurd (no-name words verb (inr makes) names)
+finishes-generated words left reads reads' writes writes' (status.NotBuilt verb) (inr cause) makes same = absurd (not-both words (cause.0, cause.1) makes)
 
 -- words of no form come to their status
 of-no-form : (words : List (List ℕ)) (left : Option (List ℕ)) (reads reads' writes writes' : ℕ) (answer : Status) → IsCauseOf words left reads reads' writes writes' answer →
     ((command : Command) → ¬ IsCommand words command) → answer ≡ status.Usage
-of-no-form words left reads reads' writes writes' status.Done cause none = absurd (none (Play cause.0) cause.1)
+of-no-form words left reads reads' writes writes' status.Done cause none = absurd (no-form words cause none)
 of-no-form words left reads reads' writes writes' status.Usage cause none = refl
 of-no-form words left reads reads' writes writes' (status.Script what) cause none = absurd (none (Play cause.0) cause.1)
 of-no-form words left reads reads' writes writes' status.Read cause none = absurd (none (Play cause.0.0) cause.0.1)
-of-no-form words left reads reads' writes writes' status.Write cause none = absurd (none (Play cause.0.0) cause.0.1)
-of-no-form words left reads reads' writes writes' status.NoMemory cause none = absurd (none (Play cause.0) cause.1)
+of-no-form words left reads reads' writes writes' status.Write cause none = absurd (no-form words cause.0 none)
+of-no-form words left reads reads' writes writes' status.NoMemory cause none = absurd (no-form words cause none)
 of-no-form words left reads reads' writes writes' (status.NotBuilt verb) (inl names) none = absurd (none names.0 names.1)
 of-no-form words left reads reads' writes writes' (status.NotBuilt verb) (inr cause) none = absurd (none (Play cause.0) cause.1)
 
@@ -305,15 +391,15 @@ usage-exactly words left reads reads' writes writes' answer cause =
 -- a command that isn't built comes to its word
 of-name : (words : List (List ℕ)) (left : Option (List ℕ)) (reads reads' writes writes' : ℕ) (verb : Verb) (answer : Status) → IsCauseOf words left reads reads' writes writes' answer →
     NamesCommand words verb → answer ≡ status.NotBuilt verb
-of-name words left reads reads' writes writes' verb status.Done cause names = absurd (no-name words cause.0 verb cause.1 names)
+of-name words left reads reads' writes writes' verb status.Done cause names = absurd (no-name words verb cause names)
 of-name words left reads reads' writes writes' verb status.Usage cause names = absurd (cause names.0 names.1)
-of-name words left reads reads' writes writes' verb (status.Script what) cause names = absurd (no-name words cause.0 verb cause.1 names)
-of-name words left reads reads' writes writes' verb status.Read cause names = absurd (no-name words cause.0.0 verb cause.0.1 names)
-of-name words left reads reads' writes writes' verb status.Write cause names = absurd (no-name words cause.0.0 verb cause.0.1 names)
-of-name words left reads reads' writes writes' verb status.NoMemory cause names = absurd (no-name words cause.0 verb cause.1 names)
+of-name words left reads reads' writes writes' verb (status.Script what) cause names = absurd (no-name words verb (inl (cause.0, cause.1)) names)
+of-name words left reads reads' writes writes' verb status.Read cause names = absurd (no-name words verb (inl cause.0) names)
+of-name words left reads reads' writes writes' verb status.Write cause names = absurd (no-name words verb cause.0 names)
+of-name words left reads reads' writes writes' verb status.NoMemory cause names = absurd (no-name words verb cause names)
 of-name words left reads reads' writes writes' verb (status.NotBuilt other) (inl told) names =
     ap status.NotBuilt (same_Some other verb (sym told.2 ∙ one-word words told.0 names.0 told.1 names.1 ∙ names.2))
-of-name words left reads reads' writes writes' verb (status.NotBuilt other) (inr cause) names = absurd (no-name words cause.0 verb cause.1 names)
+of-name words left reads reads' writes writes' verb (status.NotBuilt other) (inr cause) names = absurd (no-name words verb (inl (cause.0, cause.1)) names)
 
 names-it : (words : List (List ℕ)) (left : Option (List ℕ)) (verb : Verb) → IsCommandWord verb → NamesCommand words verb ⊎ IsScriptCause words left (status.NotBuilt verb) → NamesCommand words verb
 names-it words left verb command (inl names) = names
@@ -323,3 +409,21 @@ pub command-exactly : (words : List (List ℕ)) (left : Option (List ℕ)) (read
     (verb : Verb) → IsCommandWord verb → (answer ≡ status.NotBuilt verb) ↔ NamesCommand words verb
 command-exactly words left reads reads' writes writes' answer cause verb command =
     (λ is. names-it words left verb command (subst (IsCauseOf words left reads reads' writes writes') is cause), of-name words left reads reads' writes writes' verb answer cause)
+
+-- ---- what is printed
+
+pub printed : (words : List (List ℕ)) (left written written' : Option (List ℕ)) (text told : List ℕ) → Prints words left text → told ≡ text → Appends written written' told →
+    PrintsAll words left written written'
+printed words left written written' text told prints same sink = record { text = text; prints = prints; sink = subst (Appends written written') same sink }
+
+pub printed-part : (words : List (List ℕ)) (left written written' : Option (List ℕ)) (text told : List ℕ) → Prints words left text → told ≡ text → AppendsPart written written' told →
+    PrintsPart words left written written'
+printed-part words left written written' text told prints same part =
+    let of_text = subst (AppendsPart written written') same part in
+    record { text = text; count = of_text.0; short = of_text.1; prints = prints; sink = of_text.2 }
+
+-- a command that is built and makes calls from a seed makes them for one caller
+pub makes-one : (words : List (List ℕ)) (c : Command) (seed count callers : ℕ) → IsCommand words c → unbuilt_command c ≡ None → c ≡ Gen seed count callers → Generates words seed count
+makes-one words c seed count callers is built same =
+    let one = one-caller callers (ap unbuilt_command (sym same) ∙ built) in
+    subst (IsCommand words) (same ∙ ap (Gen seed count) one) is

@@ -1,10 +1,11 @@
 -- Rounds that are played one after another.
 use Rattle.std.proofs.Common.{◌≡◌, ℕ, ◌+◌, ◌<◌, ◌≤◌, List, [], ◌∷◌, ◌++◌, length, take, refl, sym, ap, ◌∙◌, subst, arith, append_assoc, append-nil, get_or}
 use Rattle.std.proofs.lemmas.List.{take_more, take_all}
+use Rattle.std.proofs.lemmas.List.Elements.{All-from_recursion}
 use Rattle.std.specs.Prelude.{All, IfOk, Result, Ok, Err}
 use Rattle.cat_history.specs.Maps.{Map}
 use Rattle.cat_history.specs.Writes.{after_all}
-use Rattle.cat_history.specs.declared.op.Write.{Write}
+use Rattle.cat_history.specs.LoneRounds.{writes_of}
 use Rattle.shapes.specs.Anchors.{Anchors}
 use Rattle.shapes.specs.ShapeRounds.{anchors_end}
 use Rattle.cat_text.specs.declared.report.RoundReport.{RoundReport}
@@ -18,14 +19,14 @@ use Rattle.catalog_cli.specs.Rounds.{IsPlayedRound, most_end}
 pub record GoOn (slots most : ℕ) (base : Map) (anchors : Anchors) (plans : List RoundPlan) (reports : List RoundReport) (left : ℕ) (end : Map) (shape : Anchors) : Type 0 where
   pub goes : (rest : List RoundPlan) (more : List RoundReport) → ArePlayedRounds slots left end shape rest more → ArePlayedRounds slots most base anchors (plans ++ rest) (reports ++ more)
 
-one-more : (slots most left : ℕ) (base end : Map) (anchors shape : Anchors) (plans : List RoundPlan) (reports : List RoundReport) (plan : RoundPlan) (report : RoundReport) (writes : List Write) →
-    GoOn slots most base anchors plans reports left end shape → IsPlayedRound slots left end shape plan report writes →
-    GoOn slots most base anchors (plans ++ plan ∷ []) (reports ++ report ∷ []) (most_end slots left end shape report.records) (after_all end writes) (anchors_end slots end shape report.records)
-one-more slots most left base end anchors shape plans reports plan report writes on round = record {
+one-more : (slots most left : ℕ) (base end : Map) (anchors shape : Anchors) (plans : List RoundPlan) (reports : List RoundReport) (plan : RoundPlan) (report : RoundReport) →
+    GoOn slots most base anchors plans reports left end shape → IsPlayedRound slots left end shape plan report (writes_of report.records) →
+    GoOn slots most base anchors (plans ++ plan ∷ []) (reports ++ report ∷ []) (most_end slots left end shape report.records) (after_all end (writes_of report.records)) (anchors_end slots end shape report.records)
+one-more slots most left base end anchors shape plans reports plan report on round = record {
   goes = λ rest more played.
       subst (λ (ps : List RoundPlan). ArePlayedRounds slots most base anchors ps ((reports ++ report ∷ []) ++ more)) (sym (append_assoc plans (plan ∷ []) rest))
       (subst (λ (rs : List RoundReport). ArePlayedRounds slots most base anchors (plans ++ plan ∷ rest) rs) (sym (append_assoc reports (report ∷ []) more))
-      (on.goes (plan ∷ rest) (report ∷ more) (writes, round, played)));
+      (on.goes (plan ∷ rest) (report ∷ more) (round, played)));
 }
 
 pub none-played-at : (slots most : ℕ) (base : Map) (anchors : Anchors) (reports : List RoundReport) → reports ≡ [] → GoOn slots most base anchors [] reports most base anchors
@@ -34,17 +35,17 @@ none-played-at slots most base anchors reports none =
 
 -- one more of a list of plans
 pub one-more-at : (slots most left left' : ℕ) (base end end' : Map) (anchors shape shape' : Anchors) (all : List RoundPlan) (i : ℕ) (plan : RoundPlan) (reports reports' : List RoundReport)
-    (report : RoundReport) (writes : List Write) → GoOn slots most base anchors (take i all) reports left end shape → i < length all → plan ≡ get_or all i plan →
-    IsPlayedRound slots left end shape plan report writes → left' ≡ most_end slots left end shape report.records → end' ≡ after_all end writes → shape' ≡ anchors_end slots end shape report.records →
+    (report : RoundReport) → GoOn slots most base anchors (take i all) reports left end shape → i < length all → plan ≡ get_or all i plan →
+    IsPlayedRound slots left end shape plan report (writes_of report.records) → left' ≡ most_end slots left end shape report.records → end' ≡ after_all end (writes_of report.records) → shape' ≡ anchors_end slots end shape report.records →
     reports' ≡ reports ++ report ∷ [] → GoOn slots most base anchors (take (i + 1) all) reports' left' end' shape'
-one-more-at slots most left left' base end end' anchors shape shape' all i plan reports reports' report writes on less is round most_left map_left shape_left told =
+one-more-at slots most left left' base end end' anchors shape shape' all i plan reports reports' report on less is round most_left map_left shape_left told =
     let longer : take (i + 1) all ≡ take i all ++ plan ∷ [] = take_more all i plan less ∙ ap (λ p. take i all ++ p ∷ []) (sym is) in
     subst (λ (ps : List RoundPlan). GoOn slots most base anchors ps reports' left' end' shape') (sym longer)
     (subst (λ (rs : List RoundReport). GoOn slots most base anchors (take i all ++ plan ∷ []) rs left' end' shape') (sym told)
     (subst (λ (k : ℕ). GoOn slots most base anchors (take i all ++ plan ∷ []) (reports ++ report ∷ []) k end' shape') (sym most_left)
     (subst (λ (m : Map). GoOn slots most base anchors (take i all ++ plan ∷ []) (reports ++ report ∷ []) (most_end slots left end shape report.records) m shape') (sym map_left)
-    (subst (λ (a : Anchors). GoOn slots most base anchors (take i all ++ plan ∷ []) (reports ++ report ∷ []) (most_end slots left end shape report.records) (after_all end writes) a) (sym shape_left)
-    (one-more slots most left base end anchors shape (take i all) reports plan report writes on round)))))
+    (subst (λ (a : Anchors). GoOn slots most base anchors (take i all ++ plan ∷ []) (reports ++ report ∷ []) (most_end slots left end shape report.records) (after_all end (writes_of report.records)) a) (sym shape_left)
+    (one-more slots most left base end anchors shape (take i all) reports plan report on round)))))
 
 -- all of a list of plans
 pub all-played : (slots most left : ℕ) (base end : Map) (anchors shape : Anchors) (all plans : List RoundPlan) (i : ℕ) (reports told : List RoundReport) →
@@ -74,7 +75,7 @@ as-many-played slots most base anchors [] [] played = refl
 as-many-played slots most base anchors [] (report ∷ reports) played = absurd played
 as-many-played slots most base anchors (plan ∷ plans) [] played = absurd played
 as-many-played slots most base anchors (plan ∷ plans) (report ∷ reports) played =
-    let rest = as-many-played slots (most_end slots most base anchors report.records) (after_all base played.0) (anchors_end slots base anchors report.records) plans reports played.2 in
+    let rest = as-many-played slots (most_end slots most base anchors report.records) (after_all base (writes_of report.records)) (anchors_end slots base anchors report.records) plans reports played.1 in
     omega (arith, rest)
 
 -- rounds that are played of one plan or more, each of a report, are a report
@@ -82,3 +83,15 @@ pub played-report : {E : Type 0} (slots most : ℕ) (base : Map) (anchors : Anch
     IfOk answer (ArePlayedRounds slots most base anchors plans) → IfOk answer (All IsReportRound) → IfOk answer IsReport
 played-report slots most base anchors plans (Ok reports) some played told = record { some = omega (arith, as-many-played slots most base anchors plans reports played); rounds = told }
 played-report slots most base anchors plans (Err fault) some played told = tt
+
+-- of one plan there is one round
+pub only-round : (slots most : ℕ) (base : Map) (anchors : Anchors) (plans : List RoundPlan) (plan : RoundPlan) (reports : List RoundReport) (report : RoundReport) → plans ≡ plan ∷ [] →
+    ArePlayedRounds slots most base anchors plans reports → report ≡ get_or reports 0 report → IsPlayedRound slots most base anchors plan report (writes_of report.records)
+only-round slots most base anchors plans plan reports report is played first = by_case reports (subst (λ (ps : List RoundPlan). ArePlayedRounds slots most base anchors ps reports) is played) first where
+  by_case : (reports : List RoundReport) → ArePlayedRounds slots most base anchors (plan ∷ []) reports → report ≡ get_or reports 0 report →
+      IsPlayedRound slots most base anchors plan report (writes_of report.records)
+  by_case [] played first = absurd played
+  by_case (one ∷ reports) played first = subst (λ (r : RoundReport). IsPlayedRound slots most base anchors plan r (writes_of r.records)) (sym first) played.0
+
+pub all-of-one : (P : RoundPlan → Type 0) (plans : List RoundPlan) (plan : RoundPlan) → plans ≡ plan ∷ [] → P plan → All P plans
+all-of-one P plans plan is holds = subst (All P) (sym is) (All-from_recursion P (plan ∷ []) (holds, tt))

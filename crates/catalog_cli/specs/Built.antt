@@ -11,12 +11,12 @@ use Rattle.catalog_cli.specs.declared.status.Verb.{Verb}
 use Rattle.catalog_cli.specs.declared.status.Verb.TheVariants.{Format, Run, Words, Gen}
 use Rattle.catalog_cli.specs.declared.status.Verb.TheVariants.{Put, Get, Del, Scan, Updater, Crash}
 
--- The word of a command that isn't built; `play` is.
+-- The word of a command that isn't built; `play` is, and so is `gen` for one caller.
 abbrev pub unbuilt_command : Command → Option Verb
 unbuilt_command (command.Format layout) = Some Format
 unbuilt_command command.Run = Some Run
 unbuilt_command (command.Play layout) = None
-unbuilt_command (command.Gen seed count callers) = Some Gen
+unbuilt_command (command.Gen seed count callers) = if callers == 1 then None else Some Gen
 unbuilt_command (command.Words from count) = Some Words
 
 -- The round has a first call, and that is of another caller.
@@ -24,8 +24,8 @@ abbrev pub is_of_other : Option ℕ → ℕ → Bool
 is_of_other None caller = false
 is_of_other (Some first) caller = not (first == caller)
 
--- The word of a call that isn't built: a scan, or a put, a get or a delete of another caller than that of the round's
--- first call. A call has no other word.
+-- The word of a call that isn't built: a put, a get, a delete or a scan of another caller than that of the round's first
+-- call. A call has no other word.
 abbrev pub unbuilt_call : Option ℕ → ℕ → LineVerb → Option Verb
 unbuilt_call first caller line.Join = None
 unbuilt_call first caller line.Crash = None
@@ -34,7 +34,7 @@ unbuilt_call first caller line.Limit = None
 unbuilt_call first caller line.Put = if is_of_other first caller then Some Put else None
 unbuilt_call first caller line.Get = if is_of_other first caller then Some Get else None
 unbuilt_call first caller line.Del = if is_of_other first caller then Some Del else None
-unbuilt_call first caller line.Scan = Some Scan
+unbuilt_call first caller line.Scan = if is_of_other first caller then Some Scan else None
 
 -- The word of a line that isn't built, in a round whose first call, if there was one, is of this caller.
 abbrev pub unbuilt_form : Option ℕ → Form → Option Verb

@@ -1,27 +1,33 @@
 -- What the program owes: what a script plays, what is reported of it, and what each status says of source and sink.
-use Rattle.std.specs.Prelude.{◌≡◌, ℕ, ◌<◌, ◌⊎◌, List, [], ◌∷◌, Option, IfSome, Some, None, All, length, take}
-use Rattle.std.specs.FinMap.{empty}
+use Rattle.std.specs.Prelude.{◌≡◌, ℕ, ◌<◌, ◌⊎◌, List, [], ◌∷◌, Option, IfSome, Some, None, All, length, take, fold}
+use Rattle.std.specs.FinMap.{empty, insert, remove}
 use Rattle.std.specs.Io.KnownBytes.{Appends, Keeps}
 use Rattle.cat_command.specs.Commands.{IsCommand}
 use Rattle.cat_command.specs.declared.command.Command.{Command}
-use Rattle.cat_command.specs.declared.command.Command.TheVariants.{Play}
+use Rattle.cat_command.specs.declared.command.Command.TheVariants.{Play, Gen}
 use Rattle.cat_history.specs.Maps.{Map}
 use Rattle.cat_history.specs.Writes.{after_all}
-use Rattle.cat_history.specs.declared.op.Write.{Write}
+use Rattle.cat_history.specs.LoneRounds.{writes_of}
+use Rattle.cat_history.specs.declared.op.CallerOp.{CallerOp}
+use Rattle.cat_history.specs.declared.op.Op.{Op}
+use Rattle.cat_history.specs.declared.op.Op.TheVariants.{Put, Get, Del, Scan}
 use Rattle.cat_history.specs.declared.plan.RoundPlan.{RoundPlan}
 use Rattle.cat_script.specs.Fits.{FitsCallers, IsUnfitBy}
+use Rattle.cat_script.specs.Generators.{generated_plan, generated_calls}
 use Rattle.cat_script.specs.Scripts.{IsScript, IsFirstFault}
 use Rattle.cat_script.specs.declared.fault.ScriptFault.{ScriptFault}
 use Rattle.cat_script.specs.declared.fault.ScriptFault.TheVariants.{Bytes}
 use Rattle.cat_script.specs.declared.fault.TheConstants.{MOST_BYTES}
 use Rattle.cat_script.specs.declared.script.Script.{Script}
 use Rattle.cat_text.specs.ReportGrammar.{IsReportText}
+use Rattle.cat_text.specs.Summaries.{summary_line}
 use Rattle.cat_text.specs.declared.report.RoundReport.{RoundReport}
 use Rattle.pm_words.specs.declared.layout.Layout.{Layout}
 use Rattle.shapes.specs.Anchors.{Anchors}
 use Rattle.shapes.specs.ShapeRounds.{anchors_end}
 use Rattle.catalog_cli.specs.Built.{unbuilt_command, first_unbuilt, IsCommandWord}
 use Rattle.catalog_cli.specs.Rounds.{IsPlayedRound, most_end}
+use Rattle.catalog_cli.specs.Summaries.{full_in, summary_of}
 use Rattle.catalog_cli.specs.declared.status.Verb.{Verb}
 use Rattle.catalog_cli.specs.declared.status.Status.{Status}
 use Rattle.catalog_cli.specs.declared.status.Status.TheVariants as status
@@ -31,6 +37,10 @@ use Rattle.catalog_cli.specs.declared.status.Status.TheVariants as status
 -- The words of a command that reads a script, to play it on an empty catalogue of this layout.
 abbrev pub ReadsScript : List (List ℕ) → Layout → Type 0
 ReadsScript words layout = IsCommand words (Play layout)
+
+-- The words of a command that plays the calls of one caller that a seed makes, so many.
+abbrev pub Generates : List (List ℕ) → ℕ → ℕ → Type 0
+Generates words seed count = IsCommand words (Gen seed count 1)
 
 -- The words of a command that isn't built, whose word is this one.
 abbrev pub NamesCommand : List (List ℕ) → Verb → Type 0
@@ -75,9 +85,9 @@ ArePlayedRounds slots most base anchors [] [] = Unit {0}
 ArePlayedRounds slots most base anchors [] (report ∷ reports) = ⊥
 ArePlayedRounds slots most base anchors (plan ∷ plans) [] = ⊥
 ArePlayedRounds slots most base anchors (plan ∷ plans) (report ∷ reports) =
-    (writes : List Write) × IsPlayedRound slots most base anchors plan report writes ×
-    ArePlayedRounds slots (most_end slots most base anchors report.records) (after_all base writes)
-    (anchors_end slots base anchors report.records) plans reports
+    IsPlayedRound slots most base anchors plan report (writes_of report.records) ×
+    ArePlayedRounds slots (most_end slots most base anchors report.records)
+    (after_all base (writes_of report.records)) (anchors_end slots base anchors report.records) plans reports
 
 -- The text is that of a report of legal rounds that the bytes, read as a script, ask for, from an empty catalogue of
 -- this layout: its one member has no names. The report is one of the grammar, so that its text tells it alone.
@@ -88,45 +98,67 @@ pub record IsReportOf (layout : Layout) (bytes text : List ℕ) : Type 0 where
   pub played : ArePlayedRounds layout.slots layout.nodes empty ([] ∷ []) script.rounds reports
   pub told : IsReportText text reports
 
+-- ---- generated rounds
+
+-- The map once a call is done on it.
+abbrev pub done : Map → Op → Map
+done m (Put name value) = insert m name value
+done m (Get name) = m
+done m (Del name) = remove m name
+done m (Scan from count) = m
+
+-- The map once these calls are done on it, in their order.
+abbrev pub all_done : Map → List CallerOp → Map
+all_done m asked = fold (λ now (a : CallerOp). done now a.op) m asked
+
+-- The text is the summary of a legal round of the calls that a seed makes for one caller, from an empty catalogue of
+-- 1024 nodes of 64 slots. Where no call was answered that there is no room, the map at its end is that of the calls done
+-- in their order.
+pub record IsSummaryOf (seed count : ℕ) (text : List ℕ) : Type 0 where
+  pub report : RoundReport
+  pub played : IsPlayedRound 64 1024 empty ([] ∷ []) (generated_plan seed count 1) report (writes_of report.records)
+  pub told : text ≡ summary_line (summary_of (generated_calls seed count 1) report.records
+      (after_all empty (writes_of report.records)))
+  pub in_order : full_in report.records ≡ 0 →
+      after_all empty (writes_of report.records) ≡ all_done empty (generated_calls seed count 1)
+
 -- ---- source and sink
 
 -- These are the bytes that the source has left, where it tells them.
 abbrev pub AreBytesLeft : Option (List ℕ) → List ℕ → Type 0
 AreBytesLeft left bytes = IfSome left (λ told. told ≡ bytes)
 
--- The words are of a command that reads a script, and the report of the script that the source had left was appended to
--- the sink.
-pub record Reports (words : List (List ℕ)) (left written written' : Option (List ℕ)) : Type 0 where
-  pub layout : Layout
-  pub bytes : List ℕ
+-- The text that a command prints: the report of the script that the source had left, or the summary of a generated
+-- round.
+pub data Prints (words : List (List ℕ)) (left : Option (List ℕ)) (text : List ℕ) : Type 0 where
+  reports : (layout : Layout) (bytes : List ℕ) → ReadsScript words layout → AreBytesLeft left bytes →
+      IsReportOf layout bytes text → Prints words left text
+  sums_up : (seed count : ℕ) → Generates words seed count → IsSummaryOf seed count text → Prints words left text
+
+-- What the command prints was appended to the sink.
+pub record PrintsAll (words : List (List ℕ)) (left written written' : Option (List ℕ)) : Type 0 where
   pub text : List ℕ
-  pub command : ReadsScript words layout
-  pub source : AreBytesLeft left bytes
-  pub report : IsReportOf layout bytes text
+  pub prints : Prints words left text
   pub sink : Appends written written' text
 
--- A beginning of such a report was appended.
-pub record ReportsPart (words : List (List ℕ)) (left written written' : Option (List ℕ)) : Type 0 where
-  pub layout : Layout
-  pub bytes : List ℕ
+-- A beginning of it was appended.
+pub record PrintsPart (words : List (List ℕ)) (left written written' : Option (List ℕ)) : Type 0 where
   pub text : List ℕ
   pub count : ℕ
-  pub command : ReadsScript words layout
   pub short : count < length text
-  pub source : AreBytesLeft left bytes
-  pub report : IsReportOf layout bytes text
+  pub prints : Prints words left text
   pub sink : Appends written written' (take count text)
 
--- What the sink has at each status: the report where the program is done, a beginning of it or nothing where a write
--- failed or memory ran out, and else what it had.
+-- What the sink has at each status: what the command prints where the program is done, a beginning of it or nothing
+-- where a write failed or memory ran out, and else what it had.
 abbrev pub LeavesSink : List (List ℕ) → Status → Option (List ℕ) → Option (List ℕ) → Option (List ℕ) → Type 0
-LeavesSink words status.Done left written written' = Reports words left written written'
+LeavesSink words status.Done left written written' = PrintsAll words left written written'
 LeavesSink words status.Usage left written written' = Keeps written written'
 LeavesSink words (status.Script fault) left written written' = Keeps written written'
 LeavesSink words status.Read left written written' = Keeps written written'
-LeavesSink words status.Write left written written' = ReportsPart words left written written'
+LeavesSink words status.Write left written written' = PrintsPart words left written written'
 LeavesSink words status.NoMemory left written written' =
-    Keeps written written' ⊎ ReportsPart words left written written'
+    Keeps written written' ⊎ PrintsPart words left written written'
 LeavesSink words (status.NotBuilt verb) left written written' = Keeps written written'
 
 -- The status is that of a run that wrote nothing.
@@ -165,6 +197,14 @@ IsAfterReading (status.NotBuilt verb) = IsCommandWord verb → ⊥
 abbrev pub ReadsSome : List (List ℕ) → Type 0
 ReadsSome words = (layout : Layout) × ReadsScript words layout
 
+-- Some command that plays a generated round has these words.
+abbrev pub GeneratesSome : List (List ℕ) → Type 0
+GeneratesSome words = (seed count : ℕ) × Generates words seed count
+
+-- Some command that is built has these words.
+abbrev pub PlaysSome : List (List ℕ) → Type 0
+PlaysSome words = ReadsSome words ⊎ GeneratesSome words
+
 -- The bytes that the source had left are refused so. Where they are too many for a script, that is all that is known of
 -- those of a source that doesn't tell them.
 abbrev pub IsRefusalOf : ℕ → Option (List ℕ) → Status → Type 0
@@ -178,13 +218,24 @@ IsScriptCause words left answer = (layout : Layout) × ReadsScript words layout 
 
 -- Why a run ended so. Of the source and of the sink it is told how many of their calls failed before it and after it.
 abbrev pub IsCauseOf : List (List ℕ) → Option (List ℕ) → (reads reads' writes writes' : ℕ) → Status → Type 0
-IsCauseOf words left reads reads' writes writes' status.Done = ReadsSome words
+IsCauseOf words left reads reads' writes writes' status.Done = PlaysSome words
 IsCauseOf words left reads reads' writes writes' status.Usage = (command : Command) → ¬ IsCommand words command
 IsCauseOf words left reads reads' writes writes' (status.Script fault) = IsScriptCause words left (status.Script fault)
 IsCauseOf words left reads reads' writes writes' status.Read = ReadsSome words × (reads < reads')
-IsCauseOf words left reads reads' writes writes' status.Write = ReadsSome words × (writes < writes')
-IsCauseOf words left reads reads' writes writes' status.NoMemory = ReadsSome words
+IsCauseOf words left reads reads' writes writes' status.Write = PlaysSome words × (writes < writes')
+IsCauseOf words left reads reads' writes writes' status.NoMemory = PlaysSome words
 IsCauseOf words left reads reads' writes writes' (status.NotBuilt verb) =
+    NamesCommand words verb ⊎ IsScriptCause words left (status.NotBuilt verb)
+
+-- Why a command has nothing to print.
+abbrev pub HasNoText : List (List ℕ) → Option (List ℕ) → (reads reads' : ℕ) → Status → Type 0
+HasNoText words left reads reads' status.Done = ⊥
+HasNoText words left reads reads' status.Usage = (command : Command) → ¬ IsCommand words command
+HasNoText words left reads reads' (status.Script fault) = IsScriptCause words left (status.Script fault)
+HasNoText words left reads reads' status.Read = ReadsSome words × (reads < reads')
+HasNoText words left reads reads' status.Write = ⊥
+HasNoText words left reads reads' status.NoMemory = PlaysSome words
+HasNoText words left reads reads' (status.NotBuilt verb) =
     NamesCommand words verb ⊎ IsScriptCause words left (status.NotBuilt verb)
 
 -- Why no report was made of what a source had left, on a layout of so many callers.
@@ -214,3 +265,8 @@ abbrev pub FinishesAccepted : List (List ℕ) → Option (List ℕ) → (reads r
 FinishesAccepted words left reads reads' writes writes' answer = (layout : Layout) (bytes : List ℕ) (script : Script) →
     ReadsScript words layout → left ≡ Some bytes → reads' ≡ reads → writes' ≡ writes →
     IsAccepted layout.callers bytes script → Comes answer status.Done
+
+-- Where no write fails, a command that plays a generated round is done.
+abbrev pub FinishesGenerated : List (List ℕ) → (writes writes' : ℕ) → Status → Type 0
+FinishesGenerated words writes writes' answer =
+    GeneratesSome words → writes' ≡ writes → Comes answer status.Done

@@ -1,4 +1,5 @@
 pub mod Statuses
+pub mod Summaries
 pub mod Built
 pub mod Rounds
 pub mod Headline

@@ -6,21 +6,13 @@ use Rattle.cat_history.specs.Writes.{after_all}
 use Rattle.cat_history.specs.LoneRounds.{write_of}
 use Rattle.cat_history.specs.declared.op.CallerOp.{CallerOp}
 use Rattle.cat_history.specs.declared.op.Op.{Op}
-use Rattle.cat_history.specs.declared.op.Op.TheVariants.{Put, Get, Del, Scan}
 use Rattle.cat_history.specs.declared.record.Reply.{Reply}
 use Rattle.cat_history.specs.declared.plan.RoundPlan.{RoundPlan}
 use Rattle.cat_text.specs.ReportGrammar.{IsReportOp}
 
--- A call on one name: no scan.
-abbrev pub IsOnName : Op → Type 0
-IsOnName (Put name value) = Unit {0}
-IsOnName (Get name) = Unit {0}
-IsOnName (Del name) = Unit {0}
-IsOnName (Scan from count) = ⊥
-
--- Some caller makes all the calls, each on one name.
+-- Some caller makes all the calls.
 abbrev pub AreLoneCalls : List CallerOp → Type 0
-AreLoneCalls asked = (caller : ℕ) × All (λ a. (a.caller ≡ caller) × IsOnName a.op) asked
+AreLoneCalls asked = (caller : ℕ) × All (λ a. a.caller ≡ caller) asked
 
 -- A call of which a report can tell: of one of 16 callers, of a name, with a number below 2 ^ 64.
 abbrev pub IsReportCall : CallerOp → Type 0

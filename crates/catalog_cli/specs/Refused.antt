@@ -6,15 +6,15 @@ use Rattle.catalog_cli.specs.Headline.{IsRefusedBy, NamesCommand}
 use Rattle.catalog_cli.specs.declared.status.Status.{Status}
 use Rattle.catalog_cli.specs.declared.status.Status.TheVariants as status
 
--- The words are those of no command that reads a script: of none at all, or of one that isn't built.
-abbrev pub IsOfNoScript : List (List ℕ) → Status → Type 0
-IsOfNoScript words status.Done = ⊥
-IsOfNoScript words status.Usage = (command : Command) → ¬ IsCommand words command
-IsOfNoScript words (status.Script fault) = ⊥
-IsOfNoScript words status.Read = ⊥
-IsOfNoScript words status.Write = ⊥
-IsOfNoScript words status.NoMemory = ⊥
-IsOfNoScript words (status.NotBuilt verb) = NamesCommand words verb
+-- The words are those of no command that is built: of none at all, or of one that isn't.
+abbrev pub IsOfNoCommand : List (List ℕ) → Status → Type 0
+IsOfNoCommand words status.Done = ⊥
+IsOfNoCommand words status.Usage = (command : Command) → ¬ IsCommand words command
+IsOfNoCommand words (status.Script fault) = ⊥
+IsOfNoCommand words status.Read = ⊥
+IsOfNoCommand words status.Write = ⊥
+IsOfNoCommand words status.NoMemory = ⊥
+IsOfNoCommand words (status.NotBuilt verb) = NamesCommand words verb
 
 -- The bytes are refused so, unless memory ran out.
 abbrev pub IsRefusedText : ℕ → List ℕ → Status → Type 0

@@ -16,7 +16,7 @@ pub(crate) fn unbuilt_command(command: &Command) -> Option<Verb>
         Command::Format { .. } => Some(Verb::Format),
         Command::Run => Some(Verb::Run),
         Command::Play { .. } => None,
-        Command::Gen { .. } => Some(Verb::Gen),
+        Command::Gen { callers, .. } => (*callers != 1).then_some(Verb::Gen),
         Command::Words { .. } => Some(Verb::Words),
     }
 }
@@ -55,7 +55,7 @@ fn unbuilt_call(first: Option<u64>, caller: u64, verb: LineVerb) -> Option<Verb>
         LineVerb::Put => is_of_other(first, caller).then_some(Verb::Put),
         LineVerb::Get => is_of_other(first, caller).then_some(Verb::Get),
         LineVerb::Del => is_of_other(first, caller).then_some(Verb::Del),
-        LineVerb::Scan => Some(Verb::Scan),
+        LineVerb::Scan => is_of_other(first, caller).then_some(Verb::Scan),
         LineVerb::Join | LineVerb::Crash | LineVerb::Updater | LineVerb::Limit => None,
     }
 }

@@ -1,21 +1,23 @@
 //! The top call: from the words of a command and the bytes of a script to the bytes of a report.
 
-ghost use Rattle.std.specs.Prelude.{◌≡◌, ◌+◌, ◌≤◌, ◌↔◌, ℕ, List, [], Some, Err, IfOk, IfErr, OnOk, IfSome, length, map};
+ghost use Rattle.std.specs.Prelude.{◌≡◌, ◌+◌, ◌≤◌, ◌↔◌, ℕ, List, [], Some, None, Err, IfOk, IfErr, OnOk, IfSome, length, map};
 ghost use Rattle.std.specs.Io.KnownBytes.{Keeps};
 ghost use Rattle.std.specs.String.{string_bytes};
 ghost use Rattle.cat_command.specs.Commands.{IsCommand};
 ghost use Rattle.cat_command.specs.declared.command.Command.{Command};
 ghost use Rattle.cat_text.specs.Outside.{ConsumesAtMost};
-ghost use Rattle.catalog_cli.specs.Headline.{AreBytesLeft, FinishesAccepted, HasNoReport, IsAccepted, IsAfterReading};
-ghost use Rattle.catalog_cli.specs.Headline.{IsCauseOf, IsOfWords, IsRefusedBy, IsReportOf, LeavesSink, NamesCommand};
-ghost use Rattle.catalog_cli.specs.Headline.{ReadsScript, TellsRefusal, WritesNothing};
-ghost use Rattle.catalog_cli.specs.Built.{IsCommandWord};
-ghost use Rattle.catalog_cli.specs.Refused.{IsOfNoScript, IsRefusedText};
+ghost use Rattle.catalog_cli.specs.Headline.{AreBytesLeft, FinishesAccepted, FinishesGenerated, GeneratesSome};
+ghost use Rattle.catalog_cli.specs.Headline.{HasNoReport, HasNoText, IsAccepted, IsAfterReading, IsCauseOf, IsOfWords};
+ghost use Rattle.catalog_cli.specs.Headline.{IsReportOf, LeavesSink, NamesCommand, Prints, ReadsSome, TellsRefusal};
+ghost use Rattle.catalog_cli.specs.Headline.{WritesNothing};
+ghost use Rattle.catalog_cli.specs.Built.{IsCommandWord, unbuilt_command};
+ghost use Rattle.catalog_cli.specs.Refused.{IsOfNoCommand, IsRefusedText};
 ghost use Rattle.pm_words.specs.Layouts.{IsLayout};
 ghost use Rattle.catalog_cli.specs.declared.status.Status.{Status};
 ghost use Rattle.catalog_cli.specs.declared.status.Verb.{Verb};
 
 use crate::built::{first_unbuilt, unbuilt_command};
+use crate::generated::play_generated;
 use crate::play::play;
 use crate::status::Status;
 use cat_command::{Command, read_command};
@@ -24,19 +26,21 @@ use cat_text::{Sink, Source, WriteFault, print_report, read_whole, write_whole};
 use pm_words::Layout;
 use std::alloc::Global;
 
-/// Runs the command that the words name: plays the script that the source gives, and writes its report to the sink.
+/// Runs the command that the words name: plays calls, and writes to the sink what they came to.
 ///
-/// The one command that is built is `play NODES SLOTS CALLERS`, from an empty catalogue of that layout. The script is
-/// read to its end and looked through before anything is played, and the report is made whole before its first byte is
-/// written.
+/// - `play NODES SLOTS CALLERS` plays the script that the source gives, from an empty catalogue of that layout, and
+///   writes its report. The script is read to its end and looked through before anything is played.
+/// - `gen SEED COUNT 1` plays calls that the seed makes, and writes a line that sums them up. It reads nothing.
+///
+/// What is written is made whole before its first byte is written.
 pub fn catalog<S: Source, K: Sink>(
     alloc: Global,
     words: &[String],
     script: &mut S,
     out: &mut K,
 ) -> Status
-    // What was written: the text of a report of the grammar, that of the script, each of whose rounds is legal; or a
-    // beginning of it; or nothing.
+    // What was written: the text of a report of the grammar, that of the script, each of whose rounds is legal, or the
+    // summary of a legal round of the generated calls; or a beginning of it; or nothing.
     ensures sink { LeavesSink (map string_bytes words.now) result (S.left script.old) (K.written out.old)
         (K.written out.new) }
     ensures nothing_written { WritesNothing result → out.new ≡ out.old }
@@ -52,10 +56,14 @@ pub fn catalog<S: Source, K: Sink>(
         (S.faults script.new) result }
     ensures accepted { FinishesAccepted (map string_bytes words.now) (S.left script.old) (S.faults script.old)
         (S.faults script.new) (K.faults out.old) (K.faults out.new) result }
+    ensures generated { FinishesGenerated (map string_bytes words.now) (K.faults out.old) (K.faults out.new) result }
 
-    // What was read: nothing for words alone, all of it for a script, and never more than tells that it is too long.
+    // What was read: nothing for words alone or for generated calls, all of it for a script, and never more than tells
+    // that it is too long.
     ensures nothing_read { IsOfWords result → script.new ≡ script.old }
-    ensures read_to_end { IsAfterReading result → IfSome (S.left script.old) (λ _. S.left script.new ≡ Some []) }
+    ensures reads_no_script { GeneratesSome (map string_bytes words.now) → script.new ≡ script.old }
+    ensures read_to_end { ReadsSome (map string_bytes words.now) → IsAfterReading result →
+        IfSome (S.left script.old) (λ _. S.left script.new ≡ Some []) }
     ensures takes { ConsumesAtMost (MOST_BYTES + 1) (S.left script.old) (S.left script.new) }
     ensures source_never_falls { S.faults script.old ≤ S.faults script.new }
     ensures sink_never_falls { K.faults out.old ≤ K.faults out.new }
@@ -76,16 +84,14 @@ fn run_command<S: Source, K: Sink>(
     ensures cause { IsCauseOf (map string_bytes words.now) (S.left script.old) (S.faults script.old)
         (S.faults script.new) (K.faults out.old) (K.faults out.new) result }
     ensures nothing_read { IsOfWords result → script.new ≡ script.old }
-    ensures read_to_end { IsAfterReading result → IfSome (S.left script.old) (λ _. S.left script.new ≡ Some []) }
+    ensures reads_no_script { GeneratesSome (map string_bytes words.now) → script.new ≡ script.old }
+    ensures read_to_end { ReadsSome (map string_bytes words.now) → IsAfterReading result →
+        IfSome (S.left script.old) (λ _. S.left script.new ≡ Some []) }
     ensures takes { ConsumesAtMost (MOST_BYTES + 1) (S.left script.old) (S.left script.new) }
     ensures source_never_falls { S.faults script.old ≤ S.faults script.new }
     ensures sink_never_falls { K.faults out.old ≤ K.faults out.new }
 {
-    let layout = match asked_layout(words) {
-        Ok(layout) => layout,
-        Err(status) => return status,
-    };
-    match report_of(alloc, layout, script) {
+    match text_of(alloc, words, script) {
         Err(status) => status,
         Ok(text) => match write_whole(out, &text) {
             Ok(()) => Status::Done,
@@ -95,18 +101,40 @@ fn run_command<S: Source, K: Sink>(
     }
 }
 
-/// The layout on which the words of a command ask to play a script.
-fn asked_layout(words: &[String]) -> Result<Layout, Status>
-    ensures layout { IfOk result (ReadsScript (map string_bytes words.now)) }
-    ensures refused { IfErr result (IsOfNoScript (map string_bytes words.now)) }
+/// What the command prints that the words name.
+fn text_of<S: Source>(alloc: Global, words: &[String], script: &mut S) -> Result<Vec<u8>, Status>
+    ensures prints { IfOk result (λ text. Prints (map string_bytes words.now) (S.left script.old) text.items) }
+    ensures cause { IfErr result (HasNoText (map string_bytes words.now) (S.left script.old) (S.faults script.old)
+        (S.faults script.new)) }
+    ensures nothing_read { IfErr result (λ status. IsOfWords status → script.new ≡ script.old) }
+    ensures reads_no_script { GeneratesSome (map string_bytes words.now) → script.new ≡ script.old }
+    ensures read_to_end { OnOk result (ReadsSome (map string_bytes words.now) →
+        IfSome (S.left script.old) (λ _. S.left script.new ≡ Some [])) }
+    ensures read_before_refusal { IfErr result (λ status. ReadsSome (map string_bytes words.now) →
+        IsAfterReading status → IfSome (S.left script.old) (λ _. S.left script.new ≡ Some [])) }
+    ensures takes { ConsumesAtMost (MOST_BYTES + 1) (S.left script.old) (S.left script.new) }
+    ensures never_falls { S.faults script.old ≤ S.faults script.new }
+{
+    match asked_command(words)? {
+        Command::Play { layout } => report_of(alloc, layout, script),
+        Command::Gen { seed, count, .. } => {
+            let text = play_generated(alloc, seed, count)?;
+            Ok(text)
+        }
+        Command::Format { .. } | Command::Run | Command::Words { .. } => unreachable!(),
+    }
+}
+
+/// The command that the words name, which is built.
+fn asked_command(words: &[String]) -> Result<Command, Status>
+    ensures command { IfOk result (IsCommand (map string_bytes words.now)) }
+    ensures built { IfOk result (λ command. unbuilt_command command ≡ None) }
+    ensures refused { IfErr result (IsOfNoCommand (map string_bytes words.now)) }
 {
     let command = read_command(words).ok_or(Status::Usage)?;
-    if let Some(verb) = unbuilt_command(&command) {
-        return Err(Status::NotBuilt(verb));
-    }
-    match command {
-        Command::Play { layout } => Ok(layout),
-        _ => unreachable!(),
+    match unbuilt_command(&command) {
+        Some(verb) => Err(Status::NotBuilt(verb)),
+        None => Ok(command),
     }
 }
 

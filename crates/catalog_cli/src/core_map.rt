@@ -1,6 +1,6 @@
 //! The core of the index as a map of names: each call is a whole call of one caller, with no other in flight.
 
-ghost use Rattle.std.specs.Prelude.{◌≡◌, ◌+◌, ◌*◌, ◌<◌, ◌≤◌, ◌↔◌, [], ◌∷◌, IfOk, OnOk, OnErr, IsErr};
+ghost use Rattle.std.specs.Prelude.{◌≡◌, ◌+◌, ◌/◌, ◌^◌, ◌<◌, ◌≤◌, ◌↔◌, [], ◌∷◌, IfOk, OnOk, OnErr, IsErr};
 ghost use Rattle.std.specs.FinMap.{empty};
 ghost use Rattle.cat_history.specs.Maps.{at};
 ghost use Rattle.cat_history.specs.Records.{as_op, change_of};
@@ -8,19 +8,23 @@ ghost use Rattle.call_stages.specs.Stages.{pended};
 ghost use Rattle.pm_words.specs.Layouts.{IsLayout};
 ghost use Rattle.version_lock.specs.declared.TheConstants.{LAST_COUNT};
 ghost use Rattle.node_ops.specs.Asked.{name_asked};
-ghost use Rattle.index_core.specs.CoreCalls.{op_of};
+ghost use Rattle.index_core.specs.CoreCalls.{most_writes, op_of};
 ghost use Rattle.index_core.specs.Indexes.{IsIndex, map_of_index, world};
+ghost use Rattle.index_core.specs.Listings.{ListsRange};
 ghost use Rattle.index_core.specs.Lone.{IsQuiet};
 ghost use Rattle.index_law.specs.Anchors.{anchors_in, members_most};
-ghost use Rattle.shapes.specs.Anchors.{most_after};
+ghost use Rattle.shapes.specs.Anchors.{most_after, next_of};
 ghost use Rattle.shapes.specs.ShapeRounds.{PutsFull};
-ghost use Rattle.catalog_cli.specs.CoreMaps.{IsUnlimited, anchors_made, calls_left_of};
+ghost use Rattle.catalog_cli.specs.CoreMaps.{IsUnlimited, anchors_made, calls_left_of, writes_left_of};
 
-use cat_history::NoMemory;
+use crate::listing::listed_pairs;
+use call_stages::Once;
+use cat_history::{Listed, NoMemory};
 use cat_key::Name;
-use index_core::{Core, CoreCall, Whole};
+use index_core::{Core, CoreCall};
+use node_ops::PartWords;
 use pm_words::{Layout, Steps};
-use shapes::{Full, NameMap};
+use shapes::{Full, MapPart, NameMap};
 use std::alloc::Global;
 use std::marker::Model;
 use std::sync::ledger::Ledger;
@@ -52,23 +56,24 @@ impl<L: Ledger> Model for CoreMap<L> {
 }
 
 impl<L: Ledger> CoreMap<L> {
-    /// A map without names, that can have so many calls.
+    /// A map without names, that can have so many puts and removals.
     pub fn new(
         alloc: Global,
         layout: Layout,
-        calls: u64,
+        writes: u64,
         steps: Steps<L>,
     ) -> Result<CoreMap<L>, NoMemory>
         requires layout { IsLayout layout }
-        requires calls { 2 * calls ≤ LAST_COUNT }
+        requires writes { writes ≤ 2 ^ 62 }
         ensures empty { IfOk result (λ map. map_of_index map ≡ empty) }
         ensures anchors { IfOk result (λ map. anchors_in (world map) ≡ [] ∷ []) }
         ensures slots { IfOk result (λ map. map.layout.slots ≡ layout.slots) }
         ensures most { IfOk result (λ map. members_most (world map) ≡ layout.nodes) }
-        ensures calls_left { IfOk result (λ map. calls ≤ calls_left_of map) }
+        ensures calls_left { IfOk result (λ map. calls_left_of map ≡ LAST_COUNT / 2) }
+        ensures writes_left { IfOk result (λ map. writes ≤ writes_left_of map) }
     {
         let mut core = Core::fresh(alloc, layout)?;
-        core.reserve(calls)?;
+        core.reserve(writes)?;
         Ok(CoreMap {
             core,
             names: 0,
@@ -80,7 +85,7 @@ impl<L: Ledger> CoreMap<L> {
 impl<L: Ledger> NameMap for CoreMap<L> {
     ghost use Rattle.index_core.specs.Indexes.{map_of_index, world};
     ghost use Rattle.index_law.specs.Anchors.{anchors_in, members_most};
-    ghost use Rattle.catalog_cli.specs.CoreMaps.{calls_left_of};
+    ghost use Rattle.catalog_cli.specs.CoreMaps.{calls_left_of, writes_left_of};
 
     ghost contents = { map_of_index };
 
@@ -92,12 +97,27 @@ impl<L: Ledger> NameMap for CoreMap<L> {
 
     ghost calls_left = { calls_left_of };
 
+    ghost writes_left = { writes_left_of };
+
+    fn has_shape(&self) {
+        // Its fields have what is known of it.
+        let _names = self.names;
+    }
+
     fn get(&mut self, name: &Name) -> Option<u64> {
         let call = CoreCall::Get { name: *name };
         match call_alone(&mut self.core, call, &mut self.steps) {
             Ok(old) => old,
             Err(Full) => unreachable!(),
         }
+    }
+
+    fn part(&mut self, alloc: Global, low: &Name, count: u64) -> Result<MapPart, NoMemory> {
+        let words = list_alone(&mut self.core, low, count, &mut self.steps);
+        Ok(MapPart {
+            high: words.high,
+            pairs: Listed::of(listed_pairs(alloc, &words)?),
+        })
     }
 
     fn put(&mut self, name: &Name, value: u64) -> Result<Option<u64>, Full> {
@@ -145,6 +165,7 @@ fn call_alone<L: Ledger>(
     requires quiet { IsQuiet core.old }
     requires unlimited { IsUnlimited call }
     requires calls_left { 0 < calls_left_of core.old }
+    requires writes_left { most_writes call ≤ writes_left_of core.old }
     ensures old { IfOk result (λ old. old ≡ at (map_of_index core.old) (name_asked (op_of call))) }
     ensures ok { OnOk result (map_of_index core.new ≡ pended (change_of (op_of call)) (map_of_index core.old)) }
     ensures anchors { OnOk result (anchors_in (world core.new) ≡ anchors_made core.old call) }
@@ -156,13 +177,39 @@ fn call_alone<L: Ledger>(
         (anchors_in (world core.old)) (anchors_in (world core.new)) }
     ensures layout { core.new.layout ≡ core.old.layout }
     ensures calls_left { calls_left_of core.old ≤ calls_left_of core.new + 1 }
+    ensures writes_left { writes_left_of core.old ≤ writes_left_of core.new + most_writes call }
     ensures quiet { IsQuiet core.new }
     ensures index { IsIndex core.new }
 {
-    match core.run_alone(CALLER, call, steps) {
-        Whole::Placed(placed) => Ok(placed.old),
-        Whole::Full => Err(Full),
+    match core.name_alone(CALLER, call, steps) {
+        Once::Done(placed) => Ok(placed.old),
+        // A call that is alone is turned back for want of room only.
+        Once::Again(_) => Err(Full),
         // There is a lock left, and the clock is below the limit.
-        Whole::Spent { .. } | Whole::Worn { .. } => unreachable!(),
+        Once::Spent { .. } | Once::Worn { .. } => unreachable!(),
+    }
+}
+
+/// A whole part of a scan on an index that has calls left, with no call in flight: it lists the first names from the low
+/// one on, so many at most, of those that belong to its member.
+fn list_alone<L: Ledger>(core: &mut Core, low: &Name, count: u64, steps: &mut Steps<L>) -> PartWords
+    requires index { IsIndex core.old }
+    requires quiet { IsQuiet core.old }
+    requires calls_left { 0 < calls_left_of core.old }
+    ensures high { result.high ≡ next_of (anchors_in (world core.old)) low.now }
+    ensures lists { ListsRange (map_of_index core.old) low.now count result }
+    ensures map { map_of_index core.new ≡ map_of_index core.old }
+    ensures anchors { anchors_in (world core.new) ≡ anchors_in (world core.old) }
+    ensures most { members_most (world core.new) ≡ members_most (world core.old) }
+    ensures layout { core.new.layout ≡ core.old.layout }
+    ensures calls_left { calls_left_of core.old ≤ calls_left_of core.new + 1 }
+    ensures writes_left { writes_left_of core.old ≤ writes_left_of core.new }
+    ensures quiet { IsQuiet core.new }
+    ensures index { IsIndex core.new }
+{
+    match core.part_alone(CALLER, *low, count, steps) {
+        Once::Done(words) => words,
+        // There is a lock left.
+        Once::Spent { .. } | Once::Worn { .. } | Once::Again(_) => unreachable!(),
     }
 }

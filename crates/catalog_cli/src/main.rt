@@ -4,9 +4,12 @@
 mod built;
 mod catalog;
 mod core_map;
+mod generated;
+mod listing;
 mod play;
 mod round;
 mod status;
+mod summary;
 #[cfg(test)]
 mod tests;
 
@@ -19,8 +22,10 @@ use std::{env, io};
 
 /// What is built of the forms of the command line.
 const BUILT: &str = "\
-    built so far: catalog play NODES SLOTS CALLERS, which reads a script on standard input\n\
-    lines built so far: CALLER put NAME NUMBER, CALLER get NAME, CALLER del NAME, join, limit WRITES\n\
+    built so far: catalog play NODES SLOTS CALLERS, which reads a script on standard input,\n\
+    and catalog gen SEED COUNT 1, which plays COUNT calls that are made from SEED and sums them up\n\
+    lines built so far: CALLER put NAME NUMBER, CALLER get NAME, CALLER del NAME, CALLER scan NAME COUNT, join, \
+    limit WRITES\n\
     the calls of a round are those of one caller";
 
 const VERSION: &str = "catalog 0.1.0";

@@ -1,6 +1,6 @@
 //! Playing the rounds of a script on the index.
 
-ghost use Rattle.std.specs.Prelude.{◌≡◌, ℕ, ◌<◌, ◌≤◌, List, [], ◌∷◌, All, IfOk, None};
+ghost use Rattle.std.specs.Prelude.{◌≡◌, ℕ, ◌*◌, ◌<◌, ◌≤◌, List, [], ◌∷◌, All, IfOk, None};
 ghost use Rattle.std.specs.FinMap.{empty};
 ghost use Rattle.cat_script.specs.Scripts.{IsScript};
 ghost use Rattle.pm_words.specs.Layouts.{IsLayout};
@@ -28,7 +28,23 @@ pub fn play(alloc: Global, layout: &Layout, script: &Script) -> Result<Report, N
     ensures played { IfOk result (ArePlayedRounds layout.now.slots layout.now.nodes empty ([] ∷ []) script.now.rounds) }
     ensures report { IfOk result IsReport }
 {
-    play_on_core::<Brand>(alloc, layout, script.rounds.as_slice(), Blank::new(1))
+    play_plans(alloc, layout, script.rounds.as_slice())
+}
+
+/// Plays rounds of one caller each, one after another, from an empty catalogue of this layout.
+pub(crate) fn play_plans(
+    alloc: Global,
+    layout: &Layout,
+    plans: &[RoundPlan],
+) -> Result<Report, NoMemory>
+    requires layout { IsLayout layout.now }
+    requires callers { All (λ plan. AreLoneCalls plan.ops) plans.now }
+    requires told { All (λ plan. AreReportCalls plan.ops) plans.now }
+    requires calls { calls_in plans.now ≤ 100000 }
+    ensures played { IfOk result (ArePlayedRounds layout.now.slots layout.now.nodes empty ([] ∷ []) plans.now) }
+    ensures report { IfOk result (All IsReportRound) }
+{
+    play_on_core::<Brand>(alloc, layout, plans, Blank::new(1))
 }
 
 /// The same, with a ledger for the steps of the calls, which nobody reads.
@@ -61,7 +77,8 @@ fn play_rounds<M: NameMap>(
 ) -> Result<Report, NoMemory>
     requires callers { All (λ plan. AreLoneCalls plan.ops) plans.now }
     requires told { All (λ plan. AreReportCalls plan.ops) plans.now }
-    requires calls { calls_in plans.now ≤ M.calls_left map.old }
+    requires calls { calls_in plans.now * M.most map.old ≤ M.calls_left map.old }
+    requires writes { calls_in plans.now ≤ M.writes_left map.old }
     ensures played { IfOk result (ArePlayedRounds (M.slots map.old) (M.most map.old) (M.contents map.old)
         (M.anchors map.old) plans.now) }
     ensures report { IfOk result (All IsReportRound) }

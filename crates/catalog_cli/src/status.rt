@@ -15,7 +15,7 @@ pub enum Verb {
     Run,
     Words,
     Gen,
-    /// A put of another caller than that of its round's first call. So are a get and a delete.
+    /// A put of another caller than that of its round's first call. So are a get, a delete and a scan.
     Put,
     Get,
     Del,

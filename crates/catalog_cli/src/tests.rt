@@ -1,7 +1,7 @@
 //! The top call on whole scripts, over a source and a sink in memory.
-ghost use Rattle.std.specs.Prelude.{◌≡◌, ◌<◌, ◌≤◌, IfOk, length};
+ghost use Rattle.std.specs.Prelude.{◌≡◌, ◌*◌, ◌<◌, ◌≤◌, IfOk, length};
 ghost use Rattle.cat_text.specs.ReportGrammar.{IsReportOp};
-ghost use Rattle.catalog_cli.specs.LoneCalls.{AreLoneCalls, AreReportCalls, IsOnName};
+ghost use Rattle.catalog_cli.specs.LoneCalls.{AreLoneCalls, AreReportCalls};
 
 use super::*;
 use crate::core_map::CoreMap;
@@ -77,6 +77,11 @@ fn plays_scripts(rt: HostRuntime) -> Result<(), Fail> {
             "0 put a 1\n0 put a 2\n0 get a",
             "0 put a 1 -> none @0\n0 put a 2 -> 1 @1\n0 get a -> 2 @2\njoin 2 names 1\n",
         ),
+        (
+            "0 put a 1\n0 put a 2\n0 get a\n0 del a\n0 get a\n",
+            "0 put a 1 -> none @0\n0 put a 2 -> 1 @1\n0 get a -> 2 @2\n0 del a -> 2 @2\n0 get a -> none @3\n\
+             join 3 names 0\n",
+        ),
         ("", "join 0 names 0\n"),
         ("join\njoin\n", "join 0 names 0\njoin 0 names 0\n"),
         (
@@ -92,6 +97,20 @@ fn plays_scripts(rt: HostRuntime) -> Result<(), Fail> {
         (
             "# \x01\n\n0 put a 1\r\n \t\r\n\t0  get\ta \n#",
             "0 put a 1 -> none @0\n0 get a -> 1 @1\njoin 1 names 1\n",
+        ),
+        // A scan of none, or for none, has a part too.
+        (
+            "0 scan z 3\n0 scan a 0\n",
+            "0 scan z 3 -> 1 parts\npart z end @0\n0 scan a 0 -> 1 parts\npart a end @0\njoin 0 names 0\n",
+        ),
+        (
+            "0 put b 2\n0 put a 1\n0 put c 3\n0 scan a 2\n0 scan aa 2\n0 scan b 1\n0 scan d 999986\n\
+             0 del b\n0 scan a 9\n",
+            "0 put b 2 -> none @0\n0 put a 1 -> none @1\n0 put c 3 -> none @2\n\
+             0 scan a 2 -> 1 parts\npart a end @3 a 1 b 2\n0 scan aa 2 -> 1 parts\npart aa end @3 b 2 c 3\n\
+             0 scan b 1 -> 1 parts\npart b end @3 b 2\n\
+             0 scan d 999986 -> 1 parts\npart d end @3\n\
+             0 del b -> 2 @3\n0 scan a 9 -> 1 parts\npart a end @4 a 1 c 3\njoin 4 names 2\n",
         ),
         // Each round's places begin at 0, and it goes on from what the one before left.
         (
@@ -149,8 +168,11 @@ fn tells_what_is_wrong_with_scripts(rt: HostRuntime) -> Result<(), Fail> {
         ("2 get a\n0 get", at_line(2, Reason::Words)),
         ("updater 1\n2 get a\n0 get", at_line(3, Reason::Words)),
         ("updater 1\n2 get a", at_line(2, Reason::Caller)),
-        ("updater 1\n0 scan a 1", Status::NotBuilt(Verb::Updater)),
-        ("0 scan a 1\nupdater 1", Status::NotBuilt(Verb::Scan)),
+        (
+            "updater 1\n0 get a\n1 get a",
+            Status::NotBuilt(Verb::Updater),
+        ),
+        ("0 scan a 1\nupdater 1", Status::NotBuilt(Verb::Updater)),
         ("crash 0 5 5 5", Status::NotBuilt(Verb::Crash)),
         ("0 get a\n1 put a 1", Status::NotBuilt(Verb::Put)),
         ("1 get a\n0 get a", Status::NotBuilt(Verb::Get)),
@@ -219,6 +241,45 @@ fn a_full_node_is_split_while_a_node_is_free(rt: HostRuntime) -> Result<(), Fail
     Ok(())
 }
 
+/// The parts of a scan end where the nodes do.
+#[test]
+fn a_scan_has_a_part_for_each_node(rt: HostRuntime) -> Result<(), Fail> {
+    let puts = "0 put a 1\n0 put b 2\n0 put c 3\n0 put d 4\n0 put e 5\n";
+    let placed =
+        "0 put a 1 -> none @0\n0 put b 2 -> none @1\n0 put c 3 -> none @2\n0 put d 4 -> none @3\n\
+                  0 put e 5 -> none @4\n";
+    // What is asked behind the puts, and what is answered.
+    let rows = [
+        (
+            "0 scan a 10\n",
+            "0 scan a 10 -> 2 parts\npart a to c @5 a 1 b 2\npart c end @5 c 3 d 4 e 5\njoin 5 names 5\n",
+        ),
+        // It ends once there are as many names as were asked for.
+        (
+            "0 scan a 2\n0 scan b 1\n0 scan b 2\n0 scan bb 1\n0 scan d 1\n0 scan a 0\n0 scan f 1\n",
+            "0 scan a 2 -> 1 parts\npart a to c @5 a 1 b 2\n0 scan b 1 -> 1 parts\npart b to c @5 b 2\n\
+             0 scan b 2 -> 2 parts\npart b to c @5 b 2\npart c end @5 c 3\n\
+             0 scan bb 1 -> 2 parts\npart bb to c @5\npart c end @5 c 3\n\
+             0 scan d 1 -> 1 parts\npart d end @5 d 4\n0 scan a 0 -> 1 parts\npart a to c @5\n\
+             0 scan f 1 -> 1 parts\npart f end @5\njoin 5 names 5\n",
+        ),
+        // The last of these deletes merges the two nodes.
+        (
+            "0 del d\n0 del e\n0 del b\n0 scan a 10\n",
+            "0 del d -> 4 @5\n0 del e -> 5 @6\n0 del b -> 2 @7\n0 scan a 10 -> 1 parts\npart a end @8 a 1 c 3\n\
+             join 8 names 2\n",
+        ),
+    ];
+    for (asked, answered) in &rows {
+        let script = format!(in rt.alloc(); "{puts}{asked}")?;
+        let report = format!(in rt.alloc(); "{placed}{answered}")?;
+        let ran = run(&rt, "play 8 4 1", script.as_bytes(), &SOUND)?;
+        assert_eq!(rt; ran.status, Status::Done, "{asked}");
+        assert_eq!(rt; ran.written.as_slice(), report.as_bytes(), "{asked}");
+    }
+    Ok(())
+}
+
 #[test]
 fn a_node_has_room_for_64_names(rt: HostRuntime) -> Result<(), Fail> {
     let mut script = String::new(rt.alloc());
@@ -261,18 +322,50 @@ fn plays_on_any_layout(rt: HostRuntime) -> Result<(), Fail> {
     Ok(())
 }
 
+// The numbers are those of a slow program over a hash map, by the rules of generated rounds.
+#[test]
+fn sums_up_generated_rounds(rt: HostRuntime) -> Result<(), Fail> {
+    let rows = [
+        ("gen 1 0 1", "calls 0 puts 0 dels 0 names 0 sum 0 full 0\n"),
+        ("gen 0 1 1", "calls 1 puts 0 dels 0 names 0 sum 0 full 0\n"),
+        // A delete of a06, and puts of a01, a11 and a34 with the numbers 1, 2 and 3.
+        ("gen 1 4 1", "calls 4 puts 3 dels 1 names 3 sum 6 full 0\n"),
+        (
+            "gen 1 100 1",
+            "calls 100 puts 47 dels 18 names 33 sum 1942 full 0\n",
+        ),
+        (
+            "gen 7 1000 1",
+            "calls 1000 puts 494 dels 126 names 48 sum 43894 full 0\n",
+        ),
+        (
+            "gen 2147483647 5000 1",
+            "calls 5000 puts 2504 dels 640 names 47 sum 229535 full 0\n",
+        ),
+    ];
+    for (words, line) in &rows {
+        let ran = run(&rt, words, b"0 get a\n", &SOUND)?;
+        assert_eq!(rt; (ran.status, ran.left), (Status::Done, 8), "{words}");
+        assert_eq!(rt; ran.written.as_slice(), line.as_bytes(), "{words}");
+    }
+    Ok(())
+}
+
 #[test]
 fn refuses_other_words_unread(rt: HostRuntime) -> Result<(), Fail> {
     let rows = [
         ("format c 1 64 1", Status::NotBuilt(Verb::Format)),
         ("run c", Status::NotBuilt(Verb::Run)),
         ("words c 0 1", Status::NotBuilt(Verb::Words)),
-        ("gen 1 1 1", Status::NotBuilt(Verb::Gen)),
+        ("gen 1 1 2", Status::NotBuilt(Verb::Gen)),
         ("gen 1 1 16", Status::NotBuilt(Verb::Gen)),
         ("", Status::Usage),
         ("run", Status::Usage),
         ("format c 1 65 1", Status::Usage),
+        ("gen 1 1 0", Status::Usage),
         ("gen 1 1 17", Status::Usage),
+        ("gen 2147483648 1 1", Status::Usage),
+        ("gen 1 100001 1", Status::Usage),
         ("Play 1 64 1", Status::Usage),
         ("play 1 4", Status::Usage),
         ("play 1 64 1 1", Status::Usage),
@@ -380,20 +473,30 @@ fn each_status_has_its_code_and_text(rt: HostRuntime) -> Result<(), Fail> {
     Ok(())
 }
 
-/// A call on this name, drawn from a number.
-fn drawn_op(name: Name, value: u64, draw: u32) -> Op
-    ensures on_name { IsOnName result }
-    ensures told { IsReportOp result }
+/// A call on this name, drawn from a number: one of so many kinds, the last of which are scans.
+fn drawn_op(name: Name, value: u64, kinds: u32, draw: u32) -> Op
+    requires { 0 < kinds }
+    ensures { IsReportOp result }
 {
-    match draw % 8 {
+    match draw % kinds {
         0..=4 => Op::Put { name, value },
         5 | 6 => Op::Get { name },
-        _ => Op::Del { name },
+        7 => Op::Del { name },
+        _ => Op::Scan {
+            from: name,
+            count: value % 16,
+        },
     }
 }
 
-/// Calls of one caller, drawn from a number: puts, gets and deletes of 80 names, more than there is room for.
-fn drawn_plan(alloc: Global, seed: u32) -> Result<RoundPlan, Fail>
+/// The kinds of calls without scans, and those with scans.
+const NO_SCANS: u32 = 8;
+
+const ALL_KINDS: u32 = 10;
+
+/// Calls of one caller, drawn from a number: calls of these kinds, of 80 names, more than there is room for.
+fn drawn_plan(alloc: Global, seed: u32, kinds: u32) -> Result<RoundPlan, Fail>
+    requires { 0 < kinds }
     ensures caller { IfOk result (λ plan. AreLoneCalls plan.ops) }
     ensures told { IfOk result (λ plan. AreReportCalls plan.ops) }
     ensures few { IfOk result (λ plan. length plan.ops ≤ 300) }
@@ -407,7 +510,7 @@ fn drawn_plan(alloc: Global, seed: u32) -> Result<RoundPlan, Fail>
         let name = Name::read(text.as_bytes()).ok().ok_or("a name")?;
         ops.push(CallerOp {
             caller: 0,
-            op: drawn_op(name, value, draw / 80),
+            op: drawn_op(name, value, kinds, draw / 80),
         })?;
     }
     // Most of the writes of a plan come before its limit.
@@ -427,7 +530,8 @@ fn report_on<M: NameMap>(
 ) -> Result<Vec<u8>, AllocError>
     requires caller { AreLoneCalls plan.now.ops }
     requires told { AreReportCalls plan.now.ops }
-    requires calls { length plan.now.ops ≤ M.calls_left map.old }
+    requires calls { length plan.now.ops * M.most map.old ≤ M.calls_left map.old }
+    requires writes { length plan.now.ops ≤ M.writes_left map.old }
 {
     let mut rounds = Vec::new(alloc);
     rounds.push(run_lone_round(alloc, map, plan)?)?;
@@ -457,7 +561,7 @@ fn report_on_core<L: Ledger>(
 #[test]
 fn the_core_answers_as_the_plain_map(rt: HostRuntime) -> Result<(), Fail> {
     for seed in 1u32..=20 {
-        let plan = drawn_plan(rt.alloc(), seed)?;
+        let plan = drawn_plan(rt.alloc(), seed, ALL_KINDS)?;
         let mut plain = PlainMap::new(rt.alloc(), 64)?;
         let wanted = report_on(rt.alloc(), &mut plain, &plan)?;
         let on_core = report_on_core::<Brand>(rt.alloc(), &plan, 1, 64, Blank::new(1))?;
@@ -470,7 +574,7 @@ fn the_core_answers_as_the_plain_map(rt: HostRuntime) -> Result<(), Fail> {
 #[test]
 fn a_core_that_splits_answers_as_a_plain_map_with_room(rt: HostRuntime) -> Result<(), Fail> {
     for seed in 1u32..=20 {
-        let plan = drawn_plan(rt.alloc(), seed)?;
+        let plan = drawn_plan(rt.alloc(), seed, NO_SCANS)?;
         let mut plain = PlainMap::new(rt.alloc(), 300)?;
         let wanted = report_on(rt.alloc(), &mut plain, &plan)?;
         for slots in [4, 6, 64] {

@@ -1,4 +1,4 @@
-use Rattle.catalog_cli.proofs.Outcomes.{tells, finishes, usage-exactly, command-exactly}
+use Rattle.catalog_cli.proofs.Outcomes.{tells, finishes, finishes-generated, usage-exactly, command-exactly}
 use Rattle.catalog_cli.proofs.catalog.catalog.Goals as goal
 
 pub returns-clause-usage : goal.returns-clause-usage
@@ -12,3 +12,6 @@ returns-clause-refused g c = tells _ _ _ _ _ _ _ _ c.run_command.result c.run_co
 
 pub returns-clause-accepted : goal.returns-clause-accepted
 returns-clause-accepted g c = finishes _ _ _ _ _ _ c.run_command.result c.run_command.ensures.cause
+
+pub returns-clause-generated : goal.returns-clause-generated
+returns-clause-generated g c = finishes-generated _ _ _ _ _ _ c.run_command.result c.run_command.ensures.cause

@@ -1,11 +1,12 @@
-use Rattle.std.proofs.Common.{ℕ, ◌∙◌, ap, subst, refl, arith}
+use Rattle.std.proofs.Common.{ℕ, ◌+◌, ◌*◌, ◌≤◌, ◌∙◌, length, drop, ap, subst, refl, arith}
 use Rattle.std.proofs.lemmas.List.Elements.{All-push}
 use Rattle.cat_history.specs.LoneRounds.{writes_of}
 use Rattle.cat_text.specs.ReportGrammar.{IsReportRound}
 use Rattle.shapes.specs.ShapeRounds.{anchors_end}
 use Rattle.catalog_cli.specs.Rounds.{IsPlayedRound, most_end}
 use Rattle.catalog_cli.proofs.Played.{none-played-at, one-more-at, all-played, caller-of-plan, told-of-plan}
-use Rattle.catalog_cli.proofs.ScriptCalls.{calls-to-come}
+use Rattle.catalog_cli.specs.LoneCalls.{calls_in}
+use Rattle.catalog_cli.proofs.ScriptCalls.{calls-to-come, calls-of-one, calls-of-rest}
 use Rattle.catalog_cli.proofs.play.play_rounds.Goals as goal
 
 pub loop-plan-init : goal.loop-plan-init
@@ -14,16 +15,22 @@ loop-plan-init g c =
       slots_stay = refl;
       played = none-played-at _ _ _ _ _ c.in_ok-rounds.ensures.items;
       told = rw c.in_ok-rounds.ensures.items (λ k d within. absurd (omega (arith, within)));
+      fewer = omega arith;
       calls = c.requires.calls;
+      writes = c.requires.writes;
     }
 
 pub run_lone_round-requires : goal.run_lone_round-requires
 run_lone_round-requires g c =
     let plans = c.args.plans.now in
+    let was = c.loop-plan.invariant in
+    let come = calls-to-come plans c.loop-plan.plan-index c.plan-item.result c.loop-plan-test.true c.plan-item.is in
     record {
       caller = caller-of-plan c.args.plans.now plans c.loop-plan.plan-index c.plan-item.result c.requires.callers refl c.loop-plan-test.true c.plan-item.is;
       told = told-of-plan plans c.loop-plan.plan-index c.plan-item.result c.requires.told c.loop-plan-test.true c.plan-item.is;
-      calls = omega (arith, c.loop-plan.invariant.calls, calls-to-come plans c.loop-plan.plan-index c.plan-item.result c.loop-plan-test.true c.plan-item.is);
+      calls = calls-of-one (length c.plan-item.result.ops) (calls_in (drop (c.loop-plan.plan-index + 1) plans)) (g.M.NameMap.most c.loop-plan.map) (g.M.NameMap.most c.args.map.now) _ was.fewer
+          (subst (λ n. n * g.M.NameMap.most c.args.map.now ≤ g.M.NameMap.calls_left c.loop-plan.map) come was.calls);
+      writes = omega (arith, was.writes, come);
     }
 
 pub loop-plan-preserved : goal.loop-plan-preserved
@@ -36,14 +43,18 @@ loop-plan-preserved g c =
     let shape = g.M.NameMap.anchors c.loop-plan.map in
     let slots = g.M.NameMap.slots c.args.map.now in
     let most = g.M.NameMap.most c.loop-plan.map in
+    let come = calls-to-come plans c.loop-plan.plan-index c.plan-item.result c.loop-plan-test.true c.plan-item.is in
     let round : IsPlayedRound slots most now shape c.plan-item.result report (writes_of report.records) =
     subst (λ (k : ℕ). IsPlayedRound k most now shape c.plan-item.result report (writes_of report.records)) was.slots_stay told.played in
     record {
       slots_stay = c.run_lone_round.ensures.slots ∙ was.slots_stay;
-      played = one-more-at _ _ _ _ _ _ _ _ _ _ _ _ _ _ _ _ _ was.played c.loop-plan-test.true c.plan-item.is round
+      played = one-more-at _ _ _ _ _ _ _ _ _ _ _ _ _ _ _ _ was.played c.loop-plan-test.true c.plan-item.is round
           (told.most ∙ ap (λ (k : ℕ). most_end k most now shape report.records) was.slots_stay) told.after (told.anchors ∙ ap (λ (k : ℕ). anchors_end k now shape report.records) was.slots_stay) c.in_ok-push.ensures.items;
       told = rw c.in_ok-push.ensures.items (All-push IsReportRound c.loop-plan.rounds.items report was.told told.report);
-      calls = omega (arith, was.calls, c.run_lone_round.ensures.calls_left, calls-to-come plans c.loop-plan.plan-index c.plan-item.result c.loop-plan-test.true c.plan-item.is);
+      fewer = omega (arith, was.fewer, c.run_lone_round.ensures.fewer);
+      calls = calls-of-rest (length c.plan-item.result.ops) (calls_in (drop (c.loop-plan.plan-index + 1) plans)) most (g.M.NameMap.most c.args.map.now) _ _ was.fewer
+          (subst (λ n. n * g.M.NameMap.most c.args.map.now ≤ g.M.NameMap.calls_left c.loop-plan.map) come was.calls) c.run_lone_round.ensures.calls_left;
+      writes = omega (arith, was.writes, c.run_lone_round.ensures.writes_left, come);
     }
 
 pub returns-clause-played : goal.returns-clause-played

@@ -1,10 +1,10 @@
-use Rattle.std.proofs.Common.{◌≡◌, ◌≤◌, take, drop, All}
+use Rattle.std.proofs.Common.{◌≡◌, ◌*◌, ◌≤◌, take, drop, All}
 use Rattle.cat_text.specs.ReportGrammar.{IsReportRound}
 use Rattle.catalog_cli.specs.LoneCalls.{calls_in}
 use Rattle.catalog_cli.proofs.Played.{GoOn}
 use Rattle.catalog_cli.proofs.play.play_rounds.Given as goal
 
--- the rounds so far are played, the rest goes on from the map and the shape as they are, and there are calls left for the rest
+-- the rounds so far are played, the rest goes on from the map and the shape as they are, and there are calls and writes left for the rest
 abbrev pub invariant-loop-plan : goal.invariant-loop-plan
 invariant-loop-plan g l =
     let contents = g.M.NameMap.contents in
@@ -15,5 +15,7 @@ invariant-loop-plan g l =
       slots_stay : slots l.map ≡ slots l.fn.map;
       played : GoOn (slots l.fn.map) (most l.fn.map) (contents l.fn.map) (anchors l.fn.map) (take l.plan-index l.plans) l.rounds.items (most l.map) (contents l.map) (anchors l.map);
       told : All IsReportRound l.rounds.items;
-      calls : calls_in (drop l.plan-index l.plans) ≤ g.M.NameMap.calls_left l.map;
+      fewer : most l.map ≤ most l.fn.map;
+      calls : calls_in (drop l.plan-index l.plans) * most l.fn.map ≤ g.M.NameMap.calls_left l.map;
+      writes : calls_in (drop l.plan-index l.plans) ≤ g.M.NameMap.writes_left l.map;
     }

@@ -1,12 +1,9 @@
-use Rattle.std.proofs.Common.{◌≡◌, ◌+◌, ◌≤◌, false, length, take, map, fold, vec_len, All}
+use Rattle.std.proofs.Common.{◌≡◌, ◌+◌, ◌*◌, ◌≤◌, false, length, fold, vec_len, All}
 use Rattle.std.specs.Vec.{vec_capacity}
-use Rattle.cat_history.specs.Writes.{after_all}
-use Rattle.cat_history.specs.Records.{call_of, numbered}
-use Rattle.cat_history.specs.LoneRounds.{writes_of, IsLoneRound, IsSpentExactly}
+use Rattle.cat_history.specs.LoneRounds.{writes_of}
 use Rattle.cat_text.specs.ReportGrammar.{IsReportRecord}
-use Rattle.shapes.specs.Runs.{IsFullInTime, stands_after}
-use Rattle.shapes.specs.ShapeRounds.{anchors_end}
-use Rattle.catalog_cli.specs.Rounds.{opening}
+use Rattle.shapes.specs.Runs.{stands_after}
+use Rattle.catalog_cli.specs.Rounds.{opening, IsPlayedSoFar}
 use Rattle.catalog_cli.proofs.round.run_lone_round.Given as goal
 
 -- the records so far are those of a round of the calls so far
@@ -18,19 +15,16 @@ invariant-loop-index g l =
     let most = g.M.NameMap.most in
     let records = l.records.items in
     record {
-      asked : map call_of records ≡ numbered (take l.index l.asked);
-      answers : IsLoneRound (contents l.fn.map) records;
+      played : IsPlayedSoFar (slots l.fn.map) (most l.fn.map) (contents l.fn.map) (anchors l.fn.map) l.plan l.index records (most l.map) (contents l.map) (anchors l.map);
       told : All IsReportRecord records;
-      spent : IsSpentExactly l.plan.limit (contents l.fn.map) records;
-      full : IsFullInTime (slots l.fn.map) false l.plan.limit (opening (most l.fn.map) (contents l.fn.map) (anchors l.fn.map)) records;
       stands : fold (stands_after (slots l.fn.map) false) (opening (most l.fn.map) (contents l.fn.map) (anchors l.fn.map)) records
           ≡ record { map = contents l.map; anchors = anchors l.map; most = most l.map; place = l.writes };
-      ends : contents l.map ≡ after_all (contents l.fn.map) (writes_of records);
-      shape_ends : anchors l.map ≡ anchors_end (slots l.fn.map) (contents l.fn.map) (anchors l.fn.map) records;
       writes : l.writes ≡ length (writes_of records);
       few : l.writes ≤ l.index;
       slots_stay : slots l.map ≡ slots l.fn.map;
-      calls : g.M.NameMap.calls_left l.fn.map ≤ g.M.NameMap.calls_left l.map + l.index;
+      fewer : most l.map ≤ most l.fn.map;
+      calls : g.M.NameMap.calls_left l.fn.map ≤ g.M.NameMap.calls_left l.map + l.index * most l.fn.map;
+      writes_left : g.M.NameMap.writes_left l.fn.map ≤ g.M.NameMap.writes_left l.map + l.index;
       made : vec_len l.records ≡ l.index;
       reserved : length l.asked ≤ vec_capacity l.records;
     }

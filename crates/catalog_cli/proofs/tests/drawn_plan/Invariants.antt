@@ -1,12 +1,12 @@
 use Rattle.std.proofs.Common.{◌≡◌, ◌≤◌, length, All}
 use Rattle.cat_history.specs.declared.op.CallerOp.{CallerOp}
-use Rattle.catalog_cli.specs.LoneCalls.{AreReportCalls, IsOnName}
+use Rattle.catalog_cli.specs.LoneCalls.{AreReportCalls}
 use Rattle.catalog_cli.proofs.tests.drawn_plan.Given as goal
 
 abbrev pub invariant-loop-value : goal.invariant-loop-value
 invariant-loop-value l =
     record {
-      caller : All (λ (a : CallerOp). (a.caller ≡ 0) × IsOnName a.op) l.ops.items;
+      caller : All (λ (a : CallerOp). a.caller ≡ 0) l.ops.items;
       told : AreReportCalls l.ops.items;
       few : length l.ops.items ≤ l.value;
     }

@@ -1,4 +1,4 @@
-use Rattle.catalog_cli.proofs.CoreMaps.{fresh_map, fresh_anchors, fresh_most, fresh_calls}
+use Rattle.catalog_cli.proofs.CoreMaps.{fresh_map, fresh_anchors, fresh_most, fresh_calls, fresh_writes}
 use Rattle.catalog_cli.proofs.core_map.CoreMap.new.Goals as goal
 
 pub invariant_of-result : goal.invariant_of-result
@@ -12,5 +12,8 @@ returns-clause-most g c = fresh_most c.args.layout c.in_ok-core.core c.reserve.n
 
 pub returns-clause-calls_left : goal.returns-clause-calls_left
 returns-clause-calls_left g c =
-    fresh_calls c.args.layout c.in_ok-core.core c.reserve.new.self c.args.calls c.requires.layout c.in_ok-core.ensures c.reserve.ensures.kept
-    c.in_ok-reserve.ensures.ok c.requires.calls
+    fresh_calls c.args.layout c.in_ok-core.core c.reserve.new.self c.requires.layout c.in_ok-core.ensures c.reserve.ensures.kept
+
+pub returns-clause-writes_left : goal.returns-clause-writes_left
+returns-clause-writes_left g c =
+    fresh_writes c.args.layout c.in_ok-core.core c.reserve.new.self c.args.writes c.in_ok-core.ensures c.reserve.ensures.kept c.in_ok-reserve.ensures.ok c.requires.writes

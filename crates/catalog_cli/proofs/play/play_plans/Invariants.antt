@@ -1,4 +1,4 @@
-use Rattle.catalog_cli.proofs.play.play.Given as goal
+use Rattle.catalog_cli.proofs.play.play_plans.Given as goal
 
 -- the ledger of the steps is the blank one
 abbrev pub ghosts-play_on_core : goal.ghosts-play_on_core
