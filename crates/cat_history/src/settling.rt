@@ -29,7 +29,7 @@ fn settle_all(records: &mut [Record], pairs: &[Pair])
 }
 
 fn settle_record(record: &mut Record, pairs: &[Pair])
-    ensures { record.new ≡ settled (map_of pairs.now) record.old }
+    ensures { «record».new ≡ settled (map_of pairs.now) «record».old }
 {
     if is_open(&record.reply) {
         let mark = if shows(pairs, &record.op) {

@@ -1,5 +1,5 @@
 -- Rounds that are played one after another.
-use Rattle.std.proofs.Common.{◌≡◌, ℕ, ◌+◌, ◌<◌, ◌≤◌, List, [], ◌∷◌, ◌++◌, length, take, refl, sym, ap, ◌∙◌, subst, arith, append_assoc, append-nil, get_or}
+use Rattle.std.proofs.Common.{◌≡◌, ℕ, ◌+◌, ◌<◌, ◌≤◌, List, [], ◌∷◌, ◌++◌, length, take, fold, ◌-◌, ◌*◌, ◌/◌, false, zero-mul, refl, sym, ap, ◌∙◌, subst, arith, append_assoc, append-nil, get_or}
 use Rattle.std.proofs.lemmas.List.{take_more, take_all}
 use Rattle.std.proofs.lemmas.List.Elements.{All-from_recursion}
 use Rattle.std.specs.Prelude.{All, IfOk, Result, Ok, Err}
@@ -7,13 +7,24 @@ use Rattle.cat_history.specs.Maps.{Map}
 use Rattle.cat_history.specs.Writes.{after_all}
 use Rattle.cat_history.specs.LoneRounds.{writes_of}
 use Rattle.shapes.specs.Anchors.{Anchors}
-use Rattle.shapes.specs.ShapeRounds.{anchors_end}
+use Rattle.shapes.specs.PaidRounds.{IsPaidFor}
+use Rattle.shapes.specs.Runs.{stands_after}
+use Rattle.shapes.specs.ShapeRounds.{anchors_end, puts_added}
+use Rattle.shapes.proofs.PaidRounds.{timely_rounds_are_paid}
+use Rattle.shapes.proofs.RunLemmas.{stood_anchors, stood_map}
+use Rattle.shapes.proofs.Shapes.{fresh_is_shape, len-keys}
+use Rattle.shapes.proofs.Targets.{all-between}
 use Rattle.cat_text.specs.declared.report.RoundReport.{RoundReport}
 use Rattle.cat_history.specs.declared.plan.RoundPlan.{RoundPlan}
 use Rattle.cat_text.specs.ReportGrammar.{IsReport, IsReportRound}
-use Rattle.catalog_cli.specs.Headline.{ArePlayedRounds}
+use Rattle.cat_history.specs.declared.record.Record.{Record}
+use Rattle.pm_words.specs.Layouts.{IsLayout}
+use Rattle.pm_words.specs.declared.layout.Layout.{Layout}
+use Rattle.std.specs.FinMap.{empty, len, len-empty}
+use Rattle.cat_key.specs.Names.{name_cmp}
+use Rattle.catalog_cli.specs.Headline.{ArePaidFromEmpty, ArePaidRounds, ArePlayedRounds}
 use Rattle.catalog_cli.specs.LoneCalls.{AreLoneCalls, AreReportCalls}
-use Rattle.catalog_cli.specs.Rounds.{IsPlayedRound, most_end}
+use Rattle.catalog_cli.specs.Rounds.{IsPlayedRound, most_end, opening}
 
 -- Whatever is played of the rest from this map and shape, of so many members at most, is, behind what was played so far, played of all of them.
 pub record GoOn (slots most : ℕ) (base : Map) (anchors : Anchors) (plans : List RoundPlan) (reports : List RoundReport) (left : ℕ) (end : Map) (shape : Anchors) : Type 0 where
@@ -95,3 +106,52 @@ only-round slots most base anchors plans plan reports report is played first = b
 
 pub all-of-one : (P : RoundPlan → Type 0) (plans : List RoundPlan) (plan : RoundPlan) → plans ≡ plan ∷ [] → P plan → All P plans
 all-of-one P plans plan is holds = subst (All P) (sym is) (All-from_recursion P (plan ∷ []) (holds, tt))
+
+-- ---- what full answers are paid for by
+
+-- where a round leaves an index, the next one begins
+next-paid : (slots nodes weighs names most : ℕ) (base : Map) (anchors : Anchors) (records : List Record) → IsPaidFor slots nodes weighs names (fold (stands_after slots false) (opening most base anchors) records) →
+    IsPaidFor slots nodes weighs names (opening (most_end slots most base anchors records) (after_all base (writes_of records)) (anchors_end slots base anchors records))
+next-paid slots nodes weighs names most base anchors records paid =
+    let end = fold (stands_after slots false) (opening most base anchors) records in
+    let here : IsPaidFor slots nodes weighs names (opening end.most end.map end.anchors) = record { shape = paid.shape; within = paid.within; light = paid.light; few = paid.few } in
+    subst (λ (m : Map). IsPaidFor slots nodes weighs names (opening end.most m (anchors_end slots base anchors records))) (stood_map slots false (opening most base anchors) records)
+    (subst (λ (a : Anchors). IsPaidFor slots nodes weighs names (opening end.most end.map a)) (stood_anchors slots false (opening most base anchors) records) here)
+
+pub rounds-paid : (slots nodes weighs names most : ℕ) (base : Map) (anchors : Anchors) (plans : List RoundPlan) (reports : List RoundReport) → 2 ≤ slots →
+    IsPaidFor slots nodes weighs names (opening most base anchors) → ArePlayedRounds slots most base anchors plans reports → ArePaidRounds slots nodes weighs names reports
+rounds-paid slots nodes weighs names most base anchors [] [] enough here played = tt
+rounds-paid slots nodes weighs names most base anchors [] (report ∷ reports) enough here played = absurd played
+rounds-paid slots nodes weighs names most base anchors (plan ∷ plans) [] enough here played = absurd played
+rounds-paid slots nodes weighs names most base anchors (plan ∷ plans) (report ∷ reports) enough here played =
+    let round = played.0 in
+    let one = timely_rounds_are_paid slots nodes weighs names false plan.limit most base anchors report.records enough here round.answers round.spent round.full in
+    let next = next-paid slots nodes (weighs + puts_added report.records) (names + puts_added report.records) most base anchors report.records one.stands in (
+      one.paid,
+      rounds-paid slots nodes (weighs + puts_added report.records) (names + puts_added report.records) (most_end slots most base anchors report.records) (after_all base (writes_of report.records))
+          (anchors_end slots base anchors report.records) plans reports enough next played.1,
+    )
+
+-- an empty catalogue weighs what its one member does
+empty-paid : (slots nodes : ℕ) → 1 ≤ nodes → IsPaidFor slots nodes (slots / 2) 0 (opening nodes empty ([] ∷ []))
+empty-paid slots nodes some =
+    let none : len (empty {K = List ℕ} {X = ℕ} {R = name_cmp}) ≡ 0 = len-empty name_cmp ℕ in
+    let names = ap length (all-between empty) in
+    let size = len-keys empty in
+    let few : (nodes - nodes) * (slots / 2) ≡ 0 = ap (λ (n : ℕ). n * (slots / 2)) (let same : nodes - nodes ≡ 0 = omega arith in same) ∙ zero-mul (slots / 2) in
+    record {
+      shape = fresh_is_shape slots nodes empty some (omega (arith, none));
+      within = omega arith;
+      light = omega (arith, none, names, size, few);
+      few = omega (arith, none);
+    }
+
+pub paid-round : (slots nodes : ℕ) (plan : RoundPlan) (report : RoundReport) → 2 ≤ slots → 1 ≤ nodes → IsPlayedRound slots nodes empty ([] ∷ []) plan report (writes_of report.records) →
+    ArePaidFromEmpty slots nodes (report ∷ [])
+paid-round slots nodes plan report enough some played =
+    rounds-paid slots nodes (slots / 2) 0 nodes empty ([] ∷ []) (plan ∷ []) (report ∷ []) enough (empty-paid slots nodes some) (played, tt)
+
+pub paid-from-empty : (layout : Layout) (plans : List RoundPlan) (reports : List RoundReport) → IsLayout layout → ArePlayedRounds layout.slots layout.nodes empty ([] ∷ []) plans reports →
+    ArePaidFromEmpty layout.slots layout.nodes reports
+paid-from-empty layout plans reports is played =
+    rounds-paid layout.slots layout.nodes (layout.slots / 2) 0 layout.nodes empty ([] ∷ []) plans reports (omega (arith, is)) (empty-paid layout.slots layout.nodes (omega (arith, is))) played

@@ -31,7 +31,7 @@ use Rattle.cat_text.specs.declared.summary.Summary.{Summary}
 use Rattle.cat_history.specs.declared.plan.RoundPlan.{RoundPlan}
 use Rattle.catalog_cli.specs.Headline.{done, all_done, ArePlayedRounds, IsSummaryOf}
 use Rattle.catalog_cli.specs.Rounds.{IsPlayedRound}
-use Rattle.catalog_cli.proofs.Played.{only-round}
+use Rattle.catalog_cli.proofs.Played.{only-round, paid-round}
 use Rattle.catalog_cli.specs.LoneCalls.{AreLoneCalls, AreReportCalls, IsReportCall, calls_in}
 use Rattle.catalog_cli.specs.Summaries.{IsWithin, full_in, is_full, summary_of}
 
@@ -200,6 +200,7 @@ pub summed-up : (seed count : ℕ) (plan : RoundPlan) (report : RoundReport) (su
 summed-up seed count plan report summary text is round sums told = record {
   report = report;
   played = round.played;
+  paid = paid-round 64 1024 (generated_plan seed count 1) report (omega arith) (omega arith) round.played;
   told = told ∙ ap summary_line (sums ∙ ap (λ (p : RoundPlan). summary_of p.ops report.records (after_all empty (writes_of report.records))) is);
   in_order = round.in_order;
 }

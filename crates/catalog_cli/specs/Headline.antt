@@ -1,5 +1,5 @@
 -- What the program owes: what a script plays, what is reported of it, and what each status says of source and sink.
-use Rattle.std.specs.Prelude.{◌≡◌, ℕ, ◌<◌, ◌⊎◌, List, [], ◌∷◌, Option, IfSome, Some, None, All, length, take, fold}
+use Rattle.std.specs.Prelude.{◌≡◌, ℕ, ◌+◌, ◌/◌, ◌<◌, ◌⊎◌, List, [], ◌∷◌, Option, IfSome, Some, None, All, length, take, fold}
 use Rattle.std.specs.FinMap.{empty, insert, remove}
 use Rattle.std.specs.Io.KnownBytes.{Appends, Keeps}
 use Rattle.cat_command.specs.Commands.{IsCommand}
@@ -24,7 +24,7 @@ use Rattle.cat_text.specs.Summaries.{summary_line}
 use Rattle.cat_text.specs.declared.report.RoundReport.{RoundReport}
 use Rattle.pm_words.specs.declared.layout.Layout.{Layout}
 use Rattle.shapes.specs.Anchors.{Anchors}
-use Rattle.shapes.specs.ShapeRounds.{anchors_end}
+use Rattle.shapes.specs.ShapeRounds.{anchors_end, puts_added, FullIsPaid}
 use Rattle.catalog_cli.specs.Built.{unbuilt_command, first_unbuilt, IsCommandWord}
 use Rattle.catalog_cli.specs.Rounds.{IsPlayedRound, most_end}
 use Rattle.catalog_cli.specs.Summaries.{full_in, summary_of}
@@ -89,6 +89,18 @@ ArePlayedRounds slots most base anchors (plan ∷ plans) (report ∷ reports) =
     ArePlayedRounds slots (most_end slots most base anchors report.records)
     (after_all base (writes_of report.records)) (anchors_end slots base anchors report.records) plans reports
 
+-- In each round a call is answered full only where all nodes are paid for by the weight at the opening, and the slots of
+-- one by the names then, together with the puts since then, up to the end of that round, that added a name.
+abbrev pub ArePaidRounds : ℕ → ℕ → ℕ → ℕ → List RoundReport → Type 0
+ArePaidRounds slots nodes weighs names [] = Unit {0}
+ArePaidRounds slots nodes weighs names (report ∷ reports) =
+    All (FullIsPaid slots nodes (weighs + puts_added report.records) (names + puts_added report.records)) report.records ×
+    ArePaidRounds slots nodes (weighs + puts_added report.records) (names + puts_added report.records) reports
+
+-- The same from an empty catalogue: its one member weighs half as many as a node has slots.
+abbrev pub ArePaidFromEmpty : ℕ → ℕ → List RoundReport → Type 0
+ArePaidFromEmpty slots nodes reports = ArePaidRounds slots nodes (slots / 2) 0 reports
+
 -- The text is that of a report of legal rounds that the bytes, read as a script, ask for, from an empty catalogue of
 -- this layout: its one member has no names. The report is one of the grammar, so that its text tells it alone.
 pub record IsReportOf (layout : Layout) (bytes text : List ℕ) : Type 0 where
@@ -96,6 +108,7 @@ pub record IsReportOf (layout : Layout) (bytes text : List ℕ) : Type 0 where
   pub reports : List RoundReport
   pub accepted : IsAccepted layout.callers bytes script
   pub played : ArePlayedRounds layout.slots layout.nodes empty ([] ∷ []) script.rounds reports
+  pub paid : ArePaidFromEmpty layout.slots layout.nodes reports
   pub told : IsReportText text reports
 
 -- ---- generated rounds
@@ -117,6 +130,7 @@ all_done m asked = fold (λ now (a : CallerOp). done now a.op) m asked
 pub record IsSummaryOf (seed count : ℕ) (text : List ℕ) : Type 0 where
   pub report : RoundReport
   pub played : IsPlayedRound 64 1024 empty ([] ∷ []) (generated_plan seed count 1) report (writes_of report.records)
+  pub paid : ArePaidFromEmpty 64 1024 (report ∷ [])
   pub told : text ≡ summary_line (summary_of (generated_calls seed count 1) report.records
       (after_all empty (writes_of report.records)))
   pub in_order : full_in report.records ≡ 0 →

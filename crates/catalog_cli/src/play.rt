@@ -6,7 +6,7 @@ ghost use Rattle.cat_script.specs.Scripts.{IsScript};
 ghost use Rattle.pm_words.specs.Layouts.{IsLayout};
 ghost use Rattle.cat_text.specs.ReportGrammar.{IsReport, IsReportRound};
 ghost use Rattle.catalog_cli.specs.Built.{first_unbuilt};
-ghost use Rattle.catalog_cli.specs.Headline.{ArePlayedRounds};
+ghost use Rattle.catalog_cli.specs.Headline.{ArePaidFromEmpty, ArePlayedRounds};
 ghost use Rattle.catalog_cli.specs.LoneCalls.{AreLoneCalls, AreReportCalls, calls_in};
 
 use crate::core_map::CoreMap;
@@ -26,6 +26,7 @@ pub fn play(alloc: Global, layout: &Layout, script: &Script) -> Result<Report, N
     requires script { (bytes : List ℕ) × IsScript bytes script.now }
     requires built { first_unbuilt None script.now.lines ≡ None }
     ensures played { IfOk result (ArePlayedRounds layout.now.slots layout.now.nodes empty ([] ∷ []) script.now.rounds) }
+    ensures paid { IfOk result (ArePaidFromEmpty layout.now.slots layout.now.nodes) }
     ensures report { IfOk result IsReport }
 {
     play_plans(alloc, layout, script.rounds.as_slice())
@@ -42,6 +43,7 @@ pub(crate) fn play_plans(
     requires told { All (λ plan. AreReportCalls plan.ops) plans.now }
     requires calls { calls_in plans.now ≤ 100000 }
     ensures played { IfOk result (ArePlayedRounds layout.now.slots layout.now.nodes empty ([] ∷ []) plans.now) }
+    ensures paid { IfOk result (ArePaidFromEmpty layout.now.slots layout.now.nodes) }
     ensures report { IfOk result (All IsReportRound) }
 {
     play_on_core::<Brand>(alloc, layout, plans, Blank::new(1))

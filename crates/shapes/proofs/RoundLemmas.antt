@@ -21,7 +21,7 @@ use Rattle.shapes.specs.ShapeRounds.{anchors_after, HoldsInShape, anchors_end, P
 use Rattle.shapes.proofs.Shapes.{put_keeps_shape, delete_keeps_shape, put_weighs, delete_weighs, full_weighs}
 use Rattle.shapes.proofs.NameLists.{all_by}
 
-abbrev made : ℕ → ℕ → Op → Reply → Record
+abbrev pub made : ℕ → ℕ → Op → Reply → Record
 made caller index op reply = record { caller = caller; index = index; op = op; reply = reply }
 
 -- What one call makes of shape, weight and names.
@@ -31,24 +31,24 @@ pub record OneCall (slots nodes : ℕ) (m : Map) (anchors : Anchors) (r : Record
   pub names : len (after_all m (write_of r)) ≤ len m + one_added r.op r.reply
   pub paid : FullIsPaid slots nodes (weight slots m anchors) (len m) r
 
-old-not-full : (old : Option ℕ) (place : ℕ) → Old old place ≡ Full → ⊥
+pub old-not-full : (old : Option ℕ) (place : ℕ) → Old old place ≡ Full → ⊥
 old-not-full old place is = cc
 
-put-names : (m : Map) (name : List ℕ) (value : ℕ) → len (insert m name value) ≤ len m + one_lacking m name
+pub put-names : (m : Map) (name : List ℕ) (value : ℕ) → len (insert m name value) ≤ len m + one_lacking m name
 put-names m name value =
     elim (at m name) as (λ o. len (insert m name value) ≡ cond (is_some o) (len m) (len m + 1) → len (insert m name value) ≤ len m + one_if (is_none o)) [
       | None ↦ λ is. omega arith
       | Some old ↦ λ is. omega arith
     ] (len-insert nat_list_cmp_total m name value)
 
-del-names : (m : Map) (name : List ℕ) → len (remove m name) ≤ len m
+pub del-names : (m : Map) (name : List ℕ) → len (remove m name) ≤ len m
 del-names m name =
     elim (is_some (at m name)) as (λ b. len (remove m name) ≡ cond b (len m - 1) (len m) → len (remove m name) ≤ len m) [
       | true ↦ λ is. omega arith
       | false ↦ λ is. omega arith
     ] (len-remove nat_list_cmp_total m name)
 
-added-is : (m : Map) (name : List ℕ) (value place : ℕ) (old : Option ℕ) → old ≡ at m name → one_lacking m name ≡ one_added (Put name value) (Old old place)
+pub added-is : (m : Map) (name : List ℕ) (value place : ℕ) (old : Option ℕ) → old ≡ at m name → one_lacking m name ≡ one_added (Put name value) (Old old place)
 added-is m name value place None is = ap (λ o. one_if (is_none o)) (sym is)
 added-is m name value place (Some x) is = ap (λ o. one_if (is_none o)) (sym is)
 
@@ -97,7 +97,7 @@ module _ (slots nodes : ℕ) (m : Map) (anchors : Anchors) (enough : 2 ≤ slots
   one-call caller index (Del name) Full place answer exact = absurd answer
 
 -- more pays as well
-more-pays : (slots nodes weighs names weighs' names' : ℕ) → weighs ≤ weighs' → names ≤ names' → (r : Record) → FullIsPaid slots nodes weighs names r → FullIsPaid slots nodes weighs' names' r
+pub more-pays : (slots nodes weighs names weighs' names' : ℕ) → weighs ≤ weighs' → names ≤ names' → (r : Record) → FullIsPaid slots nodes weighs names r → FullIsPaid slots nodes weighs' names' r
 more-pays slots nodes weighs names weighs' names' heavier wider r paid full = let is = paid full in (omega (arith, is.0), omega (arith, is.1))
 
 -- What the records come to, by recursion.
@@ -107,7 +107,7 @@ record Along (slots nodes : ℕ) (m : Map) (anchors : Anchors) (records : List R
   pub names : len (after_all m (writes_of records)) ≤ len m + puts_added records
   pub paid : AllByRecursion (FullIsPaid slots nodes (weight slots m anchors + puts_added records) (len m + puts_added records)) records
 
-after-cons : (m : Map) (r : Record) (records : List Record) → after_all m (writes_of (r ∷ records)) ≡ after_all (after_all m (write_of r)) (writes_of records)
+pub after-cons : (m : Map) (r : Record) (records : List Record) → after_all m (writes_of (r ∷ records)) ≡ after_all (after_all m (write_of r)) (writes_of records)
 after-cons m r records = ap (after_all m) (writes_of-cons r records) ∙ fold-append (λ n (w : Write). changed n w.change) m (write_of r) (writes_of records)
 
 along : (slots nodes : ℕ) (m : Map) (anchors : Anchors) (place : ℕ) (records : List Record) → 2 ≤ slots → IsShape slots nodes m anchors →

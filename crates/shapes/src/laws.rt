@@ -6,6 +6,7 @@ ghost use Rattle.shapes.specs.Laws.{MembersPartNames, PutAgrees, DeleteAgrees, P
 ghost use Rattle.shapes.specs.Laws.{DeleteKeepsShape, PutKeepsMost, SplitIsEnough, PutWeighs, DeleteWeighs};
 ghost use Rattle.shapes.specs.Laws.{MergePays, FullWeighs, OneNodeIsRoom, HalfIsSplit, DropIsMerge, ScansAreOne};
 ghost use Rattle.shapes.specs.Laws.{ScansAreShort};
+ghost use Rattle.shapes.specs.PaidRounds.{TimelyRoundsArePaid};
 
 /// The members part the names of the map among them.
 pub fn parts_law()
@@ -62,4 +63,9 @@ pub fn switch_law()
 /// On one node, full by the shape is full by the room.
 pub fn run_law()
     ensures { OneNodeRounds }
+{}
+
+/// Full answers are paid for, where members that merges take away come back and where they don't.
+pub fn paid_law()
+    ensures { TimelyRoundsArePaid }
 {}
