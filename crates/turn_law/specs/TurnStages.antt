@@ -1,0 +1,38 @@
+-- Where a turn of the updater is between its steps, and what it has loaded.
+use Rattle.std.specs.Prelude.{ℕ, Bool, Option}
+
+-- A ready line as it was read: its number, its kind, its node, and its anchor.
+pub record ReadyLine : Type 0 where
+  pub line : ℕ
+  pub kind : ℕ
+  pub node : ℕ
+  pub anchor : ℕ
+
+-- Of an entry, `found` is the node that the list has at its anchor, or None where it has none.
+pub data TurnStage : Type 0 where
+  -- it hasn't the updater lock
+  Resting : TurnStage
+  -- it has the lock from here on, and comes to this line
+  Between : ℕ → TurnStage
+  -- it has loaded the state of this line, ready; then its kind; then its node
+  Sees : ℕ → TurnStage
+  SeesKind : ℕ → ℕ → TurnStage
+  SeesNode : ℕ → ℕ → ℕ → TurnStage
+  -- it has read the line, and looks for its anchor's target
+  Lands : ReadyLine → TurnStage
+  -- it has found what the list has at the anchor, and changes the layer
+  Changes : ReadyLine → Option ℕ → TurnStage
+  -- the layer has it, and is durable
+  Changed : ReadyLine → Option ℕ → TurnStage
+  -- it has stamped the merged node
+  Stamped : ReadyLine → Option ℕ → TurnStage
+  -- all lines are done; it comes to this node
+  Sweeps : ℕ → TurnStage
+  -- it has loaded this node's status, gone; then its stamp, within the release; then its version, not worn
+  Gone : ℕ → TurnStage
+  HasStamp : ℕ → ℕ → TurnStage
+  IsUnworn : ℕ → ℕ → TurnStage
+  -- it has taken this stamp away
+  Frees : ℕ → ℕ → TurnStage
+  -- all nodes are done; it loads their statuses once more, comes to this node, and has seen none free, or one
+  Counts : ℕ → Bool → TurnStage
