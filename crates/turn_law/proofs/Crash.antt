@@ -3,11 +3,11 @@ use Rattle.std.proofs.Common.{◌≡◌, ◌≢◌, ℕ, ◌==◌, true, false, 
 use Rattle.std.proofs.lemmas.Bool.{cases_eq, eqb-true, eq-eqb}
 use Rattle.turn_law.specs.Covers.{IsOpenFor, HasCover}
 use Rattle.turn_law.specs.Facts.{TurnTerms, TurnFacts, IsListed}
-use Rattle.turn_law.specs.TurnStages.{TurnStage, Resting, Between, Sees, SeesKind, SeesNode, Lands, Changes, Changed, Stamped, Sweeps, Gone, HasStamp, IsUnworn, Frees, Counts}
-use Rattle.turn_law.specs.TurnSteps.{takes_lock, leaves_lock, passes, sees, sees_kind, sees_node, sees_anchor, walks, leaves_line, decides, changes, has_changed, stamps, empties, empties_merge, sweeps, passes_node, sees_gone, passes_stamp, sees_stamp, passes_worn, sees_unworn, unstamps, frees, starts_count, counts_free, counts}
+use Rattle.turn_law.specs.TurnStages.{TurnStage, Resting, Between, Sees, SeesKind, SeesNode, Lands, Changes, Stamps, Clears, Sweeps, Gone, HasStamp, IsUnworn, Frees, Counts}
+use Rattle.turn_law.specs.TurnSteps.{takes_lock, leaves_lock, passes, sees, sees_kind, sees_node, sees_anchor, walks, leaves_line, decides, changes, has_changed_merge, has_changed_split, stamps, empties, sweeps, passes_node, sees_gone, passes_stamp, sees_stamp, passes_worn, sees_unworn, unstamps, frees, starts_count, counts_free, counts}
 use Rattle.turn_law.specs.Lawful.{TurnLawful}
 use Rattle.turn_law.specs.Fresh.{no_lines, fresh_facts}
-use Rattle.turn_law.specs.Laws.{LayerEvicts, CrashIsCovered, IsCoveredNow, KeysLeadApart, FreedAreReleased, StampWasTheNodes, FreshIsLawful}
+use Rattle.turn_law.specs.Laws.{LayerEvicts, CrashIsCovered, IsCoveredNow, KeysLeadApart, FreedAreReleased, StampWasReleased, FreshIsLawful}
 use Rattle.turn_law.proofs.Columns.{here, other}
 use Rattle.turn_law.proofs.Covers.{covered_more, covered_elsewhere, cover_is_open, cover_is_durable}
 use Rattle.turn_law.proofs.Kept.{Kept, sure_kept, led_kept}
@@ -51,19 +51,19 @@ durable_same c f (Changes e found) law k bare =
     let ready = law.ready e.line is.at_hand.state in
     let open_key : IsOpenFor f.safe_line e.anchor = record { line = e.line; state = ready.safe_state; anchor = ready.safe_anchor ∙ is.at_hand.anchor } in
     law.durable k (λ same. bare (subst (IsOpenFor f.safe_line) (sym same) open_key))
-durable_same c f (Changed e found) law k bare = law.durable k
+durable_same c f (Stamps e) law k bare = law.durable k
+durable_same c f (Clears j) law k bare = law.durable k
 durable_same c f Resting law k bare = law.durable k
 durable_same c f (Between j) law k bare = law.durable k
 durable_same c f (Sees j) law k bare = law.durable k
 durable_same c f (SeesKind j kind) law k bare = law.durable k
 durable_same c f (SeesNode j kind n) law k bare = law.durable k
 durable_same c f (Lands e) law k bare = law.durable k
-durable_same c f (Stamped e found) law k bare = law.durable k
 durable_same c f (Sweeps n) law k bare = law.durable k
 durable_same c f (Gone n) law k bare = law.durable k
-durable_same c f (HasStamp n x) law k bare = law.durable k
-durable_same c f (IsUnworn n x) law k bare = law.durable k
-durable_same c f (Frees n x) law k bare = law.durable k
+durable_same c f (HasStamp n) law k bare = law.durable k
+durable_same c f (IsUnworn n) law k bare = law.durable k
+durable_same c f (Frees n) law k bare = law.durable k
 durable_same c f (Counts n none) law k bare = law.durable k
 
 pub crash_is_covered : CrashIsCovered
@@ -79,39 +79,39 @@ keys_lead_apart c f s law j k n to_n to_n' = sym (law.led j n to_n).anchor ∙ (
 
 -- Of the turn's steps one alone makes a node free.
 pub freed_are_released : FreedAreReleased
-freed_are_released c f f' s t n law takes_lock is none = absurd (is none)
-freed_are_released c f f' s t n law (passes j other_state) is none = absurd (is none)
-freed_are_released c f f' s t n law (sees j ready) is none = absurd (is none)
-freed_are_released c f f' s t n law (sees_kind j) is none = absurd (is none)
-freed_are_released c f f' s t n law (sees_node j kind) is none = absurd (is none)
-freed_are_released c f f' s t n law (sees_anchor j kind node) is none = absurd (is none)
-freed_are_released c f f' s t n law walks is none = absurd (is none)
-freed_are_released c f f' s t n law (leaves_line e) is none = absurd (is none)
-freed_are_released c f f' s t n law (decides e m target free within) is none = absurd (is none)
-freed_are_released c f f' s t n law (changes e found layer safe same here_or durable) is none = absurd (is none)
-freed_are_released c f f' s t n law (has_changed e found layer safe same here_is durable) is none = absurd (is none)
-freed_are_released c f f' s t n law (stamps e found kind) is none = absurd (is none)
-freed_are_released c f f' s t n law (empties e found kind) is none = absurd (is none)
-freed_are_released c f f' s t n law (empties_merge e found) is none = absurd (is none)
-freed_are_released c f f' s t n law (sweeps j done) is none = absurd (is none)
-freed_are_released c f f' s t n law (passes_node m other_status) is none = absurd (is none)
-freed_are_released c f f' s t n law (sees_gone m gone) is none = absurd (is none)
-freed_are_released c f f' s t n law (passes_stamp m why) is none = absurd (is none)
-freed_are_released c f f' s t n law (sees_stamp m some_stamp at_most) is none = absurd (is none)
-freed_are_released c f f' s t n law (passes_worn m stamp worn) is none = absurd (is none)
-freed_are_released c f f' s t n law (sees_unworn m stamp unworn) is none = absurd (is none)
-freed_are_released c f f' s t n law (unstamps m stamp) is none = absurd (is none)
-freed_are_released c f f' s t n law (starts_count m done) is none = absurd (is none)
-freed_are_released c f f' s t n law (counts_free m all free) is none = absurd (is none)
-freed_are_released c f f' s t n law (counts m all taken) is none = absurd (is none)
-freed_are_released c f f' s t n law (leaves_lock m all done) is none = absurd (is none)
-freed_are_released c f f' s t n law (frees m stamp) is none = elim (cases_eq n m) [
-  | inl same ↦ record { stamp = stamp; stage = ap (λ k. Frees k stamp) (sym same); some_stamp = law.sure.1; release = law.sure.2 }
+freed_are_released c f f' s t n takes_lock is none = absurd (is none)
+freed_are_released c f f' s t n (passes j other_state) is none = absurd (is none)
+freed_are_released c f f' s t n (sees j ready) is none = absurd (is none)
+freed_are_released c f f' s t n (sees_kind j) is none = absurd (is none)
+freed_are_released c f f' s t n (sees_node j kind) is none = absurd (is none)
+freed_are_released c f f' s t n (sees_anchor j kind node) is none = absurd (is none)
+freed_are_released c f f' s t n walks is none = absurd (is none)
+freed_are_released c f f' s t n (leaves_line e) is none = absurd (is none)
+freed_are_released c f f' s t n (decides e m target free within) is none = absurd (is none)
+freed_are_released c f f' s t n (changes e found layer safe same here_or durable) is none = absurd (is none)
+freed_are_released c f f' s t n (has_changed_merge e found layer safe same here_is durable kind) is none = absurd (is none)
+freed_are_released c f f' s t n (has_changed_split e found layer safe same here_is durable kind) is none = absurd (is none)
+freed_are_released c f f' s t n (stamps e) is none = absurd (is none)
+freed_are_released c f f' s t n (empties j) is none = absurd (is none)
+freed_are_released c f f' s t n (sweeps j done) is none = absurd (is none)
+freed_are_released c f f' s t n (passes_node m other_status) is none = absurd (is none)
+freed_are_released c f f' s t n (sees_gone m gone) is none = absurd (is none)
+freed_are_released c f f' s t n (passes_stamp m why) is none = absurd (is none)
+freed_are_released c f f' s t n (sees_stamp m some_stamp at_most) is none = absurd (is none)
+freed_are_released c f f' s t n (passes_worn m worn) is none = absurd (is none)
+freed_are_released c f f' s t n (sees_unworn m unworn) is none = absurd (is none)
+freed_are_released c f f' s t n (unstamps m) is none = absurd (is none)
+freed_are_released c f f' s t n (starts_count m done) is none = absurd (is none)
+freed_are_released c f f' s t n (counts_free m all free) is none = absurd (is none)
+freed_are_released c f f' s t n (counts m all taken) is none = absurd (is none)
+freed_are_released c f f' s t n (leaves_lock m all done) is none = absurd (is none)
+freed_are_released c f f' s t n (frees m) is none = elim (cases_eq n m) [
+  | inl same ↦ ap Frees (sym same)
   | inr ne ↦ absurd (is (sym (other f.status m n 0 ne) ∙ none))
 ]
 
-pub stamp_was_the_nodes : StampWasTheNodes
-stamp_was_the_nodes c f f' s n stamp law (unstamps _ _) = (law.sure.0.stamp, here f.stamp n n 0 refl)
+pub stamp_was_released : StampWasReleased
+stamp_was_released c f f' s n law (unstamps _) = (law.sure.0, here f.stamp n n 0 refl)
 
 -- a fresh index
 fresh_leads : (key node : ℕ) → fresh_facts.layer key ≡ Some node → (key ≡ 0) × (node ≡ 0)

@@ -1,10 +1,10 @@
 -- What the turn relies on stays while others step.
-use Rattle.std.proofs.Common.{◌≡◌, ◌≢◌, ℕ, ◌⊎◌, true, false, Option, inl, inr, sym, ap, ◌∙◌, arith}
+use Rattle.std.proofs.Common.{◌≡◌, ◌≢◌, ℕ, ◌≤◌, ◌⊎◌, true, false, Option, inl, inr, sym, subst, ap, ◌∙◌, arith}
 use Rattle.turn_law.specs.Covers.{IsCover}
 use Rattle.turn_law.specs.Covered.{ListHas}
 use Rattle.turn_law.specs.Facts.{TurnTerms, TurnFacts, IsListed}
-use Rattle.turn_law.specs.TurnStages.{ReadyLine, TurnStage, Resting, Between, Sees, SeesKind, SeesNode, Lands, Changes, Changed, Stamped, Sweeps, Gone, HasStamp, IsUnworn, Frees, Counts}
-use Rattle.turn_law.specs.Lawful.{IsAtHand, IsDecided, IsFreeing, IsStampedNode, SureTurn, IsLed}
+use Rattle.turn_law.specs.TurnStages.{ReadyLine, TurnStage, Resting, Between, Sees, SeesKind, SeesNode, Lands, Changes, Stamps, Clears, Sweeps, Gone, HasStamp, IsUnworn, Frees, Counts}
+use Rattle.turn_law.specs.Lawful.{IsAtHand, IsDecided, IsFreeing, IsReleased, SureTurn, IsLed}
 
 -- of the lines
 pub record KeptLines (f f' : TurnFacts) : Type 0 where
@@ -88,13 +88,15 @@ module _ (c : TurnTerms) (f f' : TurnFacts) (kept : Kept f f') where
     ];
   }
 
-  stamped_kept : (n s : ℕ) → IsStampedNode c f n s → IsStampedNode c f' n s
-  stamped_kept n s is = record {
+  released_kept : (n : ℕ) → IsReleased c f n → IsReleased c f' n
+  released_kept n is = record {
     gone = kept.nodes.gone n is.gone;
-    stamp = kept.nodes.stamp n ∙ is.stamp;
-    some_stamp = is.some_stamp;
-    release = is.release;
+    some_stamp = λ none. is.some_stamp (sym (kept.nodes.stamp n) ∙ none);
+    release = subst (λ s. s ≤ c.release) (sym (kept.nodes.stamp n)) is.release;
   }
+
+  decided_still : (e : ReadyLine) → (e.kind ≡ 2 → f.status e.node ≡ 2) → IsDecided c f e (f.layer e.anchor) → IsDecided c f' e (f'.layer e.anchor)
+  decided_still e gone is = subst (λ found. IsDecided c f' e found) (sym (layer_kept e.anchor)) (decided_kept e (f.layer e.anchor) gone is)
 
   -- the merged node of the line at hand is gone
   pub sure_kept : (s : TurnStage) → ((e : ReadyLine) → IsAtHand f e → e.kind ≡ 2 → f.status e.node ≡ 2) → SureTurn c f s → SureTurn c f' s
@@ -105,13 +107,18 @@ module _ (c : TurnTerms) (f f' : TurnFacts) (kept : Kept f f') where
   sure_kept (SeesNode j kind node) merged sure = (kept.lines.state j sure.0, kept.lines.kind j sure.0 ∙ sure.1, kept.lines.node j sure.0 ∙ sure.2)
   sure_kept (Lands e) merged sure = at_hand_kept e sure
   sure_kept (Changes e found) merged sure = decided_kept e found (merged e sure.at_hand) sure
-  sure_kept (Changed e found) merged sure = (decided_kept e found (merged e sure.0.at_hand) sure.0, layer_kept e.anchor ∙ sure.1)
-  sure_kept (Stamped e found) merged sure = (decided_kept e found (merged e sure.0.at_hand) sure.0, sure.1, kept.nodes.stamp e.node ∙ sure.2, layer_kept e.anchor ∙ sure.3)
+  sure_kept (Stamps e) merged sure = (decided_still e (merged e sure.0.at_hand) sure.0, sure.1)
+  sure_kept (Clears j) merged sure = record {
+    entry = sure.entry;
+    line = sure.line;
+    decided = decided_still sure.entry (merged sure.entry sure.decided.at_hand) sure.decided;
+    stamped = λ kind. kept.nodes.stamp sure.entry.node ∙ sure.stamped kind;
+  }
   sure_kept (Sweeps n) merged sure = tt
   sure_kept (Gone n) merged sure = kept.nodes.gone n sure
-  sure_kept (HasStamp n s) merged sure = stamped_kept n s sure
-  sure_kept (IsUnworn n s) merged sure = (stamped_kept n s sure.0, kept.nodes.worn n ∙ sure.1)
-  sure_kept (Frees n s) merged sure = (freeing_kept n sure.0, sure.1, sure.2)
+  sure_kept (HasStamp n) merged sure = released_kept n sure
+  sure_kept (IsUnworn n) merged sure = (released_kept n sure.0, kept.nodes.worn n ∙ sure.1)
+  sure_kept (Frees n) merged sure = freeing_kept n sure
   sure_kept (Counts n none) merged sure = λ all m lt. kept.nodes.status m (sure all m lt)
 
   pub led_kept : (s : TurnStage) (key node : ℕ) → IsLed f s key node → IsLed f' s key node

@@ -3,8 +3,8 @@ use Rattle.std.proofs.Common.{◌≡◌, ◌≢◌, ℕ, suc, ◌<◌, ◌⊎◌
 use Rattle.std.proofs.lemmas.Bool.{cases_eq, cases_lt}
 use Rattle.turn_law.specs.Covers.{set_at}
 use Rattle.turn_law.specs.Facts.{TurnTerms, TurnFacts}
-use Rattle.turn_law.specs.TurnStages.{TurnStage, Resting, Between, Sees, SeesKind, SeesNode, Lands, Changes, Changed, Stamped, Sweeps, Gone, HasStamp, IsUnworn, Frees, Counts}
-use Rattle.turn_law.specs.TurnSteps.{TurnStep, takes_lock, leaves_lock, passes, sees, sees_kind, sees_node, sees_anchor, walks, leaves_line, decides, changes, has_changed, stamps, empties, empties_merge, sweeps, passes_node, sees_gone, passes_stamp, sees_stamp, passes_worn, sees_unworn, unstamps, frees, starts_count, counts_free, counts}
+use Rattle.turn_law.specs.TurnStages.{TurnStage, Resting, Between, Sees, SeesKind, SeesNode, Lands, Changes, Stamps, Clears, Sweeps, Gone, HasStamp, IsUnworn, Frees, Counts}
+use Rattle.turn_law.specs.TurnSteps.{TurnStep, takes_lock, leaves_lock, passes, sees, sees_kind, sees_node, sees_anchor, walks, leaves_line, decides, changes, has_changed_merge, has_changed_split, stamps, empties, sweeps, passes_node, sees_gone, passes_stamp, sees_stamp, passes_worn, sees_unworn, unstamps, frees, starts_count, counts_free, counts}
 use Rattle.turn_law.specs.Lawful.{TurnLawful}
 use Rattle.turn_law.specs.Lone.{IsAlone, Leaves, LoneRun, starts, steps, AreEmpty, AreFreedTo, LoneTurn}
 use Rattle.turn_law.proofs.Columns.{here, other}
@@ -23,13 +23,13 @@ IsDone c f (SeesKind j kind) = AreEmptyTo f j
 IsDone c f (SeesNode j kind node) = AreEmptyTo f j
 IsDone c f (Lands e) = AreEmptyTo f e.line
 IsDone c f (Changes e found) = AreEmptyTo f e.line
-IsDone c f (Changed e found) = AreEmptyTo f e.line
-IsDone c f (Stamped e found) = AreEmptyTo f e.line
+IsDone c f (Stamps e) = AreEmptyTo f e.line
+IsDone c f (Clears j) = AreEmptyTo f j
 IsDone c f (Sweeps n) = AreEmpty f × AreFreedTo c f n
 IsDone c f (Gone n) = AreEmpty f × AreFreedTo c f n
-IsDone c f (HasStamp n s) = AreEmpty f × AreFreedTo c f n
-IsDone c f (IsUnworn n s) = AreEmpty f × AreFreedTo c f n
-IsDone c f (Frees n s) = AreEmpty f × AreFreedTo c f n
+IsDone c f (HasStamp n) = AreEmpty f × AreFreedTo c f n
+IsDone c f (IsUnworn n) = AreEmpty f × AreFreedTo c f n
+IsDone c f (Frees n) = AreEmpty f × AreFreedTo c f n
 IsDone c f (Counts n none) = AreEmpty f × AreFreedTo c f c.nodes
 
 -- with a line emptied
@@ -60,19 +60,19 @@ alone_after c walks is = is
 alone_after c (leaves_line e) is = is
 alone_after c (decides e m target free within) is = is
 alone_after c (changes e found layer safe same here_or durable) is = record { free = is.free; lines = is.lines; beyond = is.beyond }
-alone_after c (has_changed e found layer safe same here_is durable) is = record { free = is.free; lines = is.lines; beyond = is.beyond }
-alone_after c (stamps e found kind) is = record { free = is.free; lines = is.lines; beyond = is.beyond }
-alone_after c {f = f} (empties e found kind) is = alone_emptied c f e.line is
-alone_after c {f = f} (empties_merge e found) is = alone_emptied c f e.line is
+alone_after c (has_changed_merge e found layer safe same here_is durable kind) is = record { free = is.free; lines = is.lines; beyond = is.beyond }
+alone_after c (has_changed_split e found layer safe same here_is durable kind) is = record { free = is.free; lines = is.lines; beyond = is.beyond }
+alone_after c (stamps e) is = record { free = is.free; lines = is.lines; beyond = is.beyond }
+alone_after c {f = f} (empties j) is = alone_emptied c f j is
 alone_after c (sweeps j done) is = is
 alone_after c (passes_node m other_status) is = is
 alone_after c (sees_gone m gone) is = is
 alone_after c (passes_stamp m why) is = is
 alone_after c (sees_stamp m some_stamp at_most) is = is
-alone_after c (passes_worn m stamp worn) is = is
-alone_after c (sees_unworn m stamp unworn) is = is
-alone_after c (unstamps m stamp) is = record { free = is.free; lines = is.lines; beyond = is.beyond }
-alone_after c (frees m stamp) is = record { free = is.free; lines = is.lines; beyond = is.beyond }
+alone_after c (passes_worn m worn) is = is
+alone_after c (sees_unworn m unworn) is = is
+alone_after c (unstamps m) is = record { free = is.free; lines = is.lines; beyond = is.beyond }
+alone_after c (frees m) is = record { free = is.free; lines = is.lines; beyond = is.beyond }
 alone_after c (starts_count m done) is = is
 alone_after c (counts_free m all free) is = is
 alone_after c (counts m all taken) is = is
@@ -106,10 +106,10 @@ done_after c walks stays law alone done = done
 done_after c (leaves_line e) stays law alone done = absurd (stays tt)
 done_after c (decides e m target free within) stays law alone done = done
 done_after c (changes e found layer safe same here_or durable) stays law alone done = done
-done_after c (has_changed e found layer safe same here_is durable) stays law alone done = done
-done_after c (stamps e found kind) stays law alone done = done
-done_after c {f = f} (empties e found kind) stays law alone done = emptied_to f e.line done
-done_after c {f = f} (empties_merge e found) stays law alone done = emptied_to f e.line done
+done_after c (has_changed_merge e found layer safe same here_is durable kind) stays law alone done = done
+done_after c (has_changed_split e found layer safe same here_is durable kind) stays law alone done = done
+done_after c (stamps e) stays law alone done = done
+done_after c {f = f} (empties j) stays law alone done = emptied_to f j done
 done_after c (sweeps j past) stays law alone done = (
   λ i. elim (cases_lt i j) [ inl below ↦ done i below | inr above ↦ alone.beyond i (omega arith) ],
   λ m lt. absurd (omega arith),
@@ -119,16 +119,16 @@ done_after c (sees_gone n gone) stays law alone done = done
 done_after c {f = f} (passes_stamp n why) stays law alone done =
     (done.0, freed_more c f n done.1 (λ gone. elim why [ inl bare ↦ absurd (has_stamp c f n law alone done.0 bare) | inr past ↦ inr past ]))
 done_after c (sees_stamp n some_stamp at_most) stays law alone done = done
-done_after c {f = f} (passes_worn n stamp worn) stays law alone done = (done.0, freed_more c f n done.1 (λ gone. inl worn))
-done_after c (sees_unworn n stamp unworn) stays law alone done = done
-done_after c {f = f} (unstamps n stamp) stays law alone done = (
+done_after c {f = f} (passes_worn n worn) stays law alone done = (done.0, freed_more c f n done.1 (λ gone. inl worn))
+done_after c (sees_unworn n unworn) stays law alone done = done
+done_after c {f = f} (unstamps n) stays law alone done = (
   done.0,
   λ m lt gone. elim (done.1 m lt gone) [
     | inl worn ↦ inl worn
     | inr past ↦ inr (let same : set_at f.stamp n 0 m ≡ f.stamp m = other f.stamp n m 0 (λ e. omega arith) in omega arith)
   ],
 )
-done_after c {f = f} (frees n stamp) stays law alone done = (
+done_after c {f = f} (frees n) stays law alone done = (
   done.0,
   λ m lt gone. elim (cases_eq m n) [
     | inl e ↦ absurd (let none : set_at f.status n 0 m ≡ 0 = here f.status n m 0 e in omega arith)
@@ -155,19 +155,19 @@ list_after c walks = record { listed = refl; anchor = refl }
 list_after c (leaves_line e) = record { listed = refl; anchor = refl }
 list_after c (decides e m target free within) = record { listed = refl; anchor = refl }
 list_after c (changes e found layer safe same here_or durable) = record { listed = refl; anchor = refl }
-list_after c (has_changed e found layer safe same here_is durable) = record { listed = refl; anchor = refl }
-list_after c (stamps e found kind) = record { listed = refl; anchor = refl }
-list_after c (empties e found kind) = record { listed = refl; anchor = refl }
-list_after c (empties_merge e found) = record { listed = refl; anchor = refl }
+list_after c (has_changed_merge e found layer safe same here_is durable kind) = record { listed = refl; anchor = refl }
+list_after c (has_changed_split e found layer safe same here_is durable kind) = record { listed = refl; anchor = refl }
+list_after c (stamps e) = record { listed = refl; anchor = refl }
+list_after c (empties j) = record { listed = refl; anchor = refl }
 list_after c (sweeps j done) = record { listed = refl; anchor = refl }
 list_after c (passes_node m other_status) = record { listed = refl; anchor = refl }
 list_after c (sees_gone m gone) = record { listed = refl; anchor = refl }
 list_after c (passes_stamp m why) = record { listed = refl; anchor = refl }
 list_after c (sees_stamp m some_stamp at_most) = record { listed = refl; anchor = refl }
-list_after c (passes_worn m stamp worn) = record { listed = refl; anchor = refl }
-list_after c (sees_unworn m stamp unworn) = record { listed = refl; anchor = refl }
-list_after c (unstamps m stamp) = record { listed = refl; anchor = refl }
-list_after c (frees m stamp) = record { listed = refl; anchor = refl }
+list_after c (passes_worn m worn) = record { listed = refl; anchor = refl }
+list_after c (sees_unworn m unworn) = record { listed = refl; anchor = refl }
+list_after c (unstamps m) = record { listed = refl; anchor = refl }
+list_after c (frees m) = record { listed = refl; anchor = refl }
 list_after c (starts_count m done) = record { listed = refl; anchor = refl }
 list_after c (counts_free m all free) = record { listed = refl; anchor = refl }
 list_after c (counts m all taken) = record { listed = refl; anchor = refl }

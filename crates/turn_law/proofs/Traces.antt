@@ -1,9 +1,9 @@
 -- Steps of a turn and of others, one after another.
-use Rattle.std.proofs.Common.{◌≡◌, ℕ, ◌≤◌, refl, sym, subst, ap, ◌∙◌}
+use Rattle.std.proofs.Common.{◌≡◌, ℕ, refl, subst}
 use Rattle.turn_law.specs.Facts.{TurnTerms, TurnFacts}
 use Rattle.turn_law.specs.TurnStages.{TurnStage, Resting, IsUnworn, Frees}
 use Rattle.turn_law.specs.TurnSteps.{TurnStep, unstamps}
-use Rattle.turn_law.specs.Lawful.{TurnLawful}
+use Rattle.turn_law.specs.Lawful.{IsReleased, TurnLawful}
 use Rattle.turn_law.specs.Traces.{Trace, starts, turns, others, evicts, WasStamped, FreedWereStamped, TracesKeep}
 use Rattle.turn_law.proofs.TurnLaw.{turn_keeps}
 use Rattle.turn_law.proofs.Others.{other_keeps}
@@ -18,25 +18,21 @@ keeps c law (evicts {f' = f'} {t = t} safe trace durable) = layer_evicts c f' t 
 pub traces_keep : TracesKeep
 traces_keep c f f' s t law trace = keeps c law trace
 
-was : (c : TurnTerms) (n stamp : ℕ) {f f' : TurnFacts} {t : TurnStage} → TurnLawful c f Resting → Trace c f Resting f' t → t ≡ Frees n stamp → WasStamped c f n stamp
-was c n stamp law starts is = absurd (cc)
-was c n stamp law (others trace step) is = was c n stamp law trace is
-was c n stamp law (evicts safe trace durable) is = was c n stamp law trace is
-was c n stamp {f = f} law (turns {f' = f'} {f'' = f''} {t = t} {u = u} trace step) is = last step trace is
+was : (c : TurnTerms) (n : ℕ) {f f' : TurnFacts} {t : TurnStage} → TurnLawful c f Resting → Trace c f Resting f' t → t ≡ Frees n → WasStamped c f n
+was c n law starts is = absurd (cc)
+was c n law (others trace step) is = was c n law trace is
+was c n law (evicts safe trace durable) is = was c n law trace is
+was c n {f = f} law (turns {f' = f'} {f'' = f''} {t = t} {u = u} trace step) is = last step trace is
   where
-    last : {g g' : TurnFacts} {s u : TurnStage} → TurnStep c g s g' u → Trace c f Resting g s → u ≡ Frees n stamp → WasStamped c f n stamp
-    last {g = g} (unstamps m x) trace is =
+    last : {g g' : TurnFacts} {s u : TurnStage} → TurnStep c g s g' u → Trace c f Resting g s → u ≡ Frees n → WasStamped c f n
+    last {g = g} (unstamps m) trace is =
         let node : m ≡ n = cc in
-        let same : x ≡ stamp = cc in
-        let sure = (keeps c law trace).sure in
         record {
           then_facts = g;
-          earlier = subst (λ k. Trace c f Resting g (IsUnworn k stamp)) node (subst (λ k. Trace c f Resting g (IsUnworn m k)) same trace);
-          had = ap g.stamp (sym node) ∙ sure.0.stamp ∙ same;
-          some_stamp = λ none. sure.0.some_stamp (same ∙ none);
-          release = subst (λ k. k ≤ c.release) same sure.0.release;
+          earlier = subst (λ k. Trace c f Resting g (IsUnworn k)) node trace;
+          released = subst (λ k. IsReleased c g k) node (keeps c law trace).sure.0;
         }
     last _ trace is = absurd (cc)
 
 pub freed_were_stamped : FreedWereStamped
-freed_were_stamped c f f' n stamp law trace = was c n stamp law trace refl
+freed_were_stamped c f f' n law trace = was c n law trace refl

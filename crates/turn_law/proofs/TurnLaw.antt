@@ -5,8 +5,8 @@ use Rattle.search_layer.specs.Layers.{AreSame}
 use Rattle.turn_law.specs.Covers.{set_at, Lines, IsCover, HasCover}
 use Rattle.turn_law.specs.Covered.{IsCovered, IsTarget}
 use Rattle.turn_law.specs.Facts.{TurnTerms, TurnFacts, IsListed}
-use Rattle.turn_law.specs.TurnStages.{ReadyLine, TurnStage, Resting, Between, Sees, SeesKind, SeesNode, Lands, Changes, Changed, Stamped, Sweeps, Gone, HasStamp, IsUnworn, Frees, Counts}
-use Rattle.turn_law.specs.TurnSteps.{AreSameBut, takes_lock, leaves_lock, passes, sees, sees_kind, sees_node, sees_anchor, walks, leaves_line, decides, changes, has_changed, stamps, empties, empties_merge, sweeps, passes_node, sees_gone, passes_stamp, sees_stamp, passes_worn, sees_unworn, unstamps, frees, starts_count, counts_free, counts}
+use Rattle.turn_law.specs.TurnStages.{ReadyLine, TurnStage, Resting, Between, Sees, SeesKind, SeesNode, Lands, Changes, Stamps, Clears, Sweeps, Gone, HasStamp, IsUnworn, Frees, Counts}
+use Rattle.turn_law.specs.TurnSteps.{AreSameBut, emptied, takes_lock, leaves_lock, passes, sees, sees_kind, sees_node, sees_anchor, walks, leaves_line, decides, changes, has_changed_merge, has_changed_split, stamps, empties, sweeps, passes_node, sees_gone, passes_stamp, sees_stamp, passes_worn, sees_unworn, unstamps, frees, starts_count, counts_free, counts}
 use Rattle.turn_law.specs.Lawful.{IsAtHand, IsFit, IsDecided, SureTurn, IsDurableBut, IsNotFreed, IsStamped, IsReadyMerge, IsBeingFreed, TurnLawful}
 use Rattle.turn_law.specs.Laws.{TurnKeeps}
 use Rattle.turn_law.proofs.Columns.{here, other}
@@ -129,12 +129,12 @@ layer_keeps c f e found layer safe t law same here_or durable free sure = record
 }
 
 -- the stamp of a merged node
-stamps_keep : (c : TurnTerms) (f : TurnFacts) (e : ReadyLine) (found : Option ℕ) → TurnLawful c f (Changed e found) → e.kind ≡ 2 → TurnLawful c (record f { stamp = set_at f.stamp e.node c.stamp }) (Stamped e found)
-stamps_keep c f e found law kind =
+stamps_keep : (c : TurnTerms) (f : TurnFacts) (e : ReadyLine) → TurnLawful c f (Stamps e) → TurnLawful c (record f { stamp = set_at f.stamp e.node c.stamp }) (Clears e.line)
+stamps_keep c f e law =
+    let kind : e.kind ≡ 2 = law.sure.1 in
     let is = law.sure.0 in
     let merge = law.merges e.line is.at_hand.state (is.at_hand.kind ∙ kind) in
     let node_anchor : f.anchor e.node ≡ e.anchor = ap f.anchor (sym is.at_hand.node) ∙ merge.anchor ∙ is.at_hand.anchor in
-    let has : f.layer e.anchor ≡ found = law.sure.1 in
     let bare : (m : ℕ) → m ≢ e.node → f.stamp m ≡ 0 → set_at f.stamp e.node c.stamp m ≡ 0 = λ m ne none. other f.stamp e.node m c.stamp ne ∙ none in
     record {
       stamped_by = law.stamped_by;
@@ -143,7 +143,7 @@ stamps_keep c f e found law kind =
           let led = law.led k node leads in
           let apart : node ≢ e.node = λ same.
           let at_key : k ≡ e.anchor = sym led.anchor ∙ ap f.anchor same ∙ node_anchor in
-          let found_is : found ≡ Some node = sym has ∙ ap f.layer (sym at_key) ∙ leads in
+          let found_is : f.layer e.anchor ≡ Some node = ap f.layer (sym at_key) ∙ leads in
           (is.fits node found_is).other kind same in
           record { anchor = led.anchor; status = led.status; stamp = bare node apart led.stamp; not_freed = tt };
       covered = law.covered;
@@ -170,17 +170,17 @@ stamps_keep c f e found law kind =
         ];
         alone = m.alone;
       };
-      sure = (
-        record {
+      sure = record {
+        entry = e;
+        line = refl;
+        decided = record {
           at_hand = record { state = is.at_hand.state; kind = is.at_hand.kind; node = is.at_hand.node; anchor = is.at_hand.anchor };
           stands = is.stands;
           fits = λ m same. let fit = is.fits m same in record { within = fit.within; anchor = fit.anchor; status = fit.status; stamp = bare m (fit.other kind) fit.stamp; other = fit.other };
           free = is.free;
-        },
-        kind,
-        here f.stamp e.node e.node c.stamp refl,
-        has,
-      );
+        };
+        stamped = λ _. here f.stamp e.node e.node c.stamp refl;
+      };
     }
 
 -- the line is emptied
@@ -231,9 +231,9 @@ empties_keep c f s e found law is has durable not_stamped not_freed stamped =
     }
 
 -- the stamp is taken away
-unstamps_keep : (c : TurnTerms) (f : TurnFacts) (n stamp : ℕ) → TurnLawful c f (IsUnworn n stamp) → TurnLawful c (record f { stamp = set_at f.stamp n 0 }) (Frees n stamp)
-unstamps_keep c f n stamp law =
-    let marked : f.stamp n ≢ 0 = λ none. law.sure.0.some_stamp (sym law.sure.0.stamp ∙ none) in
+unstamps_keep : (c : TurnTerms) (f : TurnFacts) (n : ℕ) → TurnLawful c f (IsUnworn n) → TurnLawful c (record f { stamp = set_at f.stamp n 0 }) (Frees n)
+unstamps_keep c f n law =
+    let marked : f.stamp n ≢ 0 = law.sure.0.some_stamp in
     let bare : (m : ℕ) → f.stamp m ≡ 0 → set_at f.stamp n 0 m ≡ 0 = λ m none. elim (cases_eq m n) [ inl same ↦ here f.stamp n m 0 same | inr ne ↦ other f.stamp n m 0 ne ∙ none ] in
     record {
       stamped_by = law.stamped_by;
@@ -261,23 +261,19 @@ unstamps_keep c f n stamp law =
         stamp = elim m.stamp [ inl none ↦ inl (bare (f.line.node j) none) | inr mine ↦ absurd mine ];
         alone = m.alone;
       };
-      sure = (
-        record {
-          gone = law.sure.0.gone;
-          bare = here f.stamp n n 0 refl;
-          free = (law.marked n marked).1;
-          unworn = law.sure.1;
-          alone = λ j ready kind same. elim (law.merges j ready kind).stamp [ inl none ↦ marked (ap f.stamp (sym same) ∙ none) | inr mine ↦ absurd mine ];
-        },
-        law.sure.0.some_stamp,
-        law.sure.0.release,
-      );
+      sure = record {
+        gone = law.sure.0.gone;
+        bare = here f.stamp n n 0 refl;
+        free = (law.marked n marked).1;
+        unworn = law.sure.1;
+        alone = λ j ready kind same. elim (law.merges j ready kind).stamp [ inl none ↦ marked (ap f.stamp (sym same) ∙ none) | inr mine ↦ absurd mine ];
+      };
     }
 
 -- and the node is free
-frees_keep : (c : TurnTerms) (f : TurnFacts) (n stamp : ℕ) → TurnLawful c f (Frees n stamp) → TurnLawful c (record f { status = set_at f.status n 0 }) (Sweeps (suc n))
-frees_keep c f n stamp law =
-    let is = law.sure.0 in
+frees_keep : (c : TurnTerms) (f : TurnFacts) (n : ℕ) → TurnLawful c f (Frees n) → TurnLawful c (record f { status = set_at f.status n 0 }) (Sweeps (suc n))
+frees_keep c f n law =
+    let is = law.sure in
     record {
       stamped_by = law.stamped_by;
       durable = law.durable;
@@ -325,20 +321,32 @@ turn_keeps c f f' s t law (decides e m target free within) =
     (decided c f (Lands e) law e m law.sure target free within) (λ n. tt) (λ j mine. mine) (λ n mine. mine)
 turn_keeps c f f' s t law (changes e found layer safe same here_or durable) =
     layer_keeps c f e found layer safe (Changes e found) law same here_or durable (λ n. tt) (decided_layer c f layer safe e found law.sure)
-turn_keeps c f f' s t law (has_changed e found layer safe same here_is durable) =
-    layer_keeps c f e found layer safe (Changed e found) law same (inr here_is) durable (λ n. tt) (decided_layer c f layer safe e found law.sure, here_is)
-turn_keeps c f f' s t law (stamps e found kind) = stamps_keep c f e found law kind
-turn_keeps c f f' s t law (empties e found kind) = empties_keep c f (Changed e found) e found law law.sure.0 law.sure.1 law.durable (λ j ne mine. mine) (λ n mine. mine) (λ two. absurd (kind two))
-turn_keeps c f f' s t law (empties_merge e found) = empties_keep c f (Stamped e found) e found law law.sure.0 law.sure.3 law.durable (λ j ne mine. ne mine) (λ n mine. mine) (λ two none. law.stamped_by (sym law.sure.2 ∙ none))
+turn_keeps c f f' s t law (has_changed_merge e found layer safe same here_is durable kind) =
+    layer_keeps c f e found layer safe (Stamps e) law same (inr here_is) durable (λ n. tt)
+    (subst (λ k. IsDecided c (record f { layer = layer; safe_layer = safe }) e k) (sym here_is) (decided_layer c f layer safe e found law.sure), kind)
+turn_keeps c f f' s t law (has_changed_split e found layer safe same here_is durable kind) =
+    layer_keeps c f e found layer safe (Clears e.line) law same (inr here_is) durable (λ n. tt) (record {
+      entry = e;
+      line = refl;
+      decided = subst (λ k. IsDecided c (record f { layer = layer; safe_layer = safe }) e k) (sym here_is) (decided_layer c f layer safe e found law.sure);
+      stamped = λ merge. absurd (kind merge);
+    })
+turn_keeps c f f' s t law (stamps e) = stamps_keep c f e law
+turn_keeps c f f' s t law (empties j) =
+    let e : ReadyLine = law.sure.entry in
+    subst (λ k. TurnLawful c (emptied f k) (Between (suc k))) law.sure.line
+    (empties_keep c f (Clears j) e (f.layer e.anchor) law law.sure.decided refl law.durable (λ i ne mine. ne (mine ∙ sym law.sure.line)) (λ n mine. mine)
+    (λ merge none. law.stamped_by (sym (law.sure.stamped merge) ∙ none)))
 turn_keeps c f f' s t law (sweeps j done) = restage c f (Between j) law (Sweeps 0) law.durable tt (λ n. tt) (λ j mine. mine) (λ n mine. mine)
 turn_keeps c f f' s t law (passes_node n other_status) = restage c f (Sweeps n) law (Sweeps (suc n)) law.durable tt (λ n. tt) (λ j mine. mine) (λ n mine. mine)
 turn_keeps c f f' s t law (sees_gone n gone) = restage c f (Sweeps n) law (Gone n) law.durable gone (λ n. tt) (λ j mine. mine) (λ n mine. mine)
 turn_keeps c f f' s t law (passes_stamp n why) = restage c f (Gone n) law (Sweeps (suc n)) law.durable tt (λ n. tt) (λ j mine. mine) (λ n mine. mine)
-turn_keeps c f f' s t law (sees_stamp n some_stamp at_most) = restage c f (Gone n) law (HasStamp n (f.stamp n)) law.durable (record { gone = law.sure; stamp = refl; some_stamp = some_stamp; release = at_most }) (λ n. tt) (λ j mine. mine) (λ n mine. mine)
-turn_keeps c f f' s t law (passes_worn n stamp worn) = restage c f (HasStamp n stamp) law (Sweeps (suc n)) law.durable tt (λ n. tt) (λ j mine. mine) (λ n mine. mine)
-turn_keeps c f f' s t law (sees_unworn n stamp unworn) = restage c f (HasStamp n stamp) law (IsUnworn n stamp) law.durable (law.sure, unworn) (λ n. tt) (λ j mine. mine) (λ n mine. mine)
-turn_keeps c f f' s t law (unstamps n stamp) = unstamps_keep c f n stamp law
-turn_keeps c f f' s t law (frees n stamp) = frees_keep c f n stamp law
+turn_keeps c f f' s t law (sees_stamp n some_stamp at_most) =
+    restage c f (Gone n) law (HasStamp n) law.durable (record { gone = law.sure; some_stamp = some_stamp; release = at_most }) (λ n. tt) (λ j mine. mine) (λ n mine. mine)
+turn_keeps c f f' s t law (passes_worn n worn) = restage c f (HasStamp n) law (Sweeps (suc n)) law.durable tt (λ n. tt) (λ j mine. mine) (λ n mine. mine)
+turn_keeps c f f' s t law (sees_unworn n unworn) = restage c f (HasStamp n) law (IsUnworn n) law.durable (law.sure, unworn) (λ n. tt) (λ j mine. mine) (λ n mine. mine)
+turn_keeps c f f' s t law (unstamps n) = unstamps_keep c f n law
+turn_keeps c f f' s t law (frees n) = frees_keep c f n law
 turn_keeps c f f' s t law (starts_count n done) = restage c f (Sweeps n) law (Counts 0 true) law.durable (λ all m lt. absurd (omega arith)) (λ n. tt) (λ j mine. mine) (λ n mine. mine)
 turn_keeps c f f' s t law (counts_free n none free) = restage c f (Counts n none) law (Counts (suc n) false) law.durable (λ all m lt. absurd (let no_way : false ≡ true = all in cc)) (λ n. tt) (λ j mine. mine) (λ n mine. mine)
 turn_keeps c f f' s t law (counts n none taken) = restage c f (Counts n none) law (Counts (suc n) none) law.durable

@@ -6,7 +6,7 @@ use Rattle.turn_law.specs.Covers.{empty_state, ready_state, merge_kind, HasCover
 use Rattle.turn_law.specs.Covered.{IsCovered, ListHas, AreApart, IsTarget}
 use Rattle.turn_law.specs.Facts.{TurnTerms, TurnFacts, IsListed, HasReadyMerge}
 use Rattle.turn_law.specs.TurnStages.{ReadyLine, TurnStage, Resting, Between, Sees, SeesKind, SeesNode, Lands, Changes}
-use Rattle.turn_law.specs.TurnStages.{Changed, Stamped, Sweeps, Gone, HasStamp, IsUnworn, Frees, Counts}
+use Rattle.turn_law.specs.TurnStages.{Stamps, Clears, Sweeps, Gone, HasStamp, IsUnworn, Frees, Counts}
 use Rattle.turn_law.specs.TurnSteps.{AreSameBut}
 
 -- What the turn is sure of.
@@ -43,12 +43,19 @@ pub record IsFreeing (f : TurnFacts) (n : ℕ) : Type 0 where
   pub unworn : f.worn n ≡ false
   pub alone : (j : ℕ) → f.line.state j ≡ ready_state → f.line.kind j ≡ merge_kind → f.line.node j ≢ n
 
--- the node is gone, and has this stamp, which the release allows
-pub record IsStampedNode (c : TurnTerms) (f : TurnFacts) (n s : ℕ) : Type 0 where
+-- All is done that this line, as it was read, waits for: its anchor leads to what was found, and the node of a merge has
+-- its stamp.
+pub record IsCarried (c : TurnTerms) (f : TurnFacts) (j : ℕ) : Type 0 where
+  pub entry : ReadyLine
+  pub line : entry.line ≡ j
+  pub decided : IsDecided c f entry (f.layer entry.anchor)
+  pub stamped : entry.kind ≡ merge_kind → f.stamp entry.node ≡ c.stamp
+
+-- the node is gone, and has a stamp that the release allows
+pub record IsReleased (c : TurnTerms) (f : TurnFacts) (n : ℕ) : Type 0 where
   pub gone : f.status n ≡ gone_status
-  pub stamp : f.stamp n ≡ s
-  pub some_stamp : s ≢ 0
-  pub release : s ≤ c.release
+  pub some_stamp : f.stamp n ≢ 0
+  pub release : f.stamp n ≤ c.release
 
 abbrev pub SureTurn : TurnTerms → TurnFacts → TurnStage → Type 0
 SureTurn c f Resting = Unit {0}
@@ -59,14 +66,13 @@ SureTurn c f (SeesNode j kind node) =
     (f.line.state j ≡ ready_state) × (f.line.kind j ≡ kind) × (f.line.node j ≡ node)
 SureTurn c f (Lands e) = IsAtHand f e
 SureTurn c f (Changes e found) = IsDecided c f e found
-SureTurn c f (Changed e found) = IsDecided c f e found × (f.layer e.anchor ≡ found)
-SureTurn c f (Stamped e found) =
-    IsDecided c f e found × (e.kind ≡ merge_kind) × (f.stamp e.node ≡ c.stamp) × (f.layer e.anchor ≡ found)
+SureTurn c f (Stamps e) = IsDecided c f e (f.layer e.anchor) × (e.kind ≡ merge_kind)
+SureTurn c f (Clears j) = IsCarried c f j
 SureTurn c f (Sweeps n) = Unit {0}
 SureTurn c f (Gone n) = f.status n ≡ gone_status
-SureTurn c f (HasStamp n s) = IsStampedNode c f n s
-SureTurn c f (IsUnworn n s) = IsStampedNode c f n s × (f.worn n ≡ false)
-SureTurn c f (Frees n s) = IsFreeing f n × (s ≢ 0) × (s ≤ c.release)
+SureTurn c f (HasStamp n) = IsReleased c f n
+SureTurn c f (IsUnworn n) = IsReleased c f n × (f.worn n ≡ false)
+SureTurn c f (Frees n) = IsFreeing f n
 SureTurn c f (Counts n none) = none ≡ true → (m : ℕ) → m < n → f.status m ≢ free_status
 
 -- Parts of the law that the turn's stage moves.
@@ -78,17 +84,17 @@ IsDurableBut layer safe _ = AreSame safe layer
 
 -- the node isn't the one that is being freed
 abbrev pub IsNotFreed : TurnStage → ℕ → Type 0
-IsNotFreed (Frees n s) m = m ≢ n
+IsNotFreed (Frees n) m = m ≢ n
 IsNotFreed _ m = Unit {0}
 
 -- the node is the one that is being freed
 abbrev pub IsBeingFreed : TurnStage → ℕ → Type 0
-IsBeingFreed (Frees n s) m = m ≡ n
+IsBeingFreed (Frees n) m = m ≡ n
 IsBeingFreed _ m = ⊥
 
--- this turn has just stamped the node of this line
+-- this turn has stamped the node of this line, if it is of a merge
 abbrev pub IsStamped : TurnStage → ℕ → Type 0
-IsStamped (Stamped e found) j = j ≡ e.line
+IsStamped (Clears i) j = j ≡ i
 IsStamped _ j = ⊥
 
 -- a key of the layer leads to a node that has it as its anchor, and won't become free before the key leads elsewhere

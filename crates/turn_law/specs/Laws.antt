@@ -1,5 +1,5 @@
 -- The laws of single steps, of crashes, and of nodes that become free.
-use Rattle.std.specs.Prelude.{◌≡◌, ◌≢◌, ℕ, ◌≤◌, ◌⊎◌, Bool, true}
+use Rattle.std.specs.Prelude.{◌≡◌, ◌≢◌, ℕ, ◌⊎◌, Bool, true}
 use Rattle.search_layer.specs.Layers.{Layer, LeadsApart}
 use Rattle.call_stages.specs.Kinds.{free_status}
 use Rattle.turn_law.specs.Covers.{IsOpenFor}
@@ -8,7 +8,7 @@ use Rattle.turn_law.specs.Facts.{TurnTerms, TurnFacts, IsListed}
 use Rattle.turn_law.specs.TurnStages.{TurnStage, Resting, Frees}
 use Rattle.turn_law.specs.TurnSteps.{TurnStep}
 use Rattle.turn_law.specs.OtherSteps.{OtherStep}
-use Rattle.turn_law.specs.Lawful.{IsDurableBut, TurnLawful}
+use Rattle.turn_law.specs.Lawful.{IsReleased, IsDurableBut, TurnLawful}
 use Rattle.turn_law.specs.Fresh.{fresh_facts}
 
 -- A step of the turn, and one of another party, keep what is lawful.
@@ -48,25 +48,19 @@ IsCoveredNow = (c : TurnTerms) (f : TurnFacts) (s : TurnStage) → TurnLawful c 
 abbrev pub KeysLeadApart : Type 0
 KeysLeadApart = (c : TurnTerms) (f : TurnFacts) (s : TurnStage) → TurnLawful c f s → LeadsApart f.layer
 
--- The turn took a stamp away from the node right before, one that its release allows.
-pub record IsReleased (c : TurnTerms) (n : ℕ) (s : TurnStage) : Type 0 where
-  pub stamp : ℕ
-  pub stage : s ≡ Frees n stamp
-  pub some_stamp : stamp ≢ 0
-  pub release : stamp ≤ c.release
-
--- Of all steps one alone makes a node free, which is one of the turn's, and only such a node.
+-- Of all steps one alone makes a node free, which is one of the turn's, at the stage of having taken that node's stamp
+-- away.
 abbrev pub FreedAreReleased : Type 0
-FreedAreReleased = (c : TurnTerms) (f f' : TurnFacts) (s t : TurnStage) (n : ℕ) → TurnLawful c f s →
-    TurnStep c f s f' t → f.status n ≢ free_status → f'.status n ≡ free_status → IsReleased c n s
+FreedAreReleased = (c : TurnTerms) (f f' : TurnFacts) (s t : TurnStage) (n : ℕ) → TurnStep c f s f' t →
+    f.status n ≢ free_status → f'.status n ≡ free_status → s ≡ Frees n
 
 abbrev pub OthersFreeNone : Type 0
 OthersFreeNone = (f f' : TurnFacts) (n : ℕ) → OtherStep f f' → f.status n ≢ free_status → f'.status n ≢ free_status
 
--- The turn comes to that stage only by the store that takes this very stamp away.
-abbrev pub StampWasTheNodes : Type 0
-StampWasTheNodes = (c : TurnTerms) (f f' : TurnFacts) (s : TurnStage) (n stamp : ℕ) → TurnLawful c f s →
-    TurnStep c f s f' (Frees n stamp) → (f.stamp n ≡ stamp) × (f'.stamp n ≡ 0)
+-- The turn comes to that stage only by the store that takes the stamp away, and the release allows the stamp.
+abbrev pub StampWasReleased : Type 0
+StampWasReleased = (c : TurnTerms) (f f' : TurnFacts) (s : TurnStage) (n : ℕ) → TurnLawful c f s →
+    TurnStep c f s f' (Frees n) → IsReleased c f n × (f'.stamp n ≡ 0)
 
 -- A fresh index is lawful, whatever stamp and release the turn to come has.
 abbrev pub FreshIsLawful : Type 0

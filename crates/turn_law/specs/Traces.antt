@@ -1,11 +1,11 @@
 -- Steps of a turn and of other parties, one after another.
-use Rattle.std.specs.Prelude.{◌≡◌, ◌≢◌, ℕ, ◌≤◌}
+use Rattle.std.specs.Prelude.{ℕ}
 use Rattle.search_layer.specs.Layers.{Layer}
 use Rattle.turn_law.specs.Facts.{TurnTerms, TurnFacts}
 use Rattle.turn_law.specs.TurnStages.{TurnStage, Resting, IsUnworn, Frees}
 use Rattle.turn_law.specs.TurnSteps.{TurnStep}
 use Rattle.turn_law.specs.OtherSteps.{OtherStep}
-use Rattle.turn_law.specs.Lawful.{IsDurableBut, TurnLawful}
+use Rattle.turn_law.specs.Lawful.{IsReleased, IsDurableBut, TurnLawful}
 
 -- From these facts and this stage it has come to those: by steps of the turn and of other parties, and by words of
 -- the layer that became durable.
@@ -16,19 +16,16 @@ pub data Trace (c : TurnTerms) : TurnFacts → TurnStage → TurnFacts → TurnS
   evicts : {f f' : TurnFacts} {s t : TurnStage} (safe : Layer) → Trace c f s f' t → IsDurableBut f'.layer safe t →
       Trace c f s (record f' { safe_layer = safe }) t
 
--- at an earlier moment of this very turn the node had this stamp, which the turn's release allows
-pub record WasStamped (c : TurnTerms) (f : TurnFacts) (n stamp : ℕ) : Type 0 where
+-- at an earlier moment of this very turn the node was gone, and had a stamp that the turn's release allows
+pub record WasStamped (c : TurnTerms) (f : TurnFacts) (n : ℕ) : Type 0 where
   pub then_facts : TurnFacts
-  pub earlier : Trace c f Resting then_facts (IsUnworn n stamp)
-  pub had : then_facts.stamp n ≡ stamp
-  pub some_stamp : stamp ≢ 0
-  pub release : stamp ≤ c.release
+  pub earlier : Trace c f Resting then_facts (IsUnworn n)
+  pub released : IsReleased c then_facts n
 
--- A turn comes to the store that frees a node only where it took from that node, in this turn, a stamp of its
--- release.
+-- A turn comes to the store that frees a node only where it took from that node, in this turn, a stamp of its release.
 abbrev pub FreedWereStamped : Type 0
-FreedWereStamped = (c : TurnTerms) (f f' : TurnFacts) (n stamp : ℕ) → TurnLawful c f Resting →
-    Trace c f Resting f' (Frees n stamp) → WasStamped c f n stamp
+FreedWereStamped = (c : TurnTerms) (f f' : TurnFacts) (n : ℕ) → TurnLawful c f Resting →
+    Trace c f Resting f' (Frees n) → WasStamped c f n
 
 -- Whatever a trace comes to is lawful.
 abbrev pub TracesKeep : Type 0

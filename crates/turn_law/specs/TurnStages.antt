@@ -8,7 +8,6 @@ pub record ReadyLine : Type 0 where
   pub node : ℕ
   pub anchor : ℕ
 
--- Of an entry, `found` is the node that the list has at its anchor, or None where it has none.
 pub data TurnStage : Type 0 where
   -- it hasn't the updater lock
   Resting : TurnStage
@@ -20,19 +19,19 @@ pub data TurnStage : Type 0 where
   SeesNode : ℕ → ℕ → ℕ → TurnStage
   -- it has read the line, and looks for its anchor's target
   Lands : ReadyLine → TurnStage
-  -- it has found what the list has at the anchor, and changes the layer
+  -- it has found what the list has at the anchor, a node or none, and changes the layer
   Changes : ReadyLine → Option ℕ → TurnStage
-  -- the layer has it, and is durable
-  Changed : ReadyLine → Option ℕ → TurnStage
-  -- it has stamped the merged node
-  Stamped : ReadyLine → Option ℕ → TurnStage
+  -- the layer has it, and is durable; the line is of a merge, whose node it is to stamp
+  Stamps : ReadyLine → TurnStage
+  -- all is done that this line waits for
+  Clears : ℕ → TurnStage
   -- all lines are done; it comes to this node
   Sweeps : ℕ → TurnStage
-  -- it has loaded this node's status, gone; then its stamp, within the release; then its version, not worn
+  -- it has loaded this node's status, gone; then its stamp, which the release allows; then its version, not worn
   Gone : ℕ → TurnStage
-  HasStamp : ℕ → ℕ → TurnStage
-  IsUnworn : ℕ → ℕ → TurnStage
-  -- it has taken this stamp away
-  Frees : ℕ → ℕ → TurnStage
+  HasStamp : ℕ → TurnStage
+  IsUnworn : ℕ → TurnStage
+  -- it has taken the stamp away
+  Frees : ℕ → TurnStage
   -- all nodes are done; it loads their statuses once more, comes to this node, and has seen none free, or one
   Counts : ℕ → Bool → TurnStage

@@ -7,7 +7,7 @@ use Rattle.turn_law.specs.Covers.{set_at, empty_state, ready_state, merge_kind}
 use Rattle.turn_law.specs.Covered.{IsTarget}
 use Rattle.turn_law.specs.Facts.{TurnTerms, TurnFacts, IsListed}
 use Rattle.turn_law.specs.TurnStages.{ReadyLine, TurnStage, Resting, Between, Sees, SeesKind, SeesNode, Lands, Changes}
-use Rattle.turn_law.specs.TurnStages.{Changed, Stamped, Sweeps, Gone, HasStamp, IsUnworn, Frees, Counts}
+use Rattle.turn_law.specs.TurnStages.{Stamps, Clears, Sweeps, Gone, HasStamp, IsUnworn, Frees, Counts}
 
 -- the layers lead each key but this one alike
 abbrev pub AreSameBut : ℕ → Layer → Layer → Type 0
@@ -40,31 +40,30 @@ pub data TurnStep (c : TurnTerms) (f : TurnFacts) : TurnStage → TurnFacts → 
   changes : (e : ReadyLine) (found : Option ℕ) (layer safe : Layer) → AreSameBut e.anchor layer f.layer →
       (layer e.anchor ≡ f.layer e.anchor) ⊎ (layer e.anchor ≡ found) → AreSameBut e.anchor safe layer →
       TurnStep c f (Changes e found) (record f { layer = layer; safe_layer = safe }) (Changes e found)
-  -- with this step the change is done, and durable
-  has_changed : (e : ReadyLine) (found : Option ℕ) (layer safe : Layer) → AreSameBut e.anchor layer f.layer →
-      layer e.anchor ≡ found → AreSame safe layer →
-      TurnStep c f (Changes e found) (record f { layer = layer; safe_layer = safe }) (Changed e found)
+  -- with this step the change is done, and durable: of a merge, and of a split
+  has_changed_merge : (e : ReadyLine) (found : Option ℕ) (layer safe : Layer) → AreSameBut e.anchor layer f.layer →
+      layer e.anchor ≡ found → AreSame safe layer → e.kind ≡ merge_kind →
+      TurnStep c f (Changes e found) (record f { layer = layer; safe_layer = safe }) (Stamps e)
+  has_changed_split : (e : ReadyLine) (found : Option ℕ) (layer safe : Layer) → AreSameBut e.anchor layer f.layer →
+      layer e.anchor ≡ found → AreSame safe layer → e.kind ≢ merge_kind →
+      TurnStep c f (Changes e found) (record f { layer = layer; safe_layer = safe }) (Clears e.line)
   -- it stamps the node of a merge
-  stamps : (e : ReadyLine) (found : Option ℕ) → e.kind ≡ merge_kind →
-      TurnStep c f (Changed e found) (record f { stamp = set_at f.stamp e.node c.stamp }) (Stamped e found)
+  stamps : (e : ReadyLine) →
+      TurnStep c f (Stamps e) (record f { stamp = set_at f.stamp e.node c.stamp }) (Clears e.line)
   -- it empties the line
-  empties : (e : ReadyLine) (found : Option ℕ) → e.kind ≢ merge_kind →
-      TurnStep c f (Changed e found) (emptied f e.line) (Between (suc e.line))
-  empties_merge : (e : ReadyLine) (found : Option ℕ) →
-      TurnStep c f (Stamped e found) (emptied f e.line) (Between (suc e.line))
+  empties : (j : ℕ) → TurnStep c f (Clears j) (emptied f j) (Between (suc j))
   -- all lines are done
   sweeps : (j : ℕ) → c.lines ≤ j → TurnStep c f (Between j) f (Sweeps 0)
   -- it loads the status of a node, then its stamp, then its version; each may let the node pass by
   passes_node : (n : ℕ) → f.status n ≢ gone_status → TurnStep c f (Sweeps n) f (Sweeps (suc n))
   sees_gone : (n : ℕ) → f.status n ≡ gone_status → TurnStep c f (Sweeps n) f (Gone n)
   passes_stamp : (n : ℕ) → (f.stamp n ≡ 0) ⊎ (c.release < f.stamp n) → TurnStep c f (Gone n) f (Sweeps (suc n))
-  sees_stamp : (n : ℕ) → f.stamp n ≢ 0 → f.stamp n ≤ c.release → TurnStep c f (Gone n) f (HasStamp n (f.stamp n))
-  passes_worn : (n s : ℕ) → f.worn n ≡ true → TurnStep c f (HasStamp n s) f (Sweeps (suc n))
-  sees_unworn : (n s : ℕ) → f.worn n ≡ false → TurnStep c f (HasStamp n s) f (IsUnworn n s)
+  sees_stamp : (n : ℕ) → f.stamp n ≢ 0 → f.stamp n ≤ c.release → TurnStep c f (Gone n) f (HasStamp n)
+  passes_worn : (n : ℕ) → f.worn n ≡ true → TurnStep c f (HasStamp n) f (Sweeps (suc n))
+  sees_unworn : (n : ℕ) → f.worn n ≡ false → TurnStep c f (HasStamp n) f (IsUnworn n)
   -- it takes the stamp away, and makes the node free
-  unstamps : (n s : ℕ) → TurnStep c f (IsUnworn n s) (record f { stamp = set_at f.stamp n 0 }) (Frees n s)
-  frees : (n s : ℕ) →
-      TurnStep c f (Frees n s) (record f { status = set_at f.status n free_status }) (Sweeps (suc n))
+  unstamps : (n : ℕ) → TurnStep c f (IsUnworn n) (record f { stamp = set_at f.stamp n 0 }) (Frees n)
+  frees : (n : ℕ) → TurnStep c f (Frees n) (record f { status = set_at f.status n free_status }) (Sweeps (suc n))
   -- all nodes are done: it looks for a free one, and gives the updater lock back
   starts_count : (n : ℕ) → c.nodes ≤ n → TurnStep c f (Sweeps n) f (Counts 0 true)
   counts_free : (n : ℕ) (none : Bool) → f.status n ≡ free_status → TurnStep c f (Counts n none) f (Counts (suc n) false)

@@ -1,7 +1,7 @@
 //! The laws. The functions do nothing: each names what is proved.
 
 ghost use Rattle.turn_law.specs.Laws.{TurnKeeps, OtherKeeps, LayerEvicts, CrashIsCovered, IsCoveredNow};
-ghost use Rattle.turn_law.specs.Laws.{KeysLeadApart, FreedAreReleased, OthersFreeNone, StampWasTheNodes};
+ghost use Rattle.turn_law.specs.Laws.{KeysLeadApart, FreedAreReleased, OthersFreeNone, StampWasReleased};
 ghost use Rattle.turn_law.specs.Laws.{FreshIsLawful};
 ghost use Rattle.turn_law.specs.Lone.{LoneTurn};
 ghost use Rattle.turn_law.specs.Traces.{TracesKeep, FreedWereStamped};
@@ -27,7 +27,7 @@ pub fn covered_law()
 /// node free.
 pub fn freed_law()
     ensures turn { FreedAreReleased }
-    ensures stamp { StampWasTheNodes }
+    ensures stamp { StampWasReleased }
     ensures others { OthersFreeNone }
     ensures traces { FreedWereStamped }
 {}
