@@ -1,0 +1,6 @@
+pub mod RowColumns
+pub mod RowStores
+pub mod RowChanges
+pub mod RowTurns
+pub mod RowActions
+pub mod RowEvicts

@@ -1,0 +1,4 @@
+pub mod Columns
+pub mod RowStages
+pub mod RowSteps
+pub mod RowLaw

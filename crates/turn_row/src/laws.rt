@@ -1,0 +1,15 @@
+//! The laws. The functions do nothing: each names what is proved.
+
+ghost use Rattle.turn_row.specs.RowLaw.{RowStepKeeps, RowStepCanAct, EvictionKeepsTurn};
+
+/// A step of a turn, by the action that it makes on a row of words, may be done and keeps the row lawful. That a walk
+/// which has come to a target keeps its promise is a premise of the step by which it comes there.
+pub fn row_law()
+    ensures acts { RowStepCanAct }
+    ensures keeps { RowStepKeeps }
+{}
+
+/// A word of the image that becomes durable keeps the row lawful.
+pub fn evict_law()
+    ensures { EvictionKeepsTurn }
+{}
