@@ -3,3 +3,4 @@ pub mod Works
 pub mod Laws
 pub mod Events
 pub mod Doings
+pub mod Steps
