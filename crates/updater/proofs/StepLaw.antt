@@ -51,7 +51,10 @@ use Rattle.updater.specs.declared.work.Work.{Work}
 use Rattle.updater.specs.declared.work.WorkAt.{WorkAt}
 use Rattle.updater.specs.declared.work.WorkAt.TheVariants as at
 use Rattle.updater.specs.Takings.{taking_asks, taking_from}
-use Rattle.updater.specs.Works.{ready_state, merge_kind, line_count, work_at_asks, after_line, reads_fields, saw_state, are_same, changes, clears, changed, after_node, saw_status, saw_stamp, saw_version, after_count, on, leaves, found_at, saw_again, has_read, has_landed, has_walked, has_set, has_unset, has_released, work_at_turned, IsReading, IsWalkTo, IsWorkAt}
+use Rattle.turn_law.specs.Covers.{ready_state, merge_kind}
+use Rattle.turn_row.specs.Columns.{line_count}
+use Rattle.turn_row.specs.RowStages.{are_same}
+use Rattle.updater.specs.Works.{work_at_asks, after_line, reads_fields, saw_state, changes, clears, changed, after_node, saw_status, saw_stamp, saw_version, after_count, on, leaves, found_at, saw_again, has_read, has_landed, has_walked, has_set, has_unset, has_released, work_at_turned, IsReading, IsWalkTo, IsWorkAt}
 use Rattle.updater.specs.Steps.{row_terms, line_of, target_of, release_stage, work_at_stage, work_stage, stage_after, stage_taken, TakingsAreSteps, WorksStart, WorksAreSteps}
 
 pub takings_are_steps : TakingsAreSteps

@@ -34,7 +34,10 @@ use Rattle.updater.specs.declared.terms.Found.{Found}
 use Rattle.updater.specs.declared.work.Work.{Work}
 use Rattle.updater.specs.declared.work.WorkAt.{WorkAt}
 use Rattle.updater.specs.declared.work.WorkAt.TheVariants as at
-use Rattle.updater.specs.Works.{merge_kind, line_count, after_line, reads_fields, saw_state, are_same, changes, clears, changed, after_node, saw_status, allows, saw_stamp, saw_version, after_count, on, leaves, found_at, saw_again, has_read, has_landed, has_walked, has_set, has_unset, has_released, work_at_asks, work_at_turned, IsOnLine, IsWorkAt, IsTerms}
+use Rattle.turn_law.specs.Covers.{merge_kind}
+use Rattle.turn_row.specs.Columns.{line_count}
+use Rattle.turn_row.specs.RowStages.{are_same}
+use Rattle.updater.specs.Works.{after_line, reads_fields, saw_state, changes, clears, changed, after_node, saw_status, allows, saw_stamp, saw_version, after_count, on, leaves, found_at, saw_again, has_read, has_landed, has_walked, has_set, has_unset, has_released, work_at_asks, work_at_turned, IsOnLine, IsWorkAt, IsTerms}
 use Rattle.updater.specs.Takings.{updater_address}
 use Rattle.updater.specs.Events.{Heard, SaysSo, word_led, how_many, stands, was_ready, is_emptied, is_left, is_freed, NoneFree, EndsSo, IsTold, HasLines, HasNodes, IsFoundBy, HasHeard, Heeds, WorksBegin, WorksHeed, WorksLeave}
 

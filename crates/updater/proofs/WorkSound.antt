@@ -41,7 +41,10 @@ use Rattle.updater.specs.declared.terms.Found.{Found}
 use Rattle.updater.specs.declared.work.Work.{Work}
 use Rattle.updater.specs.declared.work.WorkAt.{WorkAt}
 use Rattle.updater.specs.declared.work.WorkAt.TheVariants as at
-use Rattle.updater.specs.Works.{ready_state, merge_kind, line_count, work_at_asks, after_line, reads_fields, saw_state, lands, walks, are_same, changes, clears, changed, after_node, saw_status, allows, saw_stamp, saw_version, after_count, on, leaves, found_at, saw_again, has_read, has_landed, has_walked, has_set, has_unset, has_released, work_at_turned, IsTerms, IsEntry, IsOnLine, IsOnNode, IsThrough, IsReading, IsWalkTo, IsWorkAt, ToldOfLine}
+use Rattle.turn_law.specs.Covers.{ready_state, merge_kind}
+use Rattle.turn_row.specs.Columns.{line_count}
+use Rattle.turn_row.specs.RowStages.{are_same}
+use Rattle.updater.specs.Works.{work_at_asks, after_line, reads_fields, saw_state, lands, walks, changes, clears, changed, after_node, saw_status, allows, saw_stamp, saw_version, after_count, on, leaves, found_at, saw_again, has_read, has_landed, has_walked, has_set, has_unset, has_released, work_at_turned, IsTerms, IsEntry, IsOnLine, IsOnNode, IsThrough, IsReading, IsWalkTo, IsWorkAt, ToldOfLine}
 use Rattle.updater.specs.Laws.{WorkStays, WorksStaySound}
 
 -- with one word more

@@ -10,7 +10,8 @@ use Rattle.smo_log.specs.LogLines.{numbered_address}
 use Rattle.updater.specs.declared.terms.Terms.{Terms}
 use Rattle.updater.specs.declared.work.Work.{Work}
 use Rattle.updater.specs.Takings.{updater_address}
-use Rattle.updater.specs.Works.{line_count, work_asks, IsWork}
+use Rattle.turn_row.specs.Columns.{line_count}
+use Rattle.updater.specs.Works.{work_asks, IsWork}
 use Rattle.updater.specs.Events.{Heard, is_emptied, is_freed, word_led, HasHeard}
 
 -- It loads a word; or it leads the anchor of a READY line whose target stands to where it belongs, stamps the node of

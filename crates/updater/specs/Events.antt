@@ -22,8 +22,12 @@ use Rattle.updater.specs.declared.terms.Found.{Found}
 use Rattle.updater.specs.declared.work.Work.{Work}
 use Rattle.updater.specs.declared.work.WorkAt.{WorkAt}
 use Rattle.updater.specs.declared.work.WorkAt.TheVariants as at
-use Rattle.updater.specs.Works.{ready_state, line_count, work_from, work_asks, work_turned, work_takes}
-use Rattle.updater.specs.Works.{allows, are_same, found_at, merge_kind}
+use Rattle.turn_law.specs.Covers.{ready_state}
+use Rattle.turn_row.specs.Columns.{line_count}
+use Rattle.updater.specs.Works.{work_from, work_asks, work_turned, work_takes}
+use Rattle.turn_law.specs.Covers.{merge_kind}
+use Rattle.turn_row.specs.RowStages.{are_same}
+use Rattle.updater.specs.Works.{allows, found_at}
 use Rattle.updater.specs.Takings.{updater_address}
 
 -- What one turn is told. By line: the state, what the line says, what its walk answered, and the version word that it

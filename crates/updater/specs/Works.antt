@@ -1,6 +1,6 @@
 -- A turn of the updater, step by step.
 use Rattle.std.specs.Prelude.{◌≡◌, ◌≢◌, ℕ, ◌+◌, ◌-◌, ◌*◌, ◌^◌, ◌<◌, ◌≤◌, ◌==◌, ◌&&◌, not, nat_lt, nat_le, Bool, true}
-use Rattle.std.specs.Prelude.{if◌then◌else◌, List, [], ◌∷◌, length, slice_index}
+use Rattle.std.specs.Prelude.{if◌then◌else◌, [], ◌∷◌, length, slice_index}
 use Rattle.pm_words.specs.declared.layout.Layout.{Layout}
 use Rattle.pm_words.specs.declared.action.Action.{Action}
 use Rattle.pm_words.specs.declared.action.Action.TheVariants.{Load, Store}
@@ -31,6 +31,9 @@ use Rattle.smo_log.specs.declared.read.ReadLine.{ReadLine}
 use Rattle.smo_log.specs.LogLines.{numbered_address}
 use Rattle.smo_log.specs.Reads.{IsRead, read_from, read_asks, read_turned, read_left}
 use Rattle.smo_log.specs.States.{IsClear, clear_from, clear_asks}
+use Rattle.turn_law.specs.Covers.{ready_state, merge_kind}
+use Rattle.turn_row.specs.Columns.{line_count}
+use Rattle.turn_row.specs.RowStages.{are_same}
 use Rattle.updater.specs.declared.terms.Terms.{Terms}
 use Rattle.updater.specs.declared.terms.Tally.{Tally}
 use Rattle.updater.specs.declared.terms.Turned.{Turned}
@@ -39,17 +42,6 @@ use Rattle.updater.specs.declared.work.Work.{Work}
 use Rattle.updater.specs.declared.work.WorkAt.{WorkAt}
 use Rattle.updater.specs.declared.work.WorkAt.TheVariants as at
 use Rattle.updater.specs.Takings.{updater_address, untaken}
-
--- the state of a line that waits for a turn, and the kind of a merge
-abbrev pub ready_state : ℕ
-ready_state = 2
-
-abbrev pub merge_kind : ℕ
-merge_kind = 2
-
--- how many log lines there are
-abbrev pub line_count : Layout → ℕ
-line_count l = 8 * l.callers
 
 abbrev pub work_from : Layout → ℕ → ℕ → ℕ → Work
 work_from layout generation stamp release = record {
@@ -96,12 +88,6 @@ lands terms line entry = at.Landing line entry (floor_starts terms.layout entry.
 abbrev pub walks : Terms → ℕ → Entry → ℕ → WorkAt
 walks terms line entry hint =
     at.Walking line entry (walk_from terms.layout terms.generation hint (key_words entry.anchor))
-
--- the same three words
-abbrev pub are_same : List ℕ → List ℕ → Bool
-are_same one other =
-    slice_index one 0 == slice_index other 0 && (slice_index one 1 == slice_index other 1 && slice_index one 2 ==
-    slice_index other 2)
 
 -- it leads the anchor to the node that has it, and to none where the node in whose range it lies has another
 abbrev pub changes : Terms → ℕ → Entry → Found → WorkAt

@@ -189,7 +189,7 @@ impl Terms {
 }
 
 ghost use Rattle.version_lock.specs.Versions.{is_worn_word};
-ghost use Rattle.updater.specs.Works.{are_same};
+ghost use Rattle.turn_row.specs.RowStages.{are_same};
 
 /// Whether the node's lock can't be taken any more in this generation.
 fn is_worn(version: u64, generation: u64) -> bool
