@@ -43,8 +43,8 @@ pub record IsFreeing (f : TurnFacts) (n : ℕ) : Type 0 where
   pub unworn : f.worn n ≡ false
   pub alone : (j : ℕ) → f.line.state j ≡ ready_state → f.line.kind j ≡ merge_kind → f.line.node j ≢ n
 
--- All is done that this line, as it was read, waits for: its anchor leads to what was found, and the node of a merge has
--- its stamp.
+-- All is done that this line, as it was read, waits for: its anchor leads to what was found, and the node of a merge
+-- has its stamp.
 pub record IsCarried (c : TurnTerms) (f : TurnFacts) (j : ℕ) : Type 0 where
   pub entry : ReadyLine
   pub line : entry.line ≡ j

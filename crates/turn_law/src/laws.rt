@@ -37,8 +37,8 @@ pub fn fresh_law()
     ensures { FreshIsLawful }
 {}
 
-/// A turn alone that leaves no line ends with every line empty, the list as it was, and each merged node free that isn't
-/// worn and whose stamp the release allows. That it leaves none is a premise: it is the walk's to show.
+/// A turn alone that leaves no line ends with every line empty, the list as it was, and each merged node free that
+/// isn't worn and whose stamp the release allows. That it leaves none is a premise: it is the walk's to show.
 pub fn lone_law()
     ensures { LoneTurn }
 {}

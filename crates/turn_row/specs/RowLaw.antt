@@ -25,8 +25,8 @@ pub record HasLoaded (r : RowTerms) (words : List ℕ) (j offset : ℕ) (seen : 
   pub most : offset < 7
   pub same : (k : ℕ) → k < offset → line_field r.layout words Cached k j ≡ slice_index seen k
 
--- What a walk promises of its target, as long as its version word stands: the key belongs there, and these are the words
--- of its anchor.
+-- What a walk promises of its target, as long as its version word stands: the key belongs there, and these are the
+-- words of its anchor.
 pub record IsTargetFor (r : RowTerms) (ghosts : Ghosts) (words : List ℕ) (key : List ℕ) (target : RowTarget) : Type 0
   where
     pub stands : node_field r.layout words 0 target.node ≡ target.version →

@@ -14,7 +14,8 @@ use Rattle.turn_row.specs.RowStages.{RowLine, RowTarget, line_read, word_at, aim
 use Rattle.turn_row.specs.RowStages.{Between, Reads, Lands, HasTarget, Changes, Stamps, Clears, Sweeps, Gone, HasStamp}
 use Rattle.turn_row.specs.RowStages.{IsUnworn, Frees, Counts, after_line, after_node, after_change}
 
--- The addresses of the updater lock; of a line's word by line and offset; of a node's volatile word, and of its version.
+-- The addresses of the updater lock; of a line's word by line and offset; of a node's volatile word, and of its version
+-- word.
 abbrev pub lock_at : Layout → ℕ
 lock_at l = address_of l Updater
 
