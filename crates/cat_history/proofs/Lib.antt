@@ -6,3 +6,4 @@ pub mod CrashEndLemmas
 pub mod CallerLemmas
 pub mod SettleLemmas
 pub mod ScanLemmas
+pub mod ReplayLemmas

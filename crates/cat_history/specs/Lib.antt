@@ -7,3 +7,4 @@ pub mod LoneRounds
 pub mod CrashEnds
 pub mod CrashRounds
 pub mod Callers
+pub mod Replays

@@ -9,6 +9,7 @@ mod op;
 mod pairs;
 mod plan;
 mod record;
+mod replaying;
 mod settling;
 
 pub use listed::Listed;
@@ -16,5 +17,6 @@ pub use op::{CallerOp, Change, NameOp, Op, Write, Writes};
 pub use pairs::{number_in, position_of};
 pub use plan::{Budgets, CrashPlan, Ops, RoundPlan};
 pub use record::{CutMark, Pairs, Parts, Record, Records, Reply, ScanPart};
+pub use replaying::replay;
 pub use settling::settle;
 pub use std::alloc::AllocError as NoMemory;
