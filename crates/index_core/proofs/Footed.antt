@@ -8,7 +8,7 @@ use lib.ListN.{get_elem?}
 use Rattle.pm_words.specs.declared.layout.Layout.{Layout}
 use Rattle.pm_words.specs.Layouts.{IsLayout}
 use Rattle.pm_words.specs.Images.{fresh_words}
-use Rattle.pm_words.specs.Locations.{Location, Node, Line, Volatile, Cached, Durable, HasWord, HasLocation, at, image_words, address_of}
+use Rattle.pm_words.specs.Locations.{Location, Node, Line, Clock, Volatile, Cached, Durable, HasWord, HasLocation, at, image_words, address_of}
 use Rattle.pm_words.specs.Rows.{evicted, row_of}
 use Rattle.pm_words.proofs.Apart.{at-set_other}
 use Rattle.pm_words.proofs.Made.{fresh_at, fresh_image, row_of-at, row_of-at_volatile}
@@ -18,10 +18,10 @@ use Rattle.call_stages.specs.Stages.{Stage, Idle, HoldsNode, Tells}
 use Rattle.call_stages.specs.Kinds.{HasWordAt, live_status}
 use Rattle.call_stages.specs.Lines.{HeldLine}
 use Rattle.call_stages.specs.Prevs.{Debt, no_debt}
-use Rattle.index_law.specs.Facts.{Facts, IsListed, status_in, spot_in}
+use Rattle.index_law.specs.Facts.{Facts, facts_of, map_now, IsListed, status_in, spot_in}
 use Rattle.index_law.specs.Worlds.{Party, World, facts, evicted_world}
 use Rattle.index_law.specs.Lawful.{Lawful, Each}
-use Rattle.index_law.specs.Laws.{fresh_row, fresh_world}
+use Rattle.index_law.specs.Laws.{fresh_row, fresh_world, next_round}
 use Rattle.index_law.specs.Lines.{line_in, safe_line, AreFit, SureLine}
 use Rattle.call_stages.specs.Orders.{AreInOrder}
 use Rattle.index_law.specs.Prevs.{prev_in, IsOwed, IsGone}
@@ -282,3 +282,27 @@ stamp_footed z n is here lawful =
     (facts-elsewhere l words z.world.base z.world.history (Volatile n 2) 1 has (λ m o e. cc, λ m e. let no : 2 ≡ 0 = ap offset_of e in omega arith))
     (store_prev l words (Volatile n 2) 1 has (λ k e. let no : 1 ≡ 2 = ap offset_of e in omega arith))
     (store_leaves l words (Volatile n 2) 1 has (λ c j o. (λ e. cc, λ e. cc)))
+
+-- an index with no call in flight as its next round begins, with other idle parties
+pub round_footed : (z : Whole) (parties : List Party) (lines : List (Option HeldLine)) (debts : List Debt) → IsFooted z → AreFree z.world.parties z.lines z.debts → AreFree parties lines debts
+    → Lawful (next_round z.world parties) → IsFooted (record { world = next_round z.world parties; lines = lines; debts = debts })
+round_footed z parties lines debts is was free lawful =
+    let l = z.world.layout in
+    let words = z.world.words in
+    let f = facts z.world in
+    let words' : List ℕ = set words (address_of l Clock) 0 in
+    let prev : ℕ → ℕ = prev_in l words in
+    let prev' : ℕ → ℕ = prev_in l words' in
+    let same : facts (next_round z.world parties) ≡ facts_of l words (map_now f) [] = facts-elsewhere l words (map_now f) [] Clock 0 tt (λ m o e. cc, λ m e. cc) in
+    let prevs : (n : ℕ) → prev' n ≡ prev n = store_prev l words Clock 0 tt (λ k e. cc) in
+    let same_prevs : prev' ≡ prev = λ i n. prevs n i in
+    let stay : (c j o : ℕ) → LinesStay l words words' c j o = store_leaves l words Clock 0 tt (λ c j o. (λ e. cc, λ e. cc)) in
+    free_footed (record { world = next_round z.world parties; lines = lines; debts = debts }) free lawful (fit_same l words words' stay is.0.joint.fit)
+    (λ c j here low. (stay c j 0).0 ∙ ⊎_elim
+    (λ zero. zero)
+    (λ hand. absurd (no_line_held hand.line (was.lines hand.number (Some hand.line) hand.there)))
+    (is.1 c j here low))
+    (subst (λ (φ : Facts). (n : ℕ) → IsListed φ n → φ.now n next_offset ≢ 0 → prev' (φ.now n next_offset) ≡ n) (sym same)
+    (λ n listed ne. prevs (f.now n next_offset) ∙ idle_follow (record { world = z.world; debts = z.debts }) n is.0.traced was.idle listed ne))
+    (subst (λ (φ : Facts). AreInOrder l.nodes (IsGone φ) prev') (sym same) (subst (AreInOrder l.nodes (IsGone f)) (sym same_prevs) is.0.traced.order))
+    (λ n. let before = prevs n in let low = is.0.traced.below n in omega arith)

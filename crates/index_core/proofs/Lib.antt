@@ -29,3 +29,4 @@ pub mod PartTries
 pub mod Endings
 pub mod Told
 pub mod Fulls
+pub mod Rounds

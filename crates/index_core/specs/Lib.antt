@@ -14,3 +14,4 @@ pub mod WeightBounds
 pub mod PartsOf
 pub mod MachineLaws
 pub mod Fulls
+pub mod Rounds

@@ -9,11 +9,13 @@ ghost use Rattle.pm_words.specs.Locations.{image_words};
 ghost use Rattle.index_core.specs.Crashes.{IsCrash, evicted_index};
 ghost use Rattle.index_core.specs.PartsOf.{index_in};
 ghost use Rattle.index_core.specs.Lone.{CountsCall, HasListed, HasListing, IsQuiet};
+ghost use Rattle.index_core.specs.PartyStates.{idle_states};
+ghost use Rattle.index_core.specs.Rounds.{BeginsRound};
 
 use crate::crash::{Crashed, Cuts};
 use crate::party::{CoreCall, CoreReply, InFlight, PartyState, Stepped, idle_states};
 use call_stages::{Once, Placed, View};
-use cat_history::{Change, Listed, Write};
+use cat_history::{Change, Listed, Write, replay};
 use cat_key::Pair;
 use node_ops::PartWords;
 use pm_words::offsets::volatile;
@@ -27,6 +29,9 @@ const FIRST_GENERATION: u64 = 1;
 
 /// The status of a listed node.
 const LIVE: u64 = 1;
+
+/// The address of the clock.
+const CLOCK: u64 = 0;
 
 /// An index in memory, with at most one call in flight for each caller.
 #[derive(Drop)]
@@ -234,6 +239,29 @@ impl Core {
         self.history.reserve((writes as usize).saturating_add(owed))
     }
 
+    /// Begins another round, with no call in flight. The base is the map as it is, in rising order of names, and its
+    /// history is empty; the clock is 0, and the indexes of each party's calls begin at 0. The nodes stay as they are,
+    /// and so do their words and what is durable. The room of the writes that were placed is spare again. On `NoMemory`
+    /// nothing changes.
+    ///
+    /// It takes time in proportion to the names and the history, and to the logarithm of the names.
+    pub fn new_round(&mut self) -> Result<(), NoMemory>
+        requires quiet { IsQuiet self.old }
+        ensures ok { OnOk result (BeginsRound self.old self.new) }
+        ensures spare { OnOk result (self.new.spare ≡ self.old.spare + length self.old.history) }
+        ensures err { OnErr result (self.new ≡ self.old) }
+        ensures quiet { IsQuiet self.new }
+        ensures index { IsIndex self.new }
+    {
+        let alloc = *self.history.allocator();
+        let base = replay(alloc, &self.base, self.history.as_slice())?;
+        self.memory.store(CLOCK, 0);
+        set_idle(&mut self.states);
+        self.base = base;
+        self.history.clear();
+        Ok(())
+    }
+
     /// Whether the party's call is a part of a scan that gives its node back next, and so has listed its names.
     pub(crate) fn has_listed(&self, party: u64) -> bool
         requires { IsInFlight self.now party }
@@ -307,5 +335,14 @@ fn count(history: &mut Vec<Write>, caller: u64, index: u64, counts: Option<Chang
             index,
             change,
         });
+    }
+}
+
+/// The parties as those that have made no call.
+fn set_idle(states: &mut Vec<PartyState>)
+    ensures { states.new.items ≡ idle_states (length states.old.items) }
+{
+    for caller in 0..states.len() {
+        states[caller] = PartyState::idle(caller as u64);
     }
 }
