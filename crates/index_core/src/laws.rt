@@ -5,13 +5,15 @@ ghost use Rattle.index_core.specs.MachineLaws.{PlacesFollow};
 ghost use Rattle.index_core.specs.LegalRounds.{LegalHistoryIsLegalRound, LegalHistoryKeepsLimit};
 ghost use Rattle.index_core.specs.Fulls.{NoRoomIsFullPut, NoRoomListsEach};
 ghost use Rattle.index_core.specs.WeightBounds.{WeightIsBounded};
+ghost use Rattle.index_core.specs.Rounds.{RoundBegins};
 ghost use Rattle.index_core.specs.Schedules.{OneLegalHistory, FreshIndexBegins};
 
 /// All that a schedule answers is one legal history.
 ///
-/// A schedule begins with an index in which no call is in flight and nothing is written yet, as a fresh one. It starts
-/// calls, steps them in any order, makes whole calls while no other is in flight, evicts words and makes room, as long
-/// as it likes. Fewer than 2^64 calls are begun, with those of a caller that counted before.
+/// A schedule begins with an index in which no call is in flight and nothing is written yet, as a fresh one, or one whose
+/// next round begins. It starts calls, steps them in any order, makes whole calls while no other is in flight, evicts
+/// words and makes room, as long as it likes. Fewer than 2^64 calls are begun, with those of a caller that counted
+/// before.
 ///
 /// - **Each once.** A call that was begun is answered once, or is in flight.
 /// - **Its answer.** The old number of a call that took place is that of its name in the map at its place. The place
@@ -30,6 +32,7 @@ ghost use Rattle.index_core.specs.Schedules.{OneLegalHistory, FreshIndexBegins};
 pub fn one_history_law()
     ensures history { OneLegalHistory }
     ensures fresh { FreshIndexBegins }
+    ensures round { RoundBegins }
 {}
 
 /// Once no call is in flight, the calls of such a history that took place are a legal round over its base: each write

@@ -1,4 +1,4 @@
-use Rattle.std.proofs.Common.{◌≡◌, ◌++◌, ◌<◌, [], List, length, drop, set, ap, sym, ◌∙◌, arith}
+use Rattle.std.proofs.Common.{◌≡◌, ◌++◌, ◌<◌, List, length, drop, set, ap, ◌∙◌, arith}
 use Rattle.std.proofs.lemmas.List.{append-nil, drop_all, length-set}
 use Rattle.index_core.specs.PartyStates.{idle_states}
 use Rattle.index_core.specs.declared.party.PartyState.{PartyState}
