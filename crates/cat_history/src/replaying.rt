@@ -69,3 +69,83 @@ fn change(names: &mut BTreeMap<Name, u64>, change: &Change) -> Result<(), NoMemo
     }
     Ok(())
 }
+
+#[cfg(test)]
+mod tests {
+    use super::*;
+    use std::test::Fail;
+
+    /// The pair of a name of one letter and its number.
+    fn pair(letter: u8, value: u64) -> Result<Pair, Fail> {
+        let name = Name::read(&[letter]).ok().ok_or("a name")?;
+        Ok(Pair { name, value })
+    }
+
+    /// A put of the pair, or where its number is 0 a delete of its name.
+    fn write(letter: u8, value: u64) -> Result<Write, Fail> {
+        let Pair { name, value } = pair(letter, value)?;
+        let change = if value == 0 {
+            Change::Del { name }
+        } else {
+            Change::Put { name, value }
+        };
+        Ok(Write {
+            caller: 0,
+            index: 0,
+            change,
+        })
+    }
+
+    /// Whether a replay of these writes over these pairs tells those that are left.
+    fn tells(
+        alloc: Global,
+        base: &[(u8, u64)],
+        writes: &[(u8, u64)],
+        left: &[(u8, u64)],
+    ) -> Result<bool, Fail> {
+        let mut pairs = Vec::new(alloc);
+        for (letter, value) in base {
+            pairs.push(pair(*letter, *value)?)?;
+        }
+        let mut history = Vec::new(alloc);
+        for (letter, value) in writes {
+            history.push(write(*letter, *value)?)?;
+        }
+        let told = replay(alloc, &Listed::of(pairs), history.as_slice())?;
+        let mut alike = told.as_slice().len() == left.len();
+        for (told, (letter, value)) in told.as_slice().iter().zip(left) {
+            let wanted = pair(*letter, *value)?;
+            alike = alike && told.name == wanted.name && told.value == wanted.value;
+        }
+        Ok(alike)
+    }
+
+    #[test]
+    fn tells_what_a_history_leaves(rt: HostRuntime) -> Result<(), Fail> {
+        // The base, the writes, of which 0 is a delete, and the pairs that are left.
+        let cases: [(&[(u8, u64)], &[(u8, u64)], &[(u8, u64)]); 6] = [
+            (&[], &[], &[]),
+            (&[(b'b', 2), (b'a', 1)], &[], &[(b'a', 1), (b'b', 2)]),
+            (&[(b'a', 1), (b'a', 2)], &[], &[(b'a', 1)]),
+            (
+                &[],
+                &[(b'c', 3), (b'a', 1), (b'c', 4)],
+                &[(b'a', 1), (b'c', 4)],
+            ),
+            (
+                &[(b'a', 1), (b'b', 2)],
+                &[(b'a', 0), (b'd', 0)],
+                &[(b'b', 2)],
+            ),
+            (
+                &[(b'a', 1)],
+                &[(b'a', 0), (b'a', 5), (b'b', 6), (b'b', 0)],
+                &[(b'a', 5)],
+            ),
+        ];
+        for (base, writes, left) in cases {
+            assert!(rt; tells(rt.alloc(), base, writes, left)?);
+        }
+        Ok(())
+    }
+}
