@@ -43,7 +43,9 @@ use Rattle.node_ops.specs.declared.finish.FinishAt.{FinishAt}
 use Rattle.node_ops.specs.declared.finish.FinishAt.TheVariants as finish_at
 use Rattle.node_ops.specs.declared.get.Get.TheVariants as get
 use Rattle.node_ops.specs.declared.put.Put.TheVariants as put
+use Rattle.node_ops.specs.declared.single_put.SinglePut.TheVariants as single_put
 use Rattle.node_ops.specs.declared.del.Del.TheVariants as del
+use Rattle.node_ops.specs.declared.single_del.SingleDel.TheVariants as single_del
 use Rattle.node_ops.specs.declared.running.Running.TheVariants.{Getting, Putting, Deleting, Parting}
 use Rattle.node_ops.specs.CallStages.{lookup_at_stage, finish_at_held}
 use Rattle.node_ops.proofs.OpLaw.{lookup_counts}
@@ -97,17 +99,17 @@ looking call at c is = absurd (let both : None ≡ Some c = sym (lookup_counts c
 counts_in_time : (m : Running) (c : Change) → counted (stage_of m) ≡ Some c → limit_in (stage_of m) ≡ (running_call m).limit
 counts_in_time (Getting (get.Looking lookup)) c is = looking lookup.call lookup.at c is
 counts_in_time (Getting (get.Unlocking call hold old)) c is = refl
-counts_in_time (Putting (put.Looking lookup value)) c is = looking lookup.call lookup.at c is
-counts_in_time (Putting (put.Filling fill)) c is = refl
-counts_in_time (Putting (put.Replacing call hold bitmap hit value)) c is = refl
-counts_in_time (Putting (put.Finishing finish)) c is = finish_limit finish finish.at
+counts_in_time (Putting (put.Single (single_put.Looking lookup value))) c is = looking lookup.call lookup.at c is
+counts_in_time (Putting (put.Single (single_put.Filling fill))) c is = refl
+counts_in_time (Putting (put.Single (single_put.Replacing call hold bitmap hit value))) c is = refl
+counts_in_time (Putting (put.Single (single_put.Finishing finish))) c is = finish_limit finish finish.at
 counts_in_time (Putting (put.Splitting call hold bitmap value split)) c is = absurd (let both : None ≡ Some c = sym (splitting_counts call hold bitmap value split) ∙ is in cc)
-counts_in_time (Deleting (del.Looking lookup)) c is = looking lookup.call lookup.at c is
-counts_in_time (Deleting (del.Next call hold bitmap hit)) c is = refl
-counts_in_time (Deleting (del.Taking call hold bitmap hit take)) c is = refl
-counts_in_time (Deleting (del.Refusing call hold bitmap hit)) c is = refl
-counts_in_time (Deleting (del.Clearing call hold bitmap hit line)) c is = refl
-counts_in_time (Deleting (del.Finishing finish line)) c is = finish_limit finish finish.at
+counts_in_time (Deleting (del.Single (single_del.Looking lookup))) c is = looking lookup.call lookup.at c is
+counts_in_time (Deleting (del.Single (single_del.Next call hold bitmap hit))) c is = refl
+counts_in_time (Deleting (del.Single (single_del.Taking call hold bitmap hit take))) c is = refl
+counts_in_time (Deleting (del.Single (single_del.Refusing call hold bitmap hit))) c is = refl
+counts_in_time (Deleting (del.Single (single_del.Clearing call hold bitmap hit line))) c is = refl
+counts_in_time (Deleting (del.Single (single_del.Finishing finish line))) c is = finish_limit finish finish.at
 counts_in_time (Deleting (del.Merging call hold old place merge)) c is = absurd (let both : None ≡ Some c = sym (merging_counts call hold old place merge) ∙ is in cc)
 counts_in_time (Parting p) c is = absurd (let both : None ≡ Some c = sym (part_counts p) ∙ is in cc)
 

@@ -27,8 +27,10 @@ use Rattle.node_ops.specs.declared.get.Get.{Get}
 use Rattle.node_ops.specs.declared.get.Get.TheVariants as get
 use Rattle.node_ops.specs.declared.put.Put.{Put}
 use Rattle.node_ops.specs.declared.put.Put.TheVariants as put
+use Rattle.node_ops.specs.declared.single_put.SinglePut.TheVariants as single_put
 use Rattle.node_ops.specs.declared.del.Del.{Del}
 use Rattle.node_ops.specs.declared.del.Del.TheVariants as del
+use Rattle.node_ops.specs.declared.single_del.SingleDel.TheVariants as single_del
 use Rattle.node_ops.specs.declared.part.Part.{Part}
 use Rattle.node_ops.specs.declared.part.Part.TheVariants as part
 use Rattle.node_ops.specs.declared.running.Running.{Running}
@@ -59,27 +61,27 @@ many None = 0
 many (Some change) = 1
 
 put_one : (put : Put) → owes (Putting put) ≤ 1
-put_one (put.Looking lookup value) = omega arith
-put_one (put.Filling fill) = omega arith
-put_one (put.Replacing call hold bitmap hit value) = omega arith
+put_one (put.Single (single_put.Looking lookup value)) = omega arith
+put_one (put.Single (single_put.Filling fill)) = omega arith
+put_one (put.Single (single_put.Replacing call hold bitmap hit value)) = omega arith
 put_one (put.Splitting call hold bitmap value split) = omega arith
-put_one (put.Finishing finish) = at finish.at
+put_one (put.Single (single_put.Finishing finish)) = at finish.at
   where
-    at : (at : FinishAt) → owes (Putting (put.Finishing (record finish { at = at }))) ≤ 1
+    at : (at : FinishAt) → owes (Putting (put.Single (single_put.Finishing (record finish { at = at })))) ≤ 1
     at (finish_at.Fence line fence) = omega arith
     at finish_at.Add = omega arith
     at (finish_at.Unlock place) = omega arith
 
 del_one : (del : Del) → owes (Deleting del) ≤ 1
-del_one (del.Looking lookup) = omega arith
-del_one (del.Next call hold bitmap hit) = omega arith
-del_one (del.Taking call hold bitmap hit take) = omega arith
-del_one (del.Refusing call hold bitmap hit) = omega arith
-del_one (del.Clearing call hold bitmap hit line) = omega arith
+del_one (del.Single (single_del.Looking lookup)) = omega arith
+del_one (del.Single (single_del.Next call hold bitmap hit)) = omega arith
+del_one (del.Single (single_del.Taking call hold bitmap hit take)) = omega arith
+del_one (del.Single (single_del.Refusing call hold bitmap hit)) = omega arith
+del_one (del.Single (single_del.Clearing call hold bitmap hit line)) = omega arith
 del_one (del.Merging call hold old place merge) = omega arith
-del_one (del.Finishing finish line) = at finish.at
+del_one (del.Single (single_del.Finishing finish line)) = at finish.at
   where
-    at : (at : FinishAt) → owes (Deleting (del.Finishing (record finish { at = at }) line)) ≤ 1
+    at : (at : FinishAt) → owes (Deleting (del.Single (single_del.Finishing (record finish { at = at }) line))) ≤ 1
     at (finish_at.Fence line fence) = omega arith
     at finish_at.Add = omega arith
     at (finish_at.Unlock place) = omega arith
@@ -114,7 +116,7 @@ part_owes (Go p) = refl
 part_owes (Done answer) = refl
 
 put_finish_pays : (finish : Finish) (at : FinishAt) (x : ℕ)
-    → owes_after (running_turned (Putting (put.Finishing (record finish { at = at }))) x) + many (counted (finish_stage (record finish { at = at }))) ≤ owes (Putting (put.Finishing (record finish { at = at })))
+    → owes_after (running_turned (Putting (put.Single (single_put.Finishing (record finish { at = at })))) x) + many (counted (finish_stage (record finish { at = at }))) ≤ owes (Putting (put.Single (single_put.Finishing (record finish { at = at }))))
 put_finish_pays finish (finish_at.Fence line fence) x = fenced (fence_next fence x)
   where
     fenced : (next : Option Fence) → owes_after (wrapped Putting (put_finished (finish_fenced (record finish { at = finish_at.Fence line fence }) line next))) + 0 ≤ 1
@@ -125,8 +127,8 @@ put_finish_pays finish (finish_at.Unlock place) x = omega arith
 
 -- a delete that merges has its place
 del_finish_pays : (finish : Finish) (line : Option ℕ) (at : FinishAt) (x : ℕ)
-    → owes_after (running_turned (Deleting (del.Finishing (record finish { at = at }) line)) x) + many (counted (finish_stage (record finish { at = at })))
-    ≤ owes (Deleting (del.Finishing (record finish { at = at }) line))
+    → owes_after (running_turned (Deleting (del.Single (single_del.Finishing (record finish { at = at }) line))) x) + many (counted (finish_stage (record finish { at = at })))
+    ≤ owes (Deleting (del.Single (single_del.Finishing (record finish { at = at }) line)))
 del_finish_pays finish line (finish_at.Fence first fence) x = fenced line (fence_next fence x)
   where
     fenced : (line : Option ℕ) (next : Option Fence) → owes_after (wrapped Deleting (del_finished line (finish_fenced (record finish { at = finish_at.Fence first fence }) first next))) + 0 ≤ 1
@@ -152,26 +154,26 @@ merging_owes call hold old place (Done merged) = refl
 
 pub pays : (running : Running) (x : ℕ) → owes_after (running_turned running x) + many (counted (stage_of running)) ≤ owes running
 pays (Getting get) x = let is = get_pays get x in let none : many (counted (stage_of (Getting get))) ≡ 0 = rw is.1 refl in let zero_after = is.0 in omega arith
-pays (Putting (put.Looking lookup value)) x =
-    let one = after_one (running_turned (Putting (put.Looking lookup value)) x) in
+pays (Putting (put.Single (single_put.Looking lookup value))) x =
+    let one = after_one (running_turned (Putting (put.Single (single_put.Looking lookup value))) x) in
     let none : many (counted (lookup_stage lookup)) ≡ 0 = rw (lookup_counts lookup.call lookup.at) refl in
     omega arith
-pays (Putting (put.Filling fill)) x = let one = after_one (running_turned (Putting (put.Filling fill)) x) in omega arith
-pays (Putting (put.Replacing call hold bitmap hit value)) x = omega arith
+pays (Putting (put.Single (single_put.Filling fill))) x = let one = after_one (running_turned (Putting (put.Single (single_put.Filling fill))) x) in omega arith
+pays (Putting (put.Single (single_put.Replacing call hold bitmap hit value))) x = omega arith
 pays (Putting (put.Splitting call hold bitmap value split)) x =
     let one = after_one (running_turned (Putting (put.Splitting call hold bitmap value split)) x) in
     let none : many (counted (stage_of (Putting (put.Splitting call hold bitmap value split)))) ≡ 0 = rw (splitting_counts call hold bitmap value split) refl in
     omega arith
-pays (Putting (put.Finishing finish)) x = put_finish_pays finish finish.at x
-pays (Deleting (del.Looking lookup)) x =
-    let one = after_one (running_turned (Deleting (del.Looking lookup)) x) in
+pays (Putting (put.Single (single_put.Finishing finish))) x = put_finish_pays finish finish.at x
+pays (Deleting (del.Single (single_del.Looking lookup))) x =
+    let one = after_one (running_turned (Deleting (del.Single (single_del.Looking lookup))) x) in
     let none : many (counted (lookup_stage lookup)) ≡ 0 = rw (lookup_counts lookup.call lookup.at) refl in
     omega arith
-pays (Deleting (del.Next call hold bitmap hit)) x = let one = after_one (running_turned (Deleting (del.Next call hold bitmap hit)) x) in omega arith
-pays (Deleting (del.Taking call hold bitmap hit take)) x = let one = after_one (running_turned (Deleting (del.Taking call hold bitmap hit take)) x) in omega arith
-pays (Deleting (del.Refusing call hold bitmap hit)) x = omega arith
-pays (Deleting (del.Clearing call hold bitmap hit line)) x = omega arith
-pays (Deleting (del.Finishing finish line)) x = del_finish_pays finish line finish.at x
+pays (Deleting (del.Single (single_del.Next call hold bitmap hit))) x = let one = after_one (running_turned (Deleting (del.Single (single_del.Next call hold bitmap hit))) x) in omega arith
+pays (Deleting (del.Single (single_del.Taking call hold bitmap hit take))) x = let one = after_one (running_turned (Deleting (del.Single (single_del.Taking call hold bitmap hit take))) x) in omega arith
+pays (Deleting (del.Single (single_del.Refusing call hold bitmap hit))) x = omega arith
+pays (Deleting (del.Single (single_del.Clearing call hold bitmap hit line))) x = omega arith
+pays (Deleting (del.Single (single_del.Finishing finish line))) x = del_finish_pays finish line finish.at x
 pays (Deleting (del.Merging call hold old place merge)) x =
     let nothing = merging_owes call hold old place (merge_turned merge x) in
     let none : many (counted (stage_of (Deleting (del.Merging call hold old place merge)))) ≡ 0 = rw (merging_counts call hold old place merge) refl in

@@ -5,7 +5,9 @@ use Rattle.cat_history.specs.declared.op.NameOp.TheVariants as op
 use Rattle.call_stages.specs.declared.view.View.{View}
 use Rattle.node_ops.specs.declared.get.Get.TheVariants as get
 use Rattle.node_ops.specs.declared.put.Put.TheVariants as put
+use Rattle.node_ops.specs.declared.single_put.SinglePut.TheVariants as single_put
 use Rattle.node_ops.specs.declared.del.Del.TheVariants as del
+use Rattle.node_ops.specs.declared.single_del.SingleDel.TheVariants as single_del
 use Rattle.node_ops.specs.declared.part.Part.TheVariants as part
 use Rattle.node_ops.specs.declared.running.Running.{Running}
 use Rattle.node_ops.specs.declared.running.Running.TheVariants.{Getting, Putting, Deleting, Parting}
@@ -59,8 +61,8 @@ MayBegin (call.Recheck node version) = ⊥
 
 -- The machine that makes the call, before its first action.
 abbrev pub machine_of : View → CoreCall → Running
-machine_of view (call.Put name value limit) = Putting (put.Looking (starts (new_call view name (Some limit))) value)
+machine_of view (call.Put name value limit) = Putting (put.Single (single_put.Looking (starts (new_call view name (Some limit))) value))
 machine_of view (call.Get name) = Getting (get.Looking (starts (new_call view name None)))
-machine_of view (call.Del name limit) = Deleting (del.Looking (starts (new_call view name (Some limit))))
+machine_of view (call.Del name limit) = Deleting (del.Single (single_del.Looking (starts (new_call view name (Some limit)))))
 machine_of view (call.Part low count) = Parting (part.Looking (starts (new_call view low None)) count None)
 machine_of view (call.Recheck node version) = Getting (get.Looking (starts (new_call view [] None)))

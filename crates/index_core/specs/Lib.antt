@@ -1,5 +1,6 @@
 pub mod CoreCalls
 pub mod PartyStates
+pub mod InFlight
 pub mod Answers
 pub mod Listings
 pub mod Indexes

@@ -13,8 +13,10 @@ use Rattle.node_ops.specs.declared.finish.FinishAt.{FinishAt}
 use Rattle.node_ops.specs.declared.finish.FinishAt.TheVariants as finish_at
 use Rattle.node_ops.specs.declared.put.Put.{Put}
 use Rattle.node_ops.specs.declared.put.Put.TheVariants as put
+use Rattle.node_ops.specs.declared.single_put.SinglePut.TheVariants as single_put
 use Rattle.node_ops.specs.declared.del.Del.{Del}
 use Rattle.node_ops.specs.declared.del.Del.TheVariants as del
+use Rattle.node_ops.specs.declared.single_del.SingleDel.TheVariants as single_del
 use Rattle.node_ops.specs.declared.part.PartWords.{PartWords}
 use Rattle.node_ops.specs.declared.running.Running.{Running}
 use Rattle.node_ops.specs.declared.running.Running.TheVariants.{Getting, Putting, Deleting, Parting}
@@ -79,6 +81,11 @@ index_after index _ = next_index index
 abbrev pub state_counted : PartyState → PartyState
 state_counted state = record state { index = next_index state.index }
 
+-- The call in flight after its turn.
+abbrev pub flight_after : Turn Running (Once Placed) → Option Running
+flight_after (Go machine) = Some machine
+flight_after (Done answer) = None
+
 -- After its call's turn.
 abbrev pub state_after : PartyState → Turn Running (Once Placed) → PartyState
 state_after state (Go machine) = record state { machine = Some machine }
@@ -127,11 +134,11 @@ finish_owes finish_at.Add = 1
 finish_owes (finish_at.Unlock place) = 0
 
 abbrev put_owes : Put → ℕ
-put_owes (put.Finishing finish) = finish_owes finish.at
+put_owes (put.Single (single_put.Finishing finish)) = finish_owes finish.at
 put_owes _ = 1
 
 abbrev del_owes : Del → ℕ
-del_owes (del.Finishing finish line) = finish_owes finish.at
+del_owes (del.Single (single_del.Finishing finish line)) = finish_owes finish.at
 del_owes (del.Merging call hold old place merge) = 0
 del_owes _ = 1
 

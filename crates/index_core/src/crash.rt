@@ -61,10 +61,13 @@ impl Cuts {
         ensures { result ≡ cut_at self.now party }
     {
         let state = self.states.get(party as usize)?;
-        let machine = state.machine?;
+        if !state.machine.flies() {
+            return None;
+        }
+        let machine = state.machine.running();
         Some(CutCall {
             party: state.caller,
-            call: CoreCall::of(&machine),
+            call: CoreCall::of(machine),
             place: machine.place(),
         })
     }

@@ -141,7 +141,7 @@ impl Core {
         ensures index { IsIndex self.new }
     {
         let at = party as usize;
-        if self.states[at].machine.is_some() {
+        if self.states[at].machine.flies() {
             return Err(InFlight);
         }
         let view = View {
@@ -166,9 +166,7 @@ impl Core {
         ensures tick { steps.new ≡ steps.old + 1 }
         ensures index { IsIndex self.new }
     {
-        let Some(machine) = &self.states[party as usize].machine else {
-            unreachable!()
-        };
+        let machine = self.states[party as usize].machine.running();
         let count = machine.count();
         let listed = machine.listed();
         match self.turn(party, steps) {
@@ -197,9 +195,7 @@ impl Core {
             machine,
             ..
         } = &self.states[at];
-        let Some(machine) = machine else {
-            unreachable!()
-        };
+        let machine = machine.running();
         let action = machine.action();
         let counts = machine.counts();
         let (caller, index) = (*caller, *index);
@@ -267,9 +263,7 @@ impl Core {
         requires { IsInFlight self.now party }
         ensures { IsTrue result ↔ HasListing self.now party }
     {
-        let Some(machine) = &self.states[party as usize].machine else {
-            unreachable!()
-        };
+        let machine = self.states[party as usize].machine.running();
         machine.has_listed()
     }
 
@@ -278,9 +272,7 @@ impl Core {
         requires { HasListing self.now party }
         ensures { HasListed self.now party result }
     {
-        let Some(machine) = &self.states[party as usize].machine else {
-            unreachable!()
-        };
+        let machine = self.states[party as usize].machine.running();
         let Some(words) = machine.listed() else {
             unreachable!()
         };
@@ -295,9 +287,7 @@ impl Core {
         ensures spare { self.new.spare ≡ self.old.spare }
         ensures index { IsIndex self.new }
     {
-        let at = party as usize;
-        let state = self.states[at];
-        self.states[at] = state.counted();
+        self.states[party as usize].counts();
     }
 
     /// The writes placed since the base, each at its place.

@@ -6,12 +6,14 @@
 
 mod call;
 mod crash;
+mod flight;
 mod index;
 pub mod laws;
 mod lone;
 mod party;
 
 pub use crash::{Crashed, CutCall, Cuts};
+pub use flight::Flight;
 pub use index::{Core, Parts};
 pub use party::{CoreCall, CoreReply, InFlight, PartyState, Stepped, Whole};
 

@@ -2,9 +2,10 @@ ghost use Rattle.std.specs.Prelude.{◌≡◌, IfOk};
 ghost use Rattle.index_core.specs.PartyStates.{idle_states};
 ghost use Rattle.index_core.specs.Lone.{needs_split};
 
+use crate::flight::Flight;
 use call_stages::{Once, Placed, View};
 use cat_key::Name;
-use node_ops::{Part, PartWords, Running};
+use node_ops::{Part, PartWords};
 use pm_words::{Again, NoMemory};
 use std::alloc::Global;
 
@@ -23,7 +24,7 @@ pub enum CoreCall {
 }
 
 /// A party and its call in flight, if it has one.
-#[derive(Clone, Copy)]
+#[derive(Drop)]
 pub struct PartyState {
     /// The party's number.
     pub caller: u64,
@@ -33,7 +34,7 @@ pub struct PartyState {
     /// How long the history was as its call in flight, or else its last one, began.
     pub since: u64,
     /// The machine that makes its call in flight.
-    pub machine: Option<Running>,
+    pub machine: Flight,
 }
 
 /// What a call is answered.
@@ -126,7 +127,6 @@ impl CoreReply {
 impl PartyState {
     ghost use Rattle.std.specs.Prelude.{◌≡◌, IfSome, IsSomeAnd};
     ghost use Rattle.pm_words.specs.Turns.{GoesBelow};
-    ghost use Rattle.pm_words.specs.declared.machine.Turn.TheVariants as Turn;
     ghost use Rattle.call_stages.specs.Views.{IsView};
     ghost use Rattle.node_ops.specs.Asked.{IsOf};
     ghost use Rattle.node_ops.specs.CallStages.{reply_of};
@@ -142,7 +142,7 @@ impl PartyState {
             caller,
             index: 0,
             since: 0,
-            machine: None,
+            machine: Flight::idle(),
         }
     }
 
@@ -155,7 +155,7 @@ impl PartyState {
         ensures op { IsOf (op_of call) (machine_of view call) }
     {
         self.since = since;
-        self.machine = Some(call.machine(view));
+        self.machine.begins(call.machine(view));
     }
 
     /// The index of its next call: one that is turned back uses up none.
@@ -168,14 +168,11 @@ impl PartyState {
         }
     }
 
-    /// The party with one call counted more.
-    pub(crate) fn counted(self) -> PartyState
-        ensures { result ≡ state_counted self }
+    /// One call more of it is counted.
+    pub(crate) fn counts(&mut self)
+        ensures { self.new ≡ state_counted self.old }
     {
-        PartyState {
-            index: self.index.saturating_add(1),
-            ..self
-        }
+        self.index = self.index.saturating_add(1);
     }
 
     /// Tells its call in flight the number that its action gave.
@@ -187,22 +184,11 @@ impl PartyState {
         ensures fewer { IfSome self.old.machine
             (λ machine. GoesBelow running_left (running_left machine) (running_turned machine got)) }
     {
-        let Some(machine) = &mut self.machine else {
-            unreachable!()
-        };
-        let answer = machine.advance(got);
+        let answer = self.machine.advance(got);
         if let Some(once) = answer {
-            self.ends(once);
+            self.index = self.index_after(once);
         }
         answer
-    }
-
-    /// Its call is answered.
-    fn ends(&mut self, answer: Once<Placed>)
-        ensures { self.new ≡ state_after self.old (Turn.Done answer) }
-    {
-        self.index = self.index_after(answer);
-        self.machine = None;
     }
 }
 

@@ -40,6 +40,7 @@ use Rattle.split_merge.specs.Merges.{merge_at_turned, merge_turned}
 use Rattle.node_ops.specs.declared.call.Call.{Call}
 use Rattle.node_ops.specs.declared.del.Del.{Del}
 use Rattle.node_ops.specs.declared.del.Del.TheVariants as del
+use Rattle.node_ops.specs.declared.single_del.SingleDel.TheVariants as single_del
 use Rattle.node_ops.specs.declared.finish.Finish.{Finish}
 use Rattle.node_ops.specs.declared.finish.FinishAt.{FinishAt}
 use Rattle.node_ops.specs.declared.finish.FinishAt.TheVariants as finish_at
@@ -106,12 +107,12 @@ module _ (name : List ℕ) (w0 : World) (i : ℕ) (w : World) (p : Party) (o : T
   found_foresees : (call : Call) (found : Found) (hit : Option Hit) (action : Action) → name_in call ≡ name → After action (Go (del_hit call found.hold found.directory.bitmap hit))
       → DelForesees w0 name (del_hit call found.hold found.directory.bitmap hit)
   found_foresees call found None action named after = λ merges.
-      let next : Del = del.Finishing (record { call = call; hold = found.hold; old = None; new = None; at = finish_at.Add }) None in
+      let next : Del = del.Single (single_del.Finishing (record { call = call; hold = found.hold; old = None; new = None; at = finish_at.Add }) None) in
       absent_unmerged name own w0 i (stepped w i p action (del_stage next)) (moved_on p (del_stage next)) (after next refl) call.node found.hold.locked
       (finish_at_held (record { call = call; hold = found.hold; old = None; new = None; at = finish_at.Add }) finish_at.Add) refl named refl refl merges.0
   found_foresees call found (Some hit) action named after =
       elim (nat_lt (call.view.layout.slots / 2) (names_left call found.directory.bitmap hit)) as (λ b. nat_lt (call.view.layout.slots / 2) (names_left call found.directory.bitmap hit) ≡ b
-      → DelForesees w0 name (cond b (del.Clearing call found.hold found.directory.bitmap hit None) (del.Next call found.hold found.directory.bitmap hit))) [
+      → DelForesees w0 name (cond b (del.Single (single_del.Clearing call found.hold found.directory.bitmap hit None)) (del.Single (single_del.Next call found.hold found.directory.bitmap hit)))) [
         | true ↦ λ many. inl (ltb-true (call.view.layout.slots / 2) (names_left call found.directory.bitmap hit) many)
         | false ↦ λ _. tt
       ] refl
@@ -122,10 +123,10 @@ module _ (name : List ℕ) (w0 : World) (i : ℕ) (w : World) (p : Party) (o : T
   looked_foresees call (Done (looked.Found found)) action named after = found_foresees call found found.hit action named after
 
   -- its node leads to none, or it takes a line
-  next_foresees : (call : Call) (hold : Hold) (bitmap : ℕ) (hit : Hit) (x : ℕ) → p.stage ≡ del_stage (del.Next call hold bitmap hit) → name_in call ≡ name → call.node < w.layout.nodes → call.view.layout ≡ w.layout
+  next_foresees : (call : Call) (hold : Hold) (bitmap : ℕ) (hit : Hit) (x : ℕ) → p.stage ≡ del_stage (del.Single (single_del.Next call hold bitmap hit)) → name_in call ≡ name → call.node < w.layout.nodes → call.view.layout ≡ w.layout
       → x ≡ got w.layout w.words (Load (call_address call next_offset)) → DelForesees w0 name (saw_next call hold bitmap hit x)
   next_foresees call hold bitmap hit x stage named within layout told =
-      elim (x == 0) as (λ b. (x == 0) ≡ b → DelForesees w0 name (cond b (del.Clearing call hold bitmap hit None) (del.Taking call hold bitmap hit (take_from call.view.layout call.view.caller)))) [
+      elim (x == 0) as (λ b. (x == 0) ≡ b → DelForesees w0 name (cond b (del.Single (single_del.Clearing call hold bitmap hit None)) (del.Single (single_del.Taking call hold bitmap hit (take_from call.view.layout call.view.caller))))) [
         | true ↦ λ zero. inr (λ merges. alone_unmerged name own w0 i w p o call.node hold.locked _ stage refl named (word ∙ eqb-true x 0 zero) merges.0)
         | false ↦ λ _. tt
       ] refl
@@ -141,14 +142,14 @@ module _ (name : List ℕ) (w0 : World) (i : ℕ) (w : World) (p : Party) (o : T
 
   -- once the bit is clear, its node has as many names as it left
   cleared_foresees : (call : Call) (hold : Hold) (bitmap : ℕ) (hit : Hit) (line : Option ℕ) → name_in call ≡ name → call.node < w.layout.nodes → call.view.layout ≡ w.layout
-      → After (Store (call_address call bitmap_offset) (without_live bitmap hit.slot)) (Go (del.Finishing (cleared call hold hit) line)) → DelForesees w0 name (del.Clearing call hold bitmap hit line)
-      → DelForesees w0 name (del.Finishing (cleared call hold hit) line)
+      → After (Store (call_address call bitmap_offset) (without_live bitmap hit.slot)) (Go (del.Single (single_del.Finishing (cleared call hold hit) line))) → DelForesees w0 name (del.Single (single_del.Clearing call hold bitmap hit line))
+      → DelForesees w0 name (del.Single (single_del.Finishing (cleared call hold hit) line))
   cleared_foresees call hold bitmap hit (Some line) named within layout after so = (hit.value, refl)
   cleared_foresees call hold bitmap hit None named within layout after so = ⊎_elim (λ many. λ merges. unmerged many merges.0) (λ none. none) so
     where
       unmerged : call.view.layout.slots / 2 < names_left call bitmap hit → ShapeMerges w0 name → ⊥
       unmerged many shape =
-          let next : Del = del.Finishing (cleared call hold hit) None in
+          let next : Del = del.Single (single_del.Finishing (cleared call hold hit) None) in
           let action : Action = Store (call_address call bitmap_offset) (without_live bitmap hit.slot) in
           let w' : World = stepped w i p action (del_stage next) in
           let word : (facts w').now call.node bitmap_offset ≡ without_live bitmap hit.slot =
@@ -160,13 +161,13 @@ module _ (name : List ℕ) (w0 : World) (i : ℕ) (w : World) (p : Party) (o : T
           (ap (λ (n : List ℕ). Some (Deletes n)) named) (omega arith) shape
 
   -- the end of a write keeps what was found out
-  goes_foresees : (finish : Finish) (line : Option ℕ) → DelForesees w0 name (del.Finishing finish line) → (at : FinishAt) → DelForesees w0 name (goes_on (record finish { at = at }) line)
+  goes_foresees : (finish : Finish) (line : Option ℕ) → DelForesees w0 name (del.Single (single_del.Finishing finish line)) → (at : FinishAt) → DelForesees w0 name (goes_on (record finish { at = at }) line)
   goes_foresees finish None so at = so
   goes_foresees finish (Some number) so (finish_at.Fence first fence) = so
   goes_foresees finish (Some number) so finish_at.Add = so
   goes_foresees finish (Some number) so (finish_at.Unlock place) = (so, tt)
 
-  finished_foresees : (finish : Finish) (line : Option ℕ) (x : ℕ) → DelForesees w0 name (del.Finishing finish line) → (at : FinishAt) → DelForeseesSo w0 name (del_finished line (finish_at_turned finish at x))
+  finished_foresees : (finish : Finish) (line : Option ℕ) (x : ℕ) → DelForesees w0 name (del.Single (single_del.Finishing finish line)) → (at : FinishAt) → DelForeseesSo w0 name (del_finished line (finish_at_turned finish at x))
   finished_foresees finish line x so (finish_at.Fence first fence) = on (fence_next fence x)
     where
       on : (o : Option Fence) → DelForeseesSo w0 name (del_finished line (finish_fenced finish first o))
@@ -183,14 +184,14 @@ module _ (name : List ℕ) (w0 : World) (i : ℕ) (w : World) (p : Party) (o : T
   pub del_foresees : (machine : Del) (x : ℕ) → IsDel machine → name_in (del_call machine) ≡ name → (del_call machine).view.layout ≡ w.layout → (del_call machine).view.generation ≡ w.generation → p.stage ≡ del_stage machine
       → DelForesees w0 name machine → HasLocked w.generation (facts w0).version (facts w).version (del_leaves machine) (del_stage machine) → x ≡ got w.layout w.words (del_asks machine)
       → After (del_asks machine) (del_turned machine x) → DelForeseesSo w0 name (del_turned machine x)
-  del_foresees (del.Looking lookup) x sound named layout generation stage so locks told after = looked_foresees lookup.call (lookup_turned lookup x) (del_asks (del.Looking lookup)) named after
-  del_foresees (del.Next call hold bitmap hit) x sound named layout generation stage so locks told after =
+  del_foresees (del.Single (single_del.Looking lookup)) x sound named layout generation stage so locks told after = looked_foresees lookup.call (lookup_turned lookup x) (del_asks (del.Single (single_del.Looking lookup))) named after
+  del_foresees (del.Single (single_del.Next call hold bitmap hit)) x sound named layout generation stage so locks told after =
       next_foresees call hold bitmap hit x stage named (subst (λ (l : Layout). call.node < l.nodes) layout sound.0.call.node) layout told
-  del_foresees (del.Taking call hold bitmap hit take) x sound named layout generation stage so locks told after = taken_foresees call hold bitmap hit (take_turned take x)
-  del_foresees (del.Refusing call hold bitmap hit) x sound named layout generation stage so locks told after = tt
-  del_foresees (del.Clearing call hold bitmap hit line) x sound named layout generation stage so locks told after =
+  del_foresees (del.Single (single_del.Taking call hold bitmap hit take)) x sound named layout generation stage so locks told after = taken_foresees call hold bitmap hit (take_turned take x)
+  del_foresees (del.Single (single_del.Refusing call hold bitmap hit)) x sound named layout generation stage so locks told after = tt
+  del_foresees (del.Single (single_del.Clearing call hold bitmap hit line)) x sound named layout generation stage so locks told after =
       cleared_foresees call hold bitmap hit line named (subst (λ (l : Layout). call.node < l.nodes) layout sound.0.call.node) layout after so
-  del_foresees (del.Finishing finish line) x sound named layout generation stage so locks told after = finished_foresees finish line x so finish.at
+  del_foresees (del.Single (single_del.Finishing finish line)) x sound named layout generation stage so locks told after = finished_foresees finish line x so finish.at
   del_foresees (del.Merging call hold old place merge) x sound named layout generation stage so locks told after =
       let own_layout : merge.view.layout ≡ w.layout = ap (λ (v : View). v.layout) sound.view ∙ layout in
       let own_generation : merge.view.generation ≡ w.generation = ap (λ (v : View). v.generation) sound.view ∙ generation in
@@ -244,7 +245,7 @@ module _ (w0 : World) (name : List ℕ) (l : Layout) (g : ℕ) (f : Facts) (call
   merge_ends call hold old place merge (merge_at.Leave near) x legal so done = ((λ _. so), λ merged. absurd (both merged refl))
 
   -- the end of a write that merges nothing
-  finish_ends : (finish : Finish) (line : Option ℕ) (at : FinishAt) → IfSome line (λ number. IsUnplaced at) → placed_in (Holds finish.call.node finish.hold.locked (finish_at_held finish at)) ≢ None → DelForesees w0 name (del.Finishing finish line)
+  finish_ends : (finish : Finish) (line : Option ℕ) (at : FinishAt) → IfSome line (λ number. IsUnplaced at) → placed_in (Holds finish.call.node finish.hold.locked (finish_at_held finish at)) ≢ None → DelForesees w0 name (del.Single (single_del.Finishing finish line))
       → EndsSo w0 name (Holds finish.call.node finish.hold.locked (finish_at_held finish at))
   finish_ends finish None at free given so = ((λ _. so), λ merged. absurd (both merged (finish_unmerged finish at)))
   finish_ends finish (Some line) (finish_at.Fence first fence) free given so = absurd (given refl)
@@ -252,10 +253,10 @@ module _ (w0 : World) (name : List ℕ) (l : Layout) (g : ℕ) (f : Facts) (call
   finish_ends finish (Some line) (finish_at.Unlock place) free given so = absurd free
 
   pub del_ends : (machine : Del) (x : ℕ) → IsDel machine → DelForesees w0 name machine → Legal (del_stage machine) → placed_in (del_stage machine) ≢ None → del_turned machine x ≡ Done (once.Done placed) → EndsSo w0 name (del_stage machine)
-  del_ends (del.Looking lookup) x sound so legal given done = absurd (given (looks_unplaced lookup.call lookup.at))
-  del_ends (del.Next call hold bitmap hit) x sound so legal given done = absurd (given refl)
-  del_ends (del.Taking call hold bitmap hit take) x sound so legal given done = absurd (given refl)
-  del_ends (del.Refusing call hold bitmap hit) x sound so legal given done = absurd (given refl)
-  del_ends (del.Clearing call hold bitmap hit line) x sound so legal given done = absurd (given refl)
-  del_ends (del.Finishing finish line) x sound so legal given done = finish_ends finish line finish.at sound.1 given so
+  del_ends (del.Single (single_del.Looking lookup)) x sound so legal given done = absurd (given (looks_unplaced lookup.call lookup.at))
+  del_ends (del.Single (single_del.Next call hold bitmap hit)) x sound so legal given done = absurd (given refl)
+  del_ends (del.Single (single_del.Taking call hold bitmap hit take)) x sound so legal given done = absurd (given refl)
+  del_ends (del.Single (single_del.Refusing call hold bitmap hit)) x sound so legal given done = absurd (given refl)
+  del_ends (del.Single (single_del.Clearing call hold bitmap hit line)) x sound so legal given done = absurd (given refl)
+  del_ends (del.Single (single_del.Finishing finish line)) x sound so legal given done = finish_ends finish line finish.at sound.1 given so
   del_ends (del.Merging call hold old place merge) x sound so legal given done = merge_ends call hold old place merge merge.at x legal so.1 done

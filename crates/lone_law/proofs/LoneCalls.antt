@@ -41,12 +41,14 @@ use Rattle.node_ops.specs.declared.call.Call.{Call}
 use Rattle.node_ops.specs.declared.get.Get.{Get}
 use Rattle.node_ops.specs.declared.get.Get.TheVariants as get
 use Rattle.node_ops.specs.declared.del.Del.TheVariants as del
+use Rattle.node_ops.specs.declared.single_del.SingleDel.TheVariants as single_del
 use Rattle.node_ops.specs.declared.lookup.LookupAt.{LookupAt}
 use Rattle.node_ops.specs.declared.lookup.LookupAt.TheVariants as look
 use Rattle.data_list.specs.WalkStages.{walk_stage}
 use Rattle.data_list.proofs.WalkLaw.{walk_loose}
 use Rattle.node_ops.specs.declared.put.Put.{Put}
 use Rattle.node_ops.specs.declared.put.Put.TheVariants as put
+use Rattle.node_ops.specs.declared.single_put.SinglePut.TheVariants as single_put
 use Rattle.node_ops.specs.declared.del.Del.{Del}
 use Rattle.node_ops.specs.declared.part.Part.{Part}
 use Rattle.node_ops.specs.declared.part.Part.TheVariants as part
@@ -290,17 +292,17 @@ alone_parts s t after r alone = record { parts = λ two. absurd (alone two); las
 parts_once : (m : Running) (x : ℕ) → PartsOnce (stage_of m) (is_leaving m) (stage_after (running_turned m x)) (leaves_after (running_turned m x)) (reply_of (running_turned m x))
 parts_once (Getting (get.Looking lookup)) x = alone_parts _ _ _ _ (few_parts _ (looks_one lookup.call lookup.at))
 parts_once (Getting (get.Unlocking call hold old)) x = alone_parts _ _ _ _ (λ two. two)
-parts_once (Putting (put.Looking lookup value)) x = alone_parts _ _ _ _ (few_parts _ (looks_one lookup.call lookup.at))
-parts_once (Putting (put.Filling fill)) x = alone_parts _ _ _ _ (λ two. two)
-parts_once (Putting (put.Replacing call hold bitmap hit value)) x = alone_parts _ _ _ _ (λ two. two)
-parts_once (Putting (put.Finishing finish)) x = alone_parts _ _ _ _ (λ two. two)
+parts_once (Putting (put.Single (single_put.Looking lookup value))) x = alone_parts _ _ _ _ (few_parts _ (looks_one lookup.call lookup.at))
+parts_once (Putting (put.Single (single_put.Filling fill))) x = alone_parts _ _ _ _ (λ two. two)
+parts_once (Putting (put.Single (single_put.Replacing call hold bitmap hit value))) x = alone_parts _ _ _ _ (λ two. two)
+parts_once (Putting (put.Single (single_put.Finishing finish))) x = alone_parts _ _ _ _ (λ two. two)
 parts_once (Putting (put.Splitting call hold bitmap value split)) x = alone_parts _ _ _ _ (split_parts _ _ (stages_are_of_splits (found_full call hold bitmap) split))
-parts_once (Deleting (del.Looking lookup)) x = alone_parts _ _ _ _ (few_parts _ (looks_one lookup.call lookup.at))
-parts_once (Deleting (del.Next call hold bitmap hit)) x = alone_parts _ _ _ _ (λ two. two)
-parts_once (Deleting (del.Taking call hold bitmap hit take)) x = alone_parts _ _ _ _ (λ two. two)
-parts_once (Deleting (del.Refusing call hold bitmap hit)) x = alone_parts _ _ _ _ (λ two. two)
-parts_once (Deleting (del.Clearing call hold bitmap hit line)) x = alone_parts _ _ _ _ (λ two. two)
-parts_once (Deleting (del.Finishing finish line)) x = alone_parts _ _ _ _ (λ two. two)
+parts_once (Deleting (del.Single (single_del.Looking lookup))) x = alone_parts _ _ _ _ (few_parts _ (looks_one lookup.call lookup.at))
+parts_once (Deleting (del.Single (single_del.Next call hold bitmap hit))) x = alone_parts _ _ _ _ (λ two. two)
+parts_once (Deleting (del.Single (single_del.Taking call hold bitmap hit take))) x = alone_parts _ _ _ _ (λ two. two)
+parts_once (Deleting (del.Single (single_del.Refusing call hold bitmap hit))) x = alone_parts _ _ _ _ (λ two. two)
+parts_once (Deleting (del.Single (single_del.Clearing call hold bitmap hit line))) x = alone_parts _ _ _ _ (λ two. two)
+parts_once (Deleting (del.Single (single_del.Finishing finish line))) x = alone_parts _ _ _ _ (λ two. two)
 parts_once (Deleting (del.Merging call hold old place merge)) x = on (merge_turned merge x) (merge_parts (has_place call old place) merge x)
   where
     on : (turn : Turn Merge Merged) → MergeParts (has_place call old place) merge turn
@@ -326,20 +328,20 @@ one_for name own (Joins h left right pace) one = absurd one
 machine_for : (w0 : World) (asked : NameOp) (m : Running) → IsOf asked m → Foresees w0 asked m → IsFor (name_asked asked) (change_of asked) (stage_of m)
 machine_for w0 asked (Getting (get.Looking lookup)) of so = one_for _ _ _ (looks_one lookup.call lookup.at)
 machine_for w0 asked (Getting (get.Unlocking call hold old)) of so = tt
-machine_for w0 asked (Putting (put.Looking lookup value)) of so = one_for _ _ _ (looks_one lookup.call lookup.at)
-machine_for w0 asked (Putting (put.Filling fill)) of so = tt
-machine_for w0 asked (Putting (put.Replacing call hold bitmap hit value)) of so = tt
-machine_for w0 asked (Putting (put.Finishing finish)) of so = tt
+machine_for w0 asked (Putting (put.Single (single_put.Looking lookup value))) of so = one_for _ _ _ (looks_one lookup.call lookup.at)
+machine_for w0 asked (Putting (put.Single (single_put.Filling fill))) of so = tt
+machine_for w0 asked (Putting (put.Single (single_put.Replacing call hold bitmap hit value))) of so = tt
+machine_for w0 asked (Putting (put.Single (single_put.Finishing finish))) of so = tt
 machine_for w0 (op.Put name number) (Putting (put.Splitting call hold bitmap value split)) of so =
     split_is_for (found_full call hold bitmap) name _ _ of.0 refl (stages_are_of_splits (found_full call hold bitmap) split)
 machine_for w0 (op.Get name) (Putting (put.Splitting call hold bitmap value split)) of so = absurd of
 machine_for w0 (op.Del name) (Putting (put.Splitting call hold bitmap value split)) of so = absurd of
-machine_for w0 asked (Deleting (del.Looking lookup)) of so = one_for _ _ _ (looks_one lookup.call lookup.at)
-machine_for w0 asked (Deleting (del.Next call hold bitmap hit)) of so = tt
-machine_for w0 asked (Deleting (del.Taking call hold bitmap hit take)) of so = tt
-machine_for w0 asked (Deleting (del.Refusing call hold bitmap hit)) of so = tt
-machine_for w0 asked (Deleting (del.Clearing call hold bitmap hit line)) of so = tt
-machine_for w0 asked (Deleting (del.Finishing finish line)) of so = tt
+machine_for w0 asked (Deleting (del.Single (single_del.Looking lookup))) of so = one_for _ _ _ (looks_one lookup.call lookup.at)
+machine_for w0 asked (Deleting (del.Single (single_del.Next call hold bitmap hit))) of so = tt
+machine_for w0 asked (Deleting (del.Single (single_del.Taking call hold bitmap hit take))) of so = tt
+machine_for w0 asked (Deleting (del.Single (single_del.Refusing call hold bitmap hit))) of so = tt
+machine_for w0 asked (Deleting (del.Single (single_del.Clearing call hold bitmap hit line))) of so = tt
+machine_for w0 asked (Deleting (del.Single (single_del.Finishing finish line))) of so = tt
 machine_for w0 (op.Del name) (Deleting (del.Merging call hold old place merge)) of so =
     merge_is_for name (Some (change.Del name)) (has_place call old place) _ (merging_stage call old place merge)
     (record { named = of.0; deletes = refl; placed = λ e. cc; value = so.0.0; old = ap (λ (q : Option ℕ). Some q) so.0.1 })
@@ -368,10 +370,10 @@ one_or_splits : (m : Running) → HasOne m ⊎ MayLackRoom m
 one_or_splits (Getting m) = inl tt
 one_or_splits (Deleting m) = inl tt
 one_or_splits (Parting m) = inl tt
-one_or_splits (Putting (put.Looking lookup value)) = inl tt
-one_or_splits (Putting (put.Filling fill)) = inl tt
-one_or_splits (Putting (put.Replacing call hold bitmap hit value)) = inl tt
-one_or_splits (Putting (put.Finishing finish)) = inl tt
+one_or_splits (Putting (put.Single (single_put.Looking lookup value))) = inl tt
+one_or_splits (Putting (put.Single (single_put.Filling fill))) = inl tt
+one_or_splits (Putting (put.Single (single_put.Replacing call hold bitmap hit value))) = inl tt
+one_or_splits (Putting (put.Single (single_put.Finishing finish))) = inl tt
 one_or_splits (Putting (put.Splitting call hold bitmap value split)) = inr tt
 
 not_past : (m : Running) (x : ℕ) → HasOne m → IsNotPast (running_turned m x)
@@ -390,7 +392,7 @@ not_past (Parting m) x one = of (part_turned m x)
     of : (turn : Turn Part (Once PartWords)) → IsNotPast (wrapped_part turn)
     of (Go next) = λ past. past
     of (Done answer) = tt
-not_past (Putting (put.Looking lookup value)) x one = of (lookup_turned lookup x)
+not_past (Putting (put.Single (single_put.Looking lookup value))) x one = of (lookup_turned lookup x)
   where
     full : (found : Found) (hit : Option Hit) → IsPast (Putting (put_full lookup.call found.hold found.directory.bitmap hit value)) → ⊥
     full found (Some hit) past = past
@@ -404,13 +406,13 @@ not_past (Putting (put.Looking lookup value)) x one = of (lookup_turned lookup x
     of (Go next) = λ past. past
     of (Done (looked.Early answer)) = tt
     of (Done (looked.Found found)) = into found (lowest_clear found.directory.bitmap lookup.call.view.layout.slots)
-not_past (Putting (put.Filling fill)) x one = of (fill_turned fill x)
+not_past (Putting (put.Single (single_put.Filling fill))) x one = of (fill_turned fill x)
   where
     of : (turn : Turn Fill Finish) → IsNotPast (wrapped Putting (put_filled turn))
     of (Go next) = λ past. past
     of (Done finish) = λ past. past
-not_past (Putting (put.Replacing call hold bitmap hit value)) x one = λ past. past
-not_past (Putting (put.Finishing finish)) x one = of (finish_turned finish x)
+not_past (Putting (put.Single (single_put.Replacing call hold bitmap hit value))) x one = λ past. past
+not_past (Putting (put.Single (single_put.Finishing finish))) x one = of (finish_turned finish x)
   where
     of : (turn : Turn Finish (Once Placed)) → IsNotPast (wrapped Putting (put_finished turn))
     of (Go next) = λ past. past
@@ -531,10 +533,10 @@ module _ (w0 : World) (i : ℕ) (asked : NameOp) (limit : Option ℕ) (w : World
       of (Getting m) is knows = tt
       of (Deleting m) is knows = tt
       of (Parting m) is knows = tt
-      of (Putting (put.Looking lookup value)) is knows = tt
-      of (Putting (put.Filling fill)) is knows = tt
-      of (Putting (put.Replacing call hold bitmap hit value)) is knows = tt
-      of (Putting (put.Finishing finish)) is knows = tt
+      of (Putting (put.Single (single_put.Looking lookup value))) is knows = tt
+      of (Putting (put.Single (single_put.Filling fill))) is knows = tt
+      of (Putting (put.Single (single_put.Replacing call hold bitmap hit value))) is knows = tt
+      of (Putting (put.Single (single_put.Finishing finish))) is knows = tt
       of (Putting (put.Splitting call hold bitmap value split)) is knows = λ alone.
           subst (λ (q : ℕ × ℕ). (facts w).version q.0 ≡ q.1) (λ k. (is.here.node k, is.here.word k))
           (split_mine l (facts w) p.caller p.index p.since (found_full call hold bitmap) split split.at is.here.here.here
@@ -612,10 +614,10 @@ module _ (w0 : World) (i : ℕ) (asked : NameOp) (limit : Option ℕ) (w : World
   split_late (Getting m) is knows timely same splits late = splits
   split_late (Deleting m) is knows timely same splits late = splits
   split_late (Parting m) is knows timely same splits late = splits
-  split_late (Putting (put.Looking lookup value)) is knows timely same splits late = splits
-  split_late (Putting (put.Filling fill)) is knows timely same splits late = splits
-  split_late (Putting (put.Replacing call hold bitmap hit value)) is knows timely same splits late = splits
-  split_late (Putting (put.Finishing finish)) is knows timely same splits late = splits
+  split_late (Putting (put.Single (single_put.Looking lookup value))) is knows timely same splits late = splits
+  split_late (Putting (put.Single (single_put.Filling fill))) is knows timely same splits late = splits
+  split_late (Putting (put.Single (single_put.Replacing call hold bitmap hit value))) is knows timely same splits late = splits
+  split_late (Putting (put.Single (single_put.Finishing finish))) is knows timely same splits late = splits
 
   lacks : LacksFree w0.layout w0.generation w0.words → LacksFree w0.layout w0.generation w0.words
   lacks is = is

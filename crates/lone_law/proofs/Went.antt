@@ -29,8 +29,10 @@ use Rattle.node_ops.specs.declared.finish.FinishAt.TheVariants as finish_at
 use Rattle.node_ops.specs.declared.get.Get.{Get}
 use Rattle.node_ops.specs.declared.put.Put.{Put}
 use Rattle.node_ops.specs.declared.put.Put.TheVariants as put
+use Rattle.node_ops.specs.declared.single_put.SinglePut.TheVariants as single_put
 use Rattle.node_ops.specs.declared.del.Del.{Del}
 use Rattle.node_ops.specs.declared.del.Del.TheVariants as del
+use Rattle.node_ops.specs.declared.single_del.SingleDel.TheVariants as single_del
 use Rattle.node_ops.specs.declared.part.Part.{Part}
 use Rattle.node_ops.specs.declared.part.Part.TheVariants as part
 use Rattle.node_ops.specs.declared.part.PartWords.{PartWords}
@@ -142,14 +144,14 @@ module _ (l : Layout) (g : ℕ) (words0 words : List ℕ) (R : Type 0) where
   FinishWent call place limit (Go next) = IsAtNode l words0 next.call
   FinishWent call place limit (Done answer) = HasEnded l g words0 call IsGiven R place limit answer
 
-  finish_went : (finish : Finish) (x : ℕ) → IsAtNode l words0 finish.call → FinishWent finish.call (placed_in (put_stage (put.Finishing finish))) (limit_in (put_stage (put.Finishing finish))) (finish_turned finish x)
+  finish_went : (finish : Finish) (x : ℕ) → IsAtNode l words0 finish.call → FinishWent finish.call (placed_in (put_stage (put.Single (single_put.Finishing finish)))) (limit_in (put_stage (put.Single (single_put.Finishing finish)))) (finish_turned finish x)
   finish_went finish x stands = at finish.at
     where
       fenced : (line : ℕ) (o : Option Fence) (place limit : Option ℕ) → FinishWent finish.call place limit (finish_fenced finish line o)
       fenced line (Some fence) place limit = stands
       fenced line None place limit = stands
 
-      at : (at : FinishAt) → FinishWent finish.call (placed_in (put_stage (put.Finishing (record finish { at = at })))) (limit_in (put_stage (put.Finishing (record finish { at = at })))) (finish_at_turned finish at x)
+      at : (at : FinishAt) → FinishWent finish.call (placed_in (put_stage (put.Single (single_put.Finishing (record finish { at = at }))))) (limit_in (put_stage (put.Single (single_put.Finishing (record finish { at = at }))))) (finish_at_turned finish at x)
       at (finish_at.Fence line fence) = fenced line (fence_next fence x) None finish.call.limit
       at finish_at.Add = stands
       at (finish_at.Unlock place) = (stands, refl, (λ e. cc), refl)
@@ -192,7 +194,7 @@ module _ (l : Layout) (g : ℕ) (words0 words : List ℕ) (R : Type 0) where
   put_looked_went call value place limit (Done (looked.Found found)) is = into_stands call found value (lowest_clear found.directory.bitmap call.view.layout.slots) is
 
   slot_stands : (call : Call) (hold : Hold) (bitmap : ℕ) (hit : Hit) → IsAtNode l words0 call × IsUnmoved l words0 words call.node → DelIsThere l words0 words (del_slot call hold bitmap hit)
-  slot_stands call hold bitmap hit stands = elim (nat_lt (call.view.layout.slots / 2) (names_left call bitmap hit)) as (λ b. DelIsThere l words0 words (cond b (del.Clearing call hold bitmap hit None) (del.Next call hold bitmap hit))) [
+  slot_stands call hold bitmap hit stands = elim (nat_lt (call.view.layout.slots / 2) (names_left call bitmap hit)) as (λ b. DelIsThere l words0 words (cond b (del.Single (single_del.Clearing call hold bitmap hit None)) (del.Single (single_del.Next call hold bitmap hit)))) [
     | true ↦ stands.0
     | false ↦ stands
   ]
@@ -210,7 +212,7 @@ module _ (l : Layout) (g : ℕ) (words0 words : List ℕ) (R : Type 0) where
   next_went : (call : Call) (hold : Hold) (bitmap : ℕ) (hit : Hit) (place limit : Option ℕ) (next : ℕ) → IsAtNode l words0 call × IsUnmoved l words0 words call.node
       → DelWent call place limit (Go (saw_next call hold bitmap hit next))
   next_went call hold bitmap hit place limit next stands =
-      elim (next == 0) as (λ b. DelIsThere l words0 words (cond b (del.Clearing call hold bitmap hit None) (del.Taking call hold bitmap hit (take_from call.view.layout call.view.caller)))) [
+      elim (next == 0) as (λ b. DelIsThere l words0 words (cond b (del.Single (single_del.Clearing call hold bitmap hit None)) (del.Single (single_del.Taking call hold bitmap hit (take_from call.view.layout call.view.caller))))) [
         | true ↦ stands.0
         | false ↦ (stands.0, stands.1, λ index lt. absurd (let no : index < 0 = lt in omega arith))
       ]
@@ -311,12 +313,12 @@ put_went : (machine : Put) (words0 words : List ℕ) (x : ℕ) → IsPut machine
     → KnowsOwn (put_call machine).view.layout words (Putting machine)
     → PutIsThere (put_call machine).view.layout words0 words machine → x ≡ got (put_call machine).view.layout words (put_asks machine)
     → PutWent (put_call machine).view.layout (put_call machine).view.generation words0 (acted (put_call machine).view.layout words (put_asks machine)) (IsSplittingPut machine) (put_call machine) (placed_in (put_stage machine)) (limit_in (put_stage machine)) (put_turned machine x)
-put_went (put.Looking lookup value) words0 words x sound still empty tells mine stands told =
-    put_looked_went _ _ words0 _ ⊥ lookup.call value (placed_in (put_stage (put.Looking lookup value))) (limit_in (put_stage (put.Looking lookup value))) (lookup_turned lookup x) (looks_come_there lookup words0 words x sound.0 still stands told)
-put_went (put.Filling fill) words0 words x sound still empty tells mine stands told = put_filled_went _ _ words0 _ ⊥ fill.call None fill.call.limit (fill_turned fill x) (fill_went _ fill.call.view.generation words0 words ⊥ fill x stands)
-put_went (put.Replacing call hold bitmap hit value) words0 words x sound still empty tells mine stands told = stands
-put_went (put.Finishing finish) words0 words x sound still empty tells mine stands told =
-    put_finished_went _ _ words0 _ ⊥ finish.call (placed_in (put_stage (put.Finishing finish))) (limit_in (put_stage (put.Finishing finish))) (finish_turned finish x) (finish_went _ _ words0 words ⊥ finish x stands)
+put_went (put.Single (single_put.Looking lookup value)) words0 words x sound still empty tells mine stands told =
+    put_looked_went _ _ words0 _ ⊥ lookup.call value (placed_in (put_stage (put.Single (single_put.Looking lookup value)))) (limit_in (put_stage (put.Single (single_put.Looking lookup value)))) (lookup_turned lookup x) (looks_come_there lookup words0 words x sound.0 still stands told)
+put_went (put.Single (single_put.Filling fill)) words0 words x sound still empty tells mine stands told = put_filled_went _ _ words0 _ ⊥ fill.call None fill.call.limit (fill_turned fill x) (fill_went _ fill.call.view.generation words0 words ⊥ fill x stands)
+put_went (put.Single (single_put.Replacing call hold bitmap hit value)) words0 words x sound still empty tells mine stands told = stands
+put_went (put.Single (single_put.Finishing finish)) words0 words x sound still empty tells mine stands told =
+    put_finished_went _ _ words0 _ ⊥ finish.call (placed_in (put_stage (put.Single (single_put.Finishing finish)))) (limit_in (put_stage (put.Single (single_put.Finishing finish)))) (finish_turned finish x) (finish_went _ _ words0 words ⊥ finish x stands)
 put_went (put.Splitting call hold bitmap value split) words0 words x sound still empty tells mine stands told =
     on (split_turned split x) (split_went call hold bitmap value split words0 words x sound still empty stands.0 stands.1 tells mine told)
   where
@@ -350,17 +352,17 @@ del_went : (machine : Del) (words0 words : List ℕ) (x : ℕ) → IsDel machine
     → AreEmpty (del_call machine).view.layout words0 → Told (del_call machine).view.layout (del_call machine).view.generation (del_asks machine) x
     → DelIsThere (del_call machine).view.layout words0 words machine → x ≡ got (del_call machine).view.layout words (del_asks machine)
     → DelWent (del_call machine).view.layout (del_call machine).view.generation words0 (acted (del_call machine).view.layout words (del_asks machine)) ⊥ (del_call machine) (placed_in (del_stage machine)) (limit_in (del_stage machine)) (del_turned machine x)
-del_went (del.Looking lookup) words0 words x sound still empty tells stands told =
-    del_looked_went _ _ words0 _ ⊥ lookup.call (placed_in (del_stage (del.Looking lookup))) (limit_in (del_stage (del.Looking lookup))) (lookup_turned lookup x) (looks_come_there lookup words0 words x sound still stands told)
-del_went (del.Next call hold bitmap hit) words0 words x sound still empty tells stands told =
+del_went (del.Single (single_del.Looking lookup)) words0 words x sound still empty tells stands told =
+    del_looked_went _ _ words0 _ ⊥ lookup.call (placed_in (del_stage (del.Single (single_del.Looking lookup)))) (limit_in (del_stage (del.Single (single_del.Looking lookup)))) (lookup_turned lookup x) (looks_come_there lookup words0 words x sound still stands told)
+del_went (del.Single (single_del.Next call hold bitmap hit)) words0 words x sound still empty tells stands told =
     next_went call.view.layout call.view.generation words0 (acted call.view.layout words (Load (call_address call next_offset))) ⊥ call hold bitmap hit None call.limit x
     (stands.0, loaded_unmoved call.view.layout words0 words call.node (call_address call next_offset) stands.1)
-del_went (del.Taking call hold bitmap hit take) words0 words x sound still empty tells stands told =
+del_went (del.Single (single_del.Taking call hold bitmap hit take)) words0 words x sound still empty tells stands told =
     del_take_went call hold bitmap hit take words0 words x None call.limit sound.2 empty tells.fits stands.0 stands.1 stands.2 told
-del_went (del.Refusing call hold bitmap hit) words0 words x sound still empty tells stands told = absurd stands
-del_went (del.Clearing call hold bitmap hit line) words0 words x sound still empty tells stands told = stands
-del_went (del.Finishing finish line) words0 words x sound still empty tells stands told =
-    del_finished_went _ _ words0 _ ⊥ line finish.call (placed_in (put_stage (put.Finishing finish))) (limit_in (put_stage (put.Finishing finish))) (finish_turned finish x) (finish_went _ _ words0 words ⊥ finish x stands)
+del_went (del.Single (single_del.Refusing call hold bitmap hit)) words0 words x sound still empty tells stands told = absurd stands
+del_went (del.Single (single_del.Clearing call hold bitmap hit line)) words0 words x sound still empty tells stands told = stands
+del_went (del.Single (single_del.Finishing finish line)) words0 words x sound still empty tells stands told =
+    del_finished_went _ _ words0 _ ⊥ line finish.call (placed_in (put_stage (put.Single (single_put.Finishing finish)))) (limit_in (put_stage (put.Single (single_put.Finishing finish)))) (finish_turned finish x) (finish_went _ _ words0 words ⊥ finish x stands)
 del_went (del.Merging call hold old place merge) words0 words x sound still empty tells stands told =
     let stage = del_stage (del.Merging call hold old place merge) in
     let of = merging_stage call old place merge in

@@ -33,8 +33,10 @@ use Rattle.node_ops.specs.declared.get.Get.{Get}
 use Rattle.node_ops.specs.declared.get.Get.TheVariants as get
 use Rattle.node_ops.specs.declared.put.Put.{Put}
 use Rattle.node_ops.specs.declared.put.Put.TheVariants as put
+use Rattle.node_ops.specs.declared.single_put.SinglePut.TheVariants as single_put
 use Rattle.node_ops.specs.declared.del.Del.{Del}
 use Rattle.node_ops.specs.declared.del.Del.TheVariants as del
+use Rattle.node_ops.specs.declared.single_del.SingleDel.TheVariants as single_del
 use Rattle.node_ops.specs.declared.part.Part.{Part}
 use Rattle.node_ops.specs.declared.part.Part.TheVariants as part
 use Rattle.node_ops.specs.declared.running.Running.{Running}
@@ -62,22 +64,22 @@ GetIsThere l words0 words (get.Looking lookup) = LookupStands l words0 words loo
 GetIsThere l words0 words (get.Unlocking call hold old) = IsAtNode l words0 call
 
 abbrev pub PutIsThere : Layout → List ℕ → List ℕ → Put → Type 0
-PutIsThere l words0 words (put.Looking lookup value) = LookupStands l words0 words lookup.call lookup.at
-PutIsThere l words0 words (put.Filling fill) = IsAtNode l words0 fill.call
-PutIsThere l words0 words (put.Replacing call hold bitmap hit value) = IsAtNode l words0 call
-PutIsThere l words0 words (put.Finishing finish) = IsAtNode l words0 finish.call
+PutIsThere l words0 words (put.Single (single_put.Looking lookup value)) = LookupStands l words0 words lookup.call lookup.at
+PutIsThere l words0 words (put.Single (single_put.Filling fill)) = IsAtNode l words0 fill.call
+PutIsThere l words0 words (put.Single (single_put.Replacing call hold bitmap hit value)) = IsAtNode l words0 call
+PutIsThere l words0 words (put.Single (single_put.Finishing finish)) = IsAtNode l words0 finish.call
 PutIsThere l words0 words (put.Splitting call hold bitmap value split) =
     IsAtNode l words0 call × SplitStands l call.view.generation words0 words call.node hold.locked split.at
 
 -- Until it has a line nothing but the lock has changed; and it finds one.
 abbrev pub DelIsThere : Layout → List ℕ → List ℕ → Del → Type 0
-DelIsThere l words0 words (del.Looking lookup) = LookupStands l words0 words lookup.call lookup.at
-DelIsThere l words0 words (del.Next call hold bitmap hit) = IsAtNode l words0 call × IsUnmoved l words0 words call.node
-DelIsThere l words0 words (del.Taking call hold bitmap hit take) = IsAtNode l words0 call ×
+DelIsThere l words0 words (del.Single (single_del.Looking lookup)) = LookupStands l words0 words lookup.call lookup.at
+DelIsThere l words0 words (del.Single (single_del.Next call hold bitmap hit)) = IsAtNode l words0 call × IsUnmoved l words0 words call.node
+DelIsThere l words0 words (del.Single (single_del.Taking call hold bitmap hit take)) = IsAtNode l words0 call ×
     IsUnmoved l words0 words call.node × HasLooked (λ index. line_in l words0 take.caller index 0) take.index take.at
-DelIsThere l words0 words (del.Refusing call hold bitmap hit) = ⊥
-DelIsThere l words0 words (del.Clearing call hold bitmap hit line) = IsAtNode l words0 call
-DelIsThere l words0 words (del.Finishing finish line) = IsAtNode l words0 finish.call
+DelIsThere l words0 words (del.Single (single_del.Refusing call hold bitmap hit)) = ⊥
+DelIsThere l words0 words (del.Single (single_del.Clearing call hold bitmap hit line)) = IsAtNode l words0 call
+DelIsThere l words0 words (del.Single (single_del.Finishing finish line)) = IsAtNode l words0 finish.call
 DelIsThere l words0 words (del.Merging call hold old place merge) = IsAtNode l words0 call
 
 -- A part of a range scan stands where a get of its low name does.
@@ -116,9 +118,9 @@ HadValue old = (value : ℕ) × (old ≡ Some value)
 -- A delete that takes no line has nothing to merge; one that took a line has taken a name out, and what its merge has
 -- found out is so.
 abbrev pub DelForesees : World → List ℕ → Del → Type 0
-DelForesees w name (del.Clearing call hold bitmap hit None) = LeavesMany call bitmap hit ⊎ FindsNone w name
-DelForesees w name (del.Finishing finish None) = FindsNone w name
-DelForesees w name (del.Finishing finish (Some line)) = HadValue finish.old
+DelForesees w name (del.Single (single_del.Clearing call hold bitmap hit None)) = LeavesMany call bitmap hit ⊎ FindsNone w name
+DelForesees w name (del.Single (single_del.Finishing finish None)) = FindsNone w name
+DelForesees w name (del.Single (single_del.Finishing finish (Some line))) = HadValue finish.old
 DelForesees w name (del.Merging call hold old place merge) = HadValue old × MergeForesees w name merge.at
 DelForesees w name _ = Unit {0}
 
@@ -205,8 +207,8 @@ LoneCallsGo = (w0 : World) (i : ℕ) (asked : NameOp) (limit : Option ℕ) (w : 
 -- The machine of a call as it begins.
 abbrev pub machine_for : NameOp → View → Option ℕ → Running
 machine_for (op.Get name) view limit = Getting (get.Looking (starts (new_call view name limit)))
-machine_for (op.Put name value) view limit = Putting (put.Looking (starts (new_call view name limit)) value)
-machine_for (op.Del name) view limit = Deleting (del.Looking (starts (new_call view name limit)))
+machine_for (op.Put name value) view limit = Putting (put.Single (single_put.Looking (starts (new_call view name limit)) value))
+machine_for (op.Del name) view limit = Deleting (del.Single (single_del.Looking (starts (new_call view name limit))))
 
 abbrev pub ValueFits : NameOp → Type 0
 ValueFits (op.Get name) = Unit {0}

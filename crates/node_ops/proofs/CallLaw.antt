@@ -43,7 +43,9 @@ use Rattle.node_ops.specs.declared.get.Get.{Get}
 use Rattle.node_ops.specs.declared.get.Get.TheVariants as get
 use Rattle.node_ops.specs.declared.put.Put.{Put}
 use Rattle.node_ops.specs.declared.put.Put.TheVariants as put
+use Rattle.node_ops.specs.declared.single_put.SinglePut.TheVariants as single_put
 use Rattle.node_ops.specs.declared.del.Del.TheVariants as del
+use Rattle.node_ops.specs.declared.single_del.SingleDel.TheVariants as single_del
 use Rattle.node_ops.specs.declared.running.Running.{Running}
 use Rattle.node_ops.specs.declared.running.Running.TheVariants.{Getting, Putting, Deleting, Parting}
 use Rattle.node_ops.specs.Calls.{IsCall, name_in}
@@ -157,8 +159,8 @@ module _ (call : Call) (sound : IsCall call) where
 
   -- the store of a value in place
   replacing_leads : (hold : Hold) (bitmap : ℕ) (hit : Hit) (value x : ℕ) → IsHit slots bitmap hit → value < 2 ^ 64
-      → Step call.view.layout call.view.generation (put_stage (put.Replacing call hold bitmap hit value)) (put_asks (put.Replacing call hold bitmap hit value)) x
-      (put_stage (put.Finishing (replaced call hold hit value))) None
+      → Step call.view.layout call.view.generation (put_stage (put.Single (single_put.Replacing call hold bitmap hit value))) (put_asks (put.Single (single_put.Replacing call hold bitmap hit value))) x
+      (put_stage (put.Single (single_put.Finishing (replaced call hold hit value)))) None
   replacing_leads hold bitmap hit value x is fits =
       let within : hit.slot < slots = is.within in
       commits {h = decided call hold (Some hit.value) (knows (seen_hit call bitmap (Some hit)))} {k = nothing}
@@ -180,11 +182,11 @@ IsWhole _ = Unit {0}
 
 put_leads : (put : Put) (x : ℕ) → IsWhole put → IsPut put → Told (put_call put).view.layout (put_call put).view.generation (put_asks put) x
     → Puts (put_call put) (put_stage put) (put_asks put) x (put_turned put x)
-put_leads (put.Looking lookup value) x whole sound told =
+put_leads (put.Single (single_put.Looking lookup value)) x whole sound told =
     put_looked_leads lookup.call sound.0.call _ _ x value (lookup_turned lookup x) (lookup_stays lookup x sound.0 told) (lookup_leads lookup.call sound.0.call lookup.at x sound.0.here told)
-put_leads (put.Filling fill) x whole sound told = put_filled_leads fill.call sound.call _ _ x (fill_turned fill x) (fill_leads fill x sound told.fits)
-put_leads (put.Replacing call hold bitmap hit value) x whole sound told = replacing_leads call sound.call hold bitmap hit value x sound.hit sound.value
-put_leads (put.Finishing finish) x whole sound told = put_finished_leads finish.call sound.call _ _ x (finish_turned finish x) (finish_leads finish x sound told.fits)
+put_leads (put.Single (single_put.Filling fill)) x whole sound told = put_filled_leads fill.call sound.call _ _ x (fill_turned fill x) (fill_leads fill x sound told.fits)
+put_leads (put.Single (single_put.Replacing call hold bitmap hit value)) x whole sound told = replacing_leads call sound.call hold bitmap hit value x sound.hit sound.value
+put_leads (put.Single (single_put.Finishing finish)) x whole sound told = put_finished_leads finish.call sound.call _ _ x (finish_turned finish x) (finish_leads finish x sound told.fits)
 put_leads (put.Splitting call hold bitmap value split) x whole sound told = absurd whole
 
 -- a part's step is the whole's
@@ -203,10 +205,10 @@ get_single (get.Looking lookup) = looks_single lookup.call lookup.at
 get_single (get.Unlocking call hold old) = tt
 
 put_single : (put : Put) → IsWhole put → IsSingle (put_stage put)
-put_single (put.Looking lookup value) whole = looks_single lookup.call lookup.at
-put_single (put.Filling fill) whole = tt
-put_single (put.Replacing call hold bitmap hit value) whole = tt
-put_single (put.Finishing finish) whole = tt
+put_single (put.Single (single_put.Looking lookup value)) whole = looks_single lookup.call lookup.at
+put_single (put.Single (single_put.Filling fill)) whole = tt
+put_single (put.Single (single_put.Replacing call hold bitmap hit value)) whole = tt
+put_single (put.Single (single_put.Finishing finish)) whole = tt
 put_single (put.Splitting call hold bitmap value split) whole = absurd whole
 
 -- a get never has a line, and a put has none as it begins to split
@@ -215,7 +217,7 @@ gets_plain (Go get) = refl
 gets_plain (Done answer) = refl
 
 puts_plain : (put : Put) (x : ℕ) → IsWhole put → IsPlainAfter None (wrapped Putting (put_turned put x))
-puts_plain (put.Looking lookup value) x whole = at (lookup_turned lookup x)
+puts_plain (put.Single (single_put.Looking lookup value)) x whole = at (lookup_turned lookup x)
   where
     full : (found : Found) (hit : Option Hit) → IsPlainAfter None (Go (Putting (put_full lookup.call found.hold found.directory.bitmap hit value)))
     full found (Some hit) = refl
@@ -229,13 +231,13 @@ puts_plain (put.Looking lookup value) x whole = at (lookup_turned lookup x)
     at (Go next) = refl
     at (Done (looked.Early answer)) = refl
     at (Done (looked.Found found)) = into found (lowest_clear found.directory.bitmap lookup.call.view.layout.slots)
-puts_plain (put.Filling fill) x whole = at (fill_turned fill x)
+puts_plain (put.Single (single_put.Filling fill)) x whole = at (fill_turned fill x)
   where
     at : (turn : Turn Fill Finish) → IsPlainAfter None (wrapped Putting (put_filled turn))
     at (Go next) = refl
     at (Done finish) = refl
-puts_plain (put.Replacing call hold bitmap hit value) x whole = refl
-puts_plain (put.Finishing finish) x whole = at (finish_turned finish x)
+puts_plain (put.Single (single_put.Replacing call hold bitmap hit value)) x whole = refl
+puts_plain (put.Single (single_put.Finishing finish)) x whole = at (finish_turned finish x)
   where
     at : (turn : Turn Finish (Once Placed)) → IsPlainAfter None (wrapped Putting (put_finished turn))
     at (Go next) = refl
@@ -295,10 +297,10 @@ own_steps : (running : Running) (x : ℕ) → IsRunning running → Told (runnin
 own_steps (Getting get) x sound told leads =
     plain _ _ _ None (get_stage get) _ x (running_turned (Getting get) x) (get_single get) (gets_plain (get_turned get x)) (as_get (get_call get) _ _ x (get_turned get x) (get_leads get x sound told))
 own_steps (Putting (put.Splitting call hold bitmap value split)) x sound told leads = splitting_leads call hold bitmap value split sound x told leads
-own_steps (Putting (put.Looking lookup value)) x sound told leads = put_steps (put.Looking lookup value) x tt sound told
-own_steps (Putting (put.Filling fill)) x sound told leads = put_steps (put.Filling fill) x tt sound told
-own_steps (Putting (put.Replacing call hold bitmap hit value)) x sound told leads = put_steps (put.Replacing call hold bitmap hit value) x tt sound told
-own_steps (Putting (put.Finishing finish)) x sound told leads = put_steps (put.Finishing finish) x tt sound told
+own_steps (Putting (put.Single (single_put.Looking lookup value))) x sound told leads = put_steps (put.Single (single_put.Looking lookup value)) x tt sound told
+own_steps (Putting (put.Single (single_put.Filling fill))) x sound told leads = put_steps (put.Single (single_put.Filling fill)) x tt sound told
+own_steps (Putting (put.Single (single_put.Replacing call hold bitmap hit value))) x sound told leads = put_steps (put.Single (single_put.Replacing call hold bitmap hit value)) x tt sound told
+own_steps (Putting (put.Single (single_put.Finishing finish))) x sound told leads = put_steps (put.Single (single_put.Finishing finish)) x tt sound told
 own_steps (Deleting del) x sound told leads = dels_are_steps del x sound told leads
 own_steps (Parting p) x sound told leads =
     plain _ _ _ None (part_stage p) _ x (running_turned (Parting p) x) (part_single p) (parts_plain (part_turned p x)) (part_steps p x sound told)
@@ -315,17 +317,17 @@ turns_are_foot_steps l g running x sound told leads =
 -- the stage of what a call has
 pub footing_stage : (running : Running) → (footing_of running).stage ≡ stage_of running
 footing_stage (Getting get) = refl
-footing_stage (Putting (put.Looking lookup value)) = refl
-footing_stage (Putting (put.Filling fill)) = refl
-footing_stage (Putting (put.Replacing call hold bitmap hit value)) = refl
-footing_stage (Putting (put.Finishing finish)) = refl
+footing_stage (Putting (put.Single (single_put.Looking lookup value))) = refl
+footing_stage (Putting (put.Single (single_put.Filling fill))) = refl
+footing_stage (Putting (put.Single (single_put.Replacing call hold bitmap hit value))) = refl
+footing_stage (Putting (put.Single (single_put.Finishing finish))) = refl
 footing_stage (Putting (put.Splitting call hold bitmap value split)) = refl
-footing_stage (Deleting (del.Looking lookup)) = refl
-footing_stage (Deleting (del.Next call hold bitmap hit)) = refl
-footing_stage (Deleting (del.Taking call hold bitmap hit take)) = refl
-footing_stage (Deleting (del.Refusing call hold bitmap hit)) = refl
-footing_stage (Deleting (del.Clearing call hold bitmap hit line)) = refl
-footing_stage (Deleting (del.Finishing finish line)) = refl
+footing_stage (Deleting (del.Single (single_del.Looking lookup))) = refl
+footing_stage (Deleting (del.Single (single_del.Next call hold bitmap hit))) = refl
+footing_stage (Deleting (del.Single (single_del.Taking call hold bitmap hit take))) = refl
+footing_stage (Deleting (del.Single (single_del.Refusing call hold bitmap hit))) = refl
+footing_stage (Deleting (del.Single (single_del.Clearing call hold bitmap hit line))) = refl
+footing_stage (Deleting (del.Single (single_del.Finishing finish line))) = refl
 footing_stage (Deleting (del.Merging call hold old place merge)) = refl
 footing_stage (Parting p) = refl
 
@@ -343,17 +345,17 @@ turns_are_steps l g running x sound told leads =
 pub leads_are_taken : LeadsAreTaken
 leads_are_taken l g (Getting get) x sound leads = tt
 leads_are_taken l g (Parting p) x sound leads = tt
-leads_are_taken l g (Deleting (del.Looking lookup)) x sound leads = tt
-leads_are_taken l g (Deleting (del.Next call hold bitmap hit)) x sound leads = tt
-leads_are_taken l g (Deleting (del.Taking call hold bitmap hit take)) x sound leads = tt
-leads_are_taken l g (Deleting (del.Refusing call hold bitmap hit)) x sound leads = tt
-leads_are_taken l g (Deleting (del.Clearing call hold bitmap hit line)) x sound leads = tt
-leads_are_taken l g (Deleting (del.Finishing finish line)) x sound leads = tt
+leads_are_taken l g (Deleting (del.Single (single_del.Looking lookup))) x sound leads = tt
+leads_are_taken l g (Deleting (del.Single (single_del.Next call hold bitmap hit))) x sound leads = tt
+leads_are_taken l g (Deleting (del.Single (single_del.Taking call hold bitmap hit take))) x sound leads = tt
+leads_are_taken l g (Deleting (del.Single (single_del.Refusing call hold bitmap hit))) x sound leads = tt
+leads_are_taken l g (Deleting (del.Single (single_del.Clearing call hold bitmap hit line))) x sound leads = tt
+leads_are_taken l g (Deleting (del.Single (single_del.Finishing finish line))) x sound leads = tt
 leads_are_taken l g (Deleting (del.Merging call hold old place merge)) x sound leads = merge_leads l call hold old place merge x sound.here sound.layout leads
-leads_are_taken l g (Putting (put.Looking lookup value)) x sound leads = tt
-leads_are_taken l g (Putting (put.Filling fill)) x sound leads = tt
-leads_are_taken l g (Putting (put.Replacing call hold bitmap hit value)) x sound leads = tt
-leads_are_taken l g (Putting (put.Finishing finish)) x sound leads = tt
+leads_are_taken l g (Putting (put.Single (single_put.Looking lookup value))) x sound leads = tt
+leads_are_taken l g (Putting (put.Single (single_put.Filling fill))) x sound leads = tt
+leads_are_taken l g (Putting (put.Single (single_put.Replacing call hold bitmap hit value))) x sound leads = tt
+leads_are_taken l g (Putting (put.Single (single_put.Finishing finish))) x sound leads = tt
 leads_are_taken l g (Putting (put.Splitting call hold bitmap value split)) x sound leads = at split.at refl
   where
     layout : split.view.layout ≡ l

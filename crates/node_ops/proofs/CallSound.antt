@@ -28,8 +28,10 @@ use Rattle.node_ops.specs.declared.get.Get.{Get}
 use Rattle.node_ops.specs.declared.get.Get.TheVariants as get
 use Rattle.node_ops.specs.declared.put.Put.{Put}
 use Rattle.node_ops.specs.declared.put.Put.TheVariants as put
+use Rattle.node_ops.specs.declared.single_put.SinglePut.TheVariants as single_put
 use Rattle.node_ops.specs.declared.del.Del.{Del}
 use Rattle.node_ops.specs.declared.del.Del.TheVariants as del
+use Rattle.node_ops.specs.declared.single_del.SingleDel.TheVariants as single_del
 use Rattle.node_ops.specs.declared.running.Running.{Running}
 use Rattle.node_ops.specs.declared.running.Running.TheVariants.{Getting, Putting, Deleting, Parting}
 use Rattle.node_ops.specs.Calls.{IsCall, at_node, IsSame}
@@ -135,7 +137,7 @@ get_stays (get.Looking lookup) x sound told = at (lookup_turned lookup x) (looku
 get_stays (get.Unlocking call hold old) x sound told = tt
 
 pub put_stays : (put : Put) (x : ℕ) → IsPut put → Told (put_call put).view.layout (put_call put).view.generation (put_asks put) x → put_leads put x → Stays IsPut put_call (put_call put) (put_turned put x)
-put_stays (put.Looking lookup value) x sound told leads = at (lookup_turned lookup x) (lookup_stays lookup x sound.0 told)
+put_stays (put.Single (single_put.Looking lookup value)) x sound told leads = at (lookup_turned lookup x) (lookup_stays lookup x sound.0 told)
   where
     full : (found : Found) (hit : Option Hit) → IfSome hit (IsHit lookup.call.view.layout.slots found.directory.bitmap) → IsFoundBy lookup.call.view.layout.slots found
         → AreAllLive found.directory.bitmap lookup.call.view.layout.slots → Stays IsPut put_call lookup.call (Go (put_full lookup.call found.hold found.directory.bitmap hit value))
@@ -164,13 +166,13 @@ put_stays (put.Looking lookup value) x sound told leads = at (lookup_turned look
     at (Go next) is = ((is.0, sound.1), is.1)
     at (Done (looked.Early answer)) is = tt
     at (Done (looked.Found found)) is = into found (lowest_clear found.directory.bitmap lookup.call.view.layout.slots) refl is
-put_stays (put.Filling fill) x sound told leads = at (fill_turned fill x) (fill_stays fill x sound told.fits)
+put_stays (put.Single (single_put.Filling fill)) x sound told leads = at (fill_turned fill x) (fill_stays fill x sound told.fits)
   where
     at : (turn : Turn Fill Finish) → SoundFill fill.call turn → Stays IsPut put_call fill.call (put_filled turn)
     at (Go next) is = is
     at (Done finish) is = is
-put_stays (put.Replacing call hold bitmap hit value) x sound told leads = (record { call = sound.call; locked = sound.locked; here = (value_inside call hit.slot sound.call sound.hit.within, starts) }, refl)
-put_stays (put.Finishing finish) x sound told leads = at (finish_turned finish x) (finish_stays finish x sound told.fits)
+put_stays (put.Single (single_put.Replacing call hold bitmap hit value)) x sound told leads = (record { call = sound.call; locked = sound.locked; here = (value_inside call hit.slot sound.call sound.hit.within, starts) }, refl)
+put_stays (put.Single (single_put.Finishing finish)) x sound told leads = at (finish_turned finish x) (finish_stays finish x sound told.fits)
   where
     at : (turn : Turn Finish (Once Placed)) → SoundFinish finish.call turn → Stays IsPut put_call finish.call (put_finished turn)
     at (Go next) is = is
@@ -196,12 +198,12 @@ put_stays (put.Splitting call hold bitmap value split) x sound told leads = at (
     at (Done answer) is = tt
 
 pub del_is_call : (del : Del) → IsDel del → IsCall (del_call del)
-del_is_call (del.Looking lookup) is = is.call
-del_is_call (del.Next call hold bitmap hit) is = is.0.call
-del_is_call (del.Taking call hold bitmap hit take) is = is.0.call
-del_is_call (del.Refusing call hold bitmap hit) is = is.call
-del_is_call (del.Clearing call hold bitmap hit line) is = is.0.call
-del_is_call (del.Finishing finish line) is = is.0.here.call
+del_is_call (del.Single (single_del.Looking lookup)) is = is.call
+del_is_call (del.Single (single_del.Next call hold bitmap hit)) is = is.0.call
+del_is_call (del.Single (single_del.Taking call hold bitmap hit take)) is = is.0.call
+del_is_call (del.Single (single_del.Refusing call hold bitmap hit)) is = is.call
+del_is_call (del.Single (single_del.Clearing call hold bitmap hit line)) is = is.0.call
+del_is_call (del.Single (single_del.Finishing finish line)) is = is.0.here.call
 del_is_call (del.Merging call hold old place merge) is = is.call
 
 -- a line that is taken is one of its caller's
@@ -247,7 +249,7 @@ module _ (line : Option ℕ) where
       )
 
 pub del_stays : (del : Del) (x : ℕ) → IsDel del → Told (del_call del).view.layout (del_call del).view.generation (del_asks del) x → del_leads del x → Stays IsDel del_call (del_call del) (del_turned del x)
-del_stays (del.Looking lookup) x sound told leads = at (lookup_turned lookup x) (lookup_stays lookup x sound told)
+del_stays (del.Single (single_del.Looking lookup)) x sound told leads = at (lookup_turned lookup x) (lookup_stays lookup x sound told)
   where
     slot : (found : Found) (h : Hit) → IsHit lookup.call.view.layout.slots found.directory.bitmap h → IsFoundBy lookup.call.view.layout.slots found
         → Stays IsDel del_call lookup.call (Go (del_slot lookup.call found.hold found.directory.bitmap h))
@@ -255,7 +257,7 @@ del_stays (del.Looking lookup) x sound told leads = at (lookup_turned lookup x) 
         let bitmap = found.directory.bitmap in
         let clears : IsClearing lookup.call found.hold bitmap h = record { call = sound.call; locked = is.locked; fits = is.directory.bitmap; hit = is_hit } in
         elim (ltb (lookup.call.view.layout.slots / 2) (names_left lookup.call bitmap h)) as (λ b. ltb (lookup.call.view.layout.slots / 2) (names_left lookup.call bitmap h) ≡ b
-        → Stays IsDel del_call lookup.call (Go (cond b (del.Clearing lookup.call found.hold bitmap h None) (del.Next lookup.call found.hold bitmap h)))) [
+        → Stays IsDel del_call lookup.call (Go (cond b (del.Single (single_del.Clearing lookup.call found.hold bitmap h None)) (del.Single (single_del.Next lookup.call found.hold bitmap h))))) [
           | true ↦ λ many. ((clears, tt), refl)
           | false ↦ λ few. ((clears, ltb-false _ _ few), refl)
         ] refl
@@ -269,8 +271,8 @@ del_stays (del.Looking lookup) x sound told leads = at (lookup_turned lookup x) 
     at (Go next) is = is
     at (Done (looked.Early answer)) is = tt
     at (Done (looked.Found found)) is = hit found found.hit is.hit is
-del_stays (del.Next call hold bitmap hit) x sound told leads =
-    elim (x == 0) as (λ b. Stays IsDel del_call call (Go (cond b (del.Clearing call hold bitmap hit None) (del.Taking call hold bitmap hit (take_from call.view.layout call.view.caller))))) [
+del_stays (del.Single (single_del.Next call hold bitmap hit)) x sound told leads =
+    elim (x == 0) as (λ b. Stays IsDel del_call call (Go (cond b (del.Single (single_del.Clearing call hold bitmap hit None)) (del.Single (single_del.Taking call hold bitmap hit (take_from call.view.layout call.view.caller)))))) [
       | true ↦ ((sound.0, tt), refl)
       | false ↦ (
         (
@@ -285,23 +287,23 @@ del_stays (del.Next call hold bitmap hit) x sound told leads =
         refl,
       )
     ]
-del_stays (del.Taking call hold bitmap hit take) x sound told leads = at (take_turned take x) refl (takes_are_notes take x sound.2.here told.fits)
+del_stays (del.Single (single_del.Taking call hold bitmap hit take)) x sound told leads = at (take_turned take x) refl (takes_are_notes take x sound.2.here told.fits)
   where
     at : (turn : Turn Take Taken) → take_turned take x ≡ turn → TakeNotes take.layout take.caller (take_held take) (take_asks take) x turn
         → Stays IsDel del_call call (del_taken call hold bitmap hit turn)
     at (Go next) is note = ((sound.0, sound.1, record { here = note.1; layout_is = note.2 ∙ sound.2.layout_is; caller_is = note.3 ∙ sound.2.caller_is }), refl)
     at (Done (Line line)) is note = ((sound.0, (sound.1, taken_own call.view take x line sound.2 told.fits is)), refl)
     at (Done Full) is note = (sound.0, refl)
-del_stays (del.Refusing call hold bitmap hit) x sound told leads = tt
-del_stays (del.Clearing call hold bitmap hit line) x sound told leads =
-    elim line as (λ o. IfSome o (λ number. LeavesFew call bitmap hit × IsOwnLine call.view number) → Stays IsDel del_call call (Go (del.Finishing (cleared call hold hit) o))) [
+del_stays (del.Single (single_del.Refusing call hold bitmap hit)) x sound told leads = tt
+del_stays (del.Single (single_del.Clearing call hold bitmap hit line)) x sound told leads =
+    elim line as (λ o. IfSome o (λ number. LeavesFew call bitmap hit × IsOwnLine call.view number) → Stays IsDel del_call call (Go (del.Single (single_del.Finishing (cleared call hold hit) o)))) [
       | None ↦ λ no. ((record { here = finish; own = tt }, tt), refl)
       | Some number ↦ λ has. ((record { here = finish; own = has.1 }, tt), refl)
     ] sound.1
   where
     finish : IsFinish (cleared call hold hit)
     finish = record { call = sound.0.call; locked = sound.0.locked; here = (bitmap_inside call, starts) }
-del_stays (del.Finishing finish line) x sound told leads = at (finish_turned finish x) refl (finish_stays finish x sound.0.here told.fits)
+del_stays (del.Single (single_del.Finishing finish line)) x sound told leads = at (finish_turned finish x) refl (finish_stays finish x sound.0.here told.fits)
   where
     at : (turn : Turn Finish (Once Placed)) → finish_turned finish x ≡ turn → SoundFinish finish.call turn → Stays IsDel del_call finish.call (del_finished line turn)
     at (Go next) goes is =

@@ -28,6 +28,7 @@ use Rattle.node_ops.specs.declared.lookup.Lookup.{Lookup}
 use Rattle.node_ops.specs.declared.finish.Finish.{Finish}
 use Rattle.node_ops.specs.declared.del.Del.{Del}
 use Rattle.node_ops.specs.declared.del.Del.TheVariants as del
+use Rattle.node_ops.specs.declared.single_del.SingleDel.TheVariants as single_del
 use Rattle.node_ops.specs.declared.running.Running.{Running}
 use Rattle.node_ops.specs.declared.running.Running.TheVariants.{Deleting}
 use Rattle.node_ops.specs.Calls.{IsCall, name_in}
@@ -84,7 +85,7 @@ module _ (call : Call) (sound : IsCall call) where
       let bitmap = found.directory.bitmap in
       let step = leads (knows (seen_hit call bitmap (Some hit))) None false tt
       (λ s known. record { seen = part_hit s call (record found { hit = Some hit }) known; left = tt }) (λ range s m in_range old means. means) in
-      elim (ltb (slots / 2) (names_left call bitmap hit)) as (λ b. Dels call stage action x (Go (cond b (del.Clearing call found.hold bitmap hit None) (del.Next call found.hold bitmap hit)))) [
+      elim (ltb (slots / 2) (names_left call bitmap hit)) as (λ b. Dels call stage action x (Go (cond b (del.Single (single_del.Clearing call found.hold bitmap hit None)) (del.Single (single_del.Next call found.hold bitmap hit))))) [
         | true ↦ step
         | false ↦ step
       ]
@@ -104,16 +105,16 @@ module _ (call : Call) (sound : IsCall call) where
   del_finished_leads stage action x line (Done answer) step = step
 
   -- it loads where its node leads
-  next_leads : (hold : Hold) (bitmap : ℕ) (hit : Hit) (x : ℕ) → Dels call (found_in call hold bitmap hit) (del_asks (del.Next call hold bitmap hit)) x (del_turned (del.Next call hold bitmap hit) x)
+  next_leads : (hold : Hold) (bitmap : ℕ) (hit : Hit) (x : ℕ) → Dels call (found_in call hold bitmap hit) (del_asks (del.Single (single_del.Next call hold bitmap hit))) x (del_turned (del.Single (single_del.Next call hold bitmap hit)) x)
   next_leads hold bitmap hit x =
-      let step : Step call.view.layout call.view.generation (found_in call hold bitmap hit) (del_asks (del.Next call hold bitmap hit)) x (found_in call hold bitmap hit) None =
+      let step : Step call.view.layout call.view.generation (found_in call hold bitmap hit) (del_asks (del.Single (single_del.Next call hold bitmap hit))) x (found_in call hold bitmap hit) None =
       looks (learns (sound.node, (omega arith)) (omega arith) refl (λ s tidy known is. known)) in
-      elim (x == 0) as (λ b. Dels call (found_in call hold bitmap hit) (del_asks (del.Next call hold bitmap hit)) x
-      (Go (cond b (del.Clearing call hold bitmap hit None) (del.Taking call hold bitmap hit (take_from call.view.layout call.view.caller))))) [ true ↦ step | false ↦ step ]
+      elim (x == 0) as (λ b. Dels call (found_in call hold bitmap hit) (del_asks (del.Single (single_del.Next call hold bitmap hit))) x
+      (Go (cond b (del.Single (single_del.Clearing call hold bitmap hit None)) (del.Single (single_del.Taking call hold bitmap hit (take_from call.view.layout call.view.caller)))))) [ true ↦ step | false ↦ step ]
 
   -- the store of the bitmap without the slot
   clearing_leads : (hold : Hold) (bitmap : ℕ) (hit : Hit) (line : Option ℕ) (x : ℕ) → bitmap < 2 ^ 64 → IsHit slots bitmap hit
-      → Step call.view.layout call.view.generation (found_in call hold bitmap hit) (del_asks (del.Clearing call hold bitmap hit line)) x
+      → Step call.view.layout call.view.generation (found_in call hold bitmap hit) (del_asks (del.Single (single_del.Clearing call hold bitmap hit line))) x
       (finish_stage (cleared call hold hit)) None
   clearing_leads hold bitmap hit line x fits is =
       commits {h = decided call hold (Some hit.value) (knows (seen_hit call bitmap (Some hit)))} {k = nothing}
@@ -127,18 +128,18 @@ module _ (call : Call) (sound : IsCall call) where
 
 -- it neither looks for a line nor merges
 abbrev IsPlain : Del → Type 0
-IsPlain (del.Taking call hold bitmap hit take) = ⊥
+IsPlain (del.Single (single_del.Taking call hold bitmap hit take)) = ⊥
 IsPlain (del.Merging call hold old place merge) = ⊥
 IsPlain _ = Unit {0}
 
 del_leads : (del : Del) (x : ℕ) → IsPlain del → IsDel del → Told (del_call del).view.layout (del_call del).view.generation (del_asks del) x
     → Dels (del_call del) (del_stage del) (del_asks del) x (del_turned del x)
-del_leads (del.Looking lookup) x is sound told = del_looked_leads lookup.call sound.call _ _ x (lookup_turned lookup x) (lookup_leads lookup.call sound.call lookup.at x sound.here told)
-del_leads (del.Next call hold bitmap hit) x is sound told = next_leads call sound.0.call hold bitmap hit x
-del_leads (del.Taking call hold bitmap hit take) x is sound told = absurd is
-del_leads (del.Refusing call hold bitmap hit) x is sound told = unlocks refl refl refl refl (refuses refl tt)
-del_leads (del.Clearing call hold bitmap hit line) x is sound told = clearing_leads call sound.0.call hold bitmap hit line x sound.0.fits sound.0.hit
-del_leads (del.Finishing finish line) x is sound told = del_finished_leads finish.call sound.0.here.call _ _ x line (finish_turned finish x) (finish_leads finish x sound.0.here told.fits)
+del_leads (del.Single (single_del.Looking lookup)) x is sound told = del_looked_leads lookup.call sound.call _ _ x (lookup_turned lookup x) (lookup_leads lookup.call sound.call lookup.at x sound.here told)
+del_leads (del.Single (single_del.Next call hold bitmap hit)) x is sound told = next_leads call sound.0.call hold bitmap hit x
+del_leads (del.Single (single_del.Taking call hold bitmap hit take)) x is sound told = absurd is
+del_leads (del.Single (single_del.Refusing call hold bitmap hit)) x is sound told = unlocks refl refl refl refl (refuses refl tt)
+del_leads (del.Single (single_del.Clearing call hold bitmap hit line)) x is sound told = clearing_leads call sound.0.call hold bitmap hit line x sound.0.fits sound.0.hit
+del_leads (del.Single (single_del.Finishing finish line)) x is sound told = del_finished_leads finish.call sound.0.here.call _ _ x line (finish_turned finish x) (finish_leads finish x sound.0.here told.fits)
 del_leads (del.Merging call hold old place merge) x is sound told = absurd is
 
 -- a part's step is the whole's
@@ -148,18 +149,18 @@ as_del call stage action x (Go del) step = step
 as_del call stage action x (Done answer) step = step
 
 del_single : (del : Del) → IsPlain del → IsSingle (del_stage del)
-del_single (del.Looking lookup) is = looks_single lookup.call lookup.at
-del_single (del.Next call hold bitmap hit) is = tt
-del_single (del.Taking call hold bitmap hit take) is = absurd is
-del_single (del.Refusing call hold bitmap hit) is = tt
-del_single (del.Clearing call hold bitmap hit line) is = tt
-del_single (del.Finishing finish line) is = tt
+del_single (del.Single (single_del.Looking lookup)) is = looks_single lookup.call lookup.at
+del_single (del.Single (single_del.Next call hold bitmap hit)) is = tt
+del_single (del.Single (single_del.Taking call hold bitmap hit take)) is = absurd is
+del_single (del.Single (single_del.Refusing call hold bitmap hit)) is = tt
+del_single (del.Single (single_del.Clearing call hold bitmap hit line)) is = tt
+del_single (del.Single (single_del.Finishing finish line)) is = tt
 del_single (del.Merging call hold old place merge) is = absurd is
 
 -- the line of a delete that doesn't look for one
 abbrev del_line : Del → Option HeldLine
-del_line (del.Clearing call hold bitmap hit line) = line_taken line
-del_line (del.Finishing finish line) = line_taken line
+del_line (del.Single (single_del.Clearing call hold bitmap hit line)) = line_taken line
+del_line (del.Single (single_del.Finishing finish line)) = line_taken line
 del_line _ = None
 
 -- which it keeps
@@ -181,28 +182,28 @@ ends_plain finish (Some number) x unplaced = at finish.at unplaced
     at (finish_at.Unlock place) un = absurd un
 
 dels_plain : (del : Del) (x : ℕ) → IsPlain del → IsDel del → IsPlainAfter (del_line del) (wrapped Deleting (del_turned del x))
-dels_plain (del.Looking lookup) x is sound = at (lookup_turned lookup x)
+dels_plain (del.Single (single_del.Looking lookup)) x is sound = at (lookup_turned lookup x)
   where
     hits : (found : Found) (hit : Option Hit) → IsPlainAfter None (Go (Deleting (del_hit lookup.call found.hold found.directory.bitmap hit)))
     hits found (Some hit) =
         let bitmap = found.directory.bitmap in
         elim (ltb (lookup.call.view.layout.slots / 2) (names_left lookup.call bitmap hit)) as (λ b. IsPlainAfter None
-        (Go (Deleting (cond b (del.Clearing lookup.call found.hold bitmap hit None) (del.Next lookup.call found.hold bitmap hit))))) [ true ↦ refl | false ↦ refl ]
+        (Go (Deleting (cond b (del.Single (single_del.Clearing lookup.call found.hold bitmap hit None)) (del.Single (single_del.Next lookup.call found.hold bitmap hit)))))) [ true ↦ refl | false ↦ refl ]
     hits found None = refl
 
     at : (turn : Turn Lookup Looked) → IsPlainAfter None (wrapped Deleting (del_looked lookup.call turn))
     at (Go next) = refl
     at (Done (looked.Early answer)) = refl
     at (Done (looked.Found found)) = hits found found.hit
-dels_plain (del.Next call hold bitmap hit) x is sound =
-    elim (x == 0) as (λ b. IsPlainAfter None (Go (Deleting (cond b (del.Clearing call hold bitmap hit None) (del.Taking call hold bitmap hit (take_from call.view.layout call.view.caller)))))) [
+dels_plain (del.Single (single_del.Next call hold bitmap hit)) x is sound =
+    elim (x == 0) as (λ b. IsPlainAfter None (Go (Deleting (cond b (del.Single (single_del.Clearing call hold bitmap hit None)) (del.Single (single_del.Taking call hold bitmap hit (take_from call.view.layout call.view.caller))))))) [
       | true ↦ refl
       | false ↦ refl
     ]
-dels_plain (del.Taking call hold bitmap hit take) x is sound = absurd is
-dels_plain (del.Refusing call hold bitmap hit) x is sound = refl
-dels_plain (del.Clearing call hold bitmap hit line) x is sound = refl
-dels_plain (del.Finishing finish line) x is sound = ends_plain finish line x sound.1
+dels_plain (del.Single (single_del.Taking call hold bitmap hit take)) x is sound = absurd is
+dels_plain (del.Single (single_del.Refusing call hold bitmap hit)) x is sound = refl
+dels_plain (del.Single (single_del.Clearing call hold bitmap hit line)) x is sound = refl
+dels_plain (del.Single (single_del.Finishing finish line)) x is sound = ends_plain finish line x sound.1
 dels_plain (del.Merging call hold old place merge) x is sound = absurd is
 
 -- the line that a look has is the one that it is at
@@ -222,7 +223,7 @@ module _ (call : Call) (hold : Hold) (bitmap : ℕ) (hit : Hit) (take : Take) (s
   l = call.view.layout
 
   abbrev Lines : Turn Running (Once Placed) → Type 0
-  Lines turn = FootStep l call.view.generation call.view.caller (del_footing (del.Taking call hold bitmap hit take)) (take_asks take) x (footing_after turn) (reply_of turn)
+  Lines turn = FootStep l call.view.generation call.view.caller (del_footing (del.Single (single_del.Taking call hold bitmap hit take))) (take_asks take) x (footing_after turn) (reply_of turn)
 
   noted : (after : Option HeldLine) → Notes take.layout (take_held take) (take_asks take) x after → Notes l (take_held take) (take_asks take) x after
   noted after note = subst (λ k. Notes k (take_held take) (take_asks take) x after) is.layout_is note
@@ -244,7 +245,7 @@ module _ (call : Call) (hold : Hold) (bitmap : ℕ) (hit : Hit) (take : Take) (s
       on_line refl (beside (Some (empty_line line)) (noted (Some (empty_line line)) note.0)) (noted (Some (empty_line line)) note.0) (note.1 ∙ is.caller_is)
   takes_line (Done Full) note = on_line refl (beside None (noted None note)) (noted None note) tt
 
-  taking_leads : x < 2 ^ 64 → Lines (running_turned (Deleting (del.Taking call hold bitmap hit take)) x)
+  taking_leads : x < 2 ^ 64 → Lines (running_turned (Deleting (del.Single (single_del.Taking call hold bitmap hit take))) x)
   taking_leads fits = takes_line (take_turned take x) (takes_are_notes take x is.here fits)
 
 -- while it merges, its turns are those of the merge
@@ -284,12 +285,12 @@ del_steps del x is sound told =
 pub dels_are_steps : (del : Del) (x : ℕ) → IsDel del → Told (del_call del).view.layout (del_call del).view.generation (del_asks del) x → LeadsWithin (del_call del).view.layout (del_stage del) (del_asks del) x
     → FootStep (del_call del).view.layout (del_call del).view.generation (del_call del).view.caller (del_footing del) (del_asks del) x
     (footing_after (running_turned (Deleting del) x)) (reply_of (running_turned (Deleting del) x))
-dels_are_steps (del.Looking lookup) x sound told leads = del_steps (del.Looking lookup) x tt sound told
-dels_are_steps (del.Next call hold bitmap hit) x sound told leads = del_steps (del.Next call hold bitmap hit) x tt sound told
-dels_are_steps (del.Taking call hold bitmap hit take) x sound told leads = taking_leads call hold bitmap hit take sound.0.call sound.2 x told.fits
-dels_are_steps (del.Refusing call hold bitmap hit) x sound told leads = del_steps (del.Refusing call hold bitmap hit) x tt sound told
-dels_are_steps (del.Clearing call hold bitmap hit line) x sound told leads = del_steps (del.Clearing call hold bitmap hit line) x tt sound told
-dels_are_steps (del.Finishing finish line) x sound told leads = del_steps (del.Finishing finish line) x tt sound told
+dels_are_steps (del.Single (single_del.Looking lookup)) x sound told leads = del_steps (del.Single (single_del.Looking lookup)) x tt sound told
+dels_are_steps (del.Single (single_del.Next call hold bitmap hit)) x sound told leads = del_steps (del.Single (single_del.Next call hold bitmap hit)) x tt sound told
+dels_are_steps (del.Single (single_del.Taking call hold bitmap hit take)) x sound told leads = taking_leads call hold bitmap hit take sound.0.call sound.2 x told.fits
+dels_are_steps (del.Single (single_del.Refusing call hold bitmap hit)) x sound told leads = del_steps (del.Single (single_del.Refusing call hold bitmap hit)) x tt sound told
+dels_are_steps (del.Single (single_del.Clearing call hold bitmap hit line)) x sound told leads = del_steps (del.Single (single_del.Clearing call hold bitmap hit line)) x tt sound told
+dels_are_steps (del.Single (single_del.Finishing finish line)) x sound told leads = del_steps (del.Single (single_del.Finishing finish line)) x tt sound told
 dels_are_steps (del.Merging call hold old place merge) x sound told leads = merging_leads call hold old place merge sound x told leads
 
 -- a node that a merge holds leads to one of the layout's

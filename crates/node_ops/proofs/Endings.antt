@@ -44,8 +44,10 @@ use Rattle.node_ops.specs.declared.get.Get.{Get}
 use Rattle.node_ops.specs.declared.get.Get.TheVariants as get
 use Rattle.node_ops.specs.declared.put.Put.{Put}
 use Rattle.node_ops.specs.declared.put.Put.TheVariants as put
+use Rattle.node_ops.specs.declared.single_put.SinglePut.TheVariants as single_put
 use Rattle.node_ops.specs.declared.del.Del.{Del}
 use Rattle.node_ops.specs.declared.del.Del.TheVariants as del
+use Rattle.node_ops.specs.declared.single_del.SingleDel.TheVariants as single_del
 use Rattle.node_ops.specs.declared.running.Running.{Running}
 use Rattle.node_ops.specs.declared.running.Running.TheVariants.{Getting, Putting, Deleting, Parting}
 use Rattle.node_ops.specs.Calls.{at_node}
@@ -261,7 +263,7 @@ finish_turns finish x = at finish.at
     at (finish_at.Unlock place) = (writes finish.new place, refl, refl, refl)
 
 put_turns : (put : Put) (x : ℕ) → IsRunning (Putting put) → Turns (Putting put) x (running_turned (Putting put) x)
-put_turns (put.Looking lookup value) x is = at (lookup_turned lookup x) (looks_end lookup.call lookup.at x is.0.here)
+put_turns (put.Single (single_put.Looking lookup value)) x is = at (lookup_turned lookup x) (looks_end lookup.call lookup.at x is.0.here)
   where
     full : (found : Found) (hit : Option Hit) → placed_in (stage_of (Putting (put_full lookup.call found.hold found.directory.bitmap hit value))) ≡ None
     full found (Some hit) = refl
@@ -271,21 +273,21 @@ put_turns (put.Looking lookup value) x is = at (lookup_turned lookup x) (looks_e
     into found (Some slot) = refl
     into found None = full found found.hit
 
-    at : (turn : Turn Lookup Looked) → LooksEnd lookup.call.limit turn → Turns (Putting (put.Looking lookup value)) x (wrapped Putting (put_looked lookup.call value turn))
-    at (Go next) early = keeps_none (Putting (put.Looking lookup value)) x (Putting (put.Looking next value)) (lookup_uncounted lookup) (lookup_unplaced lookup) (lookup_unplaced next)
-    at (Done (looked.Early answer)) early = ends_early (Putting (put.Looking lookup value)) x lookup.call.limit answer (lookup_uncounted lookup) (lookup_unplaced lookup) refl early
+    at : (turn : Turn Lookup Looked) → LooksEnd lookup.call.limit turn → Turns (Putting (put.Single (single_put.Looking lookup value))) x (wrapped Putting (put_looked lookup.call value turn))
+    at (Go next) early = keeps_none (Putting (put.Single (single_put.Looking lookup value))) x (Putting (put.Single (single_put.Looking next value))) (lookup_uncounted lookup) (lookup_unplaced lookup) (lookup_unplaced next)
+    at (Done (looked.Early answer)) early = ends_early (Putting (put.Single (single_put.Looking lookup value))) x lookup.call.limit answer (lookup_uncounted lookup) (lookup_unplaced lookup) refl early
     at (Done (looked.Found found)) early =
         let clear = lowest_clear found.directory.bitmap lookup.call.view.layout.slots in
-        keeps_none (Putting (put.Looking lookup value)) x (Putting (put_into lookup.call found value clear)) (lookup_uncounted lookup) (lookup_unplaced lookup) (into found clear)
-put_turns (put.Filling fill) x is = at (fill_turned fill x) (fill_turns fill x)
+        keeps_none (Putting (put.Single (single_put.Looking lookup value))) x (Putting (put_into lookup.call found value clear)) (lookup_uncounted lookup) (lookup_unplaced lookup) (into found clear)
+put_turns (put.Single (single_put.Filling fill)) x is = at (fill_turned fill x) (fill_turns fill x)
   where
-    at : (turn : Turn Fill Finish) → FillTurns turn → Turns (Putting (put.Filling fill)) x (wrapped Putting (put_filled turn))
+    at : (turn : Turn Fill Finish) → FillTurns turn → Turns (Putting (put.Single (single_put.Filling fill))) x (wrapped Putting (put_filled turn))
     at (Go next) turns = refl
     at (Done finish) turns = turns
-put_turns (put.Replacing call hold bitmap hit value) x is = refl
-put_turns (put.Finishing finish) x is = at (finish_turned finish x) (finish_turns finish x)
+put_turns (put.Single (single_put.Replacing call hold bitmap hit value)) x is = refl
+put_turns (put.Single (single_put.Finishing finish)) x is = at (finish_turned finish x) (finish_turns finish x)
   where
-    at : (turn : Turn Finish (Once Placed)) → FinishTurns finish x turn → Turns (Putting (put.Finishing finish)) x (wrapped Putting (put_finished turn))
+    at : (turn : Turn Finish (Once Placed)) → FinishTurns finish x turn → Turns (Putting (put.Single (single_put.Finishing finish))) x (wrapped Putting (put_finished turn))
     at (Go next) turns = turns
     at (Done (once.Done placed)) turns = (record { place = turns.0; limit = turns.1; hops = turns.2 }, turns.3)
     at (Done (once.Spent clock)) turns = absurd turns
@@ -307,33 +309,33 @@ same_place finish x next other same None on = same ∙ on
 same_place finish x next other same (Some change) on = (on.0, on.1, same ∙ on.2)
 
 del_turns : (del : Del) (x : ℕ) → IsRunning (Deleting del) → Turns (Deleting del) x (running_turned (Deleting del) x)
-del_turns (del.Looking lookup) x is = at (lookup_turned lookup x) (looks_end lookup.call lookup.at x is.here)
+del_turns (del.Single (single_del.Looking lookup)) x is = at (lookup_turned lookup x) (looks_end lookup.call lookup.at x is.here)
   where
     hits : (found : Found) (hit : Option Hit) → placed_in (stage_of (Deleting (del_hit lookup.call found.hold found.directory.bitmap hit))) ≡ None
     hits found (Some hit) =
         let bitmap = found.directory.bitmap in
         elim (ltb (lookup.call.view.layout.slots / 2) (names_left lookup.call bitmap hit)) as (λ b.
-        placed_in (stage_of (Deleting (cond b (del.Clearing lookup.call found.hold bitmap hit None) (del.Next lookup.call found.hold bitmap hit)))) ≡ None) [ true ↦ refl | false ↦ refl ]
+        placed_in (stage_of (Deleting (cond b (del.Single (single_del.Clearing lookup.call found.hold bitmap hit None)) (del.Single (single_del.Next lookup.call found.hold bitmap hit))))) ≡ None) [ true ↦ refl | false ↦ refl ]
     hits found None = refl
 
-    at : (turn : Turn Lookup Looked) → LooksEnd lookup.call.limit turn → Turns (Deleting (del.Looking lookup)) x (wrapped Deleting (del_looked lookup.call turn))
-    at (Go next) early = keeps_none (Deleting (del.Looking lookup)) x (Deleting (del.Looking next)) (lookup_uncounted lookup) (lookup_unplaced lookup) (lookup_unplaced next)
-    at (Done (looked.Early answer)) early = ends_early (Deleting (del.Looking lookup)) x lookup.call.limit answer (lookup_uncounted lookup) (lookup_unplaced lookup) refl early
+    at : (turn : Turn Lookup Looked) → LooksEnd lookup.call.limit turn → Turns (Deleting (del.Single (single_del.Looking lookup))) x (wrapped Deleting (del_looked lookup.call turn))
+    at (Go next) early = keeps_none (Deleting (del.Single (single_del.Looking lookup))) x (Deleting (del.Single (single_del.Looking next))) (lookup_uncounted lookup) (lookup_unplaced lookup) (lookup_unplaced next)
+    at (Done (looked.Early answer)) early = ends_early (Deleting (del.Single (single_del.Looking lookup))) x lookup.call.limit answer (lookup_uncounted lookup) (lookup_unplaced lookup) refl early
     at (Done (looked.Found found)) early =
-        keeps_none (Deleting (del.Looking lookup)) x (Deleting (del_hit lookup.call found.hold found.directory.bitmap found.hit)) (lookup_uncounted lookup) (lookup_unplaced lookup) (hits found found.hit)
-del_turns (del.Next call hold bitmap hit) x is =
-    elim (x == 0) as (λ b. placed_in (stage_of (Deleting (cond b (del.Clearing call hold bitmap hit None) (del.Taking call hold bitmap hit (take_from call.view.layout call.view.caller))))) ≡ None) [ true ↦ refl | false ↦ refl ]
-del_turns (del.Taking call hold bitmap hit take) x is = at (take_turned take x)
+        keeps_none (Deleting (del.Single (single_del.Looking lookup))) x (Deleting (del_hit lookup.call found.hold found.directory.bitmap found.hit)) (lookup_uncounted lookup) (lookup_unplaced lookup) (hits found found.hit)
+del_turns (del.Single (single_del.Next call hold bitmap hit)) x is =
+    elim (x == 0) as (λ b. placed_in (stage_of (Deleting (cond b (del.Single (single_del.Clearing call hold bitmap hit None)) (del.Single (single_del.Taking call hold bitmap hit (take_from call.view.layout call.view.caller)))))) ≡ None) [ true ↦ refl | false ↦ refl ]
+del_turns (del.Single (single_del.Taking call hold bitmap hit take)) x is = at (take_turned take x)
   where
-    at : (turn : Turn Take Taken) → Turns (Deleting (del.Taking call hold bitmap hit take)) x (wrapped Deleting (del_taken call hold bitmap hit turn))
+    at : (turn : Turn Take Taken) → Turns (Deleting (del.Single (single_del.Taking call hold bitmap hit take))) x (wrapped Deleting (del_taken call hold bitmap hit turn))
     at (Go next) = refl
     at (Done (Line line)) = refl
     at (Done Full) = refl
-del_turns (del.Refusing call hold bitmap hit) x is = ((refl, λ same. absurd (cc)), refl)
-del_turns (del.Clearing call hold bitmap hit line) x is = refl
-del_turns (del.Finishing finish line) x is = at (finish_turned finish x) (finish_turns finish x)
+del_turns (del.Single (single_del.Refusing call hold bitmap hit)) x is = ((refl, λ same. absurd (cc)), refl)
+del_turns (del.Single (single_del.Clearing call hold bitmap hit line)) x is = refl
+del_turns (del.Single (single_del.Finishing finish line)) x is = at (finish_turned finish x) (finish_turns finish x)
   where
-    at : (turn : Turn Finish (Once Placed)) → FinishTurns finish x turn → Turns (Deleting (del.Finishing finish line)) x (wrapped Deleting (del_finished line turn))
+    at : (turn : Turn Finish (Once Placed)) → FinishTurns finish x turn → Turns (Deleting (del.Single (single_del.Finishing finish line))) x (wrapped Deleting (del_finished line turn))
     at (Go next) turns = same_place finish x (finish_stage next) (stage_of (Deleting (goes_on next line))) (ap placed_in (goes_on_stage next line)) (counted (finish_stage finish)) turns
     at (Done (once.Done placed)) turns = (record { place = turns.0; limit = turns.1; hops = turns.2 }, turns.3)
     at (Done (once.Spent clock)) turns = absurd turns
@@ -409,18 +411,18 @@ finish_in_time finish (finish_at.Unlock place) = refl
 pub placed_is_in_time : PlacedIsInTime
 placed_is_in_time (Getting (get.Looking lookup)) placed = absurd (placed (lookup_unplaced lookup))
 placed_is_in_time (Getting (get.Unlocking call hold old)) placed = refl
-placed_is_in_time (Putting (put.Looking lookup value)) placed = absurd (placed (lookup_unplaced lookup))
-placed_is_in_time (Putting (put.Filling fill)) placed = refl
-placed_is_in_time (Putting (put.Replacing call hold bitmap hit value)) placed = refl
-placed_is_in_time (Putting (put.Finishing finish)) placed = finish_in_time finish finish.at
+placed_is_in_time (Putting (put.Single (single_put.Looking lookup value))) placed = absurd (placed (lookup_unplaced lookup))
+placed_is_in_time (Putting (put.Single (single_put.Filling fill))) placed = refl
+placed_is_in_time (Putting (put.Single (single_put.Replacing call hold bitmap hit value))) placed = refl
+placed_is_in_time (Putting (put.Single (single_put.Finishing finish))) placed = finish_in_time finish finish.at
 placed_is_in_time (Putting (put.Splitting call hold bitmap value split)) placed =
     absurd (placed (split_unplaced _ _ refl (stages_are_of_splits (found_full call hold bitmap) split)))
-placed_is_in_time (Deleting (del.Looking lookup)) placed = absurd (placed (lookup_unplaced lookup))
-placed_is_in_time (Deleting (del.Next call hold bitmap hit)) placed = refl
-placed_is_in_time (Deleting (del.Taking call hold bitmap hit take)) placed = refl
-placed_is_in_time (Deleting (del.Refusing call hold bitmap hit)) placed = refl
-placed_is_in_time (Deleting (del.Clearing call hold bitmap hit line)) placed = refl
-placed_is_in_time (Deleting (del.Finishing finish line)) placed = finish_in_time finish finish.at
+placed_is_in_time (Deleting (del.Single (single_del.Looking lookup))) placed = absurd (placed (lookup_unplaced lookup))
+placed_is_in_time (Deleting (del.Single (single_del.Next call hold bitmap hit))) placed = refl
+placed_is_in_time (Deleting (del.Single (single_del.Taking call hold bitmap hit take))) placed = refl
+placed_is_in_time (Deleting (del.Single (single_del.Refusing call hold bitmap hit))) placed = refl
+placed_is_in_time (Deleting (del.Single (single_del.Clearing call hold bitmap hit line))) placed = refl
+placed_is_in_time (Deleting (del.Single (single_del.Finishing finish line))) placed = finish_in_time finish finish.at
 placed_is_in_time (Deleting (del.Merging call hold old place merge)) placed = merge_limited _ _ (merging_stage call old place merge)
 placed_is_in_time (Parting (part.Looking lookup count behind)) placed = absurd (placed (lookup_unplaced lookup))
 placed_is_in_time (Parting (part.Reading reading)) placed = refl

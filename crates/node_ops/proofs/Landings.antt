@@ -34,8 +34,10 @@ use Rattle.node_ops.specs.declared.get.Get.{Get}
 use Rattle.node_ops.specs.declared.get.Get.TheVariants as get
 use Rattle.node_ops.specs.declared.put.Put.{Put}
 use Rattle.node_ops.specs.declared.put.Put.TheVariants as put
+use Rattle.node_ops.specs.declared.single_put.SinglePut.TheVariants as single_put
 use Rattle.node_ops.specs.declared.del.Del.{Del}
 use Rattle.node_ops.specs.declared.del.Del.TheVariants as del
+use Rattle.node_ops.specs.declared.single_del.SingleDel.TheVariants as single_del
 use Rattle.node_ops.specs.declared.running.Running.{Running}
 use Rattle.node_ops.specs.declared.running.Running.TheVariants.{Getting, Putting, Deleting, Parting}
 use Rattle.node_ops.specs.Calls.{at_node}
@@ -160,7 +162,7 @@ get_lands (get.Looking lookup) x = at (lookup_turned lookup x) (looks_land looku
 get_lands (get.Unlocking call hold old) x = tt
 
 put_lands : (put : Put) (x : ℕ) → LandsAfter (Putting put) x (running_turned (Putting put) x)
-put_lands (put.Looking lookup value) x = at (lookup_turned lookup x) (looks_land lookup.call lookup.at x)
+put_lands (put.Single (single_put.Looking lookup value)) x = at (lookup_turned lookup x) (looks_land lookup.call lookup.at x)
   where
     full : (found : Found) (hit : Option Hit) → lookup.call ≡ put_call (put_full lookup.call found.hold found.directory.bitmap hit value)
     full found (Some hit) = refl
@@ -170,20 +172,20 @@ put_lands (put.Looking lookup value) x = at (lookup_turned lookup x) (looks_land
     into found (Some slot) = refl
     into found None = full found found.hit
 
-    at : (turn : Turn Lookup Looked) → LooksLand lookup.call x (lookup_walk lookup.at) turn → LandsAfter (Putting (put.Looking lookup value)) x (wrapped Putting (put_looked lookup.call value turn))
+    at : (turn : Turn Lookup Looked) → LooksLand lookup.call x (lookup_walk lookup.at) turn → LandsAfter (Putting (put.Single (single_put.Looking lookup value))) x (wrapped Putting (put_looked lookup.call value turn))
     at (Go next) lands = lands
     at (Done (looked.Early answer)) lands = tt
     at (Done (looked.Found found)) lands =
         subst (Lands lookup.call x (lookup_walk lookup.at)) (into found (lowest_clear found.directory.bitmap lookup.call.view.layout.slots)) lands
-put_lands (put.Filling fill) x = at (fill_turned fill x) (fill_keeps fill x)
+put_lands (put.Single (single_put.Filling fill)) x = at (fill_turned fill x) (fill_keeps fill x)
   where
-    at : (turn : Turn Fill Finish) → CallAfter fill.call turn → LandsAfter (Putting (put.Filling fill)) x (wrapped Putting (put_filled turn))
+    at : (turn : Turn Fill Finish) → CallAfter fill.call turn → LandsAfter (Putting (put.Single (single_put.Filling fill))) x (wrapped Putting (put_filled turn))
     at (Go next) same = same
     at (Done finish) same = same
-put_lands (put.Replacing call hold bitmap hit value) x = refl
-put_lands (put.Finishing finish) x = at (finish_turned finish x) (finish_keeps finish x)
+put_lands (put.Single (single_put.Replacing call hold bitmap hit value)) x = refl
+put_lands (put.Single (single_put.Finishing finish)) x = at (finish_turned finish x) (finish_keeps finish x)
   where
-    at : (turn : Turn Finish (Once Placed)) → CallStays finish.call turn → LandsAfter (Putting (put.Finishing finish)) x (wrapped Putting (put_finished turn))
+    at : (turn : Turn Finish (Once Placed)) → CallStays finish.call turn → LandsAfter (Putting (put.Single (single_put.Finishing finish))) x (wrapped Putting (put_finished turn))
     at (Go next) same = same
     at (Done answer) same = tt
 put_lands (put.Splitting call hold bitmap value split) x = at (split_turned split x)
@@ -193,30 +195,30 @@ put_lands (put.Splitting call hold bitmap value split) x = at (split_turned spli
     at (Done answer) = tt
 
 del_lands : (del : Del) (x : ℕ) → LandsAfter (Deleting del) x (running_turned (Deleting del) x)
-del_lands (del.Looking lookup) x = at (lookup_turned lookup x) (looks_land lookup.call lookup.at x)
+del_lands (del.Single (single_del.Looking lookup)) x = at (lookup_turned lookup x) (looks_land lookup.call lookup.at x)
   where
     hits : (found : Found) (hit : Option Hit) → lookup.call ≡ del_call (del_hit lookup.call found.hold found.directory.bitmap hit)
     hits found (Some hit) =
         let bitmap = found.directory.bitmap in
         elim (ltb (lookup.call.view.layout.slots / 2) (names_left lookup.call bitmap hit)) as (λ b.
-        lookup.call ≡ del_call (cond b (del.Clearing lookup.call found.hold bitmap hit None) (del.Next lookup.call found.hold bitmap hit))) [ true ↦ refl | false ↦ refl ]
+        lookup.call ≡ del_call (cond b (del.Single (single_del.Clearing lookup.call found.hold bitmap hit None)) (del.Single (single_del.Next lookup.call found.hold bitmap hit)))) [ true ↦ refl | false ↦ refl ]
     hits found None = refl
 
-    at : (turn : Turn Lookup Looked) → LooksLand lookup.call x (lookup_walk lookup.at) turn → LandsAfter (Deleting (del.Looking lookup)) x (wrapped Deleting (del_looked lookup.call turn))
+    at : (turn : Turn Lookup Looked) → LooksLand lookup.call x (lookup_walk lookup.at) turn → LandsAfter (Deleting (del.Single (single_del.Looking lookup))) x (wrapped Deleting (del_looked lookup.call turn))
     at (Go next) lands = lands
     at (Done (looked.Early answer)) lands = tt
     at (Done (looked.Found found)) lands = subst (Lands lookup.call x (lookup_walk lookup.at)) (hits found found.hit) lands
-del_lands (del.Next call hold bitmap hit) x =
-    elim (x == 0) as (λ b. del_call (cond b (del.Clearing call hold bitmap hit None) (del.Taking call hold bitmap hit (take_from call.view.layout call.view.caller))) ≡ call) [ true ↦ refl | false ↦ refl ]
-del_lands (del.Taking call hold bitmap hit take) x = at (take_turned take x)
+del_lands (del.Single (single_del.Next call hold bitmap hit)) x =
+    elim (x == 0) as (λ b. del_call (cond b (del.Single (single_del.Clearing call hold bitmap hit None)) (del.Single (single_del.Taking call hold bitmap hit (take_from call.view.layout call.view.caller)))) ≡ call) [ true ↦ refl | false ↦ refl ]
+del_lands (del.Single (single_del.Taking call hold bitmap hit take)) x = at (take_turned take x)
   where
-    at : (turn : Turn Take Taken) → LandsAfter (Deleting (del.Taking call hold bitmap hit take)) x (wrapped Deleting (del_taken call hold bitmap hit turn))
+    at : (turn : Turn Take Taken) → LandsAfter (Deleting (del.Single (single_del.Taking call hold bitmap hit take))) x (wrapped Deleting (del_taken call hold bitmap hit turn))
     at (Go next) = refl
     at (Done (Line line)) = refl
     at (Done Full) = refl
-del_lands (del.Refusing call hold bitmap hit) x = tt
-del_lands (del.Clearing call hold bitmap hit line) x = refl
-del_lands (del.Finishing finish line) x = at (finish_turned finish x) (finish_keeps finish x)
+del_lands (del.Single (single_del.Refusing call hold bitmap hit)) x = tt
+del_lands (del.Single (single_del.Clearing call hold bitmap hit line)) x = refl
+del_lands (del.Single (single_del.Finishing finish line)) x = at (finish_turned finish x) (finish_keeps finish x)
   where
     on : (next : Finish) (line : Option ℕ) → del_call (goes_on next line) ≡ next.call
     on next None = refl
@@ -227,7 +229,7 @@ del_lands (del.Finishing finish line) x = at (finish_turned finish x) (finish_ke
         point finish_at.Add = refl
         point (finish_at.Unlock place) = refl
 
-    at : (turn : Turn Finish (Once Placed)) → CallStays finish.call turn → LandsAfter (Deleting (del.Finishing finish line)) x (wrapped Deleting (del_finished line turn))
+    at : (turn : Turn Finish (Once Placed)) → CallStays finish.call turn → LandsAfter (Deleting (del.Single (single_del.Finishing finish line))) x (wrapped Deleting (del_finished line turn))
     at (Go next) same = on next line ∙ same
     at (Done answer) same = tt
 del_lands (del.Merging call hold old place merge) x = at (merge_turned merge x)

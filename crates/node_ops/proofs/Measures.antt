@@ -34,6 +34,7 @@ use Rattle.smo_log.specs.Takes.{IsTake, take_left}
 use Rattle.node_ops.specs.declared.lookup.Hit.{Hit}
 use Rattle.node_ops.specs.declared.lookup.Found.{Found}
 use Rattle.node_ops.specs.declared.del.Del.TheVariants as del
+use Rattle.node_ops.specs.declared.single_del.SingleDel.TheVariants as single_del
 use Rattle.node_ops.specs.DelSteps.{names_left, del_hit, del_found, took, del_left}
 use Rattle.node_ops.specs.FillSteps.{fill_turned, fill_at_turned, fill_left, fill_at_left, filled, slot_fenced, print_fenced}
 
@@ -132,7 +133,7 @@ found_fewer call found more = at found.hit
     at None = omega arith
     at (Some hit) =
         let bitmap = found.directory.bitmap in
-        elim (ltb (call.view.layout.slots / 2) (names_left call bitmap hit)) as (λ b. del_left (cond b (del.Clearing call found.hold bitmap hit None) (del.Next call found.hold bitmap hit)) < more + 30052) [
+        elim (ltb (call.view.layout.slots / 2) (names_left call bitmap hit)) as (λ b. del_left (cond b (del.Single (single_del.Clearing call found.hold bitmap hit None)) (del.Single (single_del.Next call found.hold bitmap hit))) < more + 30052) [
           | true ↦ omega arith
           | false ↦ omega arith
         ]

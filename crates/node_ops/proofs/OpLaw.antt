@@ -33,8 +33,10 @@ use Rattle.node_ops.specs.declared.get.Get.{Get}
 use Rattle.node_ops.specs.declared.get.Get.TheVariants as get
 use Rattle.node_ops.specs.declared.put.Put.{Put}
 use Rattle.node_ops.specs.declared.put.Put.TheVariants as put
+use Rattle.node_ops.specs.declared.single_put.SinglePut.TheVariants as single_put
 use Rattle.node_ops.specs.declared.del.Del.{Del}
 use Rattle.node_ops.specs.declared.del.Del.TheVariants as del
+use Rattle.node_ops.specs.declared.single_del.SingleDel.TheVariants as single_del
 use Rattle.node_ops.specs.declared.running.Running.{Running}
 use Rattle.node_ops.specs.declared.running.Running.TheVariants.{Getting, Putting, Deleting, Parting}
 use Rattle.node_ops.specs.Calls.{name_in}
@@ -116,7 +118,7 @@ GivesAfter value (Go put) = Gives value put
 GivesAfter value (Done answer) = Unit {0}
 
 put_keeps : (value : ℕ) (put : Put) (x : ℕ) → Gives value put → GivesAfter value (put_turned put x)
-put_keeps value (put.Looking lookup number) x is = at (lookup_turned lookup x)
+put_keeps value (put.Single (single_put.Looking lookup number)) x is = at (lookup_turned lookup x)
   where
     full : (found : Found) (hit : Option Hit) → Gives value (put_full lookup.call found.hold found.directory.bitmap hit number)
     full found (Some hit) = is
@@ -130,13 +132,13 @@ put_keeps value (put.Looking lookup number) x is = at (lookup_turned lookup x)
     at (Go next) = is
     at (Done (looked.Early answer)) = tt
     at (Done (looked.Found found)) = into found (lowest_clear found.directory.bitmap lookup.call.view.layout.slots)
-put_keeps value (put.Filling fill) x is = at (fill_turned fill x) (fill_keeps fill x)
+put_keeps value (put.Single (single_put.Filling fill)) x is = at (fill_turned fill x) (fill_keeps fill x)
   where
     at : (turn : Turn Fill Finish) → ValueAfter fill.value turn → GivesAfter value (put_filled turn)
     at (Go next) same = same ∙ is
     at (Done finish) same = same ∙ ap Some is
-put_keeps value (put.Replacing call hold bitmap hit number) x is = ap Some is
-put_keeps value (put.Finishing finish) x is = at (finish_turned finish x) (finish_keeps finish x)
+put_keeps value (put.Single (single_put.Replacing call hold bitmap hit number)) x is = ap Some is
+put_keeps value (put.Single (single_put.Finishing finish)) x is = at (finish_turned finish x) (finish_keeps finish x)
   where
     at : (turn : Turn Finish (Once Placed)) → NewAfter finish.new turn → GivesAfter value (put_finished turn)
     at (Go next) same = same ∙ is
@@ -152,29 +154,29 @@ TakesOutAfter (Go del) = TakesOut del
 TakesOutAfter (Done answer) = Unit {0}
 
 del_keeps : (del : Del) (x : ℕ) → TakesOut del → TakesOutAfter (del_turned del x)
-del_keeps (del.Looking lookup) x is = at (lookup_turned lookup x)
+del_keeps (del.Single (single_del.Looking lookup)) x is = at (lookup_turned lookup x)
   where
     hit : (found : Found) (hit : Option Hit) → TakesOut (del_hit lookup.call found.hold found.directory.bitmap hit)
     hit found (Some h) =
         let bitmap = found.directory.bitmap in
-        elim (ltb (lookup.call.view.layout.slots / 2) (names_left lookup.call bitmap h)) as (λ b. TakesOut (cond b (del.Clearing lookup.call found.hold bitmap h None) (del.Next lookup.call found.hold bitmap h))) [ true ↦ tt | false ↦ tt ]
+        elim (ltb (lookup.call.view.layout.slots / 2) (names_left lookup.call bitmap h)) as (λ b. TakesOut (cond b (del.Single (single_del.Clearing lookup.call found.hold bitmap h None)) (del.Single (single_del.Next lookup.call found.hold bitmap h)))) [ true ↦ tt | false ↦ tt ]
     hit found None = refl
 
     at : (turn : Turn Lookup Looked) → TakesOutAfter (del_looked lookup.call turn)
     at (Go next) = tt
     at (Done (looked.Early answer)) = tt
     at (Done (looked.Found found)) = hit found found.hit
-del_keeps (del.Next call hold bitmap hit) x is =
-    elim (x == 0) as (λ b. TakesOut (cond b (del.Clearing call hold bitmap hit None) (del.Taking call hold bitmap hit (take_from call.view.layout call.view.caller)))) [ true ↦ tt | false ↦ tt ]
-del_keeps (del.Taking call hold bitmap hit take) x is = at (take_turned take x)
+del_keeps (del.Single (single_del.Next call hold bitmap hit)) x is =
+    elim (x == 0) as (λ b. TakesOut (cond b (del.Single (single_del.Clearing call hold bitmap hit None)) (del.Single (single_del.Taking call hold bitmap hit (take_from call.view.layout call.view.caller))))) [ true ↦ tt | false ↦ tt ]
+del_keeps (del.Single (single_del.Taking call hold bitmap hit take)) x is = at (take_turned take x)
   where
     at : (turn : Turn Take Taken) → TakesOutAfter (del_taken call hold bitmap hit turn)
     at (Go next) = tt
     at (Done (Line line)) = tt
     at (Done Full) = tt
-del_keeps (del.Refusing call hold bitmap hit) x is = tt
-del_keeps (del.Clearing call hold bitmap hit line) x is = refl
-del_keeps (del.Finishing finish line) x is = at (finish_turned finish x) (finish_keeps finish x)
+del_keeps (del.Single (single_del.Refusing call hold bitmap hit)) x is = tt
+del_keeps (del.Single (single_del.Clearing call hold bitmap hit line)) x is = refl
+del_keeps (del.Single (single_del.Finishing finish line)) x is = at (finish_turned finish x) (finish_keeps finish x)
   where
     on : (next : Finish) (line : Option ℕ) → next.new ≡ None → TakesOut (goes_on next line)
     on next None none = none
@@ -307,10 +309,10 @@ counts_own_change (op.Get name) (Deleting del) is = absurd is
 counts_own_change (op.Get name) (Parting (part.Looking lookup count behind)) is = counts_nothing _ _ (lookup_counts lookup.call lookup.at)
 counts_own_change (op.Get name) (Parting (part.Reading reading)) is = tt
 counts_own_change (op.Put name value) (Getting get) is = absurd is
-counts_own_change (op.Put name value) (Putting (put.Looking lookup number)) is = counts_nothing _ _ (lookup_counts lookup.call lookup.at)
-counts_own_change (op.Put name value) (Putting (put.Filling fill)) is = tt
-counts_own_change (op.Put name value) (Putting (put.Replacing call hold bitmap hit number)) is = tt
-counts_own_change (op.Put name value) (Putting (put.Finishing finish)) is =
+counts_own_change (op.Put name value) (Putting (put.Single (single_put.Looking lookup number))) is = counts_nothing _ _ (lookup_counts lookup.call lookup.at)
+counts_own_change (op.Put name value) (Putting (put.Single (single_put.Filling fill))) is = tt
+counts_own_change (op.Put name value) (Putting (put.Single (single_put.Replacing call hold bitmap hit number))) is = tt
+counts_own_change (op.Put name value) (Putting (put.Single (single_put.Finishing finish))) is =
     finish_counts (λ c. Some (change.Put name value) ≡ Some c) finish finish.at
     (ap Some (sym (ap (λ (n : Option ℕ). change_to (name_in finish.call) n) is.1 ∙ ap (λ (n : List ℕ). change.Put n value) is.0)))
 counts_own_change (op.Put name value) (Putting (put.Splitting call hold bitmap number split)) is =
@@ -319,14 +321,14 @@ counts_own_change (op.Put name value) (Deleting del) is = absurd is
 counts_own_change (op.Put name value) (Parting p) is = absurd is
 counts_own_change (op.Del name) (Getting get) is = absurd is
 counts_own_change (op.Del name) (Putting put) is = absurd is
-counts_own_change (op.Del name) (Deleting (del.Looking lookup)) is = counts_nothing _ _ (lookup_counts lookup.call lookup.at)
-counts_own_change (op.Del name) (Deleting (del.Next call hold bitmap hit)) is = tt
-counts_own_change (op.Del name) (Deleting (del.Taking call hold bitmap hit take)) is = tt
-counts_own_change (op.Del name) (Deleting (del.Refusing call hold bitmap hit)) is = tt
-counts_own_change (op.Del name) (Deleting (del.Clearing call hold bitmap hit line)) is = tt
+counts_own_change (op.Del name) (Deleting (del.Single (single_del.Looking lookup))) is = counts_nothing _ _ (lookup_counts lookup.call lookup.at)
+counts_own_change (op.Del name) (Deleting (del.Single (single_del.Next call hold bitmap hit))) is = tt
+counts_own_change (op.Del name) (Deleting (del.Single (single_del.Taking call hold bitmap hit take))) is = tt
+counts_own_change (op.Del name) (Deleting (del.Single (single_del.Refusing call hold bitmap hit))) is = tt
+counts_own_change (op.Del name) (Deleting (del.Single (single_del.Clearing call hold bitmap hit line))) is = tt
 counts_own_change (op.Del name) (Deleting (del.Merging call hold old place merge)) is =
     counts_nothing _ _ (merge_uncounted _ _ (placed_still call old place) (merging_stage call old place merge))
-counts_own_change (op.Del name) (Deleting (del.Finishing finish line)) is =
+counts_own_change (op.Del name) (Deleting (del.Single (single_del.Finishing finish line))) is =
     finish_counts (λ c. Some (change.Del name) ≡ Some c) finish finish.at
     (ap Some (sym (ap (λ (n : Option ℕ). change_to (name_in finish.call) n) is.1 ∙ ap (λ (n : List ℕ). change.Del n) is.0)))
 counts_own_change (op.Del name) (Parting p) is = absurd is
@@ -339,10 +341,10 @@ holds_own_name (op.Get name) (Deleting del) is = absurd is
 holds_own_name (op.Get name) (Parting (part.Looking lookup count behind)) is = subst (λ n. IsAbout n (lookup_at_stage lookup.call lookup.at)) is (lookup_about lookup.call lookup.at)
 holds_own_name (op.Get name) (Parting (part.Reading reading)) is = is
 holds_own_name (op.Put name value) (Getting get) is = absurd is
-holds_own_name (op.Put name value) (Putting (put.Looking lookup number)) is = subst (λ n. IsAbout n (lookup_at_stage lookup.call lookup.at)) is.0 (lookup_about lookup.call lookup.at)
-holds_own_name (op.Put name value) (Putting (put.Filling fill)) is = is.0
-holds_own_name (op.Put name value) (Putting (put.Replacing call hold bitmap hit number)) is = is.0
-holds_own_name (op.Put name value) (Putting (put.Finishing finish)) is =
+holds_own_name (op.Put name value) (Putting (put.Single (single_put.Looking lookup number))) is = subst (λ n. IsAbout n (lookup_at_stage lookup.call lookup.at)) is.0 (lookup_about lookup.call lookup.at)
+holds_own_name (op.Put name value) (Putting (put.Single (single_put.Filling fill))) is = is.0
+holds_own_name (op.Put name value) (Putting (put.Single (single_put.Replacing call hold bitmap hit number))) is = is.0
+holds_own_name (op.Put name value) (Putting (put.Single (single_put.Finishing finish))) is =
     subst (λ n. IsAbout n (Holds finish.call.node finish.hold.locked (finish_at_held finish finish.at))) is.0 (finish_about finish finish.at)
 holds_own_name (op.Put name value) (Putting (put.Splitting call hold bitmap number split)) is =
     subst (λ n. IsAbout n (split_footing (found_full call hold bitmap) split).stage) is.0 (split_about _ _ (stages_are_of_splits (found_full call hold bitmap) split))
@@ -350,14 +352,14 @@ holds_own_name (op.Put name value) (Deleting del) is = absurd is
 holds_own_name (op.Put name value) (Parting p) is = absurd is
 holds_own_name (op.Del name) (Getting get) is = absurd is
 holds_own_name (op.Del name) (Putting put) is = absurd is
-holds_own_name (op.Del name) (Deleting (del.Looking lookup)) is = subst (λ n. IsAbout n (lookup_at_stage lookup.call lookup.at)) is.0 (lookup_about lookup.call lookup.at)
-holds_own_name (op.Del name) (Deleting (del.Next call hold bitmap hit)) is = is.0
-holds_own_name (op.Del name) (Deleting (del.Taking call hold bitmap hit take)) is = is.0
-holds_own_name (op.Del name) (Deleting (del.Refusing call hold bitmap hit)) is = is.0
-holds_own_name (op.Del name) (Deleting (del.Clearing call hold bitmap hit line)) is = is.0
+holds_own_name (op.Del name) (Deleting (del.Single (single_del.Looking lookup))) is = subst (λ n. IsAbout n (lookup_at_stage lookup.call lookup.at)) is.0 (lookup_about lookup.call lookup.at)
+holds_own_name (op.Del name) (Deleting (del.Single (single_del.Next call hold bitmap hit))) is = is.0
+holds_own_name (op.Del name) (Deleting (del.Single (single_del.Taking call hold bitmap hit take))) is = is.0
+holds_own_name (op.Del name) (Deleting (del.Single (single_del.Refusing call hold bitmap hit))) is = is.0
+holds_own_name (op.Del name) (Deleting (del.Single (single_del.Clearing call hold bitmap hit line))) is = is.0
 holds_own_name (op.Del name) (Deleting (del.Merging call hold old place merge)) is =
     subst (λ n. IsAbout n (merge_footing (has_place call old place) merge).stage) is.0 (merge_about _ _ (merging_stage call old place merge))
-holds_own_name (op.Del name) (Deleting (del.Finishing finish line)) is =
+holds_own_name (op.Del name) (Deleting (del.Single (single_del.Finishing finish line))) is =
     subst (λ n. IsAbout n (Holds finish.call.node finish.hold.locked (finish_at_held finish finish.at))) is.0 (finish_about finish finish.at)
 holds_own_name (op.Del name) (Parting p) is = absurd is
 
@@ -384,10 +386,10 @@ pending_is_own (op.Get name) (Deleting del) is = absurd is
 pending_is_own (op.Get name) (Parting (part.Looking lookup count behind)) is = counts_nothing _ _ (lookup_pends lookup.call lookup.at)
 pending_is_own (op.Get name) (Parting (part.Reading reading)) is = tt
 pending_is_own (op.Put name value) (Getting get) is = absurd is
-pending_is_own (op.Put name value) (Putting (put.Looking lookup number)) is = counts_nothing _ _ (lookup_pends lookup.call lookup.at)
-pending_is_own (op.Put name value) (Putting (put.Filling fill)) is = tt
-pending_is_own (op.Put name value) (Putting (put.Replacing call hold bitmap hit number)) is = tt
-pending_is_own (op.Put name value) (Putting (put.Finishing finish)) is =
+pending_is_own (op.Put name value) (Putting (put.Single (single_put.Looking lookup number))) is = counts_nothing _ _ (lookup_pends lookup.call lookup.at)
+pending_is_own (op.Put name value) (Putting (put.Single (single_put.Filling fill))) is = tt
+pending_is_own (op.Put name value) (Putting (put.Single (single_put.Replacing call hold bitmap hit number))) is = tt
+pending_is_own (op.Put name value) (Putting (put.Single (single_put.Finishing finish))) is =
     finish_pends (λ c. Some (change.Put name value) ≡ Some c) finish finish.at
     (ap Some (sym (ap (λ (n : Option ℕ). change_to (name_in finish.call) n) is.1 ∙ ap (λ (n : List ℕ). change.Put n value) is.0)))
 pending_is_own (op.Put name value) (Putting (put.Splitting call hold bitmap number split)) is =
@@ -396,14 +398,14 @@ pending_is_own (op.Put name value) (Deleting del) is = absurd is
 pending_is_own (op.Put name value) (Parting p) is = absurd is
 pending_is_own (op.Del name) (Getting get) is = absurd is
 pending_is_own (op.Del name) (Putting put) is = absurd is
-pending_is_own (op.Del name) (Deleting (del.Looking lookup)) is = counts_nothing _ _ (lookup_pends lookup.call lookup.at)
-pending_is_own (op.Del name) (Deleting (del.Next call hold bitmap hit)) is = tt
-pending_is_own (op.Del name) (Deleting (del.Taking call hold bitmap hit take)) is = tt
-pending_is_own (op.Del name) (Deleting (del.Refusing call hold bitmap hit)) is = tt
-pending_is_own (op.Del name) (Deleting (del.Clearing call hold bitmap hit line)) is = tt
+pending_is_own (op.Del name) (Deleting (del.Single (single_del.Looking lookup))) is = counts_nothing _ _ (lookup_pends lookup.call lookup.at)
+pending_is_own (op.Del name) (Deleting (del.Single (single_del.Next call hold bitmap hit))) is = tt
+pending_is_own (op.Del name) (Deleting (del.Single (single_del.Taking call hold bitmap hit take))) is = tt
+pending_is_own (op.Del name) (Deleting (del.Single (single_del.Refusing call hold bitmap hit))) is = tt
+pending_is_own (op.Del name) (Deleting (del.Single (single_del.Clearing call hold bitmap hit line))) is = tt
 pending_is_own (op.Del name) (Deleting (del.Merging call hold old place merge)) is =
     counts_nothing _ _ (merge_unpending _ _ (placed_still call old place) (merging_stage call old place merge))
-pending_is_own (op.Del name) (Deleting (del.Finishing finish line)) is =
+pending_is_own (op.Del name) (Deleting (del.Single (single_del.Finishing finish line))) is =
     finish_pends (λ c. Some (change.Del name) ≡ Some c) finish finish.at
     (ap Some (sym (ap (λ (n : Option ℕ). change_to (name_in finish.call) n) is.1 ∙ ap (λ (n : List ℕ). change.Del n) is.0)))
 pending_is_own (op.Del name) (Parting p) is = absurd is
@@ -417,18 +419,18 @@ finish_unplaced finish (finish_at.Unlock place) = tt
 pub pending_is_unplaced : (running : Running) → IfSome (pending_in (stage_of running)) (λ change. placed_in (stage_of running) ≡ None)
 pending_is_unplaced (Getting (get.Looking lookup)) = counts_nothing _ _ (lookup_pends lookup.call lookup.at)
 pending_is_unplaced (Getting (get.Unlocking call hold old)) = tt
-pending_is_unplaced (Putting (put.Looking lookup number)) = counts_nothing _ _ (lookup_pends lookup.call lookup.at)
-pending_is_unplaced (Putting (put.Filling fill)) = tt
-pending_is_unplaced (Putting (put.Replacing call hold bitmap hit number)) = tt
-pending_is_unplaced (Putting (put.Finishing finish)) = finish_unplaced finish finish.at
+pending_is_unplaced (Putting (put.Single (single_put.Looking lookup number))) = counts_nothing _ _ (lookup_pends lookup.call lookup.at)
+pending_is_unplaced (Putting (put.Single (single_put.Filling fill))) = tt
+pending_is_unplaced (Putting (put.Single (single_put.Replacing call hold bitmap hit number))) = tt
+pending_is_unplaced (Putting (put.Single (single_put.Finishing finish))) = finish_unplaced finish finish.at
 pending_is_unplaced (Putting (put.Splitting call hold bitmap number split)) =
     counts_nothing _ _ (split_unpending _ _ refl (stages_are_of_splits (found_full call hold bitmap) split))
-pending_is_unplaced (Deleting (del.Looking lookup)) = counts_nothing _ _ (lookup_pends lookup.call lookup.at)
-pending_is_unplaced (Deleting (del.Next call hold bitmap hit)) = tt
-pending_is_unplaced (Deleting (del.Taking call hold bitmap hit take)) = tt
-pending_is_unplaced (Deleting (del.Refusing call hold bitmap hit)) = tt
-pending_is_unplaced (Deleting (del.Clearing call hold bitmap hit line)) = tt
-pending_is_unplaced (Deleting (del.Finishing finish line)) = finish_unplaced finish finish.at
+pending_is_unplaced (Deleting (del.Single (single_del.Looking lookup))) = counts_nothing _ _ (lookup_pends lookup.call lookup.at)
+pending_is_unplaced (Deleting (del.Single (single_del.Next call hold bitmap hit))) = tt
+pending_is_unplaced (Deleting (del.Single (single_del.Taking call hold bitmap hit take))) = tt
+pending_is_unplaced (Deleting (del.Single (single_del.Refusing call hold bitmap hit))) = tt
+pending_is_unplaced (Deleting (del.Single (single_del.Clearing call hold bitmap hit line))) = tt
+pending_is_unplaced (Deleting (del.Single (single_del.Finishing finish line))) = finish_unplaced finish finish.at
 pending_is_unplaced (Deleting (del.Merging call hold old place merge)) =
     counts_nothing _ _ (merge_unpending _ _ (placed_still call old place) (merging_stage call old place merge))
 pending_is_unplaced (Parting (part.Looking lookup count behind)) = counts_nothing _ _ (lookup_pends lookup.call lookup.at)
@@ -447,20 +449,20 @@ op_told (op.Get name) (Putting put) is = absurd is
 op_told (op.Get name) (Deleting del) is = absurd is
 op_told (op.Get name) (Parting p) is = ap op.Get is
 op_told (op.Put name value) (Getting get) is = absurd is
-op_told (op.Put name value) (Putting (put.Looking lookup number)) is = λ k. op.Put (is.0 k) (is.1 k)
-op_told (op.Put name value) (Putting (put.Filling fill)) is = λ k. op.Put (is.0 k) (is.1 k)
-op_told (op.Put name value) (Putting (put.Replacing call hold bitmap hit number)) is = λ k. op.Put (is.0 k) (is.1 k)
-op_told (op.Put name value) (Putting (put.Finishing finish)) is = ap (op_of_finish finish) is.1 ∙ ap (λ (n : List ℕ). op.Put n value) is.0
+op_told (op.Put name value) (Putting (put.Single (single_put.Looking lookup number))) is = λ k. op.Put (is.0 k) (is.1 k)
+op_told (op.Put name value) (Putting (put.Single (single_put.Filling fill))) is = λ k. op.Put (is.0 k) (is.1 k)
+op_told (op.Put name value) (Putting (put.Single (single_put.Replacing call hold bitmap hit number))) is = λ k. op.Put (is.0 k) (is.1 k)
+op_told (op.Put name value) (Putting (put.Single (single_put.Finishing finish))) is = ap (op_of_finish finish) is.1 ∙ ap (λ (n : List ℕ). op.Put n value) is.0
 op_told (op.Put name value) (Putting (put.Splitting call hold bitmap number split)) is = λ k. op.Put (is.0 k) (is.1 k)
 op_told (op.Put name value) (Deleting del) is = absurd is
 op_told (op.Put name value) (Parting p) is = absurd is
 op_told (op.Del name) (Getting get) is = absurd is
 op_told (op.Del name) (Putting put) is = absurd is
-op_told (op.Del name) (Deleting (del.Looking lookup)) is = ap op.Del is.0
-op_told (op.Del name) (Deleting (del.Next call hold bitmap hit)) is = ap op.Del is.0
-op_told (op.Del name) (Deleting (del.Taking call hold bitmap hit take)) is = ap op.Del is.0
-op_told (op.Del name) (Deleting (del.Refusing call hold bitmap hit)) is = ap op.Del is.0
-op_told (op.Del name) (Deleting (del.Clearing call hold bitmap hit line)) is = ap op.Del is.0
+op_told (op.Del name) (Deleting (del.Single (single_del.Looking lookup))) is = ap op.Del is.0
+op_told (op.Del name) (Deleting (del.Single (single_del.Next call hold bitmap hit))) is = ap op.Del is.0
+op_told (op.Del name) (Deleting (del.Single (single_del.Taking call hold bitmap hit take))) is = ap op.Del is.0
+op_told (op.Del name) (Deleting (del.Single (single_del.Refusing call hold bitmap hit))) is = ap op.Del is.0
+op_told (op.Del name) (Deleting (del.Single (single_del.Clearing call hold bitmap hit line))) is = ap op.Del is.0
 op_told (op.Del name) (Deleting (del.Merging call hold old place merge)) is = ap op.Del is.0
-op_told (op.Del name) (Deleting (del.Finishing finish line)) is = ap (op_of_finish finish) is.1 ∙ ap op.Del is.0
+op_told (op.Del name) (Deleting (del.Single (single_del.Finishing finish line))) is = ap (op_of_finish finish) is.1 ∙ ap op.Del is.0
 op_told (op.Del name) (Parting p) is = absurd is

@@ -10,8 +10,10 @@ use Rattle.call_stages.specs.Stages.{Stage, Holds, Eyes, Meets, Joins}
 use Rattle.node_ops.specs.declared.finish.Finish.{Finish}
 use Rattle.node_ops.specs.declared.put.Put.{Put}
 use Rattle.node_ops.specs.declared.put.Put.TheVariants as put
+use Rattle.node_ops.specs.declared.single_put.SinglePut.TheVariants as single_put
 use Rattle.node_ops.specs.declared.del.Del.{Del}
 use Rattle.node_ops.specs.declared.del.Del.TheVariants as del
+use Rattle.node_ops.specs.declared.single_del.SingleDel.TheVariants as single_del
 use Rattle.node_ops.specs.declared.running.Running.{Running}
 use Rattle.node_ops.specs.declared.running.Running.TheVariants.{Getting, Putting, Deleting, Parting}
 use Rattle.node_ops.specs.Calls.{name_in}
@@ -28,20 +30,20 @@ name_asked (op.Del name) = name
 
 -- the put gives this value
 abbrev pub Gives : ℕ → Put → Type 0
-Gives value (put.Looking lookup number) = number ≡ value
-Gives value (put.Filling fill) = fill.value ≡ value
-Gives value (put.Replacing call hold bitmap hit number) = number ≡ value
-Gives value (put.Finishing finish) = finish.new ≡ Some value
+Gives value (put.Single (single_put.Looking lookup number)) = number ≡ value
+Gives value (put.Single (single_put.Filling fill)) = fill.value ≡ value
+Gives value (put.Single (single_put.Replacing call hold bitmap hit number)) = number ≡ value
+Gives value (put.Single (single_put.Finishing finish)) = finish.new ≡ Some value
 Gives value (put.Splitting call hold bitmap number split) = number ≡ value
 
 -- the delete leaves no value
 abbrev pub TakesOut : Del → Type 0
-TakesOut (del.Looking lookup) = Unit {0}
-TakesOut (del.Next call hold bitmap hit) = Unit {0}
-TakesOut (del.Taking call hold bitmap hit take) = Unit {0}
-TakesOut (del.Refusing call hold bitmap hit) = Unit {0}
-TakesOut (del.Clearing call hold bitmap hit line) = Unit {0}
-TakesOut (del.Finishing finish line) = finish.new ≡ None
+TakesOut (del.Single (single_del.Looking lookup)) = Unit {0}
+TakesOut (del.Single (single_del.Next call hold bitmap hit)) = Unit {0}
+TakesOut (del.Single (single_del.Taking call hold bitmap hit take)) = Unit {0}
+TakesOut (del.Single (single_del.Refusing call hold bitmap hit)) = Unit {0}
+TakesOut (del.Single (single_del.Clearing call hold bitmap hit line)) = Unit {0}
+TakesOut (del.Single (single_del.Finishing finish line)) = finish.new ≡ None
 TakesOut (del.Merging call hold old place merge) = Unit {0}
 
 -- A part of a range scan is a get of its low name.
@@ -63,19 +65,19 @@ op_of_finish finish None = op.Del (name_in finish.call)
 
 -- the op that a call in flight is of
 abbrev pub put_op : Put → NameOp
-put_op (put.Looking lookup value) = op.Put (name_in lookup.call) value
-put_op (put.Filling fill) = op.Put (name_in fill.call) fill.value
-put_op (put.Replacing call hold bitmap hit value) = op.Put (name_in call) value
-put_op (put.Finishing finish) = op_of_finish finish finish.new
+put_op (put.Single (single_put.Looking lookup value)) = op.Put (name_in lookup.call) value
+put_op (put.Single (single_put.Filling fill)) = op.Put (name_in fill.call) fill.value
+put_op (put.Single (single_put.Replacing call hold bitmap hit value)) = op.Put (name_in call) value
+put_op (put.Single (single_put.Finishing finish)) = op_of_finish finish finish.new
 put_op (put.Splitting call hold bitmap value split) = op.Put (name_in call) value
 
 abbrev pub del_op : Del → NameOp
-del_op (del.Looking lookup) = op.Del (name_in lookup.call)
-del_op (del.Next call hold bitmap hit) = op.Del (name_in call)
-del_op (del.Taking call hold bitmap hit take) = op.Del (name_in call)
-del_op (del.Refusing call hold bitmap hit) = op.Del (name_in call)
-del_op (del.Clearing call hold bitmap hit line) = op.Del (name_in call)
-del_op (del.Finishing finish line) = op_of_finish finish finish.new
+del_op (del.Single (single_del.Looking lookup)) = op.Del (name_in lookup.call)
+del_op (del.Single (single_del.Next call hold bitmap hit)) = op.Del (name_in call)
+del_op (del.Single (single_del.Taking call hold bitmap hit take)) = op.Del (name_in call)
+del_op (del.Single (single_del.Refusing call hold bitmap hit)) = op.Del (name_in call)
+del_op (del.Single (single_del.Clearing call hold bitmap hit line)) = op.Del (name_in call)
+del_op (del.Single (single_del.Finishing finish line)) = op_of_finish finish finish.new
 del_op (del.Merging call hold old place merge) = op.Del (name_in call)
 
 abbrev pub op_in : Running → NameOp

@@ -38,8 +38,10 @@ use Rattle.node_ops.specs.declared.get.Get.{Get}
 use Rattle.node_ops.specs.declared.get.Get.TheVariants as get
 use Rattle.node_ops.specs.declared.put.Put.{Put}
 use Rattle.node_ops.specs.declared.put.Put.TheVariants as put
+use Rattle.node_ops.specs.declared.single_put.SinglePut.TheVariants as single_put
 use Rattle.node_ops.specs.declared.del.Del.{Del}
 use Rattle.node_ops.specs.declared.del.Del.TheVariants as del
+use Rattle.node_ops.specs.declared.single_del.SingleDel.TheVariants as single_del
 use Rattle.node_ops.specs.declared.running.Running.{Running}
 use Rattle.node_ops.specs.declared.running.Running.TheVariants.{Getting, Putting, Deleting, Parting}
 use Rattle.node_ops.specs.declared.part.Reading.{Reading}
@@ -245,11 +247,11 @@ abbrev pub found_full : Call → Hold → ℕ → Held
 found_full call hold bitmap = decided call hold None (knows ((bitmap_offset, bitmap) ∷ []))
 
 abbrev pub put_stage : Put → Stage
-put_stage (put.Looking lookup value) = lookup_stage lookup
-put_stage (put.Filling fill) = fill_stage fill
-put_stage (put.Replacing call hold bitmap hit value) =
+put_stage (put.Single (single_put.Looking lookup value)) = lookup_stage lookup
+put_stage (put.Single (single_put.Filling fill)) = fill_stage fill
+put_stage (put.Single (single_put.Replacing call hold bitmap hit value)) =
     Holds call.node hold.locked (decided call hold (Some hit.value) (knows (seen_hit call bitmap (Some hit))))
-put_stage (put.Finishing finish) = finish_stage finish
+put_stage (put.Single (single_put.Finishing finish)) = finish_stage finish
 put_stage (put.Splitting call hold bitmap value split) = (split_footing (found_full call hold bitmap) split).stage
 
 -- the name is in this slot
@@ -258,12 +260,12 @@ found_in call hold bitmap hit =
     Holds call.node hold.locked (decided call hold (Some hit.value) (knows (seen_hit call bitmap (Some hit))))
 
 abbrev pub del_stage : Del → Stage
-del_stage (del.Looking lookup) = lookup_stage lookup
-del_stage (del.Next call hold bitmap hit) = found_in call hold bitmap hit
-del_stage (del.Taking call hold bitmap hit take) = found_in call hold bitmap hit
-del_stage (del.Refusing call hold bitmap hit) = found_in call hold bitmap hit
-del_stage (del.Clearing call hold bitmap hit line) = found_in call hold bitmap hit
-del_stage (del.Finishing finish line) = finish_stage finish
+del_stage (del.Single (single_del.Looking lookup)) = lookup_stage lookup
+del_stage (del.Single (single_del.Next call hold bitmap hit)) = found_in call hold bitmap hit
+del_stage (del.Single (single_del.Taking call hold bitmap hit take)) = found_in call hold bitmap hit
+del_stage (del.Single (single_del.Refusing call hold bitmap hit)) = found_in call hold bitmap hit
+del_stage (del.Single (single_del.Clearing call hold bitmap hit line)) = found_in call hold bitmap hit
+del_stage (del.Single (single_del.Finishing finish line)) = finish_stage finish
 del_stage (del.Merging call hold old place merge) = (merge_footing (has_place call old place) merge).stage
 
 -- so many words of a slot, with others
@@ -317,16 +319,16 @@ line_taken None = None
 line_taken (Some line) = Some (empty_line line)
 
 abbrev pub del_footing : Del → Footing
-del_footing (del.Looking lookup) = record { stage = lookup_stage lookup; line = None; debt = no_debt }
-del_footing (del.Next call hold bitmap hit) =
+del_footing (del.Single (single_del.Looking lookup)) = record { stage = lookup_stage lookup; line = None; debt = no_debt }
+del_footing (del.Single (single_del.Next call hold bitmap hit)) =
     record { stage = found_in call hold bitmap hit; line = None; debt = no_debt }
-del_footing (del.Taking call hold bitmap hit take) =
+del_footing (del.Single (single_del.Taking call hold bitmap hit take)) =
     record { stage = found_in call hold bitmap hit; line = take_held take; debt = no_debt }
-del_footing (del.Refusing call hold bitmap hit) =
+del_footing (del.Single (single_del.Refusing call hold bitmap hit)) =
     record { stage = found_in call hold bitmap hit; line = None; debt = no_debt }
-del_footing (del.Clearing call hold bitmap hit line) =
+del_footing (del.Single (single_del.Clearing call hold bitmap hit line)) =
     record { stage = found_in call hold bitmap hit; line = line_taken line; debt = no_debt }
-del_footing (del.Finishing finish line) =
+del_footing (del.Single (single_del.Finishing finish line)) =
     record { stage = finish_stage finish; line = line_taken line; debt = no_debt }
 del_footing (del.Merging call hold old place merge) = merge_footing (has_place call old place) merge
 

@@ -10,22 +10,23 @@ use Rattle.smo_log.specs.declared.take.TakeAt.TheVariants as take_at
 use Rattle.smo_log.specs.Laws.{NoneEmpty, HasLooked}
 use Rattle.split_merge.specs.SplitEvents.{SomeEmpty}
 use Rattle.node_ops.specs.declared.del.Del.{Del}
-use Rattle.node_ops.specs.declared.del.Del.TheVariants.{Looking, Next, Taking, Refusing, Clearing, Finishing, Merging}
+use Rattle.node_ops.specs.declared.del.Del.TheVariants.{Single, Merging}
+use Rattle.node_ops.specs.declared.single_del.SingleDel.TheVariants.{Looking, Next, Taking, Refusing, Clearing, Finishing}
 use Rattle.node_ops.specs.DelSteps.{IsDel, del_turned}
 
 -- What it has loaded so far of the states of its caller's lines is so: with a line, one of them was EMPTY.
 abbrev pub DelHas : (ℕ → ℕ) → Del → Type 0
-DelHas lines (Looking lookup) = Unit {0}
-DelHas lines (Next call hold bitmap hit) = Unit {0}
-DelHas lines (Taking call hold bitmap hit take) = HasLooked lines take.index take.at
-DelHas lines (Refusing call hold bitmap hit) = NoneEmpty lines 8
-DelHas lines (Clearing call hold bitmap hit line) = IfSome line (λ number. SomeEmpty lines)
-DelHas lines (Finishing finish line) = IfSome line (λ number. SomeEmpty lines)
+DelHas lines (Single (Looking lookup)) = Unit {0}
+DelHas lines (Single (Next call hold bitmap hit)) = Unit {0}
+DelHas lines (Single (Taking call hold bitmap hit take)) = HasLooked lines take.index take.at
+DelHas lines (Single (Refusing call hold bitmap hit)) = NoneEmpty lines 8
+DelHas lines (Single (Clearing call hold bitmap hit line)) = IfSome line (λ number. SomeEmpty lines)
+DelHas lines (Single (Finishing finish line)) = IfSome line (λ number. SomeEmpty lines)
 DelHas lines (Merging call hold old place merge) = SomeEmpty lines
 
 -- The number that it is told next is one of these, if it loads a state of a line.
 abbrev pub DelHearsSo : (ℕ → ℕ) → Del → ℕ → Type 0
-DelHearsSo lines (Taking call hold bitmap hit take) x = take.at ≡ take_at.State → x ≡ lines take.index
+DelHearsSo lines (Single (Taking call hold bitmap hit take)) x = take.at ≡ take_at.State → x ≡ lines take.index
 DelHearsSo lines _ x = Unit {0}
 
 -- It is answered that the log is full only where none of the lines was EMPTY.

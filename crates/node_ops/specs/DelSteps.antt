@@ -32,7 +32,12 @@ use Rattle.node_ops.specs.declared.finish.Finish.{Finish}
 use Rattle.node_ops.specs.declared.finish.FinishAt.{FinishAt}
 use Rattle.node_ops.specs.declared.finish.FinishAt.TheVariants as finish_at
 use Rattle.node_ops.specs.declared.del.Del.{Del}
-use Rattle.node_ops.specs.declared.del.Del.TheVariants.{Looking, Next, Taking, Refusing, Clearing, Finishing, Merging}
+use Rattle.node_ops.specs.declared.del.Del.TheVariants.{Single, Merging}
+use Rattle.node_ops.specs.declared.single_del.SingleDel.{SingleDel}
+use Rattle.node_ops.specs.declared.single_del.SingleDel.TheVariants.{Looking, Next, Taking, Refusing, Clearing, Finishing}
+use Rattle.node_ops.specs.declared.single_del.CountedDel.{CountedDel}
+use Rattle.node_ops.specs.declared.single_del.SingleDelDone.{SingleDelDone}
+use Rattle.node_ops.specs.declared.single_del.SingleDelDone.TheVariants.{Answered, Counted}
 use Rattle.node_ops.specs.Calls.{IsCall, call_address}
 use Rattle.version_lock.specs.Versions.{IsLockWord}
 use Rattle.pm_words.specs.Fences.{line_of, fence_start}
@@ -41,21 +46,21 @@ use Rattle.node_ops.specs.FinishSteps.{IsFinish, finish_asks, finish_turned, fin
 
 -- what stays the same while it is made
 abbrev pub del_call : Del → Call
-del_call (Looking lookup) = lookup.call
-del_call (Next call hold bitmap hit) = call
-del_call (Taking call hold bitmap hit take) = call
-del_call (Refusing call hold bitmap hit) = call
-del_call (Clearing call hold bitmap hit line) = call
-del_call (Finishing finish line) = finish.call
+del_call (Single (Looking lookup)) = lookup.call
+del_call (Single (Next call hold bitmap hit)) = call
+del_call (Single (Taking call hold bitmap hit take)) = call
+del_call (Single (Refusing call hold bitmap hit)) = call
+del_call (Single (Clearing call hold bitmap hit line)) = call
+del_call (Single (Finishing finish line)) = finish.call
 del_call (Merging call hold old place merge) = call
 
 abbrev pub del_asks : Del → Action
-del_asks (Looking lookup) = lookup_asks lookup
-del_asks (Next call hold bitmap hit) = Load (call_address call next_offset)
-del_asks (Taking call hold bitmap hit take) = take_asks take
-del_asks (Refusing call hold bitmap hit) = Store (call_address call 0) (hold.locked + 1)
-del_asks (Clearing call hold bitmap hit line) = Store (call_address call bitmap_offset) (without_live bitmap hit.slot)
-del_asks (Finishing finish line) = finish_asks finish
+del_asks (Single (Looking lookup)) = lookup_asks lookup
+del_asks (Single (Next call hold bitmap hit)) = Load (call_address call next_offset)
+del_asks (Single (Taking call hold bitmap hit take)) = take_asks take
+del_asks (Single (Refusing call hold bitmap hit)) = Store (call_address call 0) (hold.locked + 1)
+del_asks (Single (Clearing call hold bitmap hit line)) = Store (call_address call bitmap_offset) (without_live bitmap hit.slot)
+del_asks (Single (Finishing finish line)) = finish_asks finish
 del_asks (Merging call hold old place merge) = merge_asks merge
 
 -- how many names the node has once the slot is clear
@@ -65,37 +70,38 @@ names_left call bitmap hit = live_count call.view.layout.slots (without_live bit
 -- the name is in this slot: where it leaves few names, it looks where its node leads
 abbrev pub del_slot : Call → Hold → ℕ → Hit → Del
 del_slot call hold bitmap hit =
-    if nat_lt (call.view.layout.slots / 2) (names_left call bitmap hit) then Clearing call hold bitmap hit None
-    else Next call hold bitmap hit
+    if nat_lt (call.view.layout.slots / 2) (names_left call bitmap hit)
+    then Single (Clearing call hold bitmap hit None)
+    else Single (Next call hold bitmap hit)
 
 -- a name that is not there takes its place without a store
 abbrev pub del_hit : Call → Hold → ℕ → Option Hit → Del
 del_hit call hold bitmap (Some hit) = del_slot call hold bitmap hit
 del_hit call hold bitmap None =
-    Finishing (record { call = call; hold = hold; old = None; new = None; at = finish_at.Add }) None
+    Single (Finishing (record { call = call; hold = hold; old = None; new = None; at = finish_at.Add }) None)
 
 abbrev pub del_found : Call → Found → Del
 del_found call found = del_hit call found.hold found.directory.bitmap found.hit
 
 -- after a turn of the look-up
 abbrev pub del_looked : Call → Turn Lookup Looked → Turn Del (Once Placed)
-del_looked call (Go lookup) = Go (Looking lookup)
+del_looked call (Go lookup) = Go (Single (Looking lookup))
 del_looked call (Done (looked.Early answer)) = Done answer
 del_looked call (Done (looked.Found found)) = Go (del_found call found)
 
 -- its node leads to this one; 0 is none
 abbrev pub saw_next : Call → Hold → ℕ → Hit → ℕ → Del
 saw_next call hold bitmap hit next =
-    if next == 0 then Clearing call hold bitmap hit None
-    else Taking call hold bitmap hit (take_from call.view.layout call.view.caller)
+    if next == 0 then Single (Clearing call hold bitmap hit None)
+    else Single (Taking call hold bitmap hit (take_from call.view.layout call.view.caller))
 
 -- it has looked for a line
 abbrev pub took : Call → Hold → ℕ → Hit → Taken → Del
-took call hold bitmap hit (Line line) = Clearing call hold bitmap hit (Some line)
-took call hold bitmap hit Full = Refusing call hold bitmap hit
+took call hold bitmap hit (Line line) = Single (Clearing call hold bitmap hit (Some line))
+took call hold bitmap hit Full = Single (Refusing call hold bitmap hit)
 
 abbrev pub del_taken : Call → Hold → ℕ → Hit → Turn Take Taken → Turn Del (Once Placed)
-del_taken call hold bitmap hit (Go take) = Go (Taking call hold bitmap hit take)
+del_taken call hold bitmap hit (Go take) = Go (Single (Taking call hold bitmap hit take))
 del_taken call hold bitmap hit (Done taken) = Go (took call hold bitmap hit taken)
 
 -- what is left to do once the bit is clear
@@ -110,15 +116,15 @@ cleared call hold hit = record {
 
 -- with a line it merges once it has its place
 abbrev pub merges_at : Finish → ℕ → FinishAt → Del
-merges_at finish line (finish_at.Fence first fence) = Finishing finish (Some line)
-merges_at finish line finish_at.Add = Finishing finish (Some line)
+merges_at finish line (finish_at.Fence first fence) = Single (Finishing finish (Some line))
+merges_at finish line finish_at.Add = Single (Finishing finish (Some line))
 merges_at finish line (finish_at.Unlock place) =
     Merging finish.call finish.hold finish.old place
     (merge_from finish.call.view finish.call.node finish.hold.locked line)
 
 -- it is at this point of its end
 abbrev pub goes_on : Finish → Option ℕ → Del
-goes_on finish None = Finishing finish None
+goes_on finish None = Single (Finishing finish None)
 goes_on finish (Some line) = merges_at finish line finish.at
 
 abbrev pub del_finished : Option ℕ → Turn Finish (Once Placed) → Turn Del (Once Placed)
@@ -132,13 +138,28 @@ del_merged call hold old place (Done merged) =
     Done (once.Done (record { old = old; place = place; hops = call.hops }))
 
 abbrev pub del_turned : Del → ℕ → Turn Del (Once Placed)
-del_turned (Looking lookup) got = del_looked lookup.call (lookup_turned lookup got)
-del_turned (Next call hold bitmap hit) got = Go (saw_next call hold bitmap hit got)
-del_turned (Taking call hold bitmap hit take) got = del_taken call hold bitmap hit (take_turned take got)
-del_turned (Refusing call hold bitmap hit) got = Done (once.Again LogFull)
-del_turned (Clearing call hold bitmap hit line) got = Go (Finishing (cleared call hold hit) line)
-del_turned (Finishing finish line) got = del_finished line (finish_turned finish got)
+del_turned (Single (Looking lookup)) got = del_looked lookup.call (lookup_turned lookup got)
+del_turned (Single (Next call hold bitmap hit)) got = Go (saw_next call hold bitmap hit got)
+del_turned (Single (Taking call hold bitmap hit take)) got = del_taken call hold bitmap hit (take_turned take got)
+del_turned (Single (Refusing call hold bitmap hit)) got = Done (once.Again LogFull)
+del_turned (Single (Clearing call hold bitmap hit line)) got = Go (Single (Finishing (cleared call hold hit) line))
+del_turned (Single (Finishing finish line)) got = del_finished line (finish_turned finish got)
 del_turned (Merging call hold old place merge) got = del_merged call hold old place (merge_turned merge got)
+
+-- it merges
+abbrev pub del_merges : CountedDel → Del
+del_merges counted = merges_at counted.finish counted.line (finish_at.Unlock counted.place)
+
+-- its change is counted; the line is one of its caller's
+pub record IsCounted (counted : CountedDel) : Type 0 where
+  pub here : IsFinish counted.finish
+  pub own : IsOwnLine counted.finish.call.view counted.line
+
+-- The turn leaves this work on one node where it has no end, and comes to its end where it has one.
+abbrev pub SingleDelTurns : Turn Del (Once Placed) → SingleDel → Option SingleDelDone → Type 0
+SingleDelTurns turn single None = turn ≡ Go (Single single)
+SingleDelTurns turn single (Some (Answered answer)) = turn ≡ Done answer
+SingleDelTurns turn single (Some (Counted counted)) = (turn ≡ Go (del_merges counted)) × IsCounted counted
 
 -- the name is in this live slot
 pub record IsClearing (of : Call) (hold : Hold) (bitmap : ℕ) (found : Hit) : Type 0 where
@@ -179,14 +200,14 @@ pub record IsMerging (of : Call) (hold : Hold) (merge : Merge) : Type 0 where
 
 -- what its fields keep
 abbrev pub IsDel : Del → Type 0
-IsDel (Looking lookup) = IsLookup lookup
-IsDel (Next call hold bitmap hit) = IsClearing call hold bitmap hit × LeavesFew call bitmap hit
-IsDel (Taking call hold bitmap hit take) =
+IsDel (Single (Looking lookup)) = IsLookup lookup
+IsDel (Single (Next call hold bitmap hit)) = IsClearing call hold bitmap hit × LeavesFew call bitmap hit
+IsDel (Single (Taking call hold bitmap hit take)) =
     IsClearing call hold bitmap hit × LeavesFew call bitmap hit × IsTakeOf call.view take
-IsDel (Refusing call hold bitmap hit) = IsClearing call hold bitmap hit
-IsDel (Clearing call hold bitmap hit line) =
+IsDel (Single (Refusing call hold bitmap hit)) = IsClearing call hold bitmap hit
+IsDel (Single (Clearing call hold bitmap hit line)) =
     IsClearing call hold bitmap hit × IfSome line (λ number. LeavesFew call bitmap hit × IsOwnLine call.view number)
-IsDel (Finishing finish line) = IsEnding finish line × IfSome line (λ number. IsUnplaced finish.at)
+IsDel (Single (Finishing finish line)) = IsEnding finish line × IfSome line (λ number. IsUnplaced finish.at)
 IsDel (Merging call hold old place merge) = IsMerging call hold merge
 
 -- where nodes are merged, they lead to the layout's
@@ -204,10 +225,10 @@ merge_to_come None = 0
 merge_to_come (Some line) = 30006
 
 abbrev pub del_left : Del → ℕ
-del_left (Looking lookup) = lookup_left lookup + 30052
-del_left (Next call hold bitmap hit) = 30051
-del_left (Taking call hold bitmap hit take) = take_left take + 30025
-del_left (Refusing call hold bitmap hit) = 1
-del_left (Clearing call hold bitmap hit line) = 19 + merge_to_come line
-del_left (Finishing finish line) = finish_left finish + merge_to_come line
+del_left (Single (Looking lookup)) = lookup_left lookup + 30052
+del_left (Single (Next call hold bitmap hit)) = 30051
+del_left (Single (Taking call hold bitmap hit take)) = take_left take + 30025
+del_left (Single (Refusing call hold bitmap hit)) = 1
+del_left (Single (Clearing call hold bitmap hit line)) = 19 + merge_to_come line
+del_left (Single (Finishing finish line)) = finish_left finish + merge_to_come line
 del_left (Merging call hold old place merge) = merge_left merge

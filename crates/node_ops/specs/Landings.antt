@@ -11,7 +11,9 @@ use Rattle.node_ops.specs.declared.lookup.LookupAt.{LookupAt}
 use Rattle.node_ops.specs.declared.lookup.LookupAt.TheVariants as look
 use Rattle.node_ops.specs.declared.get.Get.TheVariants as get
 use Rattle.node_ops.specs.declared.put.Put.TheVariants as put
+use Rattle.node_ops.specs.declared.single_put.SinglePut.TheVariants as single_put
 use Rattle.node_ops.specs.declared.del.Del.TheVariants as del
+use Rattle.node_ops.specs.declared.single_del.SingleDel.TheVariants as single_del
 use Rattle.node_ops.specs.declared.part.Part.TheVariants as part
 use Rattle.node_ops.specs.declared.running.Running.{Running}
 use Rattle.node_ops.specs.declared.running.Running.TheVariants.{Getting, Putting, Deleting, Parting}
@@ -25,8 +27,8 @@ lookup_walk _ = None
 
 abbrev pub walk_in : Running → Option Walk
 walk_in (Getting (get.Looking lookup)) = lookup_walk lookup.at
-walk_in (Putting (put.Looking lookup value)) = lookup_walk lookup.at
-walk_in (Deleting (del.Looking lookup)) = lookup_walk lookup.at
+walk_in (Putting (put.Single (single_put.Looking lookup value))) = lookup_walk lookup.at
+walk_in (Deleting (del.Single (single_del.Looking lookup))) = lookup_walk lookup.at
 walk_in (Parting (part.Looking lookup count behind)) = lookup_walk lookup.at
 walk_in _ = None
 

@@ -25,7 +25,12 @@ use Rattle.node_ops.specs.declared.finish.FinishAt.TheVariants as finish_at
 use Rattle.node_ops.specs.declared.fill.Fill.{Fill}
 use Rattle.node_ops.specs.declared.fill.FillAt.TheVariants as fill_at
 use Rattle.node_ops.specs.declared.put.Put.{Put}
-use Rattle.node_ops.specs.declared.put.Put.TheVariants.{Looking, Filling, Replacing, Finishing, Splitting}
+use Rattle.node_ops.specs.declared.put.Put.TheVariants.{Single, Splitting}
+use Rattle.node_ops.specs.declared.single_put.SinglePut.{SinglePut}
+use Rattle.node_ops.specs.declared.single_put.SinglePut.TheVariants.{Looking, Filling, Replacing, Finishing}
+use Rattle.node_ops.specs.declared.single_put.FullNode.{FullNode}
+use Rattle.node_ops.specs.declared.single_put.SinglePutDone.{SinglePutDone}
+use Rattle.node_ops.specs.declared.single_put.SinglePutDone.TheVariants.{Answered, Full}
 use Rattle.split_merge.specs.declared.splitting.Split.{Split}
 use Rattle.split_merge.specs.declared.splitting.SplitDone.{SplitDone}
 use Rattle.split_merge.specs.declared.splitting.SplitDone.TheVariants as done
@@ -39,28 +44,28 @@ use Rattle.node_ops.specs.FinishSteps.{IsFinish, finish_asks, finish_turned, fin
 
 -- what stays the same while it is made
 abbrev pub put_call : Put → Call
-put_call (Looking lookup value) = lookup.call
-put_call (Filling fill) = fill.call
-put_call (Replacing call hold bitmap hit value) = call
-put_call (Finishing finish) = finish.call
+put_call (Single (Looking lookup value)) = lookup.call
+put_call (Single (Filling fill)) = fill.call
+put_call (Single (Replacing call hold bitmap hit value)) = call
+put_call (Single (Finishing finish)) = finish.call
 put_call (Splitting call hold bitmap value split) = call
 
 abbrev pub put_asks : Put → Action
-put_asks (Looking lookup value) = lookup_asks lookup
-put_asks (Filling fill) = fill_asks fill
-put_asks (Replacing call hold bitmap hit value) = Store (call_address call (slot_offset hit.slot 3)) value
-put_asks (Finishing finish) = finish_asks finish
+put_asks (Single (Looking lookup value)) = lookup_asks lookup
+put_asks (Single (Filling fill)) = fill_asks fill
+put_asks (Single (Replacing call hold bitmap hit value)) = Store (call_address call (slot_offset hit.slot 3)) value
+put_asks (Single (Finishing finish)) = finish_asks finish
 put_asks (Splitting call hold bitmap value split) = split_asks split
 
 -- no slot is clear
 abbrev pub put_full : Call → Hold → ℕ → Option Hit → ℕ → Put
-put_full call hold bitmap (Some hit) value = Replacing call hold bitmap hit value
+put_full call hold bitmap (Some hit) value = Single (Replacing call hold bitmap hit value)
 put_full call hold bitmap None value =
     Splitting call hold bitmap value (split_from call.view call.node hold.locked)
 
 -- the lowest clear slot takes the name, if there is one
 abbrev pub put_into : Call → Found → ℕ → Option ℕ → Put
-put_into call found value (Some slot) = Filling (record {
+put_into call found value (Some slot) = Single (Filling (record {
   call = call;
   hold = found.hold;
   bitmap = found.directory.bitmap;
@@ -69,7 +74,7 @@ put_into call found value (Some slot) = Filling (record {
   hit = found.hit;
   value = value;
   at = fill_at.Word 0;
-})
+}))
 put_into call found value None = put_full call found.hold found.directory.bitmap found.hit value
 
 abbrev pub put_found : Call → Found → ℕ → Put
@@ -77,17 +82,17 @@ put_found call found value = put_into call found value (lowest_clear found.direc
 
 -- after a turn of the look-up
 abbrev pub put_looked : Call → ℕ → Turn Lookup Looked → Turn Put (Once Placed)
-put_looked call value (Go lookup) = Go (Looking lookup value)
+put_looked call value (Go lookup) = Go (Single (Looking lookup value))
 put_looked call value (Done (looked.Early answer)) = Done answer
 put_looked call value (Done (looked.Found found)) = Go (put_found call found value)
 
 -- after a step of the writing
 abbrev pub put_filled : Turn Fill Finish → Turn Put (Once Placed)
-put_filled (Go fill) = Go (Filling fill)
-put_filled (Done finish) = Go (Finishing finish)
+put_filled (Go fill) = Go (Single (Filling fill))
+put_filled (Done finish) = Go (Single (Finishing finish))
 
 abbrev pub put_finished : Turn Finish (Once Placed) → Turn Put (Once Placed)
-put_finished (Go finish) = Go (Finishing finish)
+put_finished (Go finish) = Go (Single (Finishing finish))
 put_finished (Done answer) = Done answer
 
 -- what is left to do once the value is stored in place
@@ -111,12 +116,28 @@ put_split call hold bitmap value (Go split) = Go (Splitting call hold bitmap val
 put_split call hold bitmap value (Done answer) = Done (once.Again (split_done call.node answer))
 
 abbrev pub put_turned : Put → ℕ → Turn Put (Once Placed)
-put_turned (Looking lookup value) got = put_looked lookup.call value (lookup_turned lookup got)
-put_turned (Filling fill) got = put_filled (fill_turned fill got)
-put_turned (Replacing call hold bitmap hit value) got = Go (Finishing (replaced call hold hit value))
-put_turned (Finishing finish) got = put_finished (finish_turned finish got)
+put_turned (Single (Looking lookup value)) got = put_looked lookup.call value (lookup_turned lookup got)
+put_turned (Single (Filling fill)) got = put_filled (fill_turned fill got)
+put_turned (Single (Replacing call hold bitmap hit value)) got = Go (Single (Finishing (replaced call hold hit value)))
+put_turned (Single (Finishing finish)) got = put_finished (finish_turned finish got)
 put_turned (Splitting call hold bitmap value split) got =
     put_split call hold bitmap value (split_turned split got)
+
+-- it splits its node
+abbrev pub put_splits : FullNode → Put
+put_splits full = Splitting full.call full.hold full.bitmap full.value
+    (split_from full.call.view full.call.node full.hold.locked)
+
+-- it has locked the call's node
+pub record IsFullNode (full : FullNode) : Type 0 where
+  pub call : IsCall full.call
+  pub locked : IsLockWord full.hold.locked
+
+-- The turn leaves this work on one node where it has no end, and comes to its end where it has one.
+abbrev pub SinglePutTurns : Turn Put (Once Placed) → SinglePut → Option SinglePutDone → Type 0
+SinglePutTurns turn single None = turn ≡ Go (Single single)
+SinglePutTurns turn single (Some (Answered answer)) = turn ≡ Done answer
+SinglePutTurns turn single (Some (Full full)) = (turn ≡ Go (put_splits full)) × IsFullNode full
 
 -- no slot is clear, and the name is in this one
 pub record IsReplacing (of : Call) (hold : Hold) (bitmap : ℕ) (found : Hit) (number : ℕ) : Type 0 where
@@ -137,10 +158,10 @@ pub record IsSplitting (of : Call) (hold : Hold) (bitmap : ℕ) (split : Split) 
 
 -- what its fields keep
 abbrev pub IsPut : Put → Type 0
-IsPut (Looking lookup value) = IsLookup lookup × (value < 2 ^ 64)
-IsPut (Filling fill) = IsFill fill
-IsPut (Replacing call hold bitmap hit value) = IsReplacing call hold bitmap hit value
-IsPut (Finishing finish) = IsFinish finish
+IsPut (Single (Looking lookup value)) = IsLookup lookup × (value < 2 ^ 64)
+IsPut (Single (Filling fill)) = IsFill fill
+IsPut (Single (Replacing call hold bitmap hit value)) = IsReplacing call hold bitmap hit value
+IsPut (Single (Finishing finish)) = IsFinish finish
 IsPut (Splitting call hold bitmap value split) = IsSplitting call hold bitmap split
 
 -- where a node is split, it leads to one of the layout's
@@ -153,8 +174,8 @@ put_takes put got =
     IsPut put × Told (put_call put).view.layout (put_call put).view.generation (put_asks put) got × put_leads put got
 
 abbrev pub put_left : Put → ℕ
-put_left (Looking lookup value) = lookup_left lookup + 30057
-put_left (Filling fill) = fill_left fill + 18
-put_left (Replacing call hold bitmap hit value) = 19
-put_left (Finishing finish) = finish_left finish
+put_left (Single (Looking lookup value)) = lookup_left lookup + 30057
+put_left (Single (Filling fill)) = fill_left fill + 18
+put_left (Single (Replacing call hold bitmap hit value)) = 19
+put_left (Single (Finishing finish)) = finish_left finish
 put_left (Splitting call hold bitmap value split) = split_left split

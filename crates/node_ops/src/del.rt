@@ -1,66 +1,22 @@
-//! A delete: `Looking`, then `Clearing`, the store of the bitmap without the name's slot, and `Finishing`. A name that
-//! isn't there is finished at once, without a store.
-//!
-//! A delete that leaves at most half as many names as a node has slots looks where its node leads first (`Next`). Where
-//! that is another node, it takes a log line before its store (`Taking`): where none is EMPTY it is to be made again
-//! (`Refusing`), with nothing changed. With a line, it merges the other node into its own once its change is counted
-//! (`Merging`), and is answered then, whether it merged or had to leave that node alone.
+//! A delete: while it works on one node it is a `SingleDel`. Once its change is counted, and where it has a log line, it
+//! merges the next node into its own (`Merging`), and is answered then, whether it merged or had to leave that node
+//! alone.
 
 ghost use Rattle.std.specs.Prelude.{◌≡◌, ℕ};
 
 use crate::call::Call;
-use crate::finish::{Finish, FinishAt};
-use crate::lookup::{Found, Hit, Hold, Looked, Lookup};
+use crate::lookup::{Hold, Lookup};
+use crate::single_del::{CountedDel, SingleDel, SingleDelDone};
 use call_stages::{Once, Placed, View};
-use cat_history::NameOp;
+use cat_history::{Change, NameOp};
 use cat_key::Name;
-use data_node::{live_count, without_live};
-use pm_words::offsets::node;
-use pm_words::{Action, Again, Fence, Machine, Turn, line_of};
-use smo_log::{Take, Taken};
+use pm_words::{Action, Machine, Turn};
 use split_merge::{Merge, Merged};
-use version_lock::freed_of;
 
 /// A delete: it takes a name out of its node, and answers what the name had.
 #[derive(Clone, Copy)]
 pub enum Del {
-    Looking {
-        lookup: Lookup,
-    },
-    /// It leaves few names: it loads where its node leads.
-    Next {
-        call: Call,
-        hold: Hold,
-        bitmap: u64,
-        hit: Hit,
-    },
-    /// It looks for a log line for its merge.
-    Taking {
-        call: Call,
-        hold: Hold,
-        bitmap: u64,
-        hit: Hit,
-        take: Take,
-    },
-    /// None of its lines is EMPTY: it gives the node back.
-    Refusing {
-        call: Call,
-        hold: Hold,
-        bitmap: u64,
-        hit: Hit,
-    },
-    /// It clears the bit of the slot that has the name. With a line, it is to merge then.
-    Clearing {
-        call: Call,
-        hold: Hold,
-        bitmap: u64,
-        hit: Hit,
-        line: Option<u64>,
-    },
-    Finishing {
-        finish: Finish,
-        line: Option<u64>,
-    },
+    Single(SingleDel),
     /// Its change is counted at this place: it merges the next node into its own.
     Merging {
         call: Call,
@@ -72,169 +28,58 @@ pub enum Del {
 }
 
 impl Del {
-    ghost use Rattle.std.specs.Prelude.{◌≡◌, ◌^◌, ◌≤◌, Some};
+    ghost use Rattle.std.specs.Prelude.{◌^◌, ◌≤◌, Some};
     ghost use Rattle.call_stages.specs.Views.{IsView};
-    ghost use Rattle.node_ops.specs.Calls.{IsCall, new_call};
-    ghost use Rattle.node_ops.specs.LookupSteps.{IsFoundBy, IsHit, starts};
-    ghost use Rattle.node_ops.specs.DelSteps.{IsDel, del_found, del_slot, saw_next, took};
+    ghost use Rattle.node_ops.specs.declared.single_del.SingleDel.TheVariants as SingleDel;
+    ghost use Rattle.node_ops.specs.Calls.{new_call};
+    ghost use Rattle.node_ops.specs.LookupSteps.{starts};
+    ghost use Rattle.node_ops.specs.DelSteps.{IsCounted, IsDel, del_merges};
 
     /// A delete of this name, which is refused where the clock has reached the limit.
     pub fn new(view: View, name: &Name, limit: u64) -> Del
         requires view { IsView view }
         requires limit { limit ≤ 2 ^ 62 }
-        ensures new { result ≡ Del.Looking (starts (new_call view name.now (Some limit))) }
+        ensures new { result ≡ Del.Single (SingleDel.Looking (starts (new_call view name.now (Some limit)))) }
         ensures sound { IsDel result }
     {
-        Del::Looking {
+        Del::Single(SingleDel::Looking {
             lookup: Lookup::new(Call::new(view, name, Some(limit))),
-        }
+        })
     }
 
-    /// What a delete does once it has looked its name up: of a name that is not there it has only to take its place.
-    fn found(call: Call, found: Found) -> Del
-        requires call { IsCall call }
-        requires found { IsFoundBy call.view.layout.slots found }
-        ensures { result ≡ del_found call found }
+    /// It merges, in a function of its own, so that no other turn clears the room of a merge.
+    fn merges(&mut self, counted: CountedDel)
+        requires { IsCounted counted }
+        ensures { self.new ≡ del_merges counted }
     {
-        let Found {
-            hold,
-            directory,
-            hit,
-        } = found;
-        match hit {
-            Some(hit) => Del::in_slot(call, hold, directory.bitmap, hit),
-            None => Del::Finishing {
-                finish: Finish {
-                    call,
-                    hold,
-                    old: None,
-                    new: None,
-                    at: FinishAt::Add,
-                },
-                line: None,
-            },
-        }
-    }
-
-    /// The name is in this slot. Where it leaves few names, it may have to merge.
-    fn in_slot(call: Call, hold: Hold, bitmap: u64, hit: Hit) -> Del
-        requires call { IsCall call }
-        requires hit { IsHit call.view.layout.slots bitmap hit }
-        ensures { result ≡ del_slot call hold bitmap hit }
-    {
-        let slots = call.view.layout.slots();
-        if live_count(without_live(bitmap, hit.slot), slots) > slots / 2 {
-            return Del::Clearing {
-                call,
-                hold,
-                bitmap,
-                hit,
-                line: None,
-            };
-        }
-        Del::Next {
-            call,
-            hold,
-            bitmap,
-            hit,
-        }
-    }
-
-    /// Its node leads to this one; 0 is none.
-    fn saw_next(call: Call, hold: Hold, bitmap: u64, hit: Hit, next: u64) -> Del
-        requires { IsCall call }
-        ensures { result ≡ saw_next call hold bitmap hit next }
-    {
-        if next == 0 {
-            return Del::Clearing {
-                call,
-                hold,
-                bitmap,
-                hit,
-                line: None,
-            };
-        }
-        Del::Taking {
-            call,
-            hold,
-            bitmap,
-            hit,
-            take: Take::new(call.view.layout, call.view.caller),
-        }
-    }
-
-    /// It has looked for a line.
-    fn took(call: Call, hold: Hold, bitmap: u64, hit: Hit, taken: Taken) -> Del
-        ensures { result ≡ took call hold bitmap hit taken }
-    {
-        match taken {
-            Taken::Line { line } => Del::Clearing {
-                call,
-                hold,
-                bitmap,
-                hit,
-                line: Some(line),
-            },
-            Taken::Full => Del::Refusing {
-                call,
-                hold,
-                bitmap,
-                hit,
-            },
-        }
-    }
-}
-
-impl Del {
-    ghost use Rattle.std.specs.Prelude.{◌≡◌};
-    ghost use Rattle.split_merge.specs.Splits.{IsOwnLine};
-    ghost use Rattle.node_ops.specs.FinishSteps.{IsFinish};
-    ghost use Rattle.node_ops.specs.DelSteps.{IsDel, cleared, del_call, merges_at};
-    ghost use Rattle.node_ops.specs.Asked.{del_op};
-
-    /// What it does once the bit is clear.
-    fn cleared(call: Call, hold: Hold, hit: Hit) -> Finish
-        ensures { result ≡ cleared call hold hit }
-    {
-        Finish {
-            call,
-            hold,
-            old: Some(hit.value),
-            new: None,
-            at: FinishAt::Fence {
-                line: line_of(node::BITMAP),
-                fence: Fence::new(),
-            },
-        }
-    }
-
-    /// With a line, it merges once its change has its place.
-    fn merging(finish: &Finish, place: u64, line: u64) -> Del
-        requires here { IsFinish finish.now }
-        requires line { IsOwnLine finish.now.call.view line }
-        ensures { result ≡ merges_at finish.now line (FinishAt.Unlock place) }
-    {
-        Del::Merging {
+        let CountedDel {
+            finish,
+            place,
+            line,
+        } = counted;
+        *self = Del::Merging {
             call: finish.call,
             hold: finish.hold,
             old: finish.old,
             place,
             merge: Merge::new(finish.call.view, finish.call.node, finish.hold.locked, line),
-        }
+        };
     }
+}
+
+impl Del {
+    ghost use Rattle.call_stages.specs.Stages.{counted, placed_in};
+    ghost use Rattle.node_ops.specs.Asked.{del_op};
+    ghost use Rattle.node_ops.specs.CallStages.{del_stage};
+    ghost use Rattle.node_ops.specs.DelSteps.{IsDel, del_call};
 
     /// What stays the same while it is made.
     pub(crate) fn call(&self) -> Call
         ensures { result ≡ del_call self.now }
     {
-        match *self {
-            Del::Looking { lookup } => lookup.call,
-            Del::Finishing { finish, .. } => finish.call,
-            Del::Next { call, .. }
-            | Del::Taking { call, .. }
-            | Del::Refusing { call, .. }
-            | Del::Clearing { call, .. }
-            | Del::Merging { call, .. } => call,
+        match self {
+            Del::Single(single) => single.call(),
+            Del::Merging { call, .. } => *call,
         }
     }
 
@@ -243,11 +88,30 @@ impl Del {
         requires { IsDel self.now }
         ensures { result ≡ del_op self.now }
     {
-        if let Del::Finishing { finish, .. } = *self {
-            return finish.op();
+        match self {
+            Del::Single(single) => single.op(),
+            Del::Merging { call, .. } => NameOp::Del { name: call.name() },
         }
-        NameOp::Del {
-            name: self.call().name(),
+    }
+
+    /// The place that its write was given, if it has one.
+    pub(crate) fn place(&self) -> Option<u64>
+        ensures { result ≡ placed_in (del_stage self.now) }
+    {
+        match self {
+            Del::Single(single) => single.place(),
+            Del::Merging { place, .. } => Some(*place),
+        }
+    }
+
+    /// The change that its next action counts in the clock, if it counts one.
+    pub(crate) fn counts(&self) -> Option<Change>
+        requires { IsDel self.now }
+        ensures { result ≡ counted (del_stage self.now) }
+    {
+        match self {
+            Del::Single(single) => single.counts(),
+            Del::Merging { .. } => None,
         }
     }
 }
@@ -269,19 +133,7 @@ impl Machine for Del {
 
     fn action(&self) -> Action {
         match self {
-            Del::Looking { lookup } => lookup.action(),
-            Del::Next { call, .. } => Action::Load(call.address(node::NEXT)),
-            Del::Taking { take, .. } => take.action(),
-            Del::Refusing { call, hold, .. } => {
-                Action::Store(call.address(node::VERSION), freed_of(hold.locked))
-            }
-            Del::Clearing {
-                call,
-                bitmap,
-                hit,
-                ..
-            } => Action::Store(call.address(node::BITMAP), without_live(*bitmap, hit.slot)),
-            Del::Finishing { finish, .. } => finish.action(),
+            Del::Single(single) => single.action(),
             Del::Merging { merge, .. } => merge.action(),
         }
     }
@@ -296,7 +148,6 @@ impl Machine for Del {
 }
 
 impl Del {
-    ghost use Rattle.std.specs.Prelude.{◌≡◌};
     ghost use Rattle.pm_words.specs.Turns.{GoesBelow};
     ghost use Rattle.split_merge.specs.Advances.{AdvancesTo};
     ghost use Rattle.node_ops.specs.DelSteps.{del_left, del_takes, del_turned};
@@ -308,48 +159,12 @@ impl Del {
         ensures fewer { GoesBelow del_left (del_left self.old) (del_turned self.old got) }
     {
         match self {
-            Del::Looking { lookup } => match lookup.advance(got)? {
-                Looked::Early(answer) => return Some(answer),
-                Looked::Found(found) => *self = Del::found(lookup.call, found),
-            },
-            Del::Next {
-                call,
-                hold,
-                bitmap,
-                hit,
-            } => *self = Del::saw_next(*call, *hold, *bitmap, *hit, got),
-            Del::Taking {
-                call,
-                hold,
-                bitmap,
-                hit,
-                take,
-            } => match take.resume(got) {
-                Turn::Go(next) => *take = next,
-                Turn::Done(taken) => *self = Del::took(*call, *hold, *bitmap, *hit, taken),
-            },
-            Del::Refusing { .. } => return Some(Once::Again(Again::LogFull)),
-            Del::Clearing {
-                call,
-                hold,
-                hit,
-                line,
-                ..
-            } => {
-                let finish = Del::cleared(*call, *hold, *hit);
-                *self = Del::Finishing {
-                    finish,
-                    line: *line,
-                };
-            }
-            Del::Finishing { finish, line } => match finish.resume(got) {
-                Turn::Go(next) => {
-                    *finish = next;
-                    if let (FinishAt::Unlock { place }, Some(line)) = (finish.at, *line) {
-                        *self = Del::merging(finish, place, line);
-                    }
+            Del::Single(single) => match single.advance(got)? {
+                SingleDelDone::Answered(answer) => Some(answer),
+                SingleDelDone::Counted(counted) => {
+                    self.merges(counted);
+                    None
                 }
-                Turn::Done(answer) => return Some(answer),
             },
             Del::Merging {
                 call,
@@ -360,10 +175,9 @@ impl Del {
             } => {
                 let (old, place, hops) = (*old, *place, call.hops);
                 merges(merge, got)?;
-                return Some(Once::Done(Placed { old, place, hops }));
+                Some(Once::Done(Placed { old, place, hops }))
             }
         }
-        None
     }
 }
 

@@ -19,6 +19,8 @@ mod lookup;
 mod part;
 mod put;
 mod running;
+mod single_del;
+mod single_put;
 
 pub use call::Call;
 pub use del::Del;
@@ -29,6 +31,8 @@ pub use lookup::{Directory, Found, Hit, Hold, Looked, Lookup, LookupAt};
 pub use part::{Listing, Part, PartWords, Reading, ReadingAt};
 pub use put::Put;
 pub use running::Running;
+pub use single_del::{CountedDel, SingleDel, SingleDelDone};
+pub use single_put::{FullNode, SinglePut, SinglePutDone};
 
 #[cfg(test)]
 mod merge_tests;

@@ -155,11 +155,10 @@ impl Running {
     pub fn place(&self) -> Option<u64>
         ensures { result ≡ placed_in (stage_of self.now) }
     {
-        match *self {
-            Running::Putting(Put::Finishing { finish }) => finish.place(),
-            Running::Deleting(Del::Finishing { finish, .. }) => finish.place(),
-            Running::Deleting(Del::Merging { place, .. }) => Some(place),
-            _ => None,
+        match self {
+            Running::Putting(put) => put.place(),
+            Running::Deleting(del) => del.place(),
+            Running::Getting(_) | Running::Parting(_) => None,
         }
     }
 
@@ -168,10 +167,10 @@ impl Running {
         requires { IsRunning self.now }
         ensures { result ≡ counted (stage_of self.now) }
     {
-        match *self {
-            Running::Putting(Put::Finishing { finish }) => finish.counts(),
-            Running::Deleting(Del::Finishing { finish, .. }) => finish.counts(),
-            _ => None,
+        match self {
+            Running::Putting(put) => put.counts(),
+            Running::Deleting(del) => del.counts(),
+            Running::Getting(_) | Running::Parting(_) => None,
         }
     }
 }

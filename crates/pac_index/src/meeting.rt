@@ -14,7 +14,7 @@ use crate::shared::Shared;
 use crate::stamps::settle_stamps;
 use atomic_table::{Closed, Seat};
 use cat_history::Write;
-use index_core::{Core, Parts, PartyState};
+use index_core::{Core, Flight, Parts, PartyState};
 use pm_words::{Memory, NoMemory};
 use std::alloc::Global;
 
@@ -97,7 +97,7 @@ fn idle_states(alloc: Global, callers: &[Caller]) -> Result<Vec<PartyState>, NoM
             caller: number as u64,
             index: callers[number].index,
             since: 0,
-            machine: None,
+            machine: Flight::idle(),
         })?;
     }
     Ok(states)

@@ -16,7 +16,7 @@ of-requires c =
     let there = there_at states c.args.party state
     (subst (λ (l : List PartyState). c.args.party < length l) c.deref.ensures.value (ltb-true c.args.party (length c.deref.result.now) (sym lookup.0)))
     (subst (λ (l : List PartyState). state ≡ get_or l c.args.party state) c.deref.ensures.value lookup.1) in
-    subst (λ (o : Option Running). IfSome o IsRunning) c.in_ok-machine.was (c.self.invariant c.args.party state there)
+    subst (λ (o : Option Running). IfSome o IsRunning) c.running-machine.ensures (c.self.invariant c.args.party state there)
 
 pub returns : goal.returns
 returns c =
@@ -26,8 +26,8 @@ returns c =
     let there = there_at states c.args.party state
     (subst (λ (l : List PartyState). c.args.party < length l) c.deref.ensures.value (ltb-true c.args.party (length c.deref.result.now) (sym lookup.0)))
     (subst (λ (l : List PartyState). state ≡ get_or l c.args.party state) c.deref.ensures.value lookup.1) in
-    let machine : Running = c.in_ok-machine.machine in
+    let machine : Running = c.running-machine.result.now in
     let made : Some (record { party = state.caller; call = c.of.result; place = c.place.result }) ≡ cut_call state.caller (Some machine) =
     (λ k. Some (record { party = state.caller; call = c.of.ensures k; place = c.place.ensures k })) in
-    made ∙ ap (cut_call state.caller) (sym c.in_ok-machine.was) ∙ ap cut_of (sym (got_there states c.args.party state there))
+    made ∙ ap (cut_call state.caller) (sym c.running-machine.ensures) ∙ ap cut_of (sym (got_there states c.args.party state there))
     ∙ ap (λ (l : List PartyState). cut_of (slice_get l c.args.party)) c.self.view_is

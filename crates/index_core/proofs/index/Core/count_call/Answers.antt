@@ -15,8 +15,8 @@ record Counts (c : goal.After-self-1) : Type 0 where
   state : PartyState
   there : get_elem? c.self.inside.states.items c.args.party ≡ some state
   idle : state.machine ≡ None
-  now : c.counted.result ≡ state_counted state
-  owing : owed (set c.self.inside.states.items c.args.party c.counted.result) ≡ owed c.self.inside.states.items
+  now : c.counts.new.self ≡ state_counted state
+  owing : owed (set c.self.inside.states.items c.args.party c.counts.new.self) ≡ owed c.self.inside.states.items
 
 counts_at : (c : goal.After-self-1) → Counts c
 counts_at c =
@@ -25,7 +25,7 @@ counts_at c =
     let callers = ap (λ (v : Index). v.layout.callers) c.self.view_is in
     let lt = c.requires.party in
     let here = there_is s.states i (omega (arith, c.self.invariant.0.parties, callers, lt)) in
-    let now : c.counted.result ≡ state_counted here.0 = c.counted.ensures ∙ ap state_counted (read_is s.states i here.0 c.index-state.result.now here.1 c.index-state.ensures) in
+    let now : c.counts.new.self ≡ state_counted here.0 = c.counts.ensures ∙ ap state_counted (read_is s.states i here.0 c.index_mut.result.now here.1 c.index_mut.ensures.value) in
     record {
       state = here.0;
       there = here.1;
@@ -35,7 +35,7 @@ counts_at c =
     }
 
 -- so it leaves an index
-kept : (c : goal.After-self-1) (spare : ℕ) → IsIndex (record (index_with c.self.inside 0) { states = set c.self.inside.states.items c.args.party c.counted.result; spare = spare })
+kept : (c : goal.After-self-1) (spare : ℕ) → IsIndex (record (index_with c.self.inside 0) { states = set c.self.inside.states.items c.args.party c.counts.new.self; spare = spare })
 kept c spare =
     let s = index_with c.self.inside 0 in
     let at = counts_at c in

@@ -1,5 +1,5 @@
-use Rattle.std.proofs.Common.{◌≡◌, ap, sym, ◌∙◌, subst, arith}
-use Rattle.std.specs.Prelude.{Option, IfSome}
+use Rattle.std.proofs.Common.{◌≡◌, refl, ap, sym, ◌∙◌, subst, arith}
+use Rattle.std.specs.Prelude.{Option, IfSome, IsSome}
 use lib.ListN.{get_elem?}
 use Rattle.node_ops.specs.declared.running.Running.{Running}
 use Rattle.node_ops.specs.RunningSteps.{IsRunning, Sound, listed_in}
@@ -9,7 +9,7 @@ use Rattle.index_core.specs.Indexes.{Index}
 use Rattle.index_core.proofs.Lists.{within, read_is}
 use Rattle.index_core.proofs.PartTries.{machine_read}
 use Rattle.index_core.proofs.index.Core.listing.Goals as goal
-use Rattle.index_core.proofs.index.Core.listing.Goals.{In-Some}
+use Rattle.index_core.proofs.index.Core.listing.Goals.{After-running-machine}
 
 pub index-requires : goal.index-requires
 index-requires c =
@@ -18,21 +18,21 @@ index-requires c =
     let there = ap (λ (v : Index). get_elem? v.states c.args.party) c.self.view_is ∙ h.there in
     omega (arith, within s.states c.args.party h.state there, c.self.inside.states.ok.0)
 
-pub unreachable-requires : goal.unreachable-requires
-unreachable-requires c =
+pub running-machine-requires : goal.running-machine-requires
+running-machine-requires c =
     let s = index_with c.self.inside 0 in
     let h = c.requires.1 in
     let there = ap (λ (v : Index). get_elem? v.states c.args.party) c.self.view_is ∙ h.there in
     let read = read_is s.states c.args.party h.state c.index.result.now there c.index.ensures in
-    c.in_default.not-Some h.machine (ap (λ (d : PartyState). d.machine) read ∙ h.flies)
+    subst IsSome (sym (ap (λ (d : PartyState). d.machine) read ∙ h.flies)) refl
 
 -- the machine that it reads is the party's
-own_machine : (c : In-Some) → c.in-Some.machine ≡ c.requires.1.machine
+own_machine : (c : After-running-machine) → c.running-machine.result.now ≡ c.requires.1.machine
 own_machine c =
     let s = index_with c.self.inside 0 in
     let h = c.requires.1 in
     let there = ap (λ (v : Index). get_elem? v.states c.args.party) c.self.view_is ∙ h.there in
-    machine_read c.in-Some.is (read_is s.states c.args.party h.state c.index.result.now there c.index.ensures) h.flies
+    machine_read c.running-machine.ensures (read_is s.states c.args.party h.state c.index.result.now there c.index.ensures) h.flies
 
 pub listed-requires : goal.listed-requires
 listed-requires c =
@@ -42,9 +42,9 @@ listed-requires c =
     let own = (c.self.invariant.0.states c.args.party h.state there).machine in
     subst IsRunning (sym (own_machine c)) (subst (λ (o : Option Running). IfSome o (Sound s.layout s.generation)) h.flies own).here
 
-pub unreachable-requires-in_default-listed : goal.unreachable-requires-in_default-listed
-unreachable-requires-in_default-listed c =
-    c.in_default-listed.not-Some c.requires.0 (c.listed.ensures ∙ ap listed_in (own_machine (goal.at.unreachable-requires-in_default-listed c).In-Some) ∙ c.requires.1.listed)
+pub unreachable-requires : goal.unreachable-requires
+unreachable-requires c =
+    c.in_default.not-Some c.requires.0 (c.listed.ensures ∙ ap listed_in (own_machine (goal.at.unreachable-requires c).After-running-machine) ∙ c.requires.1.listed)
 
 pub returns : goal.returns
 returns c =
@@ -54,5 +54,5 @@ returns c =
       machine = h.machine;
       there = h.there;
       flies = h.flies;
-      listed = ap listed_in (sym (own_machine (goal.at.returns c).In-Some)) ∙ sym c.listed.ensures ∙ c.in-Some-listed.is;
+      listed = ap listed_in (sym (own_machine (goal.at.returns c).After-running-machine)) ∙ sym c.listed.ensures ∙ c.in-Some.is;
     }

@@ -24,8 +24,8 @@ index_mut-requires c =
     let callers = ap (λ (v : Index). v.layout.callers) c.self.view_is in
     omega (arith, c.self.invariant.0.parties, c.self.inside.states.ok.0, callers, c.requires.party)
 
-pub returns-then-is_some-clause-in_flight : goal.returns-then-is_some-clause-in_flight
-returns-then-is_some-clause-in_flight c =
+pub returns-then-flies-clause-in_flight : goal.returns-then-flies-clause-in_flight
+returns-then-flies-clause-in_flight c =
     let s = index_with c.self.inside 0 in
     let i = c.args.party in
     let callers = ap (λ (v : Index). v.layout.callers) c.self.view_is in
@@ -34,11 +34,11 @@ returns-then-is_some-clause-in_flight c =
     let e = here.0 in
     let there = here.1 in
     let read = read_is s.states i e c.index.result.now there c.index.ensures in
-    let machine = some_of c.index.result.now.machine (sym c.is_some.ensures ∙ c.if-is_some.true) in
+    let machine = some_of c.index.result.now.machine (sym c.flies.ensures ∙ c.if-flies.true) in
     (λ _. record { state = e; machine = machine.0; there = sym (ap (λ (v : Index). get_elem? v.states i) c.self.view_is) ∙ there; flies = sym (ap (λ (d : PartyState). d.machine) read) ∙ machine.1 }, λ _. refl)
 
-pub returns-then-is_some-clause-index : goal.returns-then-is_some-clause-index
-returns-then-is_some-clause-index c =
+pub returns-then-flies-clause-index : goal.returns-then-flies-clause-index
+returns-then-flies-clause-index c =
     subst IsIndex c.self.view_is (respare _ _ c.self.invariant.0)
 
 -- the machine that it makes
@@ -57,7 +57,7 @@ begun_at c =
     let here = there_is s.states i within in
     let looked = read_is s.states i here.0 c.index.result.now here.1 c.index.ensures in
     let read = read_is s.states i here.0 c.index_mut.result.now here.1 c.index_mut.ensures.value in
-    let idle = none_of c.index.result.now.machine (sym c.is_some.ensures ∙ c.if-is_some.false) in
+    let idle = none_of c.index.result.now.machine (sym c.flies.ensures ∙ c.if-flies.false) in
     begins s i c.index_mut.result.now c.begins.new.self c.args.call _ c.len-since.result c.self.invariant.0 within c.index_mut.ensures.value
     (ap (λ (d : PartyState). d.machine) (read ∙ sym looked) ∙ idle) (made_at c) c.begins.ensures.sound (c.len-since.ensures ∙ c.self.inside.history.ok.0) c.begins.ensures.state
 
@@ -123,8 +123,8 @@ returns-clause-index c =
     let n : ℕ = c.self.inside.history.cap - (c.self.inside.history.len + owed (slice_set s.states i c.begins.new.self)) in
     subst IsIndex (sym (begun.same n)) (begun.kept n)
 
-pub returns-then-is_some-clause-before : goal.returns-then-is_some-clause-before
-returns-then-is_some-clause-before c = subst IsIndex c.self.view_is (respare _ _ c.self.invariant.0)
+pub returns-then-flies-clause-before : goal.returns-then-flies-clause-before
+returns-then-flies-clause-before c = subst IsIndex c.self.view_is (respare _ _ c.self.invariant.0)
 
 pub returns-clause-before : goal.returns-clause-before
 returns-clause-before c = subst IsIndex c.self.view_is (respare _ _ c.self.invariant.0)

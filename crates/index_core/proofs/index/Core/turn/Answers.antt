@@ -1,5 +1,5 @@
 use Rattle.std.proofs.Common.{◌≡◌, ℕ, ◌+◌, length, arith, refl, ap, sym, ◌∙◌, subst}
-use Rattle.std.specs.Prelude.{◌-◌, slice_set, Option, IfSome, IsSomeAnd}
+use Rattle.std.specs.Prelude.{◌-◌, slice_set, Option, IfSome, IsSome, IsSomeAnd}
 use lib.ListN.{get_elem?}
 use Rattle.pm_words.specs.Turns.{GoesBelow}
 use Rattle.cat_history.specs.Maps.{map_of}
@@ -46,22 +46,22 @@ index_mut-requires g c =
     let there = ap (λ (v : Index). get_elem? v.states i) c.self.view_is ∙ flies.there in
     omega (arith, within s.states i e there, c.self.inside.states.ok.0)
 
-pub unreachable-requires : goal.unreachable-requires
-unreachable-requires g c =
+pub running-machine-requires : goal.running-machine-requires
+running-machine-requires g c =
     let s = index_with c.self.inside 0 in
     let i = c.args.party in
     let flies = c.requires.flies in
     let e = flies.state in
     let there = ap (λ (v : Index). get_elem? v.states i) c.self.view_is ∙ flies.there in
     let read = read_is s.states i e c.index.result.now there c.index.ensures in
-    c.in_default.not-Some flies.machine (ap (λ (d : PartyState). d.machine) read ∙ flies.flies)
+    subst IsSome (sym (ap (λ (d : PartyState). d.machine) read ∙ flies.flies)) refl
 
 pub action-action-requires : goal.action-action-requires
 action-action-requires g c =
     let s = index_with c.self.inside 0 in
     let i = c.args.party in
     let flies = c.requires.flies in
-    let at = reads s c.args.self.now i flies c.index.result.now c.in-Some.machine (ap (λ (v : Index). v.states) c.self.view_is) c.self.invariant.0 c.index.ensures c.in-Some.is in
+    let at = reads s c.args.self.now i flies c.index.result.now c.running-machine.result.now (ap (λ (v : Index). v.states) c.self.view_is) c.self.invariant.0 c.index.ensures c.running-machine.ensures in
     subst IsRunning (sym at.same) at.facts.fits
 
 pub counts-counts-requires : goal.counts-counts-requires
@@ -69,7 +69,7 @@ counts-counts-requires g c =
     let s = index_with c.self.inside 0 in
     let i = c.args.party in
     let flies = c.requires.flies in
-    let at = reads s c.args.self.now i flies c.index.result.now c.in-Some.machine (ap (λ (v : Index). v.states) c.self.view_is) c.self.invariant.0 c.index.ensures c.in-Some.is in
+    let at = reads s c.args.self.now i flies c.index.result.now c.running-machine.result.now (ap (λ (v : Index). v.states) c.self.view_is) c.self.invariant.0 c.index.ensures c.running-machine.ensures in
     subst IsRunning (sym at.same) at.facts.fits
 
 pub act-got-requires : goal.act-got-requires
@@ -77,7 +77,7 @@ act-got-requires g c =
     let s = index_with c.self.inside 0 in
     let i = c.args.party in
     let flies = c.requires.flies in
-    let at = reads s c.args.self.now i flies c.index.result.now c.in-Some.machine (ap (λ (v : Index). v.states) c.self.view_is) c.self.invariant.0 c.index.ensures c.in-Some.is in
+    let at = reads s c.args.self.now i flies c.index.result.now c.running-machine.result.now (ap (λ (v : Index). v.states) c.self.view_is) c.self.invariant.0 c.index.ensures c.running-machine.ensures in
     subst (CanAct s.layout s.words) (sym (c.action-action.ensures ∙ ap running_asks at.same)) at.facts.can
 
 pub count-requires : goal.count-requires
@@ -87,7 +87,7 @@ count-requires g c =
     let flies = c.requires.flies in
     let e = flies.state in
     let m = flies.machine in
-    let at = reads s c.args.self.now i flies c.index.result.now c.in-Some.machine (ap (λ (v : Index). v.states) c.self.view_is) c.self.invariant.0 c.index.ensures c.in-Some.is in
+    let at = reads s c.args.self.now i flies c.index.result.now c.running-machine.result.now (ap (λ (v : Index). v.states) c.self.view_is) c.self.invariant.0 c.index.ensures c.running-machine.ensures in
     count_room s i e c.index.result.now m c.counts-counts.result _ _ at.there flies.flies at.read (c.counts-counts.ensures ∙ ap (λ (n : Running). counted (stage_of n)) at.same) c.self.invariant.1
 
 pub advance-requires : goal.advance-requires
@@ -96,7 +96,7 @@ advance-requires g c =
     let i = c.args.party in
     let flies = c.requires.flies in
     let m = flies.machine in
-    let at = reads s c.args.self.now i flies c.index.result.now c.in-Some.machine (ap (λ (v : Index). v.states) c.self.view_is) c.self.invariant.0 c.index.ensures c.in-Some.is in
+    let at = reads s c.args.self.now i flies c.index.result.now c.running-machine.result.now (ap (λ (v : Index). v.states) c.self.view_is) c.self.invariant.0 c.index.ensures c.running-machine.ensures in
     let given : c.act-got.result ≡ told s m = c.act-got.ensures.got ∙ ap (got s.layout s.words) (c.action-action.ensures ∙ ap running_asks at.same) in
     let there = ap (λ (v : Index). get_elem? v.states i) c.self.view_is ∙ flies.there in
     let read = read_is s.states i flies.state c.index_mut.result.now there c.index_mut.ensures.value in
@@ -105,10 +105,10 @@ advance-requires g c =
     (subst (λ (n : ℕ). running_takes m n) (sym given) at.facts.takes))
 
 -- what it has read, and what it has made, once it is done
-reads_at : (g : _) (c : goal.After-self-1 g) → Reads (index_with c.self.inside 0) c.args.party c.requires.flies.state c.index.result.now c.requires.flies.machine c.in-Some.machine
+reads_at : (g : _) (c : goal.After-self-1 g) → Reads (index_with c.self.inside 0) c.args.party c.requires.flies.state c.index.result.now c.requires.flies.machine c.running-machine.result.now
 reads_at g c =
-    reads (index_with c.self.inside 0) c.args.self.now c.args.party c.requires.flies c.index.result.now c.in-Some.machine (ap (λ (v : Index). v.states) c.self.view_is) c.self.invariant.0
-    c.index.ensures c.in-Some.is
+    reads (index_with c.self.inside 0) c.args.self.now c.args.party c.requires.flies c.index.result.now c.running-machine.result.now (ap (λ (v : Index). v.states) c.self.view_is) c.self.invariant.0
+    c.index.ensures c.running-machine.ensures
 
 -- what its call is told in place, said of the party and its machine
 of_call : (g : _) (c : goal.After-self-1 g) (P : PartyState → Running → Type 0) → IfSome c.index_mut.result.now.machine (P c.index_mut.result.now) → P c.requires.flies.state c.requires.flies.machine
@@ -118,7 +118,7 @@ of_call g c P says =
     let read = read_is (index_with c.self.inside 0).states c.args.party flies.state c.index_mut.result.now at.there c.index_mut.ensures.value in
     subst (λ (o : Option Running). IfSome o (P flies.state)) flies.flies (subst (λ (d : PartyState). IfSome d.machine (P d)) read says)
 
-goes_at : (g : _) (c : goal.After-self-1 g) → c.advance.new.self ≡ state_after c.index.result.now (running_turned c.in-Some.machine c.act-got.result)
+goes_at : (g : _) (c : goal.After-self-1 g) → c.advance.new.self ≡ state_after c.index.result.now (running_turned c.running-machine.result.now c.act-got.result)
 goes_at g c =
     let at = reads_at g c in
     of_call g c (λ d q. c.advance.new.self ≡ state_after d (running_turned q c.act-got.result)) c.advance.ensures.state
@@ -134,10 +134,10 @@ answers_at g c =
     of_call g c (λ d q. c.advance.result ≡ reply_of (running_turned q c.act-got.result)) c.advance.ensures.answer
     ∙ ap (λ (n : ℕ). reply_of (running_turned c.requires.flies.machine n)) (told_at g c)
 
-leaves_at : (g : _) (c : goal.After-self-1 g) → Leaves (index_with c.self.inside 0) c.args.party c.requires.flies.state c.requires.flies.machine c.act-got.new.self (running_turned c.in-Some.machine c.act-got.result) c.advance.new.self
+leaves_at : (g : _) (c : goal.After-self-1 g) → Leaves (index_with c.self.inside 0) c.args.party c.requires.flies.state c.requires.flies.machine c.act-got.new.self (running_turned c.running-machine.result.now c.act-got.result) c.advance.new.self
     c.count.new.history.items c.self.inside.history.len c.self.inside.history.cap c.count.new.history.len c.count.new.history.cap
 leaves_at g c =
-    leaves (index_with c.self.inside 0) c.args.party c.requires.flies.state c.index.result.now c.requires.flies.machine c.in-Some.machine (reads_at g c) c.requires.flies.flies c.action-action.result c.act-got.new.self c.act-got.result (running_turned c.in-Some.machine c.act-got.result) c.advance.new.self c.counts-counts.result
+    leaves (index_with c.self.inside 0) c.args.party c.requires.flies.state c.index.result.now c.requires.flies.machine c.running-machine.result.now (reads_at g c) c.requires.flies.flies c.action-action.result c.act-got.new.self c.act-got.result (running_turned c.running-machine.result.now c.act-got.result) c.advance.new.self c.counts-counts.result
     c.count.new.history.items c.self.inside.history.len c.self.inside.history.cap c.count.new.history.len c.count.new.history.cap c.action-action.ensures c.act-got.ensures.row c.act-got.ensures.got refl
     (goes_at g c) c.counts-counts.ensures c.count.ensures.items c.self.inside.history.ok.0 c.count.new.history.ok.0 c.count.ensures.room c.self.invariant.1
 

@@ -11,25 +11,26 @@ use Rattle.smo_log.specs.Takes.{take_left}
 use Rattle.node_ops.specs.declared.call.Call.{Call}
 use Rattle.node_ops.specs.declared.lookup.Lookup.{Lookup}
 use Rattle.node_ops.specs.declared.lookup.Looked.{Looked}
-use Rattle.node_ops.specs.declared.del.Del.{Del}
+use Rattle.node_ops.specs.declared.del.Del.TheVariants.{Single}
+use Rattle.node_ops.specs.declared.single_del.SingleDel.{SingleDel}
 use Rattle.node_ops.specs.LookupSteps.{IsFoundBy, lookup_left}
 use Rattle.node_ops.specs.DelSteps.{IsDel, del_call, del_asks, del_turned, del_looked, del_taken, del_left}
 use Rattle.node_ops.proofs.LookupSound.{found_sound}
 use Rattle.node_ops.proofs.Measures.{found_fewer, taken_fewer}
-use Rattle.node_ops.proofs.del.Del.advance.Goals as goal
+use Rattle.node_ops.proofs.single_del.SingleDel.advance.Goals as goal
 
 pub found-requires-clause-found : goal.found-requires-clause-found
 found-requires-clause-found c =
     let looked = c.in_ok-answer-in-Looking.ensures in
     subst (λ (call : Call). IsFoundBy call.view.layout.slots c.in-Found.found) (sym looked.call)
-    (found_sound c.in-Looking.lookup c.args.got c.in-Found.found (subst IsDel c.in-Looking.is c.requires.0)
-    (subst (λ (del : Del). Told (del_call del).view.layout (del_call del).view.generation (del_asks del) c.args.got) c.in-Looking.is c.requires.1)
+    (found_sound c.in-Looking.lookup c.args.got c.in-Found.found (subst (λ (s : SingleDel). IsDel (Single s)) c.in-Looking.is c.requires.0)
+    (subst (λ (s : SingleDel). Told (del_call (Single s)).view.layout (del_call (Single s)).view.generation (del_asks (Single s)) c.args.got) c.in-Looking.is c.requires.1)
     (ap (λ (f : Looked). Done f) (sym c.in-Found.is) ∙ sym looked.turned))
 
 pub returns-in-Found-clause-fewer : goal.returns-in-Found-clause-fewer
 returns-in-Found-clause-fewer c =
     let lookup = c.in-Looking.lookup in
-    subst (λ (del : Del). GoesBelow {A = Once Placed} del_left (del_left del) (del_turned del c.args.got)) (sym c.in-Looking.is)
+    subst (λ (s : SingleDel). GoesBelow {A = Once Placed} del_left (del_left (Single s)) (del_turned (Single s) c.args.got)) (sym c.in-Looking.is)
     (subst (λ (turn : Turn Lookup Looked). GoesBelow {A = Once Placed} del_left (lookup_left lookup + 30052) (del_looked lookup.call turn))
     (ap (λ (f : Looked). Done f) (sym c.in-Found.is) ∙ sym c.in_ok-answer-in-Looking.ensures.turned)
     (found_fewer lookup.call c.in-Found.found (lookup_left lookup)))
@@ -37,7 +38,7 @@ returns-in-Found-clause-fewer c =
 pub returns-in-Done-clause-fewer : goal.returns-in-Done-clause-fewer
 returns-in-Done-clause-fewer c =
     let at = c.in-Taking in
-    let sound = subst IsDel at.is c.requires.0 in
-    subst (λ (del : Del). GoesBelow {A = Once Placed} del_left (del_left del) (del_turned del c.args.got)) (sym at.is)
+    let sound = subst (λ (s : SingleDel). IsDel (Single s)) at.is c.requires.0 in
+    subst (λ (s : SingleDel). GoesBelow {A = Once Placed} del_left (del_left (Single s)) (del_turned (Single s) c.args.got)) (sym at.is)
     (subst (λ (turn : Turn Take Taken). GoesBelow {A = Once Placed} del_left (take_left at.take + 30025) (del_taken at.call at.hold at.bitmap at.hit turn))
     c.in-Done.ensures.turned (taken_fewer at.call at.hold at.bitmap at.hit at.take c.in-Done.taken sound.2.here))

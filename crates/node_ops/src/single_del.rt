@@ -1,0 +1,350 @@
+//! A delete while it works on one node: `Looking`, then `Clearing`, the store of the bitmap without the name's slot, and
+//! `Finishing`. A name that isn't there is finished at once, without a store.
+//!
+//! A delete that leaves at most half as many names as a node has slots looks where its node leads first (`Next`). Where
+//! that is another node, it takes a log line before its store (`Taking`): where none is EMPTY it is to be made again
+//! (`Refusing`), with nothing changed.
+//!
+//! These states are an enum of their own, apart from the words of a merge, so that to change one writes few words.
+
+ghost use Rattle.std.specs.Prelude.{◌≡◌};
+
+use crate::call::Call;
+use crate::finish::{Finish, FinishAt};
+use crate::lookup::{Found, Hit, Hold, Looked, Lookup};
+use call_stages::{Once, Placed};
+use cat_history::{Change, NameOp};
+use data_node::{live_count, without_live};
+use pm_words::offsets::node;
+use pm_words::{Action, Again, Fence, Machine, Turn, line_of};
+use smo_log::{Take, Taken};
+use version_lock::freed_of;
+
+/// A delete that works on one node.
+#[derive(Clone, Copy)]
+pub enum SingleDel {
+    Looking {
+        lookup: Lookup,
+    },
+    /// It leaves few names: it loads where its node leads.
+    Next {
+        call: Call,
+        hold: Hold,
+        bitmap: u64,
+        hit: Hit,
+    },
+    /// It looks for a log line for its merge.
+    Taking {
+        call: Call,
+        hold: Hold,
+        bitmap: u64,
+        hit: Hit,
+        take: Take,
+    },
+    /// None of its lines is EMPTY: it gives the node back.
+    Refusing {
+        call: Call,
+        hold: Hold,
+        bitmap: u64,
+        hit: Hit,
+    },
+    /// It clears the bit of the slot that has the name. With a line, it is to merge then.
+    Clearing {
+        call: Call,
+        hold: Hold,
+        bitmap: u64,
+        hit: Hit,
+        line: Option<u64>,
+    },
+    Finishing {
+        finish: Finish,
+        line: Option<u64>,
+    },
+}
+
+/// A delete whose change is counted at this place, and which has this log line for its merge.
+#[derive(Clone, Copy)]
+pub struct CountedDel {
+    pub finish: Finish,
+    pub place: u64,
+    pub line: u64,
+}
+
+/// How a delete's work on one node ends: the delete is answered, or merges the next node into its own.
+#[derive(Clone, Copy)]
+pub enum SingleDelDone {
+    Answered(Once<Placed>),
+    Counted(CountedDel),
+}
+
+impl SingleDel {
+    ghost use Rattle.std.specs.Prelude.{◌<◌};
+    ghost use Rattle.pm_words.specs.Turns.{GoesBelow};
+    ghost use Rattle.node_ops.specs.declared.del.Del.TheVariants as Del;
+    ghost use Rattle.node_ops.specs.FinishSteps.{finish_turned};
+    ghost use Rattle.node_ops.specs.DelSteps.{IsDel, SingleDelTurns, del_finished, del_left, del_takes, del_turned};
+
+    /// Tells it in place the number that its action gave. It goes on, or its work on the node is done.
+    pub(crate) fn advance(&mut self, got: u64) -> Option<SingleDelDone>
+        requires { del_takes (Del.Single self.old) got }
+        ensures turned { SingleDelTurns (del_turned (Del.Single self.old) got) self.new result }
+        ensures fewer { GoesBelow del_left (del_left (Del.Single self.old)) (del_turned (Del.Single self.old) got) }
+    {
+        match self {
+            SingleDel::Looking { lookup } => match lookup.advance(got)? {
+                Looked::Early(answer) => return Some(SingleDelDone::Answered(answer)),
+                Looked::Found(found) => *self = SingleDel::found(lookup.call, found),
+            },
+            SingleDel::Next {
+                call,
+                hold,
+                bitmap,
+                hit,
+            } => *self = SingleDel::saw_next(*call, *hold, *bitmap, *hit, got),
+            SingleDel::Taking {
+                call,
+                hold,
+                bitmap,
+                hit,
+                take,
+            } => match take.resume(got) {
+                Turn::Go(next) => *take = next,
+                Turn::Done(taken) => *self = SingleDel::took(*call, *hold, *bitmap, *hit, taken),
+            },
+            SingleDel::Refusing { .. } => {
+                return Some(SingleDelDone::Answered(Once::Again(Again::LogFull)));
+            }
+            SingleDel::Clearing {
+                call,
+                hold,
+                hit,
+                line,
+                ..
+            } => *self = SingleDel::cleared(*call, *hold, *hit, *line),
+            SingleDel::Finishing { finish, line } => {
+                return SingleDel::finishes(finish, *line, got);
+            }
+        }
+        None
+    }
+
+    /// Tells the end of a write in place the number that its action gave. With a line, it ends with its place.
+    fn finishes(finish: &mut Finish, line: Option<u64>, got: u64) -> Option<SingleDelDone>
+        requires { del_takes (Del.Single (SingleDel.Finishing finish.now line)) got }
+        ensures turned { SingleDelTurns (del_finished line (finish_turned finish.entry.now got))
+            (SingleDel.Finishing finish.exit.now line) result }
+        ensures fewer { GoesBelow del_left (del_left (Del.Single (SingleDel.Finishing finish.entry.now line)))
+            (del_finished line (finish_turned finish.entry.now got)) }
+    {
+        match finish.resume(got) {
+            Turn::Go(next) => *finish = next,
+            Turn::Done(answer) => return Some(SingleDelDone::Answered(answer)),
+        }
+        if let (FinishAt::Unlock { place }, Some(line)) = (finish.at, line) {
+            return Some(SingleDelDone::Counted(CountedDel {
+                finish: *finish,
+                place,
+                line,
+            }));
+        }
+        None
+    }
+}
+
+impl SingleDel {
+    ghost use Rattle.node_ops.specs.declared.del.Del.TheVariants as Del;
+    ghost use Rattle.node_ops.specs.Calls.{IsCall};
+    ghost use Rattle.node_ops.specs.LookupSteps.{IsFoundBy, IsHit};
+    ghost use Rattle.node_ops.specs.DelSteps.{cleared, del_found, del_slot, saw_next, took};
+
+    /// What a delete does once it has looked its name up: of a name that is not there it has only to take its place.
+    fn found(call: Call, found: Found) -> SingleDel
+        requires call { IsCall call }
+        requires found { IsFoundBy call.view.layout.slots found }
+        ensures { Del.Single result ≡ del_found call found }
+    {
+        let Found {
+            hold,
+            directory,
+            hit,
+        } = found;
+        match hit {
+            Some(hit) => SingleDel::in_slot(call, hold, directory.bitmap, hit),
+            None => SingleDel::Finishing {
+                finish: Finish {
+                    call,
+                    hold,
+                    old: None,
+                    new: None,
+                    at: FinishAt::Add,
+                },
+                line: None,
+            },
+        }
+    }
+
+    /// The name is in this slot. Where it leaves few names, it may have to merge.
+    fn in_slot(call: Call, hold: Hold, bitmap: u64, hit: Hit) -> SingleDel
+        requires call { IsCall call }
+        requires hit { IsHit call.view.layout.slots bitmap hit }
+        ensures { Del.Single result ≡ del_slot call hold bitmap hit }
+    {
+        let slots = call.view.layout.slots();
+        if live_count(without_live(bitmap, hit.slot), slots) > slots / 2 {
+            return SingleDel::Clearing {
+                call,
+                hold,
+                bitmap,
+                hit,
+                line: None,
+            };
+        }
+        SingleDel::Next {
+            call,
+            hold,
+            bitmap,
+            hit,
+        }
+    }
+
+    /// Its node leads to this one; 0 is none.
+    fn saw_next(call: Call, hold: Hold, bitmap: u64, hit: Hit, next: u64) -> SingleDel
+        requires { IsCall call }
+        ensures { Del.Single result ≡ saw_next call hold bitmap hit next }
+    {
+        if next == 0 {
+            return SingleDel::Clearing {
+                call,
+                hold,
+                bitmap,
+                hit,
+                line: None,
+            };
+        }
+        SingleDel::Taking {
+            call,
+            hold,
+            bitmap,
+            hit,
+            take: Take::new(call.view.layout, call.view.caller),
+        }
+    }
+
+    /// It has looked for a line.
+    fn took(call: Call, hold: Hold, bitmap: u64, hit: Hit, taken: Taken) -> SingleDel
+        ensures { Del.Single result ≡ took call hold bitmap hit taken }
+    {
+        match taken {
+            Taken::Line { line } => SingleDel::Clearing {
+                call,
+                hold,
+                bitmap,
+                hit,
+                line: Some(line),
+            },
+            Taken::Full => SingleDel::Refusing {
+                call,
+                hold,
+                bitmap,
+                hit,
+            },
+        }
+    }
+
+    /// What it does once the bit is clear.
+    fn cleared(call: Call, hold: Hold, hit: Hit, line: Option<u64>) -> SingleDel
+        ensures { result ≡ SingleDel.Finishing (cleared call hold hit) line }
+    {
+        SingleDel::Finishing {
+            finish: Finish {
+                call,
+                hold,
+                old: Some(hit.value),
+                new: None,
+                at: FinishAt::Fence {
+                    line: line_of(node::BITMAP),
+                    fence: Fence::new(),
+                },
+            },
+            line,
+        }
+    }
+}
+
+impl SingleDel {
+    ghost use Rattle.call_stages.specs.Stages.{counted, placed_in};
+    ghost use Rattle.node_ops.specs.declared.del.Del.TheVariants as Del;
+    ghost use Rattle.node_ops.specs.Asked.{del_op};
+    ghost use Rattle.node_ops.specs.CallStages.{del_stage};
+    ghost use Rattle.node_ops.specs.DelSteps.{IsDel, del_asks, del_call};
+
+    /// What stays the same while it is made.
+    pub(crate) fn call(&self) -> Call
+        ensures { result ≡ del_call (Del.Single self.now) }
+    {
+        match *self {
+            SingleDel::Looking { lookup } => lookup.call,
+            SingleDel::Finishing { finish, .. } => finish.call,
+            SingleDel::Next { call, .. }
+            | SingleDel::Taking { call, .. }
+            | SingleDel::Refusing { call, .. }
+            | SingleDel::Clearing { call, .. } => call,
+        }
+    }
+
+    /// The op that it is of.
+    pub(crate) fn op(&self) -> NameOp
+        requires { IsDel (Del.Single self.now) }
+        ensures { result ≡ del_op (Del.Single self.now) }
+    {
+        if let SingleDel::Finishing { finish, .. } = self {
+            return finish.op();
+        }
+        NameOp::Del {
+            name: self.call().name(),
+        }
+    }
+
+    /// The action that it asks for.
+    pub(crate) fn action(&self) -> Action
+        requires { IsDel (Del.Single self.now) }
+        ensures { result ≡ del_asks (Del.Single self.now) }
+    {
+        match self {
+            SingleDel::Looking { lookup } => lookup.action(),
+            SingleDel::Next { call, .. } => Action::Load(call.address(node::NEXT)),
+            SingleDel::Taking { take, .. } => take.action(),
+            SingleDel::Refusing { call, hold, .. } => {
+                Action::Store(call.address(node::VERSION), freed_of(hold.locked))
+            }
+            SingleDel::Clearing {
+                call,
+                bitmap,
+                hit,
+                ..
+            } => Action::Store(call.address(node::BITMAP), without_live(*bitmap, hit.slot)),
+            SingleDel::Finishing { finish, .. } => finish.action(),
+        }
+    }
+
+    /// The place that its write was given, if it has one.
+    pub(crate) fn place(&self) -> Option<u64>
+        ensures { result ≡ placed_in (del_stage (Del.Single self.now)) }
+    {
+        match self {
+            SingleDel::Finishing { finish, .. } => finish.place(),
+            _ => None,
+        }
+    }
+
+    /// The change that its next action counts in the clock, if it counts one.
+    pub(crate) fn counts(&self) -> Option<Change>
+        requires { IsDel (Del.Single self.now) }
+        ensures { result ≡ counted (del_stage (Del.Single self.now)) }
+    {
+        match self {
+            SingleDel::Finishing { finish, .. } => finish.counts(),
+            _ => None,
+        }
+    }
+}

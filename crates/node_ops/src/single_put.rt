@@ -1,0 +1,247 @@
+//! A put while it works on one node: `Looking`, then
+//!
+//! - where a slot is clear: `Filling` and `Finishing`;
+//! - where none is clear and one has the name: `Replacing`, the store of its value, and `Finishing`.
+//!
+//! These states are an enum of their own, apart from the words of a split, so that to change one writes few words.
+
+ghost use Rattle.std.specs.Prelude.{◌≡◌};
+
+use crate::call::{Call, slot_word};
+use crate::fill::{Fill, FillAt};
+use crate::finish::{Finish, FinishAt};
+use crate::lookup::{Found, Hit, Hold, Looked, Lookup};
+use call_stages::{Once, Placed};
+use cat_history::{Change, NameOp};
+use cat_key::WORDS;
+use data_node::clear_slot;
+use pm_words::{Action, Fence, Machine, Turn, line_of};
+
+/// A put that works on one node.
+#[derive(Clone, Copy)]
+pub enum SinglePut {
+    Looking {
+        lookup: Lookup,
+        value: u64,
+    },
+    /// It writes the name into a clear slot.
+    Filling {
+        fill: Fill,
+    },
+    /// No slot is clear: it stores the value in the slot that has the name.
+    Replacing {
+        call: Call,
+        hold: Hold,
+        bitmap: u64,
+        hit: Hit,
+        value: u64,
+    },
+    Finishing {
+        finish: Finish,
+    },
+}
+
+/// A put whose node has no clear slot, and no slot with its name.
+#[derive(Clone, Copy)]
+pub struct FullNode {
+    pub call: Call,
+    pub hold: Hold,
+    pub bitmap: u64,
+    pub value: u64,
+}
+
+/// How a put's work on one node ends: the put is answered, or has to split the node.
+#[derive(Clone, Copy)]
+pub enum SinglePutDone {
+    Answered(Once<Placed>),
+    Full(FullNode),
+}
+
+impl SinglePut {
+    ghost use Rattle.std.specs.Prelude.{◌<◌};
+    ghost use Rattle.pm_words.specs.Turns.{GoesBelow};
+    ghost use Rattle.pm_words.specs.declared.machine.Turn.TheVariants.{Go};
+    ghost use Rattle.node_ops.specs.declared.put.Put.TheVariants as Put;
+    ghost use Rattle.node_ops.specs.Calls.{IsCall};
+    ghost use Rattle.node_ops.specs.LookupSteps.{IsFoundBy};
+    ghost use Rattle.node_ops.specs.PutSteps.{SinglePutTurns, put_found, put_left, put_takes, put_turned, replaced};
+
+    /// Tells it in place the number that its action gave. It goes on, or its work on the node is done.
+    pub(crate) fn advance(&mut self, got: u64) -> Option<SinglePutDone>
+        requires { put_takes (Put.Single self.old) got }
+        ensures turned { SinglePutTurns (put_turned (Put.Single self.old) got) self.new result }
+        ensures fewer { GoesBelow put_left (put_left (Put.Single self.old)) (put_turned (Put.Single self.old) got) }
+    {
+        match self {
+            SinglePut::Looking { lookup, value } => match lookup.advance(got)? {
+                Looked::Early(answer) => Some(SinglePutDone::Answered(answer)),
+                Looked::Found(found) => {
+                    let (call, value) = (lookup.call, *value);
+                    self.found(call, found, value)
+                }
+            },
+            SinglePut::Filling { fill } => {
+                match fill.resume(got) {
+                    Turn::Go(next) => *fill = next,
+                    Turn::Done(finish) => *self = SinglePut::Finishing { finish },
+                }
+                None
+            }
+            SinglePut::Replacing {
+                call,
+                hold,
+                hit,
+                value,
+                ..
+            } => {
+                let finish = SinglePut::replaced(*call, *hold, *hit, *value);
+                *self = SinglePut::Finishing { finish };
+                None
+            }
+            SinglePut::Finishing { finish } => match finish.resume(got) {
+                Turn::Go(next) => {
+                    *finish = next;
+                    None
+                }
+                Turn::Done(answer) => Some(SinglePutDone::Answered(answer)),
+            },
+        }
+    }
+
+    /// It has looked its name up.
+    fn found(&mut self, call: Call, found: Found, value: u64) -> Option<SinglePutDone>
+        requires call { IsCall call }
+        requires found { IsFoundBy call.view.layout.slots found }
+        ensures { SinglePutTurns (Go (put_found call found value)) self.new result }
+    {
+        let Found {
+            hold,
+            directory,
+            hit,
+        } = found;
+        let bitmap = directory.bitmap;
+        *self = match (clear_slot(bitmap, call.view.layout.slots()), hit) {
+            (Some(slot), _) => SinglePut::Filling {
+                fill: Fill {
+                    call,
+                    hold,
+                    bitmap,
+                    prints: directory.prints[(slot / 8) as usize],
+                    slot,
+                    hit,
+                    value,
+                    at: FillAt::Word { k: 0 },
+                },
+            },
+            (None, Some(hit)) => SinglePut::Replacing {
+                call,
+                hold,
+                bitmap,
+                hit,
+                value,
+            },
+            (None, None) => {
+                return Some(SinglePutDone::Full(FullNode {
+                    call,
+                    hold,
+                    bitmap,
+                    value,
+                }));
+            }
+        };
+        None
+    }
+
+    /// What it does once the value is stored in place.
+    fn replaced(call: Call, hold: Hold, hit: Hit, value: u64) -> Finish
+        requires { hit.slot < 64 }
+        ensures { result ≡ replaced call hold hit value }
+    {
+        Finish {
+            call,
+            hold,
+            old: Some(hit.value),
+            new: Some(value),
+            at: FinishAt::Fence {
+                line: line_of(slot_word(hit.slot, WORDS as u64)),
+                fence: Fence::new(),
+            },
+        }
+    }
+}
+
+impl SinglePut {
+    ghost use Rattle.call_stages.specs.Stages.{counted, placed_in};
+    ghost use Rattle.node_ops.specs.declared.put.Put.TheVariants as Put;
+    ghost use Rattle.node_ops.specs.Asked.{put_op};
+    ghost use Rattle.node_ops.specs.CallStages.{put_stage};
+    ghost use Rattle.node_ops.specs.PutSteps.{IsPut, put_asks, put_call};
+
+    /// What stays the same while it is made.
+    pub(crate) fn call(&self) -> Call
+        ensures { result ≡ put_call (Put.Single self.now) }
+    {
+        match *self {
+            SinglePut::Looking { lookup, .. } => lookup.call,
+            SinglePut::Filling { fill } => fill.call,
+            SinglePut::Replacing { call, .. } => call,
+            SinglePut::Finishing { finish } => finish.call,
+        }
+    }
+
+    /// The op that it is of.
+    pub(crate) fn op(&self) -> NameOp
+        requires { IsPut (Put.Single self.now) }
+        ensures { result ≡ put_op (Put.Single self.now) }
+    {
+        let value = match *self {
+            SinglePut::Finishing { finish } => return finish.op(),
+            SinglePut::Looking { value, .. } => value,
+            SinglePut::Filling { fill } => fill.value,
+            SinglePut::Replacing { value, .. } => value,
+        };
+        NameOp::Put {
+            name: self.call().name(),
+            value,
+        }
+    }
+
+    /// The action that it asks for.
+    pub(crate) fn action(&self) -> Action
+        requires { IsPut (Put.Single self.now) }
+        ensures { result ≡ put_asks (Put.Single self.now) }
+    {
+        match self {
+            SinglePut::Looking { lookup, .. } => lookup.action(),
+            SinglePut::Filling { fill } => fill.action(),
+            SinglePut::Replacing {
+                call,
+                hit,
+                value,
+                ..
+            } => Action::Store(call.address(slot_word(hit.slot, WORDS as u64)), *value),
+            SinglePut::Finishing { finish } => finish.action(),
+        }
+    }
+
+    /// The place that its write was given, if it has one.
+    pub(crate) fn place(&self) -> Option<u64>
+        ensures { result ≡ placed_in (put_stage (Put.Single self.now)) }
+    {
+        match self {
+            SinglePut::Finishing { finish } => finish.place(),
+            _ => None,
+        }
+    }
+
+    /// The change that its next action counts in the clock, if it counts one.
+    pub(crate) fn counts(&self) -> Option<Change>
+        requires { IsPut (Put.Single self.now) }
+        ensures { result ≡ counted (put_stage (Put.Single self.now)) }
+    {
+        match self {
+            SinglePut::Finishing { finish } => finish.counts(),
+            _ => None,
+        }
+    }
+}
