@@ -1,6 +1,6 @@
 -- Each step of a machine keeps the table's rule, by the core's law on a step of a party's machine.
 use Rattle.std.proofs.Common.{◌≡◌, ◌≢◌, ℕ, zero, suc, ◌+◌, ◌<◌, ◌≤◌, ◌%◌, ◌^◌, ⊎_elim, List, [], ◌∷◌, ◌++◌, length, set, refl, sym, ap, ◌∙◌, subst, arith}
-use Rattle.std.specs.Prelude.{Option, Some, None, slice_index}
+use Rattle.std.specs.Prelude.{Option, Some, None, IfSome, slice_index}
 use mathlib.Core.Option.{some, some-injective, some-ne-none}
 use lib.ListN.{get_elem?}
 use Rattle.cat_history.specs.Maps.{map_of}
@@ -18,9 +18,9 @@ use Rattle.call_stages.specs.declared.once.Placed.{Placed}
 use Rattle.call_stages.specs.Stages.{counted}
 use Rattle.node_ops.specs.declared.running.Running.{Running}
 use Rattle.node_ops.specs.Asked.{op_in}
-use Rattle.node_ops.specs.RunningSteps.{running_asks, running_turned, running_call, IsRunning}
+use Rattle.node_ops.specs.RunningSteps.{running_asks, running_turned, running_call, IsRunning, Sound}
 use Rattle.node_ops.specs.CallStages.{stage_of, reply_of}
-use Rattle.index_law.specs.Worlds.{written}
+use Rattle.index_law.specs.Worlds.{facts, written}
 use Rattle.index_law.specs.Laws.{Counts}
 use Rattle.index_law.proofs.Parties.{at_set, set_here, set_else}
 use Rattle.index_core.specs.declared.party.CoreCall.{CoreCall}
@@ -37,7 +37,8 @@ use Rattle.index_core.proofs.MachineLaw.{machine_law, begin_law}
 use Rattle.atomic_table.specs.Table.{State, Me, keeps}
 use Rattle.pac_index.specs.declared.rule.About.{About}
 use Rattle.pac_index.specs.declared.rule.Member.{Member}
-use Rattle.pac_index.specs.Kept.{index_of, placed_by, noted, Fits, AllFit, times_in, times_in_all, Kept, added_now, Goes, Tells, Starts, May, party, IsLone, machine_in, calling}
+use Rattle.pac_index.specs.Kept.{index_of, placed_by, noted, Fits, AllFit, times_in, times_in_all, Kept, added_now, Goes, ListsNow, Tells, Starts, May, party, IsLone, machine_in, calling}
+use Rattle.pac_index.proofs.PartRuns.{lists_now}
 use Rattle.pac_index.proofs.Lists.{begins_more, begins_self, begins_le, placed_append, own_placed, others_keep, times_there, times_two, times_set, added_set}
 
 after_caller : (e : PartyState) (turn : Turn Running (Once Placed)) → (state_after e turn).caller ≡ e.caller
@@ -92,6 +93,7 @@ module _ (about : About) (id : ℕ) (v : Member) (m : Running) (f : ℕ → ℕ)
       let old = index_of about s.words kept.states h in
       let own = kept.fits id (v ∷ []) at 0 v refl in
       let c = v.state.caller in
+      let sound : Sound about.layout about.generation m = subst (λ (o : Option Running). IfSome o (Sound about.layout about.generation)) is (kept.index.states c v.state own.there).machine in
       let step = machine_law old c v.state m kept.index own.there is in
       let a = running_asks m in
       let place = action_address about.layout a in
@@ -143,6 +145,7 @@ module _ (about : About) (id : ℕ) (v : Member) (m : Running) (f : ℕ → ℕ)
           seen = begins_more v.seen h more own.seen;
           own = placed ∙ ap (λ (l : List (ℕ × Write)). l ++ noted x more) own.own;
           says = subst (λ (b : About). SaysOf b.layout.slots (map_of b.base) (h ++ more) v.state (op_in m) (running_call m).limit (reply_of turn)) (sym own.same) step.says;
+          lists = subst (λ (b : About). ListsNow (map_of b.base) (h ++ more) m) (sym own.same) (lists_now about.layout (facts (world (stepped_index old c v.state m 0))) m sound.here step.kept.named step.lists);
           op_on = step.keeps_op;
           call_on = step.keeps_call;
           ready = subst (λ (b : About). ReadyAfter b.layout b.generation turn) (sym own.same) step.ready;

@@ -1,6 +1,8 @@
 pub mod Lists
+pub mod PartRuns
 pub mod Allowed
 pub mod Running
+pub mod Repeating
 pub mod Seats
 pub mod Handing
 pub mod Gathered

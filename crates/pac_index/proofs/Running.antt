@@ -1,8 +1,10 @@
 -- How a call goes on by one step, and what it is answered at its end.
 use Rattle.std.proofs.Common.{◌≡◌, ℕ, ◌+◌, ◌<◌, ◌≤◌, List, [], ◌∷◌, ◌++◌, length, refl, sym, ap, ◌∙◌, subst, arith}
 use Rattle.std.proofs.lemmas.List.{append_assoc, append-nil, length-append}
-use Rattle.std.specs.Prelude.{Option, Some, None, IfSome}
+use Rattle.std.specs.Prelude.{Option, Some, None, IfSome, IsSome}
+use Rattle.split_merge.specs.Advances.{turn_of}
 use Rattle.cat_history.specs.Maps.{Map, map_of}
+use Rattle.cat_history.specs.Writes.{after}
 use Rattle.cat_history.specs.Records.{change_of}
 use Rattle.cat_history.specs.declared.op.Change.{Change}
 use Rattle.cat_history.specs.declared.op.NameOp.{NameOp}
@@ -15,26 +17,33 @@ use Rattle.call_stages.specs.declared.once.Once.TheVariants as once
 use Rattle.call_stages.specs.declared.once.Placed.{Placed}
 use Rattle.call_stages.specs.Stages.{counted, placed_in}
 use Rattle.node_ops.specs.declared.call.Call.{Call}
+use Rattle.node_ops.specs.declared.part.PartWords.{PartWords}
 use Rattle.node_ops.specs.declared.running.Running.{Running}
+use Rattle.node_ops.specs.declared.running.Running.TheVariants.{Parting}
 use Rattle.node_ops.specs.Asked.{IsOf, IsOfAfter, op_in, name_asked}
 use Rattle.node_ops.specs.Calls.{IsSame, at_node}
-use Rattle.node_ops.specs.RunningSteps.{running_call, running_left, running_turned, IsRunning, Sound}
+use Rattle.node_ops.specs.PartSteps.{IsEarly, early_of, part_turned, words_placed}
+use Rattle.node_ops.specs.RunningSteps.{running_call, running_left, running_turned, IsRunning, Sound, count_in, listed_in}
 use Rattle.node_ops.specs.CallStages.{stage_of, reply_of}
 use Rattle.node_ops.proofs.OpLaw.{counts_own_change, op_told}
+use Rattle.node_ops.proofs.PartListing.{listed_is_answered}
 use Rattle.index_law.specs.Worlds.{written}
 use Rattle.index_core.specs.declared.party.CoreCall.{CoreCall}
 use Rattle.index_core.specs.declared.party.CoreCall.TheVariants as call
 use Rattle.index_core.specs.declared.party.PartyState.{PartyState}
 use Rattle.index_core.specs.Answers.{HasOwnWrite, FoundNoRoom, SaysOf, IsAnswerOf}
 use Rattle.index_core.specs.CoreCalls.{machine_of, op_of, limit_of}
+use Rattle.index_core.specs.Listings.{ListsRange}
 use Rattle.index_core.specs.PartyStates.{state_after}
 use Rattle.index_core.specs.Indexes.{MakesCall}
 use Rattle.pac_index.specs.declared.rule.About.{About}
 use Rattle.pac_index.specs.declared.rule.Member.{Member}
 use Rattle.pac_index.specs.Kept.{placed_by, noted, Goes, view_in, machine_in, calling, added_now}
-use Rattle.pac_index.specs.Calls.{own_at, run_of, began, Runs, Answers, turn_left}
-use Rattle.index_core.specs.MachineLaws.{ReadyAfter, place_now, place_next}
+use Rattle.pac_index.specs.Calls.{own_at, run_of, began, Runs, Answers, part_in, PartAnswers, StepsOn, turn_left}
+use Rattle.index_core.specs.MachineLaws.{IsReady, ReadyAfter, place_now, place_next}
 use Rattle.index_core.proofs.MachineLaw.{first_ready, places_follow}
+use Rattle.index_core.proofs.Told.{is_early}
+use Rattle.pac_index.proofs.PartRuns.{run_more, run_counts, early_ran, listed_ran, early_placed, early_lists}
 use Rattle.pac_index.proofs.Lists.{begins_self, begins_trans}
 
 -- the writes of a call after a step
@@ -121,19 +130,6 @@ same_on : (first call : Call) (turn : Turn Running (Once Placed)) → IsSame fir
 same_on first call (Go m) one other = other ∙ ap (λ (k : Call). at_node k (running_call m).node (running_call m).hops) one
 same_on first call (Done answer) one other = tt
 
-gone : (n m : Running) → ◌≡◌ {A = Turn Running (Once Placed)} (Go n) (Go m) → n ≡ m
-gone n m e = cc
-
-run_none : (t : Turn Running (Once Placed)) → run_of t [] ≡ t
-run_none (Go m) = refl
-run_none (Done answer) = refl
-
--- one number more
-run_more : (t : Turn Running (Once Placed)) (told : List ℕ) (m : Running) (x : ℕ) → run_of t told ≡ Go m → run_of t (told ++ x ∷ []) ≡ running_turned m x
-run_more (Done answer) told m x is = absurd (cc)
-run_more (Go n) [] m x is = let same : n ≡ m = gone n m is in ap (λ (q : Running). run_of (running_turned q x) []) same ∙ run_none (running_turned m x)
-run_more (Go n) (y ∷ ys) m x is = run_more (running_turned n y) ys m x is
-
 -- a call goes on by one step
 pub runs_on : (c : CoreCall) (n : ℕ) (old v w : Member) (turn : Turn Running (Once Placed)) (m : Running) (x : ℕ) → Runs c n old turn v → turn ≡ Go m → Goes m v x w → Runs c n old (running_turned m x) w
 runs_on c n old v w turn m x runs is goes =
@@ -158,7 +154,7 @@ runs_on c n old v w turn m x runs is goes =
       later = runs.later;
       about = goes.about ∙ runs.about;
       state = goes.state ∙ ap (λ (e : PartyState). state_after e turn') state ∙ after_after (began c n old runs.since) m turn';
-      ran = ap (run_of (Go (machine_in old c))) goes.told ∙ run_more (Go (machine_in old c)) v.told m x (runs.ran ∙ is);
+      ran = ap (run_of running_turned (Go (machine_in old c))) goes.told ∙ run_more running_turned (Go (machine_in old c)) v.told m x (runs.ran ∙ is);
       taken = let was = runs.taken in let one = goes.taken in let long = ap length goes.told ∙ length-append v.told (x ∷ []) in omega arith;
       added = let was = runs.added ∙ ap (λ (t : Turn Running (Once Placed)). old.added + added_now op t) is in let now = goes.added ∙ ap (λ (o : NameOp). v.added + added_now o turn') same in omega arith;
       op = subst (λ (o : NameOp). IsOfAfter o turn') same (goes.op_on);
@@ -188,6 +184,58 @@ ends_so c n old v turn answer runs is =
       says = answer_by old.about.layout.slots (map_of old.about.base) v.seen (began c n old runs.since) (record old.state { index = n; since = length old.seen }) (op_of c) (limit_of c) answer refl refl runs.later
           (subst (λ (t : Turn Running (Once Placed)). SaysOf old.about.layout.slots (map_of old.about.base) v.seen (began c n old runs.since) (op_of c) (limit_of c) (reply_of t)) is runs.says);
     }
+
+-- a part that is done before it lists its names
+pub part_stops : (low : List ℕ) (count n : ℕ) (old v : Member) (turn : Turn Running (Once Placed)) (answer : Once Placed) → Runs (call.Part low count) n old turn v → turn ≡ Done answer → IsEarly answer → PartAnswers low count n old (early_of answer) v
+part_stops low count n old v turn answer runs is early = record {
+  looks = subst (λ (a : Once Placed). Answers (call.Part low count) n old a v) (sym (early_placed answer early)) (ends_so (call.Part low count) n old v turn answer runs is);
+  ran = early_ran (part_in old low count) v.told answer early (runs.ran ∙ is);
+  lists = early_lists (λ words. ListsRange (after (map_of old.about.base) v.seen words.place) low count words) answer early;
+}
+
+-- a part that gives its node back
+pub part_ends : (low : List ℕ) (count n : ℕ) (old v w : Member) (turn : Turn Running (Once Placed)) (m : Running) (x : ℕ) (words : PartWords) → Runs (call.Part low count) n old turn v → turn ≡ Go m → Goes m v x w → listed_in m ≡ Some words
+    → PartAnswers low count n old (once.Done words) w
+part_ends low count n old v w turn m x words runs is goes listed =
+    let c = call.Part low count in
+    let p = part_in old low count in
+    let counts : count_in m ≡ Some count = run_counts count (Go (Parting p)) v.told m refl (runs.ran ∙ is) in
+    let asked : op_in m ≡ op_of c = op_told (op_of c) m (subst (IsOfAfter (op_of c)) is runs.op) in
+    let now : IfSome (Some words) (λ words. IfSome (Some count) (λ count. ListsRange (after (map_of old.about.base) w.seen words.place) low count words)) =
+    subst (λ (q : About × NameOp × Option ℕ × Option PartWords). IfSome q.3 (λ words. IfSome q.2 (λ count. ListsRange (after (map_of q.0.base) w.seen words.place) (name_asked q.1) count words)))
+    (λ k. (runs.about k, asked k, counts k, listed k)) goes.lists in
+    record {
+      looks = ends_so c n old w (running_turned m x) (once.Done (words_placed words)) (runs_on c n old v w turn m x runs is goes) (listed_is_answered m words listed x);
+      ran = ap (run_of part_turned (Go p)) goes.told ∙ listed_ran p v.told m x words (runs.ran ∙ is) listed;
+      lists = now;
+    }
+
+-- what a part is answered before it has listed its names has no place
+pub stops_early : (m next : Running) (x : ℕ) (answer : Option (Once Placed)) → IsSome (count_in m) → listed_in m ≡ None → running_turned m x ≡ turn_of next answer → IfSome answer IsEarly
+stops_early m next x None counts none turned = tt
+stops_early m next x (Some answer) counts none turned = is_early m x answer turned counts none
+
+pub lists_none : (o : Option PartWords) → (IsSome o → ⊥) → o ≡ None
+lists_none None never = refl
+lists_none (Some words) never = absurd (never refl)
+
+pub runs_a_part : (low : List ℕ) (count n : ℕ) (old v : Member) (turn : Turn Running (Once Placed)) (m : Running) → Runs (call.Part low count) n old turn v → turn ≡ Go m → IsSome (count_in m)
+runs_a_part low count n old v turn m runs is = subst IsSome (sym (run_counts count (Go (Parting (part_in old low count))) v.told m refl (runs.ran ∙ is))) refl
+
+-- without an answer the machine goes on
+pub going : (machine : Running) (answer : Option (Once Placed)) → ((told : Once Placed) → answer ≡ Some told → ⊥) → turn_of machine answer ≡ Go machine
+going machine None none = refl
+going machine (Some told) none = absurd (none told refl)
+
+-- the party of a call in flight has its machine, which may name the place of its next action
+pub flies_on : (c : CoreCall) (n : ℕ) (old v : Member) (turn : Turn Running (Once Placed)) (m : Running) → Runs c n old turn v → turn ≡ Go m → v.state.machine ≡ Some m
+flies_on c n old v turn m runs is = ap (λ (e : PartyState). e.machine) (runs.state ∙ ap (state_after (began c n old runs.since)) is)
+
+pub ready_on : (c : CoreCall) (n : ℕ) (old v : Member) (turn : Turn Running (Once Placed)) (m : Running) (about : About) → Runs c n old turn v → turn ≡ Go m → old.about ≡ about → IsReady about.layout about.generation m
+ready_on c n old v turn m about runs is same = subst (λ (b : About). IsReady b.layout b.generation m) same (subst (ReadyAfter old.about.layout old.about.generation) is runs.ready)
+
+pub runs_stepped : (c : CoreCall) (n : ℕ) (old v w : Member) (turn : Turn Running (Once Placed)) (m next : Running) (answer : Option (Once Placed)) → Runs c n old turn v → turn ≡ Go m → StepsOn m v w next answer → Runs c n old (turn_of next answer) w
+runs_stepped c n old v w turn m next answer runs is on = subst (λ (u : Turn Running (Once Placed)). Runs c n old u w) on.turned (runs_on c n old v w turn m on.told runs is on.goes)
 
 pub lessens : (m : Running) (turn : Turn Running (Once Placed)) → GoesBelow running_left (running_left m) turn → turn_left turn < turn_left (Go m)
 lessens m (Go n) less = omega arith

@@ -1,40 +1,50 @@
 -- What a call of a caller is answered, and how far it is on the way.
-use Rattle.std.specs.Prelude.{◌≡◌, ℕ, suc, ◌+◌, ◌≤◌, List, [], ◌∷◌, ◌++◌, length, Option, Some, None}
+use Rattle.std.specs.Prelude.{◌≡◌, ℕ, suc, ◌+◌, ◌<◌, ◌≤◌, List, [], ◌∷◌, ◌++◌, length, Option, Some, None, IfSome}
 use Rattle.cat_history.specs.Maps.{map_of}
+use Rattle.cat_history.specs.Writes.{after}
 use Rattle.cat_history.specs.Records.{change_of}
 use Rattle.cat_history.specs.declared.op.Change.{Change}
 use Rattle.cat_history.specs.declared.op.Write.{Write}
 use Rattle.pm_words.specs.declared.machine.Turn.{Turn}
 use Rattle.pm_words.specs.declared.machine.Turn.TheVariants.{Go, Done}
+use Rattle.split_merge.specs.Advances.{AdvancesTo, turn_of}
 use Rattle.call_stages.specs.declared.once.Once.{Once}
 use Rattle.call_stages.specs.declared.once.Once.TheVariants as once
 use Rattle.call_stages.specs.declared.once.Placed.{Placed}
+use Rattle.node_ops.specs.declared.part.Part.{Part}
+use Rattle.node_ops.specs.declared.part.Part.TheVariants as part
+use Rattle.node_ops.specs.declared.part.PartWords.{PartWords}
 use Rattle.node_ops.specs.declared.running.Running.{Running}
 use Rattle.node_ops.specs.Asked.{IsOfAfter}
 use Rattle.node_ops.specs.CallStages.{reply_of}
+use Rattle.node_ops.specs.Calls.{new_call}
+use Rattle.node_ops.specs.LookupSteps.{starts}
+use Rattle.node_ops.specs.PartSteps.{part_turned, placed_of}
 use Rattle.node_ops.specs.RunningSteps.{running_call, running_left, running_turned}
 use Rattle.index_law.specs.Worlds.{written}
 use Rattle.index_core.specs.declared.party.CoreCall.{CoreCall}
+use Rattle.index_core.specs.declared.party.CoreCall.TheVariants as call
 use Rattle.index_core.specs.declared.party.PartyState.{PartyState}
 use Rattle.index_core.specs.Answers.{IsAnswerOf, SaysOf}
 use Rattle.index_core.specs.CoreCalls.{op_of, limit_of}
-use Rattle.index_core.specs.PartyStates.{state_with, state_after, next_index}
+use Rattle.index_core.specs.Listings.{ListsRange}
+use Rattle.index_core.specs.PartyStates.{state_with, state_after, next_index, words_told}
 use Rattle.index_core.specs.Indexes.{MakesCall}
 use Rattle.index_core.specs.MachineLaws.{ReadyAfter, place_told, place_now}
 use Rattle.pac_index.specs.declared.tried.Tried.{Tried}
 use Rattle.pac_index.specs.declared.tried.Tried.TheVariants as tried
 use Rattle.pac_index.specs.declared.caller.Caller.{Caller}
 use Rattle.pac_index.specs.declared.rule.Member.{Member}
-use Rattle.pac_index.specs.Kept.{Begins, placed_by, noted, machine_in, added_now}
+use Rattle.pac_index.specs.Kept.{Begins, placed_by, noted, view_in, machine_in, added_now, Goes}
 use Rattle.index_core.specs.Weights.{added_by}
 
 -- The try was answered, so that its caller wasn't cut, and this holds of the answer.
-abbrev pub IsAnswered : Tried Placed → (Once Placed → Type 0) → Type 0
+abbrev pub IsAnswered : {T : Type 0} → Tried T → (Once T → Type 0) → Type 0
 IsAnswered (tried.Answered answer) holds = holds answer
 IsAnswered tried.Cut holds = ⊥
 
 -- The index of a caller's next call: one that is made again uses up none.
-abbrev pub counted_index : ℕ → Once Placed → ℕ
+abbrev pub counted_index : {T : Type 0} → ℕ → Once T → ℕ
 counted_index index (once.Again why) = index
 counted_index index (once.Worn node word) = index
 counted_index index _ = next_index index
@@ -49,11 +59,11 @@ abbrev pub own_of : Caller → CoreCall → Once Placed → List (ℕ × Write)
 own_of caller call answer =
     own_at caller.number caller.index (change_of (op_of call)) (place_told (change_of (op_of call)) answer)
 
--- What a call comes to that is told these numbers one after another.
-abbrev pub run_of : Turn Running (Once Placed) → List ℕ → Turn Running (Once Placed)
-run_of (Done answer) told = Done answer
-run_of (Go m) [] = Go m
-run_of (Go m) (x ∷ xs) = run_of (running_turned m x) xs
+-- What a machine comes to that is told these numbers one after another.
+abbrev pub run_of : {M A : Type 0} → (M → ℕ → Turn M A) → Turn M A → List ℕ → Turn M A
+run_of turned (Done answer) told = Done answer
+run_of turned (Go m) [] = Go m
+run_of turned (Go m) (x ∷ xs) = run_of turned (turned m x) xs
 
 -- What a call of a caller is answered: what its machine ends with on the numbers that its steps on the table gave, of
 -- which the caller's count of steps tells how many there were. It has seen a longer history, in which of its own writes
@@ -63,7 +73,7 @@ pub record Answers (call : CoreCall) (index : ℕ) (old : Member) (answer : Once
   pub about : new.about ≡ old.about
   pub idle : new.state.machine ≡ None
   pub caller : new.state.caller ≡ old.state.caller
-  pub ran : run_of (Go (machine_in old call)) new.told ≡ Done answer
+  pub ran : run_of running_turned (Go (machine_in old call)) new.told ≡ Done answer
   pub taken : new.taken ≡ old.taken + length new.told
   pub added : new.added ≡ old.added + added_by (op_of call) answer
   pub seen : Begins old.seen new.seen
@@ -73,6 +83,19 @@ pub record Answers (call : CoreCall) (index : ℕ) (old : Member) (answer : Once
     index = index;
     since = length old.seen;
   }) (op_of call) (limit_of call) answer
+
+-- The machine of a part of a range scan, before its first action.
+abbrev pub part_in : Member → List ℕ → ℕ → Part
+part_in v low count = part.Looking (starts (new_call (view_in v) low None)) count None
+
+-- What a part of a range scan is answered: as a call that looks its low name up, what its own machine ends with, and
+-- what it lists is the map's on the longer history, at its place.
+pub record PartAnswers (low : List ℕ) (count index : ℕ) (old : Member) (answer : Once PartWords) (new : Member) :
+    Type 0 where
+  pub looks : Answers (call.Part low count) index old (placed_of answer) new
+  pub ran : run_of part_turned (Go (part_in old low count)) new.told ≡ Done answer
+  pub lists : IfSome (words_told answer)
+      (λ words. ListsRange (after (map_of old.about.base) new.seen words.place) low count words)
 
 -- The state as the call began.
 abbrev pub began : CoreCall → ℕ → Member → ℕ → PartyState
@@ -85,7 +108,7 @@ pub record Runs (call : CoreCall) (index : ℕ) (old : Member) (turn : Turn Runn
   pub later : length old.seen ≤ since
   pub about : new.about ≡ old.about
   pub state : new.state ≡ state_after (began call index old since) turn
-  pub ran : run_of (Go (machine_in old call)) new.told ≡ turn
+  pub ran : run_of running_turned (Go (machine_in old call)) new.told ≡ turn
   pub taken : new.taken ≡ old.taken + length new.told
   pub added : new.added ≡ old.added + added_now (op_of call) turn
   pub op : IsOfAfter (op_of call) turn
@@ -100,3 +123,14 @@ pub record Runs (call : CoreCall) (index : ℕ) (old : Member) (turn : Turn Runn
 abbrev pub turn_left : Turn Running (Once Placed) → ℕ
 turn_left (Go machine) = suc (running_left machine)
 turn_left (Done answer) = 0
+
+-- A machine is told a number, which leaves it so, or it was answered.
+abbrev pub FirstTurn : Running → Running → Option (Once Placed) → Type 0
+FirstTurn m next answer = (told : ℕ) × AdvancesTo (running_turned m told) next answer
+
+-- A step of the call in flight leaves its machine so, or it was answered.
+pub record StepsOn (m : Running) (v w : Member) (next : Running) (answer : Option (Once Placed)) : Type 0 where
+  pub told : ℕ
+  pub goes : Goes m v told w
+  pub turned : AdvancesTo (running_turned m told) next answer
+  pub fewer : turn_left (turn_of next answer) < turn_left (Go m)

@@ -1,9 +1,10 @@
 -- What the table keeps, and what one step tells.
 use Rattle.std.specs.Prelude.{◌≡◌, ℕ, ◌+◌, ◌<◌, ◌≤◌, ◌^◌, ◌==◌, Bool, true, false, if◌then◌else◌, List, [], ◌∷◌, ◌++◌}
-use Rattle.std.specs.Prelude.{length, map, Some, None}
+use Rattle.std.specs.Prelude.{length, map, Some, None, IfSome}
 use mathlib.Core.Option.{some}
 use lib.ListN.{get_elem?}
-use Rattle.cat_history.specs.Maps.{map_of}
+use Rattle.cat_history.specs.Maps.{Map, map_of}
+use Rattle.cat_history.specs.Writes.{after}
 use Rattle.cat_history.specs.declared.op.Write.{Write}
 use Rattle.pm_words.specs.declared.action.Action.{Action}
 use Rattle.pm_words.specs.Rows.{given, action_address, word_after, CanChange}
@@ -14,13 +15,14 @@ use Rattle.call_stages.specs.declared.once.Once.{Once}
 use Rattle.call_stages.specs.declared.once.Placed.{Placed}
 use Rattle.call_stages.specs.declared.view.View.{View}
 use Rattle.node_ops.specs.declared.running.Running.{Running}
-use Rattle.node_ops.specs.Asked.{IsOfAfter, op_in}
-use Rattle.node_ops.specs.RunningSteps.{running_asks, running_turned, running_takes, running_call}
+use Rattle.node_ops.specs.Asked.{IsOfAfter, op_in, name_asked}
+use Rattle.node_ops.specs.RunningSteps.{running_asks, running_turned, running_takes, running_call, count_in, listed_in}
 use Rattle.node_ops.specs.CallStages.{stage_of, reply_of}
 use Rattle.index_law.specs.Worlds.{written}
 use Rattle.index_core.specs.declared.party.PartyState.{PartyState}
 use Rattle.index_core.specs.declared.party.CoreCall.{CoreCall}
 use Rattle.index_core.specs.Answers.{SaysOf}
+use Rattle.index_core.specs.Listings.{ListsRange}
 use Rattle.index_core.specs.CoreCalls.{machine_of}
 use Rattle.index_core.specs.PartyStates.{idle_states, state_with, state_after}
 use Rattle.index_core.specs.Indexes.{Index, IsIndex, MakesCall, world, parties_of}
@@ -161,6 +163,11 @@ abbrev pub added_now : NameOp → Turn Running (Once Placed) → ℕ
 added_now op (Go m) = 0
 added_now op (Done answer) = added_by op answer
 
+-- What the machine lists that gives its node back now, if it is a part of a range scan, is the map's at its place.
+abbrev pub ListsNow : Map → List Write → Running → Type 0
+ListsNow base history m = IfSome (listed_in m) (λ words. IfSome (count_in m) (λ count.
+    ListsRange (after base history words.place) (name_asked (op_in m)) count words))
+
 -- What a party's step with its machine, which is told this number, leaves and shows.
 pub record Goes (m : Running) (v : Member) (x : ℕ) (w : Member) : Type 0 where
   pub takes : running_takes m x
@@ -175,6 +182,7 @@ pub record Goes (m : Running) (v : Member) (x : ℕ) (w : Member) : Type 0 where
       (written v.state.caller v.state.index (counted (stage_of m)))
   pub says : SaysOf v.about.layout.slots (map_of v.about.base) w.seen v.state (op_in m) (running_call m).limit
       (reply_of (running_turned m x))
+  pub lists : ListsNow (map_of v.about.base) w.seen m
   -- it goes on with the same call
   pub op_on : IsOfAfter (op_in m) (running_turned m x)
   pub call_on : MakesCall (running_call m) (running_turned m x)

@@ -2,3 +2,4 @@ pub mod Kept
 pub mod Calls
 pub mod Callers
 pub mod Stamps
+pub mod Ends

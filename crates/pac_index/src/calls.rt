@@ -4,7 +4,7 @@ ghost use Rattle.cat_history.specs.Records.{change_of};
 ghost use Rattle.index_core.specs.CoreCalls.{MayBegin, op_of, most_writes};
 ghost use Rattle.index_core.specs.declared.party.CoreCall.TheVariants as call;
 ghost use Rattle.index_core.specs.MachineLaws.{place_told};
-ghost use Rattle.pac_index.specs.Calls.{Answers, IsAnswered, own_at, own_of, counted_index};
+ghost use Rattle.pac_index.specs.Calls.{Answers, PartAnswers, IsAnswered, own_at, own_of, counted_index};
 ghost use Rattle.pac_index.specs.Callers.{IsCallerOf, spare_of, seen_by, pairs};
 
 use crate::caller::{Caller, PlacedWrite};
@@ -15,6 +15,7 @@ use call_stages::{Once, Placed};
 use cat_history::{Change, Write};
 use cat_key::Name;
 use index_core::CoreCall;
+use node_ops::PartWords;
 use pm_words::NoMemory;
 use std::marker::Brand;
 
@@ -78,7 +79,23 @@ impl Shared {
         self.try_call(caller, CoreCall::Del { name, limit }, &OpenGate)
     }
 
-    /// One try of a call, with the gate before its first step and between its steps.
+    /// One try of a part of a range scan by one of the callers before the last: it lists the first `count` names from
+    /// the low one on, of those that the low one's node has, with their numbers as the map has them at a place of the
+    /// part's time, and tells where they end.
+    pub fn part_once(&self, caller: &mut Caller, low: &Name, count: u64) -> Tried<PartWords>
+        requires caller { IsCallerOf self.now caller.old }
+        requires worker { caller.old.number < self.now.about.layout.callers }
+        ensures caller { IsCallerOf self.now caller.new }
+        ensures number { caller.new.number ≡ caller.old.number }
+        ensures index { IsAnswered result (λ answer. caller.new.index ≡ counted_index caller.old.index answer) }
+        ensures answered { IsAnswered result (λ answer. PartAnswers low.now count caller.old.index
+            (seen_by caller.old) answer (seen_by caller.new)) }
+        ensures spare { spare_of caller.old ≤ spare_of caller.new }
+    {
+        self.try_part(caller, *low, count, &OpenGate)
+    }
+
+    /// One try of a call on one name, with the gate before its first step and between its steps.
     pub(crate) fn try_call<G: Gate>(
         &self,
         caller: &mut Caller,
@@ -106,6 +123,35 @@ impl Shared {
             gate,
         );
         caller.keep(change, answer);
+        Tried::Answered(answer)
+    }
+
+    /// One try of a part of a range scan, with the gate in the same way.
+    pub(crate) fn try_part<G: Gate>(
+        &self,
+        caller: &mut Caller,
+        low: Name,
+        count: u64,
+        gate: &G,
+    ) -> Tried<PartWords>
+        requires caller { IsCallerOf self.now caller.old }
+        requires worker { caller.old.number < self.now.about.layout.callers }
+        ensures caller { IsCallerOf self.now caller.new }
+        ensures number { caller.new.number ≡ caller.old.number }
+        ensures index { IsAnswered result (λ answer. caller.new.index ≡ counted_index caller.old.index answer) }
+        ensures answered { IsAnswered result (λ answer. PartAnswers low count caller.old.index (seen_by caller.old)
+            answer (seen_by caller.new)) }
+        ensures spare { spare_of caller.old ≤ spare_of caller.new }
+    {
+        let answer = self.run_part::<Brand, G>(
+            &mut caller.seat,
+            caller.number,
+            caller.index,
+            low,
+            count,
+            gate,
+        );
+        caller.index = index_after(caller.index, &answer);
         Tried::Answered(answer)
     }
 }
@@ -162,7 +208,7 @@ impl Caller {
                 unreachable!()
             };
         }
-        self.index = index_after(self.index, answer);
+        self.index = index_after(self.index, &answer);
     }
 }
 
@@ -179,8 +225,8 @@ fn change_of(call: &CoreCall) -> Option<Change>
 }
 
 /// The index of the next call: one that is turned back uses up none, nor one that finds the node worn.
-fn index_after(index: u64, answer: Once<Placed>) -> u64
-    ensures { result ≡ counted_index index answer }
+fn index_after<T>(index: u64, answer: &Once<T>) -> u64
+    ensures { result ≡ counted_index index answer.now }
 {
     match answer {
         Once::Again(_) | Once::Worn { .. } => index,

@@ -9,15 +9,18 @@
 
 mod caller;
 mod calls;
+mod ended;
 mod gate;
 mod making;
 mod meeting;
+mod repeats;
 mod rule;
 mod shared;
 mod stamps;
 mod tried;
 
 pub use caller::{Caller, PlacedWrite};
+pub use ended::Ended;
 pub use gate::Gate;
 pub use rule::{
     About, BeginsCall, ByOutcome, FirstStep, JoinAll, Member, Members, NextStep, Outcome, Ruled,

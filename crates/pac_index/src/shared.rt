@@ -1,16 +1,24 @@
-ghost use Rattle.std.specs.Prelude.{◌≡◌, ◌<◌, ◌^◌, None};
+ghost use Rattle.std.specs.Prelude.{◌≡◌, ◌<◌, ◌^◌, None, Some, IsSome};
 ghost use Rattle.pm_words.specs.Layouts.{IsLayout};
 ghost use Rattle.pm_words.specs.Locations.{row_words};
 ghost use Rattle.version_lock.specs.declared.TheConstants.{GENERATION_LIMIT};
-ghost use Rattle.index_core.specs.CoreCalls.{MayBegin};
-ghost use Rattle.pac_index.specs.Kept.{May, WasTold, IsLone, party};
-ghost use Rattle.pac_index.specs.Calls.{Answers};
+ghost use Rattle.split_merge.specs.Advances.{turn_of};
+ghost use Rattle.call_stages.specs.Views.{IsView};
+ghost use Rattle.node_ops.specs.Asked.{IsOf};
+ghost use Rattle.node_ops.specs.RunningSteps.{IsRunning, listed_in};
+ghost use Rattle.index_core.specs.declared.party.CoreCall.TheVariants as call;
+ghost use Rattle.index_core.specs.CoreCalls.{MayBegin, op_of};
+ghost use Rattle.index_core.specs.MachineLaws.{IsReady};
+ghost use Rattle.pac_index.specs.Kept.{May, WasTold, IsLone, party, machine_in};
+ghost use Rattle.pac_index.specs.Calls.{Answers, PartAnswers, Runs, FirstTurn, StepsOn};
 
 use crate::gate::Gate;
 use crate::rule::{About, BeginsCall, ByOutcome, FirstStep, Members, NextStep, Outcome, Ruled};
 use atomic_table::{Seat, Table};
 use call_stages::{Once, Placed, View};
+use cat_key::Name;
 use index_core::CoreCall;
+use node_ops::{Part, PartWords, Running};
 use pm_words::{Action, Layout, Machine};
 use std::alloc::Global;
 
@@ -63,7 +71,7 @@ impl Shared {
         }
     }
 
-    /// One call of the seat's party, from its first step to its answer, with the gate before each step.
+    /// One call on one name by the seat's party, from its first step to its answer, with the gate before each step.
     pub(crate) fn run<C: BeginsCall, G: Gate>(
         &self,
         seat: &mut Seat<(), Members>,
@@ -83,24 +91,132 @@ impl Shared {
         ensures lone { IsLone seat.new.me }
         ensures answered { Answers call index (party seat.old.me) result (party seat.new.me) }
     {
-        let mut machine = call.machine(View {
-            layout: self.about.layout,
-            generation: self.about.generation,
-            caller: number,
-        });
-        gate.before(number, index);
-        gate.within(number, 0);
-        let got = self.act::<FirstStep<C>>(seat, machine.action());
-        let mut answer = machine.advance(got);
+        let mut machine = call.machine(self.view(number));
+        let mut answer = self.begin::<C, G>(seat, &mut machine, number, index, gate);
         let mut step = 0u64;
         'steps: loop {
             if let Some(answer) = answer {
                 return answer;
             }
             step = step.saturating_add(1);
-            gate.within(number, step);
-            let got = self.act::<NextStep>(seat, machine.action());
-            answer = machine.advance(got);
+            answer = self.go_on(seat, &mut machine, number, step, gate);
         }
     }
+
+    /// One part of a range scan by the seat's party, in the same way. What it lists takes some 2 KB, so it has a function
+    /// of its own, and a call on one name clears no such room.
+    pub(crate) fn run_part<C: BeginsCall, G: Gate>(
+        &self,
+        seat: &mut Seat<(), Members>,
+        number: u64,
+        index: u64,
+        low: Name,
+        count: u64,
+        gate: &G,
+    ) -> Once<PartWords>
+        requires table { seat.old.table_id ≡ self.now.table.shared.table_id }
+        requires chosen { (call.Part low count ≡ C.call) × (index ≡ C.index) }
+        requires lone { IsLone seat.old.me }
+        requires about { (party seat.old.me).about ≡ self.now.about }
+        requires idle { (party seat.old.me).state.machine ≡ None }
+        requires number { ((party seat.old.me).state.caller ≡ number) × (number < self.now.about.layout.callers) }
+        ensures seat { (seat.new.table_id ≡ seat.old.table_id) × (seat.new.id ≡ seat.old.id) }
+        ensures lone { IsLone seat.new.me }
+        ensures answered { PartAnswers low count index (party seat.old.me) result (party seat.new.me) }
+    {
+        let call = CoreCall::Part { low, count };
+        let mut machine = call.machine(self.view(number));
+        let mut answer = self.begin::<C, G>(seat, &mut machine, number, index, gate);
+        let mut step = 0u64;
+        'steps: loop {
+            if let Some(answer) = answer {
+                return Part::early(answer);
+            }
+            step = step.saturating_add(1);
+            if machine.has_listed() {
+                let words = listing(&machine);
+                self.go_on(seat, &mut machine, number, step, gate);
+                return Once::Done(words);
+            }
+            answer = self.go_on(seat, &mut machine, number, step, gate);
+        }
+    }
+
+    /// How the calls of this caller see the index.
+    fn view(&self, number: u64) -> View
+        requires { number < self.now.about.layout.callers }
+        ensures view { result ≡ record {
+          layout = self.now.about.layout;
+          generation = self.now.about.generation;
+          caller = number;
+        } }
+        ensures valid { IsView result }
+    {
+        View {
+            layout: self.about.layout,
+            generation: self.about.generation,
+            caller: number,
+        }
+    }
+
+    /// The first step of a call, with the gate before it.
+    fn begin<C: BeginsCall, G: Gate>(
+        &self,
+        seat: &mut Seat<(), Members>,
+        machine: &mut Running,
+        number: u64,
+        index: u64,
+        gate: &G,
+    ) -> Option<Once<Placed>>
+        requires table { seat.old.table_id ≡ self.now.table.shared.table_id }
+        requires lone { IsLone seat.old.me }
+        requires about { (party seat.old.me).about ≡ self.now.about }
+        requires idle { (party seat.old.me).state.machine ≡ None }
+        requires machine { machine.old ≡ machine_in (party seat.old.me) C.call }
+        requires sound { IsRunning machine.old }
+        requires op { IsOf (op_of C.call) machine.old }
+        ensures seat { (seat.new.table_id ≡ seat.old.table_id) × (seat.new.id ≡ seat.old.id) }
+        ensures lone { IsLone seat.new.me }
+        ensures runs { Runs C.call C.index (party seat.old.me) (turn_of machine.new result) (party seat.new.me) }
+        ensures turned { FirstTurn machine.old machine.new result }
+    {
+        gate.before(number, index);
+        gate.within(number, 0);
+        let got = self.act::<FirstStep<C>>(seat, machine.action());
+        machine.advance(got)
+    }
+
+    /// The next step of the call in flight, with the gate before it.
+    fn go_on<G: Gate>(
+        &self,
+        seat: &mut Seat<(), Members>,
+        machine: &mut Running,
+        number: u64,
+        step: u64,
+        gate: &G,
+    ) -> Option<Once<Placed>>
+        requires table { seat.old.table_id ≡ self.now.table.shared.table_id }
+        requires lone { IsLone seat.old.me }
+        requires flies { (party seat.old.me).state.machine ≡ Some machine.old }
+        requires ready { IsReady self.now.about.layout self.now.about.generation machine.old }
+        ensures seat { (seat.new.table_id ≡ seat.old.table_id) × (seat.new.id ≡ seat.old.id) }
+        ensures lone { IsLone seat.new.me }
+        ensures steps { StepsOn machine.old (party seat.old.me) (party seat.new.me) machine.new result }
+    {
+        gate.within(number, step);
+        let got = self.act::<NextStep>(seat, machine.action());
+        machine.advance(got)
+    }
+}
+
+/// What a part lists that gives its node back next.
+fn listing(machine: &Running) -> PartWords
+    requires sound { IsRunning machine.now }
+    requires listed { IsSome (listed_in machine.now) }
+    ensures { listed_in machine.now ≡ Some result }
+{
+    let Some(words) = machine.listed() else {
+        unreachable!()
+    };
+    words
 }

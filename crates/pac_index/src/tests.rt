@@ -19,6 +19,8 @@ use std::thread::{Threads, join, yield_now};
 
 mod alone;
 mod gates;
+mod held;
+mod parts;
 
 /// No history here is as long.
 const LIMIT: u64 = 1 << 62;

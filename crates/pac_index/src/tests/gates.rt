@@ -67,8 +67,18 @@ impl Gate for Counts {
     }
 }
 
+/// Waits for the flag, for so many turns at most.
+pub(super) fn wait_for(flag: &AtomicBool) {
+    for _ in 0..TURNS {
+        if flag.load(Ordering::SeqCst) {
+            return;
+        }
+        yield_now();
+    }
+}
+
 /// A put under the gate, whose answer doesn't matter.
-fn puts<G: Gate>(shared: &Shared, caller: Caller, name: Name, gate: &G) -> Caller
+pub(super) fn puts<G: Gate>(shared: &Shared, caller: Caller, name: Name, gate: &G) -> Caller
     requires { IsCallerOf shared.now caller × (caller.number < shared.now.about.layout.callers) }
     ensures { IsCallerOf shared.now result × (result.number ≡ caller.number) }
 {

@@ -1,0 +1,40 @@
+use Rattle.std.proofs.Common.{sym, ap, ◌∙◌, subst}
+use Rattle.std.specs.Prelude.{IsSome, Option, IfSome}
+use Rattle.split_merge.specs.Advances.{turn_of}
+use Rattle.call_stages.specs.declared.once.Once.{Once}
+use Rattle.call_stages.specs.declared.once.Placed.{Placed}
+use Rattle.node_ops.specs.declared.part.PartWords.{PartWords}
+use Rattle.node_ops.specs.PartSteps.{IsEarly}
+use Rattle.node_ops.specs.RunningSteps.{listed_in}
+use Rattle.index_core.specs.declared.party.CoreCall.TheVariants as call
+use Rattle.pac_index.specs.Kept.{party}
+use Rattle.pac_index.specs.Calls.{PartAnswers}
+use Rattle.pac_index.proofs.Running.{going, lists_none, part_ends, part_stops, runs_a_part, runs_stepped, stops_early}
+use Rattle.pac_index.proofs.shared.Shared.run_part.Goals as goal
+
+pub returns-in-Some-clause-answered : goal.returns-in-Some-clause-answered
+returns-in-Some-clause-answered g c =
+    let old = party c.args.seat.now.me in
+    let early = subst (λ (o : Option (Once Placed)). IfSome o IsEarly) c.in-Some.is c.steps.invariant.3 in
+    subst (λ (r : Once PartWords). PartAnswers c.args.low c.args.count c.args.index old r (party c.steps.seat.me)) (sym c.early.ensures)
+    (part_stops c.args.low c.args.count c.args.index old (party c.steps.seat.me) (turn_of c.steps.machine c.steps.answer) c.in-Some.answer c.steps.invariant.2 (ap (turn_of c.steps.machine) c.in-Some.is) early)
+
+pub returns-then-has_listed-clause-answered : goal.returns-then-has_listed-clause-answered
+returns-then-has_listed-clause-answered g c =
+    let goes = going c.steps.machine c.steps.answer c.in_default.not-Some in
+    let on = c.go_on.ensures.steps in
+    part_ends c.args.low c.args.count c.args.index (party c.args.seat.now.me) (party c.steps.seat.me) (party c.go_on.new.seat.me) (turn_of c.steps.machine c.steps.answer) c.steps.machine on.told c.listing-words.result c.steps.invariant.2 goes on.goes c.listing-words.ensures
+
+pub steps-preserved : goal.steps-preserved
+steps-preserved g c =
+    let old = party c.args.seat.now.me in
+    let m = c.steps.machine in
+    let runs = c.steps.invariant.2 in
+    let goes = going m c.steps.answer c.in_default.not-Some in
+    let on = c.go_on-answer.ensures in
+    let none = lists_none (listed_in m) (λ (some : IsSome (listed_in m)). let yes = c.has_listed.ensures.1 some in let no = c.if-has_listed.false in cc) in (
+      (on.seat.0 ∙ c.steps.invariant.0.0, on.seat.1 ∙ c.steps.invariant.0.1),
+      on.lone,
+      runs_stepped (call.Part c.args.low c.args.count) c.args.index old (party c.steps.seat.me) (party c.go_on-answer.new.seat.me) _ m c.go_on-answer.new.machine c.go_on-answer.result runs goes on.steps,
+      stops_early m c.go_on-answer.new.machine on.steps.told c.go_on-answer.result (runs_a_part c.args.low c.args.count c.args.index old (party c.steps.seat.me) _ m runs goes) none on.steps.turned,
+    )

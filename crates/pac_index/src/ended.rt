@@ -1,0 +1,33 @@
+//! What a call comes to that is made again until it is answered.
+
+use crate::tried::Tried;
+use call_stages::Once;
+
+/// What a call comes to that is made again while it is turned back.
+#[derive(Clone, Copy, PartialEq, Eq, Debug)]
+pub enum Ended<T> {
+    Done(T),
+    /// A put found no room. No call that is there yet ends so.
+    Full,
+    /// The clock had reached the call's limit. No call that is there yet has one.
+    Spent { clock: u64 },
+    /// The caller had no step left. No caller has a bound on its steps yet, so no call ends so.
+    Cut,
+}
+
+impl<T> Tried<T> {
+    ghost use Rattle.std.specs.Prelude.{◌≡◌};
+    ghost use Rattle.pac_index.specs.Ends.{ended_by};
+
+    /// How a call ends that is so answered. One that is turned back, or finds its node worn, is made again.
+    pub(crate) fn ended(self) -> Option<Ended<T>>
+        ensures { result ≡ ended_by self }
+    {
+        match self {
+            Tried::Answered(Once::Done(value)) => Some(Ended::Done(value)),
+            Tried::Answered(Once::Spent { clock }) => Some(Ended::Spent { clock }),
+            Tried::Answered(Once::Worn { .. } | Once::Again(_)) => None,
+            Tried::Cut => Some(Ended::Cut),
+        }
+    }
+}

@@ -1,0 +1,67 @@
+//! Calls that are made again until they take place, which may wait for a node that another caller holds.
+
+ghost use Rattle.std.specs.Prelude.{◌≡◌, ◌≤◌, ◌<◌};
+ghost use Rattle.call_stages.specs.declared.once.Once.TheVariants as once;
+ghost use Rattle.index_core.specs.declared.party.CoreCall.TheVariants as call;
+ghost use Rattle.index_core.specs.PartyStates.{next_index};
+ghost use Rattle.pac_index.specs.Calls.{Answers, PartAnswers};
+ghost use Rattle.pac_index.specs.Callers.{IsCallerOf, spare_of, seen_by};
+ghost use Rattle.pac_index.specs.Ends.{AtLast, IsDone};
+
+use crate::caller::Caller;
+use crate::ended::Ended;
+use crate::shared::Shared;
+use call_stages::Placed;
+use cat_key::Name;
+use node_ops::PartWords;
+use std::sync::Wait;
+use std::thread::yield_now;
+
+impl Shared {
+    /// A get by one of the callers before the last, which is the updater's. It is tried again while it is turned back
+    /// or finds its node worn, so it may wait for as long as another caller holds the node.
+    pub fn get<R: Wait>(&self, rt: &R, caller: &mut Caller, name: &Name) -> Ended<Placed>
+        requires caller { IsCallerOf self.now caller.old }
+        requires worker { caller.old.number < self.now.about.layout.callers }
+        ensures caller { IsCallerOf self.now caller.new }
+        ensures number { caller.new.number ≡ caller.old.number }
+        ensures index { caller.new.index ≡ next_index caller.old.index }
+        ensures done { IsDone result (λ placed. AtLast (λ before after. Answers (call.Get name.now) caller.old.index
+            before (once.Done placed) after) (seen_by caller.old) (seen_by caller.new)) }
+        ensures spare { spare_of caller.old ≤ spare_of caller.new }
+    {
+        for _ in rt.forever() {
+            if let Some(ended) = self.get_once(caller, name).ended() {
+                return ended;
+            }
+            yield_now();
+        }
+        unreachable!()
+    }
+
+    /// A part of a range scan by one of the callers before the last, in the same way.
+    pub fn part<R: Wait>(
+        &self,
+        rt: &R,
+        caller: &mut Caller,
+        low: &Name,
+        count: u64,
+    ) -> Ended<PartWords>
+        requires caller { IsCallerOf self.now caller.old }
+        requires worker { caller.old.number < self.now.about.layout.callers }
+        ensures caller { IsCallerOf self.now caller.new }
+        ensures number { caller.new.number ≡ caller.old.number }
+        ensures index { caller.new.index ≡ next_index caller.old.index }
+        ensures done { IsDone result (λ words. AtLast (λ before after. PartAnswers low.now count caller.old.index
+            before (once.Done words) after) (seen_by caller.old) (seen_by caller.new)) }
+        ensures spare { spare_of caller.old ≤ spare_of caller.new }
+    {
+        for _ in rt.forever() {
+            if let Some(ended) = self.part_once(caller, low, count).ended() {
+                return ended;
+            }
+            yield_now();
+        }
+        unreachable!()
+    }
+}
