@@ -8,3 +8,5 @@ pub mod ReportCalls
 pub mod ScanSteps
 pub mod ScriptCalls
 pub mod Summing
+pub mod ImageFaults
+pub mod WordLists

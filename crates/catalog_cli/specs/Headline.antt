@@ -22,12 +22,16 @@ use Rattle.cat_script.specs.declared.script.Script.{Script}
 use Rattle.cat_text.specs.ReportGrammar.{IsReportText}
 use Rattle.cat_text.specs.Summaries.{summary_line}
 use Rattle.cat_text.specs.declared.report.RoundReport.{RoundReport}
+use Rattle.cat_text.specs.Shelves.{FileMap, KeepsFiles}
+use Rattle.pm_words.specs.Bytes.{HasNoFault, words_in}
 use Rattle.pm_words.specs.declared.layout.Layout.{Layout}
 use Rattle.shapes.specs.Anchors.{Anchors}
 use Rattle.shapes.specs.ShapeRounds.{anchors_end, puts_added, FullIsPaid}
 use Rattle.catalog_cli.specs.Built.{unbuilt_command, first_unbuilt, IsCommandWord}
+use Rattle.catalog_cli.specs.Files.{CanBeDone, FormatsSome, Formats, HasBytes, HasNoFile, IsFileCause, LeavesFiles, LeavesOldOrNew, ListsWords, NamesFile, file_of, formatted_line, lines_told}
 use Rattle.catalog_cli.specs.Rounds.{IsPlayedRound, most_end}
 use Rattle.catalog_cli.specs.Summaries.{full_in, summary_of}
+use Rattle.catalog_cli.specs.declared.status.ImageRefusal.{ImageRefusal}
 use Rattle.catalog_cli.specs.declared.status.Verb.{Verb}
 use Rattle.catalog_cli.specs.declared.status.Status.{Status}
 use Rattle.catalog_cli.specs.declared.status.Status.TheVariants as status
@@ -73,7 +77,9 @@ IsRefusedBy callers bytes status.Usage = ⊥
 IsRefusedBy callers bytes (status.Script fault) = HasFault callers bytes fault
 IsRefusedBy callers bytes status.Read = ⊥
 IsRefusedBy callers bytes status.Write = ⊥
+IsRefusedBy callers bytes status.Shelf = ⊥
 IsRefusedBy callers bytes status.NoMemory = ⊥
+IsRefusedBy callers bytes (status.Image refusal) = ⊥
 IsRefusedBy callers bytes (status.NotBuilt verb) = IsUnbuiltScript callers bytes verb
 
 -- ---- reports
@@ -142,38 +148,77 @@ pub record IsSummaryOf (seed count : ℕ) (text : List ℕ) : Type 0 where
 abbrev pub AreBytesLeft : Option (List ℕ) → List ℕ → Type 0
 AreBytesLeft left bytes = IfSome left (λ told. told ≡ bytes)
 
--- The text that a command prints: the report of the script that the source had left, or the summary of a generated
--- round.
-pub data Prints (words : List (List ℕ)) (left : Option (List ℕ)) (text : List ℕ) : Type 0 where
-  reports : (layout : Layout) (bytes : List ℕ) → ReadsScript words layout → AreBytesLeft left bytes →
-      IsReportOf layout bytes text → Prints words left text
-  sums_up : (seed count : ℕ) → Generates words seed count → IsSummaryOf seed count text → Prints words left text
+-- What is told of source and shelf: the bytes that the source had left, the files that there were, and how many calls of
+-- each had failed before the run and after it.
+pub record Seen : Type 0 where
+  pub left : Option (List ℕ)
+  pub files : Option FileMap
+  pub reads : ℕ
+  pub reads' : ℕ
+  pub shelves : ℕ
+  pub shelves' : ℕ
+
+abbrev pub seen : Option (List ℕ) → Option FileMap → (reads reads' shelves shelves' : ℕ) → Seen
+seen left files reads reads' shelves shelves' = record {
+  left = left;
+  files = files;
+  reads = reads;
+  reads' = reads';
+  shelves = shelves;
+  shelves' = shelves';
+}
+
+-- The text that a command prints: the report of the script that the source had left, the summary of a generated round,
+-- the line of a fresh image, or those of words of the file that there was.
+pub data Prints (words : List (List ℕ)) (told : Seen) (text : List ℕ) : Type 0 where
+  reports : (layout : Layout) (bytes : List ℕ) → ReadsScript words layout → AreBytesLeft told.left bytes →
+      IsReportOf layout bytes text → Prints words told text
+  sums_up : (seed count : ℕ) → Generates words seed count → IsSummaryOf seed count text → Prints words told text
+  makes_file : (layout : Layout) → Formats words layout → HasNoFile told.files (file_of words) →
+      text ≡ formatted_line layout → Prints words told text
+  lists_words : (from count : ℕ) (bytes : List ℕ) → ListsWords words from count → HasBytes told.files (file_of words) bytes →
+      HasNoFault bytes → text ≡ lines_told from count (words_in bytes) → Prints words told text
 
 -- What the command prints was appended to the sink.
-pub record PrintsAll (words : List (List ℕ)) (left written written' : Option (List ℕ)) : Type 0 where
+pub record PrintsAll (words : List (List ℕ)) (told : Seen) (written written' : Option (List ℕ)) : Type 0 where
   pub text : List ℕ
-  pub prints : Prints words left text
+  pub prints : Prints words told text
   pub sink : Appends written written' text
 
 -- A beginning of it was appended.
-pub record PrintsPart (words : List (List ℕ)) (left written written' : Option (List ℕ)) : Type 0 where
+pub record PrintsPart (words : List (List ℕ)) (told : Seen) (written written' : Option (List ℕ)) : Type 0 where
   pub text : List ℕ
   pub count : ℕ
   pub short : count < length text
-  pub prints : Prints words left text
+  pub prints : Prints words told text
   pub sink : Appends written written' (take count text)
 
 -- What the sink has at each status: what the command prints where the program is done, a beginning of it or nothing
 -- where a write failed or memory ran out, and else what it had.
-abbrev pub LeavesSink : List (List ℕ) → Status → Option (List ℕ) → Option (List ℕ) → Option (List ℕ) → Type 0
-LeavesSink words status.Done left written written' = PrintsAll words left written written'
-LeavesSink words status.Usage left written written' = Keeps written written'
-LeavesSink words (status.Script fault) left written written' = Keeps written written'
-LeavesSink words status.Read left written written' = Keeps written written'
-LeavesSink words status.Write left written written' = PrintsPart words left written written'
-LeavesSink words status.NoMemory left written written' =
-    Keeps written written' ⊎ PrintsPart words left written written'
-LeavesSink words (status.NotBuilt verb) left written written' = Keeps written written'
+abbrev pub LeavesSink : List (List ℕ) → Seen → Status → Option (List ℕ) → Option (List ℕ) → Type 0
+LeavesSink words told status.Done written written' = PrintsAll words told written written'
+LeavesSink words told status.Usage written written' = Keeps written written'
+LeavesSink words told (status.Script fault) written written' = Keeps written written'
+LeavesSink words told status.Read written written' = Keeps written written'
+LeavesSink words told status.Write written written' = PrintsPart words told written written'
+LeavesSink words told status.Shelf written written' = Keeps written written'
+LeavesSink words told status.NoMemory written written' =
+    Keeps written written' ⊎ PrintsPart words told written written'
+LeavesSink words told (status.Image refusal) written written' = Keeps written written'
+LeavesSink words told (status.NotBuilt verb) written written' = Keeps written written'
+
+-- What the shelf has at each status: the file that the command makes where it is done or only its line could not be
+-- written; where the shelf failed or memory ran out, that or what it had; and else what it had.
+abbrev pub LeavesShelf : List (List ℕ) → Status → Option FileMap → Option FileMap → Type 0
+LeavesShelf words status.Done files files' = LeavesFiles words files files'
+LeavesShelf words status.Usage files files' = KeepsFiles files files'
+LeavesShelf words (status.Script fault) files files' = KeepsFiles files files'
+LeavesShelf words status.Read files files' = KeepsFiles files files'
+LeavesShelf words status.Write files files' = LeavesFiles words files files'
+LeavesShelf words status.Shelf files files' = LeavesOldOrNew words files files'
+LeavesShelf words status.NoMemory files files' = LeavesOldOrNew words files files'
+LeavesShelf words (status.Image refusal) files files' = KeepsFiles files files'
+LeavesShelf words (status.NotBuilt verb) files files' = KeepsFiles files files'
 
 -- The status is that of a run that wrote nothing.
 abbrev pub WritesNothing : Status → Type 0
@@ -182,7 +227,9 @@ WritesNothing status.Usage = Unit {0}
 WritesNothing (status.Script fault) = Unit {0}
 WritesNothing status.Read = Unit {0}
 WritesNothing status.Write = ⊥
+WritesNothing status.Shelf = Unit {0}
 WritesNothing status.NoMemory = ⊥
+WritesNothing (status.Image refusal) = Unit {0}
 WritesNothing (status.NotBuilt verb) = Unit {0}
 
 -- The status is that of words alone: nothing is read for it.
@@ -192,7 +239,9 @@ IsOfWords status.Usage = Unit {0}
 IsOfWords (status.Script fault) = ⊥
 IsOfWords status.Read = ⊥
 IsOfWords status.Write = ⊥
+IsOfWords status.Shelf = ⊥
 IsOfWords status.NoMemory = ⊥
+IsOfWords (status.Image refusal) = ⊥
 IsOfWords (status.NotBuilt verb) = IsCommandWord verb
 
 -- The status comes only when the source was read to its end.
@@ -202,7 +251,9 @@ IsAfterReading status.Usage = ⊥
 IsAfterReading (status.Script fault) = fault ≡ Bytes → ⊥
 IsAfterReading status.Read = ⊥
 IsAfterReading status.Write = Unit {0}
+IsAfterReading status.Shelf = ⊥
 IsAfterReading status.NoMemory = ⊥
+IsAfterReading (status.Image refusal) = ⊥
 IsAfterReading (status.NotBuilt verb) = IsCommandWord verb → ⊥
 
 -- ---- causes
@@ -215,9 +266,13 @@ ReadsSome words = (layout : Layout) × ReadsScript words layout
 abbrev pub GeneratesSome : List (List ℕ) → Type 0
 GeneratesSome words = (seed count : ℕ) × Generates words seed count
 
--- Some command that is built has these words.
+-- Some command that plays rounds has these words.
 abbrev pub PlaysSome : List (List ℕ) → Type 0
 PlaysSome words = ReadsSome words ⊎ GeneratesSome words
+
+-- Some command that is built has these words.
+abbrev pub IsBuilt : List (List ℕ) → Type 0
+IsBuilt words = PlaysSome words ⊎ NamesFile words
 
 -- The bytes that the source had left are refused so. Where they are too many for a script, that is all that is known of
 -- those of a source that doesn't tell them.
@@ -230,27 +285,31 @@ IsRefusalOf callers left answer =
 abbrev pub IsScriptCause : List (List ℕ) → Option (List ℕ) → Status → Type 0
 IsScriptCause words left answer = (layout : Layout) × ReadsScript words layout × IsRefusalOf layout.callers left answer
 
--- Why a run ended so. Of the source and of the sink it is told how many of their calls failed before it and after it.
-abbrev pub IsCauseOf : List (List ℕ) → Option (List ℕ) → (reads reads' writes writes' : ℕ) → Status → Type 0
-IsCauseOf words left reads reads' writes writes' status.Done = PlaysSome words
-IsCauseOf words left reads reads' writes writes' status.Usage = (command : Command) → ¬ IsCommand words command
-IsCauseOf words left reads reads' writes writes' (status.Script fault) = IsScriptCause words left (status.Script fault)
-IsCauseOf words left reads reads' writes writes' status.Read = ReadsSome words × (reads < reads')
-IsCauseOf words left reads reads' writes writes' status.Write = PlaysSome words × (writes < writes')
-IsCauseOf words left reads reads' writes writes' status.NoMemory = PlaysSome words
-IsCauseOf words left reads reads' writes writes' (status.NotBuilt verb) =
-    NamesCommand words verb ⊎ IsScriptCause words left (status.NotBuilt verb)
+-- Why a run ended so. Of the sink it is told how many of its calls failed before it and after it.
+abbrev pub IsCauseOf : List (List ℕ) → Seen → (writes writes' : ℕ) → Status → Type 0
+IsCauseOf words told writes writes' status.Done = IsBuilt words
+IsCauseOf words told writes writes' status.Usage = (command : Command) → ¬ IsCommand words command
+IsCauseOf words told writes writes' (status.Script fault) = IsScriptCause words told.left (status.Script fault)
+IsCauseOf words told writes writes' status.Read = ReadsSome words × (told.reads < told.reads')
+IsCauseOf words told writes writes' status.Write = IsBuilt words × (writes < writes')
+IsCauseOf words told writes writes' status.Shelf = NamesFile words × (told.shelves < told.shelves')
+IsCauseOf words told writes writes' status.NoMemory = IsBuilt words
+IsCauseOf words told writes writes' (status.Image refusal) = IsFileCause words told.files refusal
+IsCauseOf words told writes writes' (status.NotBuilt verb) =
+    NamesCommand words verb ⊎ IsScriptCause words told.left (status.NotBuilt verb)
 
 -- Why a command has nothing to print.
-abbrev pub HasNoText : List (List ℕ) → Option (List ℕ) → (reads reads' : ℕ) → Status → Type 0
-HasNoText words left reads reads' status.Done = ⊥
-HasNoText words left reads reads' status.Usage = (command : Command) → ¬ IsCommand words command
-HasNoText words left reads reads' (status.Script fault) = IsScriptCause words left (status.Script fault)
-HasNoText words left reads reads' status.Read = ReadsSome words × (reads < reads')
-HasNoText words left reads reads' status.Write = ⊥
-HasNoText words left reads reads' status.NoMemory = PlaysSome words
-HasNoText words left reads reads' (status.NotBuilt verb) =
-    NamesCommand words verb ⊎ IsScriptCause words left (status.NotBuilt verb)
+abbrev pub HasNoText : List (List ℕ) → Seen → Status → Type 0
+HasNoText words told status.Done = ⊥
+HasNoText words told status.Usage = (command : Command) → ¬ IsCommand words command
+HasNoText words told (status.Script fault) = IsScriptCause words told.left (status.Script fault)
+HasNoText words told status.Read = ReadsSome words × (told.reads < told.reads')
+HasNoText words told status.Write = ⊥
+HasNoText words told status.Shelf = NamesFile words × (told.shelves < told.shelves')
+HasNoText words told status.NoMemory = IsBuilt words
+HasNoText words told (status.Image refusal) = IsFileCause words told.files refusal
+HasNoText words told (status.NotBuilt verb) =
+    NamesCommand words verb ⊎ IsScriptCause words told.left (status.NotBuilt verb)
 
 -- Why no report was made of what a source had left, on a layout of so many callers.
 abbrev pub HasNoReport : ℕ → Option (List ℕ) → (reads reads' : ℕ) → Status → Type 0
@@ -259,7 +318,9 @@ HasNoReport callers left reads reads' status.Usage = ⊥
 HasNoReport callers left reads reads' (status.Script fault) = IsRefusalOf callers left (status.Script fault)
 HasNoReport callers left reads reads' status.Read = reads < reads'
 HasNoReport callers left reads reads' status.Write = ⊥
+HasNoReport callers left reads reads' status.Shelf = ⊥
 HasNoReport callers left reads reads' status.NoMemory = Unit {0}
+HasNoReport callers left reads reads' (status.Image refusal) = ⊥
 HasNoReport callers left reads reads' (status.NotBuilt verb) = IsRefusalOf callers left (status.NotBuilt verb)
 
 -- ---- exactly
@@ -269,18 +330,28 @@ abbrev pub Comes : Status → Status → Type 0
 Comes answer wanted = (answer ≡ wanted) ⊎ (answer ≡ status.NoMemory)
 
 -- Where the source tells its bytes and no read of it fails, a command that reads a script answers as they are refused.
-abbrev pub TellsRefusal : List (List ℕ) → Option (List ℕ) → (reads reads' : ℕ) → Status → Type 0
-TellsRefusal words left reads reads' answer = (layout : Layout) (bytes : List ℕ) (wanted : Status) →
-    ReadsScript words layout → left ≡ Some bytes → reads' ≡ reads → IsRefusedBy layout.callers bytes wanted →
-    Comes answer wanted
+abbrev pub TellsRefusal : List (List ℕ) → Seen → Status → Type 0
+TellsRefusal words told answer = (layout : Layout) (bytes : List ℕ) (wanted : Status) →
+    ReadsScript words layout → told.left ≡ Some bytes → told.reads' ≡ told.reads →
+    IsRefusedBy layout.callers bytes wanted → Comes answer wanted
 
 -- Where besides no write fails, it is done with a script that is accepted.
-abbrev pub FinishesAccepted : List (List ℕ) → Option (List ℕ) → (reads reads' writes writes' : ℕ) → Status → Type 0
-FinishesAccepted words left reads reads' writes writes' answer = (layout : Layout) (bytes : List ℕ) (script : Script) →
-    ReadsScript words layout → left ≡ Some bytes → reads' ≡ reads → writes' ≡ writes →
+abbrev pub FinishesAccepted : List (List ℕ) → Seen → (writes writes' : ℕ) → Status → Type 0
+FinishesAccepted words told writes writes' answer = (layout : Layout) (bytes : List ℕ) (script : Script) →
+    ReadsScript words layout → told.left ≡ Some bytes → told.reads' ≡ told.reads → writes' ≡ writes →
     IsAccepted layout.callers bytes script → Comes answer status.Done
 
 -- Where no write fails, a command that plays a generated round is done.
 abbrev pub FinishesGenerated : List (List ℕ) → (writes writes' : ℕ) → Status → Type 0
 FinishesGenerated words writes writes' answer =
     GeneratesSome words → writes' ≡ writes → Comes answer status.Done
+
+-- Where the shelf tells its files and no call of it fails, a file that is refused is told so.
+abbrev pub TellsFile : List (List ℕ) → Seen → Status → Type 0
+TellsFile words told answer = (files : FileMap) (refusal : ImageRefusal) → told.files ≡ Some files →
+    told.shelves' ≡ told.shelves → IsFileCause words (Some files) refusal → Comes answer (status.Image refusal)
+
+-- Where besides no write fails, a command on a file on which it can be done is done.
+abbrev pub FinishesOnFile : List (List ℕ) → Seen → (writes writes' : ℕ) → Status → Type 0
+FinishesOnFile words told writes writes' answer = (files : FileMap) → told.files ≡ Some files →
+    told.shelves' ≡ told.shelves → writes' ≡ writes → CanBeDone words (Some files) → Comes answer status.Done

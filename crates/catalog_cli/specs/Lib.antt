@@ -1,6 +1,7 @@
 pub mod Statuses
 pub mod Summaries
 pub mod Built
+pub mod Files
 pub mod Rounds
 pub mod Headline
 pub mod LoneCalls

@@ -13,7 +13,9 @@ IsOfNoCommand words status.Usage = (command : Command) → ¬ IsCommand words co
 IsOfNoCommand words (status.Script fault) = ⊥
 IsOfNoCommand words status.Read = ⊥
 IsOfNoCommand words status.Write = ⊥
+IsOfNoCommand words status.Shelf = ⊥
 IsOfNoCommand words status.NoMemory = ⊥
+IsOfNoCommand words (status.Image refusal) = ⊥
 IsOfNoCommand words (status.NotBuilt verb) = NamesCommand words verb
 
 -- The bytes are refused so, unless memory ran out.

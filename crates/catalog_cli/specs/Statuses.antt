@@ -1,15 +1,24 @@
 -- Statuses: their exit codes, what is told of them, and which of them the faults below come to.
-use Rattle.std.specs.Prelude.{ℕ, List, ◌++◌, codes}
+use Rattle.std.specs.Prelude.{ℕ, List, ◌++◌, codes, decimal}
 use Rattle.cat_script.specs.Faults.{script_fault_text}
 use Rattle.cat_script.specs.declared.fault.ScriptFault.{ScriptFault}
 use Rattle.cat_script.specs.declared.fault.ScriptFault.TheVariants as script
 use Rattle.cat_text.specs.declared.outside.source.ReadFault.{ReadFault}
 use Rattle.cat_text.specs.declared.outside.source.ReadFault.TheVariants as read
+use Rattle.cat_text.specs.declared.outside.shelf.LoadFault.{LoadFault}
+use Rattle.cat_text.specs.declared.outside.shelf.LoadFault.TheVariants as load
+use Rattle.cat_text.specs.declared.outside.shelf.SaveFault.{SaveFault}
+use Rattle.cat_text.specs.declared.outside.shelf.SaveFault.TheVariants as save
+use Rattle.pm_words.specs.declared.bytes.ImageFault.{ImageFault}
+use Rattle.pm_words.specs.declared.bytes.ImageFault.TheVariants as fault
+use Rattle.pm_words.specs.declared.layout.Field.TheVariants as field
+use Rattle.catalog_cli.specs.declared.status.ImageRefusal.{ImageRefusal}
+use Rattle.catalog_cli.specs.declared.status.ImageRefusal.TheVariants as image
 use Rattle.catalog_cli.specs.declared.status.Verb.{Verb}
-use Rattle.catalog_cli.specs.declared.status.Verb.TheVariants.{Format, Run, Words, Gen}
+use Rattle.catalog_cli.specs.declared.status.Verb.TheVariants.{Run, Gen}
 use Rattle.catalog_cli.specs.declared.status.Verb.TheVariants.{Put, Get, Del, Scan, Updater, Crash}
 use Rattle.catalog_cli.specs.declared.status.Status.{Status}
-use Rattle.catalog_cli.specs.declared.status.Status.TheVariants.{Done, Usage, Script, Read, Write, NoMemory, NotBuilt}
+use Rattle.catalog_cli.specs.declared.status.Status.TheVariants.{Done, Usage, Script, Read, Write, Shelf, NoMemory, Image, NotBuilt}
 
 -- The exit code of a status.
 abbrev pub code_of : Status → ℕ
@@ -18,14 +27,14 @@ code_of Usage = 2
 code_of (Script fault) = 3
 code_of Read = 4
 code_of Write = 5
+code_of Shelf = 6
 code_of NoMemory = 7
+code_of (Image refusal) = 8
 code_of (NotBuilt verb) = 9
 
 -- The word of a command or a line that isn't built yet.
 abbrev pub verb_text : Verb → List ℕ
-verb_text Format = codes "format"
 verb_text Run = codes "run"
-verb_text Words = codes "words"
 verb_text Gen = codes "gen"
 verb_text Put = codes "put"
 verb_text Get = codes "get"
@@ -39,6 +48,22 @@ abbrev pub usage_text : List ℕ
 usage_text = codes "usage: catalog format FILE NODES SLOTS CALLERS, run FILE, play NODES SLOTS CALLERS, " ++
     codes "gen SEED COUNT CALLERS, words FILE FROM COUNT"
 
+-- What is told of bytes that are no image.
+abbrev pub image_fault_text : ImageFault → List ℕ
+image_fault_text (fault.Length found) = codes "length " ++ decimal found
+image_fault_text fault.Magic = codes "magic"
+image_fault_text (fault.Format found) = codes "format " ++ decimal found
+image_fault_text (fault.Layout field.Nodes) = codes "nodes"
+image_fault_text (fault.Layout field.Slots) = codes "slots"
+image_fault_text (fault.Layout field.Callers) = codes "callers"
+image_fault_text fault.NoMemory = codes "out of memory"
+
+-- What is told of a file that is refused.
+abbrev pub refusal_text : ImageRefusal → List ℕ
+refusal_text image.Missing = codes "missing"
+refusal_text image.Exists = codes "exists"
+refusal_text (image.Bytes fault) = image_fault_text fault
+
 -- What is told of a status.
 abbrev pub status_text : Status → List ℕ
 status_text Done = codes "done"
@@ -46,7 +71,9 @@ status_text Usage = usage_text
 status_text (Script fault) = script_fault_text fault
 status_text Read = codes "script: cannot read"
 status_text Write = codes "report: cannot write"
+status_text Shelf = codes "file: cannot load or save"
 status_text NoMemory = codes "out of memory"
+status_text (Image refusal) = codes "image: " ++ refusal_text refusal
 status_text (NotBuilt verb) = codes "not built: " ++ verb_text verb
 
 -- What a source comes to that was not read whole.
@@ -63,3 +90,20 @@ status_of_script (script.Calls line) = Script (script.Calls line)
 status_of_script (script.Scans line) = Script (script.Scans line)
 status_of_script (script.Line line reason) = Script (script.Line line reason)
 status_of_script script.NoMemory = NoMemory
+
+-- What a shelf comes to that gave no answer on a file, or didn't save it.
+abbrev pub status_of_load : LoadFault → Status
+status_of_load load.Failed = Shelf
+status_of_load load.NoMemory = NoMemory
+
+abbrev pub status_of_save : SaveFault → Status
+status_of_save save.Failed = Shelf
+status_of_save save.NoMemory = NoMemory
+
+-- What bytes come to that are no image.
+abbrev pub status_of_bytes : ImageFault → Status
+status_of_bytes (fault.Length found) = Image (image.Bytes (fault.Length found))
+status_of_bytes fault.Magic = Image (image.Bytes fault.Magic)
+status_of_bytes (fault.Format found) = Image (image.Bytes (fault.Format found))
+status_of_bytes (fault.Layout out) = Image (image.Bytes (fault.Layout out))
+status_of_bytes fault.NoMemory = NoMemory

@@ -13,11 +13,9 @@ pub(crate) fn unbuilt_command(command: &Command) -> Option<Verb>
     ensures { result ≡ unbuilt_command command.now }
 {
     match command {
-        Command::Format { .. } => Some(Verb::Format),
         Command::Run => Some(Verb::Run),
-        Command::Play { .. } => None,
         Command::Gen { callers, .. } => (*callers != 1).then_some(Verb::Gen),
-        Command::Words { .. } => Some(Verb::Words),
+        Command::Format { .. } | Command::Play { .. } | Command::Words { .. } => None,
     }
 }
 

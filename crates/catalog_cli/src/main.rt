@@ -4,6 +4,7 @@
 mod built;
 mod catalog;
 mod core_map;
+mod files;
 mod generated;
 mod listing;
 mod play;
@@ -13,9 +14,9 @@ mod summary;
 #[cfg(test)]
 mod tests;
 
-use cat_text::{ReadSource, WriteSink};
+use cat_text::{FileShelf, ReadSource, WriteSink};
 pub use catalog::catalog;
-pub use status::{Status, Verb};
+pub use status::{ImageRefusal, Status, Verb};
 use std::process::ExitCode;
 use std::rt::Env;
 use std::{env, io};
@@ -23,7 +24,9 @@ use std::{env, io};
 /// What is built of the forms of the command line.
 const BUILT: &str = "\
     built so far: catalog play NODES SLOTS CALLERS, which reads a script on standard input,\n\
-    and catalog gen SEED COUNT 1, which plays COUNT calls that are made from SEED and sums them up\n\
+    catalog gen SEED COUNT 1, which plays COUNT calls that are made from SEED and sums them up,\n\
+    catalog format FILE NODES SLOTS CALLERS, which makes a file of an empty catalogue,\n\
+    and catalog words FILE FROM COUNT, which prints COUNT words of one from number FROM on\n\
     lines built so far: CALLER put NAME NUMBER, CALLER get NAME, CALLER del NAME, CALLER scan NAME COUNT, join, \
     limit WRITES\n\
     the calls of a round are those of one caller";
@@ -51,7 +54,8 @@ fn run(rt: &HostRuntime) -> Status {
         _ => {
             let mut script = ReadSource::new(rt.stdin());
             let mut out = WriteSink::new(rt.stdout());
-            catalog(rt.alloc(), &words, &mut script, &mut out)
+            let mut shelf = FileShelf::new(rt);
+            catalog(rt.alloc(), &words, &mut script, &mut out, &mut shelf)
         }
     }
 }

@@ -1,19 +1,18 @@
 //! How a run of the program ends.
 
 ghost use Rattle.std.specs.Prelude.{◌≡◌, Some};
-ghost use Rattle.catalog_cli.specs.Statuses.{code_of, status_text, verb_text};
+ghost use Rattle.catalog_cli.specs.Statuses.{code_of, refusal_text, status_text, verb_text};
 
 use cat_history::NoMemory;
 use cat_script::ScriptFault;
-use cat_text::ReadFault;
+use cat_text::{LoadFault, ReadFault, SaveFault};
+use pm_words::{Field, ImageFault};
 use std::fmt;
 
 /// The word of a command or of a script's line that isn't built yet.
 #[derive(Clone, Copy, Debug, PartialEq, Eq)]
 pub enum Verb {
-    Format,
     Run,
-    Words,
     Gen,
     /// A put of another caller than that of its round's first call. So are a get, a delete and a scan.
     Put,
@@ -29,9 +28,7 @@ impl fmt::Display for Verb {
 
     fn fmt<W: fmt::Write>(&self, f: &mut fmt::Formatter<W>) -> fmt::Result {
         match self {
-            Verb::Format => write!(f, "format"),
             Verb::Run => write!(f, "run"),
-            Verb::Words => write!(f, "words"),
             Verb::Gen => write!(f, "gen"),
             Verb::Put => write!(f, "put"),
             Verb::Get => write!(f, "get"),
@@ -43,10 +40,41 @@ impl fmt::Display for Verb {
     }
 }
 
+/// Why a command was not done on a file.
+#[derive(Clone, Copy, Debug, PartialEq, Eq)]
+pub enum ImageRefusal {
+    /// There is no file of this name.
+    Missing,
+    /// There is one already.
+    Exists,
+    /// Its bytes are no image, for this first fault.
+    Bytes(ImageFault),
+}
+
+impl fmt::Display for ImageRefusal {
+    ghost output = { λ refusal. Some (refusal_text refusal) };
+
+    fn fmt<W: fmt::Write>(&self, f: &mut fmt::Formatter<W>) -> fmt::Result {
+        match self {
+            ImageRefusal::Missing => write!(f, "missing"),
+            ImageRefusal::Exists => write!(f, "exists"),
+            ImageRefusal::Bytes(ImageFault::Length { found }) => write!(f, "length {found}"),
+            ImageRefusal::Bytes(ImageFault::Magic) => write!(f, "magic"),
+            ImageRefusal::Bytes(ImageFault::Format { found }) => write!(f, "format {found}"),
+            ImageRefusal::Bytes(ImageFault::Layout { field }) => match field {
+                Field::Nodes => write!(f, "nodes"),
+                Field::Slots => write!(f, "slots"),
+                Field::Callers => write!(f, "callers"),
+            },
+            ImageRefusal::Bytes(ImageFault::NoMemory) => write!(f, "out of memory"),
+        }
+    }
+}
+
 /// How a command ended.
 #[derive(Clone, Copy, Debug, PartialEq, Eq)]
 pub enum Status {
-    /// The report was written whole.
+    /// What the command prints was written whole.
     Done,
     /// The words are no form of a command.
     Usage,
@@ -56,8 +84,12 @@ pub enum Status {
     Read,
     /// The report could not be written.
     Write,
+    /// The file could not be loaded or saved.
+    Shelf,
     /// There was not enough memory.
     NoMemory,
+    /// The file was refused.
+    Image(ImageRefusal),
     /// This isn't built yet.
     NotBuilt(Verb),
 }
@@ -73,7 +105,9 @@ impl Status {
             Status::Script(_) => 3,
             Status::Read => 4,
             Status::Write => 5,
+            Status::Shelf => 6,
             Status::NoMemory => 7,
+            Status::Image(_) => 8,
             Status::NotBuilt(_) => 9,
         }
     }
@@ -115,6 +149,57 @@ impl From<ScriptFault> for Status {
     }
 }
 
+impl From<LoadFault> for Status {
+    ghost use Rattle.std.specs.Prelude.{◌≡◌};
+    ghost use Rattle.catalog_cli.specs.Statuses.{status_of_load};
+
+    ghost from_gives = { λ fault status. status ≡ status_of_load fault };
+
+    fn from(fault: LoadFault) -> Status {
+        match fault {
+            LoadFault::Failed => Status::Shelf,
+            LoadFault::NoMemory => Status::NoMemory,
+        }
+    }
+}
+
+impl From<SaveFault> for Status {
+    ghost use Rattle.std.specs.Prelude.{◌≡◌};
+    ghost use Rattle.catalog_cli.specs.Statuses.{status_of_save};
+
+    ghost from_gives = { λ fault status. status ≡ status_of_save fault };
+
+    fn from(fault: SaveFault) -> Status {
+        match fault {
+            SaveFault::Failed => Status::Shelf,
+            SaveFault::NoMemory => Status::NoMemory,
+        }
+    }
+}
+
+impl From<ImageFault> for Status {
+    ghost use Rattle.std.specs.Prelude.{◌≡◌};
+    ghost use Rattle.catalog_cli.specs.Statuses.{status_of_bytes};
+
+    ghost from_gives = { λ fault status. status ≡ status_of_bytes fault };
+
+    fn from(fault: ImageFault) -> Status {
+        match fault {
+            ImageFault::NoMemory => Status::NoMemory,
+            ImageFault::Length { found } => Status::Image(ImageRefusal::Bytes(ImageFault::Length {
+                found,
+            })),
+            ImageFault::Magic => Status::Image(ImageRefusal::Bytes(ImageFault::Magic)),
+            ImageFault::Format { found } => Status::Image(ImageRefusal::Bytes(ImageFault::Format {
+                found,
+            })),
+            ImageFault::Layout { field } => Status::Image(ImageRefusal::Bytes(ImageFault::Layout {
+                field,
+            })),
+        }
+    }
+}
+
 impl From<NoMemory> for Status {
     ghost use Rattle.std.specs.Prelude.{◌≡◌};
     ghost use Rattle.catalog_cli.specs.declared.status.Status.TheVariants.{NoMemory as OutOfMemory};
@@ -140,7 +225,9 @@ impl fmt::Display for Status {
             Status::Script(fault) => write!(f, "{fault}"),
             Status::Read => write!(f, "script: cannot read"),
             Status::Write => write!(f, "report: cannot write"),
+            Status::Shelf => write!(f, "file: cannot load or save"),
             Status::NoMemory => write!(f, "out of memory"),
+            Status::Image(refusal) => write!(f, "image: {refusal}"),
             Status::NotBuilt(verb) => write!(f, "not built: {verb}"),
         }
     }

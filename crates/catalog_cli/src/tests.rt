@@ -9,8 +9,8 @@ use crate::round::run_lone_round;
 use cat_history::{CallerOp, Listed, Op, RoundPlan};
 use cat_key::Name;
 use cat_script::{Reason, ScriptFault};
-use cat_text::{FaultPlan, MemorySink, MemorySource, Report, print_report};
-use pm_words::{Layout, Steps};
+use cat_text::{FaultPlan, MemoryShelf, MemorySink, MemorySource, Report, Shelf, print_report};
+use pm_words::{Field, ImageFault, Layout, Steps};
 use shapes::{NameMap, PlainMap};
 use std::alloc::{AllocError, Global};
 use std::marker::Brand;
@@ -53,7 +53,8 @@ fn run(rt: &HostRuntime, words: &str, script: &[u8], outside: &Outside) -> Resul
     let writes = FaultPlan::failing_at(outside.failing_writes.to_vec(alloc)?);
     let mut source = MemorySource::new(script.to_vec(alloc)?, largest, reads);
     let mut sink = MemorySink::new(alloc, largest, writes);
-    let status = catalog(alloc, &command, &mut source, &mut sink);
+    let mut shelf = MemoryShelf::new(alloc, FaultPlan::new(alloc));
+    let status = catalog(alloc, &command, &mut source, &mut sink, &mut shelf);
     Ok(Ran {
         status,
         written: sink.written().to_vec(alloc)?,
@@ -64,6 +65,125 @@ fn run(rt: &HostRuntime, words: &str, script: &[u8], outside: &Outside) -> Resul
 /// The status of a script whose line of this number has this fault.
 fn at_line(line: u64, reason: Reason) -> Status {
     Status::Script(ScriptFault::Line { line, reason })
+}
+
+/// The status of a file whose bytes have this fault.
+fn of_bytes(fault: ImageFault) -> Status {
+    Status::Image(ImageRefusal::Bytes(fault))
+}
+
+fn out_of_range(field: Field) -> ImageFault {
+    ImageFault::Layout { field }
+}
+
+/// What a command on files came to, and what it wrote.
+fn run_on(
+    rt: &HostRuntime,
+    shelf: &mut MemoryShelf,
+    words: &str,
+) -> Result<(Status, Vec<u8>), AllocError> {
+    let alloc = rt.alloc();
+    let mut command = Vec::new(alloc);
+    for word in words.split_whitespace() {
+        command.push(String::from_str(alloc, word)?)?;
+    }
+    let mut source = MemorySource::new(Vec::new(alloc), 1, FaultPlan::new(alloc));
+    let mut sink = MemorySink::new(alloc, 4096, FaultPlan::new(alloc));
+    let status = catalog(alloc, &command, &mut source, &mut sink, shelf);
+    Ok((status, sink.written().to_vec(alloc)?))
+}
+
+#[test]
+fn makes_a_file_once_and_lists_its_words(rt: HostRuntime) -> Result<(), Fail> {
+    let mut shelf = MemoryShelf::new(rt.alloc(), FaultPlan::new(rt.alloc()));
+    let missing = Status::Image(ImageRefusal::Missing);
+    let exists = Status::Image(ImageRefusal::Exists);
+    let rows = [
+        ("words c 5 1", missing, ""),
+        (
+            "format c 2 4 1",
+            Status::Done,
+            "formatted 2 4 1 words 2496\n",
+        ),
+        ("words c 5 1", Status::Done, "5 0000000000000001\n"),
+        ("format c 2 4 1", exists, ""),
+        ("format c 1 64 1", exists, ""),
+        ("words d 5 1", missing, ""),
+        // The text that begins each image, its format and its layout.
+        (
+            "words c 0 5",
+            Status::Done,
+            "0 3130544143434150\n1 0000000000000001\n2 0000000000000002\n3 0000000000000004\n4 0000000000000001\n",
+        ),
+        // Past the last word there is none, also where the numbers pass the greatest one.
+        ("words c 2495 2", Status::Done, "2495 0000000000000000\n"),
+        (
+            "words c 2495 18446744073709551615",
+            Status::Done,
+            "2495 0000000000000000\n",
+        ),
+        ("words c 2496 1", Status::Done, ""),
+        ("words c 18446744073709551615 1", Status::Done, ""),
+        ("words c 5 0", Status::Done, ""),
+    ];
+    for (words, status, lines) in &rows {
+        let (ended, written) = run_on(&rt, &mut shelf, words)?;
+        assert_eq!(rt; ended, *status, "{words}");
+        assert_eq!(rt; written.as_slice(), lines.as_bytes(), "{words}");
+    }
+    let bytes = shelf.load("c")?.ok_or("c")?;
+    assert_eq!(rt;
+        (bytes.len(), &bytes[..8]),
+        (19_968, b"PACCAT01".as_slice())
+    );
+    Ok(())
+}
+
+#[test]
+fn refuses_bytes_that_are_no_image(rt: HostRuntime) -> Result<(), Fail> {
+    let mut shelf = MemoryShelf::new(rt.alloc(), FaultPlan::new(rt.alloc()));
+    run_on(&rt, &mut shelf, "format c 2 4 1")?;
+    let whole = shelf.load("c")?.ok_or("c")?;
+    // Each byte that is changed is the lowest of its word.
+    let rows = [
+        (0, ImageFault::Magic),
+        (8, ImageFault::Format { found: 7 }),
+        (16, ImageFault::Length { found: 19_968 }),
+        (24, out_of_range(Field::Slots)),
+        (32, ImageFault::Length { found: 19_968 }),
+    ];
+    for (at, fault) in rows {
+        let mut bytes = whole.to_vec(rt.alloc())?;
+        bytes[at] = 7;
+        shelf.save("c", &bytes)?;
+        let (status, written) = run_on(&rt, &mut shelf, "words c 0 1")?;
+        assert_eq!(rt; (status, written.len()), (of_bytes(fault), 0), "{at}");
+        // What the file has stays.
+        let kept = shelf.load("c")?.ok_or("c")?;
+        assert_eq!(rt; kept.as_slice(), bytes.as_slice(), "{at}");
+    }
+    shelf.save("c", &whole[..19_960])?;
+    let (status, _) = run_on(&rt, &mut shelf, "words c 0 1")?;
+    assert_eq!(rt; status, of_bytes(ImageFault::Length { found: 19_960 }));
+    Ok(())
+}
+
+#[test]
+fn blames_the_shelf_for_its_faults(rt: HostRuntime) -> Result<(), Fail> {
+    // A file is looked for, and then saved.
+    for failing in [1, 2] {
+        let plan = FaultPlan::failing_at(Vec::from_slice(rt.alloc(), &[failing, 4])?);
+        let mut shelf = MemoryShelf::new(rt.alloc(), plan);
+        let (status, written) = run_on(&rt, &mut shelf, "format c 2 4 1")?;
+        assert_eq!(rt; (status, written.len()), (Status::Shelf, 0));
+        // The fourth call fails too.
+        while shelf.plan().calls() < 3 {
+            assert!(rt; shelf.load("c")?.is_none());
+        }
+        let (status, written) = run_on(&rt, &mut shelf, "words c 5 1")?;
+        assert_eq!(rt; (status, written.len()), (Status::Shelf, 0));
+    }
+    Ok(())
 }
 
 #[test]
@@ -354,9 +474,7 @@ fn sums_up_generated_rounds(rt: HostRuntime) -> Result<(), Fail> {
 #[test]
 fn refuses_other_words_unread(rt: HostRuntime) -> Result<(), Fail> {
     let rows = [
-        ("format c 1 64 1", Status::NotBuilt(Verb::Format)),
         ("run c", Status::NotBuilt(Verb::Run)),
-        ("words c 0 1", Status::NotBuilt(Verb::Words)),
         ("gen 1 1 2", Status::NotBuilt(Verb::Gen)),
         ("gen 1 1 16", Status::NotBuilt(Verb::Gen)),
         ("", Status::Usage),
@@ -432,7 +550,24 @@ fn each_status_has_its_code_and_text(rt: HostRuntime) -> Result<(), Fail> {
         ),
         (Status::Read, 4, "script: cannot read"),
         (Status::Write, 5, "report: cannot write"),
+        (Status::Shelf, 6, "file: cannot load or save"),
         (Status::NoMemory, 7, "out of memory"),
+        (Status::Image(ImageRefusal::Missing), 8, "image: missing"),
+        (Status::Image(ImageRefusal::Exists), 8, "image: exists"),
+        (
+            of_bytes(ImageFault::Length { found: 19960 }),
+            8,
+            "image: length 19960",
+        ),
+        (of_bytes(ImageFault::Magic), 8, "image: magic"),
+        (
+            of_bytes(ImageFault::Format { found: 2 }),
+            8,
+            "image: format 2",
+        ),
+        (of_bytes(out_of_range(Field::Nodes)), 8, "image: nodes"),
+        (of_bytes(out_of_range(Field::Slots)), 8, "image: slots"),
+        (of_bytes(out_of_range(Field::Callers)), 8, "image: callers"),
         (
             Status::Usage,
             2,
@@ -455,9 +590,7 @@ fn each_status_has_its_code_and_text(rt: HostRuntime) -> Result<(), Fail> {
             3,
             "script: line 7: more than 1000000 names",
         ),
-        (Status::NotBuilt(Verb::Format), 9, "not built: format"),
         (Status::NotBuilt(Verb::Run), 9, "not built: run"),
-        (Status::NotBuilt(Verb::Words), 9, "not built: words"),
         (Status::NotBuilt(Verb::Gen), 9, "not built: gen"),
         (Status::NotBuilt(Verb::Put), 9, "not built: put"),
         (Status::NotBuilt(Verb::Get), 9, "not built: get"),

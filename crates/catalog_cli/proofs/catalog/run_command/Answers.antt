@@ -1,4 +1,4 @@
-use Rattle.catalog_cli.proofs.Outcomes.{printed, printed-part, printed-plays}
+use Rattle.catalog_cli.proofs.Outcomes.{printed, printed-part, printed-built}
 use Rattle.std.proofs.Common.{inr, ap}
 use Rattle.std.specs.Prelude.{Err}
 use Rattle.catalog_cli.proofs.catalog.run_command.Goals as goal
@@ -7,16 +7,16 @@ pub returns-in-Ok-write_whole-clause-sink : goal.returns-in-Ok-write_whole-claus
 returns-in-Ok-write_whole-clause-sink g c = printed _ _ _ _ _ _ c.in-Ok.ensures.prints c.deref.ensures.value c.in-Ok-write_whole.ensures.whole
 
 pub returns-in-Ok-write_whole-clause-cause : goal.returns-in-Ok-write_whole-clause-cause
-returns-in-Ok-write_whole-clause-cause g c = printed-plays _ _ _ c.in-Ok.ensures.prints
+returns-in-Ok-write_whole-clause-cause g c = printed-built _ _ _ c.in-Ok.ensures.prints
 
 pub returns-in-Err-Failed-clause-sink : goal.returns-in-Err-Failed-clause-sink
 returns-in-Err-Failed-clause-sink g c = printed-part _ _ _ _ _ _ c.in-Ok.ensures.prints c.deref.ensures.value c.in-Err-Failed.ensures.part
 
 pub returns-in-Err-Failed-clause-cause : goal.returns-in-Err-Failed-clause-cause
-returns-in-Err-Failed-clause-cause g c = (printed-plays _ _ _ c.in-Ok.ensures.prints, c.in-Err-Failed.ensures.failed (ap Err c.in-Err-Failed.field-0-is))
+returns-in-Err-Failed-clause-cause g c = (printed-built _ _ _ c.in-Ok.ensures.prints, c.in-Err-Failed.ensures.failed (ap Err c.in-Err-Failed.field-0-is))
 
 pub returns-clause-sink : goal.returns-clause-sink
 returns-clause-sink g c = inr (printed-part _ _ _ _ _ _ c.in-Ok.ensures.prints c.deref.ensures.value c.in-Err-NoMemory.ensures.part)
 
 pub returns-clause-cause : goal.returns-clause-cause
-returns-clause-cause g c = printed-plays _ _ _ c.in-Ok.ensures.prints
+returns-clause-cause g c = printed-built _ _ _ c.in-Ok.ensures.prints

@@ -1,15 +1,16 @@
-use Rattle.std.proofs.Common.{inr, subst}
+use Rattle.std.proofs.Common.{ℕ, List, inl, inr, subst}
+use Rattle.catalog_cli.specs.Files.{HasBytes, HasNoFile}
 use Rattle.std.proofs.lemmas.Result.{err_from_is_err_and, IfOk-weaker, IfErr-weaker}
-use Rattle.catalog_cli.specs.Headline.Prints.{reports, sums_up}
+use Rattle.catalog_cli.specs.Headline.Prints.{reports, sums_up, makes_file, lists_words}
 use Rattle.cat_command.specs.Commands.{IsCommand}
-use Rattle.catalog_cli.proofs.Outcomes.{not-of-words, makes-one}
+use Rattle.catalog_cli.proofs.Outcomes.{not-of-words, not-told, makes-one}
 use Rattle.catalog_cli.proofs.catalog.text_of.Goals as goal
 
 pub returns-in_err-text-in-Gen-clause-cause : goal.returns-in_err-text-in-Gen-clause-cause
 returns-in_err-text-in-Gen-clause-cause g c =
     let p = err_from_is_err_and c.from_residual-in_err-text-in-Gen.result c.from_residual-in_err-text-in-Gen.ensures.1 in
     let ok = c.in_ok-layout.ensures in
-    rw (p.1, p.2) (inr (c.in-Gen.seed, c.in-Gen.count, makes-one _ c.in_ok-layout.field-0 _ _ _ ok.command ok.built c.in-Gen.is))
+    rw (p.1, p.2) (inl (inr (c.in-Gen.seed, c.in-Gen.count, makes-one _ c.in_ok-layout.field-0 _ _ _ ok.command ok.built c.in-Gen.is)))
 
 pub returns-in-Play-clause-prints : goal.returns-in-Play-clause-prints
 returns-in-Play-clause-prints g c =
@@ -23,3 +24,19 @@ pub returns-in_ok-text-in-Gen-clause-prints : goal.returns-in_ok-text-in-Gen-cla
 returns-in_ok-text-in-Gen-clause-prints g c =
     let ok = c.in_ok-layout.ensures in
     sums_up _ _ (makes-one _ c.in_ok-layout.field-0 _ _ _ ok.command ok.built c.in-Gen.is) c.in_ok-text-in-Gen.ensures
+
+pub returns-in-Format-clause-prints : goal.returns-in-Format-clause-prints
+returns-in-Format-clause-prints g c =
+    IfOk-weaker c.format_file.result _ _ (λ text line.
+    makes_file c.in-Format.layout (subst (IsCommand _) c.in-Format.is c.in_ok-layout.ensures.command) (subst (HasNoFile (g.H.Shelf.files c.args.shelf.now)) c.file_of.ensures line.0) line.1) c.format_file.ensures.line
+
+pub returns-in-Words-clause-prints : goal.returns-in-Words-clause-prints
+returns-in-Words-clause-prints g c =
+    IfOk-weaker c.list_words.result _ _ (λ text told.
+    lists_words c.in-Words.from c.in-Words.count told.0 (subst (IsCommand _) c.in-Words.is c.in_ok-layout.ensures.command)
+    (subst (λ (name : List ℕ). HasBytes (g.H.Shelf.files c.args.shelf.now) name told.0) c.file_of-in-Words.ensures told.1) told.2 told.3) c.list_words.ensures.lines
+
+pub returns-in-Words-clause-cause : goal.returns-in-Words-clause-cause
+returns-in-Words-clause-cause g c =
+    IfErr-weaker c.list_words.result _ _ (λ status refused.
+    not-told _ _ c.in-Words.from c.in-Words.count _ status (subst (IsCommand _) c.in-Words.is c.in_ok-layout.ensures.command) c.file_of-in-Words.ensures refused) c.list_words.ensures.refused

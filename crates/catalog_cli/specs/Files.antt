@@ -1,0 +1,116 @@
+-- The commands on files: what they print, and what they make of the files.
+use Rattle.std.specs.Prelude.{◌≡◌, ℕ, ◌+◌, ◌<◌, ◌⊎◌, List, [], ◌∷◌, ◌++◌, Option, IfSome, Some, None, IsSome, codes, decimal, drop, get_or, take}
+use Rattle.std.specs.FinMap.{get}
+use Rattle.cat_command.specs.Commands.{IsCommand}
+use Rattle.cat_command.specs.declared.command.Command.TheVariants.{Format, Words}
+use Rattle.cat_text.specs.Shelves.{FileMap, KeepsFiles, SavesFile}
+use Rattle.cat_text.specs.WordLines.{word_line}
+use Rattle.pm_words.specs.Bytes.{bytes_of, words_in, HasNoFault, IsFault}
+use Rattle.pm_words.specs.Images.{fresh_words}
+use Rattle.pm_words.specs.Locations.{image_words}
+use Rattle.pm_words.specs.declared.layout.Layout.{Layout}
+use Rattle.catalog_cli.specs.declared.status.ImageRefusal.{ImageRefusal}
+use Rattle.catalog_cli.specs.declared.status.ImageRefusal.TheVariants as image
+use Rattle.catalog_cli.specs.declared.status.Status.{Status}
+use Rattle.catalog_cli.specs.declared.status.Status.TheVariants as status
+
+-- ---- commands
+
+-- The words of a command that saves a fresh image of this layout as a new file.
+abbrev pub Formats : List (List ℕ) → Layout → Type 0
+Formats words layout = IsCommand words (Format layout)
+
+-- The words of a command that tells so many words of a file, from one on.
+abbrev pub ListsWords : List (List ℕ) → ℕ → ℕ → Type 0
+ListsWords words from count = IsCommand words (Words from count)
+
+abbrev pub FormatsSome : List (List ℕ) → Type 0
+FormatsSome words = (layout : Layout) × Formats words layout
+
+abbrev pub ListsSome : List (List ℕ) → Type 0
+ListsSome words = (from count : ℕ) × ListsWords words from count
+
+-- Some command on a file that is built has these words.
+abbrev pub NamesFile : List (List ℕ) → Type 0
+NamesFile words = FormatsSome words ⊎ ListsSome words
+
+-- The name of its file: its second word.
+abbrev pub file_of : List (List ℕ) → List ℕ
+file_of words = get_or words 1 []
+
+-- ---- what is printed
+
+-- The line that tells of a fresh image: its layout, and how many words it has.
+abbrev pub formatted_line : Layout → List ℕ
+formatted_line layout =
+    codes "formatted " ++ decimal layout.nodes ++ codes " " ++ decimal layout.slots ++ codes " " ++
+    decimal layout.callers ++ codes " words " ++ decimal (image_words layout) ++ codes "\n"
+
+-- A line for each of these words, which have numbers from this one on.
+abbrev pub word_lines : ℕ → List ℕ → List ℕ
+word_lines from [] = []
+word_lines from (word ∷ words) = word_line from word ++ word_lines (from + 1) words
+
+-- The lines of those of the words from this one on that there are, and of so many at most.
+abbrev pub lines_told : ℕ → ℕ → List ℕ → List ℕ
+lines_told from count words = word_lines from (take count (drop from words))
+
+-- ---- files
+
+-- The shelf has a file of this name with these bytes, as far as it tells its files.
+abbrev pub HasBytes : Option FileMap → List ℕ → List ℕ → Type 0
+HasBytes files name bytes = IfSome files (λ told. get told name ≡ Some bytes)
+
+-- It has one with some bytes, or none.
+abbrev pub HasFile : Option FileMap → List ℕ → Type 0
+HasFile files name = IfSome files (λ told. IsSome (get told name))
+
+abbrev pub HasNoFile : Option FileMap → List ℕ → Type 0
+HasNoFile files name = IfSome files (λ told. get told name ≡ None)
+
+-- The file of this name is the image that a command with these words saves, and no other file changed.
+abbrev pub SavesFresh : List (List ℕ) → Option FileMap → Option FileMap → Type 0
+SavesFresh words files files' = (layout : Layout) × Formats words layout ×
+    SavesFile files files' (file_of words) (bytes_of (fresh_words layout))
+
+-- What a command leaves that was done or whose line could not be written: a new file, or each file as it was.
+abbrev pub LeavesFiles : List (List ℕ) → Option FileMap → Option FileMap → Type 0
+LeavesFiles words files files' = SavesFresh words files files' ⊎ ((¬ FormatsSome words) × KeepsFiles files files')
+
+-- What one leaves that was ended on its way: each file as it was, or a new file, whole.
+abbrev pub LeavesOldOrNew : List (List ℕ) → Option FileMap → Option FileMap → Type 0
+LeavesOldOrNew words files files' = KeepsFiles files files' ⊎ SavesFresh words files files'
+
+-- ---- refusals
+
+-- Why a file is refused: one to be made is there, one to be read isn't, or its bytes are no image, with this fault.
+abbrev pub IsFileCause : List (List ℕ) → Option FileMap → ImageRefusal → Type 0
+IsFileCause words files image.Missing = ListsSome words × HasNoFile files (file_of words)
+IsFileCause words files image.Exists = FormatsSome words × HasFile files (file_of words)
+IsFileCause words files (image.Bytes fault) =
+    ListsSome words × ((bytes : List ℕ) × HasBytes files (file_of words) bytes × IsFault bytes fault)
+
+-- The file is one that the command can be done on: there is none yet, or it has the bytes of an image.
+abbrev pub CanBeDone : List (List ℕ) → Option FileMap → Type 0
+CanBeDone words files = (FormatsSome words × HasNoFile files (file_of words)) ⊎
+    (ListsSome words × ((bytes : List ℕ) × HasBytes files (file_of words) bytes × HasNoFault bytes))
+
+-- Why a fresh image wasn't saved under this name, and what the shelf has then: as many of its calls had failed before as
+-- the first number says, and now as the second.
+abbrev pub IsFormatRefused : Option FileMap → Option FileMap → (shelves shelves' : ℕ) → List ℕ → Layout → Status →
+    Type 0
+IsFormatRefused files files' shelves shelves' name layout status.Shelf = (shelves < shelves') ×
+    (KeepsFiles files files' ⊎ SavesFile files files' name (bytes_of (fresh_words layout)))
+IsFormatRefused files files' shelves shelves' name layout status.NoMemory = KeepsFiles files files'
+IsFormatRefused files files' shelves shelves' name layout (status.Image image.Exists) =
+    HasFile files name × KeepsFiles files files'
+IsFormatRefused files files' shelves shelves' name layout other = ⊥
+
+-- Why there are no words to tell of the file of this name.
+abbrev pub IsListRefused : Option FileMap → (shelves shelves' : ℕ) → List ℕ → Status → Type 0
+IsListRefused files shelves shelves' name status.Shelf = shelves < shelves'
+IsListRefused files shelves shelves' name status.NoMemory = Unit {0}
+IsListRefused files shelves shelves' name (status.Image image.Missing) = HasNoFile files name
+IsListRefused files shelves shelves' name (status.Image (image.Bytes fault)) =
+    (bytes : List ℕ) × HasBytes files name bytes × IsFault bytes fault
+IsListRefused files shelves shelves' name other = ⊥
