@@ -1,5 +1,5 @@
 -- Bytes that are no image have one first fault.
-use Rattle.std.proofs.Common.{◌≡◌, ◌≢◌, ℕ, ◌≤◌, ◌⊎◌, List, refl, sym, ap, ◌∙◌, inl, inr}
+use Rattle.std.proofs.Common.{◌≡◌, ℕ, ◌⊎◌, List, refl, sym, ap, ◌∙◌, inl, inr}
 use Rattle.pm_words.specs.Bytes.{layout_in, HasHeader, HasLayout, IsFault, IsFirstOut}
 use Rattle.pm_words.specs.Layouts.{IsLayout}
 use Rattle.pm_words.specs.declared.bytes.ImageFault.{ImageFault}

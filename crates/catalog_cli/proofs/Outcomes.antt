@@ -33,7 +33,6 @@ use Rattle.catalog_cli.specs.declared.status.ImageRefusal.TheVariants as image
 use Rattle.catalog_cli.proofs.ImageFaults.{one-image-fault}
 use Rattle.cat_text.specs.Shelves.{FileMap, KeepsFiles}
 use Rattle.pm_words.specs.Bytes.{IsFault}
-use Rattle.std.specs.FinMap.{get}
 use Rattle.catalog_cli.specs.Refused.{IsOfNoCommand, IsRefusedText}
 use Rattle.catalog_cli.specs.Statuses.{status_of_script}
 use Rattle.catalog_cli.specs.declared.status.Verb.{Verb}

@@ -5,7 +5,7 @@ use Rattle.cat_command.specs.Commands.{IsCommand}
 use Rattle.cat_command.specs.declared.command.Command.TheVariants.{Format, Words}
 use Rattle.cat_text.specs.Shelves.{FileMap, KeepsFiles, SavesFile}
 use Rattle.cat_text.specs.WordLines.{word_line}
-use Rattle.pm_words.specs.Bytes.{bytes_of, words_in, HasNoFault, IsFault}
+use Rattle.pm_words.specs.Bytes.{bytes_of, HasNoFault, IsFault}
 use Rattle.pm_words.specs.Images.{fresh_words}
 use Rattle.pm_words.specs.Locations.{image_words}
 use Rattle.pm_words.specs.declared.layout.Layout.{Layout}

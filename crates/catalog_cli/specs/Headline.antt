@@ -28,7 +28,7 @@ use Rattle.pm_words.specs.declared.layout.Layout.{Layout}
 use Rattle.shapes.specs.Anchors.{Anchors}
 use Rattle.shapes.specs.ShapeRounds.{anchors_end, puts_added, FullIsPaid}
 use Rattle.catalog_cli.specs.Built.{unbuilt_command, first_unbuilt, IsCommandWord}
-use Rattle.catalog_cli.specs.Files.{CanBeDone, FormatsSome, Formats, HasBytes, HasNoFile, IsFileCause, LeavesFiles, LeavesOldOrNew, ListsWords, NamesFile, file_of, formatted_line, lines_told}
+use Rattle.catalog_cli.specs.Files.{CanBeDone, Formats, HasBytes, HasNoFile, IsFileCause, LeavesFiles, LeavesOldOrNew, ListsWords, NamesFile, file_of, formatted_line, lines_told}
 use Rattle.catalog_cli.specs.Rounds.{IsPlayedRound, most_end}
 use Rattle.catalog_cli.specs.Summaries.{full_in, summary_of}
 use Rattle.catalog_cli.specs.declared.status.ImageRefusal.{ImageRefusal}

@@ -1,4 +1,4 @@
-use Rattle.std.proofs.Common.{ap, ◌∙◌, arith}
+use Rattle.std.proofs.Common.{ap, arith}
 use Rattle.pm_words.specs.Locations.{image_words}
 use Rattle.catalog_cli.proofs.WordLists.{begun, one-more, ended}
 use Rattle.catalog_cli.proofs.files.print_words.Goals as goal
