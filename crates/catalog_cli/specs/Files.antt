@@ -1,5 +1,6 @@
 -- The commands on files: what they print, and what they make of the files.
-use Rattle.std.specs.Prelude.{◌≡◌, ℕ, ◌+◌, ◌<◌, ◌⊎◌, List, [], ◌∷◌, ◌++◌, Option, IfSome, Some, None, IsSome, codes, decimal, drop, get_or, take}
+use Rattle.std.specs.Prelude.{◌≡◌, ℕ, ◌+◌, ◌<◌, ◌⊎◌, List, [], ◌∷◌, ◌++◌, Option, IfSome, Some, None, IsSome, codes}
+use Rattle.std.specs.Prelude.{decimal, drop, get_or, take}
 use Rattle.std.specs.FinMap.{get}
 use Rattle.cat_command.specs.Commands.{IsCommand}
 use Rattle.cat_command.specs.declared.command.Command.TheVariants.{Format, Words}
@@ -95,8 +96,8 @@ abbrev pub CanBeDone : List (List ℕ) → Option FileMap → Type 0
 CanBeDone words files = (FormatsSome words × HasNoFile files (file_of words)) ⊎
     (ListsSome words × ((bytes : List ℕ) × HasBytes files (file_of words) bytes × HasNoFault bytes))
 
--- Why a fresh image wasn't saved under this name, and what the shelf has then: as many of its calls had failed before as
--- the first number says, and now as the second.
+-- Why a fresh image wasn't saved under this name, and what the shelf has then: as many of its calls had failed before
+-- as the first number says, and now as the second.
 abbrev pub IsFormatRefused : Option FileMap → Option FileMap → (shelves shelves' : ℕ) → List ℕ → Layout → Status →
     Type 0
 IsFormatRefused files files' shelves shelves' name layout status.Shelf = (shelves < shelves') ×

@@ -1,5 +1,6 @@
 -- What the program owes: what a script plays, what is reported of it, and what each status says of source and sink.
-use Rattle.std.specs.Prelude.{◌≡◌, ℕ, ◌+◌, ◌/◌, ◌<◌, ◌⊎◌, List, [], ◌∷◌, Option, IfSome, Some, None, All, length, take, fold}
+use Rattle.std.specs.Prelude.{◌≡◌, ℕ, ◌+◌, ◌/◌, ◌<◌, ◌⊎◌, List, [], ◌∷◌, Option, IfSome, Some, None, All, length}
+use Rattle.std.specs.Prelude.{take, fold}
 use Rattle.std.specs.FinMap.{empty, insert, remove}
 use Rattle.std.specs.Io.KnownBytes.{Appends, Keeps}
 use Rattle.cat_command.specs.Commands.{IsCommand}
@@ -28,7 +29,8 @@ use Rattle.pm_words.specs.declared.layout.Layout.{Layout}
 use Rattle.shapes.specs.Anchors.{Anchors}
 use Rattle.shapes.specs.ShapeRounds.{anchors_end, puts_added, FullIsPaid}
 use Rattle.catalog_cli.specs.Built.{unbuilt_command, first_unbuilt, IsCommandWord}
-use Rattle.catalog_cli.specs.Files.{CanBeDone, Formats, HasBytes, HasNoFile, IsFileCause, LeavesFiles, LeavesOldOrNew, ListsWords, NamesFile, file_of, formatted_line, lines_told}
+use Rattle.catalog_cli.specs.Files.{CanBeDone, Formats, HasBytes, HasNoFile, IsFileCause, LeavesFiles, LeavesOldOrNew}
+use Rattle.catalog_cli.specs.Files.{ListsWords, NamesFile, file_of, formatted_line, lines_told}
 use Rattle.catalog_cli.specs.Rounds.{IsPlayedRound, most_end}
 use Rattle.catalog_cli.specs.Summaries.{full_in, summary_of}
 use Rattle.catalog_cli.specs.declared.status.ImageRefusal.{ImageRefusal}
@@ -95,13 +97,13 @@ ArePlayedRounds slots most base anchors (plan ∷ plans) (report ∷ reports) =
     ArePlayedRounds slots (most_end slots most base anchors report.records)
     (after_all base (writes_of report.records)) (anchors_end slots base anchors report.records) plans reports
 
--- In each round a call is answered full only where all nodes are paid for by the weight at the opening, and the slots of
--- one by the names then, together with the puts since then, up to the end of that round, that added a name.
+-- In each round a call is answered full only where all nodes are paid for by the weight at the opening, and the slots
+-- of one by the names then, together with the puts since then, up to the end of that round, that added a name.
 abbrev pub ArePaidRounds : ℕ → ℕ → ℕ → ℕ → List RoundReport → Type 0
 ArePaidRounds slots nodes weighs names [] = Unit {0}
 ArePaidRounds slots nodes weighs names (report ∷ reports) =
-    All (FullIsPaid slots nodes (weighs + puts_added report.records) (names + puts_added report.records)) report.records ×
-    ArePaidRounds slots nodes (weighs + puts_added report.records) (names + puts_added report.records) reports
+    All (FullIsPaid slots nodes (weighs + puts_added report.records) (names + puts_added report.records)) report.records
+    × ArePaidRounds slots nodes (weighs + puts_added report.records) (names + puts_added report.records) reports
 
 -- The same from an empty catalogue: its one member weighs half as many as a node has slots.
 abbrev pub ArePaidFromEmpty : ℕ → ℕ → List RoundReport → Type 0
@@ -131,8 +133,8 @@ abbrev pub all_done : Map → List CallerOp → Map
 all_done m asked = fold (λ now (a : CallerOp). done now a.op) m asked
 
 -- The text is the summary of a legal round of the calls that a seed makes for one caller, from an empty catalogue of
--- 1024 nodes of 64 slots. Where no call was answered that there is no room, the map at its end is that of the calls done
--- in their order.
+-- 1024 nodes of 64 slots. Where no call was answered that there is no room, the map at its end is that of the calls
+-- done in their order.
 pub record IsSummaryOf (seed count : ℕ) (text : List ℕ) : Type 0 where
   pub report : RoundReport
   pub played : IsPlayedRound 64 1024 empty ([] ∷ []) (generated_plan seed count 1) report (writes_of report.records)
@@ -148,8 +150,8 @@ pub record IsSummaryOf (seed count : ℕ) (text : List ℕ) : Type 0 where
 abbrev pub AreBytesLeft : Option (List ℕ) → List ℕ → Type 0
 AreBytesLeft left bytes = IfSome left (λ told. told ≡ bytes)
 
--- What is told of source and shelf: the bytes that the source had left, the files that there were, and how many calls of
--- each had failed before the run and after it.
+-- What is told of source and shelf: the bytes that the source had left, the files that there were, and how many calls
+-- of each had failed before the run and after it.
 pub record Seen : Type 0 where
   pub left : Option (List ℕ)
   pub files : Option FileMap
@@ -176,8 +178,9 @@ pub data Prints (words : List (List ℕ)) (told : Seen) (text : List ℕ) : Type
   sums_up : (seed count : ℕ) → Generates words seed count → IsSummaryOf seed count text → Prints words told text
   makes_file : (layout : Layout) → Formats words layout → HasNoFile told.files (file_of words) →
       text ≡ formatted_line layout → Prints words told text
-  lists_words : (from count : ℕ) (bytes : List ℕ) → ListsWords words from count → HasBytes told.files (file_of words) bytes →
-      HasNoFault bytes → text ≡ lines_told from count (words_in bytes) → Prints words told text
+  lists_words : (from count : ℕ) (bytes : List ℕ) → ListsWords words from count →
+      HasBytes told.files (file_of words) bytes → HasNoFault bytes →
+      text ≡ lines_told from count (words_in bytes) → Prints words told text
 
 -- What the command prints was appended to the sink.
 pub record PrintsAll (words : List (List ℕ)) (told : Seen) (written written' : Option (List ℕ)) : Type 0 where

@@ -1,6 +1,7 @@
 //! The top call: from the words of a command and the bytes of a script to the bytes of a report.
 
-ghost use Rattle.std.specs.Prelude.{◌≡◌, ◌+◌, ◌≤◌, ◌↔◌, ℕ, List, [], Some, None, Err, IfOk, IfErr, OnOk, IfSome, length, map};
+ghost use Rattle.std.specs.Prelude.{◌≡◌, ◌+◌, ◌≤◌, ◌↔◌, ℕ, List, [], Some, None, Err};
+ghost use Rattle.std.specs.Prelude.{IfOk, IfErr, OnOk, IfSome, length, map};
 ghost use Rattle.std.specs.Io.KnownBytes.{Keeps};
 ghost use Rattle.std.specs.String.{string_bytes};
 ghost use Rattle.cat_command.specs.Commands.{IsCommand};
@@ -48,9 +49,9 @@ pub fn catalog<S: Source, K: Sink, H: Shelf>(
     // What was written: the text of a report of the grammar, that of the script, each of whose rounds is legal; or the
     // summary of a legal round of the generated calls; or the line of a fresh image; or the words of a file; or a
     // beginning of one of these; or nothing.
-    ensures sink { LeavesSink (map string_bytes words.now) (seen (S.left script.old) (H.files shelf.old) (S.faults script.old)
-        (S.faults script.new) (H.faults shelf.old) (H.faults shelf.new))
-        result (K.written out.old) (K.written out.new) }
+    ensures sink { LeavesSink (map string_bytes words.now)
+        (seen (S.left script.old) (H.files shelf.old) (S.faults script.old) (S.faults script.new) (H.faults shelf.old)
+        (H.faults shelf.new)) result (K.written out.old) (K.written out.new) }
     ensures nothing_written { WritesNothing result → out.new ≡ out.old }
 
     // What the shelf has then: a new file of a fresh image, or what it had. No other file ever changes.
@@ -58,26 +59,26 @@ pub fn catalog<S: Source, K: Sink, H: Shelf>(
     ensures no_file { PlaysSome (map string_bytes words.now) → shelf.new ≡ shelf.old }
 
     // Each status has its cause, and comes where that is given, unless memory runs out.
-    ensures cause { IsCauseOf (map string_bytes words.now) (seen (S.left script.old) (H.files shelf.old) (S.faults script.old)
-        (S.faults script.new) (H.faults shelf.old) (H.faults shelf.new))
-        (K.faults out.old) (K.faults out.new) result }
+    ensures cause { IsCauseOf (map string_bytes words.now)
+        (seen (S.left script.old) (H.files shelf.old) (S.faults script.old) (S.faults script.new) (H.faults shelf.old)
+        (H.faults shelf.new)) (K.faults out.old) (K.faults out.new) result }
     ensures usage { result ≡ Status.Usage ↔
         ((command : Command) → ¬ IsCommand (map string_bytes words.now) command) }
     ensures unbuilt_command { (verb : Verb) → IsCommandWord verb →
         (result ≡ Status.NotBuilt verb) ↔ NamesCommand (map string_bytes words.now) verb }
-    ensures refused { TellsRefusal (map string_bytes words.now) (seen (S.left script.old) (H.files shelf.old) (S.faults script.old)
-        (S.faults script.new) (H.faults shelf.old) (H.faults shelf.new))
-        result }
-    ensures accepted { FinishesAccepted (map string_bytes words.now) (seen (S.left script.old) (H.files shelf.old) (S.faults script.old)
-        (S.faults script.new) (H.faults shelf.old) (H.faults shelf.new))
-        (K.faults out.old) (K.faults out.new) result }
+    ensures refused { TellsRefusal (map string_bytes words.now)
+        (seen (S.left script.old) (H.files shelf.old) (S.faults script.old) (S.faults script.new) (H.faults shelf.old)
+        (H.faults shelf.new)) result }
+    ensures accepted { FinishesAccepted (map string_bytes words.now)
+        (seen (S.left script.old) (H.files shelf.old) (S.faults script.old) (S.faults script.new) (H.faults shelf.old)
+        (H.faults shelf.new)) (K.faults out.old) (K.faults out.new) result }
     ensures generated { FinishesGenerated (map string_bytes words.now) (K.faults out.old) (K.faults out.new) result }
-    ensures file_refused { TellsFile (map string_bytes words.now) (seen (S.left script.old) (H.files shelf.old) (S.faults script.old)
-        (S.faults script.new) (H.faults shelf.old) (H.faults shelf.new))
-        result }
-    ensures file_done { FinishesOnFile (map string_bytes words.now) (seen (S.left script.old) (H.files shelf.old) (S.faults script.old)
-        (S.faults script.new) (H.faults shelf.old) (H.faults shelf.new))
-        (K.faults out.old) (K.faults out.new) result }
+    ensures file_refused { TellsFile (map string_bytes words.now)
+        (seen (S.left script.old) (H.files shelf.old) (S.faults script.old) (S.faults script.new) (H.faults shelf.old)
+        (H.faults shelf.new)) result }
+    ensures file_done { FinishesOnFile (map string_bytes words.now)
+        (seen (S.left script.old) (H.files shelf.old) (S.faults script.old) (S.faults script.new) (H.faults shelf.old)
+        (H.faults shelf.new)) (K.faults out.old) (K.faults out.new) result }
 
     // What was read: all of a script, and never more than tells that it is too long; nothing for words alone and for
     // other commands.
@@ -101,15 +102,15 @@ fn run_command<S: Source, K: Sink, H: Shelf>(
     out: &mut K,
     shelf: &mut H,
 ) -> Status
-    ensures sink { LeavesSink (map string_bytes words.now) (seen (S.left script.old) (H.files shelf.old) (S.faults script.old)
-        (S.faults script.new) (H.faults shelf.old) (H.faults shelf.new))
-        result (K.written out.old) (K.written out.new) }
+    ensures sink { LeavesSink (map string_bytes words.now)
+        (seen (S.left script.old) (H.files shelf.old) (S.faults script.old) (S.faults script.new) (H.faults shelf.old)
+        (H.faults shelf.new)) result (K.written out.old) (K.written out.new) }
     ensures nothing_written { WritesNothing result → out.new ≡ out.old }
     ensures files { LeavesShelf (map string_bytes words.now) result (H.files shelf.old) (H.files shelf.new) }
     ensures no_file { PlaysSome (map string_bytes words.now) → shelf.new ≡ shelf.old }
-    ensures cause { IsCauseOf (map string_bytes words.now) (seen (S.left script.old) (H.files shelf.old) (S.faults script.old)
-        (S.faults script.new) (H.faults shelf.old) (H.faults shelf.new))
-        (K.faults out.old) (K.faults out.new) result }
+    ensures cause { IsCauseOf (map string_bytes words.now)
+        (seen (S.left script.old) (H.files shelf.old) (S.faults script.old) (S.faults script.new) (H.faults shelf.old)
+        (H.faults shelf.new)) (K.faults out.old) (K.faults out.new) result }
     ensures nothing_read { IsOfWords result → script.new ≡ script.old }
     ensures reads_no_script { (¬ ReadsSome (map string_bytes words.now)) → script.new ≡ script.old }
     ensures read_to_end { ReadsSome (map string_bytes words.now) → IsAfterReading result →
@@ -136,11 +137,12 @@ fn text_of<S: Source, H: Shelf>(
     script: &mut S,
     shelf: &mut H,
 ) -> Result<Vec<u8>, Status>
-    ensures prints { IfOk result (λ text. Prints (map string_bytes words.now) (seen (S.left script.old) (H.files shelf.old) (S.faults script.old)
-        (S.faults script.new) (H.faults shelf.old) (H.faults shelf.new))
-        text.items) }
-    ensures cause { IfErr result (HasNoText (map string_bytes words.now) (seen (S.left script.old) (H.files shelf.old) (S.faults script.old)
-        (S.faults script.new) (H.faults shelf.old) (H.faults shelf.new))) }
+    ensures prints { IfOk result (λ text. Prints (map string_bytes words.now)
+        (seen (S.left script.old) (H.files shelf.old) (S.faults script.old) (S.faults script.new) (H.faults shelf.old)
+        (H.faults shelf.new)) text.items) }
+    ensures cause { IfErr result (HasNoText (map string_bytes words.now)
+        (seen (S.left script.old) (H.files shelf.old) (S.faults script.old) (S.faults script.new) (H.faults shelf.old)
+        (H.faults shelf.new))) }
     ensures files { OnOk result (LeavesFiles (map string_bytes words.now) (H.files shelf.old) (H.files shelf.new)) }
     ensures files_then { IfErr result (λ status. LeavesShelf (map string_bytes words.now) status (H.files shelf.old)
         (H.files shelf.new)) }
