@@ -132,10 +132,8 @@ fn makes_a_file_once_and_lists_its_words(rt: HostRuntime) -> Result<(), Fail> {
         assert_eq!(rt; written.as_slice(), lines.as_bytes(), "{words}");
     }
     let bytes = shelf.load("c")?.ok_or("c")?;
-    assert_eq!(rt;
-        (bytes.len(), &bytes[..8]),
-        (19_968, b"PACCAT01".as_slice())
-    );
+    assert_eq!(rt; bytes.len(), 19_968);
+    assert!(rt; bytes.starts_with(b"PACCAT01"));
     Ok(())
 }
 
@@ -154,7 +152,7 @@ fn refuses_bytes_that_are_no_image(rt: HostRuntime) -> Result<(), Fail> {
     ];
     for (at, fault) in rows {
         let mut bytes = whole.to_vec(rt.alloc())?;
-        bytes[at] = 7;
+        *bytes.get_mut(at).ok_or("a byte")? = 7;
         shelf.save("c", &bytes)?;
         let (status, written) = run_on(&rt, &mut shelf, "words c 0 1")?;
         assert_eq!(rt; (status, written.len()), (of_bytes(fault), 0), "{at}");
@@ -162,7 +160,8 @@ fn refuses_bytes_that_are_no_image(rt: HostRuntime) -> Result<(), Fail> {
         let kept = shelf.load("c")?.ok_or("c")?;
         assert_eq!(rt; kept.as_slice(), bytes.as_slice(), "{at}");
     }
-    shelf.save("c", &whole[..19_960])?;
+    let short = whole.get(..19_960).ok_or("a shorter file")?;
+    shelf.save("c", short)?;
     let (status, _) = run_on(&rt, &mut shelf, "words c 0 1")?;
     assert_eq!(rt; status, of_bytes(ImageFault::Length { found: 19_960 }));
     Ok(())
@@ -170,14 +169,13 @@ fn refuses_bytes_that_are_no_image(rt: HostRuntime) -> Result<(), Fail> {
 
 #[test]
 fn blames_the_shelf_for_its_faults(rt: HostRuntime) -> Result<(), Fail> {
-    // A file is looked for, and then saved.
-    for failing in [1, 2] {
+    // A file is looked for, and then saved. The fourth call fails too; so many loads come before it.
+    for (failing, loads) in [(1, 2), (2, 1)] {
         let plan = FaultPlan::failing_at(Vec::from_slice(rt.alloc(), &[failing, 4])?);
         let mut shelf = MemoryShelf::new(rt.alloc(), plan);
         let (status, written) = run_on(&rt, &mut shelf, "format c 2 4 1")?;
         assert_eq!(rt; (status, written.len()), (Status::Shelf, 0));
-        // The fourth call fails too.
-        while shelf.plan().calls() < 3 {
+        for _ in 0..loads {
             assert!(rt; shelf.load("c")?.is_none());
         }
         let (status, written) = run_on(&rt, &mut shelf, "words c 5 1")?;
