@@ -1,18 +1,18 @@
 -- A scan of a map that stays lists, in all its parts together, the first names from there on.
-use Rattle.std.proofs.Common.{◌≡◌, ℕ, zero, suc, ◌-◌, ◌<◌, ◌≤◌, ⊎_elim, Bool, true, false, not, cond, ◌&&◌, T, Less, Equal, Greater, Ordering, is_gt, is_lt, Option, Some, None, List, [], ◌∷◌, ◌++◌, length, take, map, refl, sym, ap, subst, ◌∙◌, arith, append-nil}
+use Rattle.std.proofs.Common.{◌≡◌, ℕ, zero, suc, ◌-◌, ◌<◌, ◌≤◌, ⊎_elim, inl, inr, Bool, true, false, not, cond, ◌&&◌, T, Less, Equal, Greater, Ordering, is_gt, is_lt, Option, Some, None, List, [], ◌∷◌, ◌++◌, length, take, map, refl, sym, ap, subst, ◌∙◌, arith, append-nil, append_assoc}
 use Rattle.std.proofs.lemmas.Bool.{true≢false}
-use Rattle.std.proofs.lemmas.List.{map-append}
+use Rattle.std.proofs.lemmas.List.{map-append, length-take}
 use Rattle.std.specs.Prelude.{IfSome, flat_map}
 use Rattle.std.specs.Cmp.{upto}
 use Rattle.std.specs.Cmp.Lexicographic.{nat_list_cmp_total}
 use Rattle.std.specs.FinMap.{entries, entries_sorted}
-use Rattle.std.specs.FinMap.Entries.{below_all, is_sorted}
+use Rattle.std.specs.FinMap.Entries.{below_all, is_sorted, where_key, is_sorted-where_key}
 use Rattle.std.specs.List.{filter, AllByRecursion}
 use Rattle.std.specs.Ordering.{ordering_reverse}
 use Rattle.cat_key.specs.Names.{name_cmp}
 use Rattle.cat_key.specs.declared.Pair.{Pair}
 use Rattle.cat_history.specs.Maps.{Map}
-use Rattle.cat_history.specs.Scans.{is_below, is_between, range, IsPart, IsLastPart, AreParts, ScanIsWhole}
+use Rattle.cat_history.specs.Scans.{is_below, is_under, is_between, range, IsPart, IsLastPart, AreParts, ScanIsWhole, RiseAbove, Rise, RangesRise, ScansRise, GoesOn, PartsFollow, PartsAreLater}
 use Rattle.cat_history.specs.Scans.AreParts.{cut_off, ends, goes_on}
 use Rattle.cat_history.specs.declared.record.ScanPart.{ScanPart}
 
@@ -158,14 +158,14 @@ module _ {X : Type 0} where
 
 -- ---- the parts
 
+part-order : (map_at : ℕ → Map) (low high : List ℕ) (left place : ℕ) (part : ScanPart) → IsPart map_at low left place part → part.high ≡ Some high → is_below low high ≡ true
+part-order map_at low high left place part is at =
+    subst (λ (l : List ℕ). is_below l high ≡ true) is.begins (subst (λ (o : Option (List ℕ)). IfSome o (λ h. is_below part.low h ≡ true)) at is.bounds)
+
 module _ (m : Map) where
   -- what a part lists, from where the scan has come to
   part-lists : (low : List ℕ) (left place : ℕ) (part : ScanPart) → IsPart (λ _. m) low left place part → part.pairs ≡ take left (range m low part.high)
   part-lists low left place part is = is.lists ∙ ap (λ (l : List ℕ). take left (range m l part.high)) is.begins
-
-  part-bounds : (low high : List ℕ) (left place : ℕ) (part : ScanPart) → IsPart (λ _. m) low left place part → part.high ≡ Some high → is_below low high ≡ true
-  part-bounds low high left place part is at =
-      subst (λ (l : List ℕ). is_below l high ≡ true) is.begins (subst (λ (o : Option (List ℕ)). IfSome o (λ h. is_below part.low h ≡ true)) at is.bounds)
 
   last-lists : (low : List ℕ) (left place : ℕ) (part : ScanPart) (o : Option (List ℕ)) → part.high ≡ o → IsPart (λ _. m) low left place part → IsLastPart left part →
       part.pairs ≡ take left (range m low None)
@@ -178,7 +178,7 @@ module _ (m : Map) where
       let size : length part.pairs ≡ length (take left (range m low (Some high))) = ap length here in
       let fits : left ≤ length (range m low (Some high)) = omega (arith, full, size, short) in
       here ∙ sym (take-within left (range m low (Some high)) (range m high None) fits)
-      ∙ ap (take left) (range-cut low high (part-bounds low high left place part is at) m))
+      ∙ ap (take left) (range-cut low high (part-order (λ _. m) low high left place part is at) m))
       (λ (none : part.high ≡ None). absurd (let both : Some high ≡ None = sym at ∙ none in cc))
       last
 
@@ -196,7 +196,135 @@ module _ (m : Map) where
       (λ i. all i ++ rest i)
       ∙ ap (λ (k : ℕ). range m low (Some high) ++ take (left - k) (range m high None)) long
       ∙ sym (take-past left (range m low (Some high)) (range m high None) (omega (arith, long, less)))
-      ∙ ap (take left) (range-cut low high (part-bounds low high left place part is at) m)
+      ∙ ap (take left) (range-cut low high (part-order (λ _. m) low high left place part is at) m)
 
 pub scan_is_whole : ScanIsWhole
 scan_is_whole m from count parts scan = scan-lists m from count 0 false parts refl scan
+
+-- ---- their names rise
+
+abbrev pair_with : List ℕ × ℕ → Pair
+pair_with e = record { name = e.0; value = e.1 }
+
+rise-above : (name : List ℕ) (es : Entries) → T (below_all name_cmp name es) → T (is_sorted name_cmp es) → RiseAbove name (map pair_with es)
+rise-above name [] below sorted = tt
+rise-above name (e ∷ es) below sorted = (
+  is_true (is_below name e.0) (first (is_below name e.0) (below_all name_cmp name es) below),
+  rise-above e.0 es (first (below_all name_cmp e.0 es) (is_sorted name_cmp es) sorted) (second (below_all name_cmp e.0 es) (is_sorted name_cmp es) sorted),
+)
+
+rise-from : (es : Entries) → T (is_sorted name_cmp es) → Rise (map pair_with es)
+rise-from [] sorted = tt
+rise-from (e ∷ es) sorted = rise-above e.0 es (first (below_all name_cmp e.0 es) (is_sorted name_cmp es) sorted) (second (below_all name_cmp e.0 es) (is_sorted name_cmp es) sorted)
+
+take-above : (n : ℕ) (name : List ℕ) (ps : List Pair) → RiseAbove name ps → RiseAbove name (take n ps)
+take-above zero name ps rise = tt
+take-above (suc n) name [] rise = tt
+take-above (suc n) name (p ∷ ps) rise = (rise.0, take-above n p.name ps rise.1)
+
+take-rise : (n : ℕ) (ps : List Pair) → Rise ps → Rise (take n ps)
+take-rise zero ps rise = tt
+take-rise (suc n) [] rise = tt
+take-rise (suc n) (p ∷ ps) rise = take-above n p.name ps rise
+
+pub range_rises : RangesRise
+range_rises m low high count =
+    take-rise count (range m low high) (rise-from (where_key name_cmp (is_between low high) (entries m)) (is_sorted-where_key name_cmp (is_between low high) (entries m) (entries_sorted m)))
+
+-- names that are at least the low one and under the high one
+abbrev Within : List ℕ → Option (List ℕ) → List Pair → Type 0
+Within low high ps = AllByRecursion (λ (p : Pair). (is_below p.name low ≡ false) × (is_under high p.name ≡ true)) ps
+
+both-true : (a b : Bool) → not a && b ≡ true → (a ≡ false) × (b ≡ true)
+both-true true b is = clash is refl
+both-true false b is = (refl, is)
+
+within-range : (low : List ℕ) (high : Option (List ℕ)) (es : Entries) → Within low high (map pair_with (filter (λ (e : List ℕ × ℕ). is_between low high e.0) es))
+within-range low high [] = tt
+within-range low high (e ∷ es) = by (is_between low high e.0) refl (within-range low high es)
+  where
+    between : List ℕ × ℕ → Bool
+    between x = is_between low high x.0
+
+    by : (b : Bool) → is_between low high e.0 ≡ b → Within low high (map pair_with (filter between es)) → Within low high (map pair_with (filter between (e ∷ es)))
+    by true is rest = subst (λ (xs : Entries). Within low high (map pair_with xs)) (sym (keeps between e es is)) (both-true (is_below e.0 low) (is_under high e.0) is, rest)
+    by false is rest = subst (λ (xs : Entries). Within low high (map pair_with xs)) (sym (drops between e es is)) rest
+
+take-bounded : (low : List ℕ) (high : Option (List ℕ)) (n : ℕ) (ps : List Pair) → Within low high ps → Within low high (take n ps)
+take-bounded low high zero ps all = tt
+take-bounded low high (suc n) [] all = tt
+take-bounded low high (suc n) (p ∷ ps) all = (all.0, take-bounded low high n ps all.1)
+
+under-high : (low high : List ℕ) (ps : List Pair) → Within low (Some high) ps → AllByRecursion (λ (p : Pair). is_below p.name high ≡ true) ps
+under-high low high [] all = tt
+under-high low high (p ∷ ps) all = (all.0.1, under-high low high ps all.1)
+
+abbrev From : List ℕ → List Pair → Type 0
+From low ps = AllByRecursion (λ (p : Pair). is_below p.name low ≡ false) ps
+
+from-low : (low : List ℕ) (high : Option (List ℕ)) (ps : List Pair) → Within low high ps → From low ps
+from-low low high [] all = tt
+from-low low high (p ∷ ps) all = (all.0.0, from-low low high ps all.1)
+
+from-lower : (low high : List ℕ) (ps : List Pair) → is_below low high ≡ true → From high ps → From low ps
+from-lower low high [] order all = tt
+from-lower low high (p ∷ ps) order all = (upto-chain low high p.name (not_back low high order) all.0, from-lower low high ps order all.1)
+
+from-both : (low : List ℕ) (ps qs : List Pair) → From low ps → From low qs → From low (ps ++ qs)
+from-both low [] qs a b = b
+from-both low (p ∷ ps) qs a b = (a.0, from-both low ps qs a.1 b)
+
+-- names that rise from a bound on, behind names that rise under it
+above-both : (high name : List ℕ) (ps qs : List Pair) → is_below name high ≡ true → RiseAbove name ps → AllByRecursion (λ (p : Pair). is_below p.name high ≡ true) ps → Rise qs → From high qs → RiseAbove name (ps ++ qs)
+above-both high name [] [] under a u b f = tt
+above-both high name [] (q ∷ qs) under a u b f = (no_false (is_below name q.name) (λ un. clash under (upto-chain high q.name name f.0 un)), b)
+above-both high name (p ∷ ps) qs under a u b f = (a.0, above-both high p.name ps qs u.0 a.1 u.1 b f)
+
+rise-both : (high : List ℕ) (ps qs : List Pair) → Rise ps → AllByRecursion (λ (p : Pair). is_below p.name high ≡ true) ps → Rise qs → From high qs → Rise (ps ++ qs)
+rise-both high [] qs a u b f = b
+rise-both high (p ∷ ps) qs a u b f = above-both high p.name ps qs u.0 a u.1 b f
+
+module _ (map_at : ℕ → Map) where
+  part-within : (low : List ℕ) (left place : ℕ) (part : ScanPart) → IsPart map_at low left place part → Within low part.high part.pairs
+  part-within low left place part is =
+      subst (λ (l : List ℕ). Within l part.high part.pairs) is.begins
+      (subst (Within part.low part.high) (sym is.lists) (take-bounded part.low part.high left (range (map_at part.place) part.low part.high) (within-range part.low part.high (entries (map_at part.place)))))
+
+  part-rises : (low : List ℕ) (left place : ℕ) (part : ScanPart) → IsPart map_at low left place part → Rise part.pairs
+  part-rises low left place part is = subst Rise (sym is.lists) (range_rises (map_at part.place) part.low part.high left)
+
+  parts-from : (low : List ℕ) (left place : ℕ) (cut : Bool) (parts : List ScanPart) → AreParts map_at low left place cut parts → From low (flat_map (λ (part : ScanPart). part.pairs) parts)
+  parts-from low left place cut parts cut_off = tt
+  parts-from low left place cut parts (ends {part = part} is last) = from-both low part.pairs [] (from-low low part.high part.pairs (part-within low left place part is)) tt
+  parts-from low left place cut parts (goes_on {part = part} {parts = more} high is less at later) =
+      from-both low part.pairs (flat_map (λ (q : ScanPart). q.pairs) more) (from-low low part.high part.pairs (part-within low left place part is))
+      (from-lower low high (flat_map (λ (q : ScanPart). q.pairs) more) (part-order map_at low high left place part is at) (parts-from high (left - length part.pairs) part.place cut more later))
+
+pub scan_rises : ScansRise
+scan_rises map_at low left place cut parts cut_off = tt
+scan_rises map_at low left place cut parts (ends {part = part} is last) = subst Rise (sym (append-nil part.pairs)) (part-rises map_at low left place part is)
+scan_rises map_at low left place cut parts (goes_on {part = part} {parts = more} high is less at later) =
+    rise-both high part.pairs (flat_map (λ (q : ScanPart). q.pairs) more) (part-rises map_at low left place part is)
+    (under-high low high part.pairs (subst (λ (o : Option (List ℕ)). Within low o part.pairs) at (part-within map_at low left place part is)))
+    (scan_rises map_at high (left - length part.pairs) part.place cut more later) (parts-from map_at high (left - length part.pairs) part.place cut more later)
+
+-- ---- one part more
+
+-- a part lists no more names than are left
+pub part_few : (map_at : ℕ → Map) (low : List ℕ) (left place : ℕ) (part : ScanPart) → IsPart map_at low left place part → length part.pairs ≤ left
+part_few map_at low left place part is = omega (arith, ap length is.lists, length-take left (range (map_at part.place) part.low part.high))
+
+pub part_follows : PartsFollow
+part_follows map_at from count start low left place parts part was is = (
+  λ less. on less part.high refl,
+  λ full. let few = part_few map_at low left place part is in was (part ∷ []) (ends is (inl (omega (arith, few, full)))),
+)
+  where
+    on : length part.pairs < left → (o : Option (List ℕ)) → part.high ≡ o → GoesOn map_at from count start o (left - length part.pairs) part.place (parts ++ part ∷ [])
+    on less None at = was (part ∷ []) (ends is (inr at))
+    on less (Some high) at = λ more are. subst (AreParts map_at from count start false) (sym (append_assoc parts (part ∷ []) more)) (was (part ∷ more) (goes_on high is less at are))
+
+pub parts_later : PartsAreLater
+parts_later map_at low left sooner place cut parts least cut_off = cut_off
+parts_later map_at low left sooner place cut parts least (ends is last) = ends (record { begins = is.begins; bounds = is.bounds; later = let from = is.later in omega (arith, from, least); lists = is.lists }) last
+parts_later map_at low left sooner place cut parts least (goes_on high is less at more) = goes_on high (record { begins = is.begins; bounds = is.bounds; later = let from = is.later in omega (arith, from, least); lists = is.lists }) less at more

@@ -4,7 +4,7 @@ ghost use Rattle.cat_history.specs.Callers.{LateWritesAreFew};
 ghost use Rattle.cat_history.specs.CrashEnds.{OldOrCutIsCrashEnd, NoneOrOneIsCrashEnd};
 ghost use Rattle.cat_history.specs.CrashRounds.{SettledIsCrashRound};
 ghost use Rattle.cat_history.specs.LoneRounds.{LoneRoundsAreLegal};
-ghost use Rattle.cat_history.specs.Scans.{ScanIsWhole};
+ghost use Rattle.cat_history.specs.Scans.{PartsAreLater, PartsFollow, RangesRise, ScanIsWhole, ScansRise};
 
 /// A round in which one caller alone has calls, each answered at once and spent exactly by the limit, is a legal one
 /// that was joined.
@@ -13,9 +13,14 @@ pub fn lone_round_law()
 {}
 
 /// What a scan lists. If the map is the same at all its places, then its parts together list the first names from the
-/// one asked for on, as many as were asked for, with their numbers.
+/// one asked for on, as many as were asked for, with their numbers. Whatever the maps are, its names rise. A part more
+/// makes parts of a scan from parts of it.
 pub fn scan_law()
-    ensures { ScanIsWhole }
+    ensures whole { ScanIsWhole }
+    ensures ranges { RangesRise }
+    ensures rise { ScansRise }
+    ensures follow { PartsFollow }
+    ensures later { PartsAreLater }
 {}
 
 /// What a crash may leave of a map. Let some changes be cut off, of different names or not. If another map has under

@@ -4,7 +4,7 @@ use Rattle.cat_key.specs.Names.{IsName}
 use Rattle.cat_key.specs.declared.Pair.{Pair}
 use Rattle.cat_history.specs.Records.{call_of, numbered}
 use Rattle.cat_history.specs.Rounds.{IsPut, IsWriter}
-use Rattle.cat_history.specs.Scans.{is_below}
+use Rattle.cat_history.specs.Scans.{Rise}
 use Rattle.cat_history.specs.declared.op.CallerOp.{CallerOp}
 use Rattle.cat_history.specs.declared.op.Op.{Op}
 use Rattle.cat_history.specs.declared.op.Op.TheVariants.{Put, Get, Del, Scan}
@@ -40,16 +40,6 @@ IsScan (Scan from count) = Unit {0}
 -- A name with a number below 2 ^ 64.
 abbrev pub IsReportPair : Pair → Type 0
 IsReportPair pair = IsName pair.name × (pair.value < 2 ^ 64)
-
--- The names rise, and the first is above this one.
-abbrev pub RiseAbove : List ℕ → List Pair → Type 0
-RiseAbove name [] = Unit {0}
-RiseAbove name (pair ∷ pairs) = (is_below name pair.name ≡ true) × RiseAbove pair.name pairs
-
--- Each name but the first is above the one before it.
-abbrev pub Rise : List Pair → Type 0
-Rise [] = Unit {0}
-Rise (pair ∷ pairs) = RiseAbove pair.name pairs
 
 -- A part of a scan: between two names, or without an upper one, with names that rise.
 pub record IsReportPart (part : ScanPart) : Type 0 where

@@ -17,11 +17,10 @@ ghost use Rattle.shapes.specs.Anchors.{most_after, next_of};
 ghost use Rattle.shapes.specs.ShapeRounds.{PutsFull};
 ghost use Rattle.catalog_cli.specs.CoreMaps.{IsUnlimited, anchors_made, calls_left_of, writes_left_of};
 
-use crate::listing::listed_pairs;
 use call_stages::Once;
 use cat_history::{Listed, NoMemory};
 use cat_key::Name;
-use index_core::{Core, CoreCall};
+use index_core::{Core, CoreCall, listed_pairs};
 use node_ops::PartWords;
 use pm_words::{Layout, Steps};
 use shapes::{Full, MapPart, NameMap};

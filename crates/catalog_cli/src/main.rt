@@ -6,7 +6,6 @@ mod catalog;
 mod core_map;
 mod files;
 mod generated;
-mod listing;
 mod play;
 mod round;
 mod status;

@@ -9,12 +9,14 @@ mod crash;
 mod flight;
 mod index;
 pub mod laws;
+mod listing;
 mod lone;
 mod party;
 
 pub use crash::{Crashed, CutCall, Cuts};
 pub use flight::Flight;
 pub use index::{Core, Parts};
+pub use listing::listed_pairs;
 pub use party::{CoreCall, CoreReply, InFlight, PartyState, Stepped, Whole};
 
 #[cfg(test)]

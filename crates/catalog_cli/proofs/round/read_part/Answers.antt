@@ -1,6 +1,7 @@
 use Rattle.std.proofs.Common.{rules, sym, subst}
-use Rattle.cat_text.specs.ReportGrammar.{Rise}
-use Rattle.catalog_cli.proofs.ScanSteps.{part-is, range-rises}
+use Rattle.cat_history.specs.Scans.{Rise}
+use Rattle.cat_history.proofs.ScanLemmas.{range_rises}
+use Rattle.catalog_cli.proofs.ScanSteps.{part-is}
 use Rattle.catalog_cli.proofs.round.read_part.Goals as goal
 
 pub returns-clause-part : goal.returns-clause-part
@@ -17,5 +18,5 @@ returns-clause-report g c =
       high = search rules;
       place = c.ranges.place.fits;
       pairs = told.named;
-      rise = subst Rise (sym told.pairs) (range-rises (g.M.NameMap.contents c.args.map.now) c.args.low _ c.args.left);
+      rise = subst Rise (sym told.pairs) (range_rises (g.M.NameMap.contents c.args.map.now) c.args.low _ c.args.left);
     }

@@ -3,7 +3,7 @@ use Rattle.std.specs.Vec.{vec_capacity}
 use Rattle.cat_key.specs.Names.{IsName}
 use Rattle.cat_key.specs.declared.Pair.{Pair}
 use Rattle.node_ops.specs.Parts.{pair_of}
-use Rattle.catalog_cli.proofs.listing.listed_pairs.Given as goal
+use Rattle.index_core.proofs.listing.listed_pairs.Given as goal
 
 -- the pairs so far are those of the entries so far
 abbrev pub invariant-loop-entry : goal.invariant-loop-entry

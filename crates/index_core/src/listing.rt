@@ -12,7 +12,7 @@ use node_ops::PartWords;
 use std::alloc::Global;
 
 /// The pairs that a part lists.
-pub(crate) fn listed_pairs(alloc: Global, words: &PartWords) -> Result<Vec<Pair>, NoMemory>
+pub fn listed_pairs(alloc: Global, words: &PartWords) -> Result<Vec<Pair>, NoMemory>
     requires few { words.now.len ≤ 64 }
     requires names { AllByRecursion (λ entry. AreNameWords (entry_name entry)) (take words.now.len words.now.entries) }
     ensures pairs { IfOk result (λ pairs. pairs.items ≡ pairs_of words.now) }
