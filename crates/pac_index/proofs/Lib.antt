@@ -3,6 +3,7 @@ pub mod PartRuns
 pub mod Allowed
 pub mod Running
 pub mod Repeating
+pub mod Scanning
 pub mod Seats
 pub mod Handing
 pub mod Gathered

@@ -17,13 +17,13 @@ use Rattle.pac_index.specs.declared.ended.Ended.TheVariants as ended
 use Rattle.pac_index.specs.declared.rule.Member.{Member}
 use Rattle.pac_index.specs.Kept.{placed_by}
 use Rattle.pac_index.specs.Calls.{Answers, PartAnswers, IsAnswered, counted_index}
-use Rattle.pac_index.specs.Ends.{ended_of, ended_by, IsDone, IsTurnedBack, AtLast}
+use Rattle.pac_index.specs.Ends.{ended_of, ended_by, IsDone, HasOnlyRead, AtLast}
 use Rattle.pac_index.proofs.Lists.{begins_self, begins_trans}
 
-pub back_self : (v : Member) → IsTurnedBack v v
+pub back_self : (v : Member) → HasOnlyRead v v
 back_self v = record { about = refl; caller = refl; taken = omega arith; added = refl; seen = begins_self v.seen; own = refl }
 
-back_trans : (u v w : Member) → IsTurnedBack u v → IsTurnedBack v w → IsTurnedBack u w
+pub back_trans : (u v w : Member) → HasOnlyRead u v → HasOnlyRead v w → HasOnlyRead u w
 back_trans u v w p q = record {
   about = q.about ∙ p.about;
   caller = q.caller ∙ p.caller;
@@ -35,7 +35,7 @@ back_trans u v w p q = record {
 
 -- a get or a part that is turned back
 module _ (c : CoreCall) (n : ℕ) (v w : Member) where
-  back_by : (answer : Once Placed) → ended_of answer ≡ None → Answers c n v answer w → IsTurnedBack v w
+  back_by : (answer : Once Placed) → ended_of answer ≡ None → Answers c n v answer w → HasOnlyRead v w
   back_by (once.Done placed) none is = absurd (cc)
   back_by (once.Spent clock) none is = absurd (cc)
   back_by (once.Worn node word) none is = record {
@@ -70,7 +70,7 @@ same_index n (once.Again why) none = refl
 -- What is left by tries that were turned back: the index, and this.
 pub record Tries (n : ℕ) (old : Member) (now_index : ℕ) (now : Member) : Type 0 where
   pub index : now_index ≡ n
-  pub back : IsTurnedBack old now
+  pub back : HasOnlyRead old now
 
 pub get_again : (name : List ℕ) (n i j : ℕ) (old v w : Member) (t : Tried Placed) → Tries n old i v → ended_by t ≡ None → IsAnswered t (λ answer. j ≡ counted_index i answer) → IsAnswered t (λ answer. Answers (call.Get name) i v answer w)
     → Tries n old j w

@@ -27,8 +27,8 @@ IsDone ended.Full holds = ⊥
 IsDone (ended.Spent clock) holds = ⊥
 IsDone ended.Cut holds = ⊥
 
--- A caller all of whose tries were turned back since then: it has seen a longer history, with no more writes of its own.
-pub record IsTurnedBack (old new : Member) : Type 0 where
+-- A caller that has placed no write since then: it has seen a longer history, with no more writes of its own.
+pub record HasOnlyRead (old new : Member) : Type 0 where
   pub about : new.about ≡ old.about
   pub caller : new.state.caller ≡ old.state.caller
   pub taken : old.taken ≤ new.taken
@@ -39,5 +39,5 @@ pub record IsTurnedBack (old new : Member) : Type 0 where
 -- Of the tries of a call all were turned back but the last, of which this holds.
 pub record AtLast (holds : Member → Member → Type 0) (old new : Member) : Type 0 where
   pub before : Member
-  pub back : IsTurnedBack old before
+  pub back : HasOnlyRead old before
   pub last : holds before new

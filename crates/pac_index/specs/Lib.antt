@@ -3,3 +3,4 @@ pub mod Calls
 pub mod Callers
 pub mod Stamps
 pub mod Ends
+pub mod Scanned

@@ -15,6 +15,7 @@ mod making;
 mod meeting;
 mod repeats;
 mod rule;
+mod scans;
 mod shared;
 mod stamps;
 mod tried;
@@ -26,6 +27,7 @@ pub use rule::{
     About, BeginsCall, ByOutcome, FirstStep, JoinAll, Member, Members, NextStep, Outcome, Ruled,
     SplitFirst,
 };
+pub use scans::Scanned;
 pub use shared::Shared;
 pub use tried::Tried;
 

@@ -21,6 +21,7 @@ mod alone;
 mod gates;
 mod held;
 mod parts;
+mod scans;
 
 /// No history here is as long.
 const LIMIT: u64 = 1 << 62;

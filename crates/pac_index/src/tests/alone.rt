@@ -8,7 +8,7 @@ use super::*;
 use pm_words::Again;
 
 /// One call after another, each of its name, and what each is answered.
-fn answers(
+pub(super) fn answers(
     shared: &Shared,
     caller: Caller,
     calls: [(Name, Asks); 5],

@@ -186,6 +186,19 @@ fn changes(map: &mut PlainMap, write: &Write) -> bool {
     }
 }
 
+/// Makes the changes of the history between two places, of which the second isn't before the first.
+pub(super) fn goes_on(map: &mut PlainMap, history: &[Write], from: u64, to: u64) -> bool {
+    for place in from..to {
+        let Some(write) = history.get(place as usize) else {
+            return false;
+        };
+        if !changes(map, write) {
+            return false;
+        }
+    }
+    from <= to
+}
+
 /// Whether each part of a caller is of the map at its place, and no place is below that of an earlier part.
 pub(super) fn are_of_history(
     alloc: Global,
@@ -195,18 +208,11 @@ pub(super) fn are_of_history(
     let mut map = PlainMap::new(alloc, history.len() as u64)?;
     let mut done = 0u64;
     for part in parts {
-        for place in done..part.words.place {
-            let Some(write) = history.get(place as usize) else {
-                return Ok(false);
-            };
-            if !changes(&mut map, write) {
-                return Ok(false);
-            }
-        }
-        if part.words.place < done || !is_of_map(alloc, &mut map, part)? {
+        let place = part.words.place;
+        if !goes_on(&mut map, history, done, place) || !is_of_map(alloc, &mut map, part)? {
             return Ok(false);
         }
-        done = part.words.place;
+        done = place;
     }
     Ok(true)
 }

@@ -1,0 +1,35 @@
+-- What a whole range scan is answered.
+use Rattle.std.specs.Prelude.{ℕ, ◌<◌, ◌≤◌, ◌^◌, false, List, length, flat_map, All}
+use Rattle.cat_key.specs.Names.{IsName}
+use Rattle.cat_key.specs.declared.Pair.{Pair}
+use Rattle.cat_history.specs.Maps.{map_of}
+use Rattle.cat_history.specs.Scans.{AreParts, IsPart, Rise}
+use Rattle.cat_history.specs.Writes.{after}
+use Rattle.cat_history.specs.declared.record.ScanPart.{ScanPart}
+use Rattle.pac_index.specs.declared.rule.Member.{Member}
+use Rattle.pac_index.specs.declared.scans.Scanned.{Scanned}
+use Rattle.pac_index.specs.declared.scans.Scanned.TheVariants as scanned
+
+-- It wasn't cut off, and this holds of its parts.
+abbrev pub IsScanned : Scanned → (List ScanPart → Type 0) → Type 0
+IsScanned (scanned.Done parts) holds = holds parts
+IsScanned (scanned.Cut parts) holds = ⊥
+
+-- The part lists names, each with a number of 64 bits.
+abbrev pub ListsNames : ScanPart → Type 0
+ListsNames part = All (λ (pair : Pair). IsName pair.name × (pair.value < 2 ^ 64)) part.pairs
+
+-- A part of a scan that was answered between two views, from this name on, with so many names left.
+pub record IsRead (low : List ℕ) (left : ℕ) (old new : Member) (part : ScanPart) : Type 0 where
+  pub part_of : IsPart (after (map_of old.about.base) new.seen) low left (length old.seen) part
+  pub within : part.place ≤ length new.seen
+  pub named : ListsNames part
+
+-- The parts of a scan of so many names from this one on, each of the map at a place of its own: after as many writes of
+-- the history as the caller had seen before the scan at least, and as it has seen behind it at most. No place is before
+-- that of an earlier part, and the names rise through all parts.
+pub record AreScanned (from : List ℕ) (count : ℕ) (old new : Member) (parts : List ScanPart) : Type 0 where
+  pub scan : AreParts (after (map_of old.about.base) new.seen) from count (length old.seen) false parts
+  pub within : All (λ part. part.place ≤ length new.seen) parts
+  pub rise : Rise (flat_map (λ part. part.pairs) parts)
+  pub named : All ListsNames parts
