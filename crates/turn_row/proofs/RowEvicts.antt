@@ -33,14 +33,14 @@ module _ (l : Layout) (words : List ℕ) (word : ℕ) (whole : length words ≡ 
   words' = evicted l words word
 
   -- the cached words stay
-  cached : (w : Word) → HasWord l w → at l words' (Cached w) ≡ at l words (Cached w)
+  pub cached : (w : Word) → HasWord l w → at l words' (Cached w) ≡ at l words (Cached w)
   cached w has = let inside = words_within l w has in get_or-set_other words (durable_address l word) (address_of l (Cached w)) (slice_index words (cached_address l word)) 0 (λ e. absurd (omega (arith, e)))
 
   volatile : (n o : ℕ) → n < l.nodes → o < 16 → at l words' (Volatile n o) ≡ at l words (Volatile n o)
   volatile n o here small = get_or-set_other words (durable_address l word) (address_of l (Volatile n o)) (slice_index words (cached_address l word)) 0 (λ e. absurd (omega (arith, e)))
 
   -- each durable word stays, or becomes the cached one
-  durable : (w : Word) → HasWord l w → (at l words' (Durable w) ≡ at l words (Durable w)) ⊎ (at l words' (Durable w) ≡ at l words (Cached w))
+  pub durable : (w : Word) → HasWord l w → (at l words' (Durable w) ≡ at l words (Durable w)) ⊎ (at l words' (Durable w) ≡ at l words (Cached w))
   durable w has = let inside = words_within l w has in elim (cases_eq (word_number l w) word) [
     | inl same ↦ inr (
         let fits : durable_address l word < length words = omega arith in

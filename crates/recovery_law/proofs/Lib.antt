@@ -1,0 +1,13 @@
+pub mod Alike
+pub mod Mended
+pub mod Mixes
+pub mod Weighs
+pub mod Steps
+pub mod Rest
+pub mod Plans
+pub mod RowColumns
+pub mod RowStores
+pub mod RowChanges
+pub mod RowMoves
+pub mod SoundColumns
+pub mod FreshColumns
