@@ -6,3 +6,4 @@ pub mod Prevs
 pub mod Orders
 pub mod Footings
 pub mod Views
+pub mod Watches
