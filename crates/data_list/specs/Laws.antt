@@ -4,12 +4,13 @@ use Rattle.pm_words.specs.declared.layout.Layout.{Layout}
 use Rattle.pm_words.specs.declared.action.Action.{Action}
 use Rattle.pm_words.specs.declared.machine.Turn.{Turn}
 use Rattle.pm_words.specs.declared.machine.Turn.TheVariants.{Go, Done}
-use Rattle.version_lock.specs.Versions.{kept_count, locked_word, is_worn_word}
+use Rattle.version_lock.specs.Versions.{kept_count, locked_word, is_worn_word, IsFree}
 use Rattle.data_node.specs.Spots.{Spot}
 use Rattle.data_node.specs.Lists.{IsBetween}
 use Rattle.call_stages.specs.declared.once.Once.TheVariants as once
 use Rattle.call_stages.specs.Stages.{Sees, Stage, Idle, Saw}
 use Rattle.call_stages.specs.Kinds.{Look, Told}
+use Rattle.call_stages.specs.Watches.{Watching, Watches, Watch, IsSeenAs}
 use Rattle.data_list.specs.declared.key.KeyWords.{KeyWords}
 use Rattle.data_list.specs.declared.target.Next.{Next}
 use Rattle.data_list.specs.declared.target.Sighting.{Sighting}
@@ -19,7 +20,7 @@ use Rattle.data_list.specs.declared.target.Walked.TheVariants as walked
 use Rattle.data_list.specs.declared.walk.Walk.{Walk}
 use Rattle.data_list.specs.Keys.{key_number, key_words, words_in, IsNameOf}
 use Rattle.data_list.specs.Walks.{LeadsOn, sighting_of, WasFree, IsWalk, walk_asks, walk_turned}
-use Rattle.data_list.specs.WalkStages.{walk_stage, sight_in}
+use Rattle.data_list.specs.WalkStages.{walk_watching, walk_stage, sight_in}
 
 -- What a walk saw of its target. While the version word stands, the key belongs there.
 pub record IsSighting (g : ℕ) (key : KeyWords) (seen : Sighting) : Type 0 where
@@ -61,3 +62,23 @@ Walks l g key stage action x (Done (walked.Target target)) =
 abbrev pub WalksAreLooks : Type 0
 WalksAreLooks = (walk : Walk) (x : ℕ) → IsWalk walk → Told walk.layout walk.generation (walk_asks walk) x →
     Walks walk.layout walk.generation walk.key (walk_stage walk) (walk_asks walk) x (walk_turned walk x)
+
+-- What a walk that relied on that has of its target by its last load, which gave x: it relies on what it saw of it, by
+-- which the key belongs there, and these are the words of its anchor.
+pub record IsWatched (l : Layout) (g : ℕ) (key : KeyWords) (watching : Watching) (action : Action) (x : ℕ)
+    (target : Target) : Type 0 where
+  pub here : target.node < l.nodes
+  pub free : IsFree target.version g
+  pub watch : Watch l g watching action x (Watches target.node target.version (sight_in (sighting_of target)))
+  pub seen : IsSeenAs (key_number key) target.low (sight_in (sighting_of target))
+
+-- A turn of a walk to this key that relied on that, whose load gave x: it is a watch, also where it ends at its target.
+abbrev pub WalkWatches : Layout → ℕ → KeyWords → Watching → Action → ℕ → Turn Walk Walked → Type 0
+WalkWatches l g key watching action x (Go walk) = Watch l g watching action x (walk_watching walk)
+WalkWatches l g key watching action x (Done (walked.Again why)) = Unit {0}
+WalkWatches l g key watching action x (Done (walked.Target target)) = IsWatched l g key watching action x target
+
+-- Each turn of a sound walk is a watch, whatever number x it is told of those that its load may give.
+abbrev pub WalksAreWatches : Type 0
+WalksAreWatches = (walk : Walk) (x : ℕ) → IsWalk walk → Told walk.layout walk.generation (walk_asks walk) x →
+    WalkWatches walk.layout walk.generation walk.key (walk_watching walk) (walk_asks walk) x (walk_turned walk x)

@@ -1,8 +1,9 @@
--- What a walk relies on.
+-- What a walk relies on: if it takes no lock, and as a call, which is to lock its target.
 use Rattle.std.specs.Prelude.{ℕ, true, if◌then◌else◌, List, [], ◌∷◌, Option, Some, None}
 use Rattle.version_lock.specs.Versions.{kept_count, locked_word, is_worn_word}
 use Rattle.data_node.specs.Lists.{next_offset}
 use Rattle.call_stages.specs.Stages.{Sight, no_sight, Stage, Idle, Saw, Wears}
+use Rattle.call_stages.specs.Watches.{Watching, Nothing, Watches}
 use Rattle.data_list.specs.declared.key.KeyWords.{KeyWords}
 use Rattle.data_list.specs.declared.target.Next.{Next}
 use Rattle.data_list.specs.declared.target.Sighting.{Sighting}
@@ -11,12 +12,7 @@ use Rattle.data_list.specs.declared.walk.WalkAt.{WalkAt}
 use Rattle.data_list.specs.declared.walk.WalkAt.TheVariants as at
 use Rattle.data_list.specs.Keys.{key_words}
 
--- what was seen of a node whose version word was free
-abbrev pub saw_stage : ℕ → ℕ → ℕ → Sight → Stage
-saw_stage g n version sight =
-    if is_worn_word version g then Wears n version else Saw n version (locked_word g (kept_count version g)) sight
-
--- of a LIVE node these words
+-- it saw of a LIVE node these words
 abbrev pub live_sight : List (ℕ × ℕ) → Sight
 live_sight seen = record { live = true; seen = seen; next = 0; beyond = [] }
 
@@ -32,20 +28,36 @@ leading_sight low next beyond = record {
   beyond = beyond;
 }
 
+-- what it relies on, of the node that it is at
+abbrev pub walk_at_watching : ℕ → WalkAt → Watching
+walk_at_watching n at.Version = Nothing
+walk_at_watching n (at.Status version) = Watches n version no_sight
+walk_at_watching n (at.First version) = Watches n version (live_sight [])
+walk_at_watching n (at.Second version first) = Watches n version (live_sight ((3, first) ∷ []))
+walk_at_watching n (at.Third version first second) = Watches n version (live_sight ((3, first) ∷ (4, second) ∷ []))
+walk_at_watching n (at.Next version low) = Watches n version (live_sight (anchor_seen low))
+walk_at_watching n (at.HighFirst version low next) =
+    Watches n version (live_sight ((next_offset, next) ∷ anchor_seen low))
+walk_at_watching n (at.HighSecond version low next first) =
+    Watches n version (leading_sight low next ((3, first) ∷ []))
+walk_at_watching n (at.HighThird version low next first second) =
+    Watches n version (leading_sight low next ((3, first) ∷ (4, second) ∷ []))
+walk_at_watching n at.Prev = Nothing
+
+abbrev pub walk_watching : Walk → Watching
+walk_watching walk = walk_at_watching walk.node walk.at
+
+-- a call, which can take no lock of a worn node, relies on nothing that it saw of one
+abbrev pub saw_stage : ℕ → ℕ → ℕ → Sight → Stage
+saw_stage g n version sight =
+    if is_worn_word version g then Wears n version else Saw n version (locked_word g (kept_count version g)) sight
+
+abbrev pub watching_stage : ℕ → Watching → Stage
+watching_stage g Nothing = Idle
+watching_stage g (Watches n version sight) = saw_stage g n version sight
+
 abbrev pub walk_at_stage : ℕ → ℕ → WalkAt → Stage
-walk_at_stage g n at.Version = Idle
-walk_at_stage g n (at.Status version) = saw_stage g n version no_sight
-walk_at_stage g n (at.First version) = saw_stage g n version (live_sight [])
-walk_at_stage g n (at.Second version first) = saw_stage g n version (live_sight ((3, first) ∷ []))
-walk_at_stage g n (at.Third version first second) = saw_stage g n version (live_sight ((3, first) ∷ (4, second) ∷ []))
-walk_at_stage g n (at.Next version low) = saw_stage g n version (live_sight (anchor_seen low))
-walk_at_stage g n (at.HighFirst version low next) =
-    saw_stage g n version (live_sight ((next_offset, next) ∷ anchor_seen low))
-walk_at_stage g n (at.HighSecond version low next first) =
-    saw_stage g n version (leading_sight low next ((3, first) ∷ []))
-walk_at_stage g n (at.HighThird version low next first second) =
-    saw_stage g n version (leading_sight low next ((3, first) ∷ (4, second) ∷ []))
-walk_at_stage g n at.Prev = Idle
+walk_at_stage g n at = watching_stage g (walk_at_watching n at)
 
 abbrev pub walk_stage : Walk → Stage
 walk_stage walk = walk_at_stage walk.generation walk.node walk.at

@@ -1,10 +1,19 @@
-//! The law of the walk.
+//! The laws of the walk.
 
 ghost use Rattle.data_list.specs.Laws.{WalksAreLooks};
 
 /// Each turn of a walk is a look.
 pub fn walks_are_looks()
     ensures { WalksAreLooks }
+{}
+
+ghost use Rattle.data_list.specs.Laws.{WalksAreWatches};
+
+/// Each turn of a walk is a watch, for one that takes no lock: it relies on the version word of the node that it is at,
+/// whether or not a lock can be taken from that, and on what it saw of the node since. What it saw of its target says
+/// that the key belongs there, and which words its anchor has.
+pub fn walks_are_watches()
+    ensures { WalksAreWatches }
 {}
 
 ghost use Rattle.data_list.specs.Still.{FirstComes, EachComes, ComesOnce, ComesSoon, BeginsOnWay, WalksComeThere};
