@@ -7,7 +7,7 @@ use Rattle.pm_words.specs.declared.action.Action.{Action}
 use Rattle.pm_words.specs.declared.action.Action.TheVariants.{Load, Store}
 use Rattle.pm_words.specs.declared.machine.Turn.{Turn}
 use Rattle.pm_words.specs.declared.machine.Turn.TheVariants.{Go, Done}
-use Rattle.pm_words.specs.Locations.{Location, Node, Leaf, Volatile, Cached, HasLocation, address_of, row_words}
+use Rattle.pm_words.specs.Locations.{Leaf, Cached, address_of, row_words}
 use Rattle.pm_words.proofs.Apart.{addresses_within}
 use Rattle.version_lock.specs.Versions.{is_worn_word, IsFree}
 use Rattle.version_lock.proofs.WordTests.{free_is}
@@ -15,9 +15,7 @@ use Rattle.call_stages.specs.Kinds.{gone_status, free_status, status_address, ve
 use Rattle.data_list.specs.declared.target.Walked.{Walked}
 use Rattle.data_list.specs.declared.target.Walked.TheVariants as walked
 use Rattle.data_list.specs.declared.walk.Walk.{Walk}
-use Rattle.data_list.specs.declared.walk.WalkAt.{WalkAt}
-use Rattle.data_list.specs.declared.walk.WalkAt.TheVariants as walk_at
-use Rattle.data_list.specs.Walks.{IsWalkAt, walk_at_asks, walk_asks, walk_turned}
+use Rattle.data_list.specs.Walks.{IsWalk, walk_asks, walk_turned}
 use Rattle.data_list.specs.WalkStages.{walk_stage}
 use Rattle.data_list.specs.Laws.{Walks}
 use Rattle.data_list.proofs.WalkLaw.{walks_are_looks}
@@ -55,6 +53,7 @@ use Rattle.turn_law.specs.Covers.{ready_state, merge_kind}
 use Rattle.turn_row.specs.Columns.{line_count}
 use Rattle.turn_row.specs.RowStages.{are_same}
 use Rattle.updater.specs.Works.{work_at_asks, after_line, reads_fields, saw_state, changes, clears, changed, after_node, saw_status, saw_stamp, saw_version, after_count, on, leaves, found_at, saw_again, has_read, has_landed, has_walked, has_set, has_unset, has_released, work_at_turned, IsReading, IsWalkTo, IsWorkAt}
+use Rattle.updater.proofs.WalkLoads.{walk_place, walk_told}
 use Rattle.updater.specs.Steps.{row_terms, line_of, target_of, release_stage, work_at_stage, work_stage, stage_after, stage_taken, TakingsAreSteps, WorksStart, WorksAreSteps}
 
 pub takings_are_steps : TakingsAreSteps
@@ -72,20 +71,10 @@ record LoadsWithin (l : Layout) (a : Action) : Type 0 where
   pub within : address < row_words l
   pub loads : a ≡ Load address
 
-loads_at : (l : Layout) (p : Location) → HasLocation l p → LoadsWithin l (Load (address_of l p))
-loads_at l p has = record { address = address_of l p; within = addresses_within l p has; loads = refl }
-
-walk_loads : (l : Layout) (g : ℕ) (key : _) (node : ℕ) (at : WalkAt) → node < l.nodes → IsWalkAt l g key at → LoadsWithin l (walk_at_asks l node at)
-walk_loads l g key node walk_at.Version here is = loads_at l (Cached (Node node 0)) (here, omega arith)
-walk_loads l g key node (walk_at.Status version) here is = loads_at l (Volatile node 0) (here, omega arith)
-walk_loads l g key node (walk_at.First version) here is = loads_at l (Cached (Node node 3)) (here, omega arith)
-walk_loads l g key node (walk_at.Second version first) here is = loads_at l (Cached (Node node 4)) (here, omega arith)
-walk_loads l g key node (walk_at.Third version first second) here is = loads_at l (Cached (Node node 5)) (here, omega arith)
-walk_loads l g key node (walk_at.Next version low) here is = loads_at l (Cached (Node node 2)) (here, omega arith)
-walk_loads l g key node (walk_at.HighFirst version low next) here is = loads_at l (Cached (Node next 3)) (is.2.within, omega arith)
-walk_loads l g key node (walk_at.HighSecond version low next first) here is = loads_at l (Cached (Node next 4)) (is.2.within, omega arith)
-walk_loads l g key node (walk_at.HighThird version low next first second) here is = loads_at l (Cached (Node next 5)) (is.2.within, omega arith)
-walk_loads l g key node walk_at.Prev here is = loads_at l (Volatile node 1) (here, omega arith)
+walk_loads : (walk : Walk) → IsWalk walk → LoadsWithin walk.layout (walk_asks walk)
+walk_loads walk sound =
+    let place = walk_place walk sound in
+    record { address = address_of walk.layout place.location; within = addresses_within walk.layout place.location place.has; loads = place.loads }
 
 module _ (work : Work) where
   abbrev t : Terms
@@ -248,8 +237,8 @@ module _ (work : Work) where
   steps_at (at.Walking line entry walk) x here told =
       let is = here.2 in
       at_walking line entry walk x (walk_turned walk x)
-      (subst (λ (k : Layout). LoadsWithin k (walk_asks walk)) is.layout (walk_loads walk.layout walk.generation walk.key walk.node walk.at is.sound.node is.sound.here)) is
-      (walks_are_looks walk x is.sound (subst (λ g. Told walk.layout g (walk_asks walk) x) (sym is.generation) (subst (λ (k : Layout). Told k t.generation (walk_asks walk) x) (sym is.layout) told)))
+      (subst (λ (k : Layout). LoadsWithin k (walk_asks walk)) is.layout (walk_loads walk is.sound)) is
+      (walks_are_looks walk x is.sound (walk_told t entry walk (walk_asks walk) x is told))
   steps_at (at.Seeing line entry found) x here told = at_seeing line entry found x
   steps_at (at.Setting line entry set) x here told =
       at_setting line entry set.change x (change_turned set.change x) (changes_stay_sound set.change x here.2.change told.fits)

@@ -46,6 +46,7 @@ use Rattle.turn_row.specs.Columns.{line_count}
 use Rattle.turn_row.specs.RowStages.{are_same}
 use Rattle.updater.specs.Works.{work_at_asks, after_line, reads_fields, saw_state, lands, walks, changes, clears, changed, after_node, saw_status, allows, saw_stamp, saw_version, after_count, on, leaves, found_at, saw_again, has_read, has_landed, has_walked, has_set, has_unset, has_released, work_at_turned, IsTerms, IsEntry, IsOnLine, IsOnNode, IsThrough, IsReading, IsWalkTo, IsWorkAt, ToldOfLine}
 use Rattle.updater.specs.Laws.{WorkStays, WorksStaySound}
+use Rattle.updater.proofs.WalkLoads.{walk_told}
 
 -- with one word more
 set_fits : (words : List ℕ) (offset x k : ℕ) → offset < length words → x < 2 ^ 64 → slice_index words k < 2 ^ 64 → slice_index (slice_set words offset x) k < 2 ^ 64
@@ -301,7 +302,7 @@ module _ (work : Work) (terms : IsTerms work.terms) where
       at_landing line entry floor (floor_turned floor x) here.0 here.1 (subst (λ (k : Layout). FloorAfter k (floor_turned floor x)) here.3 (floor_stays floor x here.2))
   stays_at (at.Walking line entry walk) x here told line_told =
       at_walking line entry walk x (walk_turned walk x) here.0 here.1 here.2
-      (walks_are_looks walk x here.2.sound (subst (λ g. Told walk.layout g (walk_asks walk) x) (sym here.2.generation) (subst (λ (k : Layout). Told k t.generation (walk_asks walk) x) (sym here.2.layout) told)))
+      (walks_are_looks walk x here.2.sound (walk_told t entry walk (walk_asks walk) x here.2 told))
   stays_at (at.Seeing line entry found) x here told line_told = at_seeing line entry found x here.0 here.1 here.2
   stays_at (at.Setting line entry set) x here told line_told =
       at_setting line entry (aim_of set.change) (set_turned set x) here.4 here.0 here.1

@@ -4,3 +4,4 @@ pub mod Laws
 pub mod Events
 pub mod Doings
 pub mod Steps
+pub mod Watches

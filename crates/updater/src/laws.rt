@@ -44,3 +44,15 @@ pub fn turns_are_steps()
     ensures starts { WorksStart }
     ensures works { WorksAreSteps }
 {}
+
+ghost use Rattle.updater.specs.Watches.{WorksAreWatches, TargetsAreSeen, KeysHaveOneNumber, WalksAreTold};
+
+/// Each turn is a watch: while it walks, it relies on what its walk saw of the node that it is at, and where that comes
+/// to a target, it has seen that the line's anchor belongs there, and which words the target's anchor has. A key has
+/// one number, for the walk and for the layer. While it walks, a turn may be told just what its walk may be told.
+pub fn turns_are_watches()
+    ensures works { WorksAreWatches }
+    ensures targets { TargetsAreSeen }
+    ensures keys { KeysHaveOneNumber }
+    ensures told { WalksAreTold }
+{}
