@@ -237,24 +237,26 @@ impl Core {
 
     /// Begins another round, with no call in flight. The base is the map as it is, in rising order of names, and its
     /// history is empty; the clock is 0, and the indexes of each party's calls begin at 0. The nodes stay as they are,
-    /// and so do their words and what is durable. The room of the writes that were placed is spare again. On `NoMemory`
-    /// nothing changes.
+    /// and so do their words, what is durable, and `spare`. On `NoMemory` nothing changes.
     ///
     /// It takes time in proportion to the names and the history, and to the logarithm of the names.
     pub fn new_round(&mut self) -> Result<(), NoMemory>
         requires quiet { IsQuiet self.old }
         ensures ok { OnOk result (BeginsRound self.old self.new) }
-        ensures spare { OnOk result (self.new.spare ≡ self.old.spare + length self.old.history) }
+        ensures spare { OnOk result (self.new.spare ≡ self.old.spare) }
         ensures err { OnErr result (self.new ≡ self.old) }
         ensures quiet { IsQuiet self.new }
         ensures index { IsIndex self.new }
     {
         let alloc = *self.history.allocator();
         let base = replay(alloc, &self.base, self.history.as_slice())?;
+        // All that may fail is done before anything changes.
+        let spare = self.history.capacity() - self.history.len();
+        let history = Vec::with_capacity(alloc, spare)?;
         self.memory.store(CLOCK, 0);
         set_idle(&mut self.states);
         self.base = base;
-        self.history.clear();
+        self.history = history;
         Ok(())
     }
 
