@@ -1,11 +1,13 @@
 -- All that a party has at a moment, and the steps that it makes: on nodes, on its log line, and the stores of prevs.
-use Rattle.std.specs.Prelude.{◌≡◌, ℕ, ◌⊎◌, Option, None, IfSome}
+use Rattle.std.specs.Prelude.{◌≡◌, ◌≢◌, ℕ, ◌⊎◌, Bool, true, false, [], ◌∷◌, Option, Some, None, IfSome}
 use Rattle.pm_words.specs.declared.layout.Layout.{Layout}
 use Rattle.pm_words.specs.declared.action.Action.{Action}
+use Rattle.cat_key.specs.Names.{AreNameWords}
 use Rattle.data_node.specs.Spots.{Spot}
+use Rattle.data_node.specs.Lists.{anchor_in}
 use Rattle.call_stages.specs.declared.once.Once.{Once}
 use Rattle.call_stages.specs.declared.once.Placed.{Placed}
-use Rattle.call_stages.specs.Stages.{Stage, Tells, counted}
+use Rattle.call_stages.specs.Stages.{Grip, Filling, Linked, Gathered, Joined, Gone, Stage, Splits, Joins, Tells, counted}
 use Rattle.call_stages.specs.Kinds.{Step}
 use Rattle.call_stages.specs.Lines.{HeldLine, Notes}
 use Rattle.call_stages.specs.AnySteps.{IsBeside}
@@ -17,6 +19,50 @@ pub record Footing : Type 0 where
   pub line : Option HeldLine
   pub debt : Debt
 
+-- What a party knows of its line says that it has this node's anchor, if that is a name.
+abbrev pub HasAnchorOf : HeldLine → Grip → Type 0
+HasAnchorOf e node =
+    (s t : Spot) → Tells e.seen s → Tells node.seen t → AreNameWords (t 3 ∷ t 4 ∷ t 5 ∷ []) → anchor_in s ≡ anchor_in t
+
+-- And that it is OPEN, durably.
+pub record IsOpenOf (e : HeldLine) (node : Grip) : Type 0 where
+  pub unready : e.ready ≡ false
+  pub durable : e.dirty ≡ []
+  pub open_state : (s : Spot) → Tells e.seen s → s 0 ≡ 1
+  pub anchor : HasAnchorOf e node
+
+-- Or that it is of the merge with which this node is left out.
+pub record IsOfMerge (e : HeldLine) (right : Grip) : Type 0 where
+  pub kind : (s : Spot) → Tells e.seen s → s 1 ≡ 2
+  pub node : (s : Spot) → Tells e.seen s → s 2 ≡ right.node
+  pub anchor : HasAnchorOf e right
+
+-- It has a line of which this holds.
+abbrev pub HasLine : Option HeldLine → (HeldLine → Type 0) → Type 0
+HasLine None P = ⊥
+HasLine (Some e) P = P e
+
+-- What a step on nodes asks of the party's line: by a switch the list changes only while the line is OPEN for it, and a
+-- node becomes GONE while the line isn't READY yet.
+abbrev pub Minds : Stage → Stage → Option HeldLine → Type 0
+Minds (Splits left fresh (Filling true)) (Splits after other Linked) line = HasLine line (λ e. IsOpenOf e fresh)
+Minds (Joins h left right Gathered) (Joins held after other Joined) line =
+    HasLine line (λ e. IsOpenOf e right × IsOfMerge e right)
+Minds (Joins h left right Joined) (Joins held after other Gone) line = HasLine line (λ e. e.ready ≡ false)
+Minds _ _ line = Unit {0}
+
+-- What is known of a line of a merge says so of the right node, which the stage holds and which is GONE.
+abbrev pub IsRetired : Stage → HeldLine → Type 0
+IsRetired (Joins h left right Gone) e = IsOfMerge e right
+IsRetired _ e = ⊥
+
+-- What a step on the line asks of the stage: a line of a merge becomes READY once the right node is GONE, and while both
+-- nodes are held.
+abbrev pub Waits : Stage → Option HeldLine → Option HeldLine → Type 0
+Waits stage (Some e) (Some after) = e.ready ≡ false → after.ready ≡ true →
+    ((s : Spot) → Tells e.seen s → s 1 ≢ 2) ⊎ IsRetired stage e
+Waits stage _ _ = Unit {0}
+
 -- A line that is let go is known to be EMPTY.
 abbrev pub KeepsOrEmpties : Option HeldLine → Option HeldLine → Type 0
 KeepsOrEmpties line after = (after ≡ line) ⊎ ((after ≡ None) × IfSome line (λ e. (s : Spot) → Tells e.seen s → s 0 ≡ 0))
@@ -25,14 +71,16 @@ KeepsOrEmpties line after = (after ≡ line) ⊎ ((after ≡ None) × IfSome lin
 pub data FootStep (l : Layout) (g c : ℕ) : Footing → Action → ℕ → Footing → Option (Once Placed) → Type 0 where
   on_nodes : {stage next : Stage} {line after : Option HeldLine} {debt debt' : Debt} {action : Action} {x : ℕ}
       {answer : Option (Once Placed)} →
-      KeepsOrEmpties line after → Step l g stage action x next answer → Deals stage next debt debt' →
+      Minds stage next line → KeepsOrEmpties line after → Step l g stage action x next answer →
+      Deals stage next debt debt' →
       FootStep l g c (record { stage = stage; line = line; debt = debt }) action x (record {
         stage = next;
         line = after;
         debt = debt';
       }) answer
   on_line : {stage : Stage} {line after : Option HeldLine} {debt : Debt} {action : Action} {x : ℕ} →
-      counted stage ≡ None → IsBeside l action → Notes l line action x after → IfSome after (λ e. e.caller ≡ c) →
+      Waits stage line after → counted stage ≡ None → IsBeside l action → Notes l line action x after →
+      IfSome after (λ e. e.caller ≡ c) →
       FootStep l g c (record { stage = stage; line = line; debt = debt }) action x (record {
         stage = stage;
         line = after;

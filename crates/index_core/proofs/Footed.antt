@@ -22,7 +22,7 @@ use Rattle.index_law.specs.Facts.{Facts, facts_of, map_now, IsListed, status_in,
 use Rattle.index_law.specs.Worlds.{Party, World, facts, evicted_world}
 use Rattle.index_law.specs.Lawful.{Lawful, Each}
 use Rattle.index_law.specs.Laws.{fresh_row, fresh_world, next_round}
-use Rattle.index_law.specs.Lines.{line_in, safe_line, AreFit, SureLine}
+use Rattle.index_law.specs.Lines.{line_in, safe_line, AreFit, SureLine, IsGiven, IsWaiting}
 use Rattle.call_stages.specs.Orders.{AreInOrder}
 use Rattle.index_law.specs.Prevs.{prev_in, IsOwed, IsGone}
 use Rattle.index_law.specs.Whole.{Whole, IsWhole}
@@ -108,12 +108,17 @@ clean_word l words words' closer c j offset here low = ⊎_elim
 sure_closer : (l : Layout) (words words' : List ℕ) (e : HeldLine) → IsCloser l words words' → ((offset : ℕ) → line_in l words' e.caller e.number offset ≡ line_in l words e.caller e.number offset)
     → SureLine l words e → SureLine l words' e
 sure_closer l words words' e closer line sure =
+    let stays : (offset : ℕ) → safe_line l words e.caller e.number offset ≡ line_in l words e.caller e.number offset → safe_line l words' e.caller e.number offset ≡ line_in l words e.caller e.number offset =
+    λ offset. clean_word l words words' closer e.caller e.number offset sure.here.0 sure.here.1 in
     let is : line_in l words' e.caller e.number ≡ line_in l words e.caller e.number = same_spots (line_in l words' e.caller e.number) (line_in l words e.caller e.number) line in
     record {
       here = sure.here;
       seen = subst (Tells e.seen) (sym is) sure.seen;
-      clean = λ offset spared. clean_word l words words' closer e.caller e.number offset sure.here.0 sure.here.1 (sure.clean offset spared) ∙ sym (line offset);
-      hand = subst (λ (s : Spot). IfSome e.hand (λ h. s h.0 ≡ h.1)) (sym is) sure.hand;
+      clean = λ offset spared given. stays offset (sure.clean offset spared given) ∙ sym (line offset);
+      hand = subst (λ (s : Spot). IfSome e.hand (λ h. (s h.0 ≡ h.1) ⊎ (IsGiven e h.0 × (h.1 ≡ 2)))) (sym is) sure.hand;
+      unready = λ own two. sure.unready own (sym (line 0) ∙ two);
+      waits = λ ready. let waits = sure.waits ready in subst (λ (s : Spot). IsWaiting l e.seen s (safe_line l words' e.caller e.number)) (sym is)
+          (record { state = waits.state; entry = waits.entry; durable = λ offset other. stays offset (waits.durable offset other); blind = waits.blind });
     }
 
 pub evict_footed : (z : Whole) (word : ℕ) → IsFooted z → word < image_words z.world.layout

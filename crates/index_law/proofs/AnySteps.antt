@@ -7,7 +7,7 @@ use lib.ListN.{get_elem?}
 use Rattle.pm_words.specs.declared.layout.Layout.{Layout}
 use Rattle.pm_words.specs.declared.action.Action.{Action}
 use Rattle.pm_words.specs.declared.action.Action.TheVariants.{Load, Add}
-use Rattle.pm_words.specs.Locations.{Word, Header, Root, Node, Leaf, Cell, Line, Location, Volatile, Cached, Durable, Clock, HasLocation, address_of}
+use Rattle.pm_words.specs.Locations.{Word, Node, Line, Location, Volatile, Cached, Durable, Clock, HasLocation, address_of}
 use Rattle.pm_words.specs.Rows.{IsRow, CanAct, acted, got}
 use Rattle.pm_words.proofs.Apart.{addresses_within, addresses_apart, at-set_other}
 use Rattle.pm_words.proofs.Kept.{action_address-drain, acted_row, outside_header, names_cached, keeps_header}
@@ -29,7 +29,7 @@ use Rattle.index_law.proofs.Moves.{gives, facts_step}
 use Rattle.index_law.proofs.Noting.{beside_law}
 use Rattle.index_law.proofs.Own.{allow_law}
 use Rattle.index_law.proofs.Rows.{facts-elsewhere}
-use Rattle.index_law.proofs.Twins.{IsNearer, IsOfLine}
+use Rattle.index_law.proofs.Twins.{IsNearer, IsAside}
 use Rattle.index_law.proofs.Weights.{step_weighs}
 
 -- a word of a row in place of itself
@@ -53,7 +53,7 @@ module _ (w : World) (lawful : Lawful w) where
 
   -- a store beside nodes: at a word of a line, in either row, or at a prev
   module _ (p : Location) (y : ℕ) (has : HasLocation l p) (clock : p ≢ Clock)
-      (cached : (v : Word) → p ≡ Cached v → IsOfLine v) (durable : (v : Word) → p ≡ Durable v → IsOfLine v)
+      (cached : (v : Word) → p ≡ Cached v → IsAside v) (durable : (v : Word) → p ≡ Durable v → IsAside v)
       (status : (n : ℕ) → p ≢ Volatile n 0) where
     abbrev words : List ℕ
     words = slice_set w.words (address_of l p) y
@@ -70,15 +70,7 @@ module _ (w : World) (lawful : Lawful w) where
     stored : (a : Action) → CanAct l w.words a → acted l w.words a ≡ words → Lawful (record w { words = words })
     stored a can is = beside_law w words lawful (subst (λ v. IsRow l v) is (acted_row l w.words a lawful.row can)) same_facts near
         (at-set_other l w.words p Clock y has tt (λ same. clock (sym same)))
-        (λ v there none. at-set_other l w.words p (Cached v) y has there (λ same. not_line v (cached v (sym same)) none))
-      where
-        not_line : (v : Word) → IsOfLine v → ((c j offset : ℕ) → v ≡ Line c j offset → ⊥) → ⊥
-        not_line (Line c j offset) is none = none c j offset refl
-        not_line (Header o) is none = is
-        not_line (Root o) is none = is
-        not_line (Node n o) is none = is
-        not_line (Leaf k o) is none = is
-        not_line (Cell kind k o) is none = is
+        (λ v there none. at-set_other l w.words p (Cached v) y has there (λ same. none (cached v (sym same))))
 
   -- the action can be done
   beside_can : (a : Action) → IsBeside l a → CanAct l w.words a
@@ -94,21 +86,21 @@ module _ (w : World) (lawful : Lawful w) where
   beside_lawful a (loads_line {c = c} {j = j} {offset = offset} has) =
       subst (λ v. Lawful (record w { words = v })) (sym (set-get_or w.words (line_address l c j offset) 0)) lawful
   beside_lawful a (stores_line {c = c} {j = j} {offset = offset} {y = y} has fits) =
-      stored (Cached (Line c j offset)) y has (λ e. cc) (λ v e. subst IsOfLine (ap line_of e) tt) (λ v e. cc) (λ n e. cc) a (beside_can a (stores_line has fits)) refl
+      stored (Cached (Line c j offset)) y has (λ e. cc) (λ v e. subst IsAside (ap line_of e) tt) (λ v e. cc) (λ n e. cc) a (beside_can a (stores_line has fits)) refl
   beside_lawful a (drains_line {c = c} {j = j} {offset = offset} {y = y} has fits) =
       let is : acted l w.words a ≡ slice_set w.words (address_of l (Durable (Line c j offset))) y = ap (λ q. slice_set w.words q y) (action_address-drain l (Line c j offset) y) in
       subst (λ v. Lawful (record w { words = v })) (sym is)
-      (stored (Durable (Line c j offset)) y has (λ e. cc) (λ v e. cc) (λ v e. subst IsOfLine (ap line_of e) tt) (λ n e. cc) a (beside_can a (drains_line has fits)) is)
+      (stored (Durable (Line c j offset)) y has (λ e. cc) (λ v e. cc) (λ v e. subst IsAside (ap line_of e) tt) (λ n e. cc) a (beside_can a (drains_line has fits)) is)
   beside_lawful a (stores_prev {n = n} {y = y} here fits) =
       stored (Volatile n 1) y (here, omega arith) (λ e. cc) (λ v e. cc) (λ v e. cc) (λ m e. let no : 1 ≡ 0 = ap offset_in e in omega arith) a (beside_can a (stores_prev here fits)) refl
 
   beside_facts : (a : Action) → IsBeside l a → facts (record w { words = acted l w.words a }) ≡ facts w
   beside_facts a (loads_line {c = c} {j = j} {offset = offset} has) = ap (λ v. facts (record w { words = v })) (set-get_or w.words (line_address l c j offset) 0)
   beside_facts a (stores_line {c = c} {j = j} {offset = offset} {y = y} has fits) =
-      same_facts (Cached (Line c j offset)) y has (λ e. cc) (λ v e. subst IsOfLine (ap line_of e) tt) (λ v e. cc) (λ n e. cc)
+      same_facts (Cached (Line c j offset)) y has (λ e. cc) (λ v e. subst IsAside (ap line_of e) tt) (λ v e. cc) (λ n e. cc)
   beside_facts a (drains_line {c = c} {j = j} {offset = offset} {y = y} has fits) =
       ap (λ v. facts (record w { words = v })) (ap (λ q. slice_set w.words q y) (action_address-drain l (Line c j offset) y))
-      ∙ same_facts (Durable (Line c j offset)) y has (λ e. cc) (λ v e. cc) (λ v e. subst IsOfLine (ap line_of e) tt) (λ n e. cc)
+      ∙ same_facts (Durable (Line c j offset)) y has (λ e. cc) (λ v e. cc) (λ v e. subst IsAside (ap line_of e) tt) (λ n e. cc)
   beside_facts a (stores_prev {n = n} {y = y} here fits) =
       same_facts (Volatile n 1) y (here, omega arith) (λ e. cc) (λ v e. cc) (λ v e. cc) (λ m e. let no : 1 ≡ 0 = ap offset_in e in omega arith)
 
@@ -141,7 +133,7 @@ loaded_from _ = 0
 beside_loads : (l : Layout) (n offset : ℕ) (a : Action) → HasWordAt l n offset → IsBeside l a → a ≡ Load (word_address l n offset) → ⊥
 beside_loads l n offset a here (loads_line {c = c} {j = j} {offset = o} has) is =
     let same : Cached (Line c j o) ≡ Cached (Node n offset) = addresses_apart l (Cached (Line c j o)) (Cached (Node n offset)) has here (ap loaded_from is) in
-    subst IsOfLine (ap line_of same) tt
+    subst IsAside (ap line_of same) tt
 beside_loads l n offset a here (stores_line has fits) is = cc
 beside_loads l n offset a here (drains_line has fits) is = cc
 beside_loads l n offset a here (stores_prev low fits) is = cc

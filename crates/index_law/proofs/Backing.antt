@@ -190,6 +190,29 @@ steady_join l g f f' durable left right Joined one backed = (
 )
 steady_join l g f f' durable left right Gone one backed = λ offset. backed offset ∙ sym (ap (λ (s : Spot). s offset) one.now)
 
+-- what a party whose nodes are steady backs
+pub backs_steady : (l : Layout) (g : ℕ) (f f' : Facts) → IsLater f f' → (words : List ℕ) (u : Stage) → ((n : ℕ) → HoldsNode u n → IsSteady l f f' n) → BacksStage l f words u → BacksStage l f' words u
+backs_steady l g f f' later words Idle steady backed = tt
+backs_steady l g f f' later words (Saw n v w z) steady backed = tt
+backs_steady l g f f' later words (Wears n v) steady backed = tt
+backs_steady l g f f' later words (Holds n w h) steady backed = steady_backs l g f f' later (durable_spot l words n) n h (steady n refl) backed
+backs_steady l g f f' later words (Eyes n w h m v u free) steady backed = steady_backs l g f f' later (durable_spot l words n) n h (steady n refl) backed
+backs_steady l g f f' later words (Leaves left) steady backed = λ offset. backed offset ∙ sym (ap (λ (s : Spot). s offset) (steady left.node refl).now)
+backs_steady l g f f' later words (Meets n w h right) steady backed = (
+  steady_backs l g f f' later (durable_spot l words n) n h (steady n (inl refl)) backed.0,
+  λ offset. backed.1 offset ∙ sym (ap (λ (s : Spot). s offset) (steady right.node (inr refl)).now),
+)
+backs_steady l g f f' later words (Joins h left right pace) steady backed =
+    let one = steady left.node (inl refl) in
+    let other = steady right.node (inr refl) in
+    record {
+      left_clean = λ offset spared. backed.left_clean offset spared ∙ sym (ap (λ (s : Spot). s offset) one.now);
+      right_backed = λ offset. backed.right_backed offset ∙ sym (ap (λ (s : Spot). s offset) other.now);
+      left_backed = steady_join l g f f' (durable_spot l words left.node) left right pace one backed.left_backed;
+    }
+backs_steady l g f f' later words (Splits left fresh phase) steady backed =
+    steady_split l g f f' later words left fresh phase (steady left.node (inl refl)) (steady fresh.node (inr refl)) backed
+
 join_again : (l : Layout) (f : Facts) (durable : Spot) (left right : Grip) (seen dirty : List (ℕ × ℕ)) (hand : Option (ℕ × ℕ)) (pace : Pace)
     → IsBackedJoin l f durable left right pace → IsBackedJoin l f durable (record left { seen = seen; dirty = dirty; hand = hand }) right pace
 join_again l f durable left right seen dirty hand Gathered backed = backed
@@ -478,36 +501,8 @@ module _ {l : Layout} {g : ℕ} (f : Facts) (words : List ℕ) (caller index sin
   pub backs_others : {s : Stage} {a : Action} {x : ℕ} {t : Stage} {r : Option (Once Placed)} → (k : Step l g s a x t r) → Gives k f → IsList l f → Sure l g f caller index since s
       → (caller' index' since' : ℕ) (u : Stage) → ((n : ℕ) → HoldsNode s n → HoldsNode u n → ⊥) → Sure l g f caller' index' since' u
       → BacksStage l f words u → BacksStage l (fact_after k f caller index) words u
-  backs_others k e list mine caller' index' since' Idle apart knows backed = tt
-  backs_others k e list mine caller' index' since' (Saw n v w z) apart knows backed = tt
-  backs_others k e list mine caller' index' since' (Wears n v) apart knows backed = tt
-  backs_others k e list mine caller' index' since' (Holds n w h) apart knows backed =
-      steady_backs l g f (fact_after k f caller index) (goes_on f caller index since k) (durable_spot l words n) n h
-      (steadies f caller index since k e list mine caller' index' since' (Holds n w h) apart knows n refl) backed
-  backs_others k e list mine caller' index' since' (Eyes n w h m v u free) apart knows backed =
-      steady_backs l g f (fact_after k f caller index) (goes_on f caller index since k) (durable_spot l words n) n h
-      (steadies f caller index since k e list mine caller' index' since' (Eyes n w h m v u free) apart knows n refl) backed
-  backs_others k e list mine caller' index' since' (Leaves left) apart knows backed =
-      let steady = steadies f caller index since k e list mine caller' index' since' (Leaves left) apart knows left.node refl in
-      λ offset. backed offset ∙ sym (ap (λ (s : Spot). s offset) steady.now)
-  backs_others k e list mine caller' index' since' (Meets n w h right) apart knows backed =
-      let other = steadies f caller index since k e list mine caller' index' since' (Meets n w h right) apart knows right.node (inr refl) in (
-        steady_backs l g f (fact_after k f caller index) (goes_on f caller index since k) (durable_spot l words n) n h
-            (steadies f caller index since k e list mine caller' index' since' (Meets n w h right) apart knows n (inl refl)) backed.0,
-        λ offset. backed.1 offset ∙ sym (ap (λ (s : Spot). s offset) other.now),
-      )
-  backs_others k e list mine caller' index' since' (Joins h left right pace) apart knows backed =
-      let one = steadies f caller index since k e list mine caller' index' since' (Joins h left right pace) apart knows left.node (inl refl) in
-      let other = steadies f caller index since k e list mine caller' index' since' (Joins h left right pace) apart knows right.node (inr refl) in
-      record {
-        left_clean = λ offset spared. backed.left_clean offset spared ∙ sym (ap (λ (s : Spot). s offset) one.now);
-        right_backed = λ offset. backed.right_backed offset ∙ sym (ap (λ (s : Spot). s offset) other.now);
-        left_backed = steady_join l g f (fact_after k f caller index) (durable_spot l words left.node) left right pace one backed.left_backed;
-      }
-  backs_others k e list mine caller' index' since' (Splits left fresh phase) apart knows backed =
-      steady_split l g f (fact_after k f caller index) (goes_on f caller index since k) words left fresh phase
-      (steadies f caller index since k e list mine caller' index' since' (Splits left fresh phase) apart knows left.node (inl refl))
-      (steadies f caller index since k e list mine caller' index' since' (Splits left fresh phase) apart knows fresh.node (inr refl)) backed
+  backs_others k e list mine caller' index' since' u apart knows =
+      backs_steady l g f (fact_after k f caller index) (goes_on f caller index since k) words u (steadies f caller index since k e list mine caller' index' since' u apart knows)
 
   merge_given : {s : Stage} {a : Action} {x : ℕ} {t : Stage} → (k : Merge l g s a x t) → BacksStage l f words s
       → (m : ℕ) → HoldsNode s m → (HoldsNode t m → ⊥) → (offset : ℕ) → durable_spot l words m offset ≡ (merge_after k f).now m offset

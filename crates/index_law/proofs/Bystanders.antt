@@ -15,7 +15,7 @@ use Rattle.version_lock.specs.Versions.{IsFree, IsWorn}
 use Rattle.data_node.specs.Lists.{next_offset, StaysIn}
 use Rattle.call_stages.specs.Stages.{Knows, Held, Sight, Grip, Tells, AreCopies, Phase, Filling, Linked, Parted, Pace, Gathered, Joined, Gone, Stage, Idle, Saw, Wears, Holds, Eyes, Splits, Leaves, Meets, Joins, pended}
 use Rattle.index_law.specs.Facts.{Facts, map_now, range_of, cached_word, IsListed}
-use Rattle.index_law.specs.Lawful.{IsTime, HasWriteAt, IsPlaced, map_before, IsSettled, IsAsked, Stands, SureHolds, SureGrip, IsAtPhase, IsList, SureCounted, IsAtPace, Sure}
+use Rattle.index_law.specs.Lawful.{IsTime, HasWriteAt, IsPlaced, map_before, IsSettled, IsAsked, Stands, SureSaw, SureEyes, SureWears, SureHolds, SureGrip, IsAtPhase, IsList, SureCounted, IsAtPace, Sure}
 use Rattle.call_stages.specs.Stages.{HoldsNode}
 use Rattle.index_law.proofs.Switch.{one_range, leads_on}
 use Rattle.index_law.proofs.Stays.{both_true}
@@ -246,9 +246,13 @@ module _ (l : Layout) (g : ℕ) (f f' : Facts) (later : IsLater f f') where
     unlisted = λ is. knows.unlisted (other.unlisted is);
     settled = settled_kept left.node one knows.settled;
     gone = other.status ∙ knows.gone;
+    anchor = knows.anchor;
+    named = knows.named;
+    anchored = ap anchor_in other.now ∙ knows.anchored;
+    inside = (λ i. one.range i knows.anchor) ∙ knows.inside;
   }
 
-  stands_kept : (n : ℕ) (k : Sight) → IsSteady l f f' n → IsCalm l g f f' → IsList l f → Stands f n k → Stands f' n k
+  pub stands_kept : (n : ℕ) (k : Sight) → IsSteady l f f' n → IsCalm l g f f' → IsList l f → Stands f n k → Stands f' n k
   stands_kept n k steady calm list was =
       let next : f'.now n next_offset ≡ f.now n next_offset = ap (λ (s : Spot). s next_offset) steady.now in
       record {
@@ -262,11 +266,9 @@ module _ (l : Layout) (g : ℕ) (f f' : Facts) (later : IsLater f f') where
         leads = λ ne. steady.listed (was.leads ne);
       }
 
-  -- a party keeps what it knows where all is calm, and the nodes that it holds are steady
-  pub keeps : (caller index since : ℕ) (u : Stage) → IsList l f → IsCalm l g f f' → ((n : ℕ) → HoldsNode u n → IsSteady l f f' n)
-      → Sure l g f caller index since u → Sure l g f' caller index since u
-  keeps caller index since Idle list calm steady knows = tt
-  keeps caller index since (Saw n v w k) list calm steady knows = record {
+  -- what a party saw where all is calm
+  saw_kept : IsList l f → IsCalm l g f f' → (n v w : ℕ) (k : Sight) → SureSaw l g f n v w k → SureSaw l g f' n v w k
+  saw_kept list calm n v w k knows = record {
     here = knows.here;
     known = knows.known;
     free = knows.free;
@@ -280,73 +282,88 @@ module _ (l : Layout) (g : ℕ) (f f' : Facts) (later : IsLater f f') where
         let same : f.version n ≡ v = omega arith in
         stands_kept n k (calm.steady n knows.here (subst (λ (u : ℕ). IsFree u g) (sym same) knows.free) (is ∙ sym same)) calm list (knows.stands same);
   }
-  keeps caller index since (Holds n w h) list calm steady knows = holds_kept n (steady n refl) caller index since w h knows
-  keeps caller index since (Eyes n w h m v u free) list calm steady knows = (
-    holds_kept n (steady n refl) caller index since w h knows.0,
-    record {
-      clean = knows.1.clean;
-      durable = knows.1.durable;
-      here = knows.1.here;
-      nonzero = knows.1.nonzero;
-      known = knows.1.known;
-      unlocked = knows.1.unlocked;
-      unworn = knows.1.unworn;
-      lock = knows.1.lock;
-      seen = let seen = knows.1.seen in let rise = calm.rises m knows.1.here in omega arith;
-      stands = λ is told.
-          let seen = knows.1.seen in
-          let rise = calm.rises m knows.1.here in
-          let same : f.version m ≡ v = omega arith in
-          (calm.steady m knows.1.here (subst (λ (u : ℕ). IsFree u g) (sym same) knows.1.unlocked) (is ∙ sym same)).status ∙ knows.1.stands same told;
-    },
-  )
-  keeps caller index since (Wears n v) list calm steady knows = record {
+
+  eyes_kept : IsCalm l g f f' → (h : Held) (m v u : ℕ) (free : Bool) → SureEyes l g f h m v u free → SureEyes l g f' h m v u free
+  eyes_kept calm h m v u free knows = record {
+    clean = knows.clean;
+    durable = knows.durable;
+    here = knows.here;
+    nonzero = knows.nonzero;
+    known = knows.known;
+    unlocked = knows.unlocked;
+    unworn = knows.unworn;
+    lock = knows.lock;
+    seen = let seen = knows.seen in let rise = calm.rises m knows.here in omega arith;
+    stands = λ is told.
+        let seen = knows.seen in
+        let rise = calm.rises m knows.here in
+        let same : f.version m ≡ v = omega arith in
+        (calm.steady m knows.here (subst (λ (u : ℕ). IsFree u g) (sym same) knows.unlocked) (is ∙ sym same)).status ∙ knows.stands same told;
+  }
+
+  wears_kept : IsCalm l g f f' → (n v : ℕ) → SureWears l g f n v → SureWears l g f' n v
+  wears_kept calm n v knows = record {
     here = knows.here;
     free = knows.free;
     worn = knows.worn;
     stands = calm.worn n knows.here (subst (λ (u : ℕ). IsFree u g) (sym knows.stands) knows.free) (subst (λ (u : ℕ). IsWorn u g) (sym knows.stands) knows.worn) ∙ knows.stands;
   }
-  keeps caller index since (Leaves left) list calm steady knows =
-      let one = steady left.node refl in
-      record { grip = grip_kept left one knows.grip; listed = one.listed knows.listed; settled = settled_kept left.node one knows.settled }
-  keeps caller index since (Meets n w h right) list calm steady knows =
-      let one = steady n (inl refl) in
-      let other = steady right.node (inr refl) in (
-        holds_kept n one caller index since w h knows.0,
+
+  -- a party keeps what it knows where the nodes that it holds are steady, and what it saw of others stays
+  module _ (saw : (n v w : ℕ) (k : Sight) → SureSaw l g f n v w k → SureSaw l g f' n v w k)
+      (eyes : (h : Held) (m v u : ℕ) (free : Bool) → SureEyes l g f h m v u free → SureEyes l g f' h m v u free) (wears : (n v : ℕ) → SureWears l g f n v → SureWears l g f' n v) where
+    pub keeps_by : (caller index since : ℕ) (u : Stage) → ((n : ℕ) → HoldsNode u n → IsSteady l f f' n) → Sure l g f caller index since u → Sure l g f' caller index since u
+    keeps_by caller index since Idle steady knows = tt
+    keeps_by caller index since (Saw n v w k) steady knows = saw n v w k knows
+    keeps_by caller index since (Holds n w h) steady knows = holds_kept n (steady n refl) caller index since w h knows
+    keeps_by caller index since (Eyes n w h m v u free) steady knows = (holds_kept n (steady n refl) caller index since w h knows.0, eyes h m v u free knows.1)
+    keeps_by caller index since (Wears n v) steady knows = wears n v knows
+    keeps_by caller index since (Leaves left) steady knows =
+        let one = steady left.node refl in
+        record { grip = grip_kept left one knows.grip; listed = one.listed knows.listed; settled = settled_kept left.node one knows.settled }
+    keeps_by caller index since (Meets n w h right) steady knows =
+        let one = steady n (inl refl) in
+        let other = steady right.node (inr refl) in (
+          holds_kept n one caller index since w h knows.0,
+          record {
+            still = knows.1.still;
+            untimed = knows.1.untimed;
+            unmerged = knows.1.unmerged;
+            grip = grip_kept right other knows.1.grip;
+            copies = (λ (s t : Spot) (is : f.now n ≡ s) (same : f.now right.node ≡ t). subst (λ q. AreCopies right.copied q t) is (subst (AreCopies right.copied (f.now n)) same knows.1.copies))
+                (f'.now n) (f'.now right.node) (sym one.now) (sym other.now);
+            apart = knows.1.apart;
+            nonzero = knows.1.nonzero;
+            leads = ap (λ (s : Spot). s next_offset) one.now ∙ knows.1.leads;
+            settled = settled_kept right.node other knows.1.settled;
+          },
+        )
+    keeps_by caller index since (Joins h left right pace) steady knows =
+        let one = steady left.node (inl refl) in
+        let other = steady right.node (inr refl) in
         record {
-          still = knows.1.still;
-          untimed = knows.1.untimed;
-          unmerged = knows.1.unmerged;
-          grip = grip_kept right other knows.1.grip;
-          copies = (λ (s t : Spot) (is : f.now n ≡ s) (same : f.now right.node ≡ t). subst (λ q. AreCopies right.copied q t) is (subst (AreCopies right.copied (f.now n)) same knows.1.copies))
-              (f'.now n) (f'.now right.node) (sym one.now) (sym other.now);
-          apart = knows.1.apart;
-          nonzero = knows.1.nonzero;
-          leads = ap (λ (s : Spot). s next_offset) one.now ∙ knows.1.leads;
-          settled = settled_kept right.node other knows.1.settled;
-        },
-      )
-  keeps caller index since (Joins h left right pace) list calm steady knows =
-      let one = steady left.node (inl refl) in
-      let other = steady right.node (inr refl) in
-      record {
-        call = counted_kept left.node one caller index since h knows.call;
-        one = grip_kept left one knows.one;
-        other = grip_kept right other knows.other;
-        apart = knows.apart;
-        nonzero = knows.nonzero;
-        at = pace_kept left right pace one other knows.at;
-      }
-  keeps caller index since (Splits left fresh phase) list calm steady knows =
-      let one = steady left.node (inl refl) in
-      let other = steady fresh.node (inr refl) in
-      record {
-        full = grip_kept left one knows.full;
-        new = grip_kept fresh other knows.new;
-        apart = knows.apart;
-        nonzero = knows.nonzero;
-        at = phase_kept left fresh phase one other knows.at;
-      }
+          call = counted_kept left.node one caller index since h knows.call;
+          one = grip_kept left one knows.one;
+          other = grip_kept right other knows.other;
+          apart = knows.apart;
+          nonzero = knows.nonzero;
+          at = pace_kept left right pace one other knows.at;
+        }
+    keeps_by caller index since (Splits left fresh phase) steady knows =
+        let one = steady left.node (inl refl) in
+        let other = steady fresh.node (inr refl) in
+        record {
+          full = grip_kept left one knows.full;
+          new = grip_kept fresh other knows.new;
+          apart = knows.apart;
+          nonzero = knows.nonzero;
+          at = phase_kept left fresh phase one other knows.at;
+        }
+
+  -- so it does where all is calm
+  pub keeps : (caller index since : ℕ) (u : Stage) → IsList l f → IsCalm l g f f' → ((n : ℕ) → HoldsNode u n → IsSteady l f f' n)
+      → Sure l g f caller index since u → Sure l g f' caller index since u
+  keeps caller index since u list calm = keeps_by (saw_kept list calm) (eyes_kept calm) (wears_kept calm) caller index since u
 
 -- a number that is another one only where it is no smaller
 version_by : (v w : ℕ) (b : Bool) → (b ≡ true → v ≤ w) → v ≤ cond b w v

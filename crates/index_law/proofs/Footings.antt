@@ -31,8 +31,8 @@ use Rattle.index_law.proofs.Parties.{set_here, set_else}
 use Rattle.index_law.proofs.Whole.{prev_leaves, whole_node, whole_line, whole_prev}
 
 pub foot_any : FootStepIsAny
-foot_any l g c f t a x r (foot.on_nodes kept k deals) = on_nodes k
-foot_any l g c f t a x r (foot.on_line none is k own) = beside none is
+foot_any l g c f t a x r (foot.on_nodes minds kept k deals) = on_nodes k
+foot_any l g c f t a x r (foot.on_line waits none is k own) = beside none is
 foot_any l g c f t a x r (foot.on_prev none is k) = beside none is
 
 -- a step on a line leaves the words of every other line
@@ -47,9 +47,9 @@ number_in _ = 0
 other_stays : (l : Layout) (words : List ℕ) (line : Option HeldLine) (a : Action) (x : ℕ) (after : Option HeldLine) → IfSome line (λ e. (e.caller < l.callers) × (e.number < 8))
     → Notes l line a x after → (c j offset : ℕ) → IfSome line (λ e. (c ≢ e.caller) ⊎ (j ≢ e.number)) → line_in l (acted l words a) c j offset ≡ line_in l words c j offset
 other_stays l words line a x after here (passes_line {c = d} {j = k} {offset = o} caller low small) c j offset other = ap (λ v. line_in l v c j offset) (set-get_or words (line_address l d k o) 0)
-other_stays l words line a x after here (takes {c = d} {j = k} caller low) c j offset other = ap (λ v. line_in l v c j offset) (set-get_or words (line_address l d k 0) 0)
-other_stays l words line a x after here (looks_up {offset = o} {e = e} small learnt) c j offset other = ap (λ v. line_in l v c j offset) (set-get_or words (line_address l e.caller e.number o) 0)
-other_stays l words line a x after here (notes {y = y} {offset = o} {e = e} small fits soils told keeps) c j offset other =
+other_stays l words line a x after here (takes {c = d} {j = k} caller low empty_state) c j offset other = ap (λ v. line_in l v c j offset) (set-get_or words (line_address l d k 0) 0)
+other_stays l words line a x after here (looks_up {offset = o} {e = e} small learnt blind) c j offset other = ap (λ v. line_in l v c j offset) (set-get_or words (line_address l e.caller e.number o) 0)
+other_stays l words line a x after here (notes {y = y} {offset = o} {e = e} small fits marks soils told keeps) c j offset other =
     line-alike l words (slice_set words (line_address l e.caller e.number o) y) c j offset (λ there.
     at-set_other l words (Cached (Line e.caller e.number o)) (Cached (Line c j offset)) y (here.0, here.1, small) there
     (λ same. ⊎_elim (λ n. n (ap caller_in same)) (λ n. n (ap number_in same)) other))
@@ -61,8 +61,8 @@ other_stays l words line a x after here (keeps_safe {y = y} {offset = o} {e = e}
 -- a step on a line doesn't let it go
 line_kept : (l : Layout) (e : HeldLine) (a : Action) (x : ℕ) (after : Option HeldLine) → Notes l (Some e) a x after
     → (d : HeldLine) × (after ≡ Some d) × (d.caller ≡ e.caller) × (d.number ≡ e.number)
-line_kept l e a x after (looks_up {x = y} {offset = o} {seen = seen} small learnt) = (record e { seen = seen; hand = Some (o, y) }, refl, refl, refl)
-line_kept l e a x after (notes {seen = seen} {dirty = dirty} small fits soils told keeps) = (record e { seen = seen; dirty = dirty; hand = None }, refl, refl, refl)
+line_kept l e a x after (looks_up {x = y} {offset = o} {seen = seen} small learnt blind) = (record e { seen = seen; hand = Some (o, y) }, refl, refl, refl)
+line_kept l e a x after (notes {seen = seen} {dirty = dirty} {ready = ready} small fits marks soils told keeps) = (record e { seen = seen; dirty = dirty; hand = None; ready = ready }, refl, refl, refl)
 line_kept l e a x after (keeps_safe {dirty = dirty} small fits hand cleans) = (record e { dirty = dirty; hand = None }, refl, refl, refl)
 
 abbrev caller_at : Option HeldLine → ℕ
@@ -125,7 +125,7 @@ beside_parties : (z : Whole) (i : ℕ) (p : Party) (a : Action) → IsWhole z �
 beside_parties z i p a whole there none is = (beside_keeps z.world i p a whole.joint.lawful there none is).world
 
 pub foot_keeps : FootStepKeeps
-foot_keeps z i p f t a x r whole tended there at owing stage (foot.on_nodes {stage = s} {next = next} {line = line} {after = after} {debt = d} {debt' = d'} kept k deals) told room =
+foot_keeps z i p f t a x r whole tended there at owing stage (foot.on_nodes {stage = s} {next = next} {line = line} {after = after} {debt = d} {debt' = d'} minds kept k deals) told room =
     let w = z.world in
     let k' = subst (λ (u : Stage). Step w.layout w.generation u a x next r) (sym stage) k in
     let deals' = subst (λ (u : Stage). Deals u next d d') (sym stage) deals in
@@ -135,7 +135,7 @@ foot_keeps z i p f t a x r whole tended there at owing stage (foot.on_nodes {sta
       whole_node z i p a x next r line after d d' whole there at owing kept' k' told room deals',
       tended_same z i p whole tended there line after (stepped w i p a next) (slice_set z.debts i d') refl at kept (λ c j. (nodes_leave_lines w.layout w.words p.stage a c j 0 allowed).0),
     )
-foot_keeps z i p f t a x r whole tended there at owing stage (foot.on_line {stage = s} {line = line} {after = after} {debt = d} none is k own) told room =
+foot_keeps z i p f t a x r whole tended there at owing stage (foot.on_line {stage = s} {line = line} {after = after} {debt = d} waits none is k own) told room =
     let w = z.world in
     let none' : counted p.stage ≡ None = ap counted stage ∙ none in
     let world : stepped w i p a s ≡ record w { words = acted w.layout w.words a } = ap (stepped w i p a) (sym stage) ∙ beside_parties z i p a whole there none' is in

@@ -96,7 +96,7 @@ module _ (l : Layout) (g : ℕ) (f : Facts) (caller index since : ℕ) where
     kept = at.kept;
     few = at.few;
   }
-  rejoin left right seen dirty hand Gone at = record { listed = at.listed; unlisted = at.unlisted; settled = at.settled; gone = at.gone }
+  rejoin left right seen dirty hand Gone at = record { listed = at.listed; unlisted = at.unlisted; settled = at.settled; gone = at.gone; anchor = at.anchor; named = at.named; anchored = at.anchored; inside = at.inside }
 
   module _ (known : AreKnown l g f) (list : IsList l f) (live : AreLive l g f) (settled : AreSettled l g f) where
     pub merge_mine : {s : Stage} {a : Action} {x : ℕ} {t : Stage} → (k : Merge l g s a x t) → MergeGave k f → Sure l g f caller index since s
@@ -311,6 +311,10 @@ module _ (l : Layout) (g : ℕ) (f : Facts) (caller index since : ℕ) where
         unlisted = knows.at.unlisted;
         settled = record { means = knows.at.settled.means; stays = knows.at.settled.stays };
         gone = ap (λ (b : Bool). cond b gone_status (f.status right.node)) (eq-eqb right.node right.node refl);
+        anchor = knows.at.anchor;
+        named = knows.at.named;
+        anchored = knows.at.anchored;
+        inside = knows.at.inside;
       };
     }
     merge_mine (yields {freed = freed} {h = h} {left = left} {right = right} next durable) e knows = record {

@@ -9,12 +9,13 @@ use Rattle.pm_words.specs.declared.layout.Layout.{Layout}
 use Rattle.pm_words.specs.declared.action.Action.TheVariants.{Load}
 use Rattle.pm_words.specs.Locations.{Line, Cached, Durable, HasWord, at}
 use Rattle.pm_words.specs.Rows.{acted}
+use Rattle.data_node.specs.Spots.{Spot}
 use Rattle.call_stages.specs.Stages.{Tells}
 use Rattle.call_stages.specs.Lines.{HeldLine, line_address, passes_line, takes}
 use Rattle.index_law.specs.Worlds.{Party, facts, moved_on}
 use Rattle.index_law.specs.Lawful.{Lawful}
 use Rattle.index_law.specs.Laws.{Allowed}
-use Rattle.index_law.specs.Lines.{line_in, safe_line, AreFit, SureLine, NoteLaw}
+use Rattle.index_law.specs.Lines.{line_in, safe_line, AreFit, IsGiven, IsWaiting, SureLine, NoteLaw}
 use Rattle.index_law.specs.Joint.{Joint, IsOwned, IsJoint, NodeStepKeeps, LineStepKeeps}
 use Rattle.index_law.proofs.Law.{step_law}
 use Rattle.index_law.proofs.Noting.{nodes_leave_lines, notes_law, line-here, same_spots}
@@ -29,13 +30,21 @@ sure_same l words words' e line safe sure =
     record {
       here = sure.here;
       seen = subst (Tells e.seen) (sym is) sure.seen;
-      clean = λ offset spared. safe offset ∙ sure.clean offset spared ∙ sym (line offset);
+      clean = λ offset spared given. safe offset ∙ sure.clean offset spared given ∙ sym (line offset);
       hand = hand_same e.hand sure.hand;
+      unready = λ own two. sure.unready own (sym (line 0) ∙ two);
+      waits = λ ready. subst (λ (s : Spot). IsWaiting l e.seen s (safe_line l words' e.caller e.number)) (sym is) (subst (IsWaiting l e.seen (line_in l words e.caller e.number)) (sym durably) (sure.waits ready));
     }
   where
-    hand_same : (hand : Option (ℕ × ℕ)) → IfSome hand (λ h. line_in l words e.caller e.number h.0 ≡ h.1) → IfSome hand (λ h. line_in l words' e.caller e.number h.0 ≡ h.1)
+    durably : safe_line l words' e.caller e.number ≡ safe_line l words e.caller e.number
+    durably = same_spots (safe_line l words' e.caller e.number) (safe_line l words e.caller e.number) safe
+
+    InHand : List ℕ → ℕ × ℕ → Type 0
+    InHand ws h = (line_in l ws e.caller e.number h.0 ≡ h.1) ⊎ (IsGiven e h.0 × (h.1 ≡ 2))
+
+    hand_same : (hand : Option (ℕ × ℕ)) → IfSome hand (InHand words) → IfSome hand (InHand words')
     hand_same None is = tt
-    hand_same (Some h) is = line h.0 ∙ is
+    hand_same (Some h) is = ⊎_elim (λ same. inl (line h.0 ∙ same)) (λ given. inr given) is
 
 pub fit_same : (l : Layout) (words words' : List ℕ) → ((c j offset : ℕ) → (line_in l words' c j offset ≡ line_in l words c j offset) × (safe_line l words' c j offset ≡ safe_line l words c j offset))
     → AreFit l words → AreFit l words'
@@ -145,22 +154,24 @@ line_step z i p a x None after joint there at (passes_line {c = c} {j = j} {offs
     let same : acted z.world.layout z.world.words (Load (line_address z.world.layout c j offset)) ≡ z.world.words = set-get_or z.world.words (line_address z.world.layout c j offset) 0 in
     subst (λ v. IsJoint (record { world = record (z.world) { words = v }; lines = set z.lines i None })) (sym same)
     (joined z i p joint there z.world.words joint.lawful joint.fit None tt own (λ d k o other. (refl, refl)))
-line_step z i p a x None after joint there at (takes {c = c} {j = j} here low) own told =
+line_step z i p a x None after joint there at (takes {c = c} {j = j} here low empty_state) own told =
     let l = z.world.layout in
     let words = z.world.words in
     let address = line_address l c j 0 in
     let same : acted l words (Load address) ≡ words = set-get_or words address 0 in
     let has : HasWord l (Line c j 0) = (here, low, omega arith) in
-    subst (λ v. IsJoint (record { world = record (z.world) { words = v }; lines = set z.lines i (Some (record { caller = c; number = j; seen = (0, x) ∷ []; dirty = (0, 8) ∷ []; hand = None })) })) (sym same)
-    (joined z i p joint there words joint.lawful joint.fit (Some (record { caller = c; number = j; seen = (0, x) ∷ []; dirty = (0, 8) ∷ []; hand = None }))
+    subst (λ v. IsJoint (record { world = record (z.world) { words = v }; lines = set z.lines i (Some (record { caller = c; number = j; seen = (0, x) ∷ []; dirty = (0, 8) ∷ []; hand = None; ready = false })) })) (sym same)
+    (joined z i p joint there words joint.lawful joint.fit (Some (record { caller = c; number = j; seen = (0, x) ∷ []; dirty = (0, 8) ∷ []; hand = None; ready = false }))
     (record {
       here = (here, low);
       seen = (line-here l words c j 0 has ∙ sym told, tt);
-      clean = λ offset spared. ⊎_elim
+      clean = λ offset spared given. ⊎_elim
           (λ (below : offset < 8). absurd (spared (inl (omega arith, below))))
           (λ (past : 8 ≤ offset). unlined l words c j offset past)
           (cases_lt offset 8);
       hand = tt;
+      unready = λ is two. let state : line_in l words c j 0 ≡ x = line-here l words c j 0 has ∙ sym told in omega arith;
+      waits = λ ready. absurd (let no : false ≡ true = ready in cc);
     }) own (λ d k o other. (refl, refl)))
 line_step z i p a x (Some e) after joint there at k own told =
     let w = z.world in

@@ -1,30 +1,29 @@
 -- Log lines stand beside the nodes: what a step on the one does not touch of the other, and that lines stay in order.
-use Rattle.std.proofs.Common.{◌≡◌, ◌≢◌, ℕ, ◌^◌, ◌<◌, ◌⊎◌, inl, inr, ⊎_elim, Bool, true, false, cond, ◌&&◌, List, [], slice_set, refl, sym, ap, ◌∙◌, subst, arith}
-use Rattle.std.specs.Prelude.{nat_lt, Option, Some, IfSome}
+use Rattle.std.proofs.Common.{◌≡◌, ◌≢◌, ℕ, ◌^◌, ◌<◌, ◌⊎◌, inl, inr, ⊎_elim, ◌≤◌, Bool, true, false, cond, ◌&&◌, List, [], ◌∷◌, slice_set, refl, sym, ap, ◌∙◌, subst, arith}
+use Rattle.std.specs.Prelude.{nat_lt, Option, Some, None, IfSome}
 use Rattle.std.specs.FinMap.{empty}
 use Rattle.std.proofs.lemmas.Bool.{cases_eq, lt-ltb, ltb-true}
 use Rattle.std.proofs.lemmas.List.{set-get_or}
 use Rattle.pm_words.specs.declared.layout.Layout.{Layout}
 use Rattle.pm_words.specs.declared.action.Action.TheVariants.{Load, Store, Drain}
-use Rattle.sound_image.specs.Rules.{IsSpare}
-use Rattle.pm_words.specs.Locations.{Word, Header, Root, Node, Leaf, Cell, Line, Location, Volatile, Cached, Durable, Clock, HasWord, HasLocation, at, address_of, word_number}
+use Rattle.pm_words.specs.Locations.{Word, Header, Node, Line, Location, Volatile, Cached, Durable, Clock, HasWord, HasLocation, at, address_of, word_number}
 use Rattle.pm_words.specs.Rows.{IsRow, acted, evicted}
-use Rattle.pm_words.proofs.Apart.{at-set_same, at-set_other, words_within, addresses_within}
+use Rattle.pm_words.proofs.Apart.{at-set_same, at-set_other, addresses_within}
 use Rattle.pm_words.proofs.Kept.{action_address-drain, acted_row, outside_header, names_cached, keeps_header}
 use Rattle.data_node.specs.Spots.{Spot, updated}
 use Rattle.data_node.proofs.SpotLemmas.{updated-same, updated-other}
 use Rattle.call_stages.specs.Stages.{IsAmong, Held, just_held, Tells}
-use Rattle.call_stages.specs.Kinds.{word_address, status_address, prev_address, clock_address}
-use Rattle.call_stages.specs.Lines.{HeldLine, line_address, IsFitLine, TellsDurably, looks_up, notes, keeps_safe}
+use Rattle.call_stages.specs.Kinds.{Cleans, word_address, status_address, prev_address, clock_address}
+use Rattle.call_stages.specs.Lines.{HeldLine, line_address, IsEntry, IsFitLine, Marks, fills, opens, readies, empties, TellsDurably, looks_up, notes, keeps_safe}
 use Rattle.index_law.specs.Facts.{Facts}
 use Rattle.index_law.specs.Worlds.{World, facts}
 use Rattle.index_law.specs.Lawful.{IsList, AreLive, AreKnown, AreSure, AreSettled, AreFreeOrHeld, AreBacked, Lawful}
 use Rattle.index_law.specs.Laws.{loads_clock, loads_word, loads_status, loads_prev, exchanges, stores_word, stores_status, drains_word, adds, claims_node, frees_fresh, frees_left, frees_met, frees_right, frees}
 use Rattle.index_law.specs.Twins.{IsMix, AreDurable}
-use Rattle.index_law.specs.Lines.{line_in, safe_line, AreFit, SureLine, NotesKeep, NodesLeaveLines, EvictFits}
+use Rattle.index_law.specs.Lines.{line_in, safe_line, AreFit, IsGiven, WaitsOrIsEmpty, IsWaiting, SureLine, NoteLaw, NotesKeep, NodesLeaveLines, EvictFits}
 use Rattle.index_law.proofs.Backing.{known_mix, before_store, before_mix, after_mix, without_mix}
 use Rattle.index_law.proofs.Rows.{facts-elsewhere}
-use Rattle.index_law.proofs.Twins.{spare_word, IsCloser, IsNearer, nearer, evict_closer, evict_cached, store_closer, closer_stage, closer_durable, closer_versions, closer_front}
+use Rattle.index_law.proofs.Twins.{spare_word, aside_spare, IsCloser, IsNearer, IsAside, nearer, evict_closer, evict_cached, store_closer, closer_stage, closer_durable, closer_versions, closer_front}
 
 -- the words that belong to a line
 abbrev in_line : Layout → ℕ → ℕ → ℕ → Bool
@@ -50,7 +49,7 @@ line-alike l words words' c j offset same =
       | false ↦ λ _. refl
     ] refl
 
-safe-alike : (l : Layout) (words words' : List ℕ) (c j offset : ℕ) → (HasWord l (Line c j offset) → at l words' (Durable (Line c j offset)) ≡ at l words (Durable (Line c j offset)))
+pub safe-alike : (l : Layout) (words words' : List ℕ) (c j offset : ℕ) → (HasWord l (Line c j offset) → at l words' (Durable (Line c j offset)) ≡ at l words (Durable (Line c j offset)))
     → safe_line l words' c j offset ≡ safe_line l words c j offset
 unfolding safe_line
 safe-alike l words words' c j offset same =
@@ -123,19 +122,10 @@ evict_fits l words word row within fit =
     (λ c j offset. line-alike l words (evicted l words word) c j offset (λ has. evict_cached l words word (Line c j offset) has))
     (closer_line l words (evicted l words word) (evict_closer l words word row.whole within)) fit
 
--- spare words are no line's
-no_line : (l : Layout) (v : Word) → IsSpare v → (c j offset : ℕ) → v ≡ Line c j offset → ⊥
-no_line l (Header o) is c j offset e = cc
-no_line l (Root o) is c j offset e = cc
-no_line l (Node n o) is c j offset e = is
-no_line l (Line d k o) is c j offset e = is
-no_line l (Leaf k o) is c j offset e = is
-no_line l (Cell kind k o) is c j offset e = is
-
--- a lawful index stays so where only words of lines change, durable ones to no other than the cached
+-- a lawful index stays so where only words aside change, and durable twins of others to no other than the cached
 pub beside_law : (w : World) (words : List ℕ) → Lawful w → IsRow w.layout words → facts (record w { words = words }) ≡ facts w → IsNearer w.layout w.words words
     → at w.layout words Clock ≡ at w.layout w.words Clock
-    → ((v : Word) → HasWord w.layout v → ((c j offset : ℕ) → v ≡ Line c j offset → ⊥) → at w.layout words (Cached v) ≡ at w.layout w.words (Cached v)) → Lawful (record w { words = words })
+    → ((v : Word) → HasWord w.layout v → (IsAside v → ⊥) → at w.layout words (Cached v) ≡ at w.layout w.words (Cached v)) → Lawful (record w { words = words })
 beside_law w words lawful row same closer clock cached =
     let l = w.layout in
     let g = w.generation in
@@ -156,8 +146,8 @@ beside_law w words lawful row same closer clock cached =
       durable = subst (λ (f : Facts). AreDurable l g f words) (sym same) (closer_durable l w.words words w.base w.history closer g lawful.durable);
       durable_versions = closer_versions l w.words words w.base w.history closer g lawful.versions lawful.durable_versions;
       front = record {
-        generation = cached (Header 5) (omega arith) (λ c j offset e. cc) ∙ lawful.front.generation;
-        spare = λ v spare. cached v (spare_word l v spare).0 (no_line l v spare) ∙ lawful.front.spare v spare;
+        generation = cached (Header 5) (omega arith) (λ aside. aside) ∙ lawful.front.generation;
+        spare = λ v spare. cached v (spare_word l v spare).0 (aside_spare l v spare) ∙ lawful.front.spare v spare;
       };
       durable_front = closer_front l g w.words words closer lawful.front lawful.durable_front;
     }
@@ -167,13 +157,17 @@ pub line-here : (l : Layout) (words : List ℕ) (c j offset : ℕ) → HasWord l
 unfolding line_in
 line-here l words c j offset has = rw (lt-ltb c l.callers has.0) (rw (lt-ltb j 8 has.1) (rw (lt-ltb offset 8 has.2) refl))
 
-safe-here : (l : Layout) (words : List ℕ) (c j offset : ℕ) → HasWord l (Line c j offset) → safe_line l words c j offset ≡ at l words (Durable (Line c j offset))
+pub safe-here : (l : Layout) (words : List ℕ) (c j offset : ℕ) → HasWord l (Line c j offset) → safe_line l words c j offset ≡ at l words (Durable (Line c j offset))
 unfolding safe_line
 safe-here l words c j offset has = rw (lt-ltb c l.callers has.0) (rw (lt-ltb j 8 has.1) (rw (lt-ltb offset 8 has.2) refl))
 
 abbrev word_in : Location → Word
 word_in (Cached v) = v
 word_in _ = Header 0
+
+abbrev durable_word : Location → Word
+durable_word (Durable v) = v
+durable_word _ = Header 0
 
 abbrev number_of : Location → ℕ
 number_of (Cached (Line c j o)) = j
@@ -230,12 +224,20 @@ module _ (w : World) (lawful : Lawful w) (fit : AreFit w.layout w.words) (e : He
         (facts-elsewhere w.layout w.words w.base w.history (Cached (Line e.caller e.number offset)) y has (λ n o d. cc, λ n d. cc))
         (nearer w.layout w.words stored (store_closer w.layout w.words (Cached (Line e.caller e.number offset)) y has (λ v d. cc)))
         (at-set_other w.layout w.words (Cached (Line e.caller e.number offset)) Clock y has tt (λ d. cc))
-        (λ v there none. at-set_other w.layout w.words (Cached (Line e.caller e.number offset)) (Cached v) y has there (λ d. none e.caller e.number offset (ap word_in d)))
+        (λ v there none. at-set_other w.layout w.words (Cached (Line e.caller e.number offset)) (Cached v) y has there (λ d. none (subst IsAside (sym (ap word_in d)) tt)))
+
+    -- what the party knows, each mix of the line's rows is in order after the store too
+    abbrev KeepsMixes : Type 0
+    KeepsMixes = (before : Spot) → IsMix safe now before → IsFitLine w.layout before → IsFitLine w.layout (updated before offset y)
+
+    unready_keeps : e.ready ≡ false → ((s : Spot) → TellsDurably e.dirty e.seen s → IsFitLine w.layout s → IsFitLine w.layout (updated s offset y)) → KeepsMixes
+    unready_keeps unready keeps before is fit_before =
+        let held : Held = record (just_held []) { dirty = e.dirty } in
+        keeps before (known_mix 0 (λ name. true) empty safe now held offset y (λ o spared. sure.clean o spared (λ given. absurd (let no : true ≡ false = sym given.ready ∙ unready in cc))) before is e.seen sure.seen) fit_before
 
     -- each mix of the line's rows stays in order
-    stored_mix : (dirty : List (ℕ × ℕ)) → ((s : Spot) → TellsDurably e.dirty e.seen s → IsFitLine w.layout s → IsFitLine w.layout (updated s offset y))
-        → (mix : Spot) → IsMix safe (updated now offset y) mix → IsFitLine w.layout mix
-    stored_mix dirty keeps mix is =
+    stored_mix : KeepsMixes → (mix : Spot) → IsMix safe (updated now offset y) mix → IsFitLine w.layout mix
+    stored_mix keeps mix is =
         let held : Held = record (just_held []) { dirty = e.dirty } in
         ⊎_elim
         (λ durably. fit e.caller e.number mix (without_mix 0 (λ name. true) empty safe now held offset y mix is durably))
@@ -243,13 +245,13 @@ module _ (w : World) (lawful : Lawful w) (fit : AreFit w.layout w.words) (e : He
         let before = before_store 0 (λ name. true) empty safe now held offset y mix in
         let is' = before_mix 0 (λ name. true) empty safe now held offset y mix is in
         subst (IsFitLine w.layout) (after_mix 0 (λ name. true) empty safe now held offset y mix cached)
-        (keeps before (known_mix 0 (λ name. true) empty safe now held offset y sure.clean before is' e.seen sure.seen) (fit e.caller e.number before is')))
+        (keeps before is' (fit e.caller e.number before is')))
         (is offset)
 
-    stored_fit : ((s : Spot) → TellsDurably e.dirty e.seen s → IsFitLine w.layout s → IsFitLine w.layout (updated s offset y)) → AreFit w.layout stored
+    stored_fit : KeepsMixes → AreFit w.layout stored
     stored_fit keeps d k mix is = ⊎_elim
         (λ (one : d ≡ e.caller). ⊎_elim
-        (λ (two : k ≡ e.number). stored_mix [] keeps mix (λ o. ⊎_elim
+        (λ (two : k ≡ e.number). stored_mix keeps mix (λ o. ⊎_elim
         (λ durably. inl (durably ∙ (λ i. safe_line w.layout stored (one i) (two i) o) ∙ safe_stays e.caller e.number o))
         (λ cached. inr (cached ∙ (λ i. line_in w.layout stored (one i) (two i) o) ∙ own_line o))
         (is o)))
@@ -263,13 +265,197 @@ drain_copies : (l : Layout) (words : List ℕ) (c j offset y : ℕ) → y ≡ at
     → acted l words (Drain (line_address l c j offset) y) ≡ evicted l words (word_number l (Line c j offset))
 drain_copies l words c j offset y is = λ k. slice_set words (action_address-drain l (Line c j offset) y k) (is k)
 
-hand_word : (l : Layout) (words : List ℕ) (c j offset y : ℕ) (hand : Option (ℕ × ℕ)) → HasWord l (Line c j offset) → hand ≡ Some (offset, y)
-    → IfSome hand (λ h. line_in l words c j h.0 ≡ h.1) → y ≡ at l words (Cached (Line c j offset))
-hand_word l words c j offset y hand has is known =
-    sym (subst (λ (h : Option (ℕ × ℕ)). IfSome h (λ k. line_in l words c j k.0 ≡ k.1)) is known) ∙ line-here l words c j offset has
+-- the word in hand is the line's, or it is the state of a line that waits
+pub hand_word : (l : Layout) (words : List ℕ) (e : HeldLine) (offset y : ℕ) → HasWord l (Line e.caller e.number offset) → e.hand ≡ Some (offset, y) → SureLine l words e
+    → (y ≡ at l words (Cached (Line e.caller e.number offset))) ⊎ (IsGiven e offset × (y ≡ 2))
+hand_word l words e offset y has is sure = ⊎_elim
+    (λ same. inl (sym same ∙ line-here l words e.caller e.number offset has))
+    (λ given. inr given)
+    (subst (λ (h : Option (ℕ × ℕ)). IfSome h (λ k. (line_in l words e.caller e.number k.0 ≡ k.1) ⊎ (IsGiven e k.0 × (k.1 ≡ 2)))) is sure.hand)
+
+-- a line that says the same but for its state
+pub entry_like : (l : Layout) (s t : Spot) → t 0 ≤ 2 → ((offset : ℕ) → offset ≢ 0 → t offset ≡ s offset) → IsEntry l s → IsEntry l t
+entry_like l s t small same is = record {
+  state = small;
+  kind = ⊎_elim (λ one. inl (same 1 (λ z. omega arith) ∙ one)) (λ two. inr (same 1 (λ z. omega arith) ∙ two)) is.kind;
+  node = let at = same 2 (λ z. omega arith) in let low = is.node.0 in let high = is.node.1 in (omega arith, omega arith);
+  name = is.name;
+  is_name = is.is_name;
+  anchor = (λ k. same 3 (λ z. omega arith) k ∷ same 4 (λ z. omega arith) k ∷ same 5 (λ z. omega arith) k ∷ []) ∙ is.anchor;
+  left = let at = same 6 (λ z. omega arith) in let high = is.left in omega arith;
+  zero = same 7 (λ z. omega arith) ∙ is.zero;
+}
+
+-- a mix of the rows of a line that waits is in order, whichever state it has
+waiting_fit : (l : Layout) (seen : List (ℕ × ℕ)) (now safe mix : Spot) → IsWaiting l seen now safe → WaitsOrIsEmpty (mix 0) → ((offset : ℕ) → offset ≢ 0 → mix offset ≡ now offset) → IsFitLine l mix
+waiting_fit l seen now safe mix waits (inl none) same = inl none
+waiting_fit l seen now safe mix waits (inr ready) same =
+    inr (entry_like l (updated now 0 2) mix (omega arith) (λ offset other. same offset other ∙ sym (updated-other now 0 2 offset other)) waits.entry)
+
+-- what a store into a line is for: whose words it may change, and what follows of a line that is READY then
+marks_given : (e : HeldLine) (offset y : ℕ) (seen : List (ℕ × ℕ)) (ready : Bool) → Marks e offset y seen ready → (o : ℕ) → IsGiven e o → o ≡ offset
+marks_given e offset y seen ready (fills other unready empty_state) o given = absurd (let no : true ≡ false = sym given.ready ∙ unready in cc)
+marks_given e offset y seen ready (opens unready empty_state) o given = absurd (let no : true ≡ false = sym given.ready ∙ unready in cc)
+marks_given e offset y seen ready (readies unready durable open_state blind) o given = absurd (let no : true ≡ false = sym given.ready ∙ unready in cc)
+marks_given e offset y seen ready empties o given = given.state
+
+-- a mark is of a line that isn't READY, or empties the line
+marks_cases : {P : Type 0} (e : HeldLine) (offset y : ℕ) (seen : List (ℕ × ℕ)) (ready : Bool) → Marks e offset y seen ready → (e.ready ≡ false → P) → (offset ≡ 0 → y ≡ 0 → P) → P
+marks_cases e offset y seen ready (fills other unready empty_state) own emptied = own unready
+marks_cases e offset y seen ready (opens unready empty_state) own emptied = own unready
+marks_cases e offset y seen ready (readies unready durable open_state blind) own emptied = own unready
+marks_cases e offset y seen ready empties own emptied = emptied refl refl
+
+-- one that wasn't made READY isn't
+marked_unready : (e : HeldLine) (offset y : ℕ) (seen : List (ℕ × ℕ)) (ready : Bool) → Marks e offset y seen ready → (now : Spot) → Tells e.seen now → ready ≡ false → updated now offset y 0 ≢ 2
+marked_unready e offset y seen ready (fills other unready empty_state) now told is two =
+    let same = updated-other now offset y 0 (λ zero. other (sym zero)) in let none : now 0 ≡ 0 = empty_state now told in omega arith
+marked_unready e offset y seen ready (opens unready empty_state) now told is two = let one = updated-same now 0 1 in omega arith
+marked_unready e offset y seen ready (readies unready durable open_state blind) now told is two = absurd (let no : true ≡ false = is in cc)
+marked_unready e offset y seen ready empties now told is two = let none = updated-same now 0 0 in omega arith
+
+-- a line that was made READY waits
+marked_waits : (l : Layout) (e : HeldLine) (offset y : ℕ) (seen : List (ℕ × ℕ)) (ready : Bool) → Marks e offset y seen ready → (now safe now' safe' : Spot) → Tells e.seen now
+    → ((o : ℕ) → (IsAmong e.dirty o → ⊥) → (IsGiven e o → ⊥) → safe o ≡ now o) → IsFitLine l now → ((o : ℕ) → now' o ≡ updated now offset y o) → ((o : ℕ) → safe' o ≡ safe o) → ready ≡ true
+    → IsWaiting l seen now' safe'
+marked_waits l e offset y seen ready (fills other unready empty_state) now safe now' safe' told clean fit stored stays is = absurd (cc)
+marked_waits l e offset y seen ready (opens unready empty_state) now safe now' safe' told clean fit stored stays is = absurd (cc)
+marked_waits l e offset y seen ready empties now safe now' safe' told clean fit stored stays is = absurd (cc)
+marked_waits l e offset y seen ready (readies unready durable open_state blind) now safe now' safe' told clean fit stored stays is =
+    let beside : (o : ℕ) → o ≢ 0 → now' o ≡ now o = λ o other. stored o ∙ updated-other now 0 2 o other in
+    let entry : IsEntry l now = ⊎_elim (λ none. absurd (let opened : now 0 ≡ 1 = open_state now told in omega arith)) (λ entry. entry) fit in
+    record {
+      state = inr (stored 0 ∙ updated-same now 0 2);
+      entry = entry_like l now (updated now' 0 2) (let at : updated now' 0 2 0 ≡ 2 = updated-same now' 0 2 in omega arith) (λ o other. updated-other now' 0 2 o other ∙ beside o other) entry;
+      durable = λ o other. stays o ∙ clean o (λ among. subst (λ (dirty : List (ℕ × ℕ)). IsAmong dirty o) durable among) (λ given. absurd (let no : true ≡ false = sym given.ready ∙ unready in cc)) ∙ sym (beside o other);
+      blind = blind;
+    }
+
+-- a drain of a word of the line
+module _ (w : World) (e : HeldLine) (lawful : Lawful w) (fit : AreFit w.layout w.words) (sure : SureLine w.layout w.words e) (offset y : ℕ) (dirty : List (ℕ × ℕ)) (small : offset < 8) (fits : y < 2 ^ 64)
+    (has : HasWord w.layout (Line e.caller e.number offset)) (cleans : Cleans e.dirty offset dirty) where
+  abbrev drained : List ℕ
+  drained = acted w.layout w.words (Drain (line_address w.layout e.caller e.number offset) y)
+
+  at_durable : drained ≡ slice_set w.words (address_of w.layout (Durable (Line e.caller e.number offset))) y
+  at_durable = ap (λ p. slice_set w.words p y) (action_address-drain w.layout (Line e.caller e.number offset) y)
+
+  drained_other : (p : Location) → HasLocation w.layout p → p ≢ Durable (Line e.caller e.number offset) → at w.layout drained p ≡ at w.layout w.words p
+  drained_other p there other = ap (λ z. at w.layout z p) at_durable ∙ at-set_other w.layout w.words (Durable (Line e.caller e.number offset)) p y has there other
+
+  line_stays : (c j o : ℕ) → line_in w.layout drained c j o ≡ line_in w.layout w.words c j o
+  line_stays c j o = line-alike w.layout w.words drained c j o (λ there. drained_other (Cached (Line c j o)) there (λ d. cc))
+
+  safe_other : (c j o : ℕ) → (c ≢ e.caller) ⊎ ((j ≢ e.number) ⊎ (o ≢ offset)) → safe_line w.layout drained c j o ≡ safe_line w.layout w.words c j o
+  safe_other c j o other = safe-alike w.layout w.words drained c j o (λ there. drained_other (Durable (Line c j o)) there
+      (λ d. ⊎_elim (λ n. n (ap caller_of d)) (λ rest. ⊎_elim (λ n. n (ap number_of d)) (λ n. n (ap offset_of d)) rest) other))
+
+  safe_own : safe_line w.layout drained e.caller e.number offset ≡ y
+  safe_own = safe-here w.layout drained e.caller e.number offset has ∙ ap (λ z. at w.layout z (Durable (Line e.caller e.number offset))) at_durable
+      ∙ at-set_same w.layout w.words (Durable (Line e.caller e.number offset)) y lawful.row.whole has
+
+  drained_lawful : Lawful (record w { words = drained })
+  drained_lawful = beside_law w drained lawful
+      (acted_row w.layout w.words (Drain (line_address w.layout e.caller e.number offset) y) lawful.row
+      ((names_cached w.layout (Line e.caller e.number offset) has, keeps_header w.layout (Line e.caller e.number offset) y has (λ k lt d. cc)), fits))
+      (ap (λ z. facts (record w { words = z })) at_durable ∙ facts-elsewhere w.layout w.words w.base w.history (Durable (Line e.caller e.number offset)) y has (λ n o d. cc, λ n d. cc))
+      (λ v there other. inl (drained_other (Durable v) there (λ same. other (subst IsAside (sym (ap durable_word same)) tt))))
+      (drained_other Clock tt (λ d. cc))
+      (λ v there none. drained_other (Cached v) there (λ d. cc))
+
+  -- all other words of the line that the party relies on
+  drained_clean : (o : ℕ) → o ≢ offset → (IsAmong dirty o → ⊥) → (IsGiven e o → ⊥) → safe_line w.layout drained e.caller e.number o ≡ line_in w.layout drained e.caller e.number o
+  drained_clean o other spared given = safe_other e.caller e.number o (inr (inr other)) ∙ sure.clean o (λ among. ⊎_elim other spared (cleans o among)) given ∙ sym (line_stays e.caller e.number o)
+
+  -- a line that waits goes on to
+  drained_waits : (offset ≡ 0) ⊎ (y ≡ line_in w.layout w.words e.caller e.number offset) → e.ready ≡ true → IsWaiting w.layout e.seen (line_in w.layout drained e.caller e.number) (safe_line w.layout drained e.caller e.number)
+  drained_waits what ready =
+      let waits = sure.waits ready in
+      let same : line_in w.layout drained e.caller e.number ≡ line_in w.layout w.words e.caller e.number = same_spots _ _ (line_stays e.caller e.number) in
+      subst (λ (s : Spot). IsWaiting w.layout e.seen s (safe_line w.layout drained e.caller e.number)) (sym same) (record {
+        state = waits.state;
+        entry = waits.entry;
+        durable = λ o other. ⊎_elim
+            (λ (one : o ≡ offset). subst (λ k. safe_line w.layout drained e.caller e.number k ≡ line_in w.layout w.words e.caller e.number k) (sym one) (safe_own ∙ ⊎_elim (λ zero. absurd (other (one ∙ zero))) (λ now. now) what))
+            (λ (apart : o ≢ offset). safe_other e.caller e.number o (inr (inr apart)) ∙ waits.durable o other)
+            (cases_eq o offset);
+        blind = waits.blind;
+      })
+
+  note_law : AreFit w.layout drained → ((o : ℕ) → o ≡ offset → (IsGiven e o → ⊥) → safe_line w.layout drained e.caller e.number o ≡ line_in w.layout drained e.caller e.number o)
+      → (e.ready ≡ true → IsWaiting w.layout e.seen (line_in w.layout drained e.caller e.number) (safe_line w.layout drained e.caller e.number))
+      → NoteLaw w (Drain (line_address w.layout e.caller e.number offset) y) e (Some (record e { dirty = dirty; hand = None }))
+  note_law drained_fit own waits = record {
+    kept = drained_lawful;
+    fit = drained_fit;
+    sure = record {
+      here = sure.here;
+      seen = subst (Tells e.seen) (sym (same_spots _ _ (line_stays e.caller e.number))) sure.seen;
+      clean = λ o spared given.
+          let given' : IsGiven e o → ⊥ = (λ g. given (record { ready = g.ready; state = g.state })) in
+          ⊎_elim (λ (same : o ≡ offset). own o same given') (λ (other : o ≢ offset). drained_clean o other spared given') (cases_eq o offset);
+      hand = tt;
+      unready = λ own_line two. sure.unready own_line (sym (line_stays e.caller e.number 0) ∙ two);
+      waits = waits;
+    };
+    others = λ c j o other. (line_stays c j o, safe_other c j o (inl other));
+  }
+
+  -- it copies the cached word
+  drains_own : y ≡ at w.layout w.words (Cached (Line e.caller e.number offset)) → NoteLaw w (Drain (line_address w.layout e.caller e.number offset) y) e (Some (record e { dirty = dirty; hand = None }))
+  drains_own is =
+      let now : y ≡ line_in w.layout w.words e.caller e.number offset = is ∙ sym (line-here w.layout w.words e.caller e.number offset has) in
+      note_law
+      (fits_closer w.layout w.words drained line_stays
+      (λ c j o. elim (cases_word c j o) [
+        | inl mine ↦ inr ((λ k. safe_line w.layout drained (mine.0 k) (mine.1 k) (mine.2 k)) ∙ safe_own ∙ now ∙ sym (λ k. line_in w.layout w.words (mine.0 k) (mine.1 k) (mine.2 k)))
+        | inr other ↦ inl (safe_other c j o other)
+      ]) fit)
+      (λ o same given. subst (λ k. safe_line w.layout drained e.caller e.number k ≡ line_in w.layout drained e.caller e.number k) (sym same) (safe_own ∙ now ∙ sym (line_stays e.caller e.number offset)))
+      (drained_waits (inr now))
+    where
+      cases_word : (c j o : ℕ) → ((c ≡ e.caller) × (j ≡ e.number) × (o ≡ offset)) ⊎ ((c ≢ e.caller) ⊎ ((j ≢ e.number) ⊎ (o ≢ offset)))
+      cases_word c j o = ⊎_elim
+          (λ (one : c ≡ e.caller). ⊎_elim
+          (λ (two : j ≡ e.number). ⊎_elim (λ (three : o ≡ offset). inl (one, two, three)) (λ no. inr (inr (inr no))) (cases_eq o offset))
+          (λ no. inr (inr (inl no)))
+          (cases_eq j e.number))
+          (λ no. inr (inl no))
+          (cases_eq c e.caller)
+
+  -- or a state of a line that waits
+  drains_given : IsGiven e offset → y ≡ 2 → NoteLaw w (Drain (line_address w.layout e.caller e.number offset) y) e (Some (record e { dirty = dirty; hand = None }))
+  drains_given given what =
+      let waits = sure.waits given.ready in
+      note_law
+      (λ c j mix is. elim (cases_line c j) [
+        | inl mine ↦
+            let own : (o : ℕ) → (mix o ≡ safe_line w.layout drained e.caller e.number o) ⊎ (mix o ≡ line_in w.layout w.words e.caller e.number o) = λ o. ⊎_elim
+                (λ durably. inl (durably ∙ (λ k. safe_line w.layout drained (mine.0 k) (mine.1 k) o)))
+                (λ cached. inr (cached ∙ line_stays c j o ∙ (λ k. line_in w.layout w.words (mine.0 k) (mine.1 k) o)))
+                (is o) in
+            waiting_fit w.layout e.seen (line_in w.layout w.words e.caller e.number) (safe_line w.layout w.words e.caller e.number) mix waits
+            (⊎_elim (λ durably. inr (durably ∙ zeroth given.state ∙ what)) (λ cached. subst WaitsOrIsEmpty (sym cached) waits.state) (own 0))
+            (λ o other. ⊎_elim (λ durably. durably ∙ safe_other e.caller e.number o (inr (inr (λ same. other (same ∙ given.state)))) ∙ waits.durable o other) (λ cached. cached) (own o))
+        | inr other ↦ fit c j mix (λ o. ⊎_elim
+            (λ durably. inl (durably ∙ safe_other c j o (⊎_elim (λ no. inl no) (λ no. inr (inl no)) other)))
+            (λ cached. inr (cached ∙ line_stays c j o))
+            (is o))
+      ])
+      (λ o same not. absurd (not (record { ready = given.ready; state = same ∙ given.state })))
+      (drained_waits (inl given.state))
+    where
+      zeroth : offset ≡ 0 → safe_line w.layout drained e.caller e.number 0 ≡ y
+      zeroth zero = (λ k. safe_line w.layout drained e.caller e.number (sym zero k)) ∙ safe_own
+
+      cases_line : (c j : ℕ) → ((c ≡ e.caller) × (j ≡ e.number)) ⊎ ((c ≢ e.caller) ⊎ (j ≢ e.number))
+      cases_line c j = ⊎_elim
+          (λ (one : c ≡ e.caller). ⊎_elim (λ (two : j ≡ e.number). inl (one, two)) (λ no. inr (inr no)) (cases_eq j e.number))
+          (λ no. inr (inl no))
+          (cases_eq c e.caller)
 
 pub notes_law : NotesKeep
-notes_law w e a x next lawful fit sure (looks_up {offset = offset} {seen = seen} small learnt) told =
+notes_law w e a x next lawful fit sure (looks_up {offset = offset} {seen = seen} small learnt blind) told =
     let l = w.layout in
     let has : HasWord l (Line e.caller e.number offset) = (sure.here.0, sure.here.1, small) in
     let address = line_address l e.caller e.number offset in
@@ -279,10 +465,17 @@ notes_law w e a x next lawful fit sure (looks_up {offset = offset} {seen = seen}
       kept = subst (λ words. Lawful (record w { words = words })) (sym same) lawful;
       fit = subst (AreFit l) (sym same) fit;
       sure = subst (λ words. SureLine l words (record e { seen = seen; hand = Some (offset, x) })) (sym same)
-          (record { here = sure.here; seen = learnt (line_in l w.words e.caller e.number) sure.seen is; clean = sure.clean; hand = is });
+          (record {
+            here = sure.here;
+            seen = learnt (line_in l w.words e.caller e.number) sure.seen is;
+            clean = λ o spared given. sure.clean o spared (λ g. given (record { ready = g.ready; state = g.state }));
+            hand = inl is;
+            unready = sure.unready;
+            waits = λ ready. let waits = sure.waits ready in record { state = waits.state; entry = waits.entry; durable = waits.durable; blind = blind ready };
+          });
       others = λ c j o other. load_leaves l w.words (acted l w.words (Load address)) same c j o;
     }
-notes_law w e a x next lawful fit sure (notes {y = y} {offset = offset} {seen = seen} {dirty = dirty} small fits soils told_seen keeps) told =
+notes_law w e a x next lawful fit sure (notes {y = y} {offset = offset} {seen = seen} {dirty = dirty} {ready = ready} small fits marks soils told_seen keeps) told =
     let l = w.layout in
     let words = stored w lawful fit e sure offset small y fits in
     let own = own_line w lawful fit e sure offset small y fits in
@@ -290,56 +483,27 @@ notes_law w e a x next lawful fit sure (notes {y = y} {offset = offset} {seen = 
     let now = line_in l w.words e.caller e.number in
     record {
       kept = stored_lawful w lawful fit e sure offset small y fits;
-      fit = stored_fit w lawful fit e sure offset small y fits keeps;
+      fit = stored_fit w lawful fit e sure offset small y fits (marks_cases e offset y seen ready marks
+          (λ unready. unready_keeps w lawful fit e sure offset small y fits unready keeps)
+          (λ zero none before is fit_before. inl ((λ k. updated before (zero k) (none k) 0) ∙ updated-same before 0 0)));
       sure = record {
         here = sure.here;
         seen = subst (Tells seen) (sym (same_spots (line_in l words e.caller e.number) (updated now offset y) own)) (told_seen now sure.seen);
-        clean = λ o spared. stays e.caller e.number o ∙ sure.clean o (λ among. spared (soils.others o among))
-            ∙ sym (updated-other now offset y o (λ same. spared (subst (IsAmong dirty) (sym same) soils.stored))) ∙ sym (own o);
+        clean = λ o spared given.
+            let beside : o ≢ offset = (λ same. spared (subst (IsAmong dirty) (sym same) soils.stored)) in
+            stays e.caller e.number o ∙ sure.clean o (λ among. spared (soils.others o among)) (λ g. beside (marks_given e offset y seen ready marks o g))
+            ∙ sym (updated-other now offset y o beside) ∙ sym (own o);
         hand = tt;
+        unready = λ own two. marked_unready e offset y seen ready marks now sure.seen own (sym (own_line w lawful fit e sure offset small y fits 0) ∙ two);
+        waits = λ is_ready. marked_waits l e offset y seen ready marks now (safe_line l w.words e.caller e.number) (line_in l words e.caller e.number) (safe_line l words e.caller e.number)
+            sure.seen sure.clean (fit e.caller e.number now (λ o. inr refl)) own (stays e.caller e.number) is_ready;
       };
       others = λ c j o other. (other_line w lawful fit e sure offset small y fits c j o (inl other), stays c j o);
     }
 notes_law w e a x next lawful fit sure (keeps_safe {y = y} {offset = offset} {dirty = dirty} small fits hand cleans) told =
     let l = w.layout in
     let has : HasWord l (Line e.caller e.number offset) = (sure.here.0, sure.here.1, small) in
-    let is = hand_word l w.words e.caller e.number offset y e.hand has hand sure.hand in
-    let address = line_address l e.caller e.number offset in
-    let word = word_number l (Line e.caller e.number offset) in
-    let words : List ℕ = acted l w.words (Drain address y) in
-    let copies : words ≡ evicted l w.words word = drain_copies l w.words e.caller e.number offset y is in
-    let at_durable : words ≡ slice_set w.words (address_of l (Durable (Line e.caller e.number offset))) y = ap (λ p. slice_set w.words p y) (action_address-drain l (Line e.caller e.number offset) y) in
-    let within = words_within l (Line e.caller e.number offset) has in
-    let closer : IsCloser l w.words words = subst (IsCloser l w.words) (sym copies) (evict_closer l w.words word lawful.row.whole within) in
-    let cached : (v : Word) → HasWord l v → at l words (Cached v) ≡ at l w.words (Cached v) =
-    λ v there. ap (λ z. at l z (Cached v)) copies ∙ evict_cached l w.words word v there in
-    let line : (c j o : ℕ) → line_in l words c j o ≡ line_in l w.words c j o = λ c j o. line-alike l w.words words c j o (λ there. cached (Line c j o) there) in
-    let near = closer_line l w.words words closer in
-    record {
-      kept = beside_law w words lawful
-          (acted_row l w.words (Drain address y) lawful.row ((names_cached l (Line e.caller e.number offset) has, keeps_header l (Line e.caller e.number offset) y has (λ k lt d. cc)), fits))
-          (ap (λ z. facts (record w { words = z })) at_durable ∙ facts-elsewhere l w.words w.base w.history (Durable (Line e.caller e.number offset)) y has (λ n o d. cc, λ n d. cc))
-          (nearer l w.words words closer)
-          (ap (λ z. at l z Clock) at_durable ∙ at-set_other l w.words (Durable (Line e.caller e.number offset)) Clock y has tt (λ d. cc))
-          (λ v there none. cached v there);
-      fit = fits_closer l w.words words line near fit;
-      sure = record {
-        here = sure.here;
-        seen = subst (Tells e.seen) (sym (same_spots (line_in l words e.caller e.number) (line_in l w.words e.caller e.number) (line e.caller e.number))) sure.seen;
-        clean = λ o spared. ⊎_elim
-            (λ (same : o ≡ offset). subst (λ k. safe_line l words e.caller e.number k ≡ line_in l words e.caller e.number k) (sym same)
-            (safe-here l words e.caller e.number offset has ∙ ap (λ z. at l z (Durable (Line e.caller e.number offset))) at_durable
-            ∙ at-set_same l w.words (Durable (Line e.caller e.number offset)) y lawful.row.whole has ∙ is ∙ sym (line-here l w.words e.caller e.number offset has) ∙ sym (line e.caller e.number offset)))
-            (λ (other : o ≢ offset). ⊎_elim
-            (λ stays. stays ∙ sure.clean o (λ among. ⊎_elim other spared (cleans o among)) ∙ sym (line e.caller e.number o))
-            (λ copied. copied ∙ sym (line e.caller e.number o))
-            (near e.caller e.number o))
-            (cases_eq o offset);
-        hand = tt;
-      };
-      others = λ c j o other. (
-        line c j o,
-        safe-alike l w.words words c j o (λ there. ap (λ z. at l z (Durable (Line c j o))) at_durable
-            ∙ at-set_other l w.words (Durable (Line e.caller e.number offset)) (Durable (Line c j o)) y has there (λ d. other (ap caller_of d))),
-      );
-    }
+    elim (hand_word l w.words e offset y has hand sure) [
+      | inl is ↦ drains_own w e lawful fit sure offset y dirty small fits has cleans is
+      | inr given ↦ drains_given w e lawful fit sure offset y dirty small fits has cleans given.0 given.1
+    ]

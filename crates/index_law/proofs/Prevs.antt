@@ -183,7 +183,7 @@ below_all most (y ∷ later) q within is = ⊎_elim
     (cases_eq q y)
 
 -- with fewer GONE nodes, and other prevs of nodes that aren't GONE or lead to one that isn't
-ordered_fewer : (gone gone' : ℕ → Type 0) (prev prev' : ℕ → ℕ) → ((n : ℕ) → gone' n → gone n) → ((n : ℕ) → gone' n → gone' (prev' n) → prev' n ≡ prev n) → (order : List ℕ)
+pub ordered_fewer : (gone gone' : ℕ → Type 0) (prev prev' : ℕ → ℕ) → ((n : ℕ) → gone' n → gone n) → ((n : ℕ) → gone' n → gone' (prev' n) → prev' n ≡ prev n) → (order : List ℕ)
     → Ordered gone prev order → Ordered gone' prev' order
 ordered_fewer gone gone' prev prev' fewer same [] ordered = tt
 ordered_fewer gone gone' prev prev' fewer same (n ∷ later) ordered = (

@@ -59,7 +59,7 @@ version_in-alike l words words' n same =
     (λ here. same (ltb-true n l.nodes here) ∙ sym (rw here refl))
     (λ past. sym (rw past refl))
 
-spot_in-alike : (l : Layout) (words words' : List ℕ) (n offset : ℕ) → (HasWordAt l n offset → 0 < offset → slice_index words' (word_address l n offset) ≡ slice_index words (word_address l n offset)) → spot_in l words' n offset ≡ spot_in l words n offset
+pub spot_in-alike : (l : Layout) (words words' : List ℕ) (n offset : ℕ) → (HasWordAt l n offset → 0 < offset → slice_index words' (word_address l n offset) ≡ slice_index words (word_address l n offset)) → spot_in l words' n offset ≡ spot_in l words n offset
 unfolding spot_in
 spot_in-alike l words words' n offset same =
     cond_both (in_spot l n offset) (slice_index words' (word_address l n offset)) 0 (λ (x : ℕ). x ≡ cond (in_spot l n offset) (slice_index words (word_address l n offset)) 0)

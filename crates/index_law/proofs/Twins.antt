@@ -26,12 +26,14 @@ abbrev pub IsCloser : Layout → List ℕ → List ℕ → Type 0
 IsCloser l words words' = (w : Word) → HasWord l w → (at l words' (Durable w) ≡ at l words (Durable w)) ⊎ (at l words' (Durable w) ≡ at l words (Cached w))
 
 -- so are those but of log lines
-abbrev pub IsOfLine : Word → Type 0
-IsOfLine (Line c j offset) = Unit {0}
-IsOfLine _ = ⊥
+abbrev pub IsAside : Word → Type 0
+IsAside (Line c j offset) = Unit {0}
+IsAside (Leaf k offset) = Unit {0}
+IsAside (Cell kind k offset) = Unit {0}
+IsAside _ = ⊥
 
 abbrev pub IsNearer : Layout → List ℕ → List ℕ → Type 0
-IsNearer l words words' = (w : Word) → HasWord l w → (IsOfLine w → ⊥) →
+IsNearer l words words' = (w : Word) → HasWord l w → (IsAside w → ⊥) →
     (at l words' (Durable w) ≡ at l words (Durable w)) ⊎ (at l words' (Durable w) ≡ at l words (Cached w))
 
 pub nearer : (l : Layout) (words words' : List ℕ) → IsCloser l words words' → IsNearer l words words'
@@ -165,19 +167,19 @@ spare_word l (Leaf k o) is = absurd is
 spare_word l (Cell kind k o) is = absurd is
 
 -- nor a line's
-no_line_spare : (l : Layout) (w : Word) → IsSpare w → IsOfLine w → ⊥
-no_line_spare l (Line c j o) is line = is
-no_line_spare l (Header o) is line = line
-no_line_spare l (Root o) is line = line
-no_line_spare l (Node n o) is line = line
-no_line_spare l (Leaf k o) is line = line
-no_line_spare l (Cell kind k o) is line = line
+pub aside_spare : (l : Layout) (w : Word) → IsSpare w → IsAside w → ⊥
+aside_spare l (Line c j o) is line = is
+aside_spare l (Header o) is line = line
+aside_spare l (Root o) is line = line
+aside_spare l (Node n o) is line = line
+aside_spare l (Leaf k o) is line = is
+aside_spare l (Cell kind k o) is line = is
 
 -- and the words in front of the nodes stay
 pub closer_front : (l : Layout) (g : ℕ) (words words' : List ℕ) → IsNearer l words words' → IsFront l g words Cached → IsFront l g words Durable → IsFront l g words' Durable
 closer_front l g words words' closer cached durable = record {
   generation = ⊎_elim (λ stays. stays ∙ durable.generation) (λ is. is ∙ cached.generation) (closer (Header 5) (omega arith) (λ line. line));
-  spare = λ w spare. ⊎_elim (λ stays. stays ∙ durable.spare w spare) (λ is. is ∙ cached.spare w spare) (closer w (spare_word l w spare).0 (no_line_spare l w spare));
+  spare = λ w spare. ⊎_elim (λ stays. stays ∙ durable.spare w spare) (λ is. is ∙ cached.spare w spare) (closer w (spare_word l w spare).0 (aside_spare l w spare));
 }
 
 pub cached_front : (l : Layout) (g : ℕ) (words words' : List ℕ) → ((w : Word) → HasWord l w → ((n offset : ℕ) → w ≡ Node n offset → ⊥) → at l words' (Cached w) ≡ at l words (Cached w))

@@ -12,21 +12,22 @@ use Rattle.pm_words.specs.Rows.{acted}
 use Rattle.pm_words.proofs.Kept.{action_address-drain}
 use Rattle.cat_history.specs.Maps.{Map}
 use Rattle.cat_history.specs.declared.op.Write.{Write}
-use Rattle.data_node.specs.Lists.{next_offset}
+use Rattle.data_node.specs.Spots.{Spot}
+use Rattle.data_node.specs.Lists.{ListNode, next_offset, IsIn}
 use Rattle.call_stages.specs.Stages.{Stage}
+use Rattle.call_stages.specs.Kinds.{gone_status}
 use Rattle.call_stages.specs.Lines.{HeldLine, line_address, Notes, passes_line, takes, looks_up, notes, keeps_safe}
-use Rattle.index_law.specs.Facts.{Facts, facts_of, IsListed}
+use Rattle.index_law.specs.Facts.{Facts, facts_of, spot_in, status_in, list_in, IsListed}
 use Rattle.index_law.specs.Worlds.{Party, facts}
 use Rattle.index_law.specs.Lawful.{Lawful, Sure}
 use Rattle.call_stages.specs.Stages.{HoldsNode}
 use Rattle.index_law.specs.Joint.{Joint, IsJoint}
 use Rattle.index_law.specs.Prevs.{prev_in, Traced, IsOwed, IsGone, IsTraced}
 use Rattle.call_stages.specs.Prevs.{Debt, Prevs, names, pays, renews}
-use Rattle.call_stages.specs.Orders.{AreInOrder}
 use Rattle.index_law.specs.Whole.{NodeStepKeepsAll, LineStepKeepsAll, PrevStepKeepsAll}
 use Rattle.index_law.proofs.Joint.{sure_same, fit_same, node_step, line_step}
 use Rattle.index_law.proofs.Noting.{LinesStay, store_leaves}
-use Rattle.index_law.proofs.Prevs.{store_prev, leads_now, step_traces, prev_traces}
+use Rattle.index_law.proofs.Prevs.{ordered_fewer, store_prev, leads_now, step_traces, prev_traces}
 use Rattle.index_law.proofs.Rows.{facts-elsewhere}
 use Rattle.index_law.proofs.Starts.{listed_within}
 use Rattle.index_law.proofs.Switch.{leads_on}
@@ -43,9 +44,9 @@ module _ (l : Layout) (words : List ℕ) (base : Map) (history : List Write) whe
 
   line_leaves : (line : Option HeldLine) (a : Action) (x : ℕ) (after : Option HeldLine) → IfSome line (λ e. (e.caller < l.callers) × (e.number < 8)) → Notes l line a x after → Leaves (acted l words a)
   line_leaves line a x after here (passes_line {c = c} {j = j} {offset = offset} caller low small) = load_leaves (line_address l c j offset)
-  line_leaves line a x after here (takes {c = c} {j = j} caller low) = load_leaves (line_address l c j 0)
-  line_leaves line a x after here (looks_up {offset = offset} {e = e} small learnt) = load_leaves (line_address l e.caller e.number offset)
-  line_leaves line a x after here (notes {y = y} {offset = offset} {e = e} small fits soils told keeps) =
+  line_leaves line a x after here (takes {c = c} {j = j} caller low empty_state) = load_leaves (line_address l c j 0)
+  line_leaves line a x after here (looks_up {offset = offset} {e = e} small learnt blind) = load_leaves (line_address l e.caller e.number offset)
+  line_leaves line a x after here (notes {y = y} {offset = offset} {e = e} small fits marks soils told keeps) =
       let has : HasLocation l (Cached (Line e.caller e.number offset)) = (here.0, here.1, small) in (
         facts-elsewhere l words base history (Cached (Line e.caller e.number offset)) y has (λ n o d. cc, λ n d. cc),
         λ n. store_prev l words (Cached (Line e.caller e.number offset)) y has (λ k d. cc) n,
@@ -58,30 +59,46 @@ module _ (l : Layout) (words : List ℕ) (base : Map) (history : List Write) whe
         λ n. ap (λ (q : ℕ). prev_in l (slice_set words q y) n) address ∙ store_prev l words (Durable (Line e.caller e.number offset)) y has (λ k d. cc) n,
       )
 
--- where the nodes and their prevs are the same
-traced_same : (z : Traced) (words : List ℕ) → IsTraced z → Lawful (record (z.world) { words = words }) → facts (record (z.world) { words = words }) ≡ facts z.world
+-- where the nodes and their prevs are the same, but that fewer nodes may be GONE
+pub traced_fewer : (z : Traced) (words : List ℕ) → IsTraced z → Lawful (record (z.world) { words = words }) → list_in z.world.layout words ≡ list_in z.world.layout z.world.words
+    → spot_in z.world.layout words ≡ spot_in z.world.layout z.world.words → ((n : ℕ) → status_in z.world.layout words n ≡ gone_status → status_in z.world.layout z.world.words n ≡ gone_status)
     → ((n : ℕ) → prev_in z.world.layout words n ≡ prev_in z.world.layout z.world.words n) → IsTraced (record { world = record (z.world) { words = words }; debts = z.debts })
-traced_same z words traced lawful same prevs =
+traced_fewer z words traced lawful list now fewer prevs =
     let f = facts z.world in
     let prev : ℕ → ℕ = prev_in z.world.layout z.world.words in
     let prev' : ℕ → ℕ = prev_in z.world.layout words in
     let alike : prev' ≡ prev = λ i n. prevs n i in
     record {
       lawful = lawful;
-      known = λ j e q at_d at_p. subst (λ (φ : Facts). IfSome e.known (λ k. HoldsNode q.stage k.0 × (IsListed φ k.0 → ⊥) × (prev' k.0 ≡ k.1))) (sym same)
+      known = λ j e q at_d at_p. subst (λ (members : List ListNode). IfSome e.known (λ k. HoldsNode q.stage k.0 × (IsIn members k.0 → ⊥) × (prev' k.0 ≡ k.1))) (sym list)
           (subst (λ (pr : ℕ → ℕ). IfSome e.known (λ k. HoldsNode q.stage k.0 × (IsListed f k.0 → ⊥) × (pr k.0 ≡ k.1))) (sym alike) (traced.known j e q at_d at_p));
-      owes = λ j e q at_d at_p. subst (λ (φ : Facts). IfSome e.owes (λ n. HoldsNode q.stage n × IsListed φ n)) (sym same) (traced.owes j e q at_d at_p);
-      prevs = subst (λ (φ : Facts). (n : ℕ) → IsListed φ n → φ.now n next_offset ≢ 0 → (prev' (φ.now n next_offset) ≡ n) ⊎ IsOwed (record { world = record (z.world) { words = words }; debts = z.debts }) n) (sym same)
+      owes = λ j e q at_d at_p. subst (λ (members : List ListNode). IfSome e.owes (λ n. HoldsNode q.stage n × IsIn members n)) (sym list) (traced.owes j e q at_d at_p);
+      prevs = subst (λ (members : List ListNode). (n : ℕ) → IsIn members n → spot_in z.world.layout words n next_offset ≢ 0
+          → (prev' (spot_in z.world.layout words n next_offset) ≡ n) ⊎ IsOwed (record { world = record (z.world) { words = words }; debts = z.debts }) n) (sym list)
+          (subst (λ (spots : ℕ → Spot). (n : ℕ) → IsListed f n → spots n next_offset ≢ 0
+          → (prev' (spots n next_offset) ≡ n) ⊎ IsOwed (record { world = record (z.world) { words = words }; debts = z.debts }) n) (sym now)
           (λ n listed ne. ⊎_elim
           (λ e. inl (prevs (f.now n next_offset) ∙ e))
           (λ owed. inr (record { number = owed.number; debt = owed.debt; party = owed.party; there = owed.there; at = owed.at; is = owed.is }))
-          (traced.prevs n listed ne));
-      order = subst (λ (φ : Facts). AreInOrder z.world.layout.nodes (IsGone φ) prev') (sym same) (subst (AreInOrder z.world.layout.nodes (IsGone f)) (sym alike) traced.order);
+          (traced.prevs n listed ne)));
+      order = record {
+        order = traced.order.order;
+        all = λ n gone. traced.order.all n (fewer n gone);
+        ordered = ordered_fewer (IsGone f) (λ n. status_in z.world.layout words n ≡ gone_status) prev prev' fewer (λ n is to. prevs n) traced.order.order traced.order.ordered;
+        within = traced.order.within;
+        once = traced.order.once;
+      };
       below = λ n. let is = prevs n in let low = traced.below n in omega arith;
     }
 
+-- where they are all the same
+pub traced_same : (z : Traced) (words : List ℕ) → IsTraced z → Lawful (record (z.world) { words = words }) → facts (record (z.world) { words = words }) ≡ facts z.world
+    → ((n : ℕ) → prev_in z.world.layout words n ≡ prev_in z.world.layout z.world.words n) → IsTraced (record { world = record (z.world) { words = words }; debts = z.debts })
+traced_same z words traced lawful same prevs =
+    traced_fewer z words traced lawful (ap (λ (f : Facts). f.list) same) (ap (λ (f : Facts). f.now) same) (λ n gone. ap (λ (f : Facts). f.status n) (sym same) ∙ gone) prevs
+
 -- where the lines are the same
-joint_same : (z : Joint) (words : List ℕ) → IsJoint z → Lawful (record (z.world) { words = words }) → ((c j offset : ℕ) → LinesStay z.world.layout z.world.words words c j offset)
+pub joint_same : (z : Joint) (words : List ℕ) → IsJoint z → Lawful (record (z.world) { words = words }) → ((c j offset : ℕ) → LinesStay z.world.layout z.world.words words c j offset)
     → IsJoint (record { world = record (z.world) { words = words }; lines = z.lines })
 joint_same z words joint lawful stay = record {
   lawful = lawful;

@@ -236,12 +236,16 @@ pub record IsJoinedAt (l : Layout) (f : Facts) (left right : Grip) : Type 0 wher
       (map_now f)
   pub few : names_in l.slots (range_of l f left.node) (f.now left.node) ≤ l.slots / 2
 
--- The right node is GONE.
+-- The right node is GONE. Its anchor belongs to the left one.
 pub record IsGoneAt (l : Layout) (f : Facts) (left right : Grip) : Type 0 where
   pub listed : IsListed f left.node
   pub unlisted : IsListed f right.node → ⊥
   pub settled : IsSettled l f left.node
   pub gone : f.status right.node ≡ gone_status
+  pub anchor : List ℕ
+  pub named : IsName anchor
+  pub anchored : anchor_in (f.now right.node) ≡ key_of anchor
+  pub inside : range_of l f left.node anchor ≡ true
 
 abbrev pub IsAtPace : Layout → Facts → Grip → Grip → Pace → Type 0
 IsAtPace l f left right Gathered = IsGatheredAt l f left right

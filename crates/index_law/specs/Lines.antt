@@ -1,15 +1,15 @@
 -- The log lines of a row: in order, whichever of their words are durable. They stand beside all that is said of nodes.
-use Rattle.std.specs.Prelude.{◌≡◌, ◌≢◌, ℕ, ◌<◌, ◌&&◌, nat_lt, if◌then◌else◌, List, Option, Some, IfSome}
+use Rattle.std.specs.Prelude.{◌≡◌, ◌≢◌, ℕ, ◌<◌, ◌⊎◌, ◌&&◌, nat_lt, if◌then◌else◌, true, false, List, Option, Some, IfSome}
 use Rattle.pm_words.specs.declared.layout.Layout.{Layout}
 use Rattle.pm_words.specs.declared.action.Action.{Action}
 use Rattle.pm_words.specs.Locations.{Line, Cached, Durable, at}
 use Rattle.pm_words.specs.Rows.{IsRow, acted, got, evicted}
 use Rattle.pm_words.specs.Locations.{image_words}
-use Rattle.data_node.specs.Spots.{Spot}
-use Rattle.call_stages.specs.Stages.{Stage, Tells}
-use Rattle.call_stages.specs.Lines.{HeldLine, IsFitLine, Notes}
+use Rattle.data_node.specs.Spots.{Spot, updated}
+use Rattle.call_stages.specs.Stages.{Stage, IsAmong, Tells}
+use Rattle.call_stages.specs.Lines.{HeldLine, IsEntry, IsFitLine, IsBlind, Notes}
 use Rattle.index_law.specs.Laws.{Allowed}
-use Rattle.index_law.specs.Twins.{IsMix, IsCleanBut}
+use Rattle.index_law.specs.Twins.{IsMix}
 use Rattle.index_law.specs.Worlds.{World}
 use Rattle.index_law.specs.Lawful.{Lawful}
 
@@ -26,12 +26,33 @@ safe_line l words c j offset =
 abbrev pub AreFit : Layout → List ℕ → Type 0
 AreFit l words = (c j : ℕ) (mix : Spot) → IsMix (safe_line l words c j) (line_in l words c j) mix → IsFitLine l mix
 
+-- This is the word of the line that is its party's no more: the state, once it was made READY.
+pub record IsGiven (e : HeldLine) (offset : ℕ) : Type 0 where
+  pub ready : e.ready ≡ true
+  pub state : offset ≡ 0
+
+-- The state is READY, or a turn has emptied the line.
+abbrev pub WaitsOrIsEmpty : ℕ → Type 0
+WaitsOrIsEmpty state = (state ≡ 0) ⊎ (state ≡ 2)
+
+-- What holds of a line that was made READY, by its words and their durable twins.
+pub record IsWaiting (l : Layout) (seen : List (ℕ × ℕ)) (now safe : Spot) : Type 0 where
+  pub state : WaitsOrIsEmpty (now 0)
+  pub entry : IsEntry l (updated now 0 2)  -- it says which change it is of,
+  pub durable : (offset : ℕ) → offset ≢ 0 → safe offset ≡ now offset  -- durably,
+  pub blind : IsBlind seen  -- and its party relies on no state
+
 -- What a call knows of its line.
 pub record SureLine (l : Layout) (words : List ℕ) (e : HeldLine) : Type 0 where
   pub here : (e.caller < l.callers) × (e.number < 8)
   pub seen : Tells e.seen (line_in l words e.caller e.number)
-  pub clean : IsCleanBut e.dirty (safe_line l words e.caller e.number) (line_in l words e.caller e.number)
-  pub hand : IfSome e.hand (λ hand. line_in l words e.caller e.number hand.0 ≡ hand.1)
+  pub clean : (offset : ℕ) → (IsAmong e.dirty offset → ⊥) → (IsGiven e offset → ⊥) →
+      safe_line l words e.caller e.number offset ≡ line_in l words e.caller e.number offset
+  pub hand : IfSome e.hand (λ hand. (line_in l words e.caller e.number hand.0 ≡ hand.1) ⊎
+      (IsGiven e hand.0 × (hand.1 ≡ 2)))
+  pub unready : e.ready ≡ false → line_in l words e.caller e.number 0 ≢ 2
+  pub waits : e.ready ≡ true →
+      IsWaiting l e.seen (line_in l words e.caller e.number) (safe_line l words e.caller e.number)
 
 -- A step on a line keeps all lines in order, tells its call what it relies on then, and leaves the other lines, and the
 -- nodes.

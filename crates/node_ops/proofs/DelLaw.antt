@@ -16,7 +16,7 @@ use Rattle.call_stages.specs.declared.once.Placed.{Placed}
 use Rattle.call_stages.specs.Stages.{Held, Stage, Idle}
 use Rattle.call_stages.specs.declared.once.Once.TheVariants as once
 use Rattle.call_stages.specs.declared.view.View.{View}
-use Rattle.call_stages.specs.Footings.{FootStep, on_line}
+use Rattle.call_stages.specs.Footings.{Waits, FootStep, on_line}
 use Rattle.call_stages.specs.Kinds.{Told, LeadsWithin, Step, looks, learns, commits, unlocks, refuses, word_address}
 use Rattle.node_ops.specs.declared.call.Call.{Call}
 use Rattle.node_ops.specs.declared.lookup.Hold.{Hold}
@@ -53,6 +53,7 @@ use Rattle.split_merge.specs.JoinStages.{knowing}
 use Rattle.split_merge.specs.Merges.{IsMergeAt, LeadsNear, merge_asks, merge_at_asks, merge_turned}
 use Rattle.split_merge.specs.MergeStages.{knows_near, neighbour, head_before, merge_footing, merge_at_footing}
 use Rattle.split_merge.specs.MergeLaws.{Answered, MayJoin, MergesSo}
+use Rattle.split_merge.proofs.SplitLaw.{take_waits, take_unready}
 use Rattle.split_merge.proofs.MergeLaw.{merges_are_steps}
 use Rattle.node_ops.specs.declared.finish.FinishAt.{FinishAt}
 use Rattle.node_ops.specs.declared.finish.FinishAt.TheVariants as finish_at
@@ -212,7 +213,7 @@ of_take take P all = at take.at
   where
     at : (at : TakeAt) → IfSome (take_at_held (take_line take) at) P
     at take_at.State = tt
-    at (take_at.Fence fence) = all (fenced (take_line take) ((0, 0) ∷ []) fence) refl refl
+    at (take_at.Fence fence) = all (fenced false (take_line take) ((0, 0) ∷ []) fence) refl refl
 
 take_owner : (take : Take) → IsTake take → caller_of (take_line take) ≡ take.caller
 take_owner take is = let index : take.index < 8 = is.index in omega arith
@@ -237,13 +238,16 @@ module _ (call : Call) (hold : Hold) (bitmap : ℕ) (hit : Hit) (take : Take) (s
   beside : (after : Option HeldLine) → Notes l (take_held take) (take_asks take) x after → IsBeside l (take_asks take)
   beside after note = notes_beside l (take_held take) after (take_asks take) x (of_take take (λ e. (e.caller < l.callers) × (e.number < 8)) here) note
 
+  waits : (after : Option HeldLine) → IfSome after (λ e. e.ready ≡ false) → Waits (del_footing (del.Single (single_del.Taking call hold bitmap hit take))).stage (take_held take) after
+  waits after unready = take_waits (del_footing (del.Single (single_del.Taking call hold bitmap hit take))).stage (take_line take) take.at after unready
+
   takes_line : (turn : Turn Take Taken) → TakeNotes take.layout take.caller (take_held take) (take_asks take) x turn → Lines (wrapped Deleting (del_taken call hold bitmap hit turn))
   takes_line (Go next) note =
-      on_line refl (beside (take_held next) (noted (take_held next) note.0)) (noted (take_held next) note.0)
+      on_line (waits (take_held next) (take_unready (take_line next) next.at)) refl (beside (take_held next) (noted (take_held next) note.0)) (noted (take_held next) note.0)
       (of_take next (λ e. e.caller ≡ call.view.caller) (λ e caller number. caller ∙ take_owner next note.1 ∙ note.3 ∙ is.caller_is))
   takes_line (Done (Line line)) note =
-      on_line refl (beside (Some (empty_line line)) (noted (Some (empty_line line)) note.0)) (noted (Some (empty_line line)) note.0) (note.1 ∙ is.caller_is)
-  takes_line (Done Full) note = on_line refl (beside None (noted None note)) (noted None note) tt
+      on_line (waits (Some (empty_line line)) refl) refl (beside (Some (empty_line line)) (noted (Some (empty_line line)) note.0)) (noted (Some (empty_line line)) note.0) (note.1 ∙ is.caller_is)
+  takes_line (Done Full) note = on_line (waits None tt) refl (beside None (noted None note)) (noted None note) tt
 
   taking_leads : x < 2 ^ 64 → Lines (running_turned (Deleting (del.Single (single_del.Taking call hold bitmap hit take))) x)
   taking_leads fits = takes_line (take_turned take x) (takes_are_notes take x is.here fits)

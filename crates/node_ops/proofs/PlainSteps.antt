@@ -11,7 +11,7 @@ use Rattle.call_stages.specs.declared.once.Once.{Once}
 use Rattle.call_stages.specs.declared.once.Placed.{Placed}
 use Rattle.call_stages.specs.Stages.{Knows, Stage, Idle, Saw, Wears, Holds, Eyes, Splits, Leaves, Meets, Joins, IsLoose}
 use Rattle.call_stages.specs.Prevs.{no_debt, Deals, keeps}
-use Rattle.call_stages.specs.Footings.{Footing, FootStep, on_nodes}
+use Rattle.call_stages.specs.Footings.{Footing, Minds, FootStep, on_nodes}
 use Rattle.data_list.specs.WalkStages.{walk_stage}
 use Rattle.data_list.proofs.WalkLaw.{walk_loose}
 use Rattle.node_ops.specs.declared.lookup.LookupAt.{LookupAt}
@@ -57,6 +57,18 @@ IsSingle _ = Unit {0}
 pub single_deals : (s t : Stage) → IsSingle s → Deals s t no_debt no_debt
 single_deals s t single = keeps (λ q. subst IsSingle q.was single) (λ q. subst IsSingle q.was single) (λ q. absurd (subst IsSingle q.was single)) tt tt
 
+-- its steps ask nothing of the line
+single_minds : (s t : Stage) (line : Option HeldLine) → IsSingle s → Minds s t line
+single_minds Idle t line single = tt
+single_minds (Saw n v w k) t line single = tt
+single_minds (Wears n v) t line single = tt
+single_minds (Holds n w h) t line single = tt
+single_minds (Eyes n w h m v u free) t line single = tt
+single_minds (Splits left fresh phase) t line single = absurd single
+single_minds (Leaves left) t line single = tt
+single_minds (Meets n w h right) t line single = tt
+single_minds (Joins h left right pace) t line single = absurd single
+
 -- what it goes on with has the same line, and no debt
 abbrev pub IsPlainAfter : Option HeldLine → Turn Running (Once Placed) → Type 0
 IsPlainAfter line turn = footing_after turn ≡ record { stage = stage_after turn; line = line; debt = no_debt }
@@ -65,7 +77,7 @@ pub plain : (l : Layout) (g c : ℕ) (line : Option HeldLine) (s : Stage) (actio
     → Step l g s action x (stage_after turn) (reply_of turn) → Plain l g c line s action x turn
 plain l g c line s action x turn single after step =
     subst (λ (f : Footing). FootStep l g c (record { stage = s; line = line; debt = no_debt }) action x f (reply_of turn)) (sym after)
-    (on_nodes (inl refl) step (single_deals s (stage_after turn) single))
+    (on_nodes (single_minds s (stage_after turn) line single) (inl refl) step (single_deals s (stage_after turn) single))
 
 pub loose_single : (s : Stage) → IsLoose s → IsSingle s
 loose_single Idle loose = tt

@@ -16,7 +16,7 @@ use Rattle.data_node.specs.Spots.{Spot, updated}
 use Rattle.data_node.proofs.SpotLemmas.{updated-same, updated-other}
 use Rattle.call_stages.specs.Stages.{IsAmong, Tells}
 use Rattle.call_stages.specs.Kinds.{Soils}
-use Rattle.call_stages.specs.Lines.{HeldLine, IsEntry, IsFitLine, TellsDurably, line_address, Notes, passes_line, takes, looks_up, notes, keeps_safe}
+use Rattle.call_stages.specs.Lines.{HeldLine, IsEntry, IsFitLine, TellsDurably, line_address, IsBlind, fills, opens, readies, empties, Notes, passes_line, takes, looks_up, notes, keeps_safe}
 use Rattle.call_stages.specs.AnySteps.{loads_line, stores_line, drains_line}
 use Rattle.pm_words.specs.declared.fence.Fence.{Fence}
 use Rattle.smo_log.specs.declared.line.Entry.{Entry}
@@ -73,8 +73,8 @@ module _ (take : Take) (sound : IsTake take) where
       elim (x == 0) as (λ b. (x == 0) ≡ b → Took None (Load (numbered_address take.layout line 0)) x
       (cond b (Go (record take { at = take_at.Fence fence_start })) (cond (ltb (take.index + 1) 8) (Go (record take { index = take.index + 1; at = take_at.State })) (Done Full)))) [
         | true ↦ λ is. (
-          subst (λ v. Notes take.layout None (Load (numbered_address take.layout line 0)) x (Some (record { caller = caller_of line; number = index_of line; seen = (0, v) ∷ []; dirty = (0, 8) ∷ []; hand = None })))
-              (eqb-true x 0 is) (takes here (index_within line)),
+          subst (λ v. Notes take.layout None (Load (numbered_address take.layout line 0)) x (Some (record { caller = caller_of line; number = index_of line; seen = (0, v) ∷ []; dirty = (0, 8) ∷ []; hand = None; ready = false })))
+              (eqb-true x 0 is) (takes here (index_within line) (eqb-true x 0 is)),
           record { layout = sound.layout; caller = sound.caller; index = sound.index; here = start_is },
           refl,
           refl,
@@ -88,10 +88,10 @@ module _ (take : Take) (sound : IsTake take) where
 
   take_leads : (at : TakeAt) (x : ℕ) → IsTakeAt at → x < 2 ^ 64 → Took (take_at_held line at) (take_at_asks take.layout line at) x (take_at_turned (record take { at = at }) at x)
   take_leads take_at.State x is fits = at_state x
-  take_leads (take_at.Fence fence) x is fits = after (fence_next fence x) (fence_leads take.layout line ((0, 0) ∷ []) fence x is fits)
+  take_leads (take_at.Fence fence) x is fits = after (fence_next fence x) (fence_leads take.layout false line ((0, 0) ∷ []) fence x (λ e. cc) is fits)
     where
-      after : (next : Option Fence) → Fences take.layout line ((0, 0) ∷ []) (fence_asks (numbered_address take.layout line fence.word) fence) x fence next
-          → Took (Some (fenced line ((0, 0) ∷ []) fence)) (fence_asks (numbered_address take.layout line fence.word) fence) x (take_fenced (record take { at = take_at.Fence fence }) next)
+      after : (next : Option Fence) → Fences take.layout false line ((0, 0) ∷ []) (fence_asks (numbered_address take.layout line fence.word) fence) x fence next
+          → Took (Some (fenced false line ((0, 0) ∷ []) fence)) (fence_asks (numbered_address take.layout line fence.word) fence) x (take_fenced (record take { at = take_at.Fence fence }) next)
       after (Some next) leads = (leads.0, record { layout = sound.layout; caller = sound.caller; index = sound.index; here = leads.1 }, refl, refl)
       after None leads = (leads, own, line_within)
 
@@ -210,12 +210,12 @@ module _ (machine : Open) (sound : IsOpen machine) where
   field_fit n s told fit = inl (updated-other s (suc n) (field_of entry (suc n)) 0 (λ z. omega arith) ∙ ⊎_elim (λ among. absurd (spared n among)) (λ is. is) told.0)
 
   field_note : (n x : ℕ) → suc n < 8 → Notes l (Some (filled_line number entry n)) (field_store n) x (Some (filled_line number entry (suc n)))
-  field_note n x small = notes small (field_fits n) (stored_soils n small) (field_told n) (field_fit n)
+  field_note n x small = notes small (field_fits n) (fills (λ z. omega arith) refl (λ s told. told.0)) (stored_soils n small) (field_told n) (field_fit n)
 
-  last_note : (n x : ℕ) → suc n ≡ 7 → Notes l (Some (filled_line number entry n)) (field_store n) x (Some (fenced number ((0, 0) ∷ fields entry 7) fence_start))
+  last_note : (n x : ℕ) → suc n ≡ 7 → Notes l (Some (filled_line number entry n)) (field_store n) x (Some (fenced false number ((0, 0) ∷ fields entry 7) fence_start))
   last_note n x last =
-      subst (λ k. Notes l (Some (filled_line number entry n)) (field_store n) x (Some (fenced number ((0, 0) ∷ fields entry k) fence_start))) last
-      (notes (omega arith) (field_fits n) (last_soils n (omega arith)) (field_told n) (field_fit n))
+      subst (λ k. Notes l (Some (filled_line number entry n)) (field_store n) x (Some (fenced false number ((0, 0) ∷ fields entry k) fence_start))) last
+      (notes (omega arith) (field_fits n) (fills (λ z. omega arith) refl (λ s told. told.0)) (last_soils n (omega arith)) (field_told n) (field_fit n))
 
   at_field : (n x : ℕ) → suc n < 8 → Opened (filled_line number entry n) (field_store n) x (open_at_turned machine (open_at.Field (suc n)) x)
   at_field n x small =
@@ -227,9 +227,9 @@ module _ (machine : Open) (sound : IsOpen machine) where
         | false ↦ λ last. on (filled_line number entry n) (field_store n) x (open_at.FenceFields fence_start) (last_note n x (let end : 8 ≤ suc n + 1 = ltb-false _ _ last in omega arith)) start_is
       ] refl
 
-  at_open : (x : ℕ) → Opened (settled number ((0, 0) ∷ fields entry 7)) (Store (numbered_address l number 0) 1) x (opens_on machine (open_at.FenceState fence_start))
-  at_open x = on (settled number ((0, 0) ∷ fields entry 7)) (Store (numbered_address l number 0) 1) x (open_at.FenceState fence_start)
-      (notes (omega arith) (omega arith) (record { stored = inl (omega arith, omega arith); others = λ other among. absurd among })
+  at_open : (x : ℕ) → Opened (settled false number ((0, 0) ∷ fields entry 7)) (Store (numbered_address l number 0) 1) x (opens_on machine (open_at.FenceState fence_start))
+  at_open x = on (settled false number ((0, 0) ∷ fields entry 7)) (Store (numbered_address l number 0) 1) x (open_at.FenceState fence_start)
+      (notes (omega arith) (omega arith) (opens refl (λ s told. told.0)) (record { stored = inl (omega arith, omega arith); others = λ other among. absurd among })
       (λ s told. (updated-same s 0 1, fields_stay entry 7 0 1 s (λ k low high z. omega arith) told.1))
       (λ s told fit. inr (fit_entry l entry 1 (updated s 0 1) sound.entry (omega arith) (updated-same s 0 1)
       (fields_stay entry 7 0 1 s (λ k low high z. omega arith) (durable_fields entry 7 s told.1)))))
@@ -238,24 +238,28 @@ module _ (machine : Open) (sound : IsOpen machine) where
   open_leads : (at : OpenAt) (x : ℕ) → IsOpenAt at → x < 2 ^ 64 → Opened (open_at_held number entry at) (open_at_asks l number entry at) x (open_at_turned machine at x)
   open_leads (open_at.Field zero) x is fits = let low : 1 ≤ 0 = is.0 in absurd (omega arith)
   open_leads (open_at.Field (suc n)) x is fits = at_field n x is.1
-  open_leads (open_at.FenceFields fence) x is fits = after (fence_next fence x) (fence_leads l number ((0, 0) ∷ fields entry 7) fence x is fits)
+  open_leads (open_at.FenceFields fence) x is fits = after (fence_next fence x) (fence_leads l false number ((0, 0) ∷ fields entry 7) fence x (λ e. cc) is fits)
     where
-      after : (next : Option Fence) → Fences l number ((0, 0) ∷ fields entry 7) (fence_asks (numbered_address l number fence.word) fence) x fence next
-          → Opened (fenced number ((0, 0) ∷ fields entry 7) fence) (fence_asks (numbered_address l number fence.word) fence) x (fields_fenced machine next)
-      after (Some next) leads = on (fenced number ((0, 0) ∷ fields entry 7) fence) (fence_asks (numbered_address l number fence.word) fence) x (open_at.FenceFields next) leads.0 leads.1
-      after None leads = on (fenced number ((0, 0) ∷ fields entry 7) fence) (fence_asks (numbered_address l number fence.word) fence) x open_at.State leads tt
+      after : (next : Option Fence) → Fences l false number ((0, 0) ∷ fields entry 7) (fence_asks (numbered_address l number fence.word) fence) x fence next
+          → Opened (fenced false number ((0, 0) ∷ fields entry 7) fence) (fence_asks (numbered_address l number fence.word) fence) x (fields_fenced machine next)
+      after (Some next) leads = on (fenced false number ((0, 0) ∷ fields entry 7) fence) (fence_asks (numbered_address l number fence.word) fence) x (open_at.FenceFields next) leads.0 leads.1
+      after None leads = on (fenced false number ((0, 0) ∷ fields entry 7) fence) (fence_asks (numbered_address l number fence.word) fence) x open_at.State leads tt
   open_leads open_at.State x is fits = at_open x
-  open_leads (open_at.FenceState fence) x is fits = after (fence_next fence x) (fence_leads l number ((0, 1) ∷ fields entry 7) fence x is fits)
+  open_leads (open_at.FenceState fence) x is fits = after (fence_next fence x) (fence_leads l false number ((0, 1) ∷ fields entry 7) fence x (λ e. cc) is fits)
     where
-      after : (next : Option Fence) → Fences l number ((0, 1) ∷ fields entry 7) (fence_asks (numbered_address l number fence.word) fence) x fence next
-          → Opened (fenced number ((0, 1) ∷ fields entry 7) fence) (fence_asks (numbered_address l number fence.word) fence) x (state_fenced machine next)
-      after (Some next) leads = on (fenced number ((0, 1) ∷ fields entry 7) fence) (fence_asks (numbered_address l number fence.word) fence) x (open_at.FenceState next) leads.0 leads.1
+      after : (next : Option Fence) → Fences l false number ((0, 1) ∷ fields entry 7) (fence_asks (numbered_address l number fence.word) fence) x fence next
+          → Opened (fenced false number ((0, 1) ∷ fields entry 7) fence) (fence_asks (numbered_address l number fence.word) fence) x (state_fenced machine next)
+      after (Some next) leads = on (fenced false number ((0, 1) ∷ fields entry 7) fence) (fence_asks (numbered_address l number fence.word) fence) x (open_at.FenceState next) leads.0 leads.1
       after None leads = leads
 
 pub opens_are_notes : OpensAreNotes
 opens_are_notes machine x sound fits = open_leads machine sound machine.at x sound.here fits
 
 -- ---- its other states
+
+-- the fields say nothing of the state
+blind_fields : (entry : Entry) → IsBlind (fields entry 7)
+blind_fields entry s state told = fields_stay entry 7 0 state s (λ k low high z. omega arith) told
 
 module _ (ready : Ready) (entry : Entry) (sound : IsReady ready) where
   ready_stays : (s : Spot) → IsEntry ready.layout s → IsEntry ready.layout (updated s 0 2)
@@ -275,8 +279,8 @@ module _ (ready : Ready) (entry : Entry) (sound : IsReady ready) where
   ready_leads : (at : ReadyAt) (x : ℕ) → IsReadyAt at → x < 2 ^ 64
       → ReadyNotes ready.layout ready.line entry (ready_at_held ready.line entry at) (ready_at_asks ready.layout ready.line at) x (ready_at_turned ready at x)
   ready_leads ready_at.State x is fits = (
-    notes (omega arith) (omega arith) (record { stored = inl (omega arith, omega arith); others = λ other among. absurd among })
-        (λ s told. (updated-same s 0 2, fields_stay entry 7 0 2 s (λ k low high z. omega arith) told.1))
+    notes (omega arith) (omega arith) (readies refl refl (λ s told. told.0) (blind_fields entry)) (record { stored = inl (omega arith, omega arith); others = λ other among. absurd among })
+        (λ s told. fields_stay entry 7 0 2 s (λ k low high z. omega arith) told.1)
         (λ s told fit. ⊎_elim
         (λ empty. let open_ : s 0 ≡ 1 = ⊎_elim (λ none. absurd none) (λ is. is) told.0 in absurd (omega arith))
         (λ is. inr (ready_stays s is)) fit),
@@ -284,10 +288,10 @@ module _ (ready : Ready) (entry : Entry) (sound : IsReady ready) where
     refl,
     refl,
   )
-  ready_leads (ready_at.Fence fence) x is fits = after (fence_next fence x) (fence_leads ready.layout ready.line ((0, 2) ∷ fields entry 7) fence x is fits)
+  ready_leads (ready_at.Fence fence) x is fits = after (fence_next fence x) (fence_leads ready.layout true ready.line (fields entry 7) fence x (λ e. blind_fields entry) is fits)
     where
-      after : (next : Option Fence) → Fences ready.layout ready.line ((0, 2) ∷ fields entry 7) (fence_asks (numbered_address ready.layout ready.line fence.word) fence) x fence next
-          → ReadyNotes ready.layout ready.line entry (fenced ready.line ((0, 2) ∷ fields entry 7) fence) (fence_asks (numbered_address ready.layout ready.line fence.word) fence) x (ready_fenced ready next)
+      after : (next : Option Fence) → Fences ready.layout true ready.line (fields entry 7) (fence_asks (numbered_address ready.layout ready.line fence.word) fence) x fence next
+          → ReadyNotes ready.layout ready.line entry (fenced true ready.line (fields entry 7) fence) (fence_asks (numbered_address ready.layout ready.line fence.word) fence) x (ready_fenced ready next)
       after (Some next) leads = (leads.0, record { layout = sound.layout; line = sound.line; here = leads.1 }, refl, refl)
       after None leads = leads
 
@@ -296,9 +300,9 @@ readies_are_notes ready entry x sound fits = ready_leads ready entry sound ready
 
 pub clears_are_notes : ClearsAreNotes
 clears_are_notes clear held x sound caller number =
-    subst (λ (p : ℕ × ℕ). Notes clear.layout (Some held) (Store (line_address clear.layout p.0 p.1 0) 0) x (Some (record { caller = p.0; number = p.1; seen = (0, 0) ∷ []; dirty = (0, 1) ∷ held.dirty; hand = None })))
+    subst (λ (p : ℕ × ℕ). Notes clear.layout (Some held) (Store (line_address clear.layout p.0 p.1 0) 0) x (Some (record { caller = p.0; number = p.1; seen = (0, 0) ∷ []; dirty = (0, 1) ∷ held.dirty; hand = None; ready = false })))
     (λ k. (caller k, number k))
-    (notes (omega arith) (omega arith) (record { stored = inl (omega arith, omega arith); others = λ other among. inr among })
+    (notes (omega arith) (omega arith) empties (record { stored = inl (omega arith, omega arith); others = λ other among. inr among })
     (λ s told. (updated-same s 0 0, tt)) (λ s told fit. inl (updated-same s 0 0)))
 
 pub reads_are_notes : ReadsAreNotes
@@ -339,7 +343,7 @@ reads_heed read told sound has =
 -- a step on a line of the layout is one beside nodes
 pub notes_beside : NotesAreBeside
 notes_beside l line after a x here (passes_line caller low small) = loads_line (caller, low, small)
-notes_beside l line after a x here (takes caller low) = loads_line (caller, low, omega arith)
-notes_beside l line after a x here (looks_up small learnt) = loads_line (here.0, here.1, small)
-notes_beside l line after a x here (notes small fits soils told keeps) = stores_line (here.0, here.1, small) fits
+notes_beside l line after a x here (takes caller low zero_state) = loads_line (caller, low, omega arith)
+notes_beside l line after a x here (looks_up small learnt blind) = loads_line (here.0, here.1, small)
+notes_beside l line after a x here (notes small fits marks soils told keeps) = stores_line (here.0, here.1, small) fits
 notes_beside l line after a x here (keeps_safe small fits hand cleans) = drains_line (here.0, here.1, small) fits

@@ -1,5 +1,5 @@
 -- Log lines by their numbers, and what they say.
-use Rattle.std.specs.Prelude.{◌≡◌, ℕ, zero, suc, ◌-◌, ◌/◌, ◌%◌, ◌<◌, ◌≤◌, ◌==◌, ◌⊎◌, if◌then◌else◌, List, [], ◌∷◌}
+use Rattle.std.specs.Prelude.{◌≡◌, ℕ, zero, suc, ◌-◌, ◌/◌, ◌%◌, ◌<◌, ◌≤◌, ◌==◌, ◌⊎◌, if◌then◌else◌, Bool, true, false, List, [], ◌∷◌}
 use Rattle.std.specs.Prelude.{slice_index, None}
 use Rattle.pm_words.specs.declared.layout.Layout.{Layout}
 use Rattle.cat_key.specs.Names.{IsName, words_of}
@@ -42,28 +42,36 @@ abbrev pub fields : Entry → ℕ → List (ℕ × ℕ)
 fields entry zero = []
 fields entry (suc n) = (suc n, field_of entry (suc n)) ∷ fields entry n
 
--- What a party knows of a line that it has, all of which is durable.
-abbrev pub settled : ℕ → List (ℕ × ℕ) → HeldLine
-settled line seen = record { caller = caller_of line; number = index_of line; seen = seen; dirty = []; hand = None }
+-- What a party knows of a line that it has, all of which is durable, and which it may have made READY.
+abbrev pub settled : Bool → ℕ → List (ℕ × ℕ) → HeldLine
+settled ready line seen = record {
+  caller = caller_of line;
+  number = index_of line;
+  seen = seen;
+  dirty = [];
+  hand = None;
+  ready = ready;
+}
 
 -- And of one that it makes durable.
-abbrev pub fenced : ℕ → List (ℕ × ℕ) → Fence → HeldLine
-fenced line seen fence =
+abbrev pub fenced : Bool → ℕ → List (ℕ × ℕ) → Fence → HeldLine
+fenced ready line seen fence =
     record {
       caller = caller_of line;
       number = index_of line;
       seen = seen;
       dirty = (fence.word, 8 - fence.word) ∷ [];
       hand = hand_of fence.word fence.at;
+      ready = ready;
     }
 
 -- What it knows of a line that it has just taken: it is EMPTY; of one that it opened: it is OPEN, and says this; and of
--- one that is READY.
+-- one that it made READY: it says this, whatever its state is by now.
 abbrev pub empty_line : ℕ → HeldLine
-empty_line line = settled line ((0, 0) ∷ [])
+empty_line line = settled false line ((0, 0) ∷ [])
 
 abbrev pub open_line : ℕ → Entry → HeldLine
-open_line line entry = settled line ((0, 1) ∷ fields entry 7)
+open_line line entry = settled false line ((0, 1) ∷ fields entry 7)
 
 abbrev pub ready_line : ℕ → Entry → HeldLine
-ready_line line entry = settled line ((0, 2) ∷ fields entry 7)
+ready_line line entry = settled true line (fields entry 7)

@@ -1,5 +1,5 @@
 -- The opening of a line, step by step.
-use Rattle.std.specs.Prelude.{◌≡◌, ℕ, zero, suc, ◌+◌, ◌-◌, ◌*◌, ◌^◌, ◌<◌, ◌≤◌, nat_lt, if◌then◌else◌, List, [], ◌∷◌}
+use Rattle.std.specs.Prelude.{◌≡◌, ℕ, zero, suc, ◌+◌, ◌-◌, ◌*◌, ◌^◌, ◌<◌, ◌≤◌, nat_lt, if◌then◌else◌, false, List, [], ◌∷◌}
 use Rattle.std.specs.Prelude.{Option, Some, None}
 use Rattle.pm_words.specs.declared.TheConstants.{LINE}
 use Rattle.pm_words.specs.declared.layout.Layout.{Layout}
@@ -94,15 +94,16 @@ filled_line line entry n =
       dirty = stored n;
       hand =
           None;
+      ready = false;
     }
 
 -- what the party knows of the line at this point; offset 0 is none of the fields'
 abbrev pub open_at_held : ℕ → Entry → OpenAt → HeldLine
 open_at_held line entry (at.Field zero) = filled_line line entry 0
 open_at_held line entry (at.Field (suc n)) = filled_line line entry n
-open_at_held line entry (at.FenceFields fence) = fenced line ((0, 0) ∷ fields entry 7) fence
-open_at_held line entry at.State = settled line ((0, 0) ∷ fields entry 7)
-open_at_held line entry (at.FenceState fence) = fenced line ((0, 1) ∷ fields entry 7) fence
+open_at_held line entry (at.FenceFields fence) = fenced false line ((0, 0) ∷ fields entry 7) fence
+open_at_held line entry at.State = settled false line ((0, 0) ∷ fields entry 7)
+open_at_held line entry (at.FenceState fence) = fenced false line ((0, 1) ∷ fields entry 7) fence
 
 abbrev pub open_held : Open → HeldLine
 open_held open_ = open_at_held open_.line open_.entry open_.at

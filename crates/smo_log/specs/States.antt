@@ -1,5 +1,5 @@
 -- The states READY and EMPTY, step by step.
-use Rattle.std.specs.Prelude.{◌≡◌, ℕ, ◌*◌, ◌^◌, ◌<◌, List, [], ◌∷◌, Option, Some, None}
+use Rattle.std.specs.Prelude.{◌≡◌, ℕ, ◌*◌, ◌^◌, ◌<◌, true, false, List, [], ◌∷◌, Option, Some, None}
 use Rattle.pm_words.specs.declared.layout.Layout.{Layout}
 use Rattle.pm_words.specs.declared.action.Action.{Action}
 use Rattle.pm_words.specs.declared.action.Action.TheVariants.{Store}
@@ -64,12 +64,12 @@ ready_left ready = ready_at_left ready.at
 -- what the party knows, at this point, of a line that it opened so
 abbrev pub ready_at_held : ℕ → Entry → ReadyAt → HeldLine
 ready_at_held line entry at.State = open_line line entry
-ready_at_held line entry (at.Fence fence) = fenced line ((0, 2) ∷ fields entry 7) fence
+ready_at_held line entry (at.Fence fence) = fenced true line (fields entry 7) fence
 
 abbrev pub ready_held : Entry → Ready → HeldLine
 ready_held entry ready = ready_at_held ready.line entry ready.at
 
--- The kind of step of a turn, and that the fields are kept. At the end the line is durably READY.
+-- The kind of step of a turn, and that the fields are kept. At the end the line was made READY, and all that it says is durable.
 abbrev pub ReadyNotes : Layout → ℕ → Entry → HeldLine → Action → ℕ → Turn Ready (Unit {0}) → Type 0
 ReadyNotes l line entry held action x (Go next) =
     Notes l (Some held) action x (Some (ready_held entry next)) × IsReady next × (next.layout ≡ l) × (next.line ≡ line)
@@ -105,4 +105,5 @@ cleared_line line dirty = record {
   dirty =
       (0, 1) ∷ dirty;
   hand = None;
+  ready = false;
 }

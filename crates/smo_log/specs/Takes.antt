@@ -1,5 +1,5 @@
 -- The look for an EMPTY line, step by step.
-use Rattle.std.specs.Prelude.{◌≡◌, ℕ, ◌+◌, ◌-◌, ◌*◌, ◌^◌, ◌<◌, ◌==◌, nat_lt, if◌then◌else◌, [], ◌∷◌, Option, Some, None}
+use Rattle.std.specs.Prelude.{◌≡◌, ℕ, ◌+◌, ◌-◌, ◌*◌, ◌^◌, ◌<◌, ◌==◌, nat_lt, if◌then◌else◌, false, [], ◌∷◌, Option, Some, None}
 use Rattle.pm_words.specs.declared.TheConstants.{LINES}
 use Rattle.pm_words.specs.declared.layout.Layout.{Layout}
 use Rattle.pm_words.specs.declared.action.Action.{Action}
@@ -76,7 +76,7 @@ take_left take = (8 - take.index) + take_at_left take.at
 -- the line that it has at this point
 abbrev pub take_at_held : ℕ → TakeAt → Option HeldLine
 take_at_held line at.State = None
-take_at_held line (at.Fence fence) = Some (fenced line ((0, 0) ∷ []) fence)
+take_at_held line (at.Fence fence) = Some (fenced false line ((0, 0) ∷ []) fence)
 
 abbrev pub take_held : Take → Option HeldLine
 take_held take = take_at_held (take_line take) take.at

@@ -1,9 +1,11 @@
 -- Each turn of a merge is a step.
-use Rattle.std.proofs.Common.{◌≡◌, ◌≢◌, ℕ, zero, suc, ◌+◌, ◌-◌, ◌*◌, ◌/◌, ◌%◌, ◌^◌, ◌<◌, ◌≤◌, ◌==◌, ◌&&◌, true, false, cond, ltb, List, [], ◌∷◌, Bool, Option, Some, None, inl, inr, ◌⊎◌, ⊎_elim, refl, sym, ◌∙◌, subst, ap, arith}
+use Rattle.std.proofs.Common.{◌≡◌, ◌≢◌, ℕ, zero, suc, ◌+◌, ◌-◌, ◌*◌, ◌/◌, ◌%◌, ◌^◌, ◌<◌, ◌≤◌, ◌==◌, ◌&&◌, true, false, cond, ltb, slice_index, List, [], ◌∷◌, Bool, Option, Some, None, inl, inr, ◌⊎◌, ⊎_elim, refl, sym, ◌∙◌, subst, ap, arith}
 use Rattle.std.specs.Prelude.{IfSome}
 use Rattle.std.specs.List.{AllByRecursion}
 use Rattle.std.proofs.lemmas.Nat.Bits.{bit_at-zero}
 use Rattle.std.proofs.lemmas.Bool.{cases_eq, eqb-true, eqb-false, eq-eqb, ne_eqb, ltb-true, ltb-false}
+use Rattle.split_merge.proofs.PlanWords.{anchor_same}
+use Rattle.cat_key.specs.Names.{AreNameWords}
 use Rattle.pm_words.specs.declared.layout.Layout.{Layout}
 use Rattle.pm_words.specs.declared.action.Action.{Action}
 use Rattle.pm_words.specs.declared.machine.Turn.{Turn}
@@ -15,7 +17,7 @@ use Rattle.pm_words.specs.Fences.{IsFence, IsFenceAt, fence_start, fence_asks, f
 use Rattle.data_node.specs.Bits.{without_live}
 use Rattle.data_node.specs.Slots.{IsClear}
 use Rattle.data_node.specs.Spots.{Spot, updated, bitmap_offset, slot_offset}
-use Rattle.data_node.specs.Lists.{next_offset}
+use Rattle.data_node.specs.Lists.{three_words, next_offset, anchor_in}
 use Rattle.data_node.proofs.SpotLemmas.{updated-same}
 use Rattle.data_node.proofs.StoreLemmas.{means_slot_store}
 use Rattle.call_stages.specs.declared.once.Once.{Once}
@@ -25,14 +27,15 @@ use Rattle.call_stages.specs.Kinds.{HasWordAt, Soils, Answers, writes, word_addr
 use Rattle.call_stages.specs.Lines.{HeldLine, Notes}
 use Rattle.call_stages.specs.AnySteps.{stores_prev}
 use Rattle.call_stages.specs.Prevs.{IsSwitch, IsJoin as IsSwitchOver, IsRetire, Debt, no_debt, Deals, keeps, forgets, ends, joins as deals_join, pays, renews}
-use Rattle.call_stages.specs.Footings.{Footing, FootStep, on_nodes, on_line, on_prev}
+use Rattle.call_stages.specs.Footings.{Footing, IsOfMerge, Waits, FootStep, on_nodes, on_line, on_prev}
 use Rattle.smo_log.specs.declared.line.Entry.{Entry}
 use Rattle.smo_log.specs.declared.open.Open.{Open}
 use Rattle.smo_log.specs.declared.state.Ready.{Ready}
+use Rattle.smo_log.specs.declared.state.ReadyAt.{ReadyAt}
 use Rattle.smo_log.specs.declared.state.ReadyAt.TheVariants as ready_at
-use Rattle.smo_log.specs.LogLines.{caller_of, index_of, open_line, ready_line}
+use Rattle.smo_log.specs.LogLines.{caller_of, index_of, fields, open_line, ready_line}
 use Rattle.smo_log.specs.Opens.{IsOpen, open_asks, open_turned, open_held, OpenNotes}
-use Rattle.smo_log.specs.States.{IsReady, ready_asks, ready_turned, ready_held, ReadyNotes}
+use Rattle.smo_log.specs.States.{IsReady, ready_asks, ready_turned, ready_held, ReadyNotes, ready_at_held}
 use Rattle.smo_log.proofs.LineLaw.{opens_are_notes, readies_are_notes, clears_are_notes, caller_within, index_within, notes_beside}
 use Rattle.split_merge.specs.declared.uniting.Union.{Union}
 use Rattle.split_merge.specs.declared.joining.Join.{Join}
@@ -43,7 +46,7 @@ use Rattle.split_merge.specs.Joins.{lowest, loads_from, copies_to, IsLeft, IsJoi
 use Rattle.split_merge.specs.MoveStages.{words_onto}
 use Rattle.split_merge.specs.JoinStages.{near_seen, knowing, prints_now, own_seen, head_seen, slots_copied, copied_so, all_copied, right_of, slots_dirty, copy_dirty, meeting, stored_in, gathering, joining, past_seen, past_debt, join_at_stage, join_at_line, join_at_debt}
 use Rattle.split_merge.specs.MergeLaws.{Answered, JoinsSo, JoinsAreSteps}
-use Rattle.split_merge.proofs.MoveLaw.{shrinks, vanishes, open_caller, open_number, ready_caller, ready_number}
+use Rattle.split_merge.proofs.MoveLaw.{shrinks, vanishes, open_caller, open_number, open_unready, no_ready, ready_waits, ready_caller, ready_number}
 use Rattle.split_merge.proofs.CutLaw.{told_at, told_past}
 use Rattle.split_merge.proofs.PairLemmas.{gets_parts}
 use Rattle.split_merge.proofs.LeftLemmas.{IsFirst, first_left}
@@ -119,14 +122,14 @@ module _ (join : Join) (sound : IsJoin join) (g : ℕ) (h : Held) (answer : Once
   on before action x at step here = (step, record { union = sound.union; here = here }, refl)
 
   -- a step on its line
-  line_step : {stage : Stage} {e : HeldLine} {after : Option HeldLine} {debt : Debt} {a : Action} {x : ℕ} → counted stage ≡ None → Notes l (Some e) a x after
+  line_step : {stage : Stage} {e : HeldLine} {after : Option HeldLine} {debt : Debt} {a : Action} {x : ℕ} → Waits stage (Some e) after → counted stage ≡ None → Notes l (Some e) a x after
       → (e.caller ≡ c) × (e.number ≡ index_of union.line) → IfSome after (λ d. d.caller ≡ c)
       → FootStep l g c (record { stage = stage; line = Some e; debt = debt }) a x (record { stage = stage; line = after; debt = debt }) None
-  line_step {e = e} {after = after} {a = a} {x = x} none note own after_own =
+  line_step {e = e} {after = after} {a = a} {x = x} waits none note own after_own =
       let low = caller_within union.line l.callers sound.union.line in
       let index = index_within union.line in
       let here : (e.caller < l.callers) × (e.number < 8) = (let is = own.0 in omega arith, let is = own.1 in omega arith) in
-      on_line none (notes_beside l (Some e) after a x here note) note after_own
+      on_line waits none (notes_beside l (Some e) after a x here note) note after_own
 
   -- the line is open, and nothing is copied yet
   abbrev opened_footing : Footing
@@ -171,10 +174,10 @@ module _ (join : Join) (sound : IsJoin join) (g : ℕ) (h : Held) (answer : Once
 
       after : (turn : Turn Open (Unit {0})) → OpenNotes machine.layout machine.line machine.entry (open_held machine) (open_asks machine) x turn → Leads_to (footing (at.Open machine)) (open_asks machine) x (opened join turn)
       after (Go next) note = on (footing (at.Open machine)) (open_asks machine) x (at.Open next)
-          (line_step refl (noted (Some (open_held next)) note.0) (open_caller machine.line machine.entry machine.at ∙ ap caller_of line, open_number machine.line machine.entry machine.at ∙ ap index_of line) (open_caller next.line next.entry next.at ∙ ap caller_of (note.3 ∙ line)))
+          (line_step (λ unready ready. absurd (no_ready (open_unready next.line next.entry next.at) ready)) refl (noted (Some (open_held next)) note.0) (open_caller machine.line machine.entry machine.at ∙ ap caller_of line, open_number machine.line machine.entry machine.at ∙ ap index_of line) (open_caller next.line next.entry next.at ∙ ap caller_of (note.3 ∙ line)))
           (note.1, note.2 ∙ layout, note.3 ∙ line, note.4 ∙ entry)
       after (Done nothing) note = to_copies (footing (at.Open machine)) (open_asks machine) x
-          (line_step refl (subst (λ (p : ℕ × Entry). Notes l (Some (open_held machine)) (open_asks machine) x (Some (open_line p.0 p.1))) (λ k. (line k, entry k)) (noted (Some (open_line machine.line machine.entry)) note))
+          (line_step (λ unready ready. absurd (no_ready refl ready)) refl (subst (λ (p : ℕ × Entry). Notes l (Some (open_held machine)) (open_asks machine) x (Some (open_line p.0 p.1))) (λ k. (line k, entry k)) (noted (Some (open_line machine.line machine.entry)) note))
           (open_caller machine.line machine.entry machine.at ∙ ap caller_of line, open_number machine.line machine.entry machine.at ∙ ap index_of line) refl)
 
   at_load : (left word x : ℕ) → IsLeft union left → word < 4 → x < 2 ^ 64 → Leads_to (footing (at.Load left word)) (loads_from union left word) x (joins_on join (at.Copy left word x))
@@ -182,7 +185,7 @@ module _ (join : Join) (sound : IsJoin join) (g : ℕ) (h : Held) (answer : Once
       let first = first_left union left sound.union is in
       let source = first.target.source in
       on (footing (at.Load left word)) (loads_from union left word) x (at.Copy left word x)
-      (on_nodes (inl refl) (merges (knows_right (sound.union.right, omega arith) (omega arith) (λ t told e. (e, told))))
+      (on_nodes tt (inl refl) (merges (knows_right (sound.union.right, omega arith) (omega arith) (λ t told e. (e, told))))
       (meets_far union.node union.locked (knowing (own_seen union 0) (copy_dirty union left word) None h) (right_of union (head_seen union) (copied_so union left word)) (join_at_stage h union (at.Copy left word x))))
       (is, small, fits)
 
@@ -223,7 +226,7 @@ module _ (join : Join) (sound : IsJoin join) (g : ℕ) (h : Held) (answer : Once
       elim (ltb (word + 1) 4) as (λ b. ltb (word + 1) 4 ≡ b → Leads_to before action x (joins_on join (cond b (at.Load left (word + 1)) (after_slot less)))) [
         | true ↦ λ more. subst (λ k. Leads_to before action x (joins_on join (at.Load left k))) (sym next)
             (on before action x (at.Load left (suc word))
-            (on_nodes (inl refl) (subst (λ d. Step l g before.stage action x (meeting h union 0 d None (head_seen union) (copied_so union left (suc word))) None)
+            (on_nodes tt (inl refl) (subst (λ d. Step l g before.stage action x (meeting h union 0 d None (head_seen union) (copied_so union left (suc word))) None)
             (ap (λ b. cond (b && left == union.pairs.targets) [] (slots_dirty union)) (sym (ne_eqb (suc word) 0 (λ e. omega arith))))
             (copy_step left word value x (slots_dirty union) (copied_so union left (suc word)) is small fits (copy_soils left word (slot_offset (lowest left) word) (slots_dirty union) (within_slots left word is small) (λ other among. among))
             (λ s t e are. word_copied union sound.union s t left word value small e are first.live))) (far (join_at_stage h union (at.Load left (suc word)))))
@@ -232,7 +235,7 @@ module _ (join : Join) (sound : IsJoin join) (g : ℕ) (h : Held) (answer : Once
             let end : suc word ≡ 4 = (let high = ltb-false _ _ last in omega arith) in
             elim (less == 0) as (λ b. (less == 0) ≡ b → Leads_to before action x (joins_on join (cond b (at.Print 0) (at.Load less 0)))) [
               | true ↦ λ none. on before action x (at.Print 0)
-                  (on_nodes (inl refl) (copy_step left word value x ((8, 0) ∷ slots_dirty union) (all_copied union) is small fits
+                  (on_nodes tt (inl refl) (copy_step left word value x ((8, 0) ∷ slots_dirty union) (all_copied union) is small fits
                   (copy_soils left word (slot_offset (lowest left) word) ((8, 0) ∷ slots_dirty union) (inr (within_slots left word is small)) (λ other among. inr among))
                   (λ s t e are. subst (λ k. AreCopies (slots_copied union k half) (updated s (slot_offset (lowest left) word) value) t) (eqb-true _ _ none) (done s t end e are))) (far (join_at_stage h union (at.Print 0))))
                   (omega arith, some)
@@ -240,7 +243,7 @@ module _ (join : Join) (sound : IsJoin join) (g : ℕ) (h : Held) (answer : Once
                   let fewer = left_fewer union sound.union left is (eqb-false _ _ more) in
                   let dirty : slots_dirty union ≡ copy_dirty union less 0 = ap (λ b. cond b [] (slots_dirty union)) (sym (ne_eqb less union.pairs.targets (left_not_all union sound.union left is))) in
                   on before action x (at.Load less 0)
-                  (on_nodes (inl refl) (subst (λ d. Step l g before.stage action x (meeting h union 0 d None (head_seen union) (slots_copied union less half)) None) dirty
+                  (on_nodes tt (inl refl) (subst (λ d. Step l g before.stage action x (meeting h union 0 d None (head_seen union) (slots_copied union less half)) None) dirty
                   (copy_step left word value x (slots_dirty union) (slots_copied union less half) is small fits (copy_soils left word (slot_offset (lowest left) word) (slots_dirty union) (within_slots left word is small) (λ other among. among))
                   (λ s t e are. done s t end e are))) (far (join_at_stage h union (at.Load less 0))))
                   (fewer, omega arith)
@@ -312,14 +315,14 @@ module _ (join : Join) (sound : IsJoin join) (g : ℕ) (h : Held) (answer : Once
         | true ↦ λ more. let next : word + 1 ≡ suc word = omega arith in
             subst (λ k. Leads_to (footing (at.Print word)) (join_at_asks union (at.Print word)) x (joins_on join (at.Print k))) (sym next)
             (on (footing (at.Print word)) (join_at_asks union (at.Print word)) x (at.Print (suc word))
-            (on_nodes (inl refl) (print_step word x ((8, suc word) ∷ slots_dirty union) inside
+            (on_nodes tt (inl refl) (print_step word x ((8, suc word) ∷ slots_dirty union) inside
             (record { stored = inl (omega arith, omega arith); others = λ other among. ⊎_elim (λ within. inl (within.0, let b = within.1 in omega arith)) (λ rest. inr rest) among }))
             (prints_far word (join_at_stage h union (at.Print (suc word)))))
             (let bound = ltb-true _ _ more in omega arith, some))
         | false ↦ λ last.
             let end : suc word ≡ own_prints union = (let bound = ltb-false _ _ last in omega arith) in
             on (footing (at.Print word)) (join_at_asks union (at.Print word)) x (at.FenceCopies 8 fence_start)
-            (on_nodes (inl refl) (subst (λ k. Step l g (join_at_stage h union (at.Print word)) (join_at_asks union (at.Print word)) x
+            (on_nodes tt (inl refl) (subst (λ k. Step l g (join_at_stage h union (at.Print word)) (join_at_asks union (at.Print word)) x
             (meeting h union k ((8, joined_end union - 8) ∷ []) None (head_seen union) (all_copied union)) None) end (print_step word x ((8, joined_end union - 8) ∷ []) inside
             (record {
               stored = inl (omega arith, omega arith);
@@ -355,7 +358,7 @@ module _ (join : Join) (sound : IsJoin join) (g : ℕ) (h : Held) (answer : Once
       leads : (k : FenceAt) → IsFenceAt k → Leads_to (footing (at.FenceCopies first (record fence { at = k }))) (fence_at_asks (word_address l union.node (first + fence.word)) k) x (joins_on join (after_copies union first (fence_at_next fence k x)))
       leads fence_at.Load value = on (footing (at.FenceCopies first (record fence { at = fence_at.Load }))) (fence_at_asks (word_address l union.node (first + fence.word)) fence_at.Load) x
           (at.FenceCopies first (record fence { at = fence_at.Drain x }))
-          (on_nodes (inl refl) (merges (takes_up (sound.union.node, within))) (far fence_at.Load (join_at_stage h union (at.FenceCopies first (record fence { at = fence_at.Drain x })))))
+          (on_nodes tt (inl refl) (merges (takes_up (sound.union.node, within))) (far fence_at.Load (join_at_stage h union (at.FenceCopies first (record fence { at = fence_at.Drain x })))))
           (inside, high, whole, record { word = is.word; value = fits }, some)
       leads (fence_at.Drain y) value =
           let before = footing (at.FenceCopies first (record fence { at = fence_at.Drain y })) in
@@ -363,18 +366,18 @@ module _ (join : Join) (sound : IsJoin join) (g : ℕ) (h : Held) (answer : Once
           elim (ltb (fence.word + 1) 8) as (λ b. ltb (fence.word + 1) 8 ≡ b → Leads_to before action x
           (joins_on join (after_copies union first (cond b (Some (record { word = fence.word + 1; at = fence_at.Load })) None)))) [
             | true ↦ λ more. on before action x (at.FenceCopies first (record { word = fence.word + 1; at = fence_at.Load }))
-                (on_nodes (inl refl) (merges (puts_down (sound.union.node, within) value refl (shrinks (joined_end union) (first + fence.word) (first + (fence.word + 1)) (omega arith))))
+                (on_nodes tt (inl refl) (merges (puts_down (sound.union.node, within) value refl (shrinks (joined_end union) (first + fence.word) (first + (fence.word + 1)) (omega arith))))
                 (far (fence_at.Drain y) (join_at_stage h union (at.FenceCopies first (record { word = fence.word + 1; at = fence_at.Load })))))
                 (inside, high, whole, record { word = ltb-true _ _ more; value = tt }, some)
             | false ↦ λ last.
                 let end : fence.word ≡ 7 = (let low : fence.word < 8 = is.word in let high : 8 ≤ fence.word + 1 = ltb-false _ _ last in omega arith) in
                 elim (ltb (first + 8) (joined_end union)) as (λ b. ltb (first + 8) (joined_end union) ≡ b → Leads_to before action x (joins_on join (cond b (at.FenceCopies (first + 8) fence_start) at.Bitmap))) [
                   | true ↦ λ another. on before action x (at.FenceCopies (first + 8) fence_start)
-                      (on_nodes (inl refl) (merges (puts_down (sound.union.node, within) value refl (shrinks (joined_end union) (first + fence.word) (first + 8 + 0) (omega arith))))
+                      (on_nodes tt (inl refl) (merges (puts_down (sound.union.node, within) value refl (shrinks (joined_end union) (first + fence.word) (first + 8 + 0) (omega arith))))
                       (far (fence_at.Drain y) (join_at_stage h union (at.FenceCopies (first + 8) fence_start))))
                       (ltb-true _ _ another, omega arith, omega arith, record { word = omega arith; value = tt }, some)
                   | false ↦ λ all. on before action x at.Bitmap
-                      (on_nodes (inl refl) (subst (λ k. Step l g before.stage action x (Meets union.node union.locked (knowing (own_seen union k) [] None h) (right_of union (head_seen union) (all_copied union))) None) stored
+                      (on_nodes tt (inl refl) (subst (λ k. Step l g before.stage action x (Meets union.node union.locked (knowing (own_seen union k) [] None h) (right_of union (head_seen union) (all_copied union))) None) stored
                       (merges (puts_down (sound.union.node, within) value refl (vanishes (joined_end union) (first + fence.word) (let past : joined_end union ≤ first + 8 = ltb-false _ _ all in omega arith)))))
                       (far (fence_at.Drain y) (join_at_stage h union at.Bitmap)))
                       tt
@@ -401,7 +404,7 @@ module _ (join : Join) (sound : IsJoin join) (g : ℕ) (h : Held) (answer : Once
 
   at_bitmap : (x : ℕ) → Leads_to (footing at.Bitmap) (join_at_asks union at.Bitmap) x (joins_on join (at.FenceBitmap fence_start))
   at_bitmap x = on (footing at.Bitmap) (join_at_asks union at.Bitmap) x (at.FenceBitmap fence_start)
-      (on_nodes (inl refl) (merges (gathers (grown_small union sound.union) refl (inl (omega arith, omega arith)) (λ s knows. tt)
+      (on_nodes tt (inl refl) (merges (gathers (grown_small union sound.union) refl (inl (omega arith, omega arith)) (λ s knows. tt)
       (λ range other s t m apart knows told are means stays means_right stays_right.
       gathers_both union sound.union s t (are_gathered s t knows.seen told are) range other m means means_right apart stays stays_right)))
       (meets_far union.node union.locked (gathering h union) (right_of union (head_seen union) (all_copied union)) (join_at_stage h union (at.FenceBitmap fence_start))))
@@ -438,7 +441,7 @@ module _ (join : Join) (sound : IsJoin join) (g : ℕ) (h : Held) (answer : Once
       leads : (k : FenceAt) → IsFenceAt k → Leads_to (footing (at.FenceBitmap (record fence { at = k }))) (fence_at_asks (word_address l union.node fence.word) k) x (joins_on join (after_bitmap (fence_at_next fence k x)))
       leads fence_at.Load value = on (footing (at.FenceBitmap (record fence { at = fence_at.Load }))) (fence_at_asks (word_address l union.node fence.word) fence_at.Load) x
           (at.FenceBitmap (record fence { at = fence_at.Drain x }))
-          (on_nodes (inl refl) (merges (glances_joined (has_left fence.word is.word) (λ s told e. told)))
+          (on_nodes tt (inl refl) (merges (glances_joined (has_left fence.word is.word) (λ s told e. told)))
           (deals_on [] ((fence.word, 8 - fence.word) ∷ []) ((fence.word, 8 - fence.word) ∷ []) None (Some (fence.word, x)) Gathered no_debt tt tt))
           (record { word = is.word; value = fits })
       leads (fence_at.Drain y) value =
@@ -447,17 +450,32 @@ module _ (join : Join) (sound : IsJoin join) (g : ℕ) (h : Held) (answer : Once
           elim (ltb (fence.word + 1) 8) as (λ b. ltb (fence.word + 1) 8 ≡ b → Leads_to before action x
           (joins_on join (after_bitmap (cond b (Some (record { word = fence.word + 1; at = fence_at.Load })) None)))) [
             | true ↦ λ more. on before action x (at.FenceBitmap (record { word = fence.word + 1; at = fence_at.Load }))
-                (on_nodes (inl refl) (merges (drains_joined (has_left fence.word is.word) value refl (shrinks 8 fence.word (fence.word + 1) refl)))
+                (on_nodes tt (inl refl) (merges (drains_joined (has_left fence.word is.word) value refl (shrinks 8 fence.word (fence.word + 1) refl)))
                 (deals_on [] ((fence.word, 8 - fence.word) ∷ []) ((fence.word + 1, 8 - (fence.word + 1)) ∷ []) (Some (fence.word, y)) None Gathered no_debt tt tt))
                 (record { word = ltb-true _ _ more; value = tt })
             | false ↦ λ last. on before action x at.Switch
-                (on_nodes (inl refl) (merges (drains_joined (has_left fence.word is.word) value refl (vanishes 8 fence.word (ltb-false _ _ last))))
+                (on_nodes tt (inl refl) (merges (drains_joined (has_left fence.word is.word) value refl (vanishes 8 fence.word (ltb-false _ _ last))))
                 (deals_on [] ((fence.word, 8 - fence.word) ∷ []) [] (Some (fence.word, y)) None Gathered no_debt tt tt)) tt
           ] refl
 
+  -- the line is of the merge that leaves the right node out, and has its anchor
+  line_anchored : (s t : Spot) → Tells (fields (entry_in union) 7) s → Tells (head_seen union) t → AreNameWords (t 3 ∷ t 4 ∷ t 5 ∷ []) → anchor_in s ≡ anchor_in t
+  unfolding anchor_in
+  line_anchored s t line head named =
+      let word : (k : ℕ) → k < 15 → t (1 + k) ≡ head_word union (1 + k) = told_at (head_word union) 1 15 [] t head in
+      let first = word 2 (omega arith) in
+      let second = word 3 (omega arith) in
+      let third = word 4 (omega arith) in
+      let same = anchor_same (head_word union 3) (head_word union 4) (head_word union 5) (subst (λ (words : List ℕ). AreNameWords words) (λ k. first k ∷ second k ∷ third k ∷ []) named) in
+      λ k. three_words ((line.1.1.1.1.0 ∙ (λ i. slice_index (same i) 0) ∙ sym first) k) ((line.1.1.1.0 ∙ (λ i. slice_index (same i) 1) ∙ sym second) k)
+      ((line.1.1.0 ∙ (λ i. slice_index (same i) 2) ∙ sym third) k)
+
+  of_merge : IsOfMerge (open_line union.line (entry_in union)) (right_of union (head_seen union) (all_copied union))
+  of_merge = record { kind = λ s told. told.1.1.1.1.1.1.1.0; node = λ s told. told.1.1.1.1.1.1.0; anchor = λ s t told head. line_anchored s t told.1 head }
+
   at_switch : (x : ℕ) → Leads_to (footing at.Switch) (join_at_asks union at.Switch) x (joins_on join (at.FenceSwitch fence_start))
   at_switch x = on (footing at.Switch) (join_at_asks union at.Switch) x (at.FenceSwitch fence_start)
-      (on_nodes (inl refl)
+      (on_nodes (record { unready = refl; durable = refl; open_state = λ s told. told.0; anchor = of_merge.anchor }, of_merge) (inl refl)
       (merges (joins (sound.union.head 2) refl (inl (omega arith, omega arith)) (λ t told. told_at (head_word union) 1 15 [] t told 1 (omega arith)) (λ s told. (updated-same s next_offset (behind_in union), tt))))
       (deals_join refl refl)) (record { word = omega arith; value = tt })
 
@@ -468,7 +486,7 @@ module _ (join : Join) (sound : IsJoin join) (g : ℕ) (h : Held) (answer : Once
       leads : (k : FenceAt) → IsFenceAt k → Leads_to (footing (at.FenceSwitch (record fence { at = k }))) (fence_at_asks (word_address l union.node fence.word) k) x (joins_on join (after_join (fence_at_next fence k x)))
       leads fence_at.Load value = on (footing (at.FenceSwitch (record fence { at = fence_at.Load }))) (fence_at_asks (word_address l union.node fence.word) fence_at.Load) x
           (at.FenceSwitch (record fence { at = fence_at.Drain x }))
-          (on_nodes (inl refl) (merges (glances_joined (has_left fence.word is.word) (λ s told e. told)))
+          (on_nodes tt (inl refl) (merges (glances_joined (has_left fence.word is.word) (λ s told e. told)))
           (deals_on (past_seen union) ((fence.word, 8 - fence.word) ∷ []) ((fence.word, 8 - fence.word) ∷ []) None (Some (fence.word, x)) Joined (past_debt union) (inr refl) (inl refl)))
           (record { word = is.word; value = fits })
       leads (fence_at.Drain y) value =
@@ -477,18 +495,18 @@ module _ (join : Join) (sound : IsJoin join) (g : ℕ) (h : Held) (answer : Once
           elim (ltb (fence.word + 1) 8) as (λ b. ltb (fence.word + 1) 8 ≡ b → Leads_to before action x
           (joins_on join (after_join (cond b (Some (record { word = fence.word + 1; at = fence_at.Load })) None)))) [
             | true ↦ λ more. on before action x (at.FenceSwitch (record { word = fence.word + 1; at = fence_at.Load }))
-                (on_nodes (inl refl) (merges (drains_joined (has_left fence.word is.word) value refl (shrinks 8 fence.word (fence.word + 1) refl)))
+                (on_nodes tt (inl refl) (merges (drains_joined (has_left fence.word is.word) value refl (shrinks 8 fence.word (fence.word + 1) refl)))
                 (deals_on (past_seen union) ((fence.word, 8 - fence.word) ∷ []) ((fence.word + 1, 8 - (fence.word + 1)) ∷ []) (Some (fence.word, y)) None Joined (past_debt union) (inr refl) (inl refl)))
                 (record { word = ltb-true _ _ more; value = tt })
             | false ↦ λ last. on before action x at.Retire
-                (on_nodes (inl refl) (merges (drains_joined (has_left fence.word is.word) value refl (vanishes 8 fence.word (ltb-false _ _ last))))
+                (on_nodes tt (inl refl) (merges (drains_joined (has_left fence.word is.word) value refl (vanishes 8 fence.word (ltb-false _ _ last))))
                 (deals_on (past_seen union) ((fence.word, 8 - fence.word) ∷ []) [] (Some (fence.word, y)) None Joined (past_debt union) (inr refl) (inl refl))) tt
           ] refl
 
   at_retire : (x : ℕ) → Leads_to (footing at.Retire) (join_at_asks union at.Retire) x (joins_on join at.Prev)
   unfolding left_in right_in
   at_retire x = on (footing at.Retire) (join_at_asks union at.Retire) x at.Prev
-      (on_nodes (inl refl) (merges (retires refl))
+      (on_nodes refl (inl refl) (merges (retires refl))
       (keeps (no_split (gathering h union) (grip (past_seen union) [] None) beside Joined (join_at_stage h union at.Prev))
       (no_join (gathering h union) (gathering h union) (grip (past_seen union) [] None) (grip (past_seen union) [] None) beside beside Joined Gone (λ e e'. cc))
       (λ q. known q.held q.left q.right q.was) (inr refl) (inl refl))) tt
@@ -530,23 +548,26 @@ module _ (join : Join) (sound : IsJoin join) (g : ℕ) (h : Held) (answer : Once
       noted : (at : Option HeldLine) → Notes ready.layout (Some (ready_held (entry_in union) ready)) (ready_asks ready) x at → Notes l (Some (ready_held (entry_in union) ready)) (ready_asks ready) x at
       noted at note = subst (λ k. Notes k (Some (ready_held (entry_in union) ready)) (ready_asks ready) x at) layout note
 
+      waits : (number : ℕ) → number ≡ union.line → (next : HeldLine) (k : ReadyAt) → Waits (join_at_stage h union (at.Ready ready)) (Some (ready_at_held number (entry_in union) k)) (Some next)
+      waits number same next k = ready_waits (join_at_stage h union (at.Ready ready)) number (entry_in union) k next (inr (subst (λ n. IsOfMerge (open_line n (entry_in union)) (right_of union (head_seen union) (all_copied union))) (sym same) of_merge))
+
       after : (turn : Turn Ready (Unit {0})) → ReadyNotes ready.layout ready.line (entry_in union) (ready_held (entry_in union) ready) (ready_asks ready) x turn → Leads_to (footing (at.Ready ready)) (ready_asks ready) x (readied join turn)
       after (Go next) note = on (footing (at.Ready ready)) (ready_asks ready) x (at.Ready next)
-          (line_step refl (noted (Some (ready_held (entry_in union) next)) note.0) (ready_caller ready.line (entry_in union) ready.at ∙ ap caller_of line, ready_number ready.line (entry_in union) ready.at ∙ ap index_of line)
+          (line_step (waits ready.line line (ready_held (entry_in union) next) ready.at) refl (noted (Some (ready_held (entry_in union) next)) note.0) (ready_caller ready.line (entry_in union) ready.at ∙ ap caller_of line, ready_number ready.line (entry_in union) ready.at ∙ ap index_of line)
           (ready_caller next.line (entry_in union) next.at ∙ ap caller_of (note.3 ∙ line)))
           (note.1, note.2 ∙ layout, note.3 ∙ line)
       after (Done nothing) note = on (footing (at.Ready ready)) (ready_asks ready) x at.Clear
-          (line_step refl (subst (λ k. Notes l (Some (ready_held (entry_in union) ready)) (ready_asks ready) x (Some (ready_line k (entry_in union)))) line (noted (Some (ready_line ready.line (entry_in union))) note))
+          (line_step (waits ready.line line (ready_line union.line (entry_in union)) ready.at) refl (subst (λ k. Notes l (Some (ready_held (entry_in union) ready)) (ready_asks ready) x (Some (ready_line k (entry_in union)))) line (noted (Some (ready_line ready.line (entry_in union))) note))
           (ready_caller ready.line (entry_in union) ready.at ∙ ap caller_of line, ready_number ready.line (entry_in union) ready.at ∙ ap index_of line) refl) tt
 
   at_clear : (x : ℕ) → Leads_to (footing at.Clear) (join_at_asks union at.Clear) x (joins_on join at.UnlockRight)
   at_clear x = on (footing at.Clear) (join_at_asks union at.Clear) x at.UnlockRight
-      (line_step refl (clears_are_notes (record { layout = l; line = union.line }) (ready_line union.line (entry_in union)) x (record { layout = sound.union.layout; line = sound.union.line }) refl refl) (refl, refl) refl) tt
+      (line_step (λ unready ready. absurd (no_ready refl ready)) refl (clears_are_notes (record { layout = l; line = union.line }) (ready_line union.line (entry_in union)) x (record { layout = sound.union.layout; line = sound.union.line }) refl refl) (refl, refl) refl) tt
 
   at_unlock_right : (x : ℕ) → Leads_to (footing at.UnlockRight) (join_at_asks union at.UnlockRight) x (joins_on join at.Unlock)
   at_unlock_right x =
       on (footing at.UnlockRight) (join_at_asks union at.UnlockRight) x at.Unlock
-      (on_nodes (inr (refl, λ s told. told.0)) (merges (yields refl refl))
+      (on_nodes tt (inr (refl, λ s told. told.0)) (merges (yields refl refl))
       (elim (behind_in union == 0) as (λ b. (behind_in union == 0) ≡ b → Deals was is (record { known = Some (union.right, union.node); owes = cond b (Some union.node) None }) no_debt) [
         | true ↦ λ none. ends {n = union.node} switch join' retire refl (refl, λ s told. told.0 ∙ eqb-true _ _ none)
         | false ↦ λ some. forgets switch join' retire tt
@@ -568,7 +589,7 @@ module _ (join : Join) (sound : IsJoin join) (g : ℕ) (h : Held) (answer : Once
       retire q = let e : Holds union.node union.locked (merged_held (gathering h union)) ≡ Joins q.held q.left q.right Gone = q.is in cc
 
   at_unlock : (x : ℕ) → Leads_to (footing at.Unlock) (join_at_asks union at.Unlock) x (Done tt)
-  at_unlock x = on_nodes (inl refl) (unlocks refl refl refl refl (subst (Answers l (merged_held (gathering h union))) (sym answered.is) (writes answered.placed answered.had)))
+  at_unlock x = on_nodes tt (inl refl) (unlocks refl refl refl refl (subst (Answers l (merged_held (gathering h union))) (sym answered.is) (writes answered.placed answered.had)))
       (keeps (λ q. absurd (let e : Idle ≡ Splits q.after q.fresh Linked = q.is in cc)) (λ q. absurd (let e : Idle ≡ Joins q.held q.after q.right Joined = q.is in cc))
       (λ q. absurd (let e : Idle ≡ Joins q.held q.left q.right Gone = q.is in cc)) tt tt)
 

@@ -82,7 +82,7 @@ module _ (merge : Merge) (sound : IsMerge merge) (h : Held) (may : MayJoin h) (a
   at_bitmap : (x : ℕ) → Leads (footing at.Bitmap) (merge_at_asks merge at.Bitmap) x (merges_on merge (at.Next x))
   at_bitmap x =
       subst (λ (k : Held). Steps (Holds n w h) (Load (word_address l n 1)) x (Holds n w k)) same
-      (on_nodes (inl refl) (looks (learns (has_word 1 (omega arith)) (omega arith) may.still.ready (λ s tidy knows is. record { seen = (is, tt); left = tt })))
+      (on_nodes tt (inl refl) (looks (learns (has_word 1 (omega arith)) (omega arith) may.still.ready (λ s tidy knows is. record { seen = (is, tt); left = tt })))
       (held_far n w h (Holds n w (record h { known = record { seen = (bitmap_offset, x) ∷ []; left = None } }))))
     where
       same : record h { known = record { seen = (bitmap_offset, x) ∷ []; left = None } } ≡ knowing ((bitmap_offset, x) ∷ []) [] None h
@@ -99,7 +99,7 @@ module _ (merge : Merge) (sound : IsMerge merge) (h : Held) (may : MayJoin h) (a
       near = record { own = own; right = x }
 
       step : Steps (Holds n w (knowing ((bitmap_offset, own) ∷ []) [] None h)) (Load (word_address l n 2)) x (Holds n w (knows_near near h))
-      step = on_nodes (inl refl) (looks (learns (has_word 2 (omega arith)) (omega arith) may.still.ready (λ s tidy knows is. record { seen = (knows.seen.0, (is, tt)); left = tt })))
+      step = on_nodes tt (inl refl) (looks (learns (has_word 2 (omega arith)) (omega arith) may.still.ready (λ s tidy knows is. record { seen = (knows.seen.0, (is, tt)); left = tt })))
           (held_far n w (knowing ((bitmap_offset, own) ∷ []) [] None h) (Holds n w (knows_near near h)))
 
   still : (near : Near) → IsStill (knows_near near h)
@@ -111,22 +111,22 @@ module _ (merge : Merge) (sound : IsMerge merge) (h : Held) (may : MayJoin h) (a
       (merges_on merge (cond b (cond (is_worn_word x g) (at.Leave near) (at.Lock near x (lock_of x g))) (at.Leave near)))) [
         | true ↦ λ free. elim (is_worn_word x g) as (λ b. is_worn_word x g ≡ b → Leads (footing (at.Version near)) (merge_at_asks merge (at.Version near)) x (merges_on merge (cond b (at.Leave near) (at.Lock near x (lock_of x g))))) [
           | true ↦ λ worn. stays
-          | false ↦ λ fresh. on_nodes (inl refl) (looks (eyes (still near) refl here some (free_word x g free) (fresh_word x g fresh) refl))
+          | false ↦ λ fresh. on_nodes tt (inl refl) (looks (eyes (still near) refl here some (free_word x g free) (fresh_word x g fresh) refl))
               (held_far n w (knows_near near h) (Eyes n w (knows_near near h) near.right x (lock_of x g) false))
         ] refl
         | false ↦ λ taken. stays
       ] refl
     where
       stays : Steps (Holds n w (knows_near near h)) (Load (version_address l near.right)) x (Holds n w (knows_near near h))
-      stays = on_nodes (inl refl) (looks (peeks here may.still.ready)) (held_far n w (knows_near near h) (Holds n w (knows_near near h)))
+      stays = on_nodes tt (inl refl) (looks (peeks here may.still.ready)) (held_far n w (knows_near near h) (Holds n w (knows_near near h)))
 
   at_lock : (near : Near) (version locked x : ℕ) → near.right < l.nodes → Leads (footing (at.Lock near version locked)) (merge_at_asks merge (at.Lock near version locked)) x (merges_on merge (finds near version locked x))
   at_lock near version locked x here =
       elim (x == version) as (λ b. (x == version) ≡ b → Leads (footing (at.Lock near version locked)) (merge_at_asks merge (at.Lock near version locked)) x
       (merges_on merge (cond b (at.Head near locked no_head 1) (at.Leave near)))) [
-        | true ↦ λ is. on_nodes (inl refl) (merges (meets here (eqb-true _ _ is) (record { untimed = may.may.untimed; unmerged = may.may.unmerged }) (λ s knows. knows.seen.1.0)))
+        | true ↦ λ is. on_nodes tt (inl refl) (merges (meets here (eqb-true _ _ is) (record { untimed = may.may.untimed; unmerged = may.may.unmerged }) (λ s knows. knows.seen.1.0)))
             (eyed_far n w (knows_near near h) near.right version locked (merge_at_stage h merge (at.Head near locked no_head 1)))
-        | false ↦ λ other. on_nodes (inl refl) (looks (loses here (eqb-false _ _ other)))
+        | false ↦ λ other. on_nodes tt (inl refl) (looks (loses here (eqb-false _ _ other)))
             (eyed_far n w (knows_near near h) near.right version locked (Holds n w (knows_near near h)))
       ] refl
 
@@ -135,7 +135,7 @@ module _ (merge : Merge) (sound : IsMerge merge) (h : Held) (may : MayJoin h) (a
       → ((t : Spot) → Tells (head_before head count) t → t count ≡ x → Tells seen t)
       → Steps (Meets n w (knows_near near h) (neighbour near locked (head_before head count))) (Load (word_address l near.right count)) x (Meets n w (knows_near near h) (neighbour near locked seen))
   head_step near locked head count x seen here positive within told =
-      on_nodes (inl refl) (merges (knows_right (here, (let few = low in omega arith)) (omega arith) told))
+      on_nodes tt (inl refl) (merges (knows_right (here, (let few = low in omega arith)) (omega arith) told))
       (meets_far n w (knows_near near h) (neighbour near locked (head_before head count)) (Meets n w (knows_near near h) (neighbour near locked seen)))
 
   head_told : (head : List ℕ) (count x : ℕ) → AreWordsOf 16 head → 1 ≤ count → count < 16 → (t : Spot) → Tells (head_before head count) t → t count ≡ x → Tells (head_before (slice_set head count x) (count + 1)) t
@@ -218,7 +218,7 @@ module _ (merge : Merge) (sound : IsMerge merge) (h : Held) (may : MayJoin h) (a
       step : (seen : List (ℕ × ℕ)) → ((s : Spot) → Tells (prints_known near prints count) s → s (8 + count) ≡ x → Tells seen s)
           → Steps (Meets n w (knowing (prints_known near prints count) [] None h) (neighbour near locked (head_before head 16))) (Load (word_address l n (8 + count))) x
           (Meets n w (knowing seen [] None h) (neighbour near locked (head_before head 16)))
-      step seen told = on_nodes (inl refl) (merges (knows_own (has_word (8 + count) (let few = low in omega arith)) (omega arith) (λ s tidy knows is. record { seen = told s knows.seen is; left = tt })))
+      step seen told = on_nodes tt (inl refl) (merges (knows_own (has_word (8 + count) (let few = low in omega arith)) (omega arith) (λ s tidy knows is. record { seen = told s knows.seen is; left = tt })))
           (meets_far n w (knowing (prints_known near prints count) [] None h) (neighbour near locked (head_before head 16)) (Meets n w (knowing seen [] None h) (neighbour near locked (head_before head 16))))
 
   at_join : (join : Join) (x : ℕ) → IsJoin join → IsUnionOf merge.view n w merge.line join.union → x < 2 ^ 64 → Leads (footing (at.Join join)) (join_asks join) x (joined merge (join_turned join x))
@@ -232,10 +232,10 @@ module _ (merge : Merge) (sound : IsMerge merge) (h : Held) (may : MayJoin h) (a
       of (Done nothing) step = subst (λ (p : Layout × ℕ). FootStep p.0 g p.1 (join_footing h join) (join_asks join) x done_footing (Some answer)) (λ i. (of_it.layout i, caller i)) step
 
   at_part : (near : Near) (locked bitmap x : ℕ) → Leads (footing (at.Part near locked bitmap)) (merge_at_asks merge (at.Part near locked bitmap)) x (merges_on merge (at.Leave near))
-  at_part near locked bitmap x = on_nodes (inl refl) (merges (parts refl)) (meets_far n w (knows_near near h) (neighbour near locked ((bitmap_offset, bitmap) ∷ [])) (Holds n w (knows_near near h)))
+  at_part near locked bitmap x = on_nodes tt (inl refl) (merges (parts refl)) (meets_far n w (knows_near near h) (neighbour near locked ((bitmap_offset, bitmap) ∷ [])) (Holds n w (knows_near near h)))
 
   at_leave : (near : Near) (x : ℕ) → Leads (footing (at.Leave near)) (merge_at_asks merge (at.Leave near)) x (Done (record { merged = false }))
-  at_leave near x = on_nodes (inr (refl, λ s told. told.0))
+  at_leave near x = on_nodes tt (inr (refl, λ s told. told.0))
       (unlocks refl may.still.pending refl may.still.ready (subst (Answers l (knows_near near h)) (sym answered.is) (writes answered.placed answered.had)))
       (held_far n w (knows_near near h) Idle)
 

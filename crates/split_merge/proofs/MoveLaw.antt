@@ -1,8 +1,9 @@
 -- Each turn of a move is a step.
-use Rattle.std.proofs.Common.{◌≡◌, ◌≢◌, ℕ, zero, suc, ◌+◌, ◌-◌, ◌*◌, ◌%◌, ◌^◌, ◌<◌, ◌≤◌, ◌==◌, true, false, cond, ltb, List, [], ◌∷◌, Option, Some, None, inl, inr, ⊎_elim, refl, sym, ◌∙◌, subst, ap, arith}
+use Rattle.std.proofs.Common.{◌≡◌, ◌≢◌, ℕ, zero, suc, ◌+◌, ◌-◌, ◌*◌, ◌%◌, ◌^◌, ◌<◌, ◌≤◌, ◌==◌, true, false, cond, ltb, List, [], ◌∷◌, Option, Some, None, inl, inr, ⊎_elim, refl, sym, ◌∙◌, subst, ap, arith, Bool, ◌⊎◌}
 use Rattle.std.specs.Prelude.{IfSome}
 use Rattle.std.specs.List.{AllByRecursion}
 use Rattle.std.proofs.lemmas.Bool.{cases_eq, eqb-true, eqb-false, ltb-true, ltb-false}
+use Rattle.cat_key.specs.Names.{AreNameWords}
 use Rattle.pm_words.specs.declared.layout.Layout.{Layout}
 use Rattle.pm_words.specs.declared.action.Action.{Action}
 use Rattle.pm_words.specs.declared.machine.Turn.{Turn}
@@ -29,7 +30,7 @@ use Rattle.smo_log.specs.declared.state.ReadyAt.TheVariants as ready_at
 use Rattle.smo_log.specs.declared.line.Entry.{Entry}
 use Rattle.smo_log.specs.declared.state.Ready.{Ready}
 use Rattle.pm_words.specs.Fences.{IsFence, IsFenceAt, fence_start, fence_asks, fence_at_asks, fence_next, fence_at_next}
-use Rattle.smo_log.specs.LogLines.{caller_of, index_of, open_line, ready_line}
+use Rattle.smo_log.specs.LogLines.{caller_of, index_of, fields, open_line, ready_line}
 use Rattle.smo_log.specs.Opens.{IsOpen, open_asks, open_turned, open_at_held, open_held, OpenNotes}
 use Rattle.smo_log.specs.States.{IsReady, ready_asks, ready_turned, ready_at_held, ready_held, ReadyNotes}
 use Rattle.smo_log.proofs.LineLaw.{opens_are_notes, readies_are_notes, clears_are_notes, caller_within, index_within, notes_beside}
@@ -39,8 +40,8 @@ use Rattle.split_merge.specs.declared.moving.MoveAt.{MoveAt}
 use Rattle.split_merge.specs.declared.moving.MoveAt.TheVariants as at
 use Rattle.split_merge.specs.Plans.{plan_word, next_in, entry_in, moved_in}
 use Rattle.split_merge.specs.Moves.{slot_count, print_count, filled_end, fills, after_slot, after_print, after_anchor, after_fence, after_switch, after_trim, move_at_asks, move_at_turned, moves_on, opened, readied, IsMoveAt, IsMove}
-use Rattle.call_stages.specs.Footings.{Footing, FootStep, on_nodes, on_line, on_prev}
-use Rattle.split_merge.specs.MoveStages.{Known, words_onto, slots_seen, prints_seen, anchor_seen, fresh_seen, fresh_of, left_of, full_left, slot_dirty, filling, move_at_stage, move_at_line, move_at_debt, knows_prev, owes_prev, cut_key}
+use Rattle.call_stages.specs.Footings.{Footing, IsRetired, Waits, FootStep, on_nodes, on_line, on_prev}
+use Rattle.split_merge.specs.MoveStages.{Known, words_onto, slots_seen, prints_seen, anchor_seen, fresh_seen, fresh_of, left_of, full_left, slot_dirty, filling, move_at_stage, move_at_line, move_at_debt, knows_prev, owes_prev, cut_key, linked}
 use Rattle.split_merge.specs.Laws.{Cuts, Moves, MovesAreSteps}
 
 -- words at other offsets than this one
@@ -112,6 +113,23 @@ pub ready_number : (line : ℕ) (entry : Entry) (at : ReadyAt) → (ready_at_hel
 ready_number line entry ready_at.State = refl
 ready_number line entry (ready_at.Fence fence) = refl
 
+-- none of these is READY
+pub open_unready : (line : ℕ) (entry : Entry) (at : OpenAt) → (open_at_held line entry at).ready ≡ false
+open_unready line entry (open_at.Field zero) = refl
+open_unready line entry (open_at.Field (suc n)) = refl
+open_unready line entry (open_at.FenceFields fence) = refl
+open_unready line entry open_at.State = refl
+open_unready line entry (open_at.FenceState fence) = refl
+
+pub no_ready : {b : Bool} → b ≡ false → b ≡ true → ⊥
+no_ready unready ready = let no : false ≡ true = sym unready ∙ ready in cc
+
+-- by the store of READY the stage asks what it asks of the OPEN line
+pub ready_waits : (stage : Stage) (line : ℕ) (entry : Entry) (at : ReadyAt) (after : HeldLine) → ((s : Spot) → Tells (open_line line entry).seen s → s 1 ≢ 2) ⊎ IsRetired stage (open_line line entry)
+    → Waits stage (Some (ready_at_held line entry at)) (Some after)
+ready_waits stage line entry ready_at.State after what = λ unready ready. what
+ready_waits stage line entry (ready_at.Fence fence) after what = λ unready ready. absurd (no_ready unready refl)
+
 pub ready_caller : (line : ℕ) (entry : Entry) (at : ReadyAt) → (ready_at_held line entry at).caller ≡ caller_of line
 ready_caller line entry ready_at.State = refl
 ready_caller line entry (ready_at.Fence fence) = refl
@@ -136,14 +154,14 @@ module _ (move : Move) (sound : IsMove move) (g : ℕ) (known : Known) (cuts : C
   on before action x at step here = (step, record { plan = sound.plan; here = here }, refl)
 
   -- a step on its line
-  line_step : {stage : Stage} {e : HeldLine} {after : Option HeldLine} {debt : Debt} {a : Action} {x : ℕ} → counted stage ≡ None → Notes l (Some e) a x after
+  line_step : {stage : Stage} {e : HeldLine} {after : Option HeldLine} {debt : Debt} {a : Action} {x : ℕ} → Waits stage (Some e) after → counted stage ≡ None → Notes l (Some e) a x after
       → (e.caller ≡ c) × (e.number ≡ index_of plan.line) → IfSome after (λ d. d.caller ≡ c)
       → FootStep l g c (record { stage = stage; line = Some e; debt = debt }) a x (record { stage = stage; line = after; debt = debt }) None
-  line_step {e = e} {after = after} {a = a} {x = x} none note own after_own =
+  line_step {e = e} {after = after} {a = a} {x = x} waits none note own after_own =
       let low = caller_within plan.line l.callers sound.plan.line in
       let index = index_within plan.line in
       let here : (e.caller < l.callers) × (e.number < 8) = (let is = own.0 in omega arith, let is = own.1 in omega arith) in
-      on_line none (notes_beside l (Some e) after a x here note) note after_own
+      on_line waits none (notes_beside l (Some e) after a x here note) note after_own
 
   sizes : (2 ≤ moved_in plan) × (moved_in plan ≤ 32) × (filled_end plan ≤ 16 + 4 * l.slots) × (print_count plan ≤ 8)
   sizes = let low : 4 ≤ l.slots = sound.plan.layout.slots.0 in let high : l.slots ≤ 64 = sound.plan.layout.slots.1 in
@@ -180,12 +198,12 @@ module _ (move : Move) (sound : IsMove move) (g : ℕ) (known : Known) (cuts : C
         | true ↦ λ more. let next : n + 1 ≡ suc n = omega arith in
             subst (λ k. Leads_to (footing (at.Slot n)) (fills plan (16 + n)) x (moves_on move (at.Slot k))) (sym next)
             (on (footing (at.Slot n)) (fills plan (16 + n)) x (at.Slot (suc n))
-            (on_nodes (inl refl) (fill (16 + n) x (slots_seen plan n) (slots_seen plan (suc n)) (slot_dirty plan n) ((0, filled_end plan) ∷ []) wide (omega arith) (slot_soils n within) (slot_told n))
+            (on_nodes tt (inl refl) (fill (16 + n) x (slots_seen plan n) (slots_seen plan (suc n)) (slot_dirty plan n) ((0, filled_end plan) ∷ []) wide (omega arith) (slot_soils n within) (slot_told n))
             (deals_filling (slots_seen plan n) (slots_seen plan (suc n)) (slot_dirty plan n) ((0, filled_end plan) ∷ [])))
             (let bound : n + 1 < slot_count plan = ltb-true _ _ more in omega arith))
         | false ↦ λ last. let end : suc n ≡ slot_count plan = (let bound : slot_count plan ≤ n + 1 = ltb-false _ _ last in omega arith) in
             on (footing (at.Slot n)) (fills plan (16 + n)) x (at.Print 0)
-            (on_nodes (inl refl) (fill (16 + n) x (slots_seen plan n) (slots_seen plan (slot_count plan)) (slot_dirty plan n) ((0, filled_end plan) ∷ []) wide (omega arith) (slot_soils n within)
+            (on_nodes tt (inl refl) (fill (16 + n) x (slots_seen plan n) (slots_seen plan (slot_count plan)) (slot_dirty plan n) ((0, filled_end plan) ∷ []) wide (omega arith) (slot_soils n within)
             (λ t told. subst (λ k. Tells (slots_seen plan k) (updated t (16 + n) (plan_word plan (16 + n)))) end (slot_told n t told)))
             (deals_filling (slots_seen plan n) (slots_seen plan (slot_count plan)) (slot_dirty plan n) ((0, filled_end plan) ∷ []))) (omega arith)
       ] refl
@@ -207,12 +225,12 @@ module _ (move : Move) (sound : IsMove move) (g : ℕ) (known : Known) (cuts : C
         | true ↦ λ more. let next : n + 1 ≡ suc n = omega arith in
             subst (λ k. Leads_to (footing (at.Print n)) (fills plan (8 + n)) x (moves_on move (at.Print k))) (sym next)
             (on (footing (at.Print n)) (fills plan (8 + n)) x (at.Print (suc n))
-            (on_nodes (inl refl) (fill (8 + n) x (prints_seen plan n) (prints_seen plan (suc n)) ((0, filled_end plan) ∷ []) ((0, filled_end plan) ∷ []) wide (omega arith) (soils_more (8 + n) (omega arith)) (λ t told. print_told n t low told))
+            (on_nodes tt (inl refl) (fill (8 + n) x (prints_seen plan n) (prints_seen plan (suc n)) ((0, filled_end plan) ∷ []) ((0, filled_end plan) ∷ []) wide (omega arith) (soils_more (8 + n) (omega arith)) (λ t told. print_told n t low told))
             (deals_filling (prints_seen plan n) (prints_seen plan (suc n)) ((0, filled_end plan) ∷ []) ((0, filled_end plan) ∷ [])))
             (let bound : n + 1 < print_count plan = ltb-true _ _ more in omega arith))
         | false ↦ λ last. let end : suc n ≡ print_count plan = (let bound : print_count plan ≤ n + 1 = ltb-false _ _ last in omega arith) in
             on (footing (at.Print n)) (fills plan (8 + n)) x at.Bitmap
-            (on_nodes (inl refl) (fill (8 + n) x (prints_seen plan n) (prints_seen plan (print_count plan)) ((0, filled_end plan) ∷ []) ((0, filled_end plan) ∷ []) wide (omega arith) (soils_more (8 + n) (omega arith))
+            (on_nodes tt (inl refl) (fill (8 + n) x (prints_seen plan n) (prints_seen plan (print_count plan)) ((0, filled_end plan) ∷ []) ((0, filled_end plan) ∷ []) wide (omega arith) (soils_more (8 + n) (omega arith))
             (λ t told. subst (λ k. Tells (prints_seen plan k) (updated t (8 + n) (plan_word plan (8 + n)))) end (print_told n t low told)))
             (deals_filling (prints_seen plan n) (prints_seen plan (print_count plan)) ((0, filled_end plan) ∷ []) ((0, filled_end plan) ∷ []))) tt
       ] refl
@@ -223,7 +241,7 @@ module _ (move : Move) (sound : IsMove move) (g : ℕ) (known : Known) (cuts : C
 
   at_bitmap : (x : ℕ) → Leads_to (footing at.Bitmap) (fills plan 1) x (moves_on move (at.Anchor 0))
   at_bitmap x = on (footing at.Bitmap) (fills plan 1) x (at.Anchor 0)
-      (on_nodes (inl refl) (fill 1 x (prints_seen plan (print_count plan)) (anchor_seen plan 0) ((0, filled_end plan) ∷ []) ((0, filled_end plan) ∷ []) (omega arith) (omega arith) (soils_more 1 (omega arith))
+      (on_nodes tt (inl refl) (fill 1 x (prints_seen plan (print_count plan)) (anchor_seen plan 0) ((0, filled_end plan) ∷ []) ((0, filled_end plan) ∷ []) (omega arith) (omega arith) (soils_more 1 (omega arith))
       (λ t told. (updated-same t 1 (plan_word plan 1), tells_apart 1 (plan_word plan 1) (prints_seen plan (print_count plan)) t (apart_prints 1 (omega arith)) told)))
       (deals_filling (prints_seen plan (print_count plan)) (anchor_seen plan 0) ((0, filled_end plan) ∷ []) ((0, filled_end plan) ∷ []))) (omega arith)
 
@@ -240,12 +258,12 @@ module _ (move : Move) (sound : IsMove move) (g : ℕ) (known : Known) (cuts : C
         | true ↦ λ more. let next : n + 1 ≡ suc n = omega arith in
             subst (λ k. Leads_to (footing (at.Anchor n)) (fills plan (3 + n)) x (moves_on move (at.Anchor k))) (sym next)
             (on (footing (at.Anchor n)) (fills plan (3 + n)) x (at.Anchor (suc n))
-            (on_nodes (inl refl) (fill (3 + n) x (anchor_seen plan n) (anchor_seen plan (suc n)) ((0, filled_end plan) ∷ []) ((0, filled_end plan) ∷ []) (omega arith) (omega arith) (soils_more (3 + n) (omega arith)) (λ t told. anchor_told n t small told))
+            (on_nodes tt (inl refl) (fill (3 + n) x (anchor_seen plan n) (anchor_seen plan (suc n)) ((0, filled_end plan) ∷ []) ((0, filled_end plan) ∷ []) (omega arith) (omega arith) (soils_more (3 + n) (omega arith)) (λ t told. anchor_told n t small told))
             (deals_filling (anchor_seen plan n) (anchor_seen plan (suc n)) ((0, filled_end plan) ∷ []) ((0, filled_end plan) ∷ [])))
             (let bound : n + 1 < 3 = ltb-true _ _ more in omega arith))
         | false ↦ λ last. let end : suc n ≡ 3 = (let bound : 3 ≤ n + 1 = ltb-false _ _ last in omega arith) in
             on (footing (at.Anchor n)) (fills plan (3 + n)) x at.Next
-            (on_nodes (inl refl) (fill (3 + n) x (anchor_seen plan n) (anchor_seen plan 3) ((0, filled_end plan) ∷ []) ((0, filled_end plan) ∷ []) (omega arith) (omega arith) (soils_more (3 + n) (omega arith))
+            (on_nodes tt (inl refl) (fill (3 + n) x (anchor_seen plan n) (anchor_seen plan 3) ((0, filled_end plan) ∷ []) ((0, filled_end plan) ∷ []) (omega arith) (omega arith) (soils_more (3 + n) (omega arith))
             (λ t told. subst (λ k. Tells (anchor_seen plan k) (updated t (3 + n) (plan_word plan (3 + n)))) end (anchor_told n t small told)))
             (deals_filling (anchor_seen plan n) (anchor_seen plan 3) ((0, filled_end plan) ∷ []) ((0, filled_end plan) ∷ []))) tt
       ] refl
@@ -259,7 +277,7 @@ module _ (move : Move) (sound : IsMove move) (g : ℕ) (known : Known) (cuts : C
 
   at_next : (x : ℕ) → Leads_to (footing at.Next) (fills plan 2) x (moves_on move (at.FenceFresh 0 fence_start))
   at_next x = on (footing at.Next) (fills plan 2) x (at.FenceFresh 0 fence_start)
-      (on_nodes (inl refl) (fill 2 x (anchor_seen plan 3) (fresh_seen plan) ((0, filled_end plan) ∷ []) ((0, filled_end plan - 0) ∷ []) (omega arith) (omega arith)
+      (on_nodes tt (inl refl) (fill 2 x (anchor_seen plan 3) (fresh_seen plan) ((0, filled_end plan) ∷ []) ((0, filled_end plan - 0) ∷ []) (omega arith) (omega arith)
       (record {
         stored = inl (omega arith, omega arith);
         others = λ other among. ⊎_elim (λ within. inl (omega arith, let high : other < 0 + filled_end plan = within.1 in omega arith)) (λ none. absurd none) among;
@@ -296,7 +314,7 @@ module _ (move : Move) (sound : IsMove move) (g : ℕ) (known : Known) (cuts : C
       leads : (k : FenceAt) → IsFenceAt k → Leads_to (footing (at.FenceFresh first (record fence { at = k }))) (fence_at_asks (word_address l plan.fresh (first + fence.word)) k) x (moves_on move (after_fence plan first (fence_at_next fence k x)))
       leads fence_at.Load value = on (footing (at.FenceFresh first (record fence { at = fence_at.Load }))) (fence_at_asks (word_address l plan.fresh (first + fence.word)) fence_at.Load) x
           (at.FenceFresh first (record fence { at = fence_at.Drain x }))
-          (on_nodes (inl refl) (splits (glances_fresh (sound.plan.fresh, within)))
+          (on_nodes tt (inl refl) (splits (glances_fresh (sound.plan.fresh, within)))
           (deals_fencing ((first + fence.word, filled_end plan - (first + fence.word)) ∷ []) ((first + fence.word, filled_end plan - (first + fence.word)) ∷ []) None (Some (first + fence.word, x))))
           (inside, whole, record { word = is.word; value = fits })
       leads (fence_at.Drain y) value =
@@ -305,7 +323,7 @@ module _ (move : Move) (sound : IsMove move) (g : ℕ) (known : Known) (cuts : C
           elim (ltb (fence.word + 1) 8) as (λ b. ltb (fence.word + 1) 8 ≡ b → Leads_to before action x
           (moves_on move (after_fence plan first (cond b (Some (record { word = fence.word + 1; at = fence_at.Load })) None)))) [
             | true ↦ λ more. on before action x (at.FenceFresh first (record { word = fence.word + 1; at = fence_at.Load }))
-                (on_nodes (inl refl) (splits (drains_fresh (sound.plan.fresh, within) value refl (shrinks (filled_end plan) (first + fence.word) (first + (fence.word + 1)) (omega arith))))
+                (on_nodes tt (inl refl) (splits (drains_fresh (sound.plan.fresh, within) value refl (shrinks (filled_end plan) (first + fence.word) (first + (fence.word + 1)) (omega arith))))
                 (deals_fencing ((first + fence.word, filled_end plan - (first + fence.word)) ∷ []) ((first + (fence.word + 1), filled_end plan - (first + (fence.word + 1))) ∷ []) (Some (first + fence.word, y)) None))
                 (inside, whole, record { word = ltb-true _ _ more; value = tt })
             | false ↦ λ last.
@@ -313,11 +331,11 @@ module _ (move : Move) (sound : IsMove move) (g : ℕ) (known : Known) (cuts : C
                 elim (ltb (first + 8) (filled_end plan)) as (λ b. ltb (first + 8) (filled_end plan) ≡ b → Leads_to before action x
                 (moves_on move (cond b (at.FenceFresh (first + 8) fence_start) (at.Open (record { layout = plan.layout; line = plan.line; entry = entry_in plan; at = open_at.Field 1 }))))) [
                   | true ↦ λ another. on before action x (at.FenceFresh (first + 8) fence_start)
-                      (on_nodes (inl refl) (splits (drains_fresh (sound.plan.fresh, within) value refl (shrinks (filled_end plan) (first + fence.word) (first + 8 + 0) (omega arith))))
+                      (on_nodes tt (inl refl) (splits (drains_fresh (sound.plan.fresh, within) value refl (shrinks (filled_end plan) (first + fence.word) (first + 8 + 0) (omega arith))))
                       (deals_fencing ((first + fence.word, filled_end plan - (first + fence.word)) ∷ []) ((first + 8 + 0, filled_end plan - (first + 8 + 0)) ∷ []) (Some (first + fence.word, y)) None))
                       (ltb-true _ _ another, omega arith, record { word = omega arith; value = tt })
                   | false ↦ λ all. on before action x (at.Open (record { layout = plan.layout; line = plan.line; entry = entry_in plan; at = open_at.Field 1 }))
-                      (on_nodes (inl refl) (splits (drains_fresh (sound.plan.fresh, within) value refl (vanishes (filled_end plan) (first + fence.word) (let past : filled_end plan ≤ first + 8 = ltb-false _ _ all in omega arith))))
+                      (on_nodes tt (inl refl) (splits (drains_fresh (sound.plan.fresh, within) value refl (vanishes (filled_end plan) (first + fence.word) (let past : filled_end plan ≤ first + 8 = ltb-false _ _ all in omega arith))))
                       (deals_fencing ((first + fence.word, filled_end plan - (first + fence.word)) ∷ []) [] (Some (first + fence.word, y)) None))
                       (open_is, refl, refl, refl)
                 ] refl
@@ -332,22 +350,27 @@ module _ (move : Move) (sound : IsMove move) (g : ℕ) (known : Known) (cuts : C
 
       after : (turn : Turn Open (Unit {0})) → OpenNotes machine.layout machine.line machine.entry (open_held machine) (open_asks machine) x turn → Leads_to (footing (at.Open machine)) (open_asks machine) x (opened move turn)
       after (Go next) note = on (footing (at.Open machine)) (open_asks machine) x (at.Open next)
-          (line_step refl (noted (Some (open_held next)) note.0) (open_caller machine.line machine.entry machine.at ∙ ap caller_of line, open_number machine.line machine.entry machine.at ∙ ap index_of line) (open_caller next.line next.entry next.at ∙ ap caller_of (note.3 ∙ line)))
+          (line_step (λ unready ready. absurd (no_ready (open_unready next.line next.entry next.at) ready)) refl (noted (Some (open_held next)) note.0) (open_caller machine.line machine.entry machine.at ∙ ap caller_of line, open_number machine.line machine.entry machine.at ∙ ap index_of line) (open_caller next.line next.entry next.at ∙ ap caller_of (note.3 ∙ line)))
           (note.1, note.2 ∙ layout, note.3 ∙ line, note.4 ∙ entry)
       after (Done answer) note = on (footing (at.Open machine)) (open_asks machine) x at.Prev
-          (line_step refl (subst (λ (p : ℕ × Entry). Notes l (Some (open_held machine)) (open_asks machine) x (Some (open_line p.0 p.1))) (λ k. (line k, entry k)) (noted (Some (open_line machine.line machine.entry)) note)) (open_caller machine.line machine.entry machine.at ∙ ap caller_of line, open_number machine.line machine.entry machine.at ∙ ap index_of line) refl) tt
+          (line_step (λ unready ready. absurd (no_ready refl ready)) refl (subst (λ (p : ℕ × Entry). Notes l (Some (open_held machine)) (open_asks machine) x (Some (open_line p.0 p.1))) (λ k. (line k, entry k)) (noted (Some (open_line machine.line machine.entry)) note)) (open_caller machine.line machine.entry machine.at ∙ ap caller_of line, open_number machine.line machine.entry machine.at ∙ ap index_of line) refl) tt
 
   at_prev : (x : ℕ) → Leads_to (footing at.Prev) (move_at_asks plan at.Prev) x (moves_on move at.Light)
   at_prev x = on (footing at.Prev) (move_at_asks plan at.Prev) x at.Light (on_prev refl (stores_prev sound.plan.fresh (let low = sound.plan.node in let most : l.nodes ≤ 4096 = sound.plan.layout.nodes.1 in omega arith)) names) tt
 
   at_light : (x : ℕ) → Leads_to (footing at.Light) (move_at_asks plan at.Light) x (moves_on move at.Switch)
   at_light x = on (footing at.Light) (move_at_asks plan at.Light) x at.Switch
-      (on_nodes (inl refl) (splits (lights sound.plan.fresh (λ t told. subst (λ k. k < l.nodes) (sym told.0) sound.plan.next)))
+      (on_nodes tt (inl refl) (splits (lights sound.plan.fresh (λ t told. subst (λ k. k < l.nodes) (sym told.0) sound.plan.next)))
       (deals_on (full_left plan known) (fresh_of plan (fresh_seen plan) [] None) (full_left plan known) (fresh_of plan (fresh_seen plan) [] None) (Filling false) (Filling true) (knows_prev plan) (λ e e'. cc) (inr refl) tt)) tt
+
+  -- the line has the fresh node's anchor
+  line_anchored : (s t : Spot) → Tells ((0, 1) ∷ fields (entry_in plan) 7) s → Tells (fresh_seen plan) t → AreNameWords (t 3 ∷ t 4 ∷ t 5 ∷ []) → anchor_in s ≡ anchor_in t
+  unfolding anchor_in
+  line_anchored s t line fresh named = λ k. three_words ((line.1.1.1.1.1.0 ∙ sym fresh.1.1.1.0) k) ((line.1.1.1.1.0 ∙ sym fresh.1.1.0) k) ((line.1.1.1.0 ∙ sym fresh.1.0) k)
 
   at_switch : (x : ℕ) → Leads_to (footing at.Switch) (move_at_asks plan at.Switch) x (moves_on move (at.FenceSwitch fence_start))
   at_switch x = on (footing at.Switch) (move_at_asks plan at.Switch) x (at.FenceSwitch fence_start)
-      (on_nodes (inl refl)
+      (on_nodes (record { unready = refl; durable = refl; open_state = λ s told. told.0; anchor = line_anchored }) (inl refl)
       (splits (switches sound.plan.node (let small : plan.fresh < l.nodes = sound.plan.fresh in let most : l.nodes ≤ 4096 = sound.plan.layout.nodes.1 in omega arith) refl (inl (omega arith, omega arith)) cuts.cut cuts.linked (λ range s m means. means_beside l.slots range s (updated s next_offset plan.fresh) m (λ other apart. updated-other s next_offset plan.fresh other apart) means)))
       (deals_switch refl refl refl)) (record { word = omega arith; value = tt })
 
@@ -361,20 +384,20 @@ module _ (move : Move) (sound : IsMove move) (g : ℕ) (known : Known) (cuts : C
 
   at_trim : (x : ℕ) → Leads_to (footing at.Trim) (move_at_asks plan at.Trim) x (moves_on move (at.FenceTrim fence_start))
   at_trim x = on (footing at.Trim) (move_at_asks plan at.Trim) x (at.FenceTrim fence_start)
-      (on_nodes (inl refl)
+      (on_nodes tt (inl refl)
       (splits (trims {key = cut_key plan} sound.plan.node sound.plan.keep refl (inl (omega arith, omega arith)) anchored (λ s told. tt) cuts.trims))
       (deals_on (left_of plan known known.linked [] None) (fresh_of plan (fresh_seen plan) [] None) (left_of plan known [] ((0, 8) ∷ []) None) (fresh_of plan (fresh_seen plan) [] None) Linked Parted no_debt (λ e e'. cc) tt tt))
       (record { word = omega arith; value = tt })
 
   at_unlock_fresh : (x : ℕ) → Leads_to (footing at.UnlockFresh) (move_at_asks plan at.UnlockFresh) x (moves_on move at.Unlock)
   at_unlock_fresh x = on (footing at.UnlockFresh) (move_at_asks plan at.UnlockFresh) x at.Unlock
-      (on_nodes (inr (refl, λ s told. told.0)) (publishes refl refl refl)
+      (on_nodes tt (inr (refl, λ s told. told.0)) (publishes refl refl refl)
       (keeps (λ q. absurd (let e : Leaves (left_of plan known [] [] None) ≡ Splits q.after q.fresh Linked = q.is in cc))
       (no_join (left_of plan known [] [] None) (fresh_of plan (fresh_seen plan) [] None) Parted (Leaves (left_of plan known [] [] None)))
       (λ q. absurd (no_retire (left_of plan known [] [] None) (fresh_of plan (fresh_seen plan) [] None) Parted (Leaves (left_of plan known [] [] None)) q)) tt tt)) tt
 
   at_unlock : (x : ℕ) → Leads_to (footing at.Unlock) (move_at_asks plan at.Unlock) x (Done tt)
-  at_unlock x = on_nodes (inl refl) (leaves refl)
+  at_unlock x = on_nodes tt (inl refl) (leaves refl)
       (keeps (λ q. absurd (let e : Idle ≡ Splits q.after q.fresh Linked = q.is in cc)) (λ q. absurd (let e : Idle ≡ Joins q.held q.after q.right Joined = q.is in cc))
       (λ q. absurd (let e : Idle ≡ Joins q.held q.left q.right Gone = q.is in cc)) tt tt)
 
@@ -400,7 +423,7 @@ module _ (move : Move) (sound : IsMove move) (g : ℕ) (known : Known) (cuts : C
       leads : (k : FenceAt) → IsFenceAt k → Leads_to (footing (at.FenceSwitch (record fence { at = k }))) (fence_at_asks (word_address l plan.node fence.word) k) x (moves_on move (after_switch plan (fence_at_next fence k x)))
       leads fence_at.Load value = on (footing (at.FenceSwitch (record fence { at = fence_at.Load }))) (fence_at_asks (word_address l plan.node fence.word) fence_at.Load) x
           (at.FenceSwitch (record fence { at = fence_at.Drain x }))
-          (on_nodes (inl refl) (splits (glances_left (has_left fence.word is.word) (λ s told e. told)))
+          (on_nodes tt (inl refl) (splits (glances_left (has_left fence.word is.word) (λ s told e. told)))
           (deals_left known.linked ((fence.word, 8 - fence.word) ∷ []) ((fence.word, 8 - fence.word) ∷ []) None (Some (fence.word, x)) Linked (owes_prev plan) (λ e e'. cc) tt (inr refl)))
           (record { word = is.word; value = fits })
       leads (fence_at.Drain y) value =
@@ -409,21 +432,21 @@ module _ (move : Move) (sound : IsMove move) (g : ℕ) (known : Known) (cuts : C
           elim (ltb (fence.word + 1) 8) as (λ b. ltb (fence.word + 1) 8 ≡ b → Leads_to before action x
           (moves_on move (after_switch plan (cond b (Some (record { word = fence.word + 1; at = fence_at.Load })) None)))) [
             | true ↦ λ more. on before action x (at.FenceSwitch (record { word = fence.word + 1; at = fence_at.Load }))
-                (on_nodes (inl refl) (splits (drains_left (has_left fence.word is.word) value refl (shrinks 8 fence.word (fence.word + 1) refl)))
+                (on_nodes tt (inl refl) (splits (drains_left (has_left fence.word is.word) value refl (shrinks 8 fence.word (fence.word + 1) refl)))
                 (deals_left known.linked ((fence.word, 8 - fence.word) ∷ []) ((fence.word + 1, 8 - (fence.word + 1)) ∷ []) (Some (fence.word, y)) None Linked (owes_prev plan) (λ e e'. cc) tt (inr refl)))
                 (record { word = ltb-true _ _ more; value = tt })
             | false ↦ λ last.
                 let gone = vanishes 8 fence.word (ltb-false _ _ last) in
                 elim (next_in plan == 0) as (λ b. (next_in plan == 0) ≡ b → Leads_to before action x (moves_on move (cond b at.Trim at.NextPrev))) [
                   | true ↦ λ none. on before action x at.Trim
-                      (on_nodes (inl refl) (splits (drains_left (has_left fence.word is.word) value refl gone))
+                      (on_nodes tt (inl refl) (splits (drains_left (has_left fence.word is.word) value refl gone))
                       (ends {n = plan.fresh}
                       (no_switch (grip known.linked ((fence.word, 8 - fence.word) ∷ []) (Some (fence.word, y))) fresh_grip (grip known.linked [] None) fresh_grip Linked Linked (λ e e'. cc))
                       (no_join (grip known.linked ((fence.word, 8 - fence.word) ∷ []) (Some (fence.word, y))) fresh_grip Linked (Splits (grip known.linked [] None) fresh_grip Linked))
                       (no_retire (grip known.linked ((fence.word, 8 - fence.word) ∷ []) (Some (fence.word, y))) fresh_grip Linked (Splits (grip known.linked [] None) fresh_grip Linked))
                       refl (refl, λ s told. told.0 ∙ eqb-true (next_in plan) 0 none))) tt
                   | false ↦ λ some. on before action x at.NextPrev
-                      (on_nodes (inl refl) (splits (drains_left (has_left fence.word is.word) value refl gone))
+                      (on_nodes tt (inl refl) (splits (drains_left (has_left fence.word is.word) value refl gone))
                       (deals_left known.linked ((fence.word, 8 - fence.word) ∷ []) [] (Some (fence.word, y)) None Linked (owes_prev plan) (λ e e'. cc) tt (inr refl)))
                       (eqb-false (next_in plan) 0 some)
                 ] refl
@@ -436,7 +459,7 @@ module _ (move : Move) (sound : IsMove move) (g : ℕ) (known : Known) (cuts : C
       leads : (k : FenceAt) → IsFenceAt k → Leads_to (footing (at.FenceTrim (record fence { at = k }))) (fence_at_asks (word_address l plan.node fence.word) k) x (moves_on move (after_trim plan (fence_at_next fence k x)))
       leads fence_at.Load value = on (footing (at.FenceTrim (record fence { at = fence_at.Load }))) (fence_at_asks (word_address l plan.node fence.word) fence_at.Load) x
           (at.FenceTrim (record fence { at = fence_at.Drain x }))
-          (on_nodes (inl refl) (splits (glances_left (has_left fence.word is.word) (λ s told e. told)))
+          (on_nodes tt (inl refl) (splits (glances_left (has_left fence.word is.word) (λ s told e. told)))
           (deals_left [] ((fence.word, 8 - fence.word) ∷ []) ((fence.word, 8 - fence.word) ∷ []) None (Some (fence.word, x)) Parted no_debt (λ e e'. cc) tt tt))
           (record { word = is.word; value = fits })
       leads (fence_at.Drain y) value =
@@ -445,11 +468,11 @@ module _ (move : Move) (sound : IsMove move) (g : ℕ) (known : Known) (cuts : C
           elim (ltb (fence.word + 1) 8) as (λ b. ltb (fence.word + 1) 8 ≡ b → Leads_to before action x
           (moves_on move (after_trim plan (cond b (Some (record { word = fence.word + 1; at = fence_at.Load })) None)))) [
             | true ↦ λ more. on before action x (at.FenceTrim (record { word = fence.word + 1; at = fence_at.Load }))
-                (on_nodes (inl refl) (splits (drains_left (has_left fence.word is.word) value refl (shrinks 8 fence.word (fence.word + 1) refl)))
+                (on_nodes tt (inl refl) (splits (drains_left (has_left fence.word is.word) value refl (shrinks 8 fence.word (fence.word + 1) refl)))
                 (deals_left [] ((fence.word, 8 - fence.word) ∷ []) ((fence.word + 1, 8 - (fence.word + 1)) ∷ []) (Some (fence.word, y)) None Parted no_debt (λ e e'. cc) tt tt))
                 (record { word = ltb-true _ _ more; value = tt })
             | false ↦ λ last. on before action x (at.Ready (record { layout = plan.layout; line = plan.line; at = ready_at.State }))
-                (on_nodes (inl refl) (splits (drains_left (has_left fence.word is.word) value refl (vanishes 8 fence.word (ltb-false _ _ last))))
+                (on_nodes tt (inl refl) (splits (drains_left (has_left fence.word is.word) value refl (vanishes 8 fence.word (ltb-false _ _ last))))
                 (deals_left [] ((fence.word, 8 - fence.word) ∷ []) [] (Some (fence.word, y)) None Parted no_debt (λ e e'. cc) tt tt))
                 (record { layout = sound.plan.layout; line = sound.plan.line; here = tt }, refl, refl)
           ] refl
@@ -461,16 +484,21 @@ module _ (move : Move) (sound : IsMove move) (g : ℕ) (known : Known) (cuts : C
       noted : (at : Option HeldLine) → Notes ready.layout (Some (ready_held (entry_in plan) ready)) (ready_asks ready) x at → Notes l (Some (ready_held (entry_in plan) ready)) (ready_asks ready) x at
       noted at note = subst (λ k. Notes k (Some (ready_held (entry_in plan) ready)) (ready_asks ready) x at) layout note
 
+      -- it is the line of a split
+      waits : (next : HeldLine) → Waits (linked plan known [] [] None Parted) (Some (ready_held (entry_in plan) ready)) (Some next)
+      waits next = ready_waits (linked plan known [] [] None Parted) ready.line (entry_in plan) ready.at next
+          (inl (λ s told two. let one : s 1 ≡ 1 = told.1.1.1.1.1.1.1.0 in omega arith))
+
       after : (turn : Turn Ready (Unit {0})) → ReadyNotes ready.layout ready.line (entry_in plan) (ready_held (entry_in plan) ready) (ready_asks ready) x turn → Leads_to (footing (at.Ready ready)) (ready_asks ready) x (readied move turn)
       after (Go next) note = on (footing (at.Ready ready)) (ready_asks ready) x (at.Ready next)
-          (line_step refl (noted (Some (ready_held (entry_in plan) next)) note.0) (ready_caller ready.line (entry_in plan) ready.at ∙ ap caller_of line, ready_number ready.line (entry_in plan) ready.at ∙ ap index_of line) (ready_caller next.line (entry_in plan) next.at ∙ ap caller_of (note.3 ∙ line)))
+          (line_step (waits (ready_held (entry_in plan) next)) refl (noted (Some (ready_held (entry_in plan) next)) note.0) (ready_caller ready.line (entry_in plan) ready.at ∙ ap caller_of line, ready_number ready.line (entry_in plan) ready.at ∙ ap index_of line) (ready_caller next.line (entry_in plan) next.at ∙ ap caller_of (note.3 ∙ line)))
           (note.1, note.2 ∙ layout, note.3 ∙ line)
       after (Done answer) note = on (footing (at.Ready ready)) (ready_asks ready) x at.Clear
-          (line_step refl (subst (λ k. Notes l (Some (ready_held (entry_in plan) ready)) (ready_asks ready) x (Some (ready_line k (entry_in plan)))) line (noted (Some (ready_line ready.line (entry_in plan))) note)) (ready_caller ready.line (entry_in plan) ready.at ∙ ap caller_of line, ready_number ready.line (entry_in plan) ready.at ∙ ap index_of line) refl) tt
+          (line_step (waits (ready_line plan.line (entry_in plan))) refl (subst (λ k. Notes l (Some (ready_held (entry_in plan) ready)) (ready_asks ready) x (Some (ready_line k (entry_in plan)))) line (noted (Some (ready_line ready.line (entry_in plan))) note)) (ready_caller ready.line (entry_in plan) ready.at ∙ ap caller_of line, ready_number ready.line (entry_in plan) ready.at ∙ ap index_of line) refl) tt
 
   at_clear : (x : ℕ) → Leads_to (footing at.Clear) (move_at_asks plan at.Clear) x (moves_on move at.UnlockFresh)
   at_clear x = on (footing at.Clear) (move_at_asks plan at.Clear) x at.UnlockFresh
-      (line_step refl (clears_are_notes (record { layout = plan.layout; line = plan.line }) (ready_line plan.line (entry_in plan)) x (record { layout = sound.plan.layout; line = sound.plan.line }) refl refl) (refl, refl) refl) tt
+      (line_step (λ unready ready. absurd (no_ready refl ready)) refl (clears_are_notes (record { layout = plan.layout; line = plan.line }) (ready_line plan.line (entry_in plan)) x (record { layout = sound.plan.layout; line = sound.plan.line }) refl refl) (refl, refl) refl) tt
 
   move_leads : (at : MoveAt) (x : ℕ) → IsMoveAt plan at → x < 2 ^ 64 → Leads_to (footing at) (move_at_asks plan at) x (move_at_turned move at x)
   move_leads (at.Slot word) x here fits = at_slot word x here

@@ -16,7 +16,7 @@ use Rattle.data_node.specs.Lists.{next_offset}
 use Rattle.call_stages.specs.declared.once.Once.{Once}
 use Rattle.call_stages.specs.declared.once.Once.TheVariants as once
 use Rattle.call_stages.specs.declared.once.Placed.{Placed}
-use Rattle.call_stages.specs.Stages.{Tells, Held, Grip, Filling, Stage, Idle, Holds, Eyes, Splits, Joins, full_grip, fresh_grip, counted}
+use Rattle.call_stages.specs.Stages.{Tells, Held, Grip, Filling, Linked, Parted, Stage, Idle, Saw, Wears, Holds, Eyes, Splits, Leaves, Meets, Joins, full_grip, fresh_grip, counted}
 use Rattle.call_stages.specs.Kinds.{IsRefusal, HasWordAt, Told, LeadsWithin, Look, learns, Answers, refuses, has_no_room, Step, looks, unlocks, splits, glances_left}
 use Rattle.call_stages.specs.Lines.{HeldLine, Notes}
 use Rattle.call_stages.specs.Prevs.{no_debt, Deals, keeps}
@@ -48,14 +48,14 @@ use Rattle.split_merge.specs.declared.splitting.SplitDone.{SplitDone}
 use Rattle.split_merge.specs.declared.splitting.SplitDone.TheVariants as answer
 use Rattle.split_merge.specs.Plans.{spot_of}
 use Rattle.split_merge.specs.Moves.{IsMove, move_asks, move_turned}
-use Rattle.call_stages.specs.Footings.{Footing, FootStep, on_nodes, on_line}
+use Rattle.call_stages.specs.Footings.{Footing, Minds, Waits, FootStep, on_nodes, on_line}
 use Rattle.split_merge.specs.MoveStages.{move_footing}
 use Rattle.split_merge.specs.Splits.{word_count, plan_of, move_from, splits_on, taken, claimed, has_read, moved, split_at_turned, split_turned, split_at_asks, split_asks, AreWords, IsPlanOf, IsSplitAt, IsSplit, LeadsIn}
 use Rattle.split_merge.specs.SplitStages.{bitmap_in, led, read_seen, read_grip, known_by, split_at_footing, split_footing, done_footing}
 use Rattle.split_merge.specs.Laws.{Moves}
 use Rattle.split_merge.specs.SplitLaws.{PlansCut, MayBegin, SplitsSo, SplitStays, SplitsAreSteps}
 use Rattle.split_merge.proofs.CutLaw.{told_at, told_past, tells_row, full_told, plan_cuts}
-use Rattle.split_merge.proofs.MoveLaw.{moves_are_steps}
+use Rattle.split_merge.proofs.MoveLaw.{no_ready, moves_are_steps}
 use Rattle.split_merge.proofs.SplitStaying.{first_next, plan_is, plan_of_is, splits_stay}
 
 -- a stage from which no list is switched
@@ -63,6 +63,32 @@ near : Stage → Bool
 near (Splits left fresh (Filling true)) = true
 near (Joins held left right pace) = true
 near _ = false
+
+-- nor does the step ask anything of the line
+minds_far : (s t : Stage) (line : Option HeldLine) → near s ≡ false → Minds s t line
+unfolding near
+minds_far Idle t line far = tt
+minds_far (Saw n v w k) t line far = tt
+minds_far (Wears n v) t line far = tt
+minds_far (Holds n w h) t line far = tt
+minds_far (Eyes n w h m v u free) t line far = tt
+minds_far (Splits left fresh (Filling true)) t line far = absurd (let no : true ≡ false = far in cc)
+minds_far (Splits left fresh (Filling false)) t line far = tt
+minds_far (Splits left fresh Linked) t line far = tt
+minds_far (Splits left fresh Parted) t line far = tt
+minds_far (Leaves left) t line far = tt
+minds_far (Meets n w h right) t line far = tt
+minds_far (Joins h left right pace) t line far = absurd (let no : true ≡ false = far in cc)
+
+-- no line that is taken is READY
+pub take_waits : (stage : Stage) (line : ℕ) (at : TakeAt) (after : Option HeldLine) → IfSome after (λ e. e.ready ≡ false) → Waits stage (take_at_held line at) after
+take_waits stage line take_at.State after unready = tt
+take_waits stage line (take_at.Fence fence) None unready = tt
+take_waits stage line (take_at.Fence fence) (Some e) unready = λ was ready. absurd (no_ready unready ready)
+
+pub take_unready : (line : ℕ) (at : TakeAt) → IfSome (take_at_held line at) (λ e. e.ready ≡ false)
+take_unready line take_at.State = tt
+take_unready line (take_at.Fence fence) = refl
 
 deals_far : (s t : Stage) → near s ≡ false → Deals s t no_debt no_debt
 unfolding near
@@ -163,7 +189,7 @@ module _ (split : Split) (sound : IsSplit split) (h : Held) (may : MayBegin spli
 
   at_next : (x : ℕ) → Leads (footing at.Next) (split_at_asks split at.Next) x (split_at_turned split at.Next x)
   at_next x =
-      on_nodes (inl refl)
+      on_nodes tt (inl refl)
       (looks (learns (has_word 2 (omega arith)) (omega arith) may.claim.still.ready (λ s tidy knows is. record { seen = (is, knows.seen); left = knows.left })))
       (deals_far (Holds n w h) (Holds n w (led x h)) (holds_far n w h))
 
@@ -182,14 +208,17 @@ module _ (split : Split) (sound : IsSplit split) (h : Held) (may : MayBegin spli
       beside after note = notes_beside l (take_held take) after (take_asks take) x
           (subst (λ (k : Layout). IfSome (take_held take) (λ e. (e.caller < k.callers) × (e.number < 8))) layout (take_here take is)) note
 
+      waits : (after : Option HeldLine) → IfSome after (λ e. e.ready ≡ false) → Waits (Holds n w (led next h)) (take_held take) after
+      waits after unready = take_waits (Holds n w (led next h)) (take_line take) take.at after unready
+
       of : (turn : Turn Take Taken) → TakeNotes take.layout take.caller (take_held take) (take_asks take) x turn
           → Leads (footing (at.Take next take)) (take_asks take) x (taken split next turn)
-      of (Go take') note = on_line uncounted (beside (take_held take') (noted (take_held take') note.0)) (noted (take_held take') note.0)
+      of (Go take') note = on_line (waits (take_held take') (take_unready (take_line take') take'.at)) uncounted (beside (take_held take') (noted (take_held take') note.0)) (noted (take_held take') note.0)
           (subst (λ k. IfSome (take_held take') (λ e. e.caller ≡ k)) (note.3 ∙ caller) (take_caller take' note.1))
       of (Done (got.Line line)) note =
           subst (λ stage. Steps (footing (at.Take next take)) (take_asks take) x (record { stage = stage; line = Some (empty_line line); debt = no_debt }) None) (sym (claim_starts l g n w (led next h)))
-          (on_line uncounted (beside (Some (empty_line line)) (noted (Some (empty_line line)) note.0)) (noted (Some (empty_line line)) note.0) (note.1 ∙ caller))
-      of (Done got.Full) note = on_line uncounted (beside None (noted None note)) (noted None note) tt
+          (on_line (waits (Some (empty_line line)) refl) uncounted (beside (Some (empty_line line)) (noted (Some (empty_line line)) note.0)) (noted (Some (empty_line line)) note.0) (note.1 ∙ caller))
+      of (Done got.Full) note = on_line (waits None tt) uncounted (beside None (noted None note)) (noted None note) tt
 
   at_claim : (next line : ℕ) (claim : Claim) (x : ℕ) → IsClaim claim → claim.layout ≡ l → claim.generation ≡ g → Told claim.layout claim.generation (claim_asks claim) x
       → Leads (footing (at.Claim next line claim)) (claim_asks claim) x (claimed split next line (claim_turned claim x))
@@ -201,24 +230,27 @@ module _ (split : Split) (sound : IsSplit split) (h : Held) (may : MayBegin spli
       far : near (claim_stage n w (led next h) claim) ≡ false
       far = claim_far claim.generation n w (led next h) claim.node claim.at
 
+      minds : (after : Stage) → Minds (claim_stage n w (led next h) claim) after (Some (empty_line line))
+      minds after = minds_far (claim_stage n w (led next h) claim) after (Some (empty_line line)) far
+
       looked : (after : Stage) → Look claim.layout claim.generation (claim_stage n w (led next h) claim) (claim_asks claim) x after None → Look l g (claim_stage n w (led next h) claim) (claim_asks claim) x after None
       looked after look = subst (λ (p : Layout × ℕ). Look p.0 p.1 (claim_stage n w (led next h) claim) (claim_asks claim) x after None) (λ i. (layout i, generation i)) look
 
       back : Look claim.layout claim.generation (claim_stage n w (led next h) claim) (claim_asks claim) x (Holds n w (led next h)) None
           → (why : Again) → Leads (footing (at.Claim next line claim)) (claim_asks claim) x (splits_on split (at.Refuse next why))
-      back look why = on_nodes (inr (refl, λ s told. told.0)) (looks (looked (Holds n w (led next h)) look)) (deals_far (claim_stage n w (led next h) claim) (Holds n w (led next h)) far)
+      back look why = on_nodes (minds (Holds n w (led next h))) (inr (refl, λ s told. told.0)) (looks (looked (Holds n w (led next h)) look)) (deals_far (claim_stage n w (led next h) claim) (Holds n w (led next h)) far)
 
       of : (turn : Turn Claim Claimed) → Claims claim.layout claim.generation n w (led next h) (claim_stage n w (led next h) claim) (claim_asks claim) x turn
           → Leads (footing (at.Claim next line claim)) (claim_asks claim) x (claimed split next line turn)
       of (Go claim') step =
-          on_nodes (inl refl) (looks (looked (claim_stage n w (led next h) claim') step.0)) (deals_far (claim_stage n w (led next h) claim) (claim_stage n w (led next h) claim') far)
+          on_nodes (minds (claim_stage n w (led next h) claim')) (inl refl) (looks (looked (claim_stage n w (led next h) claim') step.0)) (deals_far (claim_stage n w (led next h) claim) (claim_stage n w (led next h) claim') far)
       of (Done (was.Node m word)) step =
           subst (λ v. Steps (footing (at.Claim next line claim)) (claim_asks claim) x (record {
             stage = Splits (record { name = h.name; old = h.old; node = n; lock = w; seen = (next_offset, v) ∷ h.known.seen; dirty = []; hand = None; copied = [] }) (fresh_grip m word) (Filling false);
             line = Some (empty_line line);
             debt = no_debt;
           }) None) (sym (first_next next))
-          (on_nodes (inl refl) (subst (λ (p : Layout × ℕ). Step p.0 p.1 (claim_stage n w (led next h) claim) (claim_asks claim) x (Splits (full_grip n w (led next h)) (fresh_grip m word) (Filling false)) None)
+          (on_nodes (minds (Splits (full_grip n w (led next h)) (fresh_grip m word) (Filling false))) (inl refl) (subst (λ (p : Layout × ℕ). Step p.0 p.1 (claim_stage n w (led next h) claim) (claim_asks claim) x (Splits (full_grip n w (led next h)) (fresh_grip m word) (Filling false)) None)
           (λ i. (layout i, generation i)) step.0) (deals_far (claim_stage n w (led next h) claim) (Splits (full_grip n w (led next h)) (fresh_grip m word) (Filling false)) far))
       of (Done was.NoFree) step = back step again.NoFree
       of (Done (was.Again why)) step = back step.0 why
@@ -274,7 +306,7 @@ module _ (split : Split) (sound : IsSplit split) (h : Held) (may : MayBegin spli
             line = Some (empty_line share.line);
             debt = no_debt;
           }) None) (sym value)
-          (on_nodes (inl refl) (splits (glances_left (has_word (8 + count) (omega arith)) tells))
+          (on_nodes tt (inl refl) (splits (glances_left (has_word (8 + count) (omega arith)) tells))
           (deals_far (Splits (read_grip split h full count) (fresh_grip share.fresh share.locked) (Filling false))
           (Splits (record {
             name = h.name;
@@ -306,7 +338,7 @@ module _ (split : Split) (sound : IsSplit split) (h : Held) (may : MayBegin spli
   at_refuse : (next : ℕ) (why : Again) (x : ℕ) → IsRefusal why ⊎ (why ≡ again.NoFree)
       → Leads (footing (at.Refuse next why)) (split_at_asks split (at.Refuse next why)) x (Done (answer.Again why))
   at_refuse next why x here =
-      on_nodes (inl refl) (unlocks refl may.claim.still.pending may.claim.durable may.claim.still.ready (answers here)) (deals_far (Holds n w (led next h)) Idle (holds_far n w (led next h)))
+      on_nodes tt (inl refl) (unlocks refl may.claim.still.pending may.claim.durable may.claim.still.ready (answers here)) (deals_far (Holds n w (led next h)) Idle (holds_far n w (led next h)))
     where
       answers : IsRefusal why ⊎ (why ≡ again.NoFree) → Answers l (led next h) (once.Again why)
       answers (inl refusal) = refuses may.claim.split.unplaced refusal
