@@ -16,17 +16,19 @@ claimed_are_outside w i p left fresh lit lawful there is =
 
 pub clean_lines_are_durable : CleanLinesAreDurable
 clean_lines_are_durable l words e sure clean =
-    let spared : (o : ℕ) → IsAmong e.dirty o → ⊥ = λ o among. subst (λ (dirty : List (ℕ × ℕ)). IsAmong dirty o) clean among in
-    (sure.seen, elim e.ready as (λ b. e.ready ≡ b → Tells e.seen safe) [
-      | false ↦ λ unready. subst (Tells e.seen) (λ k o. sym (sure.clean o (spared o) (λ given. absurd (let no : true ≡ false = sym given.ready ∙ unready in cc))) k) sure.seen
-      | true ↦ λ ready.
-          let waits = sure.waits ready in
-          let same : (o : ℕ) → updated now 0 (safe 0) o ≡ safe o = λ o. ⊎_elim
-              (λ (zero : o ≡ 0). subst (λ k. updated now 0 (safe 0) k ≡ safe k) (sym zero) (updated-same now 0 (safe 0)))
-              (λ (other : o ≢ 0). updated-other now 0 (safe 0) o other ∙ sym (waits.durable o other))
-              (cases_eq o 0) in
-          subst (Tells e.seen) (λ k o. same o k) (waits.blind now (safe 0) sure.seen)
-    ] refl)
+    let spared : (o : ℕ) → IsAmong e.dirty o → ⊥ = λ o among. subst (λ (dirty : List (ℕ × ℕ)). IsAmong dirty o) clean among in (
+      sure.seen,
+      elim e.ready as (λ b. e.ready ≡ b → Tells e.seen safe) [
+        | false ↦ λ unready. subst (Tells e.seen) (λ k o. sym (sure.clean o (spared o) (λ given. absurd (let no : true ≡ false = sym given.ready ∙ unready in cc))) k) sure.seen
+        | true ↦ λ ready.
+            let waits = sure.waits ready in
+            let same : (o : ℕ) → updated now 0 (safe 0) o ≡ safe o = λ o. ⊎_elim
+            (λ (zero : o ≡ 0). subst (λ k. updated now 0 (safe 0) k ≡ safe k) (sym zero) (updated-same now 0 (safe 0)))
+            (λ (other : o ≢ 0). updated-other now 0 (safe 0) o other ∙ sym (waits.durable o other))
+            (cases_eq o 0) in
+            subst (Tells e.seen) (λ k o. same o k) (waits.blind now (safe 0) sure.seen)
+      ] refl,
+    )
   where
     now : Spot
     now = line_in l words e.caller e.number

@@ -431,9 +431,9 @@ module _ (w : World) (e : HeldLine) (lawful : Lawful w) (fit : AreFit w.layout w
       (λ c j mix is. elim (cases_line c j) [
         | inl mine ↦
             let own : (o : ℕ) → (mix o ≡ safe_line w.layout drained e.caller e.number o) ⊎ (mix o ≡ line_in w.layout w.words e.caller e.number o) = λ o. ⊎_elim
-                (λ durably. inl (durably ∙ (λ k. safe_line w.layout drained (mine.0 k) (mine.1 k) o)))
-                (λ cached. inr (cached ∙ line_stays c j o ∙ (λ k. line_in w.layout w.words (mine.0 k) (mine.1 k) o)))
-                (is o) in
+            (λ durably. inl (durably ∙ (λ k. safe_line w.layout drained (mine.0 k) (mine.1 k) o)))
+            (λ cached. inr (cached ∙ line_stays c j o ∙ (λ k. line_in w.layout w.words (mine.0 k) (mine.1 k) o)))
+            (is o) in
             waiting_fit w.layout e.seen (line_in w.layout w.words e.caller e.number) (safe_line w.layout w.words e.caller e.number) mix waits
             (⊎_elim (λ durably. inr (durably ∙ zeroth given.state ∙ what)) (λ cached. subst WaitsOrIsEmpty (sym cached) waits.state) (own 0))
             (λ o other. ⊎_elim (λ durably. durably ∙ safe_other e.caller e.number o (inr (inr (λ same. other (same ∙ given.state)))) ∙ waits.durable o other) (λ cached. cached) (own o))

@@ -110,7 +110,7 @@ pub cover_evicts : (now safe lines : Lines) (key line : ℕ) → LinesEvict now 
 cover_evicts now safe lines key line evicts cover = record {
   state = cover.state;
   anchor = cover.anchor;
-  safe_state = λ none. elim (evicts.state line) [ inl same ↦ cover.safe_state (sym same ∙ none) | inr same ↦ cover.state (sym same ∙ none) ];
+  safe_state = evicts.state line cover.state cover.safe_state;
   safe_anchor = evicts.anchor line (cover.safe_anchor ∙ sym cover.anchor) ∙ cover.anchor;
 }
 

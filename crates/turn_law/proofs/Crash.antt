@@ -22,7 +22,7 @@ with_safe f safe = record {
     covers = λ key line cover. cover;
     readies = λ j is kind. inl is;
   };
-  nodes = record { status = λ n is. is; gone = λ n is. is; stamp = λ n. refl; worn = λ n. refl; anchor = λ n is. refl; free = λ n gone is. is };
+  nodes = record { status = λ n is. is; gone = λ n is. is; stamp = λ n. refl; worn = λ n free. refl; anchor = λ n is. refl; free = λ n gone is. is };
   list = λ key found has. inl has;
   layer = refl;
 }
@@ -41,7 +41,7 @@ layer_evicts c f s safe law durable =
       owned = λ n gone bare. elim (law.owned n gone bare) [ inl ready ↦ inl (record { line = ready.line; state = ready.state; kind = ready.kind; node = ready.node }) | inr rest ↦ inr rest ];
       ready = λ j ready. let r = law.ready j ready in record { safe_state = r.safe_state; safe_anchor = r.safe_anchor; busy = r.busy };
       merges = λ j ready kind. let m = law.merges j ready kind in record { gone = m.gone; anchor = m.anchor; stamp = m.stamp; alone = m.alone };
-      sure = sure_kept c f f' (with_safe f safe) s (λ e is kind. ap f.status (sym is.node) ∙ (law.merges e.line is.state (is.kind ∙ kind)).gone) law.sure;
+      sure = sure_kept c f f' (with_safe f safe) s (λ e is kind. ap f.status (sym is.node) ∙ (law.merges e.line is.state (is.kind ∙ kind)).gone) (λ n stamp. (law.marked n stamp).1) law.sure;
     }
 
 -- the durable layer leads each key as the cached one does, but for one that a durable line has as its anchor

@@ -21,7 +21,7 @@ pub record KeptNodes (f f' : TurnFacts) : Type 0 where
   pub status : (n : ℕ) → f.status n ≢ 0 → f'.status n ≢ 0
   pub gone : (n : ℕ) → f.status n ≡ 2 → f'.status n ≡ 2
   pub stamp : (n : ℕ) → f'.stamp n ≡ f.stamp n
-  pub worn : (n : ℕ) → f'.worn n ≡ f.worn n
+  pub worn : (n : ℕ) → f.held n ≡ false → f'.worn n ≡ f.worn n
   pub anchor : (n : ℕ) → f.status n ≢ 0 → f'.anchor n ≡ f.anchor n
   pub free : (n : ℕ) → f.status n ≡ 2 → f.held n ≡ false → f'.held n ≡ false
 
@@ -81,7 +81,7 @@ module _ (c : TurnTerms) (f f' : TurnFacts) (kept : Kept f f') where
     gone = kept.nodes.gone n is.gone;
     bare = kept.nodes.stamp n ∙ is.bare;
     free = kept.nodes.free n is.gone is.free;
-    unworn = kept.nodes.worn n ∙ is.unworn;
+    unworn = kept.nodes.worn n is.free ∙ is.unworn;
     alone = λ j state kind same. elim (kept.lines.readies j state kind) [
       | inl was ↦ is.alone j was (sym (kept.lines.kind j was) ∙ kind) (sym (kept.lines.node j was) ∙ same)
       | inr held ↦ let no_way : false ≡ true = sym is.free ∙ ap f.held (sym same) ∙ held in cc
@@ -98,28 +98,28 @@ module _ (c : TurnTerms) (f f' : TurnFacts) (kept : Kept f f') where
   decided_still : (e : ReadyLine) → (e.kind ≡ 2 → f.status e.node ≡ 2) → IsDecided c f e (f.layer e.anchor) → IsDecided c f' e (f'.layer e.anchor)
   decided_still e gone is = subst (λ found. IsDecided c f' e found) (sym (layer_kept e.anchor)) (decided_kept e (f.layer e.anchor) gone is)
 
-  -- the merged node of the line at hand is gone
-  pub sure_kept : (s : TurnStage) → ((e : ReadyLine) → IsAtHand f e → e.kind ≡ 2 → f.status e.node ≡ 2) → SureTurn c f s → SureTurn c f' s
-  sure_kept Resting merged sure = tt
-  sure_kept (Between j) merged sure = tt
-  sure_kept (Sees j) merged sure = kept.lines.state j sure
-  sure_kept (SeesKind j kind) merged sure = (kept.lines.state j sure.0, kept.lines.kind j sure.0 ∙ sure.1)
-  sure_kept (SeesNode j kind node) merged sure = (kept.lines.state j sure.0, kept.lines.kind j sure.0 ∙ sure.1, kept.lines.node j sure.0 ∙ sure.2)
-  sure_kept (Lands e) merged sure = at_hand_kept e sure
-  sure_kept (Changes e found) merged sure = decided_kept e found (merged e sure.at_hand) sure
-  sure_kept (Stamps e) merged sure = (decided_still e (merged e sure.0.at_hand) sure.0, sure.1)
-  sure_kept (Clears j) merged sure = record {
+  -- the merged node of the line at hand is gone, and nobody holds a node with a stamp
+  pub sure_kept : (s : TurnStage) → ((e : ReadyLine) → IsAtHand f e → e.kind ≡ 2 → f.status e.node ≡ 2) → ((n : ℕ) → f.stamp n ≢ 0 → f.held n ≡ false) → SureTurn c f s → SureTurn c f' s
+  sure_kept Resting merged free sure = tt
+  sure_kept (Between j) merged free sure = tt
+  sure_kept (Sees j) merged free sure = kept.lines.state j sure
+  sure_kept (SeesKind j kind) merged free sure = (kept.lines.state j sure.0, kept.lines.kind j sure.0 ∙ sure.1)
+  sure_kept (SeesNode j kind node) merged free sure = (kept.lines.state j sure.0, kept.lines.kind j sure.0 ∙ sure.1, kept.lines.node j sure.0 ∙ sure.2)
+  sure_kept (Lands e) merged free sure = at_hand_kept e sure
+  sure_kept (Changes e found) merged free sure = decided_kept e found (merged e sure.at_hand) sure
+  sure_kept (Stamps e) merged free sure = (decided_still e (merged e sure.0.at_hand) sure.0, sure.1)
+  sure_kept (Clears j) merged free sure = record {
     entry = sure.entry;
     line = sure.line;
     decided = decided_still sure.entry (merged sure.entry sure.decided.at_hand) sure.decided;
     stamped = λ kind. kept.nodes.stamp sure.entry.node ∙ sure.stamped kind;
   }
-  sure_kept (Sweeps n) merged sure = tt
-  sure_kept (Gone n) merged sure = kept.nodes.gone n sure
-  sure_kept (HasStamp n) merged sure = released_kept n sure
-  sure_kept (IsUnworn n) merged sure = (released_kept n sure.0, kept.nodes.worn n ∙ sure.1)
-  sure_kept (Frees n) merged sure = freeing_kept n sure
-  sure_kept (Counts n none) merged sure = λ all m lt. kept.nodes.status m (sure all m lt)
+  sure_kept (Sweeps n) merged free sure = tt
+  sure_kept (Gone n) merged free sure = kept.nodes.gone n sure
+  sure_kept (HasStamp n) merged free sure = released_kept n sure
+  sure_kept (IsUnworn n) merged free sure = (released_kept n sure.0, kept.nodes.worn n (free n sure.0.some_stamp) ∙ sure.1)
+  sure_kept (Frees n) merged free sure = freeing_kept n sure
+  sure_kept (Counts n none) merged free sure = λ all m lt. kept.nodes.status m (sure all m lt)
 
   pub led_kept : (s : TurnStage) (key node : ℕ) → IsLed f s key node → IsLed f' s key node
   led_kept s key node is = record {

@@ -27,7 +27,7 @@ same_nodes f f' status stamp worn anchor held = record {
   status = λ n is none. is (sym (ap (λ (g : ℕ → ℕ). g n) status) ∙ none);
   gone = λ n is. ap (λ (g : ℕ → ℕ). g n) status ∙ is;
   stamp = λ n. ap (λ (g : ℕ → ℕ). g n) stamp;
-  worn = λ n. ap (λ (g : ℕ → Bool). g n) worn;
+  worn = λ n free. ap (λ (g : ℕ → Bool). g n) worn;
   anchor = λ n is. ap (λ (g : ℕ → ℕ). g n) anchor;
   free = λ n gone is. ap (λ (g : ℕ → Bool). g n) held ∙ is;
 }
@@ -97,17 +97,28 @@ module _ (c : TurnTerms) (f : TurnFacts) (s : TurnStage) (law : TurnLawful c f s
         | inr ne ↦ inl (listed_left f r m has.0 ne, has.1)
       ]
 
-  -- a lock, or its end, of a node that isn't gone and free
-  held_nodes : (n : ℕ) (b : Bool) (holder : ℕ → ℕ) → (f.status n ≢ 2) ⊎ (b ≡ false) → KeptNodes f (record f { held = set_at f.held n b; holder = holder })
-  held_nodes n b holder may = record {
+  -- a lock of a node that isn't gone
+  held_nodes : (n p : ℕ) → f.status n ≢ 2 → KeptNodes f (record f { held = set_at f.held n true; holder = set_at f.holder n p })
+  held_nodes n p ne = record {
     status = λ m is. is;
     gone = λ m is. is;
     stamp = λ m. refl;
-    worn = λ m. refl;
+    worn = λ m free. refl;
+    anchor = λ m is. refl;
+    free = λ m gone is. other f.held n m true (λ e. ne (ap f.status (sym e) ∙ gone)) ∙ is;
+  }
+
+  -- its end
+  freed_nodes : (n : ℕ) (worn : Bool) → f.held n ≡ true → KeptNodes f (record f { held = set_at f.held n false; worn = set_at f.worn n worn })
+  freed_nodes n worn held = record {
+    status = λ m is. is;
+    gone = λ m is. is;
+    stamp = λ m. refl;
+    worn = λ m free. other f.worn n m worn (λ e. let no_way : false ≡ true = sym free ∙ ap f.held e ∙ held in cc);
     anchor = λ m is. refl;
     free = λ m gone is. elim (cases_eq m n) [
-      | inl e ↦ elim may [ inl ne ↦ absurd (ne (ap f.status (sym e) ∙ gone)) | inr off ↦ here f.held n m b e ∙ off ]
-      | inr apart ↦ other f.held n m b apart ∙ is
+      | inl e ↦ here f.held n m false e
+      | inr apart ↦ other f.held n m false apart ∙ is
     ];
   }
 
@@ -120,7 +131,7 @@ module _ (c : TurnTerms) (f : TurnFacts) (s : TurnStage) (law : TurnLawful c f s
     ];
     gone = λ m is. other f.status n m x (λ e. ne (ap f.status (sym e) ∙ is)) ∙ is;
     stamp = λ m. refl;
-    worn = λ m. refl;
+    worn = λ m free. refl;
     anchor = λ m is. refl;
     free = λ m gone is. is;
   }
@@ -191,11 +202,11 @@ module _ (c : TurnTerms) (f : TurnFacts) (s : TurnStage) (law : TurnLawful c f s
     layer = refl;
   }
   kept (locks p n listed live free) = let f' : TurnFacts = record f { held = set_at f.held n true; holder = set_at f.holder n p } in
-      record { lines = same_lines f f' refl refl; nodes = held_nodes n true (set_at f.holder n p) (inl (λ e. omega arith)); list = same_list f f' refl refl; layer = refl }
+      record { lines = same_lines f f' refl refl; nodes = held_nodes n p (λ e. omega arith); list = same_list f f' refl refl; layer = refl }
   kept (claims p n free unheld) = let f' : TurnFacts = record f { held = set_at f.held n true; holder = set_at f.holder n p } in
-      record { lines = same_lines f f' refl refl; nodes = held_nodes n true (set_at f.holder n p) (inl (λ e. omega arith)); list = same_list f f' refl refl; layer = refl }
-  kept (unlocks p n held holds last owner) = let f' : TurnFacts = record f { held = set_at f.held n false } in
-      record { lines = same_lines f f' refl refl; nodes = held_nodes n false f.holder (inr refl); list = same_list f f' refl refl; layer = refl }
+      record { lines = same_lines f f' refl refl; nodes = held_nodes n p (λ e. omega arith); list = same_list f f' refl refl; layer = refl }
+  kept (unlocks p n worn held holds last owner) = let f' : TurnFacts = record f { held = set_at f.held n false; worn = set_at f.worn n worn } in
+      record { lines = same_lines f f' refl refl; nodes = freed_nodes n worn held; list = same_list f f' refl refl; layer = refl }
   kept (anchors n k free held) = let f' : TurnFacts = record f { anchor = set_at f.anchor n k } in
       record {
         lines = same_lines f f' refl refl;
@@ -203,7 +214,7 @@ module _ (c : TurnTerms) (f : TurnFacts) (s : TurnStage) (law : TurnLawful c f s
           status = λ m is. is;
           gone = λ m is. is;
           stamp = λ m. refl;
-          worn = λ m. refl;
+          worn = λ m free. refl;
           anchor = λ m is. other f.anchor n m k (λ e. is (ap f.status e ∙ free));
           free = λ m gone is. is;
         };
@@ -232,7 +243,7 @@ module _ (c : TurnTerms) (f : TurnFacts) (s : TurnStage) (law : TurnLawful c f s
   covered_after (drains_lines lines evicts) = lines_covered f.line lines (kept (drains_lines lines evicts)).lines.covers
   covered_after (locks p n listed live free) = law.covered
   covered_after (claims p n free unheld) = law.covered
-  covered_after (unlocks p n held holds last owner) = law.covered
+  covered_after (unlocks p n worn held holds last owner) = law.covered
   covered_after (anchors n k free held) =
       covered_anchors (IsListed f) f.anchor (set_at f.anchor n k) f.layer (HasCover f.line f.safe_line) (λ m listed. other f.anchor n m k (unlisted n 0 free (omega arith) m listed)) law.covered
   covered_after (lights n free held) = law.covered
@@ -251,7 +262,7 @@ module _ (c : TurnTerms) (f : TurnFacts) (s : TurnStage) (law : TurnLawful c f s
   apart_after (drains_lines lines evicts) = law.apart
   apart_after (locks p n listed live free) = law.apart
   apart_after (claims p n free unheld) = law.apart
-  apart_after (unlocks p n held holds last owner) = law.apart
+  apart_after (unlocks p n worn held holds last owner) = law.apart
   apart_after (anchors n k free held) = λ m o listed listed' same.
       law.apart m o listed listed' (sym (other f.anchor n m k (unlisted n 0 free (omega arith) m listed)) ∙ same ∙ other f.anchor n o k (unlisted n 0 free (omega arith) o listed'))
   apart_after (lights n free held) = law.apart
@@ -278,7 +289,7 @@ module _ (c : TurnTerms) (f : TurnFacts) (s : TurnStage) (law : TurnLawful c f s
   live_after (drains_lines lines evicts) m listed = law.live m listed
   live_after (locks p n is_listed live free) m listed = law.live m listed
   live_after (claims p n free unheld) m listed = law.live m listed
-  live_after (unlocks p n held holds last owner) m listed = law.live m listed
+  live_after (unlocks p n worn held holds last owner) m listed = law.live m listed
   live_after (anchors n k free held) m listed = law.live m listed
   live_after (lights n free held) m listed = other f.status n m 1 (unlisted n 0 free (omega arith) m listed) ∙ law.live m listed
   live_after (links l n j new live held target same_holder open_state cover apart) m listed = elim (was_listed f n m listed) [ inl was ↦ law.live m was | inr e ↦ ap f.status e ∙ live ]
@@ -298,7 +309,7 @@ module _ (c : TurnTerms) (f : TurnFacts) (s : TurnStage) (law : TurnLawful c f s
   marked_after (drains_lines lines evicts) m stamp = law.marked m stamp
   marked_after (locks p n listed live free) m stamp = let is = law.marked m stamp in (is.0, other f.held n m true (marked_not n m 1 live (omega arith) stamp) ∙ is.1)
   marked_after (claims p n free unheld) m stamp = let is = law.marked m stamp in (is.0, other f.held n m true (marked_not n m 0 free (omega arith) stamp) ∙ is.1)
-  marked_after (unlocks p n held holds last owner) m stamp = let is = law.marked m stamp in
+  marked_after (unlocks p n worn held holds last owner) m stamp = let is = law.marked m stamp in
       (is.0, elim (cases_eq m n) [ inl e ↦ here f.held n m false e | inr ne ↦ other f.held n m false ne ∙ is.1 ])
   marked_after (anchors n k free held) m stamp = law.marked m stamp
   marked_after (lights n free held) m stamp = let is = law.marked m stamp in (other f.status n m 1 (marked_not n m 0 free (omega arith) stamp) ∙ is.0, is.1)
@@ -360,7 +371,7 @@ module _ (c : TurnTerms) (f : TurnFacts) (s : TurnStage) (law : TurnLawful c f s
         | inr ne ↦ ready_lines (record (f.line) { state = set_at f.line.state i 2 }) j (law.ready j (sym (other f.line.state i j 2 ne) ∙ ready)) refl refl refl
       ]
   ready_after (drains_lines lines evicts) j ready = let is = law.ready j ready in record {
-    safe_state = λ none. elim (evicts.state j) [ inl old ↦ is.safe_state (sym old ∙ none) | inr new ↦ let two : 2 ≡ 0 = sym ready ∙ sym new ∙ none in omega arith ];
+    safe_state = evicts.state j (λ none. let two : 2 ≡ 0 = sym ready ∙ none in omega arith) is.safe_state;
     safe_anchor = evicts.anchor j is.safe_anchor;
     busy = is.busy;
   }
@@ -368,7 +379,7 @@ module _ (c : TurnTerms) (f : TurnFacts) (s : TurnStage) (law : TurnLawful c f s
       ready_line (record f { held = set_at f.held n true; holder = set_at f.holder n p }) j (law.ready j ready) refl refl (busy_locked p n j ready free (λ kind. merged_not j n 1 ready kind live (omega arith)))
   ready_after (claims p n free unheld) j ready =
       ready_line (record f { held = set_at f.held n true; holder = set_at f.holder n p }) j (law.ready j ready) refl refl (busy_locked p n j ready unheld (λ kind. merged_not j n 0 ready kind free (omega arith)))
-  ready_after (unlocks p n held holds last owner) j ready = ready_line (record f { held = set_at f.held n false }) j (law.ready j ready) refl refl (λ kind is m target.
+  ready_after (unlocks p n worn held holds last owner) j ready = ready_line (record f { held = set_at f.held n false; worn = set_at f.worn n worn }) j (law.ready j ready) refl refl (λ kind is m target.
       let apart : f.line.node j ≢ n = λ e. (let no_way : false ≡ true = sym (here f.held n (f.line.node j) false e) ∙ is in cc) in
       let was : f.held (f.line.node j) ≡ true = sym (other f.held n (f.line.node j) false apart) ∙ is in
       let old = (law.ready j ready).busy kind was m (record { here = target.here; low = target.low; greatest = target.greatest }) in (
@@ -489,7 +500,7 @@ module _ (c : TurnTerms) (f : TurnFacts) (s : TurnStage) (law : TurnLawful c f s
   merges_after (drains_lines lines evicts) = merges_kept (kept (drains_lines lines evicts)) (λ j ready kind. ready)
   merges_after (locks p n listed live free) = merges_kept (kept (locks p n listed live free)) (λ j ready kind. ready)
   merges_after (claims p n free unheld) = merges_kept (kept (claims p n free unheld)) (λ j ready kind. ready)
-  merges_after (unlocks p n held holds last owner) = merges_kept (kept (unlocks p n held holds last owner)) (λ j ready kind. ready)
+  merges_after (unlocks p n worn held holds last owner) = merges_kept (kept (unlocks p n worn held holds last owner)) (λ j ready kind. ready)
   merges_after (anchors n k free held) = merges_kept (kept (anchors n k free held)) (λ j ready kind. ready)
   merges_after (lights n free held) = merges_kept (kept (lights n free held)) (λ j ready kind. ready)
   merges_after (links l n j new live held target same_holder open_state cover apart) = merges_kept (kept (links l n j new live held target same_holder open_state cover apart)) (λ j ready kind. ready)
@@ -521,9 +532,9 @@ module _ (c : TurnTerms) (f : TurnFacts) (s : TurnStage) (law : TurnLawful c f s
   owned_after (drains_lines lines evicts) n gone bare = owned_kept (kept (drains_lines lines evicts)) n gone bare (λ is. is)
   owned_after (locks p m listed live free) n gone bare = owned_kept (kept (locks p m listed live free)) n gone bare (locked_still m n)
   owned_after (claims p m free unheld) n gone bare = owned_kept (kept (claims p m free unheld)) n gone bare (locked_still m n)
-  owned_after (unlocks p m held holds last owner) n gone bare = elim (cases_eq n m) [
-    | inl e ↦ inl (ready_merge_kept (kept (unlocks p m held holds last owner)).lines n (subst (λ k. HasReadyMerge f k) (sym e) (owner (ap f.status (sym e) ∙ gone))))
-    | inr ne ↦ owned_kept (kept (unlocks p m held holds last owner)) n gone bare (λ is. other f.held m n false ne ∙ is)
+  owned_after (unlocks p m worn held holds last owner) n gone bare = elim (cases_eq n m) [
+    | inl e ↦ inl (ready_merge_kept (kept (unlocks p m worn held holds last owner)).lines n (subst (λ k. HasReadyMerge f k) (sym e) (owner (ap f.status (sym e) ∙ gone))))
+    | inr ne ↦ owned_kept (kept (unlocks p m worn held holds last owner)) n gone bare (λ is. other f.held m n false ne ∙ is)
   ]
   owned_after (anchors m k free held) n gone bare = owned_kept (kept (anchors m k free held)) n gone bare (λ is. is)
   owned_after (lights m free held) n gone bare = elim (cases_eq n m) [
@@ -547,7 +558,7 @@ module _ (c : TurnTerms) (f : TurnFacts) (s : TurnStage) (law : TurnLawful c f s
   durable_after (drains_lines lines evicts) = law.durable
   durable_after (locks p n listed live free) = law.durable
   durable_after (claims p n free unheld) = law.durable
-  durable_after (unlocks p n held holds last owner) = law.durable
+  durable_after (unlocks p n worn held holds last owner) = law.durable
   durable_after (anchors n k free held) = law.durable
   durable_after (lights n free held) = law.durable
   durable_after (links l n j new live held target same_holder open_state cover apart) = law.durable
@@ -563,7 +574,7 @@ module _ (c : TurnTerms) (f : TurnFacts) (s : TurnStage) (law : TurnLawful c f s
   layer_after (drains_lines lines evicts) key node is = is
   layer_after (locks p n listed live free) key node is = is
   layer_after (claims p n free unheld) key node is = is
-  layer_after (unlocks p n held holds last owner) key node is = is
+  layer_after (unlocks p n worn held holds last owner) key node is = is
   layer_after (anchors n k free held) key node is = is
   layer_after (lights n free held) key node is = is
   layer_after (links l n j new live held target same_holder open_state cover apart) key node is = is
@@ -585,7 +596,7 @@ other_keeps c f f' s law step = record {
   owned = owned_after c f s law step;
   ready = ready_after c f s law step;
   merges = merges_after c f s law step;
-  sure = sure_kept c f f' (kept c f s law step) s (merged_gone c f s law) law.sure;
+  sure = sure_kept c f f' (kept c f s law step) s (merged_gone c f s law) (λ n stamp. (law.marked n stamp).1) law.sure;
 }
 
 -- no other party makes a node free
@@ -598,7 +609,7 @@ others_free_none f f' m (readies j open_state safe_state safe_anchor ripe) is = 
 others_free_none f f' m (drains_lines lines evicts) is = is
 others_free_none f f' m (locks p n listed live free) is = is
 others_free_none f f' m (claims p n free unheld) is = is
-others_free_none f f' m (unlocks p n held holds last owner) is = is
+others_free_none f f' m (unlocks p n worn held holds last owner) is = is
 others_free_none f f' m (anchors n k free held) is = is
 others_free_none f f' m (links l n j new live held target same_holder open_state cover apart) is = is
 others_free_none f f' m (unlinks l r j here_l here_r apart held held_r same_holder below before open_state cover) is = is

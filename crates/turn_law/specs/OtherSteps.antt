@@ -1,6 +1,6 @@
 -- The kinds of step of other parties that touch what a turn, or the cover of the layer, rests on. Each asks for what
 -- the party that takes it must know: premises that the laws of splits and merges have to give.
-use Rattle.std.specs.Prelude.{◌≡◌, ◌≢◌, ℕ, ◌<◌, ◌≤◌, true, false}
+use Rattle.std.specs.Prelude.{◌≡◌, ◌≢◌, ℕ, ◌<◌, ◌≤◌, Bool, true, false}
 use Rattle.call_stages.specs.Kinds.{free_status, live_status, gone_status}
 use Rattle.turn_law.specs.Covers.{set_at, empty_state, open_state, ready_state, merge_kind, Lines, IsCover, LinesEvict}
 use Rattle.turn_law.specs.Covered.{IsTarget}
@@ -39,11 +39,12 @@ pub data OtherStep (f : TurnFacts) : TurnFacts → Type 0 where
   claims : (p n : ℕ) → f.status n ≡ free_status → f.held n ≡ false →
       OtherStep f (record f { held = set_at f.held n true; holder = set_at f.holder n p })
   -- It gives a lock back: of a merge whose line is ready, that of the merged node first. A merged node has its ready
-  -- line by then.
-  unlocks : (p n : ℕ) → f.held n ≡ true → f.holder n ≡ p →
+  -- line by then. The node may be worn from now on.
+  unlocks : (p n : ℕ) (worn : Bool) → f.held n ≡ true → f.holder n ≡ p →
       ((j : ℕ) → f.line.state j ≡ ready_state → f.line.kind j ≡ merge_kind → f.held (f.line.node j) ≡ true →
       f.holder (f.line.node j) ≡ p → f.line.node j ≡ n) →
-      (f.status n ≡ gone_status → HasReadyMerge f n) → OtherStep f (record f { held = set_at f.held n false })
+      (f.status n ≡ gone_status → HasReadyMerge f n) →
+      OtherStep f (record f { held = set_at f.held n false; worn = set_at f.worn n worn })
   -- it stores the anchor of a claimed node, and makes it live
   anchors : (n k : ℕ) → f.status n ≡ free_status → f.held n ≡ true →
       OtherStep f (record f { anchor = set_at f.anchor n k })

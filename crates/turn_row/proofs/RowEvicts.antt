@@ -88,7 +88,7 @@ module _ (r : RowTerms) (ghosts : Ghosts) (words : List ℕ) (word : ℕ) (whole
 
   lines_evict : LinesEvict f.line f.safe_line lines
   lines_evict = record {
-    state = λ j. line_either l words word whole within 0 j (omega arith);
+    state = λ j now safe none. elim (line_either l words word whole within 0 j (omega arith)) [ inl old ↦ safe (sym old ∙ none) | inr new ↦ now (sym new ∙ none) ];
     anchor = λ j same.
         let fit : (w : Word → Location) (o : ℕ) → line_field l words w o j < 2 ^ 64 = λ w o. column_fits l words (line_count l) (λ i. w (line_word o i)) j fits in
         let told = words_told
