@@ -1,5 +1,6 @@
 -- What a recovery leaves that came to its end, and what recoveries leave that are broken.
-use Rattle.std.specs.Prelude.{◌≡◌, ◌≢◌, ℕ, suc, ◌+◌, ◌≤◌, ◌<◌, ◌==◌, ◌||◌, ◌↔◌, Bool, false, if◌then◌else◌, List, [], ◌∷◌}
+use Rattle.std.specs.Prelude.{◌≡◌, ◌≢◌, ℕ, suc, ◌+◌, ◌≤◌, ◌<◌, ◌==◌, ◌||◌, ◌↔◌, Bool, false, List, [], ◌∷◌}
+use Rattle.std.specs.Prelude.{if◌then◌else◌}
 use Rattle.pm_words.specs.declared.layout.Layout.{Layout}
 use Rattle.cat_history.specs.Maps.{Map}
 use Rattle.version_lock.specs.Versions.{IsGeneration, IsFree, IsWorn, kept_count}
@@ -19,7 +20,8 @@ pub record IsUntaken (version generation : ℕ) : Type 0 where
   pub unworn : IsWorn version generation → ⊥
 
 -- After a recovery of o: the columns, cached (now) and durable (safe), are sound and keep the maps of o, all of it is
--- durable, in the next generation, with an empty log, a layer that is exactly the list's, and no live slot out of range.
+-- durable, in the next generation, with an empty log, a layer that is exactly the list's, and no live slot out of its
+-- node's range.
 pub record Rests (l : Layout) (list : List ListNode) (o now safe : Columns) : Type 0 where
   pub sound : IsSound l list now
   pub same_map : (m : Map) → IsMapOf l list o m ↔ IsMapOf l list now m

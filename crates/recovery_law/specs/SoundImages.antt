@@ -21,4 +21,5 @@ ColumnsKeepMaps = (l : Layout) (words : List ℕ) (m : Map) →
 
 -- A fresh image is sound by all rules.
 abbrev pub FreshHasSoundColumns : Type 0
-FreshHasSoundColumns = (l : Layout) → IsLayout l → IsSound l (image_list l (fresh_words l)) (image_columns l (fresh_words l))
+FreshHasSoundColumns = (l : Layout) → IsLayout l →
+    IsSound l (image_list l (fresh_words l)) (image_columns l (fresh_words l))
