@@ -1,0 +1,8 @@
+use Rattle.sound_layer.proofs.LayerLaws.{rule_on_count, rule_on_cover}
+use Rattle.sound_layer.proofs.laws.layer_law.Goals as goal
+
+pub returns-clause-count : goal.returns-clause-count
+returns-clause-count c = rule_on_count
+
+pub returns-clause-cover : goal.returns-clause-cover
+returns-clause-cover c = rule_on_cover
