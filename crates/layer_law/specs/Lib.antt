@@ -1,0 +1,3 @@
+pub mod Turnings
+pub mod Layers
+pub mod Laws
