@@ -1,17 +1,19 @@
-//! `image_trial`: what the scripts need that try how files are saved (`tools/check-saves`) and time the bytes of an
-//! image (`bench/image-bytes`).
+//! `image_trial`: what the scripts need that try how files are saved (`tools/check-saves`), and time the bytes of an
+//! image (`bench/image-bytes`) and the rules of a sound one (`bench/sound-image`).
 #![tactic(auto)]
 
 mod save;
+mod sound;
 mod time;
 
 use anyhow::{Result, anyhow, bail};
 use cat_text::{FileShelf, ReadSource};
 use save::save_input;
+use sound::time_sound;
 use std::env;
 use time::time_bytes;
 
-const USAGE: &str = "usage: image_trial save FILE, time";
+const USAGE: &str = "usage: image_trial save FILE, time, sound";
 
 fn main(rt: HostRuntime) -> Result<()> {
     let mut words = Vec::new(rt.alloc());
@@ -21,6 +23,7 @@ fn main(rt: HostRuntime) -> Result<()> {
     match words.as_slice() {
         [verb, file] if verb.as_str() == "save" => save_standard_input(rt, file.as_str()),
         [verb] if verb.as_str() == "time" => time_bytes(&rt),
+        [verb] if verb.as_str() == "sound" => time_sound(&rt),
         _ => bail!("{USAGE}"),
     }
 }
