@@ -17,4 +17,6 @@ pub mod TurnLines
 pub mod TurnFrees
 pub mod TurnTouches
 pub mod TurnKept
+pub mod TurnRests
 pub mod TurnSteps
+pub mod LayerCover

@@ -1,9 +1,9 @@
 -- A step of a turn can be done, and keeps the index with its search layer.
 use Rattle.std.proofs.Common.{◌≡◌, ◌≢◌, ℕ, ◌^◌, ◌<◌, ◌⊎◌, ⊎_elim, inl, inr, cond, List, slice_set, refl, sym, ap, ◌∙◌, subst, arith}
 use Rattle.std.specs.Prelude.{◌==◌, ◌||◌}
-use Rattle.std.proofs.lemmas.Bool.{cases_eq, ne_eqb}
+use Rattle.std.proofs.lemmas.Bool.{ne_eqb}
 use Rattle.std.proofs.lemmas.List.{set-get_or}
-use mathlib.Core.Option.{some, some-injective}
+use mathlib.Core.Option.{some}
 use lib.ListN.{get_elem?}
 use Rattle.pm_words.specs.declared.layout.Layout.{Layout}
 use Rattle.pm_words.specs.declared.action.Action.{Action}
@@ -25,6 +25,7 @@ use Rattle.layer_law.specs.Turnings.{Turning, terms_of, AreRestingBut, is_member
 use Rattle.layer_law.specs.Layers.{Layered, IsLayered}
 use Rattle.layer_law.specs.Laws.{turned, TurnStepKeeps}
 use Rattle.layer_law.proofs.TurnKept.{Keeps, touches_keep}
+use Rattle.layer_law.proofs.TurnRests.{rests_for, each, rests_keep}
 use Rattle.layer_law.proofs.TurnTouches.{Touched, touched}
 use Rattle.layer_law.proofs.TurnWalks.{watch_keeps, watch_same, shown_same, found_target}
 
@@ -62,26 +63,6 @@ resting_step r words a x next (finds_held taken) told =
       can = ((addresses_within l Updater tt, outside_header l Updater tt (λ k lt. (λ e. cc, λ e. cc))), omega arith);
     })
 
--- what holds where a turn rests holds for any other that rests
-rests_for : (w : World) (ghosts : Ghosts) (words : List ℕ) (t u : Turning) → u.stamp ≢ 0 → RowLawful (terms_of w t) ghosts words Resting → RowLawful (terms_of w u) ghosts words Resting
-rests_for w ghosts words t u stamp is = record {
-  leaves = is.leaves;
-  sure = is.sure;
-  law = record {
-    stamped_by = stamp;
-    durable = is.law.durable;
-    led = is.law.led;
-    covered = is.law.covered;
-    apart = is.law.apart;
-    live = is.law.live;
-    marked = is.law.marked;
-    owned = is.law.owned;
-    ready = is.law.ready;
-    merges = is.law.merges;
-    sure = tt;
-  };
-}
-
 module _ (z : Layered) (i : ℕ) (t next : Turning) (a : Action) (x : ℕ) (is : IsLayered z) (there : get_elem? z.turns i ≡ some t) (small : t.stamp < 2 ^ 64)
     (foot : TurnFoot (terms_of z.whole.world t) t a x next) (told : x ≡ got z.whole.world.layout z.whole.world.words a) where
   abbrev w : World
@@ -114,58 +95,6 @@ module _ (z : Layered) (i : ℕ) (t next : Turning) (a : Action) (x : ℕ) (is :
 
   stamp_after : next.stamp ≢ 0
   stamp_after none = is.stamps i t there (sym foot.stamp ∙ none)
-
-  -- who rests beside the others' turns rested beside them before
-  rested : (j : ℕ) → AreRestingBut turns j → (j ≢ i → t.stage ≡ Resting) → AreRestingBut z.turns j
-  rested j rests own k u at_u other = ⊎_elim
-      (λ (same : k ≡ i). ap (λ (v : Turning). v.stage) (some-injective _ _ (sym at_u ∙ ap (get_elem? z.turns) same ∙ there)) ∙ own (λ e. other (same ∙ sym e)))
-      (λ (apart : k ≢ i). rests k u (set_else z.turns i k next apart ∙ at_u) other)
-      (cases_eq k i)
-
-  -- what holds of the turn afterwards, and of each other one, holds of each
-  each : (P : ℕ → Turning → Type 0) → P i next → ((j : ℕ) (u : Turning) → j ≢ i → get_elem? z.turns j ≡ some u → P j u) → (j : ℕ) (u : Turning) → get_elem? turns j ≡ some u → P j u
-  each P own others j u at_u = ⊎_elim
-      (λ (mine : (j ≡ i) × (next ≡ u)). subst (λ k. P k u) (sym mine.0) (subst (P i) mine.1 own))
-      (λ (other : (j ≢ i) × (get_elem? z.turns j ≡ some u)). others j u other.0 other.1)
-      (at_set z.turns i j next u at_u)
-
-  -- where the turn finds the lock taken
-  module _ (was : t.stage ≡ Resting) (now : next.stage ≡ Resting) where
-    misses_keep : IsLayered (record { whole = z.whole; turns = slice_set z.turns i next })
-    misses_keep = record {
-      whole = is.whole;
-      tended = is.tended;
-      holder = is.holder;
-      holders = is.holders;
-      one = λ j k u v at_u at_v busy_u busy_v. ⊎_elim
-          (λ (mine : (j ≡ i) × (next ≡ u)). absurd (busy_u (ap (λ (q : Turning). q.stage) (sym mine.1) ∙ now)))
-          (λ (other : (j ≢ i) × (get_elem? z.turns j ≡ some u)). ⊎_elim
-          (λ (mine : (k ≡ i) × (next ≡ v)). absurd (busy_v (ap (λ (q : Turning). q.stage) (sym mine.1) ∙ now)))
-          (λ (apart : (k ≢ i) × (get_elem? z.turns k ≡ some v)). is.one j k u v other.1 apart.1 busy_u busy_v)
-          (at_set z.turns i k next v at_v))
-          (at_set z.turns i j next u at_u);
-      active = ⊎_elim
-          (λ (same : is.active.0 ≡ i). (i, next, set_here z.turns i next t there, λ k u at_u other. is.active.3 k u (sym (set_else z.turns i k next other) ∙ at_u) (λ e. other (e ∙ same))))
-          (λ (apart : is.active.0 ≢ i). (
-            is.active.0,
-            is.active.1,
-            set_else z.turns i is.active.0 next apart ∙ is.active.2,
-            each (λ k u. k ≢ is.active.0 → u.stage ≡ Resting) (λ other. now) (λ k u different at_u other. is.active.3 k u at_u other),
-          ))
-          (cases_eq is.active.0 i);
-      lock = λ free. each (λ j u. u.stage ≡ Resting) now (λ j u other at_u. is.lock free j u at_u);
-      rows = λ j u at_u rests. each (λ k v. AreRestingBut turns k → RowLawful (terms_of w v) (ghosts_of w is.holder) words v.stage)
-          (λ still. subst (RowLawful (terms_of w next) (ghosts_of w is.holder) words) (sym now)
-          (rests_for w (ghosts_of w is.holder) words t next stamp_after
-          (subst (RowLawful (terms_of w t) (ghosts_of w is.holder) words) was (is.rows i t there (rested i still (λ other. absurd (other refl)))))))
-          (λ k v other at_v still. is.rows k v at_v (rested k still (λ apart. was)))
-          j u at_u rests;
-      stamps = each (λ j u. u.stamp ≢ 0) stamp_after (λ j u other at_u. is.stamps j u at_u);
-      watches = each (λ j u. SureWatch l w.generation f u.watch) (watch_after next.watch foot.watch) (λ j u other at_u. is.watches j u at_u);
-      shown = λ j u e target at_u has. each (λ k v. v.stage ≡ HasTarget e target → IsShown l w.generation f e.anchor target)
-          (shown_after e target) (λ k v other at_v has_v. is.shown k v e target at_v has_v) j u at_u has;
-      retiring = is.retiring;
-    }
 
   -- where the others rest
   module _ (rest : AreRestingBut z.turns i) where
@@ -213,19 +142,19 @@ module _ (z : Layered) (i : ℕ) (t next : Turning) (a : Action) (x : ℕ) (is :
           (λ (other : (j ≢ i) × (get_elem? z.turns j ≡ some u)). absurd (busy_u (rest j u other.1 other.0)))
           (at_set z.turns i j next u at_u);
       active = (i, next, set_here z.turns i next t there, λ k u at_u other. rest k u (sym (set_else z.turns i k next other) ∙ at_u) other);
-      lock = λ free. each (λ j u. u.stage ≡ Resting) (touch.lock free) (λ j u other at_u. rest j u at_u other);
-      rows = λ j u at_u rests. each (λ k v. AreRestingBut turns k → RowLawful (terms_of later v) (ghosts_of later is.holder) after v.stage)
+      lock = λ free. each z.turns i next (λ j u. u.stage ≡ Resting) (touch.lock free) (λ j u other at_u. rest j u at_u other);
+      rows = λ j u at_u rests. each z.turns i next (λ k v. AreRestingBut turns k → RowLawful (terms_of later v) (ghosts_of later is.holder) after v.stage)
           (λ still. row_after)
           (λ k v other at_v still. subst (RowLawful (terms_of later v) (ghosts_of later is.holder) after) (sym (rest k v at_v other))
           (rests_for later (ghosts_of later is.holder) after next v (is.stamps k v at_v)
           (subst (RowLawful (terms_of later next) (ghosts_of later is.holder) after) (still i next (set_here z.turns i next t there) (λ e. other (sym e))) row_after)))
           j u at_u rests;
-      stamps = each (λ j u. u.stamp ≢ 0) stamp_after (λ j u other at_u. is.stamps j u at_u);
-      watches = each (λ j u. SureWatch l w.generation (facts later) u.watch)
+      stamps = each z.turns i next (λ j u. u.stamp ≢ 0) stamp_after (λ j u other at_u. is.stamps j u at_u);
+      watches = each z.turns i next (λ j u. SureWatch l w.generation (facts later) u.watch)
           (watch_same l w.generation f (facts later) next.watch keeps.version keeps.now keeps.list (watch_after next.watch foot.watch))
           (λ j u other at_u. watch_same l w.generation f (facts later) u.watch keeps.version keeps.now keeps.list (is.watches j u at_u));
       shown = λ j u e target at_u has. shown_same l w.generation f (facts later) e.anchor target keeps.version keeps.now keeps.list
-          (each (λ k v. v.stage ≡ HasTarget e target → IsShown l w.generation f e.anchor target)
+          (each z.turns i next (λ k v. v.stage ≡ HasTarget e target → IsShown l w.generation f e.anchor target)
           (shown_after e target) (λ k v other at_v has_v. is.shown k v e target at_v has_v) j u at_u has);
       retiring = λ j p line u h left right at_p at_line stage. keeps.retiring j p line u h left right at_p at_line stage (is.retiring j p line u h left right at_p at_line stage);
     }
@@ -237,7 +166,7 @@ module _ (z : Layered) (i : ℕ) (t next : Turning) (a : Action) (x : ℕ) (is :
       (λ misses. (
         misses.can,
         subst (λ (v : List ℕ). IsLayered (record { whole = record (z.whole) { world = record (z.whole.world) { words = v } }; turns = slice_set z.turns i next }))
-            (sym misses.same) (misses_keep was misses.rests),
+            (sym misses.same) (rests_keep z i t next is there was misses.rests stamp_after (watch_after next.watch foot.watch)),
       ))
       (resting_step (terms_of w t) words a x next.stage (subst (λ s. RowStep (terms_of w t) s a x next.stage) was foot.row) told))
       (λ busy. let rest : AreRestingBut z.turns i = (λ j u at_u other. ⊎_elim (λ rests. rests) (λ busy_u. absurd (other (is.one j i u t at_u there busy_u busy))) (rests_or_not u.stage)) in (can_act rest, goes_keep rest))

@@ -17,8 +17,10 @@ use Rattle.turn_row.specs.RowLaw.{IsTargetFor}
 use Rattle.index_law.specs.Facts.{Facts, facts_of}
 use Rattle.index_law.specs.Lawful.{IsList, AreLive, AreKnown, Stands}
 use Rattle.index_law.proofs.Rows.{version_in-here, status_in-here, spot_in-here}
+use Rattle.index_law.specs.Worlds.{World, facts}
 use Rattle.layer_law.specs.Turnings.{is_listed, SureWatches, SureWatch, IsShown}
-use Rattle.layer_law.proofs.FactTies.{version_tie, word_tie, anchor_tie}
+use Rattle.layer_law.specs.Laws.{TargetsStand}
+use Rattle.layer_law.proofs.FactTies.{version_tie, word_tie, anchor_tie, listed_told, listed_tells}
 use Rattle.layer_law.proofs.Targets.{between_is_target}
 
 module _ (l : Layout) (g : ℕ) (words : List ℕ) (base : Map) (history : List Write) where
@@ -139,3 +141,13 @@ module _ (r : RowTerms) (words : List ℕ) (base : Map) (history : List Write) (
             (between_is_target r.layout φ list n (key_number key) (stands.listed shown.seen.live) (shown.seen.between (φ.now n) (φ.now (φ.now n next_offset)) stands.sees));
         low = λ same k small. word_tie r.layout words (3 + k) n (omega arith) (omega arith) ∙ shown.seen.low (φ.now n) (φ.now (φ.now n next_offset)) (stood same).sees k small;
       }
+
+-- so it is of each turn of an index
+pub targets_stand : TargetsStand
+targets_stand z i t e target is there stage same =
+    let w : World = z.whole.world in
+    let shown = is.shown i t e target there stage in
+    let stands = shown.sure.stands same in
+    let found = between_is_target w.layout (facts w) is.whole.joint.lawful.list target.node (key_number e.anchor) (stands.listed shown.seen.live)
+    (shown.seen.between ((facts w).now target.node) ((facts w).now ((facts w).now target.node next_offset)) stands.sees) in
+    record { here = listed_told (facts w) target.node found.here; low = found.low; greatest = λ n listed low. found.greatest n (listed_tells (facts w) n listed) low }

@@ -1,18 +1,28 @@
--- The laws: what steps of calls and of turns keep.
+-- The laws: what steps of calls and of turns keep, and what it says of the search layer.
 use Rattle.std.specs.Prelude.{◌≡◌, ◌≢◌, ℕ, ◌<◌, ◌^◌, true, length, slice_set, Option}
 use mathlib.Core.Option.{some}
 use lib.ListN.{get_elem?}
 use Rattle.pm_words.specs.declared.layout.Layout.{Layout}
 use Rattle.pm_words.specs.declared.action.Action.{Action}
 use Rattle.pm_words.specs.declared.action.Action.TheVariants.{Store}
+use Rattle.pm_words.specs.Locations.{Cached, Durable, leaf_count}
 use Rattle.pm_words.specs.Rows.{CanAct, acted, got}
+use Rattle.data_node.specs.Lists.{anchor_in}
 use Rattle.call_stages.specs.declared.once.Once.{Once}
 use Rattle.call_stages.specs.declared.once.Placed.{Placed}
 use Rattle.call_stages.specs.Stages.{Held, Grip, Gone, Joins, Holds}
 use Rattle.call_stages.specs.Lines.{line_address}
 use Rattle.call_stages.specs.Footings.{Footing, FootStep, IsOfMerge, HasLine}
-use Rattle.index_law.specs.Worlds.{Party}
+use Rattle.call_stages.specs.Watches.{Nothing}
+use Rattle.index_law.specs.Facts.{IsListed}
+use Rattle.index_law.specs.Worlds.{Party, facts}
 use Rattle.index_law.specs.Footings.{stepped_whole}
+use Rattle.search_layer.specs.Keys.{key_number}
+use Rattle.search_layer.specs.Leaves.{leaves_in, layer_in, layer_of}
+use Rattle.turn_law.specs.Covered.{IsCovered, IsTarget}
+use Rattle.turn_law.specs.Covers.{IsOpenFor}
+use Rattle.turn_row.specs.Columns.{lines_in}
+use Rattle.turn_row.specs.RowStages.{RowLine, RowTarget, Resting, HasTarget}
 use Rattle.layer_law.specs.Turnings.{Turning, terms_of, TurnFoot}
 use Rattle.layer_law.specs.Layers.{Layered, IsLayered}
 
@@ -48,3 +58,33 @@ TurnStepKeeps = (z : Layered) (i : ℕ) (t next : Turning) (action : Action) (x 
     get_elem? z.turns i ≡ some t → t.stamp < 2 ^ 64 → TurnFoot (terms_of z.whole.world t) t action x next →
     x ≡ got z.whole.world.layout z.whole.world.words action →
     CanAct z.whole.world.layout z.whole.world.words action × IsLayered (turned z i action next)
+
+-- A party whose turn rests may begin another one, with a stamp of its own.
+abbrev pub TurnStartKeeps : Type 0
+TurnStartKeeps = (z : Layered) (i : ℕ) (t : Turning) (stamp release : ℕ) → IsLayered z →
+    get_elem? z.turns i ≡ some t → t.stage ≡ Resting → stamp ≢ 0 →
+    IsLayered (record {
+      whole = z.whole;
+      turns = slice_set z.turns i (record { stamp = stamp; release = release; stage = Resting; watch = Nothing });
+    })
+
+-- The target that a turn's walk came to is that of its line's anchor, as long as the node's version word stands.
+abbrev pub TargetsStand : Type 0
+TargetsStand = (z : Layered) (i : ℕ) (t : Turning) (e : RowLine) (target : RowTarget) → IsLayered z →
+    get_elem? z.turns i ≡ some t → t.stage ≡ HasTarget e target →
+    (facts z.whole.world).version target.node ≡ target.version →
+    IsTarget (IsListed (facts z.whole.world)) (λ n. anchor_in ((facts z.whole.world).now n)) (key_number e.anchor)
+    target.node
+
+-- At any moment the layer leads each key that no log line has which isn't EMPTY to the listed node with this anchor, and
+-- nowhere where there is none. So does the durable one, but for keys that durable lines have.
+pub record LeadsAsListed (z : Layered) : Type 0 where
+  pub cached : IsCovered (IsListed (facts z.whole.world)) (λ n. anchor_in ((facts z.whole.world).now n))
+      (layer_of z.whole.world.layout z.whole.world.words)
+      (IsOpenFor (lines_in z.whole.world.layout z.whole.world.words Cached))
+  pub durable : IsCovered (IsListed (facts z.whole.world)) (λ n. anchor_in ((facts z.whole.world).now n))
+      (layer_in (leaves_in z.whole.world.layout z.whole.world.words Durable) (leaf_count z.whole.world.layout))
+      (IsOpenFor (lines_in z.whole.world.layout z.whole.world.words Durable))
+
+abbrev pub LayerIsCovered : Type 0
+LayerIsCovered = (z : Layered) → IsLayered z → LeadsAsListed z
