@@ -20,3 +20,4 @@ pub mod TurnKept
 pub mod TurnRests
 pub mod TurnSteps
 pub mod LayerCover
+pub mod LayerStays

@@ -68,7 +68,7 @@ pub record Keeps (z : Whole) (holder : ℕ → ℕ) (after : List ℕ) : Type 0 
       → p.stage ≡ Joins h left right Gone → IsRetiring (turn_facts z.world holder u) line right → IsRetiring (turn_facts (record (z.world) { words = after }) holder u) line right
 
 -- where no state of a line is another
-retiring_same : (w : World) (holder : ℕ → ℕ) (after : List ℕ) (u : Turning) (line : Option HeldLine) (right : Grip)
+pub retiring_same : (w : World) (holder : ℕ → ℕ) (after : List ℕ) (u : Turning) (line : Option HeldLine) (right : Grip)
     → ((offset : ℕ) → offset < 8 → line_field w.layout after Cached offset ≡ line_field w.layout w.words Cached offset)
     → IsRetiring (turn_facts w holder u) line right → IsRetiring (turn_facts (record w { words = after }) holder u) line right
 retiring_same w holder after u line right same was =

@@ -1,9 +1,11 @@
--- What holds of an index whose turns rest: it holds for any that rests, and another turn may begin.
+-- What holds of an index whose turns rest: it holds for any that rests, another turn may begin, and with no call in flight
+-- it is what the row says.
 use Rattle.std.proofs.Common.{◌≡◌, ◌≢◌, ℕ, ⊎_elim, List, slice_set, refl, sym, ap, ◌∙◌, subst}
 use Rattle.std.proofs.lemmas.Bool.{cases_eq}
 use mathlib.Core.Option.{some, some-injective}
 use lib.ListN.{get_elem?}
 use Rattle.pm_words.specs.declared.layout.Layout.{Layout}
+use Rattle.call_stages.specs.Stages.{Stage, Gone, Idle, Joins, HoldsNode}
 use Rattle.call_stages.specs.Watches.{Nothing}
 use Rattle.turn_row.specs.Columns.{Ghosts}
 use Rattle.turn_row.specs.RowStages.{RowLine, RowTarget, Resting, HasTarget}
@@ -13,7 +15,7 @@ use Rattle.index_law.specs.Worlds.{World, facts}
 use Rattle.index_law.proofs.Parties.{at_set, set_here, set_else}
 use Rattle.layer_law.specs.Turnings.{Turning, terms_of, AreRestingBut, ghosts_of, SureWatch, IsShown}
 use Rattle.layer_law.specs.Layers.{Layered, IsLayered}
-use Rattle.layer_law.specs.Laws.{TurnStartKeeps}
+use Rattle.layer_law.specs.Laws.{TurnStartKeeps, RestIsLayered}
 
 -- what holds where a turn rests holds for any other that rests
 pub rests_for : (w : World) (ghosts : Ghosts) (words : List ℕ) (t u : Turning) → u.stamp ≢ 0 → RowLawful (terms_of w t) ghosts words Resting → RowLawful (terms_of w u) ghosts words Resting
@@ -109,3 +111,20 @@ module _ (z : Layered) (i : ℕ) (t next : Turning) (is : IsLayered z) (there : 
 pub turn_start_keeps : TurnStartKeeps
 turn_start_keeps z i t stamp release is there was some_stamp =
     rests_keep z i t (record { stamp = stamp; release = release; stage = Resting; watch = Nothing }) is there was refl some_stamp tt
+
+pub rest_is_layered : RestIsLayered
+rest_is_layered z i t whole tended idle rest there row = record {
+  whole = whole;
+  tended = tended;
+  holder = λ n. 0;
+  holders = λ j p n at_p holds. absurd (subst (λ (s : Stage). HoldsNode s n) (idle j p at_p) holds);
+  one = λ j k u v at_u at_v busy_u busy_v. absurd (busy_u (rest j u at_u).stage);
+  active = (i, t, there, λ j u at_u other. (rest j u at_u).stage);
+  lock = λ free j u at_u. (rest j u at_u).stage;
+  rows = λ j u at_u others. subst (RowLawful (terms_of z.whole.world u) (ghosts_of z.whole.world (λ n. 0)) z.whole.world.words) (sym (rest j u at_u).stage)
+      (rests_for z.whole.world (ghosts_of z.whole.world (λ n. 0)) z.whole.world.words t u (rest j u at_u).stamp row);
+  stamps = λ j u at_u. (rest j u at_u).stamp;
+  watches = λ j u at_u. subst (SureWatch z.whole.world.layout z.whole.world.generation (facts z.whole.world)) (sym (rest j u at_u).watch) tt;
+  shown = λ j u e target at_u stage. absurd (let no : Resting ≡ HasTarget e target = sym (rest j u at_u).stage ∙ stage in cc);
+  retiring = λ j p line u h left right at_p at_line stage. absurd (let no : Idle ≡ Joins h left right Gone = sym (idle j p at_p) ∙ stage in cc);
+}

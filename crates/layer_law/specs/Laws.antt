@@ -1,29 +1,33 @@
 -- The laws: what steps of calls and of turns keep, and what it says of the search layer.
-use Rattle.std.specs.Prelude.{◌≡◌, ◌≢◌, ℕ, ◌<◌, ◌^◌, true, length, slice_set, Option}
+use Rattle.std.specs.Prelude.{◌≡◌, ◌≢◌, ℕ, ◌<◌, ◌^◌, true, length, slice_set, Option, None}
 use mathlib.Core.Option.{some}
 use lib.ListN.{get_elem?}
 use Rattle.pm_words.specs.declared.layout.Layout.{Layout}
 use Rattle.pm_words.specs.declared.action.Action.{Action}
 use Rattle.pm_words.specs.declared.action.Action.TheVariants.{Store}
-use Rattle.pm_words.specs.Locations.{Cached, Durable, leaf_count}
+use Rattle.pm_words.specs.Locations.{Cached, Durable, leaf_count, image_words}
 use Rattle.pm_words.specs.Rows.{CanAct, acted, got}
 use Rattle.data_node.specs.Lists.{anchor_in}
 use Rattle.call_stages.specs.declared.once.Once.{Once}
 use Rattle.call_stages.specs.declared.once.Placed.{Placed}
-use Rattle.call_stages.specs.Stages.{Held, Grip, Gone, Joins, Holds}
+use Rattle.call_stages.specs.Stages.{Held, Grip, Gone, Joins, Holds, Idle}
 use Rattle.call_stages.specs.Lines.{line_address}
 use Rattle.call_stages.specs.Footings.{Footing, FootStep, IsOfMerge, HasLine}
+use Rattle.call_stages.specs.Prevs.{no_debt}
 use Rattle.call_stages.specs.Watches.{Nothing}
 use Rattle.index_law.specs.Facts.{IsListed}
-use Rattle.index_law.specs.Worlds.{Party, facts}
-use Rattle.index_law.specs.Footings.{stepped_whole}
+use Rattle.index_law.specs.Worlds.{Party, facts, started, evicted_world}
+use Rattle.index_law.specs.Lawful.{Each}
+use Rattle.index_law.specs.Whole.{Whole, IsWhole}
+use Rattle.index_law.specs.Footings.{AreTended, stepped_whole}
 use Rattle.search_layer.specs.Keys.{key_number}
 use Rattle.search_layer.specs.Leaves.{leaves_in, layer_in, layer_of}
 use Rattle.turn_law.specs.Covered.{IsCovered, IsTarget}
 use Rattle.turn_law.specs.Covers.{IsOpenFor}
 use Rattle.turn_row.specs.Columns.{lines_in}
 use Rattle.turn_row.specs.RowStages.{RowLine, RowTarget, Resting, HasTarget}
-use Rattle.layer_law.specs.Turnings.{Turning, terms_of, TurnFoot}
+use Rattle.turn_row.specs.RowLaw.{RowLawful}
+use Rattle.layer_law.specs.Turnings.{Turning, terms_of, ghosts_of, TurnFoot}
 use Rattle.layer_law.specs.Layers.{Layered, IsLayered}
 
 -- A call leaves its line to a turn: it doesn't empty one, and gives back a merged node only once the line of the merge
@@ -67,6 +71,43 @@ TurnStartKeeps = (z : Layered) (i : ℕ) (t : Turning) (stamp release : ℕ) →
       whole = z.whole;
       turns = slice_set z.turns i (record { stamp = stamp; release = release; stage = Resting; watch = Nothing });
     })
+
+-- A word of the image becomes durable,
+abbrev pub evicted_whole : Whole → ℕ → Whole
+evicted_whole z word = record z { world = evicted_world z.world word }
+
+-- or the party i, which has no line and owes nothing, begins a call.
+abbrev pub started_whole : Whole → ℕ → Party → ℕ → Whole
+started_whole z i p index = record {
+  world = started z.world i p index;
+  lines = slice_set z.lines i None;
+  debts = slice_set z.debts i no_debt;
+}
+
+-- Where that keeps the index, it keeps it with its search layer and its turns.
+abbrev pub EvictionKeepsLayer : Type 0
+EvictionKeepsLayer = (z : Layered) (word : ℕ) → IsLayered z → word < image_words z.whole.world.layout →
+    IsWhole (evicted_whole z.whole word) → AreTended (evicted_whole z.whole word) →
+    IsLayered (record { whole = evicted_whole z.whole word; turns = z.turns })
+
+abbrev pub StartKeepsLayer : Type 0
+StartKeepsLayer = (z : Layered) (i : ℕ) (p : Party) (index : ℕ) → IsLayered z →
+    get_elem? z.whole.world.parties i ≡ some p → p.stage ≡ Idle →
+    IsWhole (started_whole z.whole i p index) → AreTended (started_whole z.whole i p index) →
+    IsLayered (record { whole = started_whole z.whole i p index; turns = z.turns })
+
+-- The turn rests, and has a stamp to give.
+pub record IsAtRest (t : Turning) : Type 0 where
+  pub stage : t.stage ≡ Resting
+  pub stamp : t.stamp ≢ 0
+  pub watch : t.watch ≡ Nothing
+
+-- With no call and no turn in flight all of it holds where the index is kept, and the row is lawful for a turn.
+abbrev pub RestIsLayered : Type 0
+RestIsLayered = (z : Layered) (i : ℕ) (t : Turning) → IsWhole z.whole → AreTended z.whole →
+    Each (λ p. p.stage ≡ Idle) z.whole.world.parties →
+    ((j : ℕ) (u : Turning) → get_elem? z.turns j ≡ some u → IsAtRest u) → get_elem? z.turns i ≡ some t →
+    RowLawful (terms_of z.whole.world t) (ghosts_of z.whole.world (λ n. 0)) z.whole.world.words Resting → IsLayered z
 
 -- The target that a turn's walk came to is that of its line's anchor, as long as the node's version word stands.
 abbrev pub TargetsStand : Type 0

@@ -1,6 +1,7 @@
 //! The laws. The functions do nothing: each names what is proved.
 
-ghost use Rattle.layer_law.specs.Laws.{CallStepKeeps, TurnStepKeeps, TurnStartKeeps, TargetsStand, LayerIsCovered};
+ghost use Rattle.layer_law.specs.Laws.{CallStepKeeps, TurnStepKeeps, TurnStartKeeps, EvictionKeepsLayer};
+ghost use Rattle.layer_law.specs.Laws.{StartKeepsLayer, RestIsLayered, TargetsStand, LayerIsCovered};
 
 /// A step of a call keeps an index with its search layer and the turn beside it.
 pub fn call_step_law()
@@ -15,6 +16,18 @@ pub fn turn_step_law()
 /// A party may begin another turn.
 pub fn turn_start_law()
     ensures { TurnStartKeeps }
+{}
+
+/// A word of the image that becomes durable, and the beginning of a call, keep the search layer and the turns where they
+/// keep the index.
+pub fn stays_law()
+    ensures eviction { EvictionKeepsLayer }
+    ensures start { StartKeepsLayer }
+{}
+
+/// An index with no call and no turn in flight, and a row that is lawful for a turn, has it all.
+pub fn rest_law()
+    ensures { RestIsLayered }
 {}
 
 /// What the walk of a turn came to is the target of its line's anchor, until the version word of that node changes.
