@@ -33,7 +33,8 @@ use Rattle.turn_law.proofs.Columns as columns
 use Rattle.turn_row.specs.Columns.{line_field, line_count, line_word, lines_in}
 use Rattle.turn_row.specs.RowStages.{RowTarget}
 use Rattle.turn_row.proofs.RowColumns.{column-same}
-use Rattle.layer_law.specs.Turnings.{Turning, terms_of, ghosts_of, line_number, SureWatch, IsShown}
+use Rattle.turn_row.specs.Turnings.{Turning}
+use Rattle.layer_law.specs.Turnings.{terms_of, ghosts_of, line_number, SureWatch, IsShown}
 use Rattle.layer_law.specs.Layers.{Layered, SaysMerge, IsRetiring, turn_facts, IsLayered}
 use Rattle.layer_law.specs.Laws.{CallStepKeeps}
 use Rattle.layer_law.proofs.FactTies.{known, rest_in, facts_tie}

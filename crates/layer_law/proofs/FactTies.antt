@@ -20,7 +20,8 @@ use Rattle.turn_law.specs.Covers.{Lines}
 use Rattle.turn_law.specs.Facts.{TurnFacts}
 use Rattle.turn_row.specs.Columns.{column, node_field, volatile_field, line_field, line_word, line_count, lines_in}
 use Rattle.turn_row.proofs.RowColumns.{column-same}
-use Rattle.layer_law.specs.Turnings.{Turning, is_member, is_listed}
+use Rattle.turn_row.specs.Turnings.{Turning}
+use Rattle.layer_law.specs.Turnings.{is_member, is_listed}
 use Rattle.layer_law.specs.Layers.{turn_facts}
 
 -- the words beside nodes that the law of turns reads

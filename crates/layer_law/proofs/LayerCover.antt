@@ -13,7 +13,8 @@ use Rattle.turn_law.specs.TurnStages.{TurnStage}
 use Rattle.turn_law.proofs.Crash.{crash_is_covered, is_covered_now}
 use Rattle.turn_row.specs.Columns as rows
 use Rattle.turn_row.specs.RowStages.{turn_stage}
-use Rattle.layer_law.specs.Turnings.{Turning, is_listed, terms_of}
+use Rattle.turn_row.specs.Turnings.{Turning}
+use Rattle.layer_law.specs.Turnings.{is_listed, terms_of}
 use Rattle.layer_law.specs.Layers.{turn_facts}
 use Rattle.layer_law.specs.Laws.{LayerIsCovered}
 use Rattle.layer_law.proofs.FactTies.{facts_tie, listed_told, listed_tells}

@@ -32,7 +32,8 @@ use Rattle.index_law.proofs.Locks.{own_of}
 use Rattle.index_law.proofs.Noting.{line-here, store_leaves}
 use Rattle.index_law.proofs.Rows.{facts-elsewhere, facts-status, status_in-here}
 use Rattle.index_law.proofs.Versions.{unfree}
-use Rattle.layer_law.specs.Turnings.{Turning, terms_of, ghosts_of, line_number}
+use Rattle.turn_row.specs.Turnings.{Turning}
+use Rattle.layer_law.specs.Turnings.{terms_of, ghosts_of, line_number}
 use Rattle.layer_law.specs.Layers.{SaysMerge, IsRetiring, turn_facts}
 use Rattle.layer_law.proofs.FactTies.{version_tie}
 use Rattle.layer_law.proofs.TurnAside.{KeepsRest, facts_kept, lines_kept, aside_whole, still_tended}

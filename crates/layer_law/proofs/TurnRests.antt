@@ -13,7 +13,8 @@ use Rattle.turn_row.specs.RowLaw.{RowLawful}
 use Rattle.index_law.specs.Facts.{Facts}
 use Rattle.index_law.specs.Worlds.{World, facts}
 use Rattle.index_law.proofs.Parties.{at_set, set_here, set_else}
-use Rattle.layer_law.specs.Turnings.{Turning, terms_of, AreRestingBut, ghosts_of, SureWatch, IsShown}
+use Rattle.turn_row.specs.Turnings.{Turning}
+use Rattle.layer_law.specs.Turnings.{terms_of, AreRestingBut, ghosts_of, SureWatch, IsShown}
 use Rattle.layer_law.specs.Layers.{Layered, IsLayered}
 use Rattle.layer_law.specs.Laws.{TurnStartKeeps, RestIsLayered}
 

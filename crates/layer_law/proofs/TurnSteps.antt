@@ -21,7 +21,8 @@ use Rattle.turn_row.proofs.RowTurns.{row_step_keeps}
 use Rattle.index_law.specs.Facts.{Facts}
 use Rattle.index_law.specs.Worlds.{World, facts}
 use Rattle.index_law.proofs.Parties.{at_set, set_here, set_else}
-use Rattle.layer_law.specs.Turnings.{Turning, terms_of, AreRestingBut, is_member, ghosts_of, SureWatch, IsShown, TurnFoot}
+use Rattle.turn_row.specs.Turnings.{Turning, TurnFoot}
+use Rattle.layer_law.specs.Turnings.{terms_of, AreRestingBut, is_member, ghosts_of, SureWatch, IsShown}
 use Rattle.layer_law.specs.Layers.{Layered, IsLayered}
 use Rattle.layer_law.specs.Laws.{turned, TurnStepKeeps}
 use Rattle.layer_law.proofs.TurnKept.{Keeps, touches_keep}
@@ -91,7 +92,7 @@ module _ (z : Layered) (i : ℕ) (t next : Turning) (a : Action) (x : ℕ) (is :
   shown_after : (e : RowLine) (target : RowTarget) → next.stage ≡ HasTarget e target → IsShown l w.generation f e.anchor target
   shown_after e target has =
       let found = foot.found e target has in
-      record { sight = found.sight; sure = watch_after (Watches target.node target.version found.sight) found.watches; seen = found.seen }
+      record { sight = found.sight; sure = watch_after (Watches target.node target.version found.sight) found.watch; seen = found.seen }
 
   stamp_after : next.stamp ≢ 0
   stamp_after none = is.stamps i t there (sym foot.stamp ∙ none)

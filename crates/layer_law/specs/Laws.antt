@@ -27,7 +27,8 @@ use Rattle.turn_law.specs.Covers.{IsOpenFor}
 use Rattle.turn_row.specs.Columns.{lines_in}
 use Rattle.turn_row.specs.RowStages.{RowLine, RowTarget, Resting, HasTarget}
 use Rattle.turn_row.specs.RowLaw.{RowLawful}
-use Rattle.layer_law.specs.Turnings.{Turning, terms_of, ghosts_of, TurnFoot}
+use Rattle.turn_row.specs.Turnings.{Turning, TurnFoot}
+use Rattle.layer_law.specs.Turnings.{terms_of, ghosts_of}
 use Rattle.layer_law.specs.Layers.{Layered, IsLayered}
 
 -- A call leaves its line to a turn: it doesn't empty one, and gives back a merged node only once the line of the merge

@@ -14,7 +14,8 @@ use Rattle.turn_law.specs.Facts.{TurnFacts}
 use Rattle.turn_row.specs.Columns.{facts_in}
 use Rattle.turn_row.specs.RowStages.{RowLine, RowTarget, Resting, HasTarget}
 use Rattle.turn_row.specs.RowLaw.{RowLawful}
-use Rattle.layer_law.specs.Turnings.{Turning, terms_of, AreRestingBut, ghosts_of, line_number, SureWatch, IsShown}
+use Rattle.turn_row.specs.Turnings.{Turning}
+use Rattle.layer_law.specs.Turnings.{terms_of, AreRestingBut, ghosts_of, line_number, SureWatch, IsShown}
 
 -- The parties with their calls, and the turn, if any, that each makes.
 pub record Layered : Type 0 where

@@ -1,29 +1,20 @@
--- The updater's turns that parties make, and what the law of turns knows of an index.
+-- What the law of turns knows of an index, and what the walks of its turns rely on.
 use Rattle.std.specs.Prelude.{◌≡◌, ◌≢◌, ℕ, ◌+◌, ◌*◌, ◌<◌, ◌≤◌, ◌==◌, ◌||◌, Bool, true, false, List, [], ◌∷◌}
 use mathlib.Core.Option.{some}
 use lib.ListN.{get_elem?}
 use Rattle.pm_words.specs.declared.layout.Layout.{Layout}
-use Rattle.pm_words.specs.declared.action.Action.{Action}
 use Rattle.version_lock.specs.Versions.{generation_of, IsFree}
 use Rattle.data_node.specs.Lists.{ListNode, next_offset}
 use Rattle.call_stages.specs.Stages.{Sight}
 use Rattle.call_stages.specs.Lines.{HeldLine}
-use Rattle.call_stages.specs.Watches.{Watching, Nothing, Watches, Watch, IsSeenAs}
+use Rattle.call_stages.specs.Watches.{Watching, Nothing, Watches, IsSeenAs}
 use Rattle.index_law.specs.Facts.{Facts}
 use Rattle.index_law.specs.Worlds.{World, facts}
 use Rattle.index_law.specs.Lawful.{Stands}
 use Rattle.search_layer.specs.Keys.{key_number}
 use Rattle.turn_row.specs.Columns.{RowTerms, Ghosts}
-use Rattle.turn_row.specs.RowStages.{RowLine, RowTarget, RowStage, Resting, HasTarget}
-use Rattle.turn_row.specs.RowSteps.{RowStep}
-
--- The turn that a party makes, if it makes one: the stamp that it gives, the greatest stamp that it releases, where it
--- is, and what its walk relies on.
-pub record Turning : Type 0 where
-  pub stamp : ℕ
-  pub release : ℕ
-  pub stage : RowStage
-  pub watch : Watching
+use Rattle.turn_row.specs.RowStages.{RowTarget, Resting}
+use Rattle.turn_row.specs.Turnings.{Turning}
 
 abbrev pub terms_of : World → Turning → RowTerms
 terms_of w t = record { layout = w.layout; generation = w.generation; stamp = t.stamp; release = t.release }
@@ -67,19 +58,3 @@ pub record IsShown (l : Layout) (g : ℕ) (f : Facts) (key : List ℕ) (target :
   pub sight : Sight
   pub sure : SureWatches l g f target.node target.version sight
   pub seen : IsSeenAs (key_number key) target.low sight
-
--- With this load the walk has come to its target.
-pub record IsFound (r : RowTerms) (watch : Watching) (action : Action) (x : ℕ) (key : List ℕ) (target : RowTarget) : Type 0
-  where
-    pub sight : Sight
-    pub watches : Watch r.layout r.generation watch action x (Watches target.node target.version sight)
-    pub seen : IsSeenAs (key_number key) target.low sight
-
--- A step of a turn by an action that gives a number.
-pub record TurnFoot (r : RowTerms) (before : Turning) (action : Action) (x : ℕ) (after : Turning) : Type 0 where
-  pub row : RowStep r before.stage action x after.stage
-  pub watch : Watch r.layout r.generation before.watch action x after.watch
-  pub found : (e : RowLine) (target : RowTarget) → after.stage ≡ HasTarget e target →
-      IsFound r before.watch action x e.anchor target
-  pub stamp : after.stamp ≡ before.stamp
-  pub release : after.release ≡ before.release

@@ -5,3 +5,4 @@ pub mod WorkLaw
 pub mod DoingLaw
 pub mod StepLaw
 pub mod WatchLaw
+pub mod FootLaw

@@ -43,7 +43,8 @@ use Rattle.updater.specs.declared.work.WorkAt.{WorkAt}
 use Rattle.updater.specs.declared.work.WorkAt.TheVariants as at
 use Rattle.updater.specs.Works.{work_at_asks, work_asks, after_line, reads_fields, changes, clears, changed, after_node, on, leaves, saw_again, has_read, has_landed, has_walked, has_set, has_unset, has_released, work_at_turned, work_turned, IsWalkTo, IsWorkAt, ToldOfLine}
 use Rattle.updater.specs.Steps.{row_terms, line_of, target_of, release_stage, work_at_stage, stage_after}
-use Rattle.updater.specs.Watches.{work_at_watching, work_watching, SeesTarget, SeesFound, WorkWatches, WorksAreWatches, TargetsAreSeen, KeysHaveOneNumber, WalksAreTold}
+use Rattle.turn_row.specs.Turnings.{SeesTarget}
+use Rattle.updater.specs.Watches.{work_at_watching, work_watching, SeesFound, WorkWatches, WorksAreWatches, TargetsAreSeen, KeysHaveOneNumber, WalksAreTold}
 use Rattle.updater.proofs.WalkLoads.{LoadsApart, walk_place, walk_told, turn_told}
 
 module _ (work : Work) (w : Watching) (action : Action) (x : ℕ) where

@@ -3,9 +3,8 @@ use Rattle.std.specs.Prelude.{◌≡◌, ◌↔◌, ℕ, List}
 use Rattle.pm_words.specs.declared.action.Action.{Action}
 use Rattle.pm_words.specs.declared.machine.Turn.{Turn}
 use Rattle.pm_words.specs.declared.machine.Turn.TheVariants.{Go, Done}
-use Rattle.call_stages.specs.Stages.{Sight}
 use Rattle.call_stages.specs.Kinds.{Told}
-use Rattle.call_stages.specs.Watches.{Watching, Nothing, Watches, Watch, IsSeenAs}
+use Rattle.call_stages.specs.Watches.{Watching, Nothing, Watch}
 use Rattle.data_list.specs.declared.walk.Walk.{Walk}
 use Rattle.data_list.specs.Keys.{key_words}
 use Rattle.data_list.specs.Keys.{key_number as walk_number}
@@ -14,14 +13,16 @@ use Rattle.data_list.specs.WalkStages.{walk_watching}
 use Rattle.search_layer.specs.Keys.{key_number}
 use Rattle.smo_log.specs.declared.line.Entry.{Entry}
 use Rattle.turn_row.specs.Columns.{RowTerms}
-use Rattle.turn_row.specs.RowStages.{RowLine, RowTarget, HasTarget}
+use Rattle.turn_row.specs.RowStages.{RowLine, RowTarget, RowStage, Resting, HasTarget}
+use Rattle.turn_row.specs.Turnings.{Turning, SeesTarget, TurnFoot}
 use Rattle.updater.specs.declared.terms.Terms.{Terms}
 use Rattle.updater.specs.declared.terms.Turned.{Turned}
 use Rattle.updater.specs.declared.work.Work.{Work}
 use Rattle.updater.specs.declared.work.WorkAt.{WorkAt}
 use Rattle.updater.specs.declared.work.WorkAt.TheVariants as at
 use Rattle.updater.specs.Works.{IsWork, work_asks, work_turned, work_takes}
-use Rattle.updater.specs.Steps.{row_terms, line_of, target_of, stage_after}
+use Rattle.updater.specs.Steps.{row_terms, line_of, target_of, work_stage, stage_after, stage_taken}
+use Rattle.updater.specs.Takings.{taking_from, taking_asks, taking_turned}
 
 -- while it walks, what its walk relies on
 abbrev pub work_at_watching : WorkAt → Watching
@@ -31,15 +32,7 @@ work_at_watching _ = Nothing
 abbrev pub work_watching : Work → Watching
 work_watching work = work_at_watching work.at
 
--- By a load that gave x, the walk of a turn that relied on that has come to a target: it relies on a sight of it, while
--- the target's version word stands, by which the line's anchor belongs there, and these are the words of the target's.
-pub record SeesTarget (r : RowTerms) (watching : Watching) (action : Action) (x : ℕ) (e : RowLine) (target : RowTarget)
-    : Type 0 where
-  pub sight : Sight
-  pub watch : Watch r.layout r.generation watching action x (Watches target.node target.version sight)
-  pub seen : IsSeenAs (key_number e.anchor) target.low sight
-
--- So it is where the walk has found one.
+-- Where the walk has found a target, it sees that.
 abbrev pub SeesFound : Terms → Watching → Action → ℕ → WorkAt → Type 0
 SeesFound terms watching action x (at.Seeing line entry found) =
     SeesTarget (row_terms terms) watching action x (line_of line entry) (target_of found)
@@ -72,3 +65,26 @@ abbrev pub WalksAreTold : Type 0
 WalksAreTold = (work : Work) (x line : ℕ) (entry : Entry) (walk : Walk) → IsWork work →
     work.at ≡ at.Walking line entry walk →
     (work_takes work x ↔ Told walk.layout walk.generation (walk_asks walk) x)
+
+-- A turn of these terms, which is at this stage, and whose walk relies on that.
+abbrev pub turning_at : RowTerms → RowStage → Watching → Turning
+turning_at terms stage watching =
+    record { stamp = terms.stamp; release = terms.release; stage = stage; watch = watching }
+
+abbrev pub work_turning : Work → Turning
+work_turning work = turning_at (row_terms work.terms) (work_stage work) (work_watching work)
+
+abbrev pub turning_after : Terms → Turn Work Turned → Turning
+turning_after terms (Go work) = work_turning work
+turning_after terms (Done answer) = turning_at (row_terms terms) Resting Nothing
+
+-- So an attempt at the updater lock, and each turn of the work, is a step of the row and a watch at once.
+abbrev pub TakingsAreFeet : Type 0
+TakingsAreFeet = (terms : RowTerms) (x : ℕ) →
+    TurnFoot terms (turning_at terms Resting Nothing) (taking_asks (taking_from terms.layout)) x
+    (turning_at terms (stage_taken (taking_turned (taking_from terms.layout) x)) Nothing)
+
+abbrev pub WorksAreFeet : Type 0
+WorksAreFeet = (work : Work) (x : ℕ) → work_takes work x →
+    TurnFoot (row_terms work.terms) (work_turning work) (work_asks work) x
+    (turning_after work.terms (work_turned work x))

@@ -56,3 +56,12 @@ pub fn turns_are_watches()
     ensures keys { KeysHaveOneNumber }
     ensures told { WalksAreTold }
 {}
+
+ghost use Rattle.updater.specs.Watches.{TakingsAreFeet, WorksAreFeet};
+
+/// So an attempt at the updater lock, and each turn, is both at once: a step on rows of words, and a watch of its walk,
+/// of one stamp and one release.
+pub fn turns_are_feet()
+    ensures takings { TakingsAreFeet }
+    ensures works { WorksAreFeet }
+{}
