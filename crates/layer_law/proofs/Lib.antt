@@ -21,3 +21,5 @@ pub mod TurnRests
 pub mod TurnSteps
 pub mod LayerCover
 pub mod LayerStays
+pub mod Beginnings
+pub mod FreshLayer

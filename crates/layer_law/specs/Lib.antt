@@ -1,3 +1,4 @@
 pub mod Turnings
 pub mod Layers
 pub mod Laws
+pub mod Beginnings

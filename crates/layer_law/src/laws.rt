@@ -2,6 +2,7 @@
 
 ghost use Rattle.layer_law.specs.Laws.{CallStepKeeps, TurnStepKeeps, TurnStartKeeps, EvictionKeepsLayer};
 ghost use Rattle.layer_law.specs.Laws.{StartKeepsLayer, RestIsLayered, TargetsStand, LayerIsCovered};
+ghost use Rattle.layer_law.specs.Beginnings.{BeginningKeepsLayer, OtherTurnsMayRest, FreshIsLayered};
 
 /// A step of a call keeps an index with its search layer and the turn beside it.
 pub fn call_step_law()
@@ -39,4 +40,16 @@ pub fn target_law()
 /// lines have which aren't EMPTY; and so does the durable one, by the durable lines.
 pub fn covered_law()
     ensures { LayerIsCovered }
+{}
+
+/// Where parties begin anew while the others stay, and with them the base, the history and the clock, the index keeps its
+/// search layer, as it does where other turns rest.
+pub fn beginning_law()
+    ensures calls { BeginningKeepsLayer }
+    ensures turns { OtherTurnsMayRest }
+{}
+
+/// A fresh index has its search layer.
+pub fn fresh_law()
+    ensures { FreshIsLayered }
 {}
