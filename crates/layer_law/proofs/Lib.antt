@@ -23,3 +23,4 @@ pub mod LayerCover
 pub mod LayerStays
 pub mod Beginnings
 pub mod FreshLayer
+pub mod Restamping

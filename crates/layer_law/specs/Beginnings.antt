@@ -1,10 +1,11 @@
 -- What keeps an index with its search layer beside the steps of its parties: parties that begin a call, are counted, or
 -- are replaced by others, a clock that begins anew, and turns that rest; and a fresh index, which has it all.
-use Rattle.std.specs.Prelude.{◌≡◌, ◌⊎◌, ℕ, List, slice_set, Option}
+use Rattle.std.specs.Prelude.{◌≡◌, ◌≢◌, ◌⊎◌, ℕ, ◌<◌, List, slice_set, Option}
 use mathlib.Core.Option.{some}
 use lib.ListN.{get_elem?}
 use Rattle.pm_words.specs.declared.layout.Layout.{Layout}
 use Rattle.pm_words.specs.Layouts.{IsLayout}
+use Rattle.pm_words.specs.Locations.{Volatile, address_of, at}
 use Rattle.cat_history.specs.Maps.{Map}
 use Rattle.cat_history.specs.declared.op.Write.{Write}
 use Rattle.call_stages.specs.Stages.{Idle}
@@ -60,6 +61,20 @@ abbrev pub OtherTurnsMayRest : Type 0
 OtherTurnsMayRest = (z : Layered) (turns : List Turning) (i : ℕ) (t : Turning) → IsLayered z → TurnsRest z.turns →
     ((j : ℕ) (u : Turning) → get_elem? turns j ≡ some u → IsAtRest u) → get_elem? turns i ≡ some t →
     IsLayered (record { whole = z.whole; turns = turns })
+
+-- With no turn in flight a node's stamp that isn't 0 may become another that isn't.
+abbrev pub restamped : Whole → ℕ → ℕ → Whole
+restamped z n stamp = record z {
+  world = record (z.world) {
+    words = slice_set z.world.words (address_of z.world.layout (Volatile n 2)) stamp;
+  };
+}
+
+abbrev pub StampKeepsLayer : Type 0
+StampKeepsLayer = (z : Layered) (n stamp : ℕ) → IsLayered z → TurnsRest z.turns → n < z.whole.world.layout.nodes →
+    at z.whole.world.layout z.whole.world.words (Volatile n 2) ≢ 0 → stamp ≢ 0 → IsWhole (restamped z.whole n stamp) →
+    AreTended (restamped z.whole n stamp) →
+    IsLayered (record { whole = restamped z.whole n stamp; turns = z.turns })
 
 -- A fresh index, in which no call and no turn is in flight, has its search layer.
 abbrev pub FreshIsLayered : Type 0

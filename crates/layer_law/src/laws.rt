@@ -2,7 +2,7 @@
 
 ghost use Rattle.layer_law.specs.Laws.{CallStepKeeps, TurnStepKeeps, TurnStartKeeps, EvictionKeepsLayer};
 ghost use Rattle.layer_law.specs.Laws.{StartKeepsLayer, RestIsLayered, TargetsStand, LayerIsCovered};
-ghost use Rattle.layer_law.specs.Beginnings.{BeginningKeepsLayer, OtherTurnsMayRest, FreshIsLayered};
+ghost use Rattle.layer_law.specs.Beginnings.{BeginningKeepsLayer, OtherTurnsMayRest, StampKeepsLayer, FreshIsLayered};
 
 /// A step of a call keeps an index with its search layer and the turn beside it.
 pub fn call_step_law()
@@ -43,10 +43,11 @@ pub fn covered_law()
 {}
 
 /// Where parties begin anew while the others stay, and with them the base, the history and the clock, the index keeps its
-/// search layer, as it does where other turns rest.
+/// search layer, as it does with other turns that rest, and with another stamp of a node that has one.
 pub fn beginning_law()
     ensures calls { BeginningKeepsLayer }
     ensures turns { OtherTurnsMayRest }
+    ensures stamp { StampKeepsLayer }
 {}
 
 /// A fresh index has its search layer.
