@@ -6,3 +6,4 @@ pub mod DoingLaw
 pub mod StepLaw
 pub mod WatchLaw
 pub mod FootLaw
+pub mod MakingLaw

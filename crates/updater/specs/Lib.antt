@@ -5,3 +5,4 @@ pub mod Events
 pub mod Doings
 pub mod Steps
 pub mod Watches
+pub mod Makings

@@ -65,3 +65,12 @@ pub fn turns_are_feet()
     ensures takings { TakingsAreFeet }
     ensures works { WorksAreFeet }
 {}
+
+ghost use Rattle.updater.specs.Makings.{MakingsStaySound, MakingsAreFeet};
+
+/// A whole turn takes the lock and works under it; it is the same, at each of its turns, and goes on as one whose fields
+/// keep the same.
+pub fn whole_turns_are_feet()
+    ensures sound { MakingsStaySound }
+    ensures feet { MakingsAreFeet }
+{}

@@ -6,10 +6,12 @@
 
 mod deciding;
 pub mod laws;
+mod making;
 mod taking;
 mod terms;
 mod work;
 
+pub use making::{MakeTurn, TurnReply};
 pub use taking::{TakeTurn, Took};
 pub use terms::{Found, Tally, Terms, Turned};
 pub use work::{Work, WorkAt};
