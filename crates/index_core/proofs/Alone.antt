@@ -80,10 +80,16 @@ late_was (Some limit) n over = le-leb limit n over
 
 -- to count a call of a quiet index is no call in flight
 pub count_quiet : (s : Index) (i : ℕ) (new : Index) → IsQuiet s → CountsCall s i new → IsQuiet new
-count_quiet s i new quiet t = subst IsQuiet (sym t.is) (λ j state at. ⊎_elim
-    (λ (mine : (j ≡ i) × (state_counted t.state ≡ state)). ap (λ (d : PartyState). d.machine) (sym mine.1) ∙ quiet i t.state t.there)
-    (λ (other : (j ≢ i) × (get_elem? s.states j ≡ some state)). quiet j state other.1)
-    (at_set s.states i j (state_counted t.state) state at))
+count_quiet s i new quiet t = subst IsQuiet (sym t.is) (record {
+  calls = λ j state at. ⊎_elim
+      (λ (mine : (j ≡ i) × (state_counted t.state ≡ state)). ap (λ (d : PartyState). d.machine) (sym mine.1) ∙ quiet.calls i t.state t.there)
+      (λ (other : (j ≢ i) × (get_elem? s.states j ≡ some state)). quiet.calls j state other.1)
+      (at_set s.states i j (state_counted t.state) state at);
+  turns = λ j state at. ⊎_elim
+      (λ (mine : (j ≡ i) × (state_counted t.state ≡ state)). ap (λ (d : PartyState). d.turn) (sym mine.1) ∙ quiet.turns i t.state t.there)
+      (λ (other : (j ≢ i) × (get_elem? s.states j ≡ some state)). quiet.turns j state other.1)
+      (at_set s.states i j (state_counted t.state) state at);
+})
 
 -- What the tries of a whole call answer and leave, before it is counted where it was turned back.
 pub record Ran (s0 s : Index) (i : ℕ) (c : CoreCall) (answer : Once Placed) : Type 0 where

@@ -378,4 +378,4 @@ module _ (first : Index) (begun : List BegunCall) (calls : List AnsweredCall) (s
       }
         where
           none_flies : (p : ℕ) (state : PartyState) (machine : Running) → get_elem? s.states p ≡ some state → state.machine ≡ Some machine → ⊥
-          none_flies p state machine at flown = let both : None ≡ Some machine = sym (quiet p state at) ∙ flown in cc
+          none_flies p state machine at flown = let both : None ≡ Some machine = sym (quiet.calls p state at) ∙ flown in cc

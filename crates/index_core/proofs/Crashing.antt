@@ -32,6 +32,7 @@ use Rattle.index_core.specs.PartyStates.{machine_stage, party_of}
 use Rattle.index_core.specs.Weights.{crash_weight}
 use Rattle.index_core.specs.Indexes.{Index, IsIndex, IsOwnWrite, footed, world}
 use Rattle.index_core.proofs.Footed.{evict_footed}
+use Rattle.index_core.proofs.Layering.{evict_layered}
 use Rattle.index_core.proofs.Lists.{map_there, map_from}
 use Rattle.index_core.proofs.PartFacts.{running_listed}
 
@@ -41,6 +42,7 @@ evict_keeps s word is within =
       lawful = evict_law (world s) word is.lawful within;
       whole = kept.0;
       tended = kept.1;
+      layered = λ on. evict_layered s word (is.layered on) within;
       parties = is.parties;
       states = is.states;
       ordered = is.ordered;

@@ -23,6 +23,7 @@ use Rattle.index_core.specs.Fresh.{IsFreshIndex}
 use Rattle.index_core.specs.Indexes.{Index, IsIndex, RunningEnds, parties_of, world}
 use Rattle.index_core.specs.Lone.{IsQuiet, locks_left}
 use Rattle.index_core.proofs.Footed.{fresh_footed}
+use Rattle.index_core.proofs.Layering.{fresh_layered}
 use Rattle.index_core.proofs.Footings.{line_of, debt_of, free_states}
 use Rattle.index_core.proofs.Lists.{map_from, idle-length, idle-each}
 
@@ -44,8 +45,9 @@ fresh_is l layout =
       lawful = rest_law (fresh_world l parties) rest;
       whole = footed.0;
       tended = footed.1;
+      layered = λ on. fresh_layered l layout footed (each (λ p. p.stage ≡ Idle) (λ i. refl));
       parties = idle-length n;
-      states = λ i state at. subst (IsPartyState l 1 i) (sym (idle-each n i state at)) (record { caller = refl; machine = tt; op = tt; own = tt });
+      states = λ i state at. subst (IsPartyState l 1 i) (sym (idle-each n i state at)) (record { caller = refl; machine = tt; op = tt; own = tt; turn = tt });
       ordered = λ i place state machine write at flies stands caller. absurd (let none : None ≡ Some write = stands in cc);
       bounded = record {
         limits = λ i e m at flies. absurd (let both : None ≡ Some m = ap (λ (d : PartyState). d.machine) (sym (idle-each n i e at)) ∙ flies in cc);
@@ -58,8 +60,10 @@ fresh_is l layout =
 
 -- no call is in flight there
 pub fresh_quiet : (l : Layout) (s : Index) → IsFreshIndex l s → IsQuiet s
-fresh_quiet l s fresh i state there =
-    ap (λ (e : PartyState). e.machine) (idle-each (parties_of l) i state (subst (λ (es : List PartyState). get_elem? es i ≡ some state) fresh.states there))
+fresh_quiet l s fresh = record {
+  calls = λ i state there. ap (λ (e : PartyState). e.machine) (idle-each (parties_of l) i state (subst (λ (es : List PartyState). get_elem? es i ≡ some state) fresh.states there));
+  turns = λ i state there. ap (λ (e : PartyState). e.turn) (idle-each (parties_of l) i state (subst (λ (es : List PartyState). get_elem? es i ≡ some state) fresh.states there));
+}
 
 -- its nodes were never locked
 fresh_fewest : (version : ℕ → ℕ) (n : ℕ) → ((m : ℕ) → m < n → version m ≡ 0) → fewest_locks 1 version n ≡ LAST_COUNT

@@ -253,7 +253,7 @@ module _ (initial : Index) (begun : List BegunCall) (calls : List AnsweredCall) 
       ∙ ap (option_map (λ (change : Change). (w.placed.place, record { caller = w.answered.call.caller; index = w.answered.call.index; change = change }))) (asked-is w.answered.call.op ∙ w.change)
       ∙ (λ i. Some (w.place i, record { caller = sym w.caller i; index = sym w.index i; change = write.change })) in
       gives-here write_told calls w.number w.answered (place, write) w.there is)
-      (λ (w : IsWriteInFlight s.states place write). absurd (let both : None ≡ Some w.machine = sym (quiet w.party w.state w.there) ∙ w.flies in cc))
+      (λ (w : IsWriteInFlight s.states place write). absurd (let both : None ≡ Some w.machine = sym (quiet.calls w.party w.state w.there) ∙ w.flies in cc))
       (legal.writes place write stands)
 
   by-place : IsQuiet s → IsPermutation (placed_writes (records_of calls)) (enumerate_from 0 s.history)
@@ -321,7 +321,7 @@ module _ (initial : Index) (begun : List BegunCall) (calls : List AnsweredCall) 
     wrote : (place : ℕ) (write : Write) → slice_get s.history place ≡ Some write → IsAnsweredWrite calls place write
     wrote place write stands =
         ⊎_elim (λ (w : IsAnsweredWrite calls place write). w)
-        (λ (w : IsWriteInFlight s.states place write). absurd (let both : None ≡ Some w.machine = sym (quiet w.party w.state w.there) ∙ w.flies in cc))
+        (λ (w : IsWriteInFlight s.states place write). absurd (let both : None ≡ Some w.machine = sym (quiet.calls w.party w.state w.there) ∙ w.flies in cc))
         (legal.writes place write stands)
 
     -- whose caller has a record

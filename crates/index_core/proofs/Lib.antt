@@ -30,3 +30,5 @@ pub mod Endings
 pub mod Told
 pub mod Fulls
 pub mod Rounds
+pub mod Layering
+pub mod Busy

@@ -1,5 +1,5 @@
 -- The laws on parties and their machines.
-use Rattle.std.proofs.Common.{◌≡◌, ℕ, map, refl, sym, ap, ◌∙◌, subst, arith, ◌+◌, ◌<◌, ◌≤◌, ⊎_elim, List, length, ◌≢◌, set}
+use Rattle.std.proofs.Common.{inr, ◌≡◌, ℕ, map, refl, sym, ap, ◌∙◌, subst, arith, ◌+◌, ◌<◌, ◌≤◌, ⊎_elim, List, length, ◌≢◌, set}
 use Rattle.std.specs.Prelude.{Option, Some, None, IfSome}
 use mathlib.Core.Option.{some}
 use lib.ListN.{get_elem?, length-set}
@@ -27,7 +27,9 @@ use Rattle.index_core.specs.declared.party.CoreCall.{CoreCall}
 use Rattle.index_core.specs.declared.party.CoreCall.TheVariants as call
 use Rattle.index_core.specs.declared.party.PartyState.{PartyState}
 use Rattle.index_core.specs.CoreCalls.{machine_of}
-use Rattle.index_core.specs.PartyStates.{IsPartyState, state_after, state_with, machine_stage, party_of}
+use Rattle.index_core.specs.PartyStates.{IsPartyState, IsTurnOf, state_after, state_with, machine_stage, party_of}
+use Rattle.updater.specs.declared.making.MakeTurn.{MakeTurn}
+use Rattle.index_core.proofs.Layering.{one_layered, idle_layered}
 use Rattle.index_core.specs.Indexes.{Index, IsIndex, RunningEnds, footed, world, told, view_of, stepped_index}
 use Rattle.index_core.specs.MachineLaws.{IsReady, ReadyAfter, MachineKeeps, BeginKeeps, FirstIsReady, IdleKeep, place_told, place_now, place_next, PlacesFollow}
 use Rattle.cat_history.specs.declared.op.Change.TheVariants as change
@@ -162,9 +164,10 @@ module _ (s : Index) (i : ℕ) (e : PartyState) (index : ℕ) (is : IsIndex s) (
         lawful = lawful';
         whole = footed.0;
         tended = footed.1;
+        layered = λ on. one_layered s i e now s.spare (is.layered on) there refl (inr refl) footed;
         parties = length-set s.states i now ∙ is.parties;
         states = λ j state at. ⊎_elim
-            (λ (t : (j ≡ i) × (now ≡ state)). subst (λ (k : ℕ). IsPartyState s.layout s.generation k state) (sym t.0) (subst (IsPartyState s.layout s.generation i) t.1 (record { caller = own.caller; machine = own.machine; op = own.op; own = own.own })))
+            (λ (t : (j ≡ i) × (now ≡ state)). subst (λ (k : ℕ). IsPartyState s.layout s.generation k state) (sym t.0) (subst (IsPartyState s.layout s.generation i) t.1 (record { caller = own.caller; machine = own.machine; op = own.op; own = own.own; turn = own.turn })))
             (λ (t : (j ≢ i) × (get_elem? s.states j ≡ some state)). is.states j state t.1)
             (at_set s.states i j now state at);
         ordered = λ j place state m write at flies stands caller. ⊎_elim
@@ -199,7 +202,7 @@ begin_law s i e index c is there idle here =
     }
 
 pub idle_weigh : IdleWeigh
-idle_weigh s quiet = idle_weighs (world s) (λ i p at. let from = map_from party_of s.states i p at in sym (ap (λ (q : Party). q.stage) from.2) ∙ ap machine_stage (quiet i from.0 from.1))
+idle_weigh s quiet = idle_weighs (world s) (λ i p at. let from = map_from party_of s.states i p at in sym (ap (λ (q : Party). q.stage) from.2) ∙ ap machine_stage (quiet.calls i from.0 from.1))
 
 pub first_ready : FirstIsReady
 first_ready v (call.Put name value limit) here = ready_idle v.layout v.generation (machine_of v (call.Put name value limit)) here.0.call.view.layout.nodes.0 (record { layout = refl; generation = refl; here = here }) refl
@@ -211,7 +214,7 @@ first_ready v (call.Recheck node version) here = ready_idle v.layout v.generatio
 -- an index with no call in flight is one with any other idle parties
 pub with_idle : IdleKeep
 with_idle s states is quiet idle =
-    let each = λ (i : ℕ) (p : Party) (at : get_elem? (map party_of s.states) i ≡ some p). let from = map_from party_of s.states i p at in sym (ap (λ (q : Party). q.stage) from.2) ∙ ap machine_stage (quiet i from.0 from.1) in
+    let each = λ (i : ℕ) (p : Party) (at : get_elem? (map party_of s.states) i ≡ some p). let from = map_from party_of s.states i p at in sym (ap (λ (q : Party). q.stage) from.2) ∙ ap machine_stage (quiet.calls i from.0 from.1) in
     let rest = idle_law (world s) is.lawful each in
     let w : World = world (record s { states = states }) in
     let at_rest : IsAtRest w = record {
@@ -231,13 +234,14 @@ with_idle s states is quiet idle =
       idle = λ i p at. let from = map_from party_of states i p at in sym (ap (λ (q : Party). q.stage) from.2) ∙ ap machine_stage (idle.idle i from.0 from.1);
       begun = λ i p at. let from = map_from party_of states i p at in let zero_since = sym (ap (λ (q : Party). q.since) from.2) ∙ idle.begun i from.0 from.1 in omega arith;
     } in
-    let footed = rest_footed (footed s) w.parties (map line_of states) (map debt_of states) (is.whole, is.tended) (free_states s.states quiet (λ i e at. (is.states i e at).caller)) (free_states states idle.idle idle.numbers) (rest_law w at_rest) in
+    let footed = rest_footed (footed s) w.parties (map line_of states) (map debt_of states) (is.whole, is.tended) (free_states s.states quiet.calls (λ i e at. (is.states i e at).caller)) (free_states states idle.idle idle.numbers) (rest_law w at_rest) in
     record {
       lawful = rest_law w at_rest;
       whole = footed.0;
       tended = footed.1;
+      layered = λ on. idle_layered s states (is.layered on) quiet.turns idle.idle idle.resting (subst (λ n. 0 < n) (sym idle.count) (omega arith)) footed;
       parties = idle.count;
-      states = λ i e at. record { caller = idle.numbers i e at; machine = subst (λ (o : Option Running). IfSome o (Sound s.layout s.generation)) (sym (idle.idle i e at)) tt; op = subst (λ (o : Option Running). IfSome o (λ m. IsOf (op_in m) m)) (sym (idle.idle i e at)) tt; own = subst (λ (o : Option Running). IfSome o (λ m. (running_call m).view.caller ≡ i)) (sym (idle.idle i e at)) tt };
+      states = λ i e at. record { caller = idle.numbers i e at; machine = subst (λ (o : Option Running). IfSome o (Sound s.layout s.generation)) (sym (idle.idle i e at)) tt; op = subst (λ (o : Option Running). IfSome o (λ m. IsOf (op_in m) m)) (sym (idle.idle i e at)) tt; own = subst (λ (o : Option Running). IfSome o (λ m. (running_call m).view.caller ≡ i)) (sym (idle.idle i e at)) tt; turn = subst (λ (o : Option MakeTurn). IfSome o (IsTurnOf s.layout s.generation)) (sym (idle.resting i e at)) tt };
       ordered = λ i place e m w at flies stands caller. absurd (let both : None ≡ Some m = sym (idle.idle i e at) ∙ flies in cc);
       bounded = record {
         limits = λ i e m at flies. absurd (let both : None ≡ Some m = sym (idle.idle i e at) ∙ flies in cc);

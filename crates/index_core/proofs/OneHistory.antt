@@ -78,8 +78,8 @@ kept_first s index quiet fresh = record {
   next = λ j c at. absurd (some-ne-none c (sym at));
   indexes = λ j c at. absurd (some-ne-none c (sym at));
   states_count = λ p state at_p. record { state = state; there = at_p; is = omega arith };
-  each_call = subst (IsPermutation []) (sym (no_flights s.states quiet)) (IsPermutation-refl []);
-  counts = λ p state at_p. record { was = state; there = at_p; most = let idle = ap in_flight (quiet p state at_p) in omega arith };
+  each_call = subst (IsPermutation []) (sym (no_flights s.states quiet.calls)) (IsPermutation-refl []);
+  counts = λ p state at_p. record { was = state; there = at_p; most = let idle = ap in_flight (quiet.calls p state at_p) in omega arith };
 }
 
 -- fewer calls are counted too
@@ -132,7 +132,7 @@ kept first index quiet fresh (alone {begun = begun} {calls = calls} {old = old} 
     let same : Path Index new (record new { states = set old.states party (state_done r.state (length old.history)); base = old.base; history = old.history ++ alone_writes r.state.caller r.state.index c result }) =
     (λ t. record new { states = r.states t; base = r.base t; history = history t }) in
     subst (λ (v : Index). Kept first (begun ++ b ∷ []) (calls ++ record { call = b; until = length v.history; answer = once_of result; part = listed_of result; whole = true; next = next_index r.state.index } ∷ []) v) (sym same)
-    (kept_alone first begun calls old party r.state c k r.there (still party r.state r.there) few result new still r.answer new r.layout (subst IsIndex same is))
+    (kept_alone first begun calls old party r.state c k r.there (still.calls party r.state r.there) few result new still r.answer new r.layout (subst IsIndex same is))
 kept first index quiet fresh (evicts {begun = begun} {calls = calls} {old = old} {new = new} {word = word} run within e is) few =
     subst (Kept first begun calls) (sym e) (kept_as first begun calls old (evicted old.layout old.words word) old.spare (kept first index quiet fresh run few) (subst IsIndex e is))
 kept first index quiet fresh (reserves {begun = begun} {calls = calls} {old = old} {new = new} run e) few =

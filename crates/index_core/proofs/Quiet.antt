@@ -23,13 +23,13 @@ use Rattle.index_core.proofs.Lists.{map_from}
 pub quiet_parties : (s : Index) → IsQuiet s → Each (λ p. p.stage ≡ Idle) (world s).parties
 quiet_parties s quiet i p at =
     let from = map_from party_of s.states i p at in
-    subst (λ (q : Party). q.stage ≡ Idle) from.2 (ap machine_stage (quiet i from.0 from.1))
+    subst (λ (q : Party). q.stage ≡ Idle) from.2 (ap machine_stage (quiet.calls i from.0 from.1))
 
 -- and no log line is in a hand, so each is EMPTY
 quiet_lines : (s : Index) → IsQuiet s → (i : ℕ) (e : Option HeldLine) → get_elem? (footed s).lines i ≡ some e → e ≡ None
 quiet_lines s quiet i e at =
     let from = map_from (λ (state : PartyState). (machine_footing state.machine).line) s.states i e at in
-    sym from.2 ∙ ap (λ (machine : Option Running). (machine_footing machine).line) (quiet i from.0 from.1)
+    sym from.2 ∙ ap (λ (machine : Option Running). (machine_footing machine).line) (quiet.calls i from.0 from.1)
 
 pub quiet_empty : (s : Index) → IsIndex s → IsQuiet s → AreEmpty s.layout s.words
 quiet_empty s is quiet c j caller number = ⊎_elim

@@ -29,6 +29,7 @@ use Rattle.index_core.specs.Lone.{IsQuiet}
 use Rattle.index_core.specs.Rounds.{BeginsRound, RoundBegins, round_index}
 use Rattle.index_core.proofs.Footed.{IsFooted, round_footed}
 use Rattle.index_core.proofs.Footings.{line_of, debt_of, free_states}
+use Rattle.index_core.proofs.Layering.{rest_layered}
 use Rattle.index_core.proofs.Lists.{map_from, idle-length, idle-each}
 use Rattle.index_core.proofs.Quiet.{rests}
 
@@ -55,6 +56,9 @@ module _ (s : Index) (is : IsIndex s) (quiet : IsQuiet s) where
   no_machine : (i : ℕ) (state : PartyState) → get_elem? states i ≡ some state → state.machine ≡ None
   no_machine i state at = ap (λ (d : PartyState). d.machine) (idle-each (parties_of s.layout) i state at)
 
+  no_turn : (i : ℕ) (state : PartyState) → get_elem? states i ≡ some state → state.turn ≡ None
+  no_turn i state at = ap (λ (d : PartyState). d.turn) (idle-each (parties_of s.layout) i state at)
+
   numbers : (i : ℕ) (state : PartyState) → get_elem? states i ≡ some state → state.caller ≡ i
   numbers i state at = ap (λ (d : PartyState). d.caller) (idle-each (parties_of s.layout) i state at)
 
@@ -65,15 +69,16 @@ module _ (s : Index) (is : IsIndex s) (quiet : IsQuiet s) where
   pub round_is : (spare : ℕ) → IsIndex (round_index s spare)
   round_is spare =
       let base : map_now (facts (world s)) ≡ map_of (pairs_of (map_of_index s)) = sym (map_of-pairs_of (map_of_index s)) in
-      let was_free = free_states s.states quiet (λ i e at. (is.states i e at).caller) in
+      let was_free = free_states s.states quiet.calls (λ i e at. (is.states i e at).caller) in
       let whole = round_footed (footed s) parties (map line_of states) (map debt_of states) (is.whole, is.tended) was_free (free_states states no_machine numbers) round_lawful in
       let now = subst (λ (m : Map). Lawful (record round { base = m }) × IsFooted (record { world = record round { base = m }; lines = map line_of states; debts = map debt_of states })) base (round_lawful, whole) in
       record {
         lawful = now.0;
         whole = now.1.0;
         tended = now.1.1;
+        layered = λ on. rest_layered s 0 states (pairs_of (map_of_index s)) [] (is.layered on) quiet.turns no_machine no_turn (subst (λ n. 0 < n) (sym (idle-length (parties_of s.layout))) (omega arith)) now.1;
         parties = idle-length (parties_of s.layout);
-        states = λ i state at. subst (IsPartyState s.layout s.generation i) (sym (idle-each (parties_of s.layout) i state at)) (record { caller = refl; machine = tt; op = tt; own = tt });
+        states = λ i state at. subst (IsPartyState s.layout s.generation i) (sym (idle-each (parties_of s.layout) i state at)) (record { caller = refl; machine = tt; op = tt; own = tt; turn = tt });
         ordered = λ i place state machine write at flies stands caller. absurd (let none : None ≡ Some write = stands in cc);
         bounded = record {
           limits = λ i e m at flies. absurd (let both : None ≡ Some m = sym (no_machine i e at) ∙ flies in cc);
@@ -102,8 +107,10 @@ module _ (s : Index) (is : IsIndex s) (quiet : IsQuiet s) where
 
 -- no call is in flight there
 pub round_quiet : (s new : Index) → BeginsRound s new → IsQuiet new
-round_quiet s new begins i state there =
-    ap (λ (d : PartyState). d.machine) (idle-each (parties_of s.layout) i state (subst (λ (v : Index). get_elem? v.states i ≡ some state) begins.is there))
+round_quiet s new begins = record {
+  calls = λ i state there. ap (λ (d : PartyState). d.machine) (idle-each (parties_of s.layout) i state (subst (λ (v : Index). get_elem? v.states i ≡ some state) begins.is there));
+  turns = λ i state there. ap (λ (d : PartyState). d.turn) (idle-each (parties_of s.layout) i state (subst (λ (v : Index). get_elem? v.states i ≡ some state) begins.is there));
+}
 
 pub round_begins : RoundBegins
 round_begins old new is quiet begins = (

@@ -1,5 +1,5 @@
 -- What a step and a start of a party keep, over plain variables.
-use Rattle.std.proofs.Common.{◌≡◌, ◌≢◌, ℕ, ◌+◌, ◌-◌, ◌<◌, ◌≤◌, ◌^◌, ⊎_elim, List, ◌++◌, length, set, map, refl, sym, ap, ◌∙◌, subst, arith}
+use Rattle.std.proofs.Common.{◌≡◌, ◌≢◌, ℕ, ◌+◌, ◌-◌, ◌<◌, ◌≤◌, ◌^◌, inl, inr, ⊎_elim, List, ◌++◌, length, set, map, refl, sym, ap, ◌∙◌, subst, arith}
 use Rattle.std.specs.Prelude.{Option, Some, None, IfSome, slice_set}
 use Rattle.std.proofs.lemmas.List.{length-append}
 use mathlib.Core.Option.{some}
@@ -55,13 +55,14 @@ use Rattle.index_core.specs.declared.party.PartyState.{PartyState}
 use Rattle.index_core.specs.declared.party.CoreCall.{CoreCall}
 use Rattle.index_core.specs.declared.party.CoreCall.TheVariants as call
 use Rattle.index_core.specs.CoreCalls.{machine_of, most_writes, limit_of, count_of}
-use Rattle.index_core.specs.PartyStates.{machine_stage, machine_footing, party_of, state_with, state_after, state_counted, machine_owes, owes, owed, IsPartyState}
+use Rattle.index_core.specs.PartyStates.{machine_stage, machine_footing, party_of, state_with, state_after, state_counted, machine_owes, owes, owed, IsTurnOf, IsPartyState}
 use Rattle.node_ops.specs.Calls.{IsSame}
 use Rattle.index_core.specs.Listings.{ListsAt}
 use Rattle.index_core.proofs.PartFacts.{idle_ends}
 use Rattle.index_core.proofs.Ranges.{lists_at, step_ends, step_named}
 use Rattle.index_core.specs.Indexes.{Index, world, IsIndex, RunningEnds, view_of, started_index, told, stepped_index, MakesCall}
 use Rattle.index_core.proofs.Footings.{swap_footed, step_footed}
+use Rattle.index_core.proofs.Layering.{step_layered, one_layered}
 use Rattle.index_core.proofs.Lists.{map_there, map_set, owed-set, set_twice}
 use Rattle.index_core.proofs.Ordering.{OwnsWrites, start_ordered, count_ordered, step_ordered, owns}
 use Rattle.index_core.proofs.Bounds.{bounded_small, step_bounded, start_bounded, count_bounded}
@@ -113,9 +114,9 @@ CallsSo i (Go machine) = (running_call machine).view.caller ≡ i
 CallsSo i (Done answer) = Unit {0}
 
 after_state : (l : Layout) (g i : ℕ) (state : PartyState) (op : NameOp) (turn : Turn Running (Once Placed)) → state.caller ≡ i → SoundAfter l g turn → IsOfAfter op turn → CallsSo i turn
-    → IsPartyState l g i (state_after state turn)
-after_state l g i state op (Go machine) same sound of own = record { caller = same; machine = sound; op = subst (λ (o : NameOp). IsOf o machine) (sym (op_told op machine of)) of; own = own }
-after_state l g i state op (Done answer) same sound of own = record { caller = same; machine = tt; op = tt; own = tt }
+    → IfSome state.turn (IsTurnOf l g) → IsPartyState l g i (state_after state turn)
+after_state l g i state op (Go machine) same sound of own turn = record { caller = same; machine = sound; op = subst (λ (o : NameOp). IsOf o machine) (sym (op_told op machine of)) of; own = own; turn = turn }
+after_state l g i state op (Done answer) same sound of own turn = record { caller = same; machine = tt; op = tt; own = tt; turn = turn }
 
 -- states of which one is another
 set_states : (l : Layout) (g : ℕ) (states : List PartyState) (i : ℕ) (now : PartyState) → ((j : ℕ) (state : PartyState) → get_elem? states j ≡ some state → IsPartyState l g j state) → IsPartyState l g i now
@@ -190,8 +191,9 @@ step_facts s i state machine is there flies =
     let own_told = subst (λ (v : Layout × ℕ). Told v.0 v.1 a x) (λ k. (sym sound.layout k, sym sound.generation k)) act.told in
     let takes : running_takes machine x = (sound.here, own_told, taken) in
     let lawful : Lawful (world (stepped_index s i state machine 0)) = subst Lawful same (lawful_after w i state a turn there' law.kept) in
-    let footed = step_footed s i state machine (is.whole, is.tended) there flies
-    (subst (λ (c : ℕ). FootStep l g c (footing_of machine) a x (footing_after turn) (reply_of turn)) caller (turns_are_foot_steps l g machine x sound act.told leads)) room lawful in
+    let foot : FootStep l g state.caller (footing_of machine) a x (footing_after turn) (reply_of turn) =
+    subst (λ (c : ℕ). FootStep l g c (footing_of machine) a x (footing_after turn) (reply_of turn)) caller (turns_are_foot_steps l g machine x sound act.told leads) in
+    let footed = step_footed s i state machine (is.whole, is.tended) there flies foot room lawful in
     record {
       fits = sound.here;
       can = act.can;
@@ -206,9 +208,10 @@ step_facts s i state machine is there flies =
         lawful = lawful;
         whole = footed.0;
         tended = footed.1;
+        layered = λ on. step_layered s i state machine there flies on (is.layered on) footed foot room;
         parties = length-set s.states i (state_after state turn) ∙ is.parties;
         states = set_states l g s.states i (state_after state turn) is.states
-            (after_state l g i state (op_in machine) turn own.caller (turns_stay_sound l g machine x sound act.told taken) kept_op (calls_so machine turn (caller ∙ own.caller) (keeps_call machine x takes)));
+            (after_state l g i state (op_in machine) turn own.caller (turns_stay_sound l g machine x sound act.told taken) kept_op (calls_so machine turn (caller ∙ own.caller) (keeps_call machine x takes)) own.turn);
         ordered = step_ordered s i state machine is.states is.ordered is.lawful.clock there flies kept_op;
         bounded = step_bounded s i state machine is there flies (keeps_call machine x takes) kept_op;
         named = step_named s i state machine is lawful;
@@ -311,8 +314,9 @@ start_keeps s i state c spare is there idle here =
       lawful = lawful';
       whole = footed.0;
       tended = footed.1;
+      layered = λ on. one_layered s i state now spare (is.layered on) there refl (inl (machine_idle s i c)) footed;
       parties = length-set s.states i now ∙ is.parties;
-      states = set_states s.layout s.generation s.states i now is.states (record { caller = (is.states i state there).caller; machine = machine_begins s i c here; op = machine_op s i c; own = begins_own s i c });
+      states = set_states s.layout s.generation s.states i now is.states (record { caller = (is.states i state there).caller; machine = machine_begins s i c here; op = machine_op s i c; own = begins_own s i c; turn = (is.states i state there).turn });
       ordered = start_ordered s.states s.history i state m is.ordered;
       bounded = start_bounded s i state c is here;
       named = is.named;
@@ -342,8 +346,9 @@ count_keeps s i state spare is there idle =
       lawful = lawful';
       whole = footed.0;
       tended = footed.1;
+      layered = λ on. one_layered s i state now spare (is.layered on) there refl (inr refl) footed;
       parties = length-set s.states i now ∙ is.parties;
-      states = set_states s.layout s.generation s.states i now is.states (record { caller = own.caller; machine = own.machine; op = own.op; own = own.own });
+      states = set_states s.layout s.generation s.states i now is.states (record { caller = own.caller; machine = own.machine; op = own.op; own = own.own; turn = own.turn });
       ordered = count_ordered s.states s.history i state idle is.ordered;
       bounded = count_bounded s i state is idle;
       named = is.named;
@@ -356,7 +361,7 @@ count_owes s i state there = let moved = owed-set s.states i state (state_counte
 
 -- how much room is told of an index is none of its laws
 pub respare : (s : Index) (spare : ℕ) → IsIndex s → IsIndex (record s { spare = spare })
-respare s spare is = record { lawful = is.lawful; whole = is.whole; tended = is.tended; parties = is.parties; states = is.states; ordered = is.ordered; bounded = is.bounded; named = is.named; ends = is.ends }
+respare s spare is = record { lawful = is.lawful; whole = is.whole; tended = is.tended; layered = is.layered; parties = is.parties; states = is.states; ordered = is.ordered; bounded = is.bounded; named = is.named; ends = is.ends }
 
 -- the index that a step leaves, at values that are equal to its own
 pub step_at : (s : Index) (i : ℕ) (e r e' : PartyState) (m m' : Running) (row : Row) (got' : ℕ) (turn : Turn Running (Once Placed)) (history : List Write) (spare : ℕ)

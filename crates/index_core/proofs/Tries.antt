@@ -1,5 +1,5 @@
 -- One try of a call, with no other in flight.
-use Rattle.std.proofs.Common.{◌≡◌, ◌≢◌, ℕ, suc, ◌+◌, ◌<◌, ◌≤◌, ◌^◌, inl, inr, ⊎_elim, List, [], ◌++◌, length, set, slice_set, map, refl, sym, ap, ◌∙◌, subst, arith}
+use Rattle.std.proofs.Common.{◌⊎◌, ◌≡◌, ◌≢◌, ℕ, suc, ◌+◌, ◌<◌, ◌≤◌, ◌^◌, inl, inr, ⊎_elim, List, [], ◌++◌, length, set, slice_set, map, refl, sym, ap, ◌∙◌, subst, arith}
 use Rattle.std.specs.Prelude.{Option, Some, None, IfSome}
 use mathlib.Core.Option.{some, none, some-injective}
 use lib.ListN.{get_elem?}
@@ -143,11 +143,11 @@ lone_start s0 s i c is0 quiet t spare is =
     let m = machine_of (view_of s0 i) c in
     let now = state_with t.state (length s0.history) m in
     let owing = owed-set s0.states i t.state now t.there in
-    let none : machine_owes t.state.machine ≡ 0 = ap machine_owes (quiet i t.state t.there) in
+    let none : machine_owes t.state.machine ≡ 0 = ap machine_owes (quiet.calls i t.state t.there) in
     let own = machine_writes s0 i c in
     let room : length s0.history + s0.spare ≤ length s0.history + (owed (set s0.states i now) + s.spare) = omega arith in
     let here : IsRunning m = (is'.states i now (set_here s0.states i now t.state t.there)).machine.here in
-    let begins = begin_law s0 i t.state t.state.index c is0 t.there (quiet i t.state t.there) here in
+    let begins = begin_law s0 i t.state t.state.index c is0 t.there (quiet.calls i t.state t.there) here in
     let weight = begins.weighs ∙ idle_weigh s0 quiet in
     let shown = begins.shows_none in
     subst (λ (v : Index). Lone s0 v i c) (sym t.is) (record {
@@ -286,13 +286,21 @@ module _ (s0 s s' : Index) (i : ℕ) (c : CoreCall) (result : Option (Once Place
       left_in found = elim found [ none ↦ 0 | some state ↦ left_of state.machine ]
 
   pub lone_quiet : (answer : Once Placed) → result ≡ Some answer → IsQuiet s'
-  lone_quiet answer answered j state at =
+  lone_quiet answer answered =
       let done = done_of (running_turned o.machine x) answer (sym turn_told ∙ answered) in
       let states = entries_are (Done answer) done in
-      ⊎_elim
-      (λ (mine : (j ≡ i) × (state_after e (Done answer) ≡ state)). ap (λ (d : PartyState). d.machine) (sym mine.1))
-      (λ (other : (j ≢ i) × (get_elem? s0.states j ≡ some state)). o.quiet j state other.1)
-      (at_set s0.states i j (state_after e (Done answer)) state (ap (λ (l : List PartyState). get_elem? l j) (sym states) ∙ at))
+      let was : (j : ℕ) (state : PartyState) → get_elem? s'.states j ≡ some state → ((j ≡ i) × (state_after e (Done answer) ≡ state)) ⊎ ((j ≢ i) × (get_elem? s0.states j ≡ some state)) =
+      λ j state at. at_set s0.states i j (state_after e (Done answer)) state (ap (λ (l : List PartyState). get_elem? l j) (sym states) ∙ at) in
+      record {
+        calls = λ j state at. ⊎_elim
+            (λ (mine : (j ≡ i) × (state_after e (Done answer) ≡ state)). ap (λ (d : PartyState). d.machine) (sym mine.1))
+            (λ (other : (j ≢ i) × (get_elem? s0.states j ≡ some state)). o.quiet.calls j state other.1)
+            (was j state at);
+        turns = λ j state at. ⊎_elim
+            (λ (mine : (j ≡ i) × (state_after e (Done answer) ≡ state)). ap (λ (d : PartyState). d.turn) (sym mine.1) ∙ o.quiet.turns i o.state o.there)
+            (λ (other : (j ≢ i) × (get_elem? s0.states j ≡ some state)). o.quiet.turns j state other.1)
+            (was j state at);
+      }
 
   -- how it ends
   module _ (answer : Once Placed) (answered : result ≡ Some answer) where
@@ -365,5 +373,5 @@ module _ (s0 s s' : Index) (i : ℕ) (c : CoreCall) (result : Option (Once Place
 pub spare_left : (s0 s s' : Index) (i : ℕ) (c : CoreCall) → Lone s0 s i c → room_of s ≤ room_of s' → IsQuiet s' → s0.spare + length s0.history ≤ s'.spare + length s'.history
 spare_left s0 s s' i c o room quiet =
     let before = o.room in
-    let none = quiet-owed s'.states quiet in
+    let none = quiet-owed s'.states quiet.calls in
     omega arith

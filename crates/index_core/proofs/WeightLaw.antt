@@ -1,5 +1,5 @@
 -- What an index weighs along a schedule.
-use Rattle.std.proofs.Common.{true, false, ◌≡◌, ◌≢◌, ℕ, zero, suc, ◌+◌, ◌≤◌, ⊎_elim, List, [], ◌∷◌, length, set, refl, sym, ap, ◌∙◌, subst, arith}
+use Rattle.std.proofs.Common.{true, false, ◌≡◌, ◌≢◌, ℕ, zero, suc, ◌+◌, ◌≤◌, ◌⊎◌, ⊎_elim, List, [], ◌∷◌, length, set, refl, sym, ap, ◌∙◌, subst, arith}
 use Rattle.std.specs.Prelude.{Option, Some, None, IfSome}
 use Rattle.std.specs.List.{sum_by}
 use Rattle.std.proofs.lemmas.List.Sums.{sum_by-cons, sum_by_push}
@@ -263,14 +263,21 @@ module _ (first : Index) (quiet : IsQuiet first) (index : IsIndex first) where
   weighs (alone {calls = calls} {old = old} {new = new} {caller = caller} {call = c} {result = result} run still r is) =
       let before = weighs run in
       let sum = before.sum in
-      let quiet_new : IsQuiet new = (λ i state at.
-      ⊎_elim
-      (λ (mine : (i ≡ caller) × (state_done r.state (length old.history) ≡ state)). ap (λ (e : PartyState). e.machine) (sym mine.1))
-      (λ (other : (i ≢ caller) × (get_elem? old.states i ≡ some state)). still i state other.1)
-      (at_set old.states caller i (state_done r.state (length old.history)) state (ap (λ (l : List PartyState). get_elem? l i) (sym r.states) ∙ at))) in
+      let at_new : (i : ℕ) (state : PartyState) → get_elem? new.states i ≡ some state → ((i ≡ caller) × (state_done r.state (length old.history) ≡ state)) ⊎ ((i ≢ caller) × (get_elem? old.states i ≡ some state)) =
+      λ i state at. at_set old.states caller i (state_done r.state (length old.history)) state (ap (λ (l : List PartyState). get_elem? l i) (sym r.states) ∙ at) in
+      let quiet_new : IsQuiet new = record {
+        calls = λ i state at. ⊎_elim
+            (λ (mine : (i ≡ caller) × (state_done r.state (length old.history) ≡ state)). ap (λ (e : PartyState). e.machine) (sym mine.1))
+            (λ (other : (i ≢ caller) × (get_elem? old.states i ≡ some state)). still.calls i state other.1)
+            (at_new i state at);
+        turns = λ i state at. ⊎_elim
+            (λ (mine : (i ≡ caller) × (state_done r.state (length old.history) ≡ state)). ap (λ (e : PartyState). e.turn) (sym mine.1) ∙ still.turns caller r.state r.there)
+            (λ (other : (i ≢ caller) × (get_elem? old.states i ≡ some state)). still.turns i state other.1)
+            (at_new i state at);
+      } in
       let more : weight_sum (world new) ≤ weight_sum (world old) + added_whole (op_of c) result =
       subst (λ (q : ℕ × ℕ). q.0 ≤ q.1 + added_whole (op_of c) result) (λ k. (sym (quiet_sum new quiet_new) k, sym (quiet_sum old still) k)) r.weighs in
-      let none = quiet_shows old.states still in
+      let none = quiet_shows old.states still.calls in
       let within = counts_added (op_of c) result in
       let call : AnsweredCall = record { call = begun_call r.state (length old.history) c; until = length new.history; answer = once_of result; part = listed_of result; whole = true; next = next_index r.state.index } in
       let longer = sum_by_push (λ (d : AnsweredCall). added_by d.call.op d.answer) calls call in

@@ -1,5 +1,5 @@
 -- The index as contracts see it.
-use Rattle.std.specs.Prelude.{◌≡◌, ◌≢◌, ℕ, ◌+◌, ◌<◌, ◌≤◌, ◌^◌, ◌⊎◌, List, ◌++◌, length, map, slice_get, slice_set, Some}
+use Rattle.std.specs.Prelude.{◌≡◌, ◌≢◌, ℕ, ◌+◌, ◌<◌, ◌≤◌, ◌^◌, ◌⊎◌, List, ◌++◌, length, map, slice_get, slice_set, Some, true}
 use Rattle.std.specs.Prelude.{IfSome, IsSomeAnd, Option}
 use Rattle.cat_history.specs.Records.{change_of}
 use mathlib.Core.Option.{some}
@@ -13,6 +13,7 @@ use Rattle.cat_history.specs.declared.op.Write.{Write}
 use Rattle.call_stages.specs.Stages.{Stage, Idle, Saw, Wears, Holds, Eyes, Splits, Leaves, Meets, Joins, counted}
 use Rattle.call_stages.specs.Stages.{placed_in}
 use Rattle.call_stages.specs.AnySteps.{AnyStep}
+use Rattle.index_core.specs.Leaving.{leaves_lines}
 use Rattle.call_stages.specs.declared.view.View.{View}
 use Rattle.data_list.specs.Walks.{high_of}
 use Rattle.node_ops.specs.declared.running.Running.{Running}
@@ -37,13 +38,15 @@ use Rattle.index_law.specs.Laws.{IsLegal}
 use Rattle.index_law.specs.Whole.{Whole, IsWhole}
 use Rattle.index_law.specs.Footings.{AreTended}
 use Rattle.index_law.specs.Weights.{AddsName, RisesBy, weight_sum}
+use Rattle.layer_law.specs.Layers.{Layered, IsLayered}
+use Rattle.updater.specs.declared.making.MakeTurn.{MakeTurn}
 use Rattle.index_core.specs.declared.party.CoreCall.{CoreCall}
 use Rattle.index_core.specs.declared.party.PartyState.{PartyState}
 use Rattle.index_core.specs.declared.party.Stepped.{Stepped}
 use Rattle.index_core.specs.Answers.{SaysOf}
 use Rattle.index_core.specs.CoreCalls.{machine_of, op_of}
 use Rattle.index_core.specs.Listings.{ListsAt}
-use Rattle.index_core.specs.PartyStates.{machine_footing, party_of, state_with, state_after, stepped_of, owed}
+use Rattle.index_core.specs.PartyStates.{machine_footing, turning_of, party_of, state_with, state_after, stepped_of, owed}
 use Rattle.index_core.specs.PartyStates.{answered_by, IsPartyState}
 
 pub record Index : Type 0 where
@@ -73,6 +76,10 @@ footed s = record {
   lines = map (λ (state : PartyState). (machine_footing state.machine).line) s.states;
   debts = map (λ (state : PartyState). (machine_footing state.machine).debt) s.states;
 }
+
+-- With its search layer, and the turns that its parties make.
+abbrev pub layered : Index → Layered
+layered s = record { whole = footed s; turns = map (λ (state : PartyState). turning_of state.turn) s.states }
 
 -- The map as it is.
 abbrev pub map_of_index : Index → Map
@@ -132,6 +139,7 @@ pub record IsIndex (s : Index) : Type 0 where
   pub lawful : Lawful (world s)
   pub whole : IsWhole (footed s)  -- so are its log lines and prevs
   pub tended : AreTended (footed s)
+  pub layered : leaves_lines ≡ true → IsLayered (layered s)  -- and its search layer, once lines are left to turns
   pub parties : length s.states ≡ parties_of s.layout
   pub states : (i : ℕ) (state : PartyState) → get_elem? s.states i ≡ some state →
       IsPartyState s.layout s.generation i state
@@ -147,6 +155,17 @@ pub record IsInFlight (s : Index) (party : ℕ) : Type 0 where
   pub machine : Running
   pub there : get_elem? s.states party ≡ some state
   pub flies : state.machine ≡ Some machine
+
+-- The turn that the party makes, and the party that makes it.
+pub record IsTurning (s : Index) (party : ℕ) : Type 0 where
+  pub state : PartyState
+  pub making : MakeTurn
+  pub there : get_elem? s.states party ≡ some state
+  pub turns : state.turn ≡ Some making
+
+-- The party's last call isn't answered.
+abbrev pub IsBusy : Index → ℕ → Type 0
+IsBusy s party = IsInFlight s party ⊎ IsTurning s party
 
 abbrev pub view_of : Index → ℕ → View
 view_of s party = record { layout = s.layout; generation = s.generation; caller = party }

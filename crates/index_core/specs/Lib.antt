@@ -1,4 +1,5 @@
 pub mod CoreCalls
+pub mod Leaving
 pub mod PartyStates
 pub mod InFlight
 pub mod Answers

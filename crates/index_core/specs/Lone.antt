@@ -39,9 +39,10 @@ use Rattle.index_core.specs.PartyStates.{party_of, next_index, index_after, stat
 use Rattle.index_core.specs.Indexes.{Index, map_of_index, world}
 use Rattle.index_core.specs.Weights.{weight_of, added_by, added_whole}
 
--- No call is in flight.
-abbrev pub IsQuiet : Index → Type 0
-IsQuiet s = (i : ℕ) (state : PartyState) → get_elem? s.states i ≡ some state → state.machine ≡ None
+-- No call is in flight, and no turn of the updater.
+pub record IsQuiet (s : Index) : Type 0 where
+  pub calls : (i : ℕ) (state : PartyState) → get_elem? s.states i ≡ some state → state.machine ≡ None
+  pub turns : (i : ℕ) (state : PartyState) → get_elem? s.states i ≡ some state → state.turn ≡ None
 
 -- How many more times its nodes can be locked in this run of the index: the fewest of any node. Each try of a call takes
 -- one of each node at most.
@@ -206,16 +207,12 @@ needs_split _ = false
 
 -- The party once a try of its call is answered.
 abbrev pub state_tried : PartyState → ℕ → Once Placed → PartyState
-state_tried state since answer = record {
-  caller = state.caller;
-  index = index_after state.index answer;
-  since = since;
-  machine = None;
-}
+state_tried state since answer =
+    record state { index = index_after state.index answer; since = since; machine = None }
 
 -- The party once its whole call is answered. It counts whatever it is answered.
 abbrev pub state_done : PartyState → ℕ → PartyState
-state_done state since = record { caller = state.caller; index = next_index state.index; since = since; machine = None }
+state_done state since = record state { index = next_index state.index; since = since; machine = None }
 
 -- One call more of the party is counted, and nothing else changes.
 pub record CountsCall (old : Index) (party : ℕ) (new : Index) : Type 0 where

@@ -129,6 +129,7 @@ pub record AreIdle (states : List PartyState) (n : ℕ) : Type 0 where
   pub count : length states ≡ n
   pub numbers : (i : ℕ) (e : PartyState) → get_elem? states i ≡ some e → e.caller ≡ i
   pub idle : (i : ℕ) (e : PartyState) → get_elem? states i ≡ some e → e.machine ≡ None
+  pub resting : (i : ℕ) (e : PartyState) → get_elem? states i ≡ some e → e.turn ≡ None
   pub begun : (i : ℕ) (e : PartyState) → get_elem? states i ≡ some e → e.since ≡ 0
 
 -- An index with no call in flight is one with any such parties.

@@ -1,5 +1,5 @@
 -- The parties of the core, each with its call in flight.
-use Rattle.std.specs.Prelude.{◌≡◌, ℕ, zero, suc, ◌+◌, ◌-◌, ◌^◌, min, List, [], ◌∷◌, ◌++◌, Option, Some, None, IfSome}
+use Rattle.std.specs.Prelude.{◌≡◌, ℕ, zero, suc, ◌+◌, ◌-◌, ◌<◌, ◌^◌, ◌||◌, Bool, true, is_some, min, List, [], ◌∷◌, ◌++◌, Option, Some, None, IfSome}
 use Rattle.pm_words.specs.declared.layout.Layout.{Layout}
 use Rattle.pm_words.specs.declared.machine.Turn.{Turn}
 use Rattle.pm_words.specs.declared.machine.Turn.TheVariants.{Go, Done}
@@ -8,6 +8,8 @@ use Rattle.call_stages.specs.declared.once.Once.TheVariants as once
 use Rattle.call_stages.specs.declared.once.Placed.{Placed}
 use Rattle.call_stages.specs.Stages.{Stage, Idle}
 use Rattle.call_stages.specs.Prevs.{no_debt}
+use Rattle.call_stages.specs.Watches.{Nothing}
+use Rattle.index_core.specs.Leaving.{leaves_lines}
 use Rattle.call_stages.specs.Footings.{Footing}
 use Rattle.node_ops.specs.declared.finish.FinishAt.{FinishAt}
 use Rattle.node_ops.specs.declared.finish.FinishAt.TheVariants as finish_at
@@ -24,6 +26,10 @@ use Rattle.node_ops.specs.CallStages.{stage_of, footing_of}
 use Rattle.node_ops.specs.PartSteps.{early_of, placed_of}
 use Rattle.node_ops.specs.RunningSteps.{Sound, running_call, count_in, listed_in}
 use Rattle.node_ops.specs.Asked.{IsOf, op_in}
+use Rattle.turn_row.specs.RowStages.{Resting}
+use Rattle.turn_row.specs.Turnings.{Turning}
+use Rattle.updater.specs.declared.making.MakeTurn.{MakeTurn}
+use Rattle.updater.specs.Makings.{IsMaking, making_terms, making_turning}
 use Rattle.index_law.specs.Worlds.{Party}
 use Rattle.index_core.specs.declared.party.PartyState.{PartyState}
 use Rattle.index_core.specs.declared.party.CoreReply.{CoreReply}
@@ -52,7 +58,11 @@ party_of state = record {
 
 -- It has made no call.
 abbrev pub idle_state : ℕ → PartyState
-idle_state caller = record { caller = caller; index = 0; since = 0; machine = None }
+idle_state caller = record { caller = caller; index = 0; since = 0; machine = None; turn = None }
+
+-- Its last call isn't answered.
+abbrev pub is_busy : PartyState → Bool
+is_busy state = is_some state.machine || is_some state.turn
 
 -- So many of them, each at the place of its number.
 abbrev pub idle_states : ℕ → List PartyState
@@ -61,12 +71,7 @@ idle_states (suc callers) = idle_states callers ++ idle_state callers ∷ []
 
 -- It begins this call, under the index that is its next.
 abbrev pub state_with : PartyState → ℕ → Running → PartyState
-state_with state since machine = record {
-  caller = state.caller;
-  index = state.index;
-  since = since;
-  machine = Some machine;
-}
+state_with state since machine = record state { since = since; machine = Some machine }
 
 -- One higher, as far as 64 bits go.
 abbrev pub next_index : ℕ → ℕ
@@ -157,9 +162,26 @@ abbrev pub owed : List PartyState → ℕ
 owed [] = 0
 owed (state ∷ states) = machine_owes state.machine + owed states
 
+-- The turn that a party makes, as the law of turns has it: one that rests, if it makes none.
+abbrev pub resting : Turning
+resting = record { stamp = 1; release = 0; stage = Resting; watch = Nothing }
+
+abbrev pub turning_of : Option MakeTurn → Turning
+turning_of None = resting
+turning_of (Some making) = making_turning making
+
+-- A turn is made only where splits and merges leave their lines to it; it is one of this index.
+pub record IsTurnOf (l : Layout) (g : ℕ) (making : MakeTurn) : Type 0 where
+  pub leaves : leaves_lines ≡ true
+  pub sound : IsMaking making
+  pub layout : (making_terms making).layout ≡ l
+  pub generation : (making_terms making).generation ≡ g
+  pub stamp : (making_terms making).stamp < 2 ^ 64
+
 -- The party stands at the place of its number.
 pub record IsPartyState (l : Layout) (g : ℕ) (i : ℕ) (state : PartyState) : Type 0 where
   pub caller : state.caller ≡ i
   pub machine : IfSome state.machine (Sound l g)  -- its call is one of this index
   pub op : IfSome state.machine (λ machine. IsOf (op_in machine) machine)  -- and is made for one op
   pub own : IfSome state.machine (λ machine. (running_call machine).view.caller ≡ i)  -- by this party
+  pub turn : IfSome state.turn (IsTurnOf l g)

@@ -3,7 +3,7 @@ ghost use Rattle.std.specs.Prelude.{IsErr, IsTrue, vec_len, vec_capacity, Some, 
 ghost use Rattle.pm_words.specs.Layouts.{IsLayout};
 ghost use Rattle.index_law.specs.Worlds.{written};
 ghost use Rattle.index_core.specs.CoreCalls.{MayBegin, most_writes};
-ghost use Rattle.index_core.specs.Indexes.{IsInFlight, IsIndex, KeepsRoom, Starts, StepsTo, TurnsTo};
+ghost use Rattle.index_core.specs.Indexes.{IsBusy, IsInFlight, IsIndex, KeepsRoom, Starts, StepsTo, TurnsTo};
 ghost use Rattle.index_core.specs.Fresh.{IsFreshIndex};
 ghost use Rattle.pm_words.specs.Locations.{image_words};
 ghost use Rattle.index_core.specs.Crashes.{IsCrash, evicted_index};
@@ -133,7 +133,7 @@ impl Core {
         requires party { party < self.old.layout.callers }
         requires begins { MayBegin call }
         requires spare { most_writes call ≤ self.old.spare }
-        ensures in_flight { IsErr result ↔ IsInFlight self.old party }
+        ensures in_flight { IsErr result ↔ IsBusy self.old party }
         ensures err { OnErr result (self.new ≡ self.old) }
         ensures started { OnOk result (Starts self.old party call self.new) }
         ensures spare { OnOk result (self.new.spare + most_writes call ≡ self.old.spare) }
@@ -141,7 +141,7 @@ impl Core {
         ensures index { IsIndex self.new }
     {
         let at = party as usize;
-        if self.states[at].machine.flies() {
+        if self.states[at].is_busy() {
             return Err(InFlight);
         }
         let view = View {

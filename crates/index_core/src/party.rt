@@ -8,6 +8,7 @@ use cat_key::Name;
 use node_ops::{Part, PartWords};
 use pm_words::{Again, NoMemory};
 use std::alloc::Global;
+use updater::MakeTurn;
 
 /// What a party calls.
 #[derive(Clone, Copy)]
@@ -35,6 +36,8 @@ pub struct PartyState {
     pub since: u64,
     /// The machine that makes its call in flight.
     pub machine: Flight,
+    /// Its turn of the updater in flight.
+    pub turn: Option<MakeTurn>,
 }
 
 /// What a call is answered.
@@ -132,7 +135,7 @@ impl PartyState {
     ghost use Rattle.node_ops.specs.CallStages.{reply_of};
     ghost use Rattle.node_ops.specs.RunningSteps.{IsRunning, running_left, running_takes, running_turned};
     ghost use Rattle.index_core.specs.CoreCalls.{MayBegin, machine_of, op_of};
-    ghost use Rattle.index_core.specs.PartyStates.{idle_state, state_with, state_after, state_counted, index_after};
+    ghost use Rattle.index_core.specs.PartyStates.{idle_state, is_busy, state_with, state_after, state_counted, index_after};
 
     /// A party that has made no call.
     pub(crate) fn idle(caller: u64) -> PartyState
@@ -143,7 +146,15 @@ impl PartyState {
             index: 0,
             since: 0,
             machine: Flight::idle(),
+            turn: None,
         }
+    }
+
+    /// Its last call isn't answered.
+    pub(crate) fn is_busy(&self) -> bool
+        ensures { result ≡ is_busy self.now }
+    {
+        self.machine.flies() || self.turn.is_some()
     }
 
     /// It begins a call, at this length of the history.

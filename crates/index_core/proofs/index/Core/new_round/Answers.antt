@@ -7,7 +7,7 @@ use Rattle.cat_history.specs.Replays.{pairs_of}
 use Rattle.cat_history.specs.declared.op.Write.{Write}
 use Rattle.index_core.specs.declared.party.PartyState.{PartyState}
 use Rattle.index_core.specs.Cores.{index_of, index_with, taken}
-use Rattle.index_core.specs.PartyStates.{idle_states, owed}
+use Rattle.index_core.specs.PartyStates.{idle_state, idle_states, owed}
 use Rattle.index_core.specs.Indexes.{Index, IsIndex, parties_of}
 use Rattle.index_core.specs.Lone.{IsQuiet}
 use Rattle.index_core.specs.Rounds.{BeginsRound, round_index}
@@ -54,7 +54,7 @@ returns-clause-ok c =
 pub returns-clause-spare : goal.returns-clause-spare
 returns-clause-spare c =
     let owing = ap owed (idle c) ∙ idle-owed (parties_of c.self.inside.memory.layout) in
-    let was = quiet-owed c.self.inside.states.items (quiet c) in
+    let was = quiet-owed c.self.inside.states.items (quiet c).calls in
     let none = c.in_ok-history.ensures.len in
     let room = c.in_ok-history.ensures.exact in
     let held = c.capacity.ensures in
@@ -65,8 +65,10 @@ returns-clause-spare c =
     all ∙ ap (λ (s : Index). s.spare) c.self.view_is
 
 pub returns-clause-quiet : goal.returns-clause-quiet
-returns-clause-quiet c = λ i state there.
-    ap (λ (d : PartyState). d.machine) (idle-each (parties_of c.self.inside.memory.layout) i state (subst (λ (states : List PartyState). get_elem? states i ≡ some state) (idle c) there))
+returns-clause-quiet c =
+    let each : (i : ℕ) (state : PartyState) → get_elem? c.set_idle.new.states.items i ≡ some state → state ≡ idle_state i =
+    λ i state there. idle-each (parties_of c.self.inside.memory.layout) i state (subst (λ (states : List PartyState). get_elem? states i ≡ some state) (idle c) there) in
+    record { calls = λ i state there. ap (λ (d : PartyState). d.machine) (each i state there); turns = λ i state there. ap (λ (d : PartyState). d.turn) (each i state there) }
 
 pub returns-clause-index : goal.returns-clause-index
 returns-clause-index c = respare _ _ (invariant_of-self c).0

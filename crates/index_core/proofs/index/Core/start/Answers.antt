@@ -1,15 +1,16 @@
-use Rattle.std.proofs.Common.{◌≡◌, ℕ, ◌+◌, ◌<◌, length, arith, refl, ap, sym, ◌∙◌, subst}
-use Rattle.std.specs.Prelude.{◌-◌, slice_set}
-use mathlib.Core.Option.{some-injective}
+use Rattle.std.proofs.Common.{◌≡◌, ℕ, ◌+◌, ◌<◌, length, inl, inr, arith, refl, ap, sym, ◌∙◌, subst}
+use Rattle.std.specs.Prelude.{◌-◌, None, slice_set}
+use mathlib.Core.Option.{some, some-injective}
 use lib.ListN.{get_elem?}
 use Rattle.pm_words.specs.declared.layout.Layout.{Layout}
 use Rattle.node_ops.specs.Asked.{IsOf}
 use Rattle.index_core.specs.declared.party.PartyState.{PartyState}
 use Rattle.index_core.specs.CoreCalls.{op_of, machine_of}
-use Rattle.index_core.specs.PartyStates.{owed}
+use Rattle.index_core.specs.PartyStates.{is_busy, owed}
 use Rattle.index_core.specs.Cores.{index_with}
-use Rattle.index_core.specs.Indexes.{Index, IsIndex, IsInFlight, view_of, started_index}
-use Rattle.index_core.proofs.Lists.{there_is, read_is, none_of, some_of}
+use Rattle.index_core.specs.Indexes.{Index, IsIndex, IsBusy, view_of, started_index}
+use Rattle.index_core.proofs.Lists.{there_is, read_is}
+use Rattle.index_core.proofs.Busy.{busy_told, idle_told}
 use Rattle.index_core.proofs.Reading.{Begins, begins}
 use Rattle.index_core.proofs.Stepping.{respare}
 use Rattle.index_core.proofs.index.Core.start.Goals as goal
@@ -24,8 +25,8 @@ index_mut-requires c =
     let callers = ap (λ (v : Index). v.layout.callers) c.self.view_is in
     omega (arith, c.self.invariant.0.parties, c.self.inside.states.ok.0, callers, c.requires.party)
 
-pub returns-then-flies-clause-in_flight : goal.returns-then-flies-clause-in_flight
-returns-then-flies-clause-in_flight c =
+pub returns-then-is_busy-clause-in_flight : goal.returns-then-is_busy-clause-in_flight
+returns-then-is_busy-clause-in_flight c =
     let s = index_with c.self.inside 0 in
     let i = c.args.party in
     let callers = ap (λ (v : Index). v.layout.callers) c.self.view_is in
@@ -34,11 +35,10 @@ returns-then-flies-clause-in_flight c =
     let e = here.0 in
     let there = here.1 in
     let read = read_is s.states i e c.index.result.now there c.index.ensures in
-    let machine = some_of c.index.result.now.machine (sym c.flies.ensures ∙ c.if-flies.true) in
-    (λ _. record { state = e; machine = machine.0; there = sym (ap (λ (v : Index). get_elem? v.states i) c.self.view_is) ∙ there; flies = sym (ap (λ (d : PartyState). d.machine) read) ∙ machine.1 }, λ _. refl)
+    (λ _. busy_told _ i e (sym (ap (λ (v : Index). get_elem? v.states i) c.self.view_is) ∙ there) (ap is_busy (sym read) ∙ sym c.is_busy.ensures ∙ c.if-is_busy.true), λ _. refl)
 
-pub returns-then-flies-clause-index : goal.returns-then-flies-clause-index
-returns-then-flies-clause-index c =
+pub returns-then-is_busy-clause-index : goal.returns-then-is_busy-clause-index
+returns-then-is_busy-clause-index c =
     subst IsIndex c.self.view_is (respare _ _ c.self.invariant.0)
 
 -- the machine that it makes
@@ -57,9 +57,9 @@ begun_at c =
     let here = there_is s.states i within in
     let looked = read_is s.states i here.0 c.index.result.now here.1 c.index.ensures in
     let read = read_is s.states i here.0 c.index_mut.result.now here.1 c.index_mut.ensures.value in
-    let idle = none_of c.index.result.now.machine (sym c.flies.ensures ∙ c.if-flies.false) in
+    let idle = idle_told c.index.result.now (sym c.is_busy.ensures ∙ c.if-is_busy.false) in
     begins s i c.index_mut.result.now c.begins.new.self c.args.call _ c.len-since.result c.self.invariant.0 within c.index_mut.ensures.value
-    (ap (λ (d : PartyState). d.machine) (read ∙ sym looked) ∙ idle) (made_at c) c.begins.ensures.sound (c.len-since.ensures ∙ c.self.inside.history.ok.0) c.begins.ensures.state
+    (ap (λ (d : PartyState). d.machine) (read ∙ sym looked) ∙ idle.0) (made_at c) c.begins.ensures.sound (c.len-since.ensures ∙ c.self.inside.history.ok.0) c.begins.ensures.state
 
 pub invariant_of-self : goal.invariant_of-self
 invariant_of-self c =
@@ -73,6 +73,14 @@ invariant_of-self c =
     let n : ℕ = c.self.inside.history.cap - (c.self.inside.history.len + owed (slice_set s.states i c.begins.new.self)) in
     (subst IsIndex (sym (begun.same 0)) (begun.kept 0), omega arith)
 
+none_turns : (c : goal.After-self-1) → (begun_at c).state.turn ≡ None
+none_turns c =
+    let s = index_with c.self.inside 0 in
+    let i = c.args.party in
+    let begun = begun_at c in
+    let looked = read_is s.states i begun.state c.index.result.now begun.there c.index.ensures in
+    ap (λ (d : PartyState). d.turn) (sym looked) ∙ (idle_told c.index.result.now (sym c.is_busy.ensures ∙ c.if-is_busy.false)).1
+
 pub returns-clause-in_flight : goal.returns-clause-in_flight
 returns-clause-in_flight c =
     let s = index_with c.self.inside 0 in
@@ -84,10 +92,16 @@ returns-clause-in_flight c =
     let wanted = c.requires.spare in
     let n : ℕ = c.self.inside.history.cap - (c.self.inside.history.len + owed (slice_set s.states i c.begins.new.self)) in (
       λ (e : _). absurd (cc),
-      λ (f : IsInFlight _ i).
-          let here = some-injective _ _ (sym begun.there ∙ ap (λ (v : Index). get_elem? v.states i) c.self.view_is ∙ f.there) in
-          let both = sym begun.idle ∙ ap (λ (d : PartyState). d.machine) here ∙ f.flies in
-          absurd (cc),
+      λ (b : IsBusy _ i). elim b [
+        | inl f ↦
+            let here = some-injective _ _ (sym begun.there ∙ ap (λ (v : Index). get_elem? v.states i) c.self.view_is ∙ f.there) in
+            let both = sym begun.idle ∙ ap (λ (d : PartyState). d.machine) here ∙ f.flies in
+            absurd (cc)
+        | inr f ↦
+            let here = some-injective _ _ (sym begun.there ∙ ap (λ (v : Index). get_elem? v.states i) c.self.view_is ∙ f.there) in
+            let both = sym (none_turns c) ∙ ap (λ (d : PartyState). d.turn) here ∙ f.turns in
+            absurd (cc)
+      ],
     )
 
 pub returns-clause-started : goal.returns-clause-started
@@ -123,8 +137,8 @@ returns-clause-index c =
     let n : ℕ = c.self.inside.history.cap - (c.self.inside.history.len + owed (slice_set s.states i c.begins.new.self)) in
     subst IsIndex (sym (begun.same n)) (begun.kept n)
 
-pub returns-then-flies-clause-before : goal.returns-then-flies-clause-before
-returns-then-flies-clause-before c = subst IsIndex c.self.view_is (respare _ _ c.self.invariant.0)
+pub returns-then-is_busy-clause-before : goal.returns-then-is_busy-clause-before
+returns-then-is_busy-clause-before c = subst IsIndex c.self.view_is (respare _ _ c.self.invariant.0)
 
 pub returns-clause-before : goal.returns-clause-before
 returns-clause-before c = subst IsIndex c.self.view_is (respare _ _ c.self.invariant.0)

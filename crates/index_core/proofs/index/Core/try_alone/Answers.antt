@@ -1,12 +1,11 @@
 use Rattle.std.proofs.Common.{refl, sym, ◌∙◌}
+use Rattle.index_core.proofs.Busy.{quiet_is_idle}
 use Rattle.index_core.proofs.Tries.{lone_start, lone_flies, lone_goes, lone_tries, lone_quiet, lone_locks, lone_each, spare_left}
 use Rattle.index_core.proofs.index.Core.try_alone.Goals as goal
 
 pub unreachable-requires : goal.unreachable-requires
 unreachable-requires g c =
-    let f = c.in_default.ensures.in_flight.0 refl in
-    let both = sym (c.requires.quiet c.args.caller f.state f.there) ∙ f.flies in
-    absurd (cc)
+    absurd (quiet_is_idle c.args.self.now c.args.caller c.requires.quiet (c.in_default.ensures.in_flight.0 refl))
 
 pub steps-init : goal.steps-init
 steps-init g c =
