@@ -1,5 +1,5 @@
--- What keeps all that parties have of log lines and prevs, beside their own steps: words that become durable, calls that
--- begin, parties with the same, a next round, stamps of nodes.
+-- What keeps all that parties have of log lines and prevs, beside their own steps: words that become durable, calls
+-- that begin, parties with the same, a next round, stamps of nodes.
 use Rattle.std.specs.Prelude.{◌≡◌, ℕ, ◌<◌, ◌≤◌, List, slice_set, Option, None}
 use mathlib.Core.Option.{some}
 use lib.ListN.{get_elem?}
@@ -38,7 +38,8 @@ abbrev pub evicted_whole : Whole → ℕ → Whole
 evicted_whole z word = record z { world = evicted_world z.world word }
 
 abbrev pub EvictIsFooted : Type 0
-EvictIsFooted = (z : Whole) (word : ℕ) → IsFooted z → word < image_words z.world.layout → IsFooted (evicted_whole z word)
+EvictIsFooted = (z : Whole) (word : ℕ) → IsFooted z → word < image_words z.world.layout →
+    IsFooted (evicted_whole z word)
 
 -- or a party that relies on nothing begins a call,
 abbrev pub started_whole : Whole → ℕ → Party → ℕ → Whole

@@ -240,7 +240,8 @@ ghost use Rattle.index_law.specs.Footed.{EvictIsFooted, StartIsFooted, AlikeIsFo
 ghost use Rattle.index_law.specs.Footed.{StampIsFooted, FreshIsFooted};
 
 /// That is kept by a word that becomes durable, by a call that begins, by parties with the same, by other idle parties
-/// where no call is in flight, by a next round, and by another stamp of a node; and it holds of the row of a fresh image.
+/// where no call is in flight, by a next round, and by another stamp of a node; and it holds of the row of a fresh
+/// image.
 pub fn footed_law()
     ensures evict { EvictIsFooted }
     ensures start { StartIsFooted }
