@@ -1,5 +1,5 @@
 -- All that a party has at a moment, and the steps that it makes: on nodes, on its log line, and the stores of prevs.
-use Rattle.std.specs.Prelude.{◌≡◌, ◌≢◌, ℕ, ◌⊎◌, Bool, true, false, [], ◌∷◌, Option, Some, None, IfSome}
+use Rattle.std.specs.Prelude.{◌≡◌, ◌≢◌, ℕ, ◌⊎◌, true, false, [], ◌∷◌, Option, Some, None, IfSome}
 use Rattle.pm_words.specs.declared.layout.Layout.{Layout}
 use Rattle.pm_words.specs.declared.action.Action.{Action}
 use Rattle.cat_key.specs.Names.{AreNameWords}
@@ -7,8 +7,10 @@ use Rattle.data_node.specs.Spots.{Spot}
 use Rattle.data_node.specs.Lists.{anchor_in}
 use Rattle.call_stages.specs.declared.once.Once.{Once}
 use Rattle.call_stages.specs.declared.once.Placed.{Placed}
-use Rattle.call_stages.specs.Stages.{Grip, Filling, Linked, Gathered, Joined, Gone, Stage, Splits, Joins, Tells, counted}
+use Rattle.call_stages.specs.Stages.{Held, Grip, Filling, Linked, Gathered, Joined, Gone, Stage, Holds, Splits, Joins}
+use Rattle.call_stages.specs.Stages.{Tells, counted}
 use Rattle.call_stages.specs.Kinds.{Step}
+use Rattle.call_stages.specs.Leaving.{leaves_lines}
 use Rattle.call_stages.specs.Lines.{HeldLine, Notes}
 use Rattle.call_stages.specs.AnySteps.{IsBeside}
 use Rattle.call_stages.specs.Prevs.{Debt, Deals, Prevs}
@@ -42,36 +44,55 @@ abbrev pub HasLine : Option HeldLine → (HeldLine → Type 0) → Type 0
 HasLine None P = ⊥
 HasLine (Some e) P = P e
 
--- What a step on nodes asks of the party's line: by a switch the list changes only while the line is OPEN for it, and a
--- node becomes GONE while the line isn't READY yet.
+-- What a step on nodes asks of the party's line: by a switch the list changes only while the line is OPEN for it, and
+-- a node becomes GONE while the line isn't READY yet; where lines are left to turns, the node is given back only once
+-- the line is READY.
 abbrev pub Minds : Stage → Stage → Option HeldLine → Type 0
 Minds (Splits left fresh (Filling true)) (Splits after other Linked) line = HasLine line (λ e. IsOpenOf e fresh)
 Minds (Joins h left right Gathered) (Joins held after other Joined) line =
     HasLine line (λ e. IsOpenOf e right × IsOfMerge e right)
 Minds (Joins h left right Joined) (Joins held after other Gone) line = HasLine line (λ e. e.ready ≡ false)
+Minds (Joins h left right Gone) (Holds n lock held) line =
+    leaves_lines ≡ true → HasLine line (λ e. (e.ready ≡ true) × IsOfMerge e right)
 Minds _ _ line = Unit {0}
+
+-- The stage holds the right node of its merge, which is GONE.
+abbrev pub HoldsMerged : Stage → Grip → Type 0
+HoldsMerged stage right = (h : Held) × (left : Grip) × (stage ≡ Joins h left right Gone)
 
 -- What is known of a line of a merge says so of the right node, which the stage holds and which is GONE.
 abbrev pub IsRetired : Stage → HeldLine → Type 0
 IsRetired (Joins h left right Gone) e = IsOfMerge e right
 IsRetired _ e = ⊥
 
--- What a step on the line asks of the stage: a line of a merge becomes READY once the right node is GONE, and while both
--- nodes are held.
+-- What a step on the line asks of the stage: a line of a merge becomes READY once the right node is GONE, and while
+-- both nodes are held.
 abbrev pub Waits : Stage → Option HeldLine → Option HeldLine → Type 0
 Waits stage (Some e) (Some after) = e.ready ≡ false → after.ready ≡ true →
     ((s : Spot) → Tells e.seen s → s 1 ≢ 2) ⊎ IsRetired stage e
 Waits stage _ _ = Unit {0}
 
--- A line that is let go is known to be EMPTY.
-abbrev pub KeepsOrEmpties : Option HeldLine → Option HeldLine → Type 0
-KeepsOrEmpties line after = (after ≡ line) ⊎ ((after ≡ None) × IfSome line (λ e. (s : Spot) → Tells e.seen s → s 0 ≡ 0))
+-- The line is known to be EMPTY.
+abbrev pub IsKnownEmpty : HeldLine → Type 0
+IsKnownEmpty e = (s : Spot) → Tells e.seen s → s 0 ≡ 0
+
+-- The line is left to a turn: it was made READY, and the party gives back the node that it merged, if it did.
+pub record IsLeftToTurn (next : Stage) (e : HeldLine) : Type 0 where
+  pub leaves : leaves_lines ≡ true
+  pub ready : e.ready ≡ true
+  pub given_back : (right : Grip) → HoldsMerged next right → ⊥
+
+-- With a step that leads to this stage a party keeps its line, or lets go of one that is known to be EMPTY or that is
+-- left to a turn.
+abbrev pub KeepsOrLetsGo : Stage → Option HeldLine → Option HeldLine → Type 0
+KeepsOrLetsGo next line after =
+    (after ≡ line) ⊎ ((after ≡ None) × IfSome line (λ e. IsKnownEmpty e ⊎ IsLeftToTurn next e))
 
 -- A step of a party of this caller, by an action that gives a number, with the answer if the call is done.
 pub data FootStep (l : Layout) (g c : ℕ) : Footing → Action → ℕ → Footing → Option (Once Placed) → Type 0 where
   on_nodes : {stage next : Stage} {line after : Option HeldLine} {debt debt' : Debt} {action : Action} {x : ℕ}
       {answer : Option (Once Placed)} →
-      Minds stage next line → KeepsOrEmpties line after → Step l g stage action x next answer →
+      Minds stage next line → KeepsOrLetsGo next line after → Step l g stage action x next answer →
       Deals stage next debt debt' →
       FootStep l g c (record { stage = stage; line = line; debt = debt }) action x (record {
         stage = next;

@@ -7,3 +7,4 @@ pub mod Orders
 pub mod Footings
 pub mod Views
 pub mod Watches
+pub mod Leaving

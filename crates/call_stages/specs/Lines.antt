@@ -9,6 +9,7 @@ use Rattle.data_node.specs.Spots.{Spot, updated}
 use Rattle.data_node.specs.Lines as lines
 use Rattle.call_stages.specs.Stages.{IsAmong, Tells}
 use Rattle.call_stages.specs.Kinds.{Soils, Cleans}
+use Rattle.call_stages.specs.Leaving.{leaves_lines}
 
 -- A line of the caller: words of it by offset, those that may differ from their durable twins, and the word in hand.
 -- Once the line is READY its state isn't the party's any more: a turn may empty it at any time.
@@ -38,25 +39,26 @@ TellsDurably dirty seen s = AllByRecursion (λ (w : ℕ × ℕ). IsAmong dirty w
 abbrev pub IsBlind : List (ℕ × ℕ) → Type 0
 IsBlind seen = (s : Spot) (state : ℕ) → Tells seen s → Tells seen (updated s 0 state)
 
--- What a store into a line of the party is for: from what is known of the line, with what is known then, and whether the
--- line is READY then.
+-- What a store into a line of the party is for: from what is known of the line, with what is known then, and whether
+-- the line is READY then.
 pub data Marks (e : HeldLine) : ℕ → ℕ → List (ℕ × ℕ) → Bool → Type 0 where
   -- a field, while the line is EMPTY
-  fills : {y offset : ℕ} {seen : List (ℕ × ℕ)} → offset ≢ 0 → e.ready ≡ false → ((s : Spot) → Tells e.seen s → s 0 ≡ 0) →
-      Marks e offset y seen false
+  fills : {y offset : ℕ} {seen : List (ℕ × ℕ)} → offset ≢ 0 → e.ready ≡ false →
+      ((s : Spot) → Tells e.seen s → s 0 ≡ 0) → Marks e offset y seen false
   -- its state: OPEN, of an EMPTY line;
   opens : {seen : List (ℕ × ℕ)} → e.ready ≡ false → ((s : Spot) → Tells e.seen s → s 0 ≡ 0) → Marks e 0 1 seen false
   -- READY, of an OPEN line, all of which is durable;
   readies : {seen : List (ℕ × ℕ)} → e.ready ≡ false → e.dirty ≡ [] →
       ((s : Spot) → Tells e.seen s → s 0 ≡ 1) → IsBlind seen → Marks e 0 2 seen true
-  -- EMPTY
-  empties : {seen : List (ℕ × ℕ)} → Marks e 0 0 seen false
+  -- EMPTY, where no turn does that
+  empties : {seen : List (ℕ × ℕ)} → leaves_lines ≡ false → Marks e 0 0 seen false
 
--- The steps on a line: a word of a line is loaded that nothing is relied on of; an EMPTY line is taken, its words are loaded,
--- stored so that it stays in order whichever of them are durable, and made durable. What is no longer relied on is let
--- go at any step on nodes.
+-- The steps on a line: a word of a line is loaded that nothing is relied on of; an EMPTY line is taken, its words are
+-- loaded, stored so that it stays in order whichever of them are durable, and made durable. What is no longer relied on
+-- is let go at any step on nodes.
 pub data Notes (l : Layout) : Option HeldLine → Action → ℕ → Option HeldLine → Type 0 where
-  passes_line : {c j offset x : ℕ} → c < l.callers → j < 8 → offset < 8 → Notes l None (Load (line_address l c j offset)) x None
+  passes_line : {c j offset x : ℕ} → c < l.callers → j < 8 → offset < 8 →
+      Notes l None (Load (line_address l c j offset)) x None
   takes : {c j x : ℕ} → c < l.callers → j < 8 → x ≡ 0 →
       Notes l None (Load (line_address l c j 0)) x (Some (record {
         caller = c;

@@ -31,7 +31,7 @@ use Rattle.index_core.specs.Crashes.{IsCrash, AreRunning, evicted_index, unplace
 use Rattle.index_core.specs.PartyStates.{machine_stage, party_of}
 use Rattle.index_core.specs.Weights.{crash_weight}
 use Rattle.index_core.specs.Indexes.{Index, IsIndex, IsOwnWrite, footed, world}
-use Rattle.index_core.proofs.Footed.{evict_footed}
+use Rattle.index_law.proofs.Footed.{evict_footed}
 use Rattle.index_core.proofs.Layering.{evict_layered}
 use Rattle.index_core.proofs.Lists.{map_there, map_from}
 use Rattle.index_core.proofs.PartFacts.{running_listed}

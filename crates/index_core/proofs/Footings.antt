@@ -35,7 +35,8 @@ use Rattle.index_core.specs.declared.party.PartyState.{PartyState}
 use Rattle.index_core.specs.PartyStates.{machine_stage, machine_footing, party_of, state_after}
 use Rattle.index_core.specs.Indexes.{Index, world, footed, told, stepped_index}
 use Rattle.index_core.proofs.Lists.{map_from, map_there, map_set, set_twice}
-use Rattle.index_core.proofs.Footed.{IsFooted, AreAlike, AreFree, alike_footed}
+use Rattle.index_law.specs.Footed.{IsFooted, AreAlike, AreFree}
+use Rattle.index_law.proofs.Footed.{alike_here, alike_footed}
 
 abbrev pub line_of : PartyState → Option HeldLine
 line_of state = (machine_footing state.machine).line
@@ -46,22 +47,6 @@ debt_of state = (machine_footing state.machine).debt
 footing_is : (machine : Option Running) → (machine_footing machine).stage ≡ machine_stage machine
 footing_is None = refl
 footing_is (Some machine) = footing_stage machine
-
--- parties of which one is another of the same caller and stage
-alike_here : (parties : List Party) (i : ℕ) (p q : Party) → get_elem? parties i ≡ some p → q.caller ≡ p.caller → q.stage ≡ p.stage → AreAlike parties (set parties i q)
-alike_here parties i p q there caller stage = record {
-  forth = λ j r at. ⊎_elim
-      (λ (same : j ≡ i).
-      let own : p ≡ r = some-injective _ _ (sym there ∙ ap (get_elem? parties) (sym same) ∙ at) in
-      (q, ap (get_elem? (set parties i q)) same ∙ set_here parties i q p there, caller ∙ ap (λ (d : Party). d.caller) own, stage ∙ ap (λ (d : Party). d.stage) own))
-      (λ (other : j ≢ i). (r, set_else parties i j q other ∙ at, refl, refl))
-      (cases_eq j i);
-  back = λ j r at. ⊎_elim
-      (λ (mine : (j ≡ i) × (q ≡ r)).
-      (p, ap (get_elem? parties) mine.0 ∙ there, ap (λ (d : Party). d.caller) (sym mine.1) ∙ caller, ap (λ (d : Party). d.stage) (sym mine.1) ∙ stage))
-      (λ (other : (j ≢ i) × (get_elem? parties j ≡ some r)). (r, other.1, refl, refl))
-      (at_set parties i j q r at);
-}
 
 map_own : {A B : Type 0} (f : A → B) (l : List A) (i : ℕ) (a b : A) → get_elem? l i ≡ some a → f b ≡ f a → map f (set l i b) ≡ map f l
 map_own f l i a b there same = map_set f l i b ∙ ap (set (map f l) i) same ∙ set_own (map f l) i (f a) (map_there f l i a there)

@@ -22,7 +22,7 @@ use Rattle.index_core.specs.declared.party.PartyState.{PartyState}
 use Rattle.index_core.specs.Fresh.{IsFreshIndex}
 use Rattle.index_core.specs.Indexes.{Index, IsIndex, RunningEnds, parties_of, world}
 use Rattle.index_core.specs.Lone.{IsQuiet, locks_left}
-use Rattle.index_core.proofs.Footed.{fresh_footed}
+use Rattle.index_law.proofs.Footed.{fresh_footed}
 use Rattle.index_core.proofs.Layering.{fresh_layered}
 use Rattle.index_core.proofs.Footings.{line_of, debt_of, free_states}
 use Rattle.index_core.proofs.Lists.{map_from, idle-length, idle-each}

@@ -2,7 +2,6 @@ pub mod Lists
 pub mod Owing
 pub mod Ordering
 pub mod Bounds
-pub mod Footed
 pub mod Footings
 pub mod PartFacts
 pub mod Ranges

@@ -45,7 +45,7 @@ use Rattle.index_core.specs.MachineLaws.{IdleWeigh, shows, put_shows, showing, s
 use Rattle.index_core.proofs.Shown.{new_if, told_new, step_shows, adds_shows}
 use Rattle.index_core.proofs.Answering.{says_of}
 use Rattle.index_core.proofs.Lists.{map_from, map_there, map_set, set_twice}
-use Rattle.index_core.proofs.Footed.{rest_footed}
+use Rattle.index_law.proofs.Footed.{rest_footed}
 use Rattle.index_core.proofs.Footings.{line_of, debt_of, free_states, may_do_names, swap_footed}
 use Rattle.index_core.proofs.Stepping.{may_do, step_facts, start_keeps, machine_idle, ends_but}
 use Rattle.node_ops.specs.Endings.{GoesOn}

@@ -1,16 +1,17 @@
 -- An index with no call in flight.
-use Rattle.std.proofs.Common.{◌≡◌, ℕ, ⊎_elim, sym, ap, ◌∙◌, subst}
+use Rattle.std.proofs.Common.{◌≡◌, ℕ, true, false, ⊎_elim, sym, ap, ◌∙◌, subst}
 use Rattle.std.specs.Prelude.{Option, Some, None}
 use mathlib.Core.Option.{some}
 use lib.ListN.{get_elem?}
 use Rattle.call_stages.specs.Lines.{HeldLine}
+use Rattle.call_stages.proofs.EmptiedLines.{lines_are_emptied}
 use Rattle.call_stages.specs.Stages.{Idle}
 use Rattle.node_ops.specs.declared.running.Running.{Running}
 use Rattle.index_law.specs.Worlds.{Party}
 use Rattle.index_law.specs.Lawful.{Each}
 use Rattle.index_law.specs.Laws.{IsAtRest}
 use Rattle.index_law.specs.Lines.{line_in}
-use Rattle.index_law.specs.Footings.{IsInHand}
+use Rattle.index_law.specs.Footings.{NeedsNoParty, IsInHand}
 use Rattle.index_law.proofs.Starts.{idle_law}
 use Rattle.lone_law.specs.Splitting.{AreEmpty}
 use Rattle.index_core.specs.declared.party.PartyState.{PartyState}
@@ -25,7 +26,7 @@ quiet_parties s quiet i p at =
     let from = map_from party_of s.states i p at in
     subst (λ (q : Party). q.stage ≡ Idle) from.2 (ap machine_stage (quiet.calls i from.0 from.1))
 
--- and no log line is in a hand, so each is EMPTY
+-- and no log line is in a hand, so each is EMPTY, since splits and merges empty theirs
 quiet_lines : (s : Index) → IsQuiet s → (i : ℕ) (e : Option HeldLine) → get_elem? (footed s).lines i ≡ some e → e ≡ None
 quiet_lines s quiet i e at =
     let from = map_from (λ (state : PartyState). (machine_footing state.machine).line) s.states i e at in
@@ -33,7 +34,7 @@ quiet_lines s quiet i e at =
 
 pub quiet_empty : (s : Index) → IsIndex s → IsQuiet s → AreEmpty s.layout s.words
 quiet_empty s is quiet c j caller number = ⊎_elim
-    (λ (empty : line_in s.layout s.words c j 0 ≡ 0). empty)
+    (λ (none : NeedsNoParty (line_in s.layout s.words c j 0)). ⊎_elim (λ empty. empty) (λ left. absurd (let no : true ≡ false = sym left.0 ∙ lines_are_emptied in cc)) none)
     (λ (hand : IsInHand (footed s) c j). absurd (let none = quiet_lines s quiet hand.number (Some hand.line) hand.there in cc))
     (is.tended c j caller number)
 

@@ -27,7 +27,8 @@ use Rattle.index_core.specs.declared.party.PartyState.{PartyState}
 use Rattle.index_core.specs.Indexes.{Index, IsIndex, RunningEnds, footed, map_of_index, parties_of, world}
 use Rattle.index_core.specs.Lone.{IsQuiet}
 use Rattle.index_core.specs.Rounds.{BeginsRound, RoundBegins, round_index}
-use Rattle.index_core.proofs.Footed.{IsFooted, round_footed}
+use Rattle.index_law.specs.Footed.{IsFooted}
+use Rattle.index_law.proofs.Footed.{round_footed}
 use Rattle.index_core.proofs.Footings.{line_of, debt_of, free_states}
 use Rattle.index_core.proofs.Layering.{rest_layered}
 use Rattle.index_core.proofs.Lists.{map_from, idle-length, idle-each}

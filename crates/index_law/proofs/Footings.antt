@@ -9,20 +9,19 @@ use Rattle.pm_words.specs.declared.layout.Layout.{Layout}
 use Rattle.pm_words.specs.declared.action.Action.{Action}
 use Rattle.pm_words.specs.Locations.{Location, Line, Cached, Durable, at}
 use Rattle.pm_words.proofs.Apart.{at-set_other}
-use Rattle.data_node.specs.Spots.{Spot}
 use Rattle.pm_words.specs.Rows.{acted}
 use Rattle.pm_words.proofs.Kept.{action_address-drain}
-use Rattle.call_stages.specs.Stages.{Stage, Tells, counted}
+use Rattle.call_stages.specs.Stages.{Stage, counted}
 use Rattle.call_stages.specs.Kinds.{Step}
 use Rattle.call_stages.specs.Lines.{HeldLine, line_address, Notes, passes_line, takes, looks_up, notes, keeps_safe}
 use Rattle.call_stages.specs.AnySteps.{IsBeside, on_nodes, beside}
 use Rattle.index_law.specs.Worlds.{Party, World, facts, stepped}
 use Rattle.index_law.specs.Laws.{Allowed}
-use Rattle.index_law.specs.Lines.{line_in}
+use Rattle.index_law.specs.Lines.{line_in, SureLine}
 use Rattle.call_stages.specs.Prevs.{Debt, Deals, Prevs}
 use Rattle.index_law.specs.Whole.{Whole, IsWhole}
-use Rattle.index_law.specs.Footings.{FootStepIsAny, IsInHand, AreTended, stepped_whole, FootStepKeeps}
-use Rattle.call_stages.specs.Footings.{Footing, KeepsOrEmpties, FootStep}
+use Rattle.index_law.specs.Footings.{FootStepIsAny, IsInHand, NeedsNoParty, AreTended, stepped_whole, FootStepKeeps}
+use Rattle.call_stages.specs.Footings.{Footing, IsKnownEmpty, IsLeftToTurn, KeepsOrLetsGo, FootStep}
 use Rattle.call_stages.specs.Footings as foot
 use Rattle.index_law.proofs.AnySteps.{set_own, beside_keeps}
 use Rattle.index_law.proofs.Noting.{line-alike, nodes_leave_lines}
@@ -79,6 +78,11 @@ cases_both c j e = ⊎_elim
     (λ other. inr (inl other))
     (cases_eq c e.caller)
 
+-- a line that is let go needs no party
+let_go : (l : Layout) (words : List ℕ) (next : Stage) (e : HeldLine) → SureLine l words e → IsKnownEmpty e ⊎ IsLeftToTurn next e → NeedsNoParty (line_in l words e.caller e.number 0)
+let_go l words next e sure (inl empty) = inl (empty (line_in l words e.caller e.number) sure.seen)
+let_go l words next e sure (inr left) = ⊎_elim (λ emptied. inl emptied) (λ ready. inr (left.leaves, ready)) (sure.waits left.ready).state
+
 module _ (z : Whole) (i : ℕ) (p : Party) (whole : IsWhole z) (tended : AreTended z) (there : get_elem? z.world.parties i ≡ some p) where
   abbrev l : Layout
   l = z.world.layout
@@ -96,28 +100,25 @@ module _ (z : Whole) (i : ℕ) (p : Party) (whole : IsWhole z) (tended : AreTend
       (cases_eq hand.number i)
 
   -- a step that leaves all lines
-  tended_same : (line after : Option HeldLine) (w : World) (debts : List Debt) → w.layout ≡ l → get_elem? z.lines i ≡ some line → KeepsOrEmpties line after
+  tended_same : (next : Stage) (line after : Option HeldLine) (w : World) (debts : List Debt) → w.layout ≡ l → get_elem? z.lines i ≡ some line → KeepsOrLetsGo next line after
       → ((c j : ℕ) → line_in l w.words c j 0 ≡ line_in l z.world.words c j 0)
       → AreTended (record { world = w; lines = slice_set z.lines i after; debts = debts })
-  tended_same line after w debts same at kept stays c j here low = elim kept [
-    | inl keeps ↦ go (λ hand. inr (still line after w debts at c j (λ e is caller number. (e, keeps ∙ is, caller, number)) hand))
-    | inr empties ↦ go (λ hand. ⊎_elim
-        (λ (own : hand.number ≡ i).
-        let is : line ≡ Some hand.line = some-injective _ _ (sym at ∙ ap (get_elem? z.lines) (sym own) ∙ hand.there) in
-        let empty : (s : Spot) → Tells hand.line.seen s → s 0 ≡ 0 = subst (λ (o : Option HeldLine). IfSome o (λ e. (s : Spot) → Tells e.seen s → s 0 ≡ 0)) is empties.1 in
-        let sure = whole.joint.sure hand.number hand.line hand.there in
-        let zero_there : line_in l z.world.words hand.line.caller hand.line.number 0 ≡ 0 = empty (line_in l z.world.words hand.line.caller hand.line.number) sure.seen in
-        inl (word c j ∙ (λ k. line_in l z.world.words (sym hand.caller k) (sym hand.index k) 0) ∙ zero_there))
-        (λ (other : hand.number ≢ i). inr (record { number = hand.number; line = hand.line; there = set_else z.lines i hand.number after other ∙ hand.there; caller = hand.caller; index = hand.index }))
-        (cases_eq hand.number i))
-  ]
+  tended_same next line after w debts same at kept stays c j here low =
+      ⊎_elim (λ none. inl (stands none)) (of kept) (tended c j (subst (λ (k : Layout). c < k.callers) same here) low)
     where
-      word : (c j : ℕ) → line_in w.layout w.words c j 0 ≡ line_in l z.world.words c j 0
-      word c j = ap (λ (k : Layout). line_in k w.words c j 0) same ∙ stays c j
+      stands : NeedsNoParty (line_in l z.world.words c j 0) → NeedsNoParty (line_in w.layout w.words c j 0)
+      stands = subst NeedsNoParty (sym (ap (λ (k : Layout). line_in k w.words c j 0) same ∙ stays c j))
 
-      go : (IsInHand z c j → (line_in w.layout w.words c j 0 ≡ 0) ⊎ IsInHand (record { world = w; lines = slice_set z.lines i after; debts = debts }) c j)
-          → (line_in w.layout w.words c j 0 ≡ 0) ⊎ IsInHand (record { world = w; lines = slice_set z.lines i after; debts = debts }) c j
-      go from = ⊎_elim (λ empty. inl (word c j ∙ empty)) from (tended c j (subst (λ (k : Layout). c < k.callers) same here) low)
+      of : KeepsOrLetsGo next line after → IsInHand z c j → NeedsNoParty (line_in w.layout w.words c j 0) ⊎ IsInHand (record { world = w; lines = slice_set z.lines i after; debts = debts }) c j
+      of (inl keeps) hand = inr (still line after w debts at c j (λ e is caller number. (e, keeps ∙ is, caller, number)) hand)
+      of (inr lets) hand = ⊎_elim
+          (λ (own : hand.number ≡ i).
+          let is : line ≡ Some hand.line = some-injective _ _ (sym at ∙ ap (get_elem? z.lines) (sym own) ∙ hand.there) in
+          let left = subst (λ (o : Option HeldLine). IfSome o (λ e. IsKnownEmpty e ⊎ IsLeftToTurn next e)) is lets.1 in
+          let none = let_go l z.world.words next hand.line (whole.joint.sure hand.number hand.line hand.there) left in
+          inl (stands (subst (λ (n : ℕ × ℕ). NeedsNoParty (line_in l z.world.words n.0 n.1 0)) (λ k. (hand.caller k, hand.index k)) none)))
+          (λ (other : hand.number ≢ i). inr (record { number = hand.number; line = hand.line; there = set_else z.lines i hand.number after other ∙ hand.there; caller = hand.caller; index = hand.index }))
+          (cases_eq hand.number i)
 
 -- where a step beside nodes leaves the world but for words
 beside_parties : (z : Whole) (i : ℕ) (p : Party) (a : Action) → IsWhole z → get_elem? z.world.parties i ≡ some p → counted p.stage ≡ None → IsBeside z.world.layout a
@@ -129,11 +130,11 @@ foot_keeps z i p f t a x r whole tended there at owing stage (foot.on_nodes {sta
     let w = z.world in
     let k' = subst (λ (u : Stage). Step w.layout w.generation u a x next r) (sym stage) k in
     let deals' = subst (λ (u : Stage). Deals u next d d') (sym stage) deals in
-    let kept' : (after ≡ line) ⊎ (after ≡ None) = ⊎_elim (λ keeps. inl keeps) (λ empties. inr empties.0) kept in
+    let kept' : (after ≡ line) ⊎ (after ≡ None) = ⊎_elim (λ keeps. inl keeps) (λ lets. inr lets.0) kept in
     let sure = whole.joint.lawful.sure i p there in
     let allowed : Allowed w.layout p.stage a = allow_law w.layout w.generation p.stage a x next r (sure_within w.layout w.generation (facts w) p.caller p.index p.since p.stage sure) k' in (
       whole_node z i p a x next r line after d d' whole there at owing kept' k' told room deals',
-      tended_same z i p whole tended there line after (stepped w i p a next) (slice_set z.debts i d') refl at kept (λ c j. (nodes_leave_lines w.layout w.words p.stage a c j 0 allowed).0),
+      tended_same z i p whole tended there next line after (stepped w i p a next) (slice_set z.debts i d') refl at kept (λ c j. (nodes_leave_lines w.layout w.words p.stage a c j 0 allowed).0),
     )
 foot_keeps z i p f t a x r whole tended there at owing stage (foot.on_line {stage = s} {line = line} {after = after} {debt = d} waits none is k own) told room =
     let w = z.world in
@@ -149,7 +150,7 @@ foot_keeps z i p f t a x r whole tended there at owing stage (foot.on_line {stag
     on_line : (line : Option HeldLine) → get_elem? z.lines i ≡ some line → Notes z.world.layout line a x after
         → AreTended (record { world = record (z.world) { words = acted z.world.layout z.world.words a }; lines = slice_set z.lines i after; debts = z.debts })
     on_line None at k c j here low = ⊎_elim
-        (λ empty. inl (other_stays z.world.layout z.world.words None a x after tt k c j 0 tt ∙ empty))
+        (λ none. inl (subst NeedsNoParty (sym (other_stays z.world.layout z.world.words None a x after tt k c j 0 tt)) none))
         (λ hand. inr (still z i p whole tended there None after (record (z.world) { words = acted z.world.layout z.world.words a }) z.debts at c j (λ e is. absurd (cc)) hand))
         (tended c j here low)
     on_line (Some e) at k c j here low =
@@ -158,7 +159,7 @@ foot_keeps z i p f t a x r whole tended there at owing stage (foot.on_line {stag
         ⊎_elim
         (λ (own : (c ≡ e.caller) × (j ≡ e.number)). inr (record { number = i; line = kept.0; there = set_here z.lines i after (Some e) at ∙ ap some kept.1; caller = kept.2 ∙ sym own.0; index = kept.3 ∙ sym own.1 }))
         (λ (other : (c ≢ e.caller) ⊎ (j ≢ e.number)). ⊎_elim
-        (λ empty. inl (other_stays z.world.layout z.world.words (Some e) a x after sure.here k c j 0 other ∙ empty))
+        (λ none. inl (subst NeedsNoParty (sym (other_stays z.world.layout z.world.words (Some e) a x after sure.here k c j 0 other)) none))
         (λ hand. inr (still z i p whole tended there (Some e) after (record (z.world) { words = acted z.world.layout z.world.words a }) z.debts at c j
         (λ d is caller number. (kept.0, kept.1, kept.2 ∙ ap (λ (o : Option HeldLine). caller_at o) is ∙ caller, kept.3 ∙ ap (λ (o : Option HeldLine). number_at o) is ∙ number)) hand))
         (tended c j here low))
@@ -173,5 +174,5 @@ foot_keeps z i p f t a x r whole tended there at owing stage (foot.on_prev {stag
     λ n. record { world = sym world n; lines = sym lines n; debts = slice_set z.debts i d' } in
     let stays = prev_leaves (record { world = w; debts = z.debts }) i p p.stage a d d' whole.traced there owing (whole.traced.lawful.sure i p there) k' in (
       subst IsWhole same (whole_prev z i p a d d' whole there owing k'),
-      tended_same z i p whole tended there line line (stepped w i p a s) (slice_set z.debts i d') refl at (inl refl) (λ c j. (stays c j 0).0),
+      tended_same z i p whole tended there s line line (stepped w i p a s) (slice_set z.debts i d') refl at (inl refl) (λ c j. (stays c j 0).0),
     )

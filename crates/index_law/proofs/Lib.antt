@@ -50,3 +50,4 @@ pub mod Images
 pub mod Claims
 pub mod AnySteps
 pub mod Footings
+pub mod Footed

@@ -297,14 +297,14 @@ marks_given : (e : HeldLine) (offset y : ℕ) (seen : List (ℕ × ℕ)) (ready 
 marks_given e offset y seen ready (fills other unready empty_state) o given = absurd (let no : true ≡ false = sym given.ready ∙ unready in cc)
 marks_given e offset y seen ready (opens unready empty_state) o given = absurd (let no : true ≡ false = sym given.ready ∙ unready in cc)
 marks_given e offset y seen ready (readies unready durable open_state blind) o given = absurd (let no : true ≡ false = sym given.ready ∙ unready in cc)
-marks_given e offset y seen ready empties o given = given.state
+marks_given e offset y seen ready (empties today) o given = given.state
 
 -- a mark is of a line that isn't READY, or empties the line
 marks_cases : {P : Type 0} (e : HeldLine) (offset y : ℕ) (seen : List (ℕ × ℕ)) (ready : Bool) → Marks e offset y seen ready → (e.ready ≡ false → P) → (offset ≡ 0 → y ≡ 0 → P) → P
 marks_cases e offset y seen ready (fills other unready empty_state) own emptied = own unready
 marks_cases e offset y seen ready (opens unready empty_state) own emptied = own unready
 marks_cases e offset y seen ready (readies unready durable open_state blind) own emptied = own unready
-marks_cases e offset y seen ready empties own emptied = emptied refl refl
+marks_cases e offset y seen ready (empties today) own emptied = emptied refl refl
 
 -- one that wasn't made READY isn't
 marked_unready : (e : HeldLine) (offset y : ℕ) (seen : List (ℕ × ℕ)) (ready : Bool) → Marks e offset y seen ready → (now : Spot) → Tells e.seen now → ready ≡ false → updated now offset y 0 ≢ 2
@@ -312,7 +312,7 @@ marked_unready e offset y seen ready (fills other unready empty_state) now told 
     let same = updated-other now offset y 0 (λ zero. other (sym zero)) in let none : now 0 ≡ 0 = empty_state now told in omega arith
 marked_unready e offset y seen ready (opens unready empty_state) now told is two = let one = updated-same now 0 1 in omega arith
 marked_unready e offset y seen ready (readies unready durable open_state blind) now told is two = absurd (let no : true ≡ false = is in cc)
-marked_unready e offset y seen ready empties now told is two = let none = updated-same now 0 0 in omega arith
+marked_unready e offset y seen ready (empties today) now told is two = let none = updated-same now 0 0 in omega arith
 
 -- a line that was made READY waits
 marked_waits : (l : Layout) (e : HeldLine) (offset y : ℕ) (seen : List (ℕ × ℕ)) (ready : Bool) → Marks e offset y seen ready → (now safe now' safe' : Spot) → Tells e.seen now
@@ -320,7 +320,7 @@ marked_waits : (l : Layout) (e : HeldLine) (offset y : ℕ) (seen : List (ℕ ×
     → IsWaiting l seen now' safe'
 marked_waits l e offset y seen ready (fills other unready empty_state) now safe now' safe' told clean fit stored stays is = absurd (cc)
 marked_waits l e offset y seen ready (opens unready empty_state) now safe now' safe' told clean fit stored stays is = absurd (cc)
-marked_waits l e offset y seen ready empties now safe now' safe' told clean fit stored stays is = absurd (cc)
+marked_waits l e offset y seen ready (empties today) now safe now' safe' told clean fit stored stays is = absurd (cc)
 marked_waits l e offset y seen ready (readies unready durable open_state blind) now safe now' safe' told clean fit stored stays is =
     let beside : (o : ℕ) → o ≢ 0 → now' o ≡ now o = λ o other. stored o ∙ updated-other now 0 2 o other in
     let entry : IsEntry l now = ⊎_elim (λ none. absurd (let opened : now 0 ≡ 1 = open_state now told in omega arith)) (λ entry. entry) fit in

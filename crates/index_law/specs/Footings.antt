@@ -1,5 +1,5 @@
 -- What the steps of a party, on nodes, on its log line and on prevs, keep of all parties' lines and debts.
-use Rattle.std.specs.Prelude.{◌≡◌, ℕ, ◌<◌, ◌^◌, ◌⊎◌, length, slice_set, Option, Some}
+use Rattle.std.specs.Prelude.{◌≡◌, ℕ, ◌<◌, ◌^◌, ◌⊎◌, true, length, slice_set, Option, Some}
 use mathlib.Core.Option.{some}
 use lib.ListN.{get_elem?}
 use Rattle.pm_words.specs.declared.layout.Layout.{Layout}
@@ -7,6 +7,7 @@ use Rattle.pm_words.specs.declared.action.Action.{Action}
 use Rattle.pm_words.specs.Rows.{got}
 use Rattle.call_stages.specs.declared.once.Once.{Once}
 use Rattle.call_stages.specs.declared.once.Placed.{Placed}
+use Rattle.call_stages.specs.Leaving.{leaves_lines}
 use Rattle.call_stages.specs.Lines.{HeldLine}
 use Rattle.call_stages.specs.AnySteps.{AnyStep}
 use Rattle.call_stages.specs.Footings.{Footing, FootStep}
@@ -27,10 +28,14 @@ pub record IsInHand (z : Whole) (c j : ℕ) : Type 0 where
   pub caller : line.caller ≡ c
   pub index : line.number ≡ j
 
--- Each log line is EMPTY or in some party's hand.
+-- A log line of this state needs no party: it is EMPTY, or, where lines are left to turns, READY.
+abbrev pub NeedsNoParty : ℕ → Type 0
+NeedsNoParty state = (state ≡ 0) ⊎ ((leaves_lines ≡ true) × (state ≡ 2))
+
+-- Each log line needs no party, or is in some party's hand.
 abbrev pub AreTended : Whole → Type 0
 AreTended z = (c j : ℕ) → c < z.world.layout.callers → j < 8 →
-    (line_in z.world.layout z.world.words c j 0 ≡ 0) ⊎ IsInHand z c j
+    NeedsNoParty (line_in z.world.layout z.world.words c j 0) ⊎ IsInHand z c j
 
 -- What its parties have once one of them, which stands at i, made a step.
 abbrev pub stepped_whole : Whole → ℕ → Party → Action → Footing → Whole

@@ -17,3 +17,4 @@ pub mod Images
 pub mod Claims
 pub mod AnySteps
 pub mod Footings
+pub mod Footed

@@ -230,8 +230,24 @@ pub fn held_range_law()
 ghost use Rattle.index_law.specs.Footings.{FootStepIsAny, FootStepKeeps};
 
 /// A step of a party that has a log line, or knows or owes prevs, is one of all steps; and with the index it keeps what
-/// all parties have of lines and prevs, and that each log line is EMPTY or in some party's hand.
+/// all parties have of lines and prevs, and that each log line is in some party's hand or needs none.
 pub fn foot_law()
     ensures any { FootStepIsAny }
     ensures keeps { FootStepKeeps }
+{}
+
+ghost use Rattle.index_law.specs.Footed.{EvictIsFooted, StartIsFooted, AlikeIsFooted, RestIsFooted, RoundIsFooted};
+ghost use Rattle.index_law.specs.Footed.{StampIsFooted, FreshIsFooted};
+
+/// That is kept by a word that becomes durable, by a call that begins, by parties with the same, by other idle parties
+/// where no call is in flight, by a next round, and by another stamp of a node; and it holds of the row of a fresh
+/// image.
+pub fn footed_law()
+    ensures evict { EvictIsFooted }
+    ensures start { StartIsFooted }
+    ensures alike { AlikeIsFooted }
+    ensures rest { RestIsFooted }
+    ensures round { RoundIsFooted }
+    ensures stamp { StampIsFooted }
+    ensures fresh { FreshIsFooted }
 {}

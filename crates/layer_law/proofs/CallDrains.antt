@@ -17,7 +17,7 @@ use Rattle.turn_law.specs.OtherSteps as others
 use Rattle.turn_law.proofs.Columns.{here}
 use Rattle.turn_row.specs.Columns.{line_field, line_count, line_word, lines_in, volatile_field}
 use Rattle.turn_row.proofs.RowColumns.{column-alike, column-same, column-set, column_fits}
-use Rattle.layer_law.proofs.FactTies.{rest_in, known}
+use Rattle.layer_law.proofs.FactTies.{rest_in, known, lines_same}
 use Rattle.layer_law.proofs.CallMoves.{Moved, now_known}
 use Rattle.layer_law.proofs.CallNotes.{caller_in, number_in, offset_in, number, number_within, same_number, own_place}
 
@@ -59,15 +59,9 @@ module _ (l : Layout) (words : List ℕ) (row : IsRow l words) (e : HeldLine) (s
 
   pub drained_path : rest_in l drained ≡ record (rest_in l words) { safe_line = lines_in l drained Durable }
   drained_path =
-      let l0 = line_same 0 (omega arith) in
-      let l1 = line_same 1 (omega arith) in
-      let l2 = line_same 2 (omega arith) in
-      let l3 = line_same 3 (omega arith) in
-      let l4 = line_same 4 (omega arith) in
-      let l5 = line_same 5 (omega arith) in
       λ k. record {
         stamp = stamp_same k;
-        line = record { state = l0 k; kind = l1 k; node = l2 k; anchor = λ j. key_of (l3 k j) (l4 k j) (l5 k j) };
+        line = lines_same l words drained Cached line_same k;
         safe_line = lines_in l drained Durable;
         leaves = cached_leaves_stay k;
         safe_leaves = safe_leaves_stay k;

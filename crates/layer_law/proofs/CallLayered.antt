@@ -1,5 +1,5 @@
 -- A step of a call on nodes keeps the index with its search layer.
-use Rattle.std.proofs.Common.{◌≡◌, ◌≢◌, ℕ, ◌<◌, inl, inr, ⊎_elim, true, false, List, slice_set, Option, Some, None, sym, ap, ◌∙◌, subst, arith}
+use Rattle.std.proofs.Common.{◌≡◌, ◌≢◌, ℕ, ◌<◌, ◌⊎◌, inl, inr, ⊎_elim, true, false, List, slice_set, Option, Some, None, sym, ap, ◌∙◌, subst, arith}
 use Rattle.std.specs.Prelude.{IfSome}
 use mathlib.Core.Option.{some, some-injective}
 use lib.ListN.{get_elem?}
@@ -11,10 +11,11 @@ use Rattle.data_node.specs.Spots.{Spot, updated}
 use Rattle.data_node.proofs.SpotLemmas.{updated-same}
 use Rattle.call_stages.specs.declared.once.Once.{Once}
 use Rattle.call_stages.specs.declared.once.Placed.{Placed}
-use Rattle.call_stages.specs.Stages.{Stage, Held, Grip, Gone, Joins, Holds, HoldsNode, Tells}
+use Rattle.call_stages.specs.Stages.{Stage, Held, Grip, Gone, Joins, HoldsNode, Tells}
 use Rattle.call_stages.specs.Kinds.{Step}
+use Rattle.call_stages.specs.Leaving.{leaves_lines}
 use Rattle.call_stages.specs.Lines.{HeldLine}
-use Rattle.call_stages.specs.Footings.{Minds, KeepsOrEmpties, HasLine, IsOfMerge}
+use Rattle.call_stages.specs.Footings.{Minds, IsKnownEmpty, IsLeftToTurn, KeepsOrLetsGo, HasLine, IsOfMerge}
 use Rattle.call_stages.specs.Prevs.{Debt}
 use Rattle.index_law.specs.Facts.{Facts}
 use Rattle.index_law.specs.Worlds.{Party, World, facts, stepped, moved_on}
@@ -39,18 +40,19 @@ use Rattle.turn_row.specs.Turnings.{Turning}
 use Rattle.layer_law.specs.Turnings.{terms_of, ghosts_of, line_number, SureWatch, IsShown}
 use Rattle.layer_law.specs.Layers.{Layered, SaysMerge, IsRetiring, turn_facts, IsLayered}
 use Rattle.layer_law.proofs.FactTies.{Rest, known, rest_in, facts_tie, node_rest}
+use Rattle.layer_law.proofs.Retired.{retiring_lines}
 use Rattle.layer_law.proofs.CallMoves.{Moved, now_known}
 use Rattle.layer_law.proofs.CallLines.{line_tie}
 use Rattle.layer_law.proofs.CallSteps.{holder_after, Context, GivesReady, moved}
 use Rattle.layer_law.proofs.CallRows.{row_after}
 use Rattle.layer_law.proofs.CallWalks.{watch_stays, shown_stays}
 use Rattle.layer_law.proofs.TurnWalks.{found_target}
-use Rattle.layer_law.proofs.CallNodes.{mine_after, others_after, Comes, was_gone, retired, comes, retiring_lines, moved_along, merged, context}
+use Rattle.layer_law.proofs.CallNodes.{mine_after, others_after, Comes, was_gone, retired, comes, moved_along, merged, context}
 
 -- a step on nodes
 module _ (z : Layered) (i : ℕ) (p : Party) (is : IsLayered z) (there : get_elem? z.whole.world.parties i ≡ some p) (line after : Option HeldLine) (debt : Debt) (a : Action) (x : ℕ) (t : Stage) (r : Option (Once Placed))
-    (at_line : get_elem? z.whole.lines i ≡ some line) (k : Step z.whole.world.layout z.whole.world.generation p.stage a x t r) (minds : Minds p.stage t line) (kept : KeepsOrEmpties line after)
-    (ready : (h held : Held) (left right : Grip) (n lock : ℕ) → p.stage ≡ Joins h left right Gone → t ≡ Holds n lock held → HasLine line (λ e. (e.ready ≡ true) × IsOfMerge e right))
+    (at_line : get_elem? z.whole.lines i ≡ some line) (k : Step z.whole.world.layout z.whole.world.generation p.stage a x t r) (minds : Minds p.stage t line) (kept : KeepsOrLetsGo t line after)
+    (leaves : leaves_lines ≡ true)
     (told : x ≡ got z.whole.world.layout z.whole.world.words a)
     (whole : IsWhole (stepped_whole z.whole i p a (record { stage = t; line = after; debt = debt })) × AreTended (stepped_whole z.whole i p a (record { stage = t; line = after; debt = debt }))) where
   abbrev w : World
@@ -117,7 +119,7 @@ module _ (z : Layered) (i : ℕ) (p : Party) (is : IsLayered z) (there : get_ele
   )
 
   gives_ready : GivesReady l g words w.base w.history law.row p.caller p.index p.since i is.holder p.stage t
-  gives_ready h held left right n lock was next = of line at_line sure_line (ready h held left right n lock was next)
+  gives_ready h held left right n lock was next = of line at_line sure_line (subst (λ (u : Stage × Stage). Minds u.0 u.1 line) (λ k. (was k, next k)) minds leaves)
     where
       of : (own : Option HeldLine) → get_elem? z.whole.lines i ≡ some own → IfSome own (SureLine l words) → HasLine own (λ e. (e.ready ≡ true) × IsOfMerge e right) → HasReadyMerge (now_known l g f (rest_in l words) is.holder) right.node
       of None at sure has = absurd has
@@ -170,12 +172,13 @@ module _ (z : Layered) (i : ℕ) (p : Party) (is : IsLayered z) (there : get_ele
           keep None waits = tt
           keep (Some e) waits = λ is_ready said. waits is_ready (said.0, said.1 ∙ sym same)
 
-      -- a line that is let go isn't READY
-      let_go : (own : Option HeldLine) → IfSome own (SureLine l words) → IfSome own (λ e. (s : Spot) → Tells e.seen s → s 0 ≡ 0) → IsRetiring (turn_facts w is.holder u) own right → IsRetiring (turn_facts w is.holder u) None right
-      let_go None sure empties was = was
-      let_go (Some e) sure empties was = record { alone = λ j two said. absurd (blind_empty e sure (was.alone j two said).0 empties); waits = tt }
+      -- a line that is let go is EMPTY, since the node is held still
+      let_go : (own : Option HeldLine) → IfSome own (SureLine l words) → IfSome own (λ e. IsKnownEmpty e ⊎ IsLeftToTurn t e) → IsRetiring (turn_facts w is.holder u) own right → IsRetiring (turn_facts w is.holder u) None right
+      let_go None sure goes was = was
+      let_go (Some e) sure (inl empty) was = record { alone = λ j two said. absurd (blind_empty e sure (was.alone j two said).0 empty); waits = tt }
+      let_go (Some e) sure (inr left_so) was = absurd (left_so.given_back right (h, left, next))
 
-      of_line : KeepsOrEmpties line after → IsRetiring (turn_facts w is.holder u) line right → IsRetiring (turn_facts w is.holder u) after right
+      of_line : KeepsOrLetsGo t line after → IsRetiring (turn_facts w is.holder u) line right → IsRetiring (turn_facts w is.holder u) after right
       of_line (inl same) was = subst (λ own. IsRetiring (turn_facts w is.holder u) own right) (sym same) was
       of_line (inr gone) was = subst (λ own. IsRetiring (turn_facts w is.holder u) own right) (sym gone.0) (let_go line sure_line gone.1 was)
 
@@ -187,7 +190,7 @@ module _ (z : Layered) (i : ℕ) (p : Party) (is : IsLayered z) (there : get_ele
         waits = λ is_ready said. absurd (let no : true ≡ false = sym is_ready ∙ unready in cc);
       }
 
-      of : Comes p.stage line right → KeepsOrEmpties line after → IsRetiring (turn_facts w is.holder u) after right
+      of : Comes p.stage line right → KeepsOrLetsGo t line after → IsRetiring (turn_facts w is.holder u) after right
       of (was_gone h' left' other was same) how = of_line how (was_one other same (is.retiring i p line u h' left' other there at_line was))
       of (retired h' left' other was same unready) how =
           let sure = subst (λ (s : Stage). Sure l g f p.caller p.index p.since s) was (law.sure i p there) in

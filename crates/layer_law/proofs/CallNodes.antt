@@ -1,6 +1,5 @@
 -- What the parties hold beside a step of a call on nodes, and what is known as it is made.
-use Rattle.std.proofs.Common.{◌≡◌, ◌≢◌, ℕ, ◌<◌, ◌≤◌, inl, inr, ⊎_elim, not, true, false, List, Option, Some, None, refl, sym, ap, ◌∙◌, subst, arith}
-use Rattle.std.specs.Prelude.{IfSome}
+use Rattle.std.proofs.Common.{◌≡◌, ◌≢◌, ℕ, ◌<◌, ◌≤◌, inl, inr, ⊎_elim, not, true, false, List, Option, refl, sym, ap, ◌∙◌, subst, arith}
 use Rattle.std.proofs.lemmas.Bool.{cases_eq, le-ltb, cases_lt}
 use mathlib.Core.Option.{some, some-injective}
 use lib.ListN.{get_elem?}
@@ -20,13 +19,12 @@ use Rattle.index_law.specs.Worlds.{Party, World, facts}
 use Rattle.index_law.specs.Lawful.{Sure, Lawful}
 use Rattle.index_law.proofs.Locks.{look_before}
 use Rattle.index_law.proofs.Moves.{MergeGave, Gives}
-use Rattle.turn_law.specs.Covers.{set_at, Lines}
+use Rattle.turn_law.specs.Covers.{set_at}
 use Rattle.turn_law.specs.Facts.{TurnFacts}
 use Rattle.turn_law.specs.OtherSteps.{OtherStep}
 use Rattle.turn_law.proofs.Columns.{here, other}
 use Rattle.turn_row.specs.Columns.{lines_in}
-use Rattle.layer_law.specs.Turnings.{line_number}
-use Rattle.layer_law.specs.Layers.{Layered, SaysMerge, IsRetiring, IsLayered}
+use Rattle.layer_law.specs.Layers.{Layered, IsLayered}
 use Rattle.layer_law.proofs.FactTies.{facts_tie}
 use Rattle.layer_law.proofs.CallMoves.{Moved}
 use Rattle.layer_law.proofs.CallSteps.{holder_after, Context}
@@ -195,17 +193,6 @@ comes step line minds h left right is = of step minds is
     of (leaves next) minds is = absurd (cc)
     of (splits k) minds is = absurd (splitting k is)
     of (merges k) minds is = merging k minds is
-
--- what is retired reads the lines alone
-pub retiring_lines : (f f' : TurnFacts) (line : Option HeldLine) (right : Grip) → f'.line ≡ f.line → IsRetiring f line right → IsRetiring f' line right
-retiring_lines f f' line right same is = record {
-  alone = λ j ready says. is.alone j (ap (λ (n : Lines). n.state j) (sym same) ∙ ready) (ap (λ (n : Lines). n.kind j) (sym same) ∙ says.0, ap (λ (n : Lines). n.node j) (sym same) ∙ says.1);
-  waits = still line is.waits;
-}
-  where
-    still : (line : Option HeldLine) → IfSome line (λ e. e.ready ≡ true → SaysMerge f (line_number e) right.node → f.line.state (line_number e) ≡ 2) → IfSome line (λ e. e.ready ≡ true → SaysMerge f' (line_number e) right.node → f'.line.state (line_number e) ≡ 2)
-    still None waits = tt
-    still (Some e) waits = λ ready says. ap (λ (n : Lines). n.state (line_number e)) same ∙ waits ready (ap (λ (n : Lines). n.kind (line_number e)) (sym same) ∙ says.0, ap (λ (n : Lines). n.node (line_number e)) (sym same) ∙ says.1)
 
 pub moved_along : (a b a' b' : TurnFacts) → a' ≡ a → b' ≡ b → Moved a b → Moved a' b'
 moved_along a b a' b' from to (inl same) = inl (to ∙ same ∙ sym from)

@@ -7,6 +7,7 @@ use Rattle.pm_words.specs.Rows.{IsRow}
 use Rattle.pm_words.proofs.Apart.{at-set_other}
 use Rattle.data_node.specs.Lists.{anchor_in}
 use Rattle.call_stages.specs.Stages.{IsAmong}
+use Rattle.call_stages.specs.Leaving.{leaves_lines}
 use Rattle.call_stages.specs.Lines.{HeldLine, Marks, fills, opens, readies, empties}
 use Rattle.index_law.specs.Facts.{Facts}
 use Rattle.index_law.specs.Lines.{line_in, safe_line, SureLine}
@@ -20,7 +21,7 @@ use Rattle.turn_law.proofs.Columns.{here, other}
 use Rattle.turn_row.specs.Columns.{line_field, line_count, line_word, lines_in, volatile_field}
 use Rattle.turn_row.proofs.RowColumns.{column-alike, column-same, column-set}
 use Rattle.layer_law.specs.Turnings.{line_number}
-use Rattle.layer_law.proofs.FactTies.{rest_in, known}
+use Rattle.layer_law.proofs.FactTies.{rest_in, known, lines_same}
 use Rattle.layer_law.proofs.CallMoves.{Moved, now_known}
 use Rattle.layer_law.proofs.CallLines.{line_tie, safe_tie, anchor_line_tie, anchor_safe_tie}
 
@@ -93,16 +94,10 @@ module _ (l : Layout) (words : List ℕ) (row : IsRow l words) (e : HeldLine) (s
   -- the rest, but for what the cached lines say
   rest_path : (lines : Lines) → lines_in l stored Cached ≡ lines → rest_in l stored ≡ record (rest_in l words) { line = lines }
   rest_path lines is =
-      let s0 = safe_same 0 (omega arith) in
-      let s1 = safe_same 1 (omega arith) in
-      let s2 = safe_same 2 (omega arith) in
-      let s3 = safe_same 3 (omega arith) in
-      let s4 = safe_same 4 (omega arith) in
-      let s5 = safe_same 5 (omega arith) in
       λ k. record {
         stamp = stamp_same k;
         line = is k;
-        safe_line = record { state = s0 k; kind = s1 k; node = s2 k; anchor = λ j. key_of (s3 k j) (s4 k j) (s5 k j) };
+        safe_line = lines_same l words stored Durable safe_same k;
         leaves = cached_leaves_same k;
         safe_leaves = safe_leaves_same k;
       }
@@ -168,15 +163,19 @@ module _ (l : Layout) (words : List ℕ) (row : IsRow l words) (e : HeldLine) (s
     state_moved : offset ≡ 0 → OtherStep F (record F { line = record lines { state = set_at lines.state number y } }) → Moved F after
     state_moved is step = inr (subst (OtherStep F) (sym (path (record lines { state = set_at lines.state number y }) (state_lines is))) step)
 
--- A mark on a line that isn't emptied is such a step. A line that becomes READY is of a merge only once that is ripe.
+-- no call empties its line then
+pub unemptied : {A : Type 0} → leaves_lines ≡ true → leaves_lines ≡ false → A
+unemptied leaves emptied = absurd (let no : true ≡ false = sym leaves ∙ emptied in cc)
+
+-- A mark on a line is such a step. A line that becomes READY is of a merge only once that is ripe.
 pub marks_moved : (l : Layout) (words : List ℕ) (row : IsRow l words) (e : HeldLine) (sure : SureLine l words e) (offset y : ℕ) (small : offset < 8) (seen : List (ℕ × ℕ)) (ready : Bool) → Marks e offset y seen ready
-    → (g : ℕ) (f : Facts) (holder : ℕ → ℕ) → (offset ≡ 0 → y ≢ 0) → (ready ≡ true → (lines_in l words Cached).kind (line_number e) ≡ 2 → IsRipe (now_known l g f (rest_in l words) holder) (line_number e))
+    → (g : ℕ) (f : Facts) (holder : ℕ → ℕ) → leaves_lines ≡ true → (ready ≡ true → (lines_in l words Cached).kind (line_number e) ≡ 2 → IsRipe (now_known l g f (rest_in l words) holder) (line_number e))
     → Moved (now_known l g f (rest_in l words) holder) (known l g f holder (rest_in l (stored l words row e sure offset y small)))
-marks_moved l words row e sure offset y small seen ready (fills some_offset unready empty_state) g f holder kept ripe =
+marks_moved l words row e sure offset y small seen ready (fills some_offset unready empty_state) g f holder leaves ripe =
     fills_moved l words row e sure offset y small g f holder some_offset (line_tie l words e sure.here 0 (omega arith) ∙ empty_state (line_in l words e.caller e.number) sure.seen)
-marks_moved l words row e sure offset y small seen ready (opens unready empty_state) g f holder kept ripe =
+marks_moved l words row e sure offset y small seen ready (opens unready empty_state) g f holder leaves ripe =
     state_moved l words row e sure 0 1 small g f holder refl (others.opens (line_number e) (line_tie l words e sure.here 0 (omega arith) ∙ empty_state (line_in l words e.caller e.number) sure.seen))
-marks_moved l words row e sure offset y small seen ready (readies unready durable open_state blind) g f holder kept ripe =
+marks_moved l words row e sure offset y small seen ready (readies unready durable open_state blind) g f holder leaves ripe =
     let now = line_in l words e.caller e.number in
     let safe = safe_line l words e.caller e.number in
     let spared : (o : ℕ) → IsAmong e.dirty o → ⊥ = λ o among. subst (λ (dirty : List (ℕ × ℕ)). IsAmong dirty o) durable among in
@@ -184,4 +183,4 @@ marks_moved l words row e sure offset y small seen ready (readies unready durabl
     let safe_state : (lines_in l words Durable).state (line_number e) ≡ 1 = safe_tie l words e sure.here 0 (omega arith) ∙ (λ k. clean k 0) ∙ open_state now sure.seen in
     state_moved l words row e sure 0 2 small g f holder refl (others.readies (line_number e) (line_tie l words e sure.here 0 (omega arith) ∙ open_state now sure.seen)
     (λ none. let one = sym safe_state ∙ none in omega arith) (anchor_safe_tie l words e sure.here ∙ ap anchor_in clean ∙ sym (anchor_line_tie l words e sure.here)) (ripe refl))
-marks_moved l words row e sure offset y small seen ready empties g f holder kept ripe = absurd (kept refl refl)
+marks_moved l words row e sure offset y small seen ready (empties emptied) g f holder leaves ripe = unemptied leaves emptied

@@ -4,7 +4,7 @@ use Rattle.std.specs.Prelude.{nat_lt}
 use Rattle.std.proofs.lemmas.Bool.{eqb-true, eq-eqb, lt-ltb}
 use Rattle.pm_words.specs.declared.layout.Layout.{Layout}
 use Rattle.pm_words.specs.declared.action.Action.{Action}
-use Rattle.pm_words.specs.Locations.{Location, Node, Leaf, Volatile, Cached, Durable, at, leaf_count, node_words}
+use Rattle.pm_words.specs.Locations.{Word, Location, Node, Leaf, Volatile, Cached, Durable, at, leaf_count, node_words}
 use Rattle.pm_words.specs.Rows.{acted}
 use Rattle.version_lock.specs.Versions.{is_free_word, is_worn_word}
 use Rattle.data_node.specs.Lists.{ListNode, anchor_in, IsMember}
@@ -111,27 +111,26 @@ pub record RestStays (l : Layout) (words words' : List ℕ) : Type 0 where
   pub leaf : (n o : ℕ) → n < leaf_count l → o < 8 → at l words' (Cached (Leaf n o)) ≡ at l words (Cached (Leaf n o))
   pub safe_leaf : (n o : ℕ) → n < leaf_count l → o < 8 → at l words' (Durable (Leaf n o)) ≡ at l words (Durable (Leaf n o))
 
+-- lines with the same words say the same
+pub lines_same : (l : Layout) (words words' : List ℕ) (twin : Word → Location) → ((o : ℕ) → o < 8 → line_field l words' twin o ≡ line_field l words twin o) → lines_in l words' twin ≡ lines_in l words twin
+lines_same l words words' twin same =
+    let l0 = same 0 (omega arith) in
+    let l1 = same 1 (omega arith) in
+    let l2 = same 2 (omega arith) in
+    let l3 = same 3 (omega arith) in
+    let l4 = same 4 (omega arith) in
+    let l5 = same 5 (omega arith) in
+    λ i. record { state = l0 i; kind = l1 i; node = l2 i; anchor = λ j. key_of (l3 i j) (l4 i j) (l5 i j) }
+
 pub rest_same : (l : Layout) (words words' : List ℕ) → RestStays l words words' → rest_in l words' ≡ rest_in l words
 rest_same l words words' stays =
     let stamp = column-same l words words' l.nodes (λ n. Volatile n 2) stays.stamp in
-    let line : (o : ℕ) → o < 8 → line_field l words' Cached o ≡ line_field l words Cached o = λ o small. column-same l words words' (line_count l) (λ j. Cached (line_word o j)) (λ j here. stays.line j o here small) in
-    let safe : (o : ℕ) → o < 8 → line_field l words' Durable o ≡ line_field l words Durable o = λ o small. column-same l words words' (line_count l) (λ j. Durable (line_word o j)) (λ j here. stays.safe_line j o here small) in
-    let l0 = line 0 (omega arith) in
-    let l1 = line 1 (omega arith) in
-    let l2 = line 2 (omega arith) in
-    let l3 = line 3 (omega arith) in
-    let l4 = line 4 (omega arith) in
-    let l5 = line 5 (omega arith) in
-    let s0 = safe 0 (omega arith) in
-    let s1 = safe 1 (omega arith) in
-    let s2 = safe 2 (omega arith) in
-    let s3 = safe 3 (omega arith) in
-    let s4 = safe 4 (omega arith) in
-    let s5 = safe 5 (omega arith) in
+    let line = lines_same l words words' Cached (λ o small. column-same l words words' (line_count l) (λ j. Cached (line_word o j)) (λ j here. stays.line j o here small)) in
+    let safe = lines_same l words words' Durable (λ o small. column-same l words words' (line_count l) (λ j. Durable (line_word o j)) (λ j here. stays.safe_line j o here small)) in
     λ i. record {
       stamp = stamp i;
-      line = record { state = l0 i; kind = l1 i; node = l2 i; anchor = λ j. key_of (l3 i j) (l4 i j) (l5 i j) };
-      safe_line = record { state = s0 i; kind = s1 i; node = s2 i; anchor = λ j. key_of (s3 i j) (s4 i j) (s5 i j) };
+      line = line i;
+      safe_line = safe i;
       leaves = λ leaf o. leaves_in-alike l words words' Cached leaf o (stays.leaf leaf o) i;
       safe_leaves = λ leaf o. leaves_in-alike l words words' Durable leaf o (stays.safe_leaf leaf o) i;
     }

@@ -1,4 +1,5 @@
 pub mod FactTies
+pub mod Retired
 pub mod Targets
 pub mod CallMoves
 pub mod CallLines

@@ -1,5 +1,5 @@
 -- Stores of a turn that touch neither nodes nor lines: of the updater lock, of stamps, and of the leaves.
-use Rattle.std.proofs.Common.{◌≡◌, ◌≢◌, ℕ, ◌⊎◌, ⊎_elim, inl, inr, true, false, cond, List, refl, sym, ap, ◌∙◌, subst, arith}
+use Rattle.std.proofs.Common.{◌≡◌, ◌≢◌, ℕ, ◌⊎◌, ⊎_elim, inl, inr, true, false, cond, List, refl, sym, ap, subst, arith}
 use Rattle.std.specs.Prelude.{nat_lt}
 use Rattle.std.proofs.lemmas.Bool.{ltb-true}
 use Rattle.pm_words.specs.declared.layout.Layout.{Layout}
@@ -14,7 +14,7 @@ use Rattle.index_law.specs.Lawful.{Lawful}
 use Rattle.index_law.specs.Lines.{line_in}
 use Rattle.index_law.specs.Prevs.{prev_in}
 use Rattle.index_law.specs.Whole.{Whole, IsWhole}
-use Rattle.index_law.specs.Footings.{IsInHand, AreTended}
+use Rattle.index_law.specs.Footings.{IsInHand, NeedsNoParty, AreTended}
 use Rattle.index_law.proofs.Noting.{LinesStay, line-alike, safe-alike, beside_law}
 use Rattle.index_law.proofs.Rows.{version_in-alike, status_in-alike, spot_in-alike}
 use Rattle.index_law.proofs.Twins.{IsAside, IsNearer}
@@ -107,9 +107,9 @@ module _ (z : Whole) (after : List ℕ) (same : KeepsRest z.world.layout z.world
 pub still_tended : (z : Whole) (after : List ℕ) → ((c j : ℕ) → (line_in z.world.layout after c j 0 ≡ 0) ⊎ (line_in z.world.layout after c j 0 ≡ line_in z.world.layout z.world.words c j 0))
     → AreTended z → AreTended (record z { world = record (z.world) { words = after } })
 still_tended z after states tended c j here low = ⊎_elim
-    (λ (empty : line_in z.world.layout after c j 0 ≡ 0). inl empty)
+    (λ (empty : line_in z.world.layout after c j 0 ≡ 0). inl (inl empty))
     (λ stays. ⊎_elim
-    (λ (empty : line_in z.world.layout z.world.words c j 0 ≡ 0). inl (stays ∙ empty))
+    (λ none. inl (subst NeedsNoParty (sym stays) none))
     (λ (hand : IsInHand z c j). inr (record { number = hand.number; line = hand.line; there = hand.there; caller = hand.caller; index = hand.index }))
     (tended c j here low))
     (states c j)

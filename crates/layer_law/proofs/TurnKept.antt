@@ -23,19 +23,19 @@ use Rattle.turn_row.proofs.RowColumns.{column-here, column-same}
 use Rattle.turn_row.proofs.RowStores.{line_emptied}
 use Rattle.index_law.specs.Facts.{Facts, version_in, spot_in, list_in}
 use Rattle.index_law.specs.Lines.{line_in}
-use Rattle.index_law.specs.Worlds.{Party, World, facts}
+use Rattle.index_law.specs.Worlds.{Party, facts}
 use Rattle.index_law.specs.Lawful.{Sure}
 use Rattle.index_law.specs.Whole.{Whole, IsWhole}
 use Rattle.index_law.specs.Footings.{AreTended}
-use Rattle.index_law.proofs.Bystanders.{if_some}
 use Rattle.index_law.proofs.Locks.{own_of}
 use Rattle.index_law.proofs.Noting.{line-here, store_leaves}
 use Rattle.index_law.proofs.Rows.{facts-elsewhere, facts-status, status_in-here}
 use Rattle.index_law.proofs.Versions.{unfree}
 use Rattle.turn_row.specs.Turnings.{Turning}
 use Rattle.layer_law.specs.Turnings.{terms_of, ghosts_of, line_number}
-use Rattle.layer_law.specs.Layers.{SaysMerge, IsRetiring, turn_facts}
-use Rattle.layer_law.proofs.FactTies.{version_tie}
+use Rattle.layer_law.specs.Layers.{IsRetiring, turn_facts}
+use Rattle.layer_law.proofs.FactTies.{version_tie, lines_same}
+use Rattle.layer_law.proofs.Retired.{retiring_lines}
 use Rattle.layer_law.proofs.TurnAside.{KeepsRest, facts_kept, lines_kept, aside_whole, still_tended}
 use Rattle.layer_law.proofs.TurnFrees.{freed_whole}
 use Rattle.layer_law.proofs.TurnLines.{line_either, emptied_whole}
@@ -67,21 +67,6 @@ pub record Keeps (z : Whole) (holder : ℕ → ℕ) (after : List ℕ) : Type 0 
   pub list : list_in z.world.layout after ≡ list_in z.world.layout z.world.words
   pub retiring : (i : ℕ) (p : Party) (line : Option HeldLine) (u : Turning) (h : Held) (left right : Grip) → get_elem? z.world.parties i ≡ some p → get_elem? z.lines i ≡ some line
       → p.stage ≡ Joins h left right Gone → IsRetiring (turn_facts z.world holder u) line right → IsRetiring (turn_facts (record (z.world) { words = after }) holder u) line right
-
--- where no state of a line is another
-pub retiring_same : (w : World) (holder : ℕ → ℕ) (after : List ℕ) (u : Turning) (line : Option HeldLine) (right : Grip)
-    → ((offset : ℕ) → offset < 8 → line_field w.layout after Cached offset ≡ line_field w.layout w.words Cached offset)
-    → IsRetiring (turn_facts w holder u) line right → IsRetiring (turn_facts (record w { words = after }) holder u) line right
-retiring_same w holder after u line right same was =
-    let state = same 0 (omega arith) in
-    let kind = same 1 (omega arith) in
-    let node = same 2 (omega arith) in
-    record {
-      alone = λ j two merge. was.alone j (ap (λ s. s j) (sym state) ∙ two) (ap (λ s. s j) (sym kind) ∙ merge.0, ap (λ s. s j) (sym node) ∙ merge.1);
-      waits = if_some (λ (e : HeldLine). e.ready ≡ true → SaysMerge (turn_facts w holder u) (line_number e) right.node → line_field w.layout w.words Cached 0 (line_number e) ≡ ready_state)
-          (λ (e : HeldLine). e.ready ≡ true → SaysMerge (turn_facts (record w { words = after }) holder u) (line_number e) right.node → line_field w.layout after Cached 0 (line_number e) ≡ ready_state) line
-          (λ e waits ready merge. ap (λ s. s (line_number e)) state ∙ waits ready (ap (λ s. s (line_number e)) (sym kind) ∙ merge.0, ap (λ s. s (line_number e)) (sym node) ∙ merge.1)) was.waits;
-    }
 
 module _ (z : Whole) (holder : ℕ → ℕ) (t : Turning) (whole : IsWhole z) (tended : AreTended z) where
   abbrev l : Layout
@@ -117,7 +102,7 @@ module _ (z : Whole) (holder : ℕ → ℕ) (t : Turning) (whole : IsWhole z) (t
         version = ap (λ (φ : Facts). φ.version) facts_same;
         now = ap (λ (φ : Facts). φ.now) facts_same;
         list = ap (λ (φ : Facts). φ.list) facts_same;
-        retiring = λ i p line u h left right at_p at_line stage. retiring_same z.world holder after u line right lines;
+        retiring = λ i p line u h left right at_p at_line stage. retiring_lines (turn_facts z.world holder u) (turn_facts (record (z.world) { words = after }) holder u) line right (lines_same l words after Cached lines);
       }
 
   keeps_freed : (n : ℕ) → n < l.nodes → IsFreeing (facts_in r ghosts words) n → IsRow l (slice_set words (volatile_at l n 0) 0) → Keeps z holder (slice_set words (volatile_at l n 0) 0)
@@ -134,7 +119,7 @@ module _ (z : Whole) (holder : ℕ → ℕ) (t : Turning) (whole : IsWhole z) (t
         version = ap (λ (φ : Facts). φ.version) facts_same;
         now = ap (λ (φ : Facts). φ.now) facts_same;
         list = ap (λ (φ : Facts). φ.list) facts_same;
-        retiring = λ i p line u h left right at_p at_line stage. retiring_same z.world holder after u line right lines;
+        retiring = λ i p line u h left right at_p at_line stage. retiring_lines (turn_facts z.world holder u) (turn_facts (record (z.world) { words = after }) holder u) line right (lines_same l words after Cached lines);
       }
 
   module _ (j : ℕ) (here : j < line_count z.world.layout) (carried : IsCarried (rows.terms_of (terms_of z.world t)) (facts_in (terms_of z.world t) (ghosts_of z.world holder) z.world.words) j) where

@@ -1,25 +1,26 @@
 -- The laws: what steps of calls and of turns keep, and what it says of the search layer.
-use Rattle.std.specs.Prelude.{◌≡◌, ◌≢◌, ℕ, ◌<◌, ◌^◌, true, length, slice_set, Option, None}
+use Rattle.std.specs.Prelude.{◌≡◌, ◌≢◌, ℕ, ◌<◌, ◌^◌, true, List, [], length, slice_set, Option}
 use mathlib.Core.Option.{some}
 use lib.ListN.{get_elem?}
-use Rattle.pm_words.specs.declared.layout.Layout.{Layout}
 use Rattle.pm_words.specs.declared.action.Action.{Action}
-use Rattle.pm_words.specs.declared.action.Action.TheVariants.{Store}
 use Rattle.pm_words.specs.Locations.{Cached, Durable, leaf_count, image_words}
 use Rattle.pm_words.specs.Rows.{CanAct, acted, got}
 use Rattle.data_node.specs.Lists.{anchor_in}
 use Rattle.call_stages.specs.declared.once.Once.{Once}
 use Rattle.call_stages.specs.declared.once.Placed.{Placed}
-use Rattle.call_stages.specs.Stages.{Held, Grip, Gone, Joins, Holds, Idle}
-use Rattle.call_stages.specs.Lines.{line_address}
-use Rattle.call_stages.specs.Footings.{Footing, FootStep, IsOfMerge, HasLine}
-use Rattle.call_stages.specs.Prevs.{no_debt}
+use Rattle.call_stages.specs.Stages.{Idle}
+use Rattle.call_stages.specs.Leaving.{leaves_lines}
+use Rattle.call_stages.specs.Lines.{HeldLine}
+use Rattle.call_stages.specs.Footings.{Footing, FootStep}
+use Rattle.call_stages.specs.Prevs.{Debt}
 use Rattle.call_stages.specs.Watches.{Nothing}
 use Rattle.index_law.specs.Facts.{IsListed}
-use Rattle.index_law.specs.Worlds.{Party, facts, started, evicted_world}
-use Rattle.index_law.specs.Lawful.{Each}
-use Rattle.index_law.specs.Whole.{Whole, IsWhole}
+use Rattle.index_law.specs.Worlds.{Party, facts}
+use Rattle.index_law.specs.Lawful.{Each, HaveBegun}
+use Rattle.index_law.specs.Laws.{next_round}
+use Rattle.index_law.specs.Whole.{IsWhole}
 use Rattle.index_law.specs.Footings.{AreTended, stepped_whole}
+use Rattle.index_law.specs.Footed.{AreFree, evicted_whole, started_whole}
 use Rattle.search_layer.specs.Keys.{key_number}
 use Rattle.search_layer.specs.Leaves.{leaves_in, layer_in, layer_of}
 use Rattle.turn_law.specs.Covered.{IsCovered, IsTarget}
@@ -31,20 +32,13 @@ use Rattle.turn_row.specs.Turnings.{Turning, TurnFoot}
 use Rattle.layer_law.specs.Turnings.{terms_of, ghosts_of}
 use Rattle.layer_law.specs.Layers.{Layered, IsLayered}
 
--- A call leaves its line to a turn: it doesn't empty one, and gives back a merged node only once the line of the merge
--- is READY.
-pub record LeavesLine (l : Layout) (foot : Footing) (action : Action) (next : Footing) : Type 0 where
-  pub unemptied : (c j : ℕ) → action ≢ Store (line_address l c j 0) 0
-  pub ready : (h held : Held) (left right : Grip) (n lock : ℕ) → foot.stage ≡ Joins h left right Gone →
-      next.stage ≡ Holds n lock held → HasLine foot.line (λ e. (e.ready ≡ true) × IsOfMerge e right)
-
--- A step of such a call, of the party that stands at i.
+-- A step of a call, of the party that stands at i, where calls leave their lines to turns.
 abbrev pub CallStepKeeps : Type 0
-CallStepKeeps = (z : Layered) (i : ℕ) (p : Party) (foot next : Footing) (action : Action) (x : ℕ)
+CallStepKeeps = leaves_lines ≡ true → (z : Layered) (i : ℕ) (p : Party) (foot next : Footing) (action : Action) (x : ℕ)
     (answer : Option (Once Placed)) → IsLayered z → get_elem? z.whole.world.parties i ≡ some p →
     get_elem? z.whole.lines i ≡ some foot.line → get_elem? z.whole.debts i ≡ some foot.debt → p.stage ≡ foot.stage →
     FootStep z.whole.world.layout z.whole.world.generation p.caller foot action x next answer →
-    LeavesLine z.whole.world.layout foot action next → x ≡ got z.whole.world.layout z.whole.world.words action →
+    x ≡ got z.whole.world.layout z.whole.world.words action →
     length z.whole.world.history < 2 ^ 63 →
     IsLayered (record { whole = stepped_whole z.whole i p action next; turns = z.turns })
 
@@ -73,28 +67,15 @@ TurnStartKeeps = (z : Layered) (i : ℕ) (t : Turning) (stamp release : ℕ) →
       turns = slice_set z.turns i (record { stamp = stamp; release = release; stage = Resting; watch = Nothing });
     })
 
--- A word of the image becomes durable,
-abbrev pub evicted_whole : Whole → ℕ → Whole
-evicted_whole z word = record z { world = evicted_world z.world word }
-
--- or the party i, which has no line and owes nothing, begins a call.
-abbrev pub started_whole : Whole → ℕ → Party → ℕ → Whole
-started_whole z i p index = record {
-  world = started z.world i p index;
-  lines = slice_set z.lines i None;
-  debts = slice_set z.debts i no_debt;
-}
-
--- Where that keeps the index, it keeps it with its search layer and its turns.
+-- A word of the image that becomes durable keeps it all,
 abbrev pub EvictionKeepsLayer : Type 0
 EvictionKeepsLayer = (z : Layered) (word : ℕ) → IsLayered z → word < image_words z.whole.world.layout →
-    IsWhole (evicted_whole z.whole word) → AreTended (evicted_whole z.whole word) →
     IsLayered (record { whole = evicted_whole z.whole word; turns = z.turns })
 
+-- and so does a party that relies on nothing and begins a call.
 abbrev pub StartKeepsLayer : Type 0
 StartKeepsLayer = (z : Layered) (i : ℕ) (p : Party) (index : ℕ) → IsLayered z →
     get_elem? z.whole.world.parties i ≡ some p → p.stage ≡ Idle →
-    IsWhole (started_whole z.whole i p index) → AreTended (started_whole z.whole i p index) →
     IsLayered (record { whole = started_whole z.whole i p index; turns = z.turns })
 
 -- The turn rests, and has a stamp to give.
@@ -103,7 +84,18 @@ pub record IsAtRest (t : Turning) : Type 0 where
   pub stamp : t.stamp ≢ 0
   pub watch : t.watch ≡ Nothing
 
--- With no call and no turn in flight all of it holds where the index is kept, and the row is lawful for a turn.
+-- With no call and no turn in flight it is kept as the next round begins, with other idle parties.
+abbrev pub RoundKeepsLayer : Type 0
+RoundKeepsLayer = (z : Layered) (parties : List Party) (lines : List (Option HeldLine)) (debts : List Debt) →
+    IsLayered z → AreFree z.whole.world.parties z.whole.lines z.whole.debts →
+    ((j : ℕ) (u : Turning) → get_elem? z.turns j ≡ some u → IsAtRest u) →
+    AreFree parties lines debts → HaveBegun [] parties →
+    IsLayered (record {
+      whole = record { world = next_round z.whole.world parties; lines = lines; debts = debts };
+      turns = z.turns;
+    })
+
+-- And there all of it holds where the index is kept, and the row is lawful for a turn.
 abbrev pub RestIsLayered : Type 0
 RestIsLayered = (z : Layered) (i : ℕ) (t : Turning) → IsWhole z.whole → AreTended z.whole →
     Each (λ p. p.stage ≡ Idle) z.whole.world.parties →

@@ -1,10 +1,11 @@
 //! The laws. The functions do nothing: each names what is proved.
 
 ghost use Rattle.layer_law.specs.Laws.{CallStepKeeps, TurnStepKeeps, TurnStartKeeps, EvictionKeepsLayer};
-ghost use Rattle.layer_law.specs.Laws.{StartKeepsLayer, RestIsLayered, TargetsStand, LayerIsCovered};
+ghost use Rattle.layer_law.specs.Laws.{StartKeepsLayer, RoundKeepsLayer, RestIsLayered, TargetsStand, LayerIsCovered};
 ghost use Rattle.layer_law.specs.Beginnings.{BeginningKeepsLayer, OtherTurnsMayRest, StampKeepsLayer, FreshIsLayered};
 
-/// A step of a call keeps an index with its search layer and the turn beside it.
+/// Where calls leave their log lines to turns, a step of a call keeps an index with its search layer and the turn beside
+/// it.
 pub fn call_step_law()
     ensures { CallStepKeeps }
 {}
@@ -19,11 +20,12 @@ pub fn turn_start_law()
     ensures { TurnStartKeeps }
 {}
 
-/// A word of the image that becomes durable, and the beginning of a call, keep the search layer and the turns where they
-/// keep the index.
+/// A word of the image that becomes durable, the beginning of a call and that of a next round keep an index with its
+/// search layer and its turns.
 pub fn stays_law()
     ensures eviction { EvictionKeepsLayer }
     ensures start { StartKeepsLayer }
+    ensures round { RoundKeepsLayer }
 {}
 
 /// An index with no call and no turn in flight, and a row that is lawful for a turn, has it all.

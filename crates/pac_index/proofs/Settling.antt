@@ -19,7 +19,7 @@ use Rattle.index_law.proofs.Noting.{beside_law}
 use Rattle.index_law.proofs.Rows.{facts-elsewhere}
 use Rattle.index_law.proofs.Twins.{nearer, store_closer}
 use Rattle.index_core.specs.Indexes.{Index, IsIndex, footed, world}
-use Rattle.index_core.proofs.Footed.{stamp_footed}
+use Rattle.index_law.proofs.Footed.{stamp_footed}
 use Rattle.index_core.proofs.PartFacts.{running_listed}
 use Rattle.index_core.specs.Weights.{weight_of}
 use Rattle.pac_index.specs.Stamps.{stamp_in, with_words, SettlesTo}

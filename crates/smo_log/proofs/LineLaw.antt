@@ -299,10 +299,10 @@ pub readies_are_notes : ReadiesAreNotes
 readies_are_notes ready entry x sound fits = ready_leads ready entry sound ready.at x sound.here fits
 
 pub clears_are_notes : ClearsAreNotes
-clears_are_notes clear held x sound caller number =
+clears_are_notes clear held x emptied sound caller number =
     subst (λ (p : ℕ × ℕ). Notes clear.layout (Some held) (Store (line_address clear.layout p.0 p.1 0) 0) x (Some (record { caller = p.0; number = p.1; seen = (0, 0) ∷ []; dirty = (0, 1) ∷ held.dirty; hand = None; ready = false })))
     (λ k. (caller k, number k))
-    (notes (omega arith) (omega arith) empties (record { stored = inl (omega arith, omega arith); others = λ other among. inr among })
+    (notes (omega arith) (omega arith) (empties emptied) (record { stored = inl (omega arith, omega arith); others = λ other among. inr among })
     (λ s told. (updated-same s 0 0, tt)) (λ s told fit. inl (updated-same s 0 0)))
 
 pub reads_are_notes : ReadsAreNotes

@@ -1,9 +1,10 @@
 -- What every turn on a log line is.
-use Rattle.std.specs.Prelude.{◌≡◌, ◌≢◌, ℕ, ◌+◌, ◌*◌, ◌^◌, ◌<◌, Option, Some, IfSome}
+use Rattle.std.specs.Prelude.{◌≡◌, ◌≢◌, ℕ, ◌+◌, ◌*◌, ◌^◌, ◌<◌, false, Option, Some, IfSome}
 use Rattle.pm_words.specs.declared.layout.Layout.{Layout}
 use Rattle.pm_words.specs.declared.action.Action.{Action}
 use Rattle.pm_words.specs.declared.machine.Turn.{Turn}
 use Rattle.pm_words.specs.declared.machine.Turn.TheVariants.{Go, Done}
+use Rattle.call_stages.specs.Leaving.{leaves_lines}
 use Rattle.call_stages.specs.Lines.{HeldLine, Notes}
 use Rattle.call_stages.specs.AnySteps.{IsBeside}
 use Rattle.smo_log.specs.declared.line.Entry.{Entry}
@@ -38,10 +39,10 @@ abbrev pub ReadiesAreNotes : Type 0
 ReadiesAreNotes = (ready : Ready) (entry : Entry) (x : ℕ) → IsReady ready → x < 2 ^ 64 →
     ReadyNotes ready.layout ready.line entry (ready_held entry ready) (ready_asks ready) x (ready_turned ready x)
 
--- the store of its state EMPTY,
+-- the store of its state EMPTY, where lines aren't left to turns,
 abbrev pub ClearsAreNotes : Type 0
-ClearsAreNotes = (clear : Clear) (held : HeldLine) (x : ℕ) → IsClear clear → held.caller ≡ caller_of clear.line →
-    held.number ≡ index_of clear.line →
+ClearsAreNotes = (clear : Clear) (held : HeldLine) (x : ℕ) → leaves_lines ≡ false → IsClear clear →
+    held.caller ≡ caller_of clear.line → held.number ≡ index_of clear.line →
     Notes clear.layout (Some held) (clear_asks clear) x (Some (cleared_line clear.line held.dirty))
 
 -- and each of a read, which relies on nothing.

@@ -1,3 +1,4 @@
+pub mod LastLines
 pub mod MoveLaw
 pub mod Staying
 pub mod OfSplits

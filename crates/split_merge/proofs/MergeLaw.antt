@@ -235,7 +235,7 @@ module _ (merge : Merge) (sound : IsMerge merge) (h : Held) (may : MayJoin h) (a
   at_part near locked bitmap x = on_nodes tt (inl refl) (merges (parts refl)) (meets_far n w (knows_near near h) (neighbour near locked ((bitmap_offset, bitmap) ∷ [])) (Holds n w (knows_near near h)))
 
   at_leave : (near : Near) (x : ℕ) → Leads (footing (at.Leave near)) (merge_at_asks merge (at.Leave near)) x (Done (record { merged = false }))
-  at_leave near x = on_nodes tt (inr (refl, λ s told. told.0))
+  at_leave near x = on_nodes tt (inr (refl, inl (λ s told. told.0)))
       (unlocks refl may.still.pending refl may.still.ready (subst (Answers l (knows_near near h)) (sym answered.is) (writes answered.placed answered.had)))
       (held_far n w (knows_near near h) Idle)
 

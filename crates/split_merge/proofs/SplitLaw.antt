@@ -238,7 +238,7 @@ module _ (split : Split) (sound : IsSplit split) (h : Held) (may : MayBegin spli
 
       back : Look claim.layout claim.generation (claim_stage n w (led next h) claim) (claim_asks claim) x (Holds n w (led next h)) None
           → (why : Again) → Leads (footing (at.Claim next line claim)) (claim_asks claim) x (splits_on split (at.Refuse next why))
-      back look why = on_nodes (minds (Holds n w (led next h))) (inr (refl, λ s told. told.0)) (looks (looked (Holds n w (led next h)) look)) (deals_far (claim_stage n w (led next h) claim) (Holds n w (led next h)) far)
+      back look why = on_nodes (minds (Holds n w (led next h))) (inr (refl, inl (λ s told. told.0))) (looks (looked (Holds n w (led next h)) look)) (deals_far (claim_stage n w (led next h) claim) (Holds n w (led next h)) far)
 
       of : (turn : Turn Claim Claimed) → Claims claim.layout claim.generation n w (led next h) (claim_stage n w (led next h) claim) (claim_asks claim) x turn
           → Leads (footing (at.Claim next line claim)) (claim_asks claim) x (claimed split next line turn)

@@ -3,6 +3,7 @@ use Rattle.std.proofs.Common.{◌≡◌, ℕ, ◌+◌, ◌%◌, ◌^◌, ◌<◌
 use Rattle.std.proofs.lemmas.Bool.{eqb-false, ltb-true}
 use Rattle.pm_words.specs.declared.machine.Turn.{Turn}
 use Rattle.pm_words.specs.declared.machine.Turn.TheVariants.{Go, Done}
+use Rattle.call_stages.specs.Leaving.{leaves_lines}
 use Rattle.pm_words.specs.declared.fence.Fence.{Fence}
 use Rattle.pm_words.specs.declared.fence.FenceAt.{FenceAt}
 use Rattle.pm_words.specs.declared.fence.FenceAt.TheVariants as fence_at
@@ -119,7 +120,10 @@ module _ (move : Move) (sound : IsMove move) where
     where
       after : (turn : Turn Ready (Unit {0})) → ReadyNotes ready.layout ready.line (entry_in plan) (ready_held (entry_in plan) ready) (ready_asks ready) x turn → Stays (readied move turn)
       after (Go next) note = on (at.Ready next) (note.1, note.2 ∙ layout, note.3 ∙ line)
-      after (Done answer) note = on at.Clear tt
+      after (Done answer) note = elim leaves_lines as (λ b. leaves_lines ≡ b → Stays (moves_on move (cond b at.UnlockFresh at.Clear))) [
+        | true ↦ λ left. on at.UnlockFresh tt
+        | false ↦ λ emptied. on at.Clear emptied
+      ] refl
 
   stays : (at : MoveAt) (x : ℕ) → IsMoveAt plan at → x < 2 ^ 64 → Stays (move_at_turned move at x)
   stays (at.Slot word) x here fits = at_slot word

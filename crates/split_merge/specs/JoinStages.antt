@@ -13,12 +13,12 @@ use Rattle.call_stages.specs.Prevs.{Debt, no_debt}
 use Rattle.call_stages.specs.Footings.{Footing}
 use Rattle.smo_log.specs.LogLines.{open_line, ready_line}
 use Rattle.smo_log.specs.Opens.{open_held}
-use Rattle.smo_log.specs.States.{ready_held, cleared_line}
+use Rattle.smo_log.specs.States.{ready_held}
 use Rattle.split_merge.specs.declared.uniting.Union.{Union}
 use Rattle.split_merge.specs.declared.joining.Join.{Join}
 use Rattle.split_merge.specs.declared.joining.JoinAt.{JoinAt}
 use Rattle.split_merge.specs.declared.joining.JoinAt.TheVariants as at
-use Rattle.split_merge.specs.MoveStages.{words_onto}
+use Rattle.split_merge.specs.MoveStages.{words_onto, last_line}
 use Rattle.split_merge.specs.Unions.{from_in, half_of, own_prints, joined_end, joined_prints, head_word, behind_in}
 use Rattle.split_merge.specs.Unions.{entry_in}
 use Rattle.split_merge.specs.Joins.{lowest}
@@ -142,7 +142,7 @@ abbrev pub join_at_line : Union → JoinAt → Option HeldLine
 join_at_line union (at.Open machine) = Some (open_held machine)
 join_at_line union (at.Ready ready) = Some (ready_held (entry_in union) ready)
 join_at_line union at.Clear = Some (ready_line union.line (entry_in union))
-join_at_line union at.UnlockRight = Some (cleared_line union.line [])
+join_at_line union at.UnlockRight = Some (last_line union.line (entry_in union))
 join_at_line union at.Unlock = None
 join_at_line union _ = Some (open_line union.line (entry_in union))
 

@@ -1,5 +1,5 @@
 -- The merge of the right node into the left one, step by step.
-use Rattle.std.specs.Prelude.{◌≡◌, ◌≢◌, ℕ, ◌+◌, ◌-◌, ◌*◌, ◌%◌, ◌^◌, ◌<◌, ◌≤◌, ◌==◌, nat_lt, if◌then◌else◌}
+use Rattle.std.specs.Prelude.{◌≡◌, ◌≢◌, ℕ, ◌+◌, ◌-◌, ◌*◌, ◌%◌, ◌^◌, ◌<◌, ◌≤◌, ◌==◌, nat_lt, if◌then◌else◌, false}
 use Rattle.std.specs.Prelude.{Option, Some, None}
 use Rattle.std.specs.Int.{w64, trailing_zeros}
 use Rattle.pm_words.specs.declared.action.Action.{Action}
@@ -12,6 +12,7 @@ use Rattle.data_node.specs.Bits.{without_live, live_count}
 use Rattle.data_node.specs.Slots.{IsLive}
 use Rattle.data_node.specs.Spots.{slot_offset}
 use Rattle.call_stages.specs.Kinds.{word_address, version_address, status_address, prev_address, gone_status}
+use Rattle.call_stages.specs.Leaving.{leaves_lines}
 use Rattle.smo_log.specs.declared.open.Open.{Open}
 use Rattle.smo_log.specs.declared.state.Ready.{Ready}
 use Rattle.smo_log.specs.LogLines.{numbered_address}
@@ -83,6 +84,10 @@ makes_ready union = at.Ready (ready_from union.layout union.line)
 abbrev pub after_prev : Union → JoinAt
 after_prev union = if behind_in union == 0 then makes_ready union else at.NextPrev
 
+-- the line is READY, and is left to a turn or emptied
+abbrev pub after_ready : JoinAt
+after_ready = if leaves_lines then at.UnlockRight else at.Clear
+
 abbrev pub join_at_asks : Union → JoinAt → Action
 join_at_asks union (at.Open machine) = open_asks machine
 join_at_asks union (at.Load left word) = loads_from union left word
@@ -116,7 +121,7 @@ opened join (Done answer) = joins_on join (after_open join.union)
 
 abbrev pub readied : Join → Turn Ready (Unit {0}) → Turn Join (Unit {0})
 readied join (Go ready) = joins_on join (at.Ready ready)
-readied join (Done answer) = joins_on join at.Clear
+readied join (Done answer) = joins_on join after_ready
 
 abbrev pub join_at_turned : Join → JoinAt → ℕ → Turn Join (Unit {0})
 join_at_turned join (at.Open machine) got = opened join (open_turned machine got)
@@ -158,6 +163,7 @@ IsJoinAt union (at.FenceBitmap fence) = IsFence fence
 IsJoinAt union (at.FenceSwitch fence) = IsFence fence
 IsJoinAt union at.NextPrev = behind_in union ≢ 0
 IsJoinAt union (at.Ready ready) = IsReady ready × (ready.layout ≡ union.layout) × (ready.line ≡ union.line)
+IsJoinAt union at.Clear = leaves_lines ≡ false
 IsJoinAt union _ = Unit {0}
 
 pub record IsJoin (join : Join) : Type 0 where

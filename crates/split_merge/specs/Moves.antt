@@ -1,11 +1,12 @@
 -- The move of a full node's upper half into a fresh node, step by step.
-use Rattle.std.specs.Prelude.{◌≡◌, ◌≢◌, ℕ, ◌+◌, ◌-◌, ◌*◌, ◌/◌, ◌%◌, ◌^◌, ◌<◌, ◌==◌, nat_lt, if◌then◌else◌}
+use Rattle.std.specs.Prelude.{◌≡◌, ◌≢◌, ℕ, ◌+◌, ◌-◌, ◌*◌, ◌/◌, ◌%◌, ◌^◌, ◌<◌, ◌==◌, nat_lt, if◌then◌else◌, false}
 use Rattle.std.specs.Prelude.{Option, Some, None}
 use Rattle.pm_words.specs.declared.action.Action.{Action}
 use Rattle.pm_words.specs.declared.action.Action.TheVariants.{Store}
 use Rattle.pm_words.specs.declared.machine.Turn.{Turn}
 use Rattle.pm_words.specs.declared.machine.Turn.TheVariants.{Go, Done}
 use Rattle.call_stages.specs.Kinds.{word_address, version_address, status_address, prev_address, live_status}
+use Rattle.call_stages.specs.Leaving.{leaves_lines}
 use Rattle.pm_words.specs.declared.fence.Fence.{Fence}
 use Rattle.smo_log.specs.declared.open.Open.{Open}
 use Rattle.smo_log.specs.declared.state.Ready.{Ready}
@@ -62,6 +63,10 @@ abbrev pub after_trim : Plan → Option Fence → MoveAt
 after_trim plan (Some fence) = at.FenceTrim fence
 after_trim plan None = at.Ready (ready_from plan.layout plan.line)
 
+-- the line is READY, and is left to a turn or emptied
+abbrev pub after_ready : MoveAt
+after_ready = if leaves_lines then at.UnlockFresh else at.Clear
+
 abbrev pub move_at_asks : Plan → MoveAt → Action
 move_at_asks plan (at.Slot word) = fills plan (16 + word)
 move_at_asks plan (at.Print word) = fills plan (8 + word)
@@ -101,7 +106,7 @@ opened move (Done answer) = moves_on move at.Prev
 
 abbrev pub readied : Move → Turn Ready (Unit {0}) → Turn Move (Unit {0})
 readied move (Go ready) = moves_on move (at.Ready ready)
-readied move (Done answer) = moves_on move at.Clear
+readied move (Done answer) = moves_on move after_ready
 
 abbrev pub move_at_turned : Move → MoveAt → ℕ → Turn Move (Unit {0})
 move_at_turned move (at.Slot word) got = moves_on move (after_slot move.plan word)
@@ -137,6 +142,7 @@ IsMoveAt plan (at.FenceSwitch fence) = IsFence fence
 IsMoveAt plan at.NextPrev = next_in plan ≢ 0
 IsMoveAt plan (at.FenceTrim fence) = IsFence fence
 IsMoveAt plan (at.Ready ready) = IsReady ready × (ready.layout ≡ plan.layout) × (ready.line ≡ plan.line)
+IsMoveAt plan at.Clear = leaves_lines ≡ false
 IsMoveAt plan _ = Unit {0}
 
 pub record IsMove (move : Move) : Type 0 where

@@ -1,7 +1,8 @@
 ghost use Rattle.std.specs.Prelude.{◌≡◌, ◌<◌};
-ghost use Rattle.split_merge.specs.Joins.{after_copy, after_bitmap, after_join};
+ghost use Rattle.split_merge.specs.Joins.{after_copy, after_bitmap, after_join, after_ready};
 
 use crate::uniting::Union;
+use call_stages::leaves_lines;
 use data_node::without_live;
 use pm_alloc::Retire;
 use pm_words::offsets::{line, node, volatile};
@@ -44,6 +45,7 @@ pub enum JoinAt {
     /// It stores the prev of the node behind the right one.
     NextPrev,
     Ready { ready: Ready },
+    /// It stores EMPTY into the line, where that isn't left to a turn.
     Clear,
     UnlockRight,
     Unlock,
@@ -125,7 +127,7 @@ impl Machine for Join {
             JoinAt::NextPrev => self.goes_to(self.union.makes_ready()),
             JoinAt::Ready { ready } => match ready.resume(got) {
                 Turn::Go(ready) => self.goes_to(JoinAt::Ready { ready }),
-                Turn::Done(()) => self.goes_to(JoinAt::Clear),
+                Turn::Done(()) => self.goes_to(after_ready()),
             },
             JoinAt::Clear => self.goes_to(JoinAt::UnlockRight),
             JoinAt::UnlockRight => self.goes_to(JoinAt::Unlock),
@@ -182,6 +184,17 @@ fn after_switch(fence: Option<Fence>) -> JoinAt
     match fence {
         Some(fence) => JoinAt::FenceSwitch { fence },
         None => JoinAt::Retire,
+    }
+}
+
+/// Once the line is READY.
+fn after_ready() -> JoinAt
+    ensures { result ≡ after_ready }
+{
+    if leaves_lines() {
+        JoinAt::UnlockRight
+    } else {
+        JoinAt::Clear
     }
 }
 

@@ -1,6 +1,8 @@
 ghost use Rattle.std.specs.Prelude.{◌≡◌};
+ghost use Rattle.split_merge.specs.Moves.{after_ready};
 
 use crate::planning::Plan;
+use call_stages::leaves_lines;
 use pm_words::offsets::{line, node, volatile};
 use pm_words::{Action, Fence, KEY, LINE, Machine, Turn};
 use smo_log::{Open, Ready};
@@ -41,6 +43,7 @@ pub enum MoveAt {
     Trim,
     FenceTrim { fence: Fence },
     Ready { ready: Ready },
+    /// It stores EMPTY into the line, where that isn't left to a turn.
     Clear,
     UnlockFresh,
     Unlock,
@@ -159,12 +162,23 @@ impl Move {
             MoveAt::FenceTrim { fence } => Some(self.plan.after_trim(fence.next(got))),
             MoveAt::Ready { ready } => match ready.resume(got) {
                 Turn::Go(ready) => Some(MoveAt::Ready { ready }),
-                Turn::Done(()) => Some(MoveAt::Clear),
+                Turn::Done(()) => Some(after_ready()),
             },
             MoveAt::Clear => Some(MoveAt::UnlockFresh),
             MoveAt::UnlockFresh => Some(MoveAt::Unlock),
             MoveAt::Unlock => None,
         }
+    }
+}
+
+/// Once the line is READY.
+fn after_ready() -> MoveAt
+    ensures { result ≡ after_ready }
+{
+    if leaves_lines() {
+        MoveAt::UnlockFresh
+    } else {
+        MoveAt::Clear
     }
 }
 

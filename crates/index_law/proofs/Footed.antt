@@ -1,14 +1,14 @@
 -- What leaves all that parties have of log lines and prevs: other indexes of idle parties, words that become durable, the
 -- stamps of nodes.
-use Rattle.std.proofs.Common.{◌≡◌, ◌≢◌, ℕ, ◌<◌, ◌≤◌, ◌⊎◌, inl, inr, ⊎_elim, Bool, true, false, cond, ◌&&◌, List, [], set, refl, sym, ap, ◌∙◌, subst, arith}
-use Rattle.std.specs.Prelude.{Option, Some, None, IfSome}
+use Rattle.std.proofs.Common.{◌≡◌, ◌≢◌, ℕ, ◌<◌, ◌≤◌, ◌⊎◌, inl, inr, ⊎_elim, Bool, true, false, cond, ◌&&◌, List, [], length, set, refl, sym, ap, ◌∙◌, subst, arith}
+use Rattle.std.specs.Prelude.{Some, None, IfSome}
 use Rattle.std.proofs.lemmas.Bool.{cases_lt, cases_eq, lt-ltb, le-ltb, ltb-true}
-use mathlib.Core.Option.{some}
+use mathlib.Core.Option.{some, some-injective}
 use lib.ListN.{get_elem?}
 use Rattle.pm_words.specs.declared.layout.Layout.{Layout}
 use Rattle.pm_words.specs.Layouts.{IsLayout}
 use Rattle.pm_words.specs.Images.{fresh_words}
-use Rattle.pm_words.specs.Locations.{Location, Node, Line, Clock, Volatile, Cached, Durable, HasWord, HasLocation, at, image_words, address_of}
+use Rattle.pm_words.specs.Locations.{Location, Node, Line, Clock, Volatile, Cached, Durable, HasWord, HasLocation, at, address_of}
 use Rattle.pm_words.specs.Rows.{evicted, row_of}
 use Rattle.pm_words.proofs.Apart.{at-set_other}
 use Rattle.pm_words.proofs.Made.{fresh_at, fresh_image, row_of-at, row_of-at_volatile}
@@ -17,33 +17,25 @@ use Rattle.data_node.specs.Lists.{next_offset}
 use Rattle.call_stages.specs.Stages.{Stage, Idle, HoldsNode, Tells}
 use Rattle.call_stages.specs.Kinds.{HasWordAt, live_status}
 use Rattle.call_stages.specs.Lines.{HeldLine}
-use Rattle.call_stages.specs.Prevs.{Debt, no_debt}
 use Rattle.index_law.specs.Facts.{Facts, facts_of, map_now, IsListed, status_in, spot_in}
-use Rattle.index_law.specs.Worlds.{Party, World, facts, evicted_world}
-use Rattle.index_law.specs.Lawful.{Lawful, Each}
+use Rattle.index_law.specs.Worlds.{Party, World, facts}
+use Rattle.index_law.specs.Lawful.{Lawful}
 use Rattle.index_law.specs.Laws.{fresh_row, fresh_world, next_round}
 use Rattle.index_law.specs.Lines.{line_in, safe_line, AreFit, SureLine, IsGiven, IsWaiting}
 use Rattle.call_stages.specs.Orders.{AreInOrder}
 use Rattle.index_law.specs.Prevs.{prev_in, IsOwed, IsGone}
-use Rattle.index_law.specs.Whole.{Whole, IsWhole}
-use Rattle.index_law.specs.Footings.{AreTended}
+use Rattle.index_law.specs.Whole.{Whole}
+use Rattle.index_law.specs.Footings.{NeedsNoParty}
+use Rattle.index_law.specs.Footed.{IsFooted, AreAlike, AreFree, EvictIsFooted, StartIsFooted, AlikeIsFooted, RestIsFooted, RoundIsFooted, StampIsFooted, FreshIsFooted}
 use Rattle.index_law.proofs.Evictions.{evict_law}
 use Rattle.index_law.proofs.Fresh.{fresh_law}
 use Rattle.index_law.proofs.Joint.{sure_same, fit_same}
 use Rattle.index_law.proofs.Noting.{LinesStay, line-alike, same_spots, evict_fits, store_leaves}
 use Rattle.index_law.proofs.Prevs.{store_prev, evict_traces, rest_traced, idle_follow}
 use Rattle.index_law.proofs.Rows.{facts-elsewhere, spot_in-here}
-use Rattle.index_law.proofs.Starts.{rest_law, idle_law, listed_within}
+use Rattle.index_law.proofs.Parties.{at_set, set_here, set_else}
+use Rattle.index_law.proofs.Starts.{start_law, rest_law, idle_law, listed_within}
 use Rattle.index_law.proofs.Twins.{IsCloser, evict_closer, evict_cached}
-
--- All that is kept of lines and prevs.
-abbrev pub IsFooted : Whole → Type 0
-IsFooted z = IsWhole z × AreTended z
-
--- The same parties, each with its caller and its stage.
-pub record AreAlike (old new : List Party) : Type 0 where
-  pub forth : (i : ℕ) (p : Party) → get_elem? old i ≡ some p → (q : Party) × (get_elem? new i ≡ some q) × (q.caller ≡ p.caller) × (q.stage ≡ p.stage)
-  pub back : (i : ℕ) (q : Party) → get_elem? new i ≡ some q → (p : Party) × (get_elem? old i ≡ some p) × (q.caller ≡ p.caller) × (q.stage ≡ p.stage)
 
 -- a row in which the nodes, their prevs and the lines are the same, with such parties
 moved_footed : (z : Whole) (words : List ℕ) (parties : List Party) → IsFooted z → Lawful (record (z.world) { words = words; parties = parties }) → AreAlike z.world.parties parties
@@ -85,14 +77,34 @@ moved_footed z words parties is lawful alike same prevs stay =
         };
       },
       λ c j here low. ⊎_elim
-          (λ zero. inl ((stay c j 0).0 ∙ zero))
+          (λ none. inl (subst NeedsNoParty (sym (stay c j 0).0) none))
           (λ hand. inr (record { number = hand.number; line = hand.line; there = hand.there; caller = hand.caller; index = hand.index }))
           (is.1 c j here low),
     )
 
-pub alike_footed : (z : Whole) (parties : List Party) → IsFooted z → Lawful (record (z.world) { parties = parties }) → AreAlike z.world.parties parties
-    → IsFooted (record { world = record (z.world) { parties = parties }; lines = z.lines; debts = z.debts })
+pub alike_footed : AlikeIsFooted
 alike_footed z parties is lawful alike = moved_footed z z.world.words parties is lawful alike refl (λ n. refl) (λ c j offset. (refl, refl))
+
+-- parties of which one is another of the same caller and stage
+pub alike_here : (parties : List Party) (i : ℕ) (p q : Party) → get_elem? parties i ≡ some p → q.caller ≡ p.caller → q.stage ≡ p.stage → AreAlike parties (set parties i q)
+alike_here parties i p q there caller stage = record {
+  forth = λ j r at. ⊎_elim
+      (λ (same : j ≡ i).
+      let own : p ≡ r = some-injective _ _ (sym there ∙ ap (get_elem? parties) (sym same) ∙ at) in
+      (q, ap (get_elem? (set parties i q)) same ∙ set_here parties i q p there, caller ∙ ap (λ (d : Party). d.caller) own, stage ∙ ap (λ (d : Party). d.stage) own))
+      (λ (other : j ≢ i). (r, set_else parties i j q other ∙ at, refl, refl))
+      (cases_eq j i);
+  back = λ j r at. ⊎_elim
+      (λ (mine : (j ≡ i) × (q ≡ r)).
+      (p, ap (get_elem? parties) mine.0 ∙ there, ap (λ (d : Party). d.caller) (sym mine.1) ∙ caller, ap (λ (d : Party). d.stage) (sym mine.1) ∙ stage))
+      (λ (other : (j ≢ i) × (get_elem? parties j ≡ some r)). (r, other.1, refl, refl))
+      (at_set parties i j q r at);
+}
+
+pub start_footed : StartIsFooted
+start_footed z i p index is there idle =
+    let begun : Party = record { caller = p.caller; index = index; since = length z.world.history; stage = Idle } in
+    alike_footed z (set z.world.parties i begun) is (start_law z.world i p index is.0.joint.lawful there idle) (alike_here z.world.parties i p begun there refl (sym idle))
 
 -- a durable word of a line that is its cached twin stays so in a closer row
 clean_word : (l : Layout) (words words' : List ℕ) → IsCloser l words words' → (c j offset : ℕ) → c < l.callers → j < 8
@@ -121,8 +133,7 @@ sure_closer l words words' e closer line sure =
           (record { state = waits.state; entry = waits.entry; durable = λ offset other. stays offset (waits.durable offset other); blind = waits.blind });
     }
 
-pub evict_footed : (z : Whole) (word : ℕ) → IsFooted z → word < image_words z.world.layout
-    → IsFooted (record { world = evicted_world z.world word; lines = z.lines; debts = z.debts })
+pub evict_footed : EvictIsFooted
 evict_footed z word is within =
     let l = z.world.layout in
     let words = z.world.words in
@@ -141,27 +152,20 @@ evict_footed z word is within =
         traced = evict_traces (record { world = z.world; debts = z.debts }) word is.0.traced within;
       },
       λ c j here low. ⊎_elim
-          (λ zero. inl (line c j 0 ∙ zero))
+          (λ none. inl (subst NeedsNoParty (sym (line c j 0)) none))
           (λ hand. inr (record { number = hand.number; line = hand.line; there = hand.there; caller = hand.caller; index = hand.index }))
           (is.1 c j here low),
     )
 
--- no party has a line, or owes anything, and each stands at its number
-pub record AreFree (parties : List Party) (held : List (Option HeldLine)) (owed : List Debt) : Type 0 where
-  pub idle : Each (λ p. p.stage ≡ Idle) parties
-  pub callers : (i : ℕ) (p : Party) → get_elem? parties i ≡ some p → p.caller ≡ i
-  pub lines : (i : ℕ) (e : Option HeldLine) → get_elem? held i ≡ some e → e ≡ None
-  pub debts : (i : ℕ) (d : Debt) → get_elem? owed i ≡ some d → d ≡ no_debt
-
 no_line_held : (e : HeldLine) → Some e ≡ None → ⊥
 no_line_held e is = cc
 
--- an index of such parties, all of whose lines are EMPTY
+-- an index of parties that have nothing, whose log lines need no party
 free_footed : (z : Whole) → AreFree z.world.parties z.lines z.debts → Lawful z.world → AreFit z.world.layout z.world.words
-    → ((c j : ℕ) → c < z.world.layout.callers → j < 8 → line_in z.world.layout z.world.words c j 0 ≡ 0)
+    → ((c j : ℕ) → c < z.world.layout.callers → j < 8 → NeedsNoParty (line_in z.world.layout z.world.words c j 0))
     → ((n : ℕ) → IsListed (facts z.world) n → (facts z.world).now n next_offset ≢ 0 → prev_in z.world.layout z.world.words ((facts z.world).now n next_offset) ≡ n)
     → AreInOrder z.world.layout.nodes (IsGone (facts z.world)) (prev_in z.world.layout z.world.words) → ((n : ℕ) → prev_in z.world.layout z.world.words n < z.world.layout.nodes) → IsFooted z
-free_footed z free lawful fit empty follow order below = (
+free_footed z free lawful fit none follow order below = (
   record {
     joint = record {
       lawful = lawful;
@@ -172,7 +176,7 @@ free_footed z free lawful fit empty follow order below = (
     };
     traced = rest_traced (record { world = z.world; debts = z.debts }) (idle_law z.world lawful free.idle) free.debts follow order below;
   },
-  λ c j here low. inl (empty c j here low),
+  λ c j here low. inl (none c j here low),
 )
 
 -- what is 0, or not there
@@ -236,14 +240,13 @@ module _ (l : Layout) (layout : IsLayout l) where
       spot_in-here l (fresh_row l) n 2 has (omega arith)
       ∙ stays_zero (Cached (Node n 2)) has (λ e. cc) ((row_of-at l (fresh_words l) (Node n 2) (fresh_image l layout) has).0 ∙ fresh_at l (Node n 2) has)
 
-pub fresh_footed : (l : Layout) (parties : List Party) (lines : List (Option HeldLine)) (debts : List Debt) → IsLayout l → AreFree parties lines debts → Each (λ p. p.since ≤ 0) parties
-    → IsFooted (record { world = fresh_world l parties; lines = lines; debts = debts })
+pub fresh_footed : FreshIsFooted
 fresh_footed l parties lines debts layout free since =
     let w = fresh_world l parties in
     let lawful : Lawful w = rest_law w (fresh_law l parties layout free.idle since) in
     free_footed (record { world = w; lines = lines; debts = debts }) free lawful
     (λ c j mix is. inl (⊎_elim (λ durably. durably ∙ empty_safe l layout c j) (λ cached. cached ∙ empty_line l layout c j) (is 0)))
-    (λ c j here low. empty_line l layout c j)
+    (λ c j here low. inl (empty_line l layout c j))
     (λ n listed ne. absurd (ne (zero_next l layout n (listed_within l (facts w) lawful.list layout n listed))))
     (record {
       order = [];
@@ -263,20 +266,18 @@ fresh_footed l parties lines debts layout free since =
         (cases_eq n 0)
 
 -- an index with no call in flight, with other idle parties
-pub rest_footed : (z : Whole) (parties : List Party) (lines : List (Option HeldLine)) (debts : List Debt) → IsFooted z → AreFree z.world.parties z.lines z.debts → AreFree parties lines debts
-    → Lawful (record (z.world) { parties = parties }) → IsFooted (record { world = record (z.world) { parties = parties }; lines = lines; debts = debts })
+pub rest_footed : RestIsFooted
 rest_footed z parties lines debts is was free lawful =
     free_footed (record { world = record (z.world) { parties = parties }; lines = lines; debts = debts }) free lawful is.0.joint.fit
     (λ c j here low. ⊎_elim
-    (λ zero. zero)
+    (λ none. none)
     (λ hand. absurd (no_line_held hand.line (was.lines hand.number (Some hand.line) hand.there)))
     (is.1 c j here low))
     (λ n listed ne. idle_follow (record { world = z.world; debts = z.debts }) n is.0.traced was.idle listed ne)
     is.0.traced.order is.0.traced.below
 
 -- an index with another stamp of a node
-pub stamp_footed : (z : Whole) (n : ℕ) → IsFooted z → n < z.world.layout.nodes → Lawful (record (z.world) { words = set z.world.words (address_of z.world.layout (Volatile n 2)) 1 })
-    → IsFooted (record { world = record (z.world) { words = set z.world.words (address_of z.world.layout (Volatile n 2)) 1 }; lines = z.lines; debts = z.debts })
+pub stamp_footed : StampIsFooted
 stamp_footed z n is here lawful =
     let l = z.world.layout in
     let words = z.world.words in
@@ -289,8 +290,7 @@ stamp_footed z n is here lawful =
     (store_leaves l words (Volatile n 2) 1 has (λ c j o. (λ e. cc, λ e. cc)))
 
 -- an index with no call in flight as its next round begins, with other idle parties
-pub round_footed : (z : Whole) (parties : List Party) (lines : List (Option HeldLine)) (debts : List Debt) → IsFooted z → AreFree z.world.parties z.lines z.debts → AreFree parties lines debts
-    → Lawful (next_round z.world parties) → IsFooted (record { world = next_round z.world parties; lines = lines; debts = debts })
+pub round_footed : RoundIsFooted
 round_footed z parties lines debts is was free lawful =
     let l = z.world.layout in
     let words = z.world.words in
@@ -303,10 +303,10 @@ round_footed z parties lines debts is was free lawful =
     let same_prevs : prev' ≡ prev = λ i n. prevs n i in
     let stay : (c j o : ℕ) → LinesStay l words words' c j o = store_leaves l words Clock 0 tt (λ c j o. (λ e. cc, λ e. cc)) in
     free_footed (record { world = next_round z.world parties; lines = lines; debts = debts }) free lawful (fit_same l words words' stay is.0.joint.fit)
-    (λ c j here low. (stay c j 0).0 ∙ ⊎_elim
-    (λ zero. zero)
+    (λ c j here low. subst NeedsNoParty (sym (stay c j 0).0) (⊎_elim
+    (λ none. none)
     (λ hand. absurd (no_line_held hand.line (was.lines hand.number (Some hand.line) hand.there)))
-    (is.1 c j here low))
+    (is.1 c j here low)))
     (subst (λ (φ : Facts). (n : ℕ) → IsListed φ n → φ.now n next_offset ≢ 0 → prev' (φ.now n next_offset) ≡ n) (sym same)
     (λ n listed ne. prevs (f.now n next_offset) ∙ idle_follow (record { world = z.world; debts = z.debts }) n is.0.traced was.idle listed ne))
     (subst (λ (φ : Facts). AreInOrder l.nodes (IsGone φ) prev') (sym same) (subst (AreInOrder l.nodes (IsGone f)) (sym same_prevs) is.0.traced.order))
