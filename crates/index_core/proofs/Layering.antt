@@ -22,7 +22,7 @@ use Rattle.call_stages.specs.Lines.{HeldLine}
 use Rattle.call_stages.specs.Prevs.{Debt}
 use Rattle.call_stages.specs.Watches.{Nothing}
 use Rattle.call_stages.specs.Footings.{Footing, FootStep}
-use Rattle.index_core.specs.Leaving.{leaves_lines}
+use Rattle.call_stages.specs.Leaving.{leaves_lines}
 use Rattle.node_ops.specs.declared.running.Running.{Running}
 use Rattle.node_ops.specs.CallStages.{stage_of, footing_of, footing_after, reply_of}
 use Rattle.node_ops.specs.RunningSteps.{running_asks, running_turned}

@@ -13,7 +13,7 @@ use Rattle.cat_history.specs.declared.op.Write.{Write}
 use Rattle.call_stages.specs.Stages.{Stage, Idle, Saw, Wears, Holds, Eyes, Splits, Leaves, Meets, Joins, counted}
 use Rattle.call_stages.specs.Stages.{placed_in}
 use Rattle.call_stages.specs.AnySteps.{AnyStep}
-use Rattle.index_core.specs.Leaving.{leaves_lines}
+use Rattle.call_stages.specs.Leaving.{leaves_lines}
 use Rattle.call_stages.specs.declared.view.View.{View}
 use Rattle.data_list.specs.Walks.{high_of}
 use Rattle.node_ops.specs.declared.running.Running.{Running}

@@ -1,5 +1,4 @@
 pub mod CoreCalls
-pub mod Leaving
 pub mod PartyStates
 pub mod InFlight
 pub mod Answers

@@ -9,7 +9,7 @@ use Rattle.call_stages.specs.declared.once.Placed.{Placed}
 use Rattle.call_stages.specs.Stages.{Stage, Idle}
 use Rattle.call_stages.specs.Prevs.{no_debt}
 use Rattle.call_stages.specs.Watches.{Nothing}
-use Rattle.index_core.specs.Leaving.{leaves_lines}
+use Rattle.call_stages.specs.Leaving.{leaves_lines}
 use Rattle.call_stages.specs.Footings.{Footing}
 use Rattle.node_ops.specs.declared.finish.FinishAt.{FinishAt}
 use Rattle.node_ops.specs.declared.finish.FinishAt.TheVariants as finish_at

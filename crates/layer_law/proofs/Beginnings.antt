@@ -27,7 +27,7 @@ use Rattle.layer_law.specs.Turnings.{terms_of, ghosts_of, SureWatch, SureWatches
 use Rattle.layer_law.specs.Layers.{Layered, turn_facts, IsLayered}
 use Rattle.layer_law.specs.Beginnings.{begun_anew, IsIdleOrKept, BeginningKeepsLayer, OtherTurnsMayRest}
 use Rattle.layer_law.proofs.FactTies.{Rest, known, rest_in, facts_tie, rest_same}
-use Rattle.layer_law.proofs.CallNodes.{moved_along, retiring_lines}
+use Rattle.layer_law.proofs.Retired.{retiring_lines}
 use Rattle.layer_law.proofs.CallMoves.{now_known}
 use Rattle.layer_law.proofs.CallRows.{row_after}
 use Rattle.layer_law.proofs.TurnRests.{rests_for}
@@ -92,6 +92,7 @@ module _ (z : Layered) (clock : ℕ) (parties : List Party) (base : Map) (histor
     one = is.one;
     active = is.active;
     lock = λ free. is.lock (sym (at-set_other l w.words Clock Updater clock tt tt (λ e. cc)) ∙ free);
+    unlocked = λ rest. at-set_other l w.words Clock Updater clock tt tt (λ e. cc) ∙ is.unlocked rest;
     rows = λ i u at rests. row_after (terms_of w u) (ghosts_of w is.holder) (ghosts_of w' is.holder) w.words words' (ap (λ (r : Rest). r.leaves) same_rest) (ap (λ (r : Rest). r.safe_leaves) same_rest)
         (λ j two o small. at_line o small j) u.stage (inl (same_turn u))
         (λ e target has. found_target (terms_of w u) words' base history is.holder whole.joint.lawful.list e.anchor target (shown e.anchor target (is.shown i u e target at has)))
@@ -129,6 +130,7 @@ other_turns_may_rest z turns i t is rested rest there =
       one = λ j k u v at_u at_v busy_u busy_v. absurd (busy_u (rest j u at_u).stage);
       active = (i, t, there, λ j u at_u other. (rest j u at_u).stage);
       lock = λ free j u at_u. (rest j u at_u).stage;
+      unlocked = λ all_rest. is.unlocked rested;
       rows = λ j u at_u others. subst (RowLawful (terms_of w u) (ghosts_of w is.holder) w.words) (sym (rest j u at_u).stage)
           (rests_for w (ghosts_of w is.holder) w.words active.1 u (rest j u at_u).stamp row);
       stamps = λ j u at_u. (rest j u at_u).stamp;

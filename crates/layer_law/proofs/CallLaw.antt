@@ -86,6 +86,7 @@ module _ (z : Layered) (i : ℕ) (p : Party) (is : IsLayered z) (there : get_ele
     one = is.one;
     active = is.active;
     lock = λ free. is.lock (sym besides.lock ∙ free);
+    unlocked = λ rest. besides.lock ∙ is.unlocked rest;
     rows = λ j u at rests. row_after (terms_of w u) (ghosts_of w is.holder) (ghosts_of w' is.holder) w.words words' besides.cached besides.durable besides.lines u.stage
         (moved_along (now_known l w.generation (facts w) (rest_in l w.words) is.holder) (known l w.generation (facts w) is.holder (rest_in l words')) (turn_facts w is.holder u) (turn_facts w' is.holder u) (facts_tie w is.holder u)
         (facts_tie w' is.holder u ∙ (λ n. known l w.generation (same_facts n) is.holder (rest_in l words'))) besides.moved)

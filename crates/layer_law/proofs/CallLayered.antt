@@ -208,6 +208,7 @@ module _ (z : Layered) (i : ℕ) (p : Party) (is : IsLayered z) (there : get_ele
     one = is.one;
     active = is.active;
     lock = λ free. is.lock (sym (nodes_leave_others l words p.stage a Updater tt (record { clock = λ e. cc; status = λ m e. cc; cached = λ m o e. cc; durable = λ m o e. cc }) allowed) ∙ free);
+    unlocked = λ rest. nodes_leave_others l words p.stage a Updater tt (record { clock = λ e. cc; status = λ m e. cc; cached = λ m o e. cc; durable = λ m o e. cc }) allowed ∙ is.unlocked rest;
     rows = λ j u at rests. row_after (terms_of w u) (ghosts_of w is.holder) (ghosts_of w' holder') words words' (ap (λ (rest : Rest). rest.leaves) same_rest) (ap (λ (rest : Rest). rest.safe_leaves) same_rest)
         (λ number two o small. same_lines number o small) u.stage (turn_moves u)
         (λ e target has. found_target (terms_of w u) words' w.base w'.history holder' whole.0.joint.lawful.list e.anchor target (shown' u e.anchor target (is.shown j u e target at has)))

@@ -5,7 +5,7 @@ use Rattle.std.proofs.lemmas.Bool.{cases_eq, eq-eqb, ne_eqb, cond_both, lt-ltb, 
 use Rattle.pm_words.specs.declared.layout.Layout.{Layout}
 use Rattle.pm_words.specs.Layouts.{IsLayout}
 use Rattle.pm_words.specs.Images.{fresh_words, fresh_word}
-use Rattle.pm_words.specs.Locations.{Word, Location, Node, Line, Leaf, Volatile, Cached, Durable, HasLocation, HasWord, leaf_count, at}
+use Rattle.pm_words.specs.Locations.{Word, Location, Node, Line, Leaf, Updater, Volatile, Cached, Durable, HasLocation, HasWord, leaf_count, at}
 use Rattle.pm_words.specs.Rows.{row_of}
 use Rattle.pm_words.proofs.Apart.{at-set_other, at-set_same}
 use Rattle.pm_words.proofs.Made.{fresh_at, fresh_image, row_of-at, row_of-at_volatile, row_of-row}
@@ -161,4 +161,5 @@ module _ (l : Layout) (layout : IsLayout l) where
 pub fresh_is_layered : FreshIsLayered
 fresh_is_layered l parties lines debts turns i t layout whole tended idle rest there =
     rest_is_layered (record { whole = record { world = fresh_world l parties; lines = lines; debts = debts }; turns = turns }) i t whole tended idle rest there
+    (elsewhere l layout Updater tt (λ e. cc) ∙ row_of-at_volatile l (fresh_words l) Updater tt (omega arith))
     (fresh_row_is l layout parties t (rest i t there).stamp)

@@ -19,6 +19,7 @@ pub mod TurnFrees
 pub mod TurnTouches
 pub mod TurnKept
 pub mod TurnRests
+pub mod TurnLocks
 pub mod TurnSteps
 pub mod LayerCover
 pub mod LayerStays

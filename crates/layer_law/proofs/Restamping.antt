@@ -9,7 +9,6 @@ use Rattle.pm_words.proofs.Apart.{at-set_other, at-set_same}
 use Rattle.index_law.specs.Facts.{Facts}
 use Rattle.index_law.specs.Worlds.{World, facts}
 use Rattle.index_law.proofs.Rows.{facts-elsewhere}
-use Rattle.search_layer.specs.Keys.{key_of}
 use Rattle.search_layer.specs.Leaves.{LayerWords, IsLayerRow, leaves_in}
 use Rattle.search_layer.proofs.LeafRows.{leaves_in-alike}
 use Rattle.turn_law.specs.Facts.{TurnTerms, TurnFacts}
@@ -24,8 +23,8 @@ use Rattle.turn_row.proofs.RowColumns.{column-here, column-alike, column-same}
 use Rattle.layer_law.specs.Turnings.{terms_of, ghosts_of, SureWatch}
 use Rattle.layer_law.specs.Layers.{Layered, turn_facts, IsLayered}
 use Rattle.layer_law.specs.Beginnings.{restamped, StampKeepsLayer}
-use Rattle.layer_law.proofs.FactTies.{Rest, known, rest_in, facts_tie, RestStays, rest_same}
-use Rattle.layer_law.proofs.CallNodes.{retiring_lines}
+use Rattle.layer_law.proofs.FactTies.{known, rest_in, facts_tie, lines_same}
+use Rattle.layer_law.proofs.Retired.{retiring_lines}
 
 -- for a turn that rests, stamps of which the same are 0
 with_stamps : (c : TurnTerms) (f : TurnFacts) (stamp : ℕ → ℕ) → ((n : ℕ) → f.stamp n ≡ 0 → stamp n ≡ 0) → ((n : ℕ) → stamp n ≡ 0 → f.stamp n ≡ 0) → TurnLawful c f turns.Resting → TurnLawful c (record f { stamp = stamp }) turns.Resting
@@ -76,22 +75,14 @@ module _ (z : Layered) (n y : ℕ) (is : IsLayered z) (here : n < z.whole.world.
   same_facts : facts w' ≡ facts w
   same_facts = facts-elsewhere l w.words w.base w.history (Volatile n 2) y has (λ m o e. cc, λ m e. let no : 2 ≡ 0 = ap offset_of e in omega arith)
 
-  lines_same : (twin : Word → Location) → ((j o : ℕ) → j < columns.line_count l → o < 8 → at l words' (twin (line_word o j)) ≡ at l w.words (twin (line_word o j))) → columns.lines_in l words' twin ≡ columns.lines_in l w.words twin
-  lines_same twin same =
-      let field : (o : ℕ) → o < 8 → columns.line_field l words' twin o ≡ columns.line_field l w.words twin o = λ o small. column-same l w.words words' (columns.line_count l) (λ j. twin (line_word o j)) (λ j there. same j o there small) in
-      let l0 = field 0 (omega arith) in
-      let l1 = field 1 (omega arith) in
-      let l2 = field 2 (omega arith) in
-      let l3 = field 3 (omega arith) in
-      let l4 = field 4 (omega arith) in
-      let l5 = field 5 (omega arith) in
-      λ k. record { state = l0 k; kind = l1 k; node = l2 k; anchor = λ j. key_of (l3 k j) (l4 k j) (l5 k j) }
+  fields_same : (twin : Word → Location) → ((j o : ℕ) → j < columns.line_count l → o < 8 → at l words' (twin (line_word o j)) ≡ at l w.words (twin (line_word o j))) → columns.lines_in l words' twin ≡ columns.lines_in l w.words twin
+  fields_same twin same = lines_same l w.words words' twin (λ o small. column-same l w.words words' (columns.line_count l) (λ j. twin (line_word o j)) (λ j there. same j o there small))
 
   lines_are : columns.lines_in l words' Cached ≡ columns.lines_in l w.words Cached
-  lines_are = lines_same Cached (λ j o there small. elsewhere (Cached (line_word o j)) (omega arith, omega arith, small) (λ e. cc))
+  lines_are = fields_same Cached (λ j o there small. elsewhere (Cached (line_word o j)) (omega arith, omega arith, small) (λ e. cc))
 
   safe_lines_are : columns.lines_in l words' Durable ≡ columns.lines_in l w.words Durable
-  safe_lines_are = lines_same Durable (λ j o there small. elsewhere (Durable (line_word o j)) (omega arith, omega arith, small) (λ e. cc))
+  safe_lines_are = fields_same Durable (λ j o there small. elsewhere (Durable (line_word o j)) (omega arith, omega arith, small) (λ e. cc))
 
   leaves_are : leaves_in l words' Cached ≡ leaves_in l w.words Cached
   leaves_are = λ k leaf o. leaves_in-alike l w.words words' Cached leaf o (λ there small. elsewhere (Cached (Leaf leaf o)) (there, small) (λ e. cc)) k
@@ -142,6 +133,7 @@ stamp_keeps_layer z n y is rests here has_some still whole tended =
       one = is.one;
       active = is.active;
       lock = λ free. is.lock (sym (elsewhere z n y is here Updater tt (λ e. cc)) ∙ free);
+      unlocked = λ all_rest. elsewhere z n y is here Updater tt (λ e. cc) ∙ is.unlocked all_rest;
       rows = λ i u at_u others. subst (RowLawful (terms_of w2 u) (ghosts_of w2 is.holder) w2.words) (sym (rests i u at_u))
           (row_is z n y is here has_some still u (subst (RowLawful (terms_of w u) (ghosts_of w is.holder) w.words) (rests i u at_u) (is.rows i u at_u others)));
       stamps = is.stamps;

@@ -96,6 +96,10 @@ module _ (z : Layered) (i : ℕ) (t next : Turning) (is : IsLayered z) (there : 
         ))
         (cases_eq is.active.0 i);
     lock = λ free. each z.turns i next (λ j u. u.stage ≡ Resting) now (λ j u other at_u. is.lock free j u at_u);
+    unlocked = λ rest. is.unlocked (λ k u at_u. ⊎_elim
+        (λ (same : k ≡ i). ap (λ (v : Turning). v.stage) (some-injective _ _ (sym at_u ∙ ap (get_elem? z.turns) same ∙ there)) ∙ was)
+        (λ (apart : k ≢ i). rest k u (set_else z.turns i k next apart ∙ at_u))
+        (cases_eq k i));
     rows = λ j u at_u rests. each z.turns i next (λ k v. AreRestingBut turns k → RowLawful (terms_of w v) (ghosts_of w is.holder) words v.stage)
         (λ still. subst (RowLawful (terms_of w next) (ghosts_of w is.holder) words) (sym now)
         (rests_for w (ghosts_of w is.holder) words t next stamp
@@ -114,7 +118,7 @@ turn_start_keeps z i t stamp release is there was some_stamp =
     rests_keep z i t (record { stamp = stamp; release = release; stage = Resting; watch = Nothing }) is there was refl some_stamp tt
 
 pub rest_is_layered : RestIsLayered
-rest_is_layered z i t whole tended idle rest there row = record {
+rest_is_layered z i t whole tended idle rest there unlocked row = record {
   whole = whole;
   tended = tended;
   holder = λ n. 0;
@@ -122,6 +126,7 @@ rest_is_layered z i t whole tended idle rest there row = record {
   one = λ j k u v at_u at_v busy_u busy_v. absurd (busy_u (rest j u at_u).stage);
   active = (i, t, there, λ j u at_u other. (rest j u at_u).stage);
   lock = λ free j u at_u. (rest j u at_u).stage;
+  unlocked = λ all_rest. unlocked;
   rows = λ j u at_u others. subst (RowLawful (terms_of z.whole.world u) (ghosts_of z.whole.world (λ n. 0)) z.whole.world.words) (sym (rest j u at_u).stage)
       (rests_for z.whole.world (ghosts_of z.whole.world (λ n. 0)) z.whole.world.words t u (rest j u at_u).stamp row);
   stamps = λ j u at_u. (rest j u at_u).stamp;

@@ -1,9 +1,9 @@
 -- A step of a turn can be done, and keeps the index with its search layer.
 use Rattle.std.proofs.Common.{◌≡◌, ◌≢◌, ℕ, ◌^◌, ◌<◌, ◌⊎◌, ⊎_elim, inl, inr, cond, List, slice_set, refl, sym, ap, ◌∙◌, subst, arith}
 use Rattle.std.specs.Prelude.{◌==◌, ◌||◌}
-use Rattle.std.proofs.lemmas.Bool.{ne_eqb}
+use Rattle.std.proofs.lemmas.Bool.{cases_eq, ne_eqb}
 use Rattle.std.proofs.lemmas.List.{set-get_or}
-use mathlib.Core.Option.{some}
+use mathlib.Core.Option.{some, some-injective}
 use lib.ListN.{get_elem?}
 use Rattle.pm_words.specs.declared.layout.Layout.{Layout}
 use Rattle.pm_words.specs.declared.action.Action.{Action}
@@ -18,14 +18,15 @@ use Rattle.turn_row.specs.RowSteps.{lock_at, RowStep, takes_lock, finds_held}
 use Rattle.turn_row.specs.RowLaw.{RowLawful}
 use Rattle.turn_row.proofs.RowActions.{row_step_can_act}
 use Rattle.turn_row.proofs.RowTurns.{row_step_keeps}
-use Rattle.index_law.specs.Facts.{Facts}
+use Rattle.index_law.specs.Facts.{Facts, status_in}
 use Rattle.index_law.specs.Worlds.{World, facts}
 use Rattle.index_law.proofs.Parties.{at_set, set_here, set_else}
 use Rattle.turn_row.specs.Turnings.{Turning, TurnFoot}
 use Rattle.layer_law.specs.Turnings.{terms_of, AreRestingBut, is_member, ghosts_of, SureWatch, IsShown}
 use Rattle.layer_law.specs.Layers.{Layered, IsLayered}
-use Rattle.layer_law.specs.Laws.{turned, TurnStepKeeps}
+use Rattle.layer_law.specs.Laws.{turned, TurnStepKeeps, TurnStepLeavesNodes}
 use Rattle.layer_law.proofs.TurnKept.{Keeps, touches_keep}
+use Rattle.layer_law.proofs.TurnLocks.{gives_back}
 use Rattle.layer_law.proofs.TurnRests.{rests_for, each, rests_keep}
 use Rattle.layer_law.proofs.TurnTouches.{Touched, touched}
 use Rattle.layer_law.proofs.TurnWalks.{watch_keeps, watch_same, shown_same, found_target}
@@ -63,6 +64,11 @@ resting_step r words a x next (finds_held taken) told =
       same = ap (λ b. slice_set words (lock_at l) (cond b 1 word)) (ne_eqb word 0 (λ zero. taken (told ∙ zero))) ∙ set-get_or words (lock_at l) 0;
       can = ((addresses_within l Updater tt, outside_header l Updater tt (λ k lt. (λ e. cc, λ e. cc))), omega arith);
     })
+
+-- a turn that rests still has found the lock taken
+found_lock : (r : RowTerms) (words : List ℕ) {a : Action} {x : ℕ} {next : RowStage} → RowStep r Resting a x next → x ≡ got r.layout words a → next ≡ Resting → at r.layout words Updater ≡ 0 → ⊥
+found_lock r words (takes_lock free) told is zero = cc
+found_lock r words (finds_held taken) told is zero = taken (told ∙ zero)
 
 module _ (z : Layered) (i : ℕ) (t next : Turning) (a : Action) (x : ℕ) (is : IsLayered z) (there : get_elem? z.turns i ≡ some t) (small : t.stamp < 2 ^ 64)
     (foot : TurnFoot (terms_of z.whole.world t) t a x next) (told : x ≡ got z.whole.world.layout z.whole.world.words a) where
@@ -129,6 +135,16 @@ module _ (z : Layered) (i : ℕ) (t next : Turning) (a : Action) (x : ℕ) (is :
         (row_step_keeps (terms_of w t) (ghosts_of w is.holder) words t.stage next.stage a row lawful_row (subst (λ y. RowStep (terms_of w t) t.stage a y next.stage) told foot.row)
         (λ e target has. found_target (terms_of w t) words w.base w.history is.holder lawful.list e.anchor target (shown_after e target has))))
 
+    -- where it rests afterwards it has given the lock back
+    given_back : next.stage ≡ Resting → at l after Updater ≡ 0
+    given_back now_rests = ⊎_elim
+        (λ (was : t.stage ≡ Resting). absurd (found_lock (terms_of w t) words (subst (λ s. RowStep (terms_of w t) s a x next.stage) was foot.row) told now_rests (is.unlocked (λ j u at_u. ⊎_elim
+        (λ (same : j ≡ i). ap (λ (v : Turning). v.stage) (some-injective _ _ (sym at_u ∙ ap (get_elem? z.turns) same ∙ there)) ∙ was)
+        (λ (other : j ≢ i). rest j u at_u other)
+        (cases_eq j i)))))
+        (λ busy. gives_back (terms_of w t) words row foot.row busy now_rests)
+        (rests_or_not t.stage)
+
     goes_keep : IsLayered (turned z i a next)
     goes_keep = record {
       whole = keeps.whole;
@@ -144,6 +160,7 @@ module _ (z : Layered) (i : ℕ) (t next : Turning) (a : Action) (x : ℕ) (is :
           (at_set z.turns i j next u at_u);
       active = (i, next, set_here z.turns i next t there, λ k u at_u other. rest k u (sym (set_else z.turns i k next other) ∙ at_u) other);
       lock = λ free. each z.turns i next (λ j u. u.stage ≡ Resting) (touch.lock free) (λ j u other at_u. rest j u at_u other);
+      unlocked = λ all_rest. given_back (all_rest i next (set_here z.turns i next t there));
       rows = λ j u at_u rests. each z.turns i next (λ k v. AreRestingBut turns k → RowLawful (terms_of later v) (ghosts_of later is.holder) after v.stage)
           (λ still. row_after)
           (λ k v other at_v still. subst (RowLawful (terms_of later v) (ghosts_of later is.holder) after) (sym (rest k v at_v other))
@@ -173,5 +190,21 @@ module _ (z : Layered) (i : ℕ) (t next : Turning) (a : Action) (x : ℕ) (is :
       (λ busy. let rest : AreRestingBut z.turns i = (λ j u at_u other. ⊎_elim (λ rests. rests) (λ busy_u. absurd (other (is.one j i u t at_u there busy_u busy))) (rests_or_not u.stage)) in (can_act rest, goes_keep rest))
       (rests_or_not t.stage)
 
+  step_leaves : facts (turned z i a next).whole.world ≡ record (facts w) { status = status_in l after }
+  step_leaves = ⊎_elim
+      (λ (was : t.stage ≡ Resting). ⊎_elim
+      (λ free. left (keeps (λ j u at_u other. is.lock free j u at_u)))
+      (λ misses. (λ k. facts (record w { words = misses.same k })) ∙ (λ k. record f { status = status_in l (sym misses.same k) }))
+      (resting_step (terms_of w t) words a x next.stage (subst (λ s. RowStep (terms_of w t) s a x next.stage) was foot.row) told))
+      (λ busy. left (keeps (λ j u at_u other. ⊎_elim (λ rests. rests) (λ busy_u. absurd (other (is.one j i u t at_u there busy_u busy))) (rests_or_not u.stage))))
+      (rests_or_not t.stage)
+    where
+      left : Keeps z.whole is.holder after → facts (record w { words = after }) ≡ record f { status = status_in l after }
+      left kept = λ k. record { version = kept.version k; status = status_in l after; now = kept.now k; list = kept.list k; base = w.base; history = w.history }
+
 pub turn_step_keeps : TurnStepKeeps
 turn_step_keeps z i t next a x is there small foot told = step_keeps z i t next a x is there small foot told
+
+-- And it leaves the words of the nodes, and with them the list.
+pub turn_step_leaves : TurnStepLeavesNodes
+turn_step_leaves z i t next a x is there small foot told = step_leaves z i t next a x is there small foot told

@@ -17,8 +17,8 @@ use Rattle.index_law.specs.Lawful.{Each}
 use Rattle.index_law.specs.Laws.{fresh_world}
 use Rattle.index_law.specs.Whole.{Whole, IsWhole}
 use Rattle.index_law.specs.Footings.{AreTended}
-use Rattle.turn_row.specs.RowStages.{Resting}
 use Rattle.turn_row.specs.Turnings.{Turning}
+use Rattle.layer_law.specs.Turnings.{AreResting}
 use Rattle.layer_law.specs.Layers.{Layered, IsLayered}
 use Rattle.layer_law.specs.Laws.{IsAtRest}
 
@@ -52,13 +52,9 @@ BeginningKeepsLayer = (z : Layered) (clock : ℕ) (parties : List Party) (base :
     ((i : ℕ) (p : Party) → get_elem? parties i ≡ some p → IsIdleOrKept z.whole lines i p) →
     IsLayered (record { whole = begun_anew z.whole clock parties base history lines debts; turns = z.turns })
 
--- No turn is in flight.
-abbrev pub TurnsRest : List Turning → Type 0
-TurnsRest turns = (i : ℕ) (t : Turning) → get_elem? turns i ≡ some t → t.stage ≡ Resting
-
 -- Where no turn is in flight, there may be any others that rest, as long as there is one.
 abbrev pub OtherTurnsMayRest : Type 0
-OtherTurnsMayRest = (z : Layered) (turns : List Turning) (i : ℕ) (t : Turning) → IsLayered z → TurnsRest z.turns →
+OtherTurnsMayRest = (z : Layered) (turns : List Turning) (i : ℕ) (t : Turning) → IsLayered z → AreResting z.turns →
     ((j : ℕ) (u : Turning) → get_elem? turns j ≡ some u → IsAtRest u) → get_elem? turns i ≡ some t →
     IsLayered (record { whole = z.whole; turns = turns })
 
@@ -71,7 +67,7 @@ restamped z n stamp = record z {
 }
 
 abbrev pub StampKeepsLayer : Type 0
-StampKeepsLayer = (z : Layered) (n stamp : ℕ) → IsLayered z → TurnsRest z.turns → n < z.whole.world.layout.nodes →
+StampKeepsLayer = (z : Layered) (n stamp : ℕ) → IsLayered z → AreResting z.turns → n < z.whole.world.layout.nodes →
     at z.whole.world.layout z.whole.world.words (Volatile n 2) ≢ 0 → stamp ≢ 0 → IsWhole (restamped z.whole n stamp) →
     AreTended (restamped z.whole n stamp) →
     IsLayered (record { whole = restamped z.whole n stamp; turns = z.turns })

@@ -3,7 +3,7 @@ use Rattle.std.specs.Prelude.{◌≡◌, ◌≢◌, ℕ, ◌<◌, ◌^◌, true,
 use mathlib.Core.Option.{some}
 use lib.ListN.{get_elem?}
 use Rattle.pm_words.specs.declared.action.Action.{Action}
-use Rattle.pm_words.specs.Locations.{Cached, Durable, leaf_count, image_words}
+use Rattle.pm_words.specs.Locations.{Updater, Cached, Durable, leaf_count, image_words, at}
 use Rattle.pm_words.specs.Rows.{CanAct, acted, got}
 use Rattle.data_node.specs.Lists.{anchor_in}
 use Rattle.call_stages.specs.declared.once.Once.{Once}
@@ -58,6 +58,15 @@ TurnStepKeeps = (z : Layered) (i : ℕ) (t next : Turning) (action : Action) (x 
     x ≡ got z.whole.world.layout z.whole.world.words action →
     CanAct z.whole.world.layout z.whole.world.words action × IsLayered (turned z i action next)
 
+-- It leaves the words of the nodes, and with them the list, the map and the history. Statuses may be others.
+abbrev pub TurnStepLeavesNodes : Type 0
+TurnStepLeavesNodes = (z : Layered) (i : ℕ) (t next : Turning) (action : Action) (x : ℕ) → IsLayered z →
+    get_elem? z.turns i ≡ some t → t.stamp < 2 ^ 64 → TurnFoot (terms_of z.whole.world t) t action x next →
+    x ≡ got z.whole.world.layout z.whole.world.words action →
+    facts (turned z i action next).whole.world ≡ record (facts z.whole.world) {
+      status = (facts (turned z i action next).whole.world).status;
+    }
+
 -- A party whose turn rests may begin another one, with a stamp of its own.
 abbrev pub TurnStartKeeps : Type 0
 TurnStartKeeps = (z : Layered) (i : ℕ) (t : Turning) (stamp release : ℕ) → IsLayered z →
@@ -67,16 +76,10 @@ TurnStartKeeps = (z : Layered) (i : ℕ) (t : Turning) (stamp release : ℕ) →
       turns = slice_set z.turns i (record { stamp = stamp; release = release; stage = Resting; watch = Nothing });
     })
 
--- A word of the image that becomes durable keeps it all,
+-- A word of the image that becomes durable keeps it all.
 abbrev pub EvictionKeepsLayer : Type 0
 EvictionKeepsLayer = (z : Layered) (word : ℕ) → IsLayered z → word < image_words z.whole.world.layout →
     IsLayered (record { whole = evicted_whole z.whole word; turns = z.turns })
-
--- and so does a party that relies on nothing and begins a call.
-abbrev pub StartKeepsLayer : Type 0
-StartKeepsLayer = (z : Layered) (i : ℕ) (p : Party) (index : ℕ) → IsLayered z →
-    get_elem? z.whole.world.parties i ≡ some p → p.stage ≡ Idle →
-    IsLayered (record { whole = started_whole z.whole i p index; turns = z.turns })
 
 -- The turn rests, and has a stamp to give.
 pub record IsAtRest (t : Turning) : Type 0 where
@@ -84,22 +87,13 @@ pub record IsAtRest (t : Turning) : Type 0 where
   pub stamp : t.stamp ≢ 0
   pub watch : t.watch ≡ Nothing
 
--- With no call and no turn in flight it is kept as the next round begins, with other idle parties.
-abbrev pub RoundKeepsLayer : Type 0
-RoundKeepsLayer = (z : Layered) (parties : List Party) (lines : List (Option HeldLine)) (debts : List Debt) →
-    IsLayered z → AreFree z.whole.world.parties z.whole.lines z.whole.debts →
-    ((j : ℕ) (u : Turning) → get_elem? z.turns j ≡ some u → IsAtRest u) →
-    AreFree parties lines debts → HaveBegun [] parties →
-    IsLayered (record {
-      whole = record { world = next_round z.whole.world parties; lines = lines; debts = debts };
-      turns = z.turns;
-    })
-
--- And there all of it holds where the index is kept, and the row is lawful for a turn.
+-- With no call and no turn in flight all of it holds where the index is kept, nobody has the updater lock, and the row is
+-- lawful for a turn.
 abbrev pub RestIsLayered : Type 0
 RestIsLayered = (z : Layered) (i : ℕ) (t : Turning) → IsWhole z.whole → AreTended z.whole →
     Each (λ p. p.stage ≡ Idle) z.whole.world.parties →
     ((j : ℕ) (u : Turning) → get_elem? z.turns j ≡ some u → IsAtRest u) → get_elem? z.turns i ≡ some t →
+    at z.whole.world.layout z.whole.world.words Updater ≡ 0 →
     RowLawful (terms_of z.whole.world t) (ghosts_of z.whole.world (λ n. 0)) z.whole.world.words Resting → IsLayered z
 
 -- The target that a turn's walk came to is that of its line's anchor, as long as the node's version word stands.

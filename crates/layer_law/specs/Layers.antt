@@ -15,7 +15,8 @@ use Rattle.turn_row.specs.Columns.{facts_in}
 use Rattle.turn_row.specs.RowStages.{RowLine, RowTarget, Resting, HasTarget}
 use Rattle.turn_row.specs.RowLaw.{RowLawful}
 use Rattle.turn_row.specs.Turnings.{Turning}
-use Rattle.layer_law.specs.Turnings.{terms_of, AreRestingBut, ghosts_of, line_number, SureWatch, IsShown}
+use Rattle.layer_law.specs.Turnings.{terms_of, AreResting, AreRestingBut, ghosts_of, line_number}
+use Rattle.layer_law.specs.Turnings.{SureWatch, IsShown}
 
 -- The parties with their calls, and the turn, if any, that each makes.
 pub record Layered : Type 0 where
@@ -49,8 +50,8 @@ pub record IsLayered (z : Layered) : Type 0 where
   pub one : (i j : ℕ) (t u : Turning) → get_elem? z.turns i ≡ some t → get_elem? z.turns j ≡ some u →
       t.stage ≢ Resting → u.stage ≢ Resting → i ≡ j
   pub active : (i : ℕ) × (t : Turning) × (get_elem? z.turns i ≡ some t) × AreRestingBut z.turns i
-  pub lock : at z.whole.world.layout z.whole.world.words Updater ≡ 0 → (i : ℕ) (t : Turning) →
-      get_elem? z.turns i ≡ some t → t.stage ≡ Resting
+  pub lock : at z.whole.world.layout z.whole.world.words Updater ≡ 0 → AreResting z.turns
+  pub unlocked : AreResting z.turns → at z.whole.world.layout z.whole.world.words Updater ≡ 0
   pub rows : (i : ℕ) (t : Turning) → get_elem? z.turns i ≡ some t → AreRestingBut z.turns i →
       RowLawful (terms_of z.whole.world t) (ghosts_of z.whole.world holder) z.whole.world.words t.stage
   pub stamps : (i : ℕ) (t : Turning) → get_elem? z.turns i ≡ some t → t.stamp ≢ 0

@@ -23,6 +23,10 @@ terms_of w t = record { layout = w.layout; generation = w.generation; stamp = t.
 abbrev pub AreRestingBut : List Turning → ℕ → Type 0
 AreRestingBut turns i = (j : ℕ) (t : Turning) → get_elem? turns j ≡ some t → j ≢ i → t.stage ≡ Resting
 
+-- All turns rest.
+abbrev pub AreResting : List Turning → Type 0
+AreResting turns = (i : ℕ) (t : Turning) → get_elem? turns i ≡ some t → t.stage ≡ Resting
+
 -- Whether a node stands behind node 0 in the list, or is node 0.
 abbrev pub is_member : List ListNode → ℕ → Bool
 is_member [] n = false

@@ -1,7 +1,8 @@
 //! The laws. The functions do nothing: each names what is proved.
 
-ghost use Rattle.layer_law.specs.Laws.{CallStepKeeps, TurnStepKeeps, TurnStartKeeps, EvictionKeepsLayer};
-ghost use Rattle.layer_law.specs.Laws.{StartKeepsLayer, RoundKeepsLayer, RestIsLayered, TargetsStand, LayerIsCovered};
+ghost use Rattle.layer_law.specs.Laws.{CallStepKeeps, TurnStepKeeps, TurnStepLeavesNodes, TurnStartKeeps};
+ghost use Rattle.layer_law.specs.Laws.{EvictionKeepsLayer};
+ghost use Rattle.layer_law.specs.Laws.{RestIsLayered, TargetsStand, LayerIsCovered};
 ghost use Rattle.layer_law.specs.Beginnings.{BeginningKeepsLayer, OtherTurnsMayRest, StampKeepsLayer, FreshIsLayered};
 
 /// Where calls leave their log lines to turns, a step of a call keeps an index with its search layer and the turn beside
@@ -10,9 +11,10 @@ pub fn call_step_law()
     ensures { CallStepKeeps }
 {}
 
-/// So does a step of a turn.
+/// So does a step of a turn, which leaves the words of the nodes, and so the list and the map.
 pub fn turn_step_law()
-    ensures { TurnStepKeeps }
+    ensures keeps { TurnStepKeeps }
+    ensures leaves { TurnStepLeavesNodes }
 {}
 
 /// A party may begin another turn.
@@ -20,15 +22,13 @@ pub fn turn_start_law()
     ensures { TurnStartKeeps }
 {}
 
-/// A word of the image that becomes durable, the beginning of a call and that of a next round keep an index with its
-/// search layer and its turns.
-pub fn stays_law()
-    ensures eviction { EvictionKeepsLayer }
-    ensures start { StartKeepsLayer }
-    ensures round { RoundKeepsLayer }
+/// A word of the image that becomes durable keeps an index with its search layer and its turns.
+pub fn eviction_law()
+    ensures { EvictionKeepsLayer }
 {}
 
-/// An index with no call and no turn in flight, and a row that is lawful for a turn, has it all.
+/// An index with no call and no turn in flight, whose updater lock is free and whose row is lawful for a turn, has it
+/// all.
 pub fn rest_law()
     ensures { RestIsLayered }
 {}
