@@ -31,7 +31,8 @@ use Rattle.index_law.specs.Worlds.{Party, World, facts, moved_on, stepped, writt
 use Rattle.index_law.specs.Laws.{fresh_world}
 use Rattle.index_law.specs.Lawful.{Each}
 use Rattle.index_law.specs.Whole.{Whole, IsWhole}
-use Rattle.index_law.specs.Footings.{AreTended, stepped_whole}
+use Rattle.index_law.specs.Footings.{stepped_whole}
+use Rattle.index_law.specs.Footed.{IsFooted}
 use Rattle.index_law.proofs.AnySteps.{set_own}
 use Rattle.index_law.proofs.Parties.{at_set, set_here, set_else}
 use Rattle.turn_row.specs.RowStages.{Resting}
@@ -39,7 +40,7 @@ use Rattle.turn_row.specs.Turnings.{Turning}
 use Rattle.updater.specs.declared.making.MakeTurn.{MakeTurn}
 use Rattle.layer_law.specs.Layers.{Layered, IsLayered}
 use Rattle.layer_law.specs.Laws.{IsAtRest, turned}
-use Rattle.layer_law.specs.Beginnings.{begun_anew, IsIdleOrKept, TurnsRest, restamped}
+use Rattle.layer_law.specs.Beginnings.{IsIdleOrKept}
 use Rattle.layer_law.proofs.Beginnings.{beginning_keeps_layer, other_turns_may_rest}
 use Rattle.layer_law.proofs.CallLaw.{call_step_keeps}
 use Rattle.layer_law.proofs.LayerStays.{eviction_keeps_layer}
@@ -48,7 +49,6 @@ use Rattle.index_core.specs.declared.party.PartyState.{PartyState}
 use Rattle.index_core.specs.PartyStates.{machine_stage, machine_footing, party_of, resting, turning_of, state_after, idle_states}
 use Rattle.index_core.specs.Crashes.{evicted_index}
 use Rattle.index_core.specs.Indexes.{Index, footed, layered, world, told, stepped_index, IsIndex, parties_of}
-use Rattle.index_core.proofs.Footed.{IsFooted}
 use Rattle.index_core.proofs.Footings.{line_of, debt_of}
 use Rattle.index_core.proofs.Lists.{map_there, map_from, map_set, set_twice, there_is, idle-length, idle-each}
 
@@ -172,7 +172,7 @@ module _ (s : Index) (i : ℕ) (state : PartyState) (machine : Running) (there :
       let line_at = map_there line_of s.states i state there ∙ ap (λ (o : Option Running). some (machine_footing o).line) flies in
       let debt_at = map_there debt_of s.states i state there ∙ ap (λ (o : Option Running). some (machine_footing o).debt) flies in
       let stepped_is : IsLayered stepped_layered =
-      call_step_keeps (layered s) i p (footing_of machine) next action (told s machine) (reply_of turn) is (map_there party_of s.states i state there) line_at debt_at (stage ∙ sym (footing_stage machine)) k ? refl room in
+      call_step_keeps on (layered s) i p (footing_of machine) next action (told s machine) (reply_of turn) is (map_there party_of s.states i state there) line_at debt_at (stage ∙ sym (footing_stage machine)) k refl room in
       let end : Index = stepped_index s i state machine 0 in
       let clock = slice_index end.words (clock_address s.layout) in
       let words : slice_set end.words (clock_address s.layout) clock ≡ end.words = set-get_or end.words (clock_address s.layout) 0 in
@@ -184,7 +184,7 @@ module _ (s : Index) (i : ℕ) (state : PartyState) (machine : Running) (there :
 
 -- A word that becomes durable.
 pub evict_layered : (s : Index) (word : ℕ) → IsLayered (layered s) → word < image_words s.layout → IsLayered (layered (evicted_index s word))
-evict_layered s word is within = eviction_keeps_layer (layered s) word is within ? ?
+evict_layered s word is within = eviction_keeps_layer (layered s) word is within
 
 -- Parties of which no turn is in flight.
 rest_turns : (states : List PartyState) → ((i : ℕ) (e : PartyState) → get_elem? states i ≡ some e → e.turn ≡ None) → (j : ℕ) (u : Turning) → get_elem? (map turn_of states) j ≡ some u → u ≡ resting
