@@ -7,6 +7,7 @@ pub mod Indexes
 pub mod Cores
 pub mod Fresh
 pub mod Lone
+pub mod Turns
 pub mod Crashes
 pub mod Schedules
 pub mod LegalRounds

@@ -1,7 +1,7 @@
 -- What a step of a turn keeps of the index.
-use Rattle.std.proofs.Common.{◌≡◌, ◌≢◌, ℕ, ◌/◌, ◌%◌, ◌<◌, ⊎_elim, inl, inr, Bool, true, false, not, List, slice_set, refl, sym, ap, ◌∙◌, subst, arith}
+use Rattle.std.proofs.Common.{◌≡◌, ◌≢◌, ℕ, ◌/◌, ◌%◌, ◌<◌, ⊎_elim, inl, inr, Bool, true, false, not, List, slice_set, refl, sym, ap, ◌∙◌, subst, arith, ◌⊎◌, cond}
 use Rattle.std.specs.Prelude.{Option, Some, None, IfSome}
-use Rattle.std.proofs.lemmas.Bool.{cases_eq}
+use Rattle.std.proofs.lemmas.Bool.{cases_eq, eq-eqb, ne_eqb}
 use mathlib.Core.Option.{some}
 use lib.ListN.{get_elem?}
 use Rattle.pm_words.specs.declared.layout.Layout.{Layout}
@@ -10,7 +10,7 @@ use Rattle.pm_words.specs.Rows.{IsRow}
 use Rattle.pm_words.proofs.Apart.{at-set_other}
 use Rattle.version_lock.specs.Versions.{IsFree, is_free_word}
 use Rattle.version_lock.proofs.WordTests.{free_word}
-use Rattle.call_stages.specs.Kinds.{gone_status}
+use Rattle.call_stages.specs.Kinds.{free_status, gone_status}
 use Rattle.call_stages.specs.Stages.{Held, Grip, Gone, Stage, Joins}
 use Rattle.call_stages.specs.Lines.{HeldLine}
 use Rattle.turn_law.specs.Covers.{set_at, ready_state}
@@ -21,7 +21,7 @@ use Rattle.turn_row.specs.Columns as rows
 use Rattle.turn_row.specs.RowSteps.{line_at, volatile_at}
 use Rattle.turn_row.proofs.RowColumns.{column-here, column-same}
 use Rattle.turn_row.proofs.RowStores.{line_emptied}
-use Rattle.index_law.specs.Facts.{Facts, version_in, spot_in, list_in}
+use Rattle.index_law.specs.Facts.{Facts, version_in, spot_in, list_in, status_in}
 use Rattle.index_law.specs.Lines.{line_in}
 use Rattle.index_law.specs.Worlds.{Party, facts}
 use Rattle.index_law.specs.Lawful.{Sure}
@@ -65,6 +65,7 @@ pub record Keeps (z : Whole) (holder : ℕ → ℕ) (after : List ℕ) : Type 0 
   pub version : version_in z.world.layout after ≡ version_in z.world.layout z.world.words
   pub now : spot_in z.world.layout after ≡ spot_in z.world.layout z.world.words
   pub list : list_in z.world.layout after ≡ list_in z.world.layout z.world.words
+  pub statuses : (n : ℕ) → (status_in z.world.layout after n ≡ status_in z.world.layout z.world.words n) ⊎ (status_in z.world.layout after n ≡ free_status)
   pub retiring : (i : ℕ) (p : Party) (line : Option HeldLine) (u : Turning) (h : Held) (left right : Grip) → get_elem? z.world.parties i ≡ some p → get_elem? z.lines i ≡ some line
       → p.stage ≡ Joins h left right Gone → IsRetiring (turn_facts z.world holder u) line right → IsRetiring (turn_facts (record (z.world) { words = after }) holder u) line right
 
@@ -102,6 +103,7 @@ module _ (z : Whole) (holder : ℕ → ℕ) (t : Turning) (whole : IsWhole z) (t
         version = ap (λ (φ : Facts). φ.version) facts_same;
         now = ap (λ (φ : Facts). φ.now) facts_same;
         list = ap (λ (φ : Facts). φ.list) facts_same;
+        statuses = λ n. inl (ap (λ (φ : Facts). φ.status n) facts_same);
         retiring = λ i p line u h left right at_p at_line stage. retiring_lines (turn_facts z.world holder u) (turn_facts (record (z.world) { words = after }) holder u) line right (lines_same l words after Cached lines);
       }
 
@@ -119,6 +121,10 @@ module _ (z : Whole) (holder : ℕ → ℕ) (t : Turning) (whole : IsWhole z) (t
         version = ap (λ (φ : Facts). φ.version) facts_same;
         now = ap (λ (φ : Facts). φ.now) facts_same;
         list = ap (λ (φ : Facts). φ.list) facts_same;
+        statuses = λ m. elim (cases_eq m n) [
+          | inl e ↦ inr (ap (λ (φ : Facts). φ.status m) facts_same ∙ ap (λ b. cond b 0 (f.status m)) (eq-eqb m n e))
+          | inr other ↦ inl (ap (λ (φ : Facts). φ.status m) facts_same ∙ ap (λ b. cond b 0 (f.status m)) (ne_eqb m n other))
+        ];
         retiring = λ i p line u h left right at_p at_line stage. retiring_lines (turn_facts z.world holder u) (turn_facts (record (z.world) { words = after }) holder u) line right (lines_same l words after Cached lines);
       }
 
@@ -155,6 +161,7 @@ module _ (z : Whole) (holder : ℕ → ℕ) (t : Turning) (whole : IsWhole z) (t
           version = ap (λ (φ : Facts). φ.version) facts_same;
           now = ap (λ (φ : Facts). φ.now) facts_same;
           list = ap (λ (φ : Facts). φ.list) facts_same;
+          statuses = λ n. inl (ap (λ (φ : Facts). φ.status n) facts_same);
           retiring = λ i p line u h left right at_p at_line stage was. record {
             alone = λ k state merge. was.alone k (state_was k state) (said k right.node merge);
             waits = still_waits i p line h left right at_p stage was.waits;

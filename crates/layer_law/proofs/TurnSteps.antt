@@ -24,7 +24,7 @@ use Rattle.index_law.proofs.Parties.{at_set, set_here, set_else}
 use Rattle.turn_row.specs.Turnings.{Turning, TurnFoot}
 use Rattle.layer_law.specs.Turnings.{terms_of, AreRestingBut, is_member, ghosts_of, SureWatch, IsShown}
 use Rattle.layer_law.specs.Layers.{Layered, IsLayered}
-use Rattle.layer_law.specs.Laws.{turned, TurnStepKeeps, TurnStepLeavesNodes}
+use Rattle.layer_law.specs.Laws.{turned, TurnStepKeeps, LeavesNodes, TurnStepLeavesNodes}
 use Rattle.layer_law.proofs.TurnKept.{Keeps, touches_keep}
 use Rattle.layer_law.proofs.TurnLocks.{gives_back}
 use Rattle.layer_law.proofs.TurnRests.{rests_for, each, rests_keep}
@@ -190,17 +190,23 @@ module _ (z : Layered) (i : ℕ) (t next : Turning) (a : Action) (x : ℕ) (is :
       (λ busy. let rest : AreRestingBut z.turns i = (λ j u at_u other. ⊎_elim (λ rests. rests) (λ busy_u. absurd (other (is.one j i u t at_u there busy_u busy))) (rests_or_not u.stage)) in (can_act rest, goes_keep rest))
       (rests_or_not t.stage)
 
-  step_leaves : facts (turned z i a next).whole.world ≡ record (facts w) { status = status_in l after }
+  step_leaves : LeavesNodes (facts w) (facts (turned z i a next).whole.world)
   step_leaves = ⊎_elim
       (λ (was : t.stage ≡ Resting). ⊎_elim
       (λ free. left (keeps (λ j u at_u other. is.lock free j u at_u)))
-      (λ misses. (λ k. facts (record w { words = misses.same k })) ∙ (λ k. record f { status = status_in l (sym misses.same k) }))
+      (λ misses. record {
+        nodes = (λ k. facts (record w { words = misses.same k })) ∙ (λ k. record f { status = status_in l (sym misses.same k) });
+        frees = λ n. inl (λ k. status_in l (misses.same k) n);
+      })
       (resting_step (terms_of w t) words a x next.stage (subst (λ s. RowStep (terms_of w t) s a x next.stage) was foot.row) told))
       (λ busy. left (keeps (λ j u at_u other. ⊎_elim (λ rests. rests) (λ busy_u. absurd (other (is.one j i u t at_u there busy_u busy))) (rests_or_not u.stage))))
       (rests_or_not t.stage)
     where
-      left : Keeps z.whole is.holder after → facts (record w { words = after }) ≡ record f { status = status_in l after }
-      left kept = λ k. record { version = kept.version k; status = status_in l after; now = kept.now k; list = kept.list k; base = w.base; history = w.history }
+      left : Keeps z.whole is.holder after → LeavesNodes f (facts (record w { words = after }))
+      left kept = record {
+        nodes = λ k. record { version = kept.version k; status = status_in l after; now = kept.now k; list = kept.list k; base = w.base; history = w.history };
+        frees = kept.statuses;
+      }
 
 pub turn_step_keeps : TurnStepKeeps
 turn_step_keeps z i t next a x is there small foot told = step_keeps z i t next a x is there small foot told

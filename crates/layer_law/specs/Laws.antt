@@ -1,5 +1,5 @@
 -- The laws: what steps of calls and of turns keep, and what it says of the search layer.
-use Rattle.std.specs.Prelude.{◌≡◌, ◌≢◌, ℕ, ◌<◌, ◌^◌, true, List, [], length, slice_set, Option}
+use Rattle.std.specs.Prelude.{◌≡◌, ◌≢◌, ℕ, ◌<◌, ◌⊎◌, ◌^◌, true, List, [], length, slice_set, Option}
 use mathlib.Core.Option.{some}
 use lib.ListN.{get_elem?}
 use Rattle.pm_words.specs.declared.action.Action.{Action}
@@ -10,11 +10,12 @@ use Rattle.call_stages.specs.declared.once.Once.{Once}
 use Rattle.call_stages.specs.declared.once.Placed.{Placed}
 use Rattle.call_stages.specs.Stages.{Idle}
 use Rattle.call_stages.specs.Leaving.{leaves_lines}
+use Rattle.call_stages.specs.Kinds.{free_status}
 use Rattle.call_stages.specs.Lines.{HeldLine}
 use Rattle.call_stages.specs.Footings.{Footing, FootStep}
 use Rattle.call_stages.specs.Prevs.{Debt}
 use Rattle.call_stages.specs.Watches.{Nothing}
-use Rattle.index_law.specs.Facts.{IsListed}
+use Rattle.index_law.specs.Facts.{Facts, IsListed}
 use Rattle.index_law.specs.Worlds.{Party, facts}
 use Rattle.index_law.specs.Lawful.{Each, HaveBegun}
 use Rattle.index_law.specs.Laws.{next_round}
@@ -58,14 +59,18 @@ TurnStepKeeps = (z : Layered) (i : ℕ) (t next : Turning) (action : Action) (x 
     x ≡ got z.whole.world.layout z.whole.world.words action →
     CanAct z.whole.world.layout z.whole.world.words action × IsLayered (turned z i action next)
 
--- It leaves the words of the nodes, and with them the list, the map and the history. Statuses may be others.
+-- The words of the nodes are as before, and with them the list, the map and the history; statuses are too, but that nodes
+-- may have become FREE.
+pub record LeavesNodes (before after : Facts) : Type 0 where
+  pub nodes : after ≡ record before { status = after.status }
+  pub frees : (n : ℕ) → (after.status n ≡ before.status n) ⊎ (after.status n ≡ free_status)
+
+-- So a turn's step leaves them.
 abbrev pub TurnStepLeavesNodes : Type 0
 TurnStepLeavesNodes = (z : Layered) (i : ℕ) (t next : Turning) (action : Action) (x : ℕ) → IsLayered z →
     get_elem? z.turns i ≡ some t → t.stamp < 2 ^ 64 → TurnFoot (terms_of z.whole.world t) t action x next →
     x ≡ got z.whole.world.layout z.whole.world.words action →
-    facts (turned z i action next).whole.world ≡ record (facts z.whole.world) {
-      status = (facts (turned z i action next).whole.world).status;
-    }
+    LeavesNodes (facts z.whole.world) (facts (turned z i action next).whole.world)
 
 -- A party whose turn rests may begin another one, with a stamp of its own.
 abbrev pub TurnStartKeeps : Type 0

@@ -1,0 +1,83 @@
+-- Turns of the updater in the core: how one begins, what each step of it changes, and how it is answered.
+use Rattle.std.specs.Prelude.{◌≡◌, ℕ, ◌<◌, ◌≤◌, ◌^◌, true, slice_set, Option, Some, None}
+use mathlib.Core.Option.{some}
+use lib.ListN.{get_elem?}
+use Rattle.pm_words.specs.declared.machine.Turn.{Turn}
+use Rattle.pm_words.specs.declared.machine.Turn.TheVariants.{Go, Done}
+use Rattle.pm_words.specs.Rows.{CanAct, acted, got}
+use Rattle.pm_words.specs.Turns.{GoesBelow}
+use Rattle.call_stages.specs.Leaving.{leaves_lines}
+use Rattle.index_law.specs.Worlds.{facts}
+use Rattle.index_law.specs.Weights.{weight_sum}
+use Rattle.updater.specs.declared.making.MakeTurn.{MakeTurn}
+use Rattle.updater.specs.declared.making.TurnReply.{TurnReply}
+use Rattle.updater.specs.Makings.{making_from, making_asks, making_turned, making_takes, making_left}
+use Rattle.index_core.specs.declared.party.PartyState.{PartyState}
+use Rattle.index_core.specs.Indexes.{Index, IsIndex, world}
+
+-- The index once the party has begun a turn with this stamp and release.
+abbrev pub turn_begun : Index → ℕ → PartyState → ℕ → ℕ → Index
+turn_begun s party state stamp release = record s {
+  states = slice_set s.states party (record state {
+    turn = Some (making_from s.layout s.generation stamp release);
+  });
+}
+
+pub record StartsTurn (old : Index) (party stamp release : ℕ) (new : Index) : Type 0 where
+  pub state : PartyState
+  pub there : get_elem? old.states party ≡ some state
+  pub is : new ≡ turn_begun old party state stamp release
+
+-- The number that the turn's action gives.
+abbrev pub turn_told : Index → MakeTurn → ℕ
+turn_told s making = got s.layout s.words (making_asks making)
+
+-- The turn in flight after a turn of its machine, and its answer, if that ends it.
+abbrev pub turn_after : Turn MakeTurn TurnReply → Option MakeTurn
+turn_after (Go making) = Some making
+turn_after (Done reply) = None
+
+abbrev pub turn_reply : Turn MakeTurn TurnReply → Option TurnReply
+turn_reply (Go making) = None
+turn_reply (Done reply) = Some reply
+
+-- The index once the party's turn has done its action.
+abbrev pub turned_index : Index → ℕ → PartyState → MakeTurn → Index
+turned_index s party state making = record s {
+  words = acted s.layout s.words (making_asks making);
+  states = slice_set s.states party (record state { turn = turn_after (making_turned making (turn_told s making)) });
+}
+
+-- The nodes' words are as before, and with them the list, the map and the history. Statuses may be others.
+abbrev pub KeepsNodes : Index → Index → Type 0
+KeepsNodes old new = facts (world new) ≡ record (facts (world old)) { status = (facts (world new)).status }
+
+-- One step of the party's turn, and its answer, if that ends it.
+pub record TurnSteps (old : Index) (party : ℕ) (new : Index) (result : Option TurnReply) : Type 0 where
+  pub state : PartyState
+  pub making : MakeTurn
+  pub there : get_elem? old.states party ≡ some state
+  pub turns : state.turn ≡ Some making
+  pub is : new ≡ turned_index old party state making
+  pub answers : result ≡ turn_reply (making_turned making (turn_told old making))
+  pub keeps : KeepsNodes old new
+  -- it has fewer actions left
+  pub fewer : GoesBelow making_left (making_left making) (making_turned making (turn_told old making))
+
+-- What a step of a party's turn needs and leaves: whoever keeps the words rests on this.
+pub record TurnLaw (s : Index) (party : ℕ) (state : PartyState) (making : MakeTurn) : Type 0 where
+  pub can : CanAct s.layout s.words (making_asks making)
+  pub takes : making_takes making (turn_told s making)
+  pub kept : IsIndex (turned_index s party state making)
+  pub keeps : KeepsNodes s (turned_index s party state making)
+  pub weighs : weight_sum (world (turned_index s party state making)) ≡ weight_sum (world s)
+
+abbrev pub TurnKeeps : Type 0
+TurnKeeps = (s : Index) (party : ℕ) (state : PartyState) (making : MakeTurn) → IsIndex s →
+    get_elem? s.states party ≡ some state → state.turn ≡ Some making → TurnLaw s party state making
+
+-- A party without a turn may begin one, where splits and merges leave their lines to turns.
+abbrev pub TurnBegins : Type 0
+TurnBegins = (s : Index) (party : ℕ) (state : PartyState) (stamp release : ℕ) → leaves_lines ≡ true → IsIndex s →
+    get_elem? s.states party ≡ some state → state.turn ≡ None → 1 ≤ stamp → stamp < 2 ^ 64 →
+    IsIndex (turn_begun s party state stamp release)
