@@ -91,10 +91,11 @@ same_words_layered s states spare is footed_after turns same =
     (begun_layered s (slice_index s.words (clock_address s.layout)) states s.base s.history is (subst (λ (w : List ℕ). IsFooted (footed (record s { words = w; states = states }))) (sym words) footed_after) turns same)
 
 -- One party's state is another.
+pub map_own : {A : Type 0} (f : PartyState → A) (states : List PartyState) (i : ℕ) (was now : PartyState) → get_elem? states i ≡ some was → f now ≡ f was → map f (set states i now) ≡ map f states
+map_own f states i was now there same = map_set f states i now ∙ ap (set (map f states) i) same ∙ set_own (map f states) i (f was) (map_there f states i was there)
+
 turns_set : (states : List PartyState) (i : ℕ) (was now : PartyState) → get_elem? states i ≡ some was → now.turn ≡ was.turn → map turn_of (set states i now) ≡ map turn_of states
-turns_set states i was now there same =
-    map_set turn_of states i now ∙ ap (λ (t : Option MakeTurn). set (map turn_of states) i (turning_of t)) same
-    ∙ set_own (map turn_of states) i (turn_of was) (map_there turn_of states i was there)
+turns_set states i was now there same = map_own turn_of states i was now there (ap turning_of same)
 
 pub one_layered : (s : Index) (i : ℕ) (was now : PartyState) (spare : ℕ) → IsLayered (layered s) → get_elem? s.states i ≡ some was → now.turn ≡ was.turn → (machine_stage now.machine ≡ Idle) ⊎ (was.machine ≡ now.machine)
     → IsFooted (footed (record s { states = set s.states i now })) → IsLayered (layered (record s { states = set s.states i now; spare = spare }))

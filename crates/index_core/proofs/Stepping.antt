@@ -119,7 +119,7 @@ after_state l g i state op (Go machine) same sound of own turn = record { caller
 after_state l g i state op (Done answer) same sound of own turn = record { caller = same; machine = tt; op = tt; own = tt; turn = turn }
 
 -- states of which one is another
-set_states : (l : Layout) (g : ℕ) (states : List PartyState) (i : ℕ) (now : PartyState) → ((j : ℕ) (state : PartyState) → get_elem? states j ≡ some state → IsPartyState l g j state) → IsPartyState l g i now
+pub set_states : (l : Layout) (g : ℕ) (states : List PartyState) (i : ℕ) (now : PartyState) → ((j : ℕ) (state : PartyState) → get_elem? states j ≡ some state → IsPartyState l g j state) → IsPartyState l g i now
     → (j : ℕ) (state : PartyState) → get_elem? (set states i now) j ≡ some state → IsPartyState l g j state
 set_states l g states i now all is j state at =
     ⊎_elim

@@ -9,6 +9,7 @@ use Rattle.pm_words.specs.Turns.{GoesBelow}
 use Rattle.call_stages.specs.Leaving.{leaves_lines}
 use Rattle.index_law.specs.Worlds.{facts}
 use Rattle.index_law.specs.Weights.{weight_sum}
+use Rattle.layer_law.specs.Laws.{LeavesNodes}
 use Rattle.updater.specs.declared.making.MakeTurn.{MakeTurn}
 use Rattle.updater.specs.declared.making.TurnReply.{TurnReply}
 use Rattle.updater.specs.Makings.{making_from, making_asks, making_turned, making_takes, making_left}
@@ -48,9 +49,9 @@ turned_index s party state making = record s {
   states = slice_set s.states party (record state { turn = turn_after (making_turned making (turn_told s making)) });
 }
 
--- The nodes' words are as before, and with them the list, the map and the history. Statuses may be others.
+-- The nodes' words are as before, and with them the list, the map and the history; some GONE nodes may be FREE.
 abbrev pub KeepsNodes : Index → Index → Type 0
-KeepsNodes old new = facts (world new) ≡ record (facts (world old)) { status = (facts (world new)).status }
+KeepsNodes old new = LeavesNodes (facts (world old)) (facts (world new))
 
 -- One step of the party's turn, and its answer, if that ends it.
 pub record TurnSteps (old : Index) (party : ℕ) (new : Index) (result : Option TurnReply) : Type 0 where
@@ -70,7 +71,7 @@ pub record TurnLaw (s : Index) (party : ℕ) (state : PartyState) (making : Make
   pub takes : making_takes making (turn_told s making)
   pub kept : IsIndex (turned_index s party state making)
   pub keeps : KeepsNodes s (turned_index s party state making)
-  pub weighs : weight_sum (world (turned_index s party state making)) ≡ weight_sum (world s)
+  pub weighs : weight_sum (world (turned_index s party state making)) ≤ weight_sum (world s)
 
 abbrev pub TurnKeeps : Type 0
 TurnKeeps = (s : Index) (party : ℕ) (state : PartyState) (making : MakeTurn) → IsIndex s →

@@ -85,3 +85,13 @@ pub fn full_law()
     ensures put { NoRoomIsFullPut }
     ensures each { NoRoomListsEach }
 {}
+
+ghost use Rattle.index_core.specs.Turns.{TurnBegins, TurnKeeps};
+
+/// A step of a party's turn of the updater keeps the index, the words of its nodes, and so the list, the map and the
+/// history; some GONE nodes become FREE, and so it weighs no more. A party may begin a turn, where splits and merges leave
+/// their log lines to it.
+pub fn turn_law()
+    ensures keeps { TurnKeeps }
+    ensures begins { TurnBegins }
+{}

@@ -127,7 +127,7 @@ most_gone half a = elim (a == gone_status) as (λ c. cond c half 0 ≤ half) [
 ]
 
 -- no more nodes are GONE,
-gone_less : (half : ℕ) (status status' : ℕ → ℕ) (n : ℕ) → ((k : ℕ) → k < n → status' k ≡ gone_status → status k ≡ gone_status) → gone_weight half status' n ≤ gone_weight half status n
+pub gone_less : (half : ℕ) (status status' : ℕ → ℕ) (n : ℕ) → ((k : ℕ) → k < n → status' k ≡ gone_status → status k ≡ gone_status) → gone_weight half status' n ≤ gone_weight half status n
 gone_less half status status' zero fewer = omega arith
 gone_less half status status' (suc n) fewer =
     let one = one_gone half (status' n) (status n) (fewer n (omega arith)) in

@@ -31,7 +31,7 @@ use Rattle.layer_law.proofs.TurnRests.{rests_for, each, rests_keep}
 use Rattle.layer_law.proofs.TurnTouches.{Touched, touched}
 use Rattle.layer_law.proofs.TurnWalks.{watch_keeps, watch_same, shown_same, found_target}
 
-rests_or_not : (s : RowStage) → (s ≡ Resting) ⊎ (s ≢ Resting)
+pub rests_or_not : (s : RowStage) → (s ≡ Resting) ⊎ (s ≢ Resting)
 rests_or_not Resting = inl refl
 rests_or_not (Between j) = inr (λ e. cc)
 rests_or_not (Reads j offset seen) = inr (λ e. cc)
@@ -46,6 +46,10 @@ rests_or_not (HasStamp n) = inr (λ e. cc)
 rests_or_not (IsUnworn n) = inr (λ e. cc)
 rests_or_not (Frees n) = inr (λ e. cc)
 rests_or_not (Counts n none) = inr (λ e. cc)
+
+-- beside a turn that works all others rest
+pub others_rest : (z : Layered) (i : ℕ) (t : Turning) → IsLayered z → get_elem? z.turns i ≡ some t → t.stage ≢ Resting → AreRestingBut z.turns i
+others_rest z i t is there busy j u at_u other = ⊎_elim (λ rests. rests) (λ busy_u. absurd (other (is.one j i u t at_u there busy_u busy))) (rests_or_not u.stage)
 
 -- a turn that finds the updater lock taken changes nothing
 record Misses (l : Layout) (words : List ℕ) (a : Action) (next : RowStage) : Type 0 where
@@ -187,7 +191,7 @@ module _ (z : Layered) (i : ℕ) (t next : Turning) (a : Action) (x : ℕ) (is :
             (sym misses.same) (rests_keep z i t next is there was misses.rests stamp_after (watch_after next.watch foot.watch)),
       ))
       (resting_step (terms_of w t) words a x next.stage (subst (λ s. RowStep (terms_of w t) s a x next.stage) was foot.row) told))
-      (λ busy. let rest : AreRestingBut z.turns i = (λ j u at_u other. ⊎_elim (λ rests. rests) (λ busy_u. absurd (other (is.one j i u t at_u there busy_u busy))) (rests_or_not u.stage)) in (can_act rest, goes_keep rest))
+      (λ busy. let rest : AreRestingBut z.turns i = others_rest z i t is there busy in (can_act rest, goes_keep rest))
       (rests_or_not t.stage)
 
   step_leaves : LeavesNodes (facts w) (facts (turned z i a next).whole.world)
@@ -199,7 +203,7 @@ module _ (z : Layered) (i : ℕ) (t next : Turning) (a : Action) (x : ℕ) (is :
         frees = λ n. inl (λ k. status_in l (misses.same k) n);
       })
       (resting_step (terms_of w t) words a x next.stage (subst (λ s. RowStep (terms_of w t) s a x next.stage) was foot.row) told))
-      (λ busy. left (keeps (λ j u at_u other. ⊎_elim (λ rests. rests) (λ busy_u. absurd (other (is.one j i u t at_u there busy_u busy))) (rests_or_not u.stage))))
+      (λ busy. left (keeps (others_rest z i t is there busy)))
       (rests_or_not t.stage)
     where
       left : Keeps z.whole is.holder after → LeavesNodes f (facts (record w { words = after }))

@@ -1,0 +1,301 @@
+-- Each step of a turn of the updater keeps the index.
+use Rattle.std.proofs.Common.{◌≡◌, ◌≢◌, ℕ, zero, suc, ◌+◌, ◌/◌, ◌<◌, ◌≤◌, ◌^◌, ◌⊎◌, inl, inr, ⊎_elim, List, [], ◌∷◌, set, map, refl, sym, ap, ◌∙◌, subst, arith}
+use Rattle.std.specs.Prelude.{Option, Some, None, IfSome, true}
+use Rattle.std.proofs.lemmas.Option.{IfSome_then}
+use mathlib.Core.Option.{some}
+use lib.ListN.{get_elem?, length-set}
+use Rattle.pm_words.specs.declared.layout.Layout.{Layout}
+use Rattle.pm_words.specs.declared.action.Action.{Action}
+use Rattle.pm_words.specs.declared.machine.Turn.{Turn}
+use Rattle.pm_words.specs.declared.machine.Turn.TheVariants.{Go, Done}
+use Rattle.pm_words.specs.Locations.{Cached}
+use Rattle.pm_words.specs.Rows.{CanAct, acted, got}
+use Rattle.cat_history.specs.declared.op.Write.{Write}
+use Rattle.call_stages.specs.Kinds.{gone_status, free_status, Told}
+use Rattle.call_stages.specs.Leaving.{leaves_lines}
+use Rattle.call_stages.specs.Lines.{HeldLine}
+use Rattle.call_stages.specs.Prevs.{Debt}
+use Rattle.call_stages.specs.Stages.{Stage, Idle, Saw, Wears, Holds, Eyes, Splits, Leaves, Meets, Joins, Gathered, Joined, Gone}
+use Rattle.call_stages.specs.Watches.{Nothing}
+use Rattle.data_node.specs.Lists.{ListNode}
+use Rattle.node_ops.specs.declared.running.Running.{Running}
+use Rattle.index_law.specs.Facts.{Facts}
+use Rattle.index_law.specs.Lines.{AreFit}
+use Rattle.index_law.specs.Worlds.{Party, World, facts}
+use Rattle.index_law.specs.Weights.{gone_weight, index_weight, lowered_in, lowered_sum, weight_sum}
+use Rattle.index_law.proofs.Weights.{gone_less}
+use Rattle.index_law.proofs.Parties.{at_set, set_here}
+use Rattle.turn_law.specs.Covers.{ready_state}
+use Rattle.turn_law.specs.Facts.{TurnTerms, TurnFacts}
+use Rattle.turn_law.specs.Lawful.{SureTurn}
+use Rattle.turn_row.specs.Columns.{RowTerms, line_field}
+use Rattle.turn_row.specs.RowStages.{RowStage, Resting, Reads, reading_stage, turn_stage}
+use Rattle.turn_row.specs.Columns as columns
+use Rattle.turn_row.specs.Turnings.{Turning, TurnFoot}
+use Rattle.updater.specs.declared.making.MakeTurn.{MakeTurn}
+use Rattle.updater.specs.declared.making.MakeTurn.TheVariants.{Taking, Working}
+use Rattle.updater.specs.declared.making.TurnReply.{TurnReply}
+use Rattle.updater.specs.declared.terms.Terms.{Terms}
+use Rattle.updater.specs.declared.work.Work.{Work}
+use Rattle.updater.specs.declared.work.WorkAt.{WorkAt}
+use Rattle.updater.specs.declared.work.WorkAt.TheVariants as at
+use Rattle.updater.specs.Steps.{row_terms, work_at_stage}
+use Rattle.updater.specs.Watches.{turning_at}
+use Rattle.updater.specs.Works.{IsWork, work_asks, ToldOfLine}
+use Rattle.updater.specs.Makings.{IsMaking, making_terms, making_asks, making_turned, making_takes, making_turning, turning_made, MakingStays, making_from}
+use Rattle.updater.proofs.MakingLaw.{makings_stay_sound, makings_are_feet}
+use Rattle.layer_law.specs.Turnings.{terms_of, AreRestingBut}
+use Rattle.layer_law.specs.Layers.{Layered, IsLayered, turn_facts}
+use Rattle.layer_law.specs.Laws.{turned, LeavesNodes}
+use Rattle.layer_law.proofs.TurnSteps.{others_rest, turn_step_keeps, turn_step_leaves}
+use Rattle.layer_law.proofs.TurnRests.{turn_start_keeps}
+use Rattle.index_core.specs.declared.party.PartyState.{PartyState}
+use Rattle.index_core.specs.PartyStates.{party_of, resting, turning_of, IsTurnOf, IsPartyState}
+use Rattle.index_core.specs.Indexes.{Index, IsOwnWrite, IsIndex, RunningEnds, world, footed, layered}
+use Rattle.index_core.specs.Turns.{turn_begun, turn_told, turn_after, turned_index, TurnLaw, TurnKeeps, TurnBegins}
+use Rattle.index_core.proofs.Footings.{line_of, debt_of}
+use Rattle.index_core.proofs.Layering.{turn_of, map_own}
+use Rattle.index_core.proofs.Lists.{map_there, map_set, set_twice}
+use Rattle.index_core.proofs.PartFacts.{running_listed}
+use Rattle.index_core.proofs.Stepping.{set_states}
+use Rattle.index_core.proofs.TurnTold.{told_any, ReadsReady, told_of_line}
+
+-- The parties, of which one may have another turn.
+module _ (s : Index) (i : ℕ) (state : PartyState) (turn : Option MakeTurn) (there : get_elem? s.states i ≡ some state) where
+  abbrev now : PartyState
+  now = record state { turn = turn }
+
+  abbrev states : List PartyState
+  states = set s.states i now
+
+  pub parties_same : map party_of states ≡ map party_of s.states
+  parties_same = map_own party_of s.states i state now there refl
+
+  pub lines_same : map line_of states ≡ map line_of s.states
+  lines_same = map_own line_of s.states i state now there refl
+
+  pub debts_same : map debt_of states ≡ map debt_of s.states
+  debts_same = map_own debt_of s.states i state now there refl
+
+  -- an index with these words is one with this turn
+  pub with_turn : (words : List ℕ) → IsIndex s → (leaves_lines ≡ true → IsLayered (record { whole = record (footed s) { world = record (world s) { words = words } }; turns = set (layered s).turns i (turning_of turn) })) → leaves_lines ≡ true
+      → LeavesNodes (facts (world s)) (facts (record (world s) { words = words })) → IfSome turn (IsTurnOf s.layout s.generation) → IsIndex (record s { words = words; states = states })
+  with_turn words is law on leaves own_turn =
+      let own = is.states i state there in
+      let after : IsLayered (layered (record s { words = words; states = states })) =
+      subst IsLayered (λ k. record {
+        whole = record {
+          world = record (world s) { words = words; parties = sym parties_same k };
+          lines = sym lines_same k;
+          debts = sym debts_same k;
+        };
+        turns = sym (map_set turn_of s.states i now) k;
+      }) (law on) in
+      record {
+        lawful = after.whole.joint.lawful;
+        whole = after.whole;
+        tended = after.tended;
+        layered = λ leaves_on. after;
+        parties = length-set s.states i now ∙ is.parties;
+        states = set_states s.layout s.generation s.states i now is.states (record { caller = own.caller; machine = own.machine; op = own.op; own = own.own; turn = own_turn });
+        ordered = λ j place e m write at flies stands caller. ⊎_elim
+            (λ (mine : (j ≡ i) × (now ≡ e)).
+            let flies' : state.machine ≡ Some m = ap (λ (d : PartyState). d.machine) mine.1 ∙ flies in
+            let caller' : write.caller ≡ state.caller = caller ∙ ap (λ (d : PartyState). d.caller) (sym mine.1) in
+            elim (is.ordered i place state m write there flies' stands caller') [
+              | inl early ↦ inl (subst (λ (d : PartyState). place < d.since) mine.1 early)
+              | inr own_write ↦ inr (record { placed = own_write.placed; index = own_write.index ∙ ap (λ (d : PartyState). d.index) mine.1; change = own_write.change })
+            ])
+            (λ (other : (j ≢ i) × (get_elem? s.states j ≡ some e)). is.ordered j place e m write other.1 flies stands caller)
+            (at_set s.states i j now e at);
+        bounded = record {
+          limits = λ j e m at flies. ⊎_elim
+              (λ (mine : (j ≡ i) × (now ≡ e)). is.bounded.limits i state m there (ap (λ (d : PartyState). d.machine) mine.1 ∙ flies))
+              (λ (other : (j ≢ i) × (get_elem? s.states j ≡ some e)). is.bounded.limits j e m other.1 flies)
+              (at_set s.states i j now e at);
+          writers = is.bounded.writers;
+          late = is.bounded.late;
+        };
+        named = is.named;
+        ends = λ j e at.
+            let list : (facts (record (world s) { words = words; parties = map party_of states })).list ≡ (facts (world s)).list = ap (λ (f : Facts). f.list) leaves.nodes in
+            let held : IfSome e.machine (RunningEnds s.layout (facts (world s))) = ⊎_elim
+            (λ (mine : (j ≡ i) × (now ≡ e)). subst (λ (d : PartyState). IfSome d.machine (RunningEnds s.layout (facts (world s)))) mine.1 (is.ends i state there))
+            (λ (other : (j ≢ i) × (get_elem? s.states j ≡ some e)). is.ends j e other.1)
+            (at_set s.states i j now e at) in
+            IfSome_then e.machine held (λ (m : Running) ends. running_listed s.layout (facts (world s)) (facts (record (world s) { words = words; parties = map party_of states })) m list ends);
+      }
+
+-- What the calls have lowered the weight by reads no status.
+lowered_same : (l : Layout) (f : Facts) (status : ℕ → ℕ) (parties : List Party) → lowered_sum l (record f { status = status }) parties ≡ lowered_sum l f parties
+lowered_same l f status [] = refl
+lowered_same l f status (p ∷ parties) = λ k. one p.stage k + lowered_same l f status parties k
+  where
+    one : (stage : Stage) → lowered_in l (record f { status = status }) stage ≡ lowered_in l f stage
+    one Idle = refl
+    one (Saw n v w k) = refl
+    one (Wears n v) = refl
+    one (Holds n w h) = refl
+    one (Eyes n w h m v u free) = refl
+    one (Splits left fresh phase) = refl
+    one (Leaves left) = refl
+    one (Meets n w h right) = refl
+    one (Joins h left right pace) = refl
+
+-- With fewer GONE nodes the index weighs no more.
+weighs_no_more : (w v : World) → v.layout ≡ w.layout → v.parties ≡ w.parties → LeavesNodes (facts w) (facts v) → weight_sum v ≤ weight_sum w
+weighs_no_more w v layout parties leaves =
+    let l = w.layout in
+    let f = facts w in
+    let status = (facts v).status in
+    let fewer : gone_weight (l.slots / 2) status l.nodes ≤ gone_weight (l.slots / 2) f.status l.nodes =
+    gone_less (l.slots / 2) f.status status l.nodes (λ n here gone. elim (leaves.frees n) [
+      | inl same ↦ sym same ∙ gone
+      | inr free ↦ absurd (let no : free_status ≡ gone_status = sym free ∙ gone in omega arith)
+    ]) in
+    let calls = lowered_same l f status w.parties in
+    let less : index_weight l (record f { status = status }) + lowered_sum l (record f { status = status }) w.parties ≤ weight_sum w = omega arith in
+    subst (λ (q : Layout × (Facts × List Party)). index_weight q.0 q.1.0 + lowered_sum q.0 q.1.0 q.1.1 ≤ weight_sum w) (λ k. (sym layout k, (sym leaves.nodes k, sym parties k))) less
+
+-- A READY line is being read.
+being_read : (c : TurnTerms) (f : TurnFacts) (offset j : ℕ) (seen : List ℕ) → SureTurn c f (reading_stage j offset seen) → f.line.state j ≡ ready_state
+being_read c f zero j seen sure = sure
+being_read c f (suc zero) j seen sure = sure
+being_read c f (suc (suc zero)) j seen sure = sure.0
+being_read c f (suc (suc (suc more))) j seen sure = sure.0
+
+stamp_is : (making : MakeTurn) → (making_turning making).stamp ≡ (making_terms making).stamp
+stamp_is (Taking terms) = refl
+stamp_is (Working work) = refl
+
+release_is : (making : MakeTurn) → (making_turning making).release ≡ (making_terms making).release
+release_is (Taking terms) = refl
+release_is (Working work) = refl
+
+module _ (s : Index) (i : ℕ) (state : PartyState) (making : MakeTurn) (is : IsIndex s) (there : get_elem? s.states i ≡ some state) (turns : state.turn ≡ Some making) where
+  own : IsTurnOf s.layout s.generation making
+  own = subst (λ (o : Option MakeTurn). IfSome o (IsTurnOf s.layout s.generation)) turns (is.states i state there).turn
+
+  layer : IsLayered (layered s)
+  layer = is.layered own.leaves
+
+  at_turn : get_elem? (layered s).turns i ≡ some (making_turning making)
+  at_turn = map_there turn_of s.states i state there ∙ ap (λ (o : Option MakeTurn). some (turning_of o)) turns
+
+  abbrev x : ℕ
+  x = turn_told s making
+
+  abbrev action : Action
+  action = making_asks making
+
+  -- the terms of the turn are those of this index
+  terms_are : row_terms (making_terms making) ≡ terms_of (world s) (making_turning making)
+  terms_are = λ k. record { layout = own.layout k; generation = own.generation k; stamp = sym (stamp_is making) k; release = sym (release_is making) k }
+
+  -- a line that is being read is READY
+  reads_ready : (work : Work) → making ≡ Working work → ReadsReady s.layout s.words work.at
+  reads_ready work is_work = by_state work.at refl
+    where
+      by_state : (a : WorkAt) → work.at ≡ a → ReadsReady s.layout s.words a
+      by_state (at.Reading read) same =
+          let stage : (making_turning making).stage ≡ Reads read.line read.offset read.words = ap (λ (m : MakeTurn). (making_turning m).stage) is_work ∙ ap (work_at_stage work.terms) same in
+          let rests = others_rest (layered s) i (making_turning making) layer at_turn (λ rests. let no : Resting ≡ Reads read.line read.offset read.words = sym rests ∙ stage in cc) in
+          let row = layer.rows i (making_turning making) at_turn rests in
+          being_read (columns.terms_of (terms_of (world s) (making_turning making))) (turn_facts (world s) layer.holder (making_turning making)) read.offset read.line read.words
+          (subst (λ (q : RowStage). SureTurn (columns.terms_of (terms_of (world s) (making_turning making))) (turn_facts (world s) layer.holder (making_turning making)) (turn_stage q)) stage row.law.sure)
+      by_state (at.State line) same = tt
+      by_state (at.Landing line entry floor) same = tt
+      by_state (at.Walking line entry walk) same = tt
+      by_state (at.Seeing line entry found) same = tt
+      by_state (at.Setting line entry set) same = tt
+      by_state (at.Unsetting line entry unset) same = tt
+      by_state (at.Stamping line entry) same = tt
+      by_state (at.Clearing clear) same = tt
+      by_state (at.Status node) same = tt
+      by_state (at.Stamp node) same = tt
+      by_state (at.Version node) same = tt
+      by_state (at.Releasing release) same = tt
+      by_state (at.Counting node none) same = tt
+      by_state (at.Leaving none) same = tt
+
+  takes : making_takes making (turn_told s making)
+  takes = by_machine making refl
+    where
+      by_machine : (m : MakeTurn) → making ≡ m → making_takes m (turn_told s m)
+      by_machine (Taking terms) same = (subst IsMaking same own.sound, (told_any (world s) (making_asks (Taking terms)) is.lawful).fits)
+      by_machine (Working work) same =
+          let sound : IsWork work = subst IsMaking same own.sound in
+          let layout : work.terms.layout ≡ s.layout = ap (λ (m : MakeTurn). (making_terms m).layout) (sym same) ∙ own.layout in
+          let generation : work.terms.generation ≡ s.generation = ap (λ (m : MakeTurn). (making_terms m).generation) (sym same) ∙ own.generation in
+          (
+            sound,
+            subst (λ (q : Layout × ℕ). Told q.0 q.1 (work_asks work) (turn_told s (Working work))) (λ k. (sym layout k, sym generation k)) (told_any (world s) (work_asks work) is.lawful),
+            subst (λ (l : Layout). ToldOfLine work.terms.layout (work_asks work) (got l s.words (work_asks work))) layout
+                (told_of_line work.terms work.tally work.at s.words sound.terms sound.here (subst (λ (l : Layout). AreFit l s.words) (sym layout) layer.whole.joint.fit)
+                (subst (λ (l : Layout). ReadsReady l s.words work.at) (sym layout) (reads_ready work same))),
+          )
+
+  abbrev turn : Turn MakeTurn TurnReply
+  turn = making_turned making x
+
+  abbrev next : Turning
+  next = turning_made (making_terms making) turn
+
+  foot : TurnFoot (terms_of (world s) (making_turning making)) (making_turning making) action x next
+  foot = subst (λ (r : RowTerms). TurnFoot r (making_turning making) action x next) terms_are (makings_are_feet making x takes)
+
+  small : (making_turning making).stamp < 2 ^ 64
+  small = subst (λ n. n < 2 ^ 64) (sym (stamp_is making)) own.stamp
+
+  steps : CanAct s.layout s.words action × IsLayered (turned (layered s) i action next)
+  steps = turn_step_keeps (layered s) i (making_turning making) next action x layer at_turn small foot refl
+
+  leaves : LeavesNodes (facts (world s)) (facts (turned (layered s) i action next).whole.world)
+  leaves = turn_step_leaves (layered s) i (making_turning making) next action x layer at_turn small foot refl
+
+  -- a turn that is done rests, as one that was never begun
+  rests_then : (t : Turn MakeTurn TurnReply) → IsLayered (turned (layered s) i action (turning_made (making_terms making) t))
+      → IsLayered (record { whole = (turned (layered s) i action next).whole; turns = set (layered s).turns i (turning_of (turn_after t)) })
+  rests_then (Go m) law = law
+  rests_then (Done reply) law =
+      let done : Turning = turning_at (row_terms (making_terms making)) Resting Nothing in
+      let begun = turn_start_keeps (turned (layered s) i action done) i done 1 0 law (set_here (layered s).turns i done (making_turning making) at_turn) refl (λ no. omega arith) in
+      subst (λ (ts : List Turning). IsLayered (record { whole = (turned (layered s) i action next).whole; turns = ts })) (set_twice (layered s).turns i done resting) begun
+
+  own_after : (t : Turn MakeTurn TurnReply) → MakingStays (making_terms making) t → IfSome (turn_after t) (IsTurnOf s.layout s.generation)
+  own_after (Go m) stays = record {
+    leaves = own.leaves;
+    sound = stays.0;
+    layout = ap (λ (t : Terms). t.layout) stays.1 ∙ own.layout;
+    generation = ap (λ (t : Terms). t.generation) stays.1 ∙ own.generation;
+    stamp = subst (λ (t : Terms). t.stamp < 2 ^ 64) (sym stays.1) own.stamp;
+  }
+  own_after (Done reply) stays = tt
+
+  pub turn_law : TurnLaw s i state making
+  turn_law =
+      let words = acted s.layout s.words action in
+      let kept = with_turn s i state (turn_after turn) there words is (λ on. rests_then turn steps.1) own.leaves leaves (own_after turn (makings_stay_sound making x takes)) in
+      let same = parties_same s i state (turn_after turn) there in
+      let keeps : LeavesNodes (facts (world s)) (facts (world (turned_index s i state making))) = record { nodes = leaves.nodes; frees = leaves.frees } in
+      record {
+        can = steps.0;
+        takes = takes;
+        kept = kept;
+        keeps = keeps;
+        weighs = weighs_no_more (world s) (world (turned_index s i state making)) refl same keeps;
+      }
+
+pub turns_keep : TurnKeeps
+turns_keep s i state making is there turns = turn_law s i state making is there turns
+
+pub turn_begins : TurnBegins
+turn_begins s i state stamp release on is there none some_stamp fits =
+    let making : MakeTurn = making_from s.layout s.generation stamp release in
+    with_turn s i state (Some making) there s.words is
+    (λ leaves_on.
+    let layer = is.layered leaves_on in
+    let at_turn : get_elem? (layered s).turns i ≡ some resting = map_there turn_of s.states i state there ∙ ap (λ (o : Option MakeTurn). some (turning_of o)) none in
+    turn_start_keeps (layered s) i resting stamp release layer at_turn refl (λ no. omega (arith, no, some_stamp)))
+    on (record { nodes = refl; frees = λ n. inl refl })
+    (record { leaves = on; sound = record { layout = is.lawful.row.layout; stamp = some_stamp }; layout = refl; generation = refl; stamp = fits })
