@@ -41,6 +41,7 @@ use Rattle.updater.specs.declared.making.MakeTurn.{MakeTurn}
 use Rattle.layer_law.specs.Layers.{Layered, IsLayered}
 use Rattle.layer_law.specs.Laws.{IsAtRest, turned}
 use Rattle.layer_law.specs.Beginnings.{IsIdleOrKept}
+use Rattle.layer_law.proofs.Restamping.{stamp_keeps_layer}
 use Rattle.layer_law.proofs.Beginnings.{beginning_keeps_layer, other_turns_may_rest}
 use Rattle.layer_law.proofs.CallLaw.{call_step_keeps}
 use Rattle.layer_law.proofs.LayerStays.{eviction_keeps_layer}
@@ -210,6 +211,13 @@ rest_layered s clock states base history is none idle resting_turns some_party f
     (kept s clock states base history (λ i now at. inl (ap machine_stage (idle i now at)))) in
     other_turns_may_rest z (map turn_of states) 0 first.0 begun (λ i t at. ap (λ (u : Turning). u.stage) (rest_turns s.states none i t at))
     (λ j u at. at_rest u (rest_turns states resting_turns j u at)) first.1
+
+-- With another stamp of a node that has one.
+pub stamp_layered : (s : Index) (n stamp : ℕ) → IsLayered (layered s) → ((i : ℕ) (e : PartyState) → get_elem? s.states i ≡ some e → e.turn ≡ None) → n < s.layout.nodes
+    → at s.layout s.words (Volatile n 2) ≢ 0 → stamp ≢ 0 → IsFooted (footed (record s { words = slice_set s.words (address_of s.layout (Volatile n 2)) stamp }))
+    → IsLayered (layered (record s { words = slice_set s.words (address_of s.layout (Volatile n 2)) stamp }))
+stamp_layered s n stamp is none here has_one another footed_after =
+    stamp_keeps_layer (layered s) n stamp is (λ i t at. ap (λ (u : Turning). u.stage) (rest_turns s.states none i t at)) here has_one another footed_after.0 footed_after.1
 
 -- With the clock as it is.
 pub idle_layered : (s : Index) (states : List PartyState) → IsLayered (layered s) → ((i : ℕ) (e : PartyState) → get_elem? s.states i ≡ some e → e.turn ≡ None)

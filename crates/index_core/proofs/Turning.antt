@@ -50,9 +50,9 @@ use Rattle.layer_law.specs.Laws.{turned, LeavesNodes}
 use Rattle.layer_law.proofs.TurnSteps.{others_rest, turn_step_keeps, turn_step_leaves}
 use Rattle.layer_law.proofs.TurnRests.{turn_start_keeps}
 use Rattle.index_core.specs.declared.party.PartyState.{PartyState}
-use Rattle.index_core.specs.PartyStates.{party_of, resting, turning_of, IsTurnOf, IsPartyState}
+use Rattle.index_core.specs.PartyStates.{party_of, resting, turning_of, turn_after, IsTurnOf, IsPartyState}
 use Rattle.index_core.specs.Indexes.{Index, IsOwnWrite, IsIndex, RunningEnds, world, footed, layered}
-use Rattle.index_core.specs.Turns.{turn_begun, turn_told, turn_after, turned_index, TurnLaw, TurnKeeps, TurnBegins}
+use Rattle.index_core.specs.Turns.{turn_begun, turn_told, turned_index, TurnLaw, TurnKeeps, TurnBegins}
 use Rattle.index_core.proofs.Footings.{line_of, debt_of}
 use Rattle.index_core.proofs.Layering.{turn_of, map_own}
 use Rattle.index_core.proofs.Lists.{map_there, map_set, set_twice}

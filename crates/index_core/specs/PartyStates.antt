@@ -29,6 +29,7 @@ use Rattle.node_ops.specs.Asked.{IsOf, op_in}
 use Rattle.turn_row.specs.RowStages.{Resting}
 use Rattle.turn_row.specs.Turnings.{Turning}
 use Rattle.updater.specs.declared.making.MakeTurn.{MakeTurn}
+use Rattle.updater.specs.declared.making.TurnReply.{TurnReply}
 use Rattle.updater.specs.Makings.{IsMaking, making_terms, making_turning}
 use Rattle.index_law.specs.Worlds.{Party}
 use Rattle.index_core.specs.declared.party.PartyState.{PartyState}
@@ -169,6 +170,18 @@ resting = record { stamp = 1; release = 0; stage = Resting; watch = Nothing }
 abbrev pub turning_of : Option MakeTurn → Turning
 turning_of None = resting
 turning_of (Some making) = making_turning making
+
+-- The turn in flight after a turn of its machine, and its answer, if that ends it.
+abbrev pub turn_after : Turn MakeTurn TurnReply → Option MakeTurn
+turn_after (Go making) = Some making
+turn_after (Done reply) = None
+
+abbrev pub turn_reply : Turn MakeTurn TurnReply → Option TurnReply
+turn_reply (Go making) = None
+turn_reply (Done reply) = Some reply
+
+abbrev pub state_turned : PartyState → Turn MakeTurn TurnReply → PartyState
+state_turned state turn = record state { turn = turn_after turn }
 
 -- A turn is made only where splits and merges leave their lines to it; it is one of this index.
 pub record IsTurnOf (l : Layout) (g : ℕ) (making : MakeTurn) : Type 0 where

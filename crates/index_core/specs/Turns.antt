@@ -2,8 +2,6 @@
 use Rattle.std.specs.Prelude.{◌≡◌, ℕ, ◌<◌, ◌≤◌, ◌^◌, true, slice_set, Option, Some, None}
 use mathlib.Core.Option.{some}
 use lib.ListN.{get_elem?}
-use Rattle.pm_words.specs.declared.machine.Turn.{Turn}
-use Rattle.pm_words.specs.declared.machine.Turn.TheVariants.{Go, Done}
 use Rattle.pm_words.specs.Rows.{CanAct, acted, got}
 use Rattle.pm_words.specs.Turns.{GoesBelow}
 use Rattle.call_stages.specs.Leaving.{leaves_lines}
@@ -14,6 +12,7 @@ use Rattle.updater.specs.declared.making.MakeTurn.{MakeTurn}
 use Rattle.updater.specs.declared.making.TurnReply.{TurnReply}
 use Rattle.updater.specs.Makings.{making_from, making_asks, making_turned, making_takes, making_left}
 use Rattle.index_core.specs.declared.party.PartyState.{PartyState}
+use Rattle.index_core.specs.PartyStates.{turn_reply, state_turned}
 use Rattle.index_core.specs.Indexes.{Index, IsIndex, world}
 
 -- The index once the party has begun a turn with this stamp and release.
@@ -33,20 +32,11 @@ pub record StartsTurn (old : Index) (party stamp release : ℕ) (new : Index) : 
 abbrev pub turn_told : Index → MakeTurn → ℕ
 turn_told s making = got s.layout s.words (making_asks making)
 
--- The turn in flight after a turn of its machine, and its answer, if that ends it.
-abbrev pub turn_after : Turn MakeTurn TurnReply → Option MakeTurn
-turn_after (Go making) = Some making
-turn_after (Done reply) = None
-
-abbrev pub turn_reply : Turn MakeTurn TurnReply → Option TurnReply
-turn_reply (Go making) = None
-turn_reply (Done reply) = Some reply
-
 -- The index once the party's turn has done its action.
 abbrev pub turned_index : Index → ℕ → PartyState → MakeTurn → Index
 turned_index s party state making = record s {
   words = acted s.layout s.words (making_asks making);
-  states = slice_set s.states party (record state { turn = turn_after (making_turned making (turn_told s making)) });
+  states = slice_set s.states party (state_turned state (making_turned making (turn_told s making)));
 }
 
 -- The nodes' words are as before, and with them the list, the map and the history; some GONE nodes may be FREE.

@@ -36,9 +36,9 @@ const CLOCK: u64 = 0;
 /// An index in memory, with at most one call in flight for each caller.
 #[derive(Drop)]
 pub struct Core {
-    memory: Memory,
-    generation: u64,
-    states: Vec<PartyState>,
+    pub(crate) memory: Memory,
+    pub(crate) generation: u64,
+    pub(crate) states: Vec<PartyState>,
     base: Listed<Pair>,
     history: Vec<Write>,
 }

@@ -12,6 +12,7 @@ pub mod laws;
 mod listing;
 mod lone;
 mod party;
+mod turns;
 
 pub use crash::{Crashed, CutCall, Cuts};
 pub use flight::Flight;

@@ -8,7 +8,7 @@ use cat_key::Name;
 use node_ops::{Part, PartWords};
 use pm_words::{Again, NoMemory};
 use std::alloc::Global;
-use updater::MakeTurn;
+use updater::{MakeTurn, TurnReply};
 
 /// What a party calls.
 #[derive(Clone, Copy)]
@@ -200,6 +200,42 @@ impl PartyState {
             self.index = self.index_after(once);
         }
         answer
+    }
+}
+
+impl PartyState {
+    ghost use Rattle.std.specs.Prelude.{◌≡◌, IfSome, IsSome, IsSomeAnd, Some};
+    ghost use Rattle.pm_words.specs.Turns.{GoesBelow};
+    ghost use Rattle.updater.specs.Makings.{making_left, making_takes, making_turned};
+    ghost use Rattle.index_core.specs.PartyStates.{state_turned, turn_reply};
+
+    /// The turn of the updater that it makes.
+    pub(crate) fn making(&self) -> &MakeTurn
+        requires { IsSome self.now.turn }
+        ensures { self.now.turn ≡ Some result.now }
+    {
+        match &self.turn {
+            Some(making) => making,
+            None => unreachable!(),
+        }
+    }
+
+    /// Tells its turn of the updater, in place, the number that its action gave. Where that ends it, it makes none.
+    pub(crate) fn advance_turn(&mut self, got: u64) -> Option<TurnReply>
+        requires { IsSomeAnd self.old.turn (λ making. making_takes making got) }
+        ensures state { IfSome self.old.turn (λ making. self.new ≡ state_turned self.old (making_turned making got)) }
+        ensures answer { IfSome self.old.turn (λ making. result ≡ turn_reply (making_turned making got)) }
+        ensures fewer { IfSome self.old.turn
+            (λ making. GoesBelow making_left (making_left making) (making_turned making got)) }
+    {
+        let Some(making) = &mut self.turn else {
+            unreachable!()
+        };
+        let reply = making.advance(got);
+        if reply.is_some() {
+            self.turn = None;
+        }
+        reply
     }
 }
 

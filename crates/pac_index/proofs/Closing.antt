@@ -20,7 +20,7 @@ use Rattle.pac_index.proofs.Lists.{times_there, times_two, added_only}
 use Rattle.index_core.specs.Weights.{weight_of}
 use Rattle.pac_index.specs.declared.rule.Member.{Member}
 use Rattle.index_core.specs.MachineLaws.{showing}
-use Rattle.pac_index.specs.Callers.{AreWritesOf, HasCallers, Meeting, added_by_all, pairs, kept_by, seen_by}
+use Rattle.pac_index.specs.Callers.{IsCallerOf, AreWritesOf, HasCallers, Meeting, added_by_all, pairs, kept_by, seen_by}
 use Rattle.index_core.specs.MachineLaws.{AreIdle}
 use Rattle.index_core.proofs.MachineLaw.{with_idle, idle_weigh}
 use Rattle.pac_index.proofs.Gathered.{or_is, writes_gathered}
@@ -53,13 +53,16 @@ closes s callers id words slots has final =
     let fit : (i : ℕ) (c : Caller) → get_elem? callers i ≡ some c → Fits key kept.states h (seen_by c) = λ i c at. kept.fits id (map seen_by callers) final.1.1 i (seen_by c) (map_there seen_by callers i c at) in
     let number : (i : ℕ) (c : Caller) → get_elem? callers i ≡ some c → (seen_by c).state.caller ≡ i = λ i c at. (has.each i c at).number ∙ has.numbers i c at in
     let count : parties_of key.layout ≡ length callers = ap (λ (b : About). parties_of b.layout) same ∙ sym has.count in
-    let quiet : IsQuiet old = λ i e at.
+    let state_of : (i : ℕ) (e : PartyState) → get_elem? old.states i ≡ some e → (c : Caller) × IsCallerOf s c × (e ≡ (seen_by c).state) = λ i e at.
     let less = within kept.states i e at in
     let many = kept.index.parties in
     let here = there_is callers i (omega arith) in
     let there : get_elem? kept.states i ≡ some (seen_by here.0).state = ap (get_elem? kept.states) (sym (number i here.0 here.1)) ∙ (fit i here.0 here.1).there in
-    let one : e ≡ (seen_by here.0).state = some-injective _ _ (sym at ∙ there) in
-    ap (λ (d : PartyState). d.machine) one ∙ (has.each i here.0 here.1).idle in
+    (here.0, has.each i here.0 here.1, some-injective _ _ (sym at ∙ there)) in
+    let quiet : IsQuiet old = record {
+      calls = λ i e at. let c = state_of i e at in ap (λ (d : PartyState). d.machine) c.2 ∙ c.1.idle;
+      turns = λ i e at. let c = state_of i e at in ap (λ (d : PartyState). d.turn) c.2 ∙ c.1.resting;
+    } in
     record {
       history = h;
       index = λ states idle. subst IsIndex (λ k. index_of (same k) (final.2 k) states h) (with_idle old states kept.index quiet (subst (λ (n : ℕ). AreIdle states n) (ap (λ (b : About). parties_of b.layout) (sym same)) idle));
@@ -118,7 +121,10 @@ meeting_in s callers words settled z states core idle settles is index =
       base = ap (λ (i : Index). i.base) is;
       weight = subst (λ (n : ℕ). n ≤ opening_weight s.about + added_by_all callers) (sym (ap weight_of is ∙ settles.weighs (index_of s.about settled states z.history))) z.weight;
       index = index;
-      quiet = λ i e at. idle.idle i e (ap (λ (i' : Index). get_elem? i'.states i) (sym is) ∙ at);
+      quiet = record {
+        calls = λ i e at. idle.idle i e (ap (λ (i' : Index). get_elem? i'.states i) (sym is) ∙ at);
+        turns = λ i e at. idle.resting i e (ap (λ (i' : Index). get_elem? i'.states i) (sym is) ∙ at);
+      };
       seen = λ i c at. subst (Begins (seen_by c).seen) (sym history) (z.seen i c at);
       own = λ i c at. ap (placed_by i) history ∙ z.own_seen i c at;
       clock = index.lawful.clock;

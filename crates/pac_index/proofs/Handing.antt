@@ -38,6 +38,7 @@ handed s i callers c less has fresh table me number index kept =
       lone = lone_is c.seat.me m is;
       about = ap (λ (x : Member). x.about) who;
       idle = ap (λ (x : Member). x.state.machine) who;
+      resting = ap (λ (x : Member). x.state.turn) who;
       number = ap (λ (x : Member). x.state.caller) who ∙ sym number;
       within = omega arith;
       kept = ap pairs kept ∙ ap (λ (x : Member). placed_by c.number x.seen) (sym who);

@@ -175,6 +175,7 @@ ends_so c n old v turn answer runs is =
     record {
       about = runs.about;
       idle = ap (λ (e : PartyState). e.machine) state;
+      turn = ap (λ (e : PartyState). e.turn) state;
       caller = ap (λ (e : PartyState). e.caller) state;
       ran = runs.ran ∙ is;
       taken = runs.taken;

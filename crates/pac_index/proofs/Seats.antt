@@ -28,6 +28,7 @@ none_idle n = record {
   count = idle-length n;
   numbers = λ i e at. ap (λ (d : PartyState). d.caller) (idle-each n i e at);
   idle = λ i e at. ap (λ (d : PartyState). d.machine) (idle-each n i e at);
+  resting = λ i e at. ap (λ (d : PartyState). d.turn) (idle-each n i e at);
   begun = λ i e at. ap (λ (d : PartyState). d.since) (idle-each n i e at);
 }
 
@@ -86,7 +87,7 @@ opens s is quiet none =
       once = λ number. let most = one_most about n number in omega arith;
       weight =
           let o : Index = index_of about s.words states [] in
-          let as_weight : weight_sum (world o) ≡ opening_weight about = idle_weigh o (none_idle n).idle in
+          let as_weight : weight_sum (world o) ≡ opening_weight about = idle_weigh o (record { calls = (none_idle n).idle; turns = (none_idle n).resting }) in
           omega arith;
     }
 

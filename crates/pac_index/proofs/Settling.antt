@@ -21,6 +21,8 @@ use Rattle.index_law.proofs.Twins.{nearer, store_closer}
 use Rattle.index_core.specs.Indexes.{Index, IsIndex, footed, world}
 use Rattle.index_law.proofs.Footed.{stamp_footed}
 use Rattle.index_core.proofs.PartFacts.{running_listed}
+use Rattle.index_core.proofs.Layering.{stamp_layered}
+use Rattle.index_core.specs.Lone.{IsQuiet}
 use Rattle.index_core.specs.Weights.{weight_of}
 use Rattle.pac_index.specs.Stamps.{stamp_in, with_words, SettlesTo}
 
@@ -39,8 +41,8 @@ pub can_stamp : (l : Layout) (words : List ℕ) (n : ℕ) → n < l.nodes → Ca
 can_stamp l words n here = ((addresses_within l (Volatile n 2) (here, omega arith), outside_header l (Volatile n 2) (here, omega arith) (λ k lt. (λ e. cc, λ e. cc))), omega arith)
 
 -- an index with another stamp
-keeps_index : (l : Layout) (words : List ℕ) (n : ℕ) → n < l.nodes → (s : Index) → IsIndex (with_words s l words) → IsIndex (with_words s l (stamped l words n))
-keeps_index l words n here s is =
+keeps_index : (l : Layout) (words : List ℕ) (n : ℕ) → n < l.nodes → 1 < stamp_in l words n → (s : Index) → IsQuiet s → IsIndex (with_words s l words) → IsIndex (with_words s l (stamped l words n))
+keeps_index l words n here large s quiet is =
     let has : HasLocation l (Volatile n 2) = (here, omega arith) in
     let same = facts-elsewhere l words (map_of s.base) s.history (Volatile n 2) 1 has (λ m o e. cc, λ m e. let no : 2 ≡ 0 = ap offset_of e in omega arith) in
     let lawful = beside_law (world (with_words s l words)) (stamped l words n) is.lawful
@@ -54,6 +56,7 @@ keeps_index l words n here s is =
       lawful = lawful;
       whole = footed.0;
       tended = footed.1;
+      layered = λ on. stamp_layered (with_words s l words) n 1 (is.layered on) quiet.turns here (λ none. omega (arith, large, none)) (λ none. omega arith) footed;
       parties = is.parties;
       states = is.states;
       ordered = is.ordered;
@@ -70,11 +73,11 @@ keeps_weight l words n here s =
 pub record Settling (l : Layout) (n : ℕ) (before words : List ℕ) : Type 0 where
   pub first : (m : ℕ) → m < n → stamp_in l words m ≡ min 1 (stamp_in l before m)
   pub rest : (m : ℕ) → n ≤ m → m < l.nodes → stamp_in l words m ≡ stamp_in l before m
-  pub keeps : (s : Index) → IsIndex (with_words s l before) → IsIndex (with_words s l words)
+  pub keeps : (s : Index) → IsQuiet s → IsIndex (with_words s l before) → IsIndex (with_words s l words)
   pub weighs : (s : Index) → weight_of (with_words s l words) ≡ weight_of (with_words s l before)
 
 pub none_settled : (l : Layout) (words : List ℕ) → Settling l 0 words words
-none_settled l words = record { first = λ m less. absurd (omega arith); rest = λ m le low. refl; keeps = λ s is. is; weighs = λ s. refl }
+none_settled l words = record { first = λ m less. absurd (omega arith); rest = λ m le low. refl; keeps = λ s quiet is. is; weighs = λ s. refl }
 
 -- one node more, whose stamp stays
 pub stays_settled : (l : Layout) (n : ℕ) (before words : List ℕ) → n < l.nodes → stamp_in l words n ≤ 1 → Settling l n before words → Settling l (n + 1) before words
@@ -99,7 +102,7 @@ stamp_settled l n before words here row large so = record {
       (λ (other : m ≢ n). apart m other (omega arith) ∙ so.first m (omega arith))
       (cases_eq m n);
   rest = λ m le low. apart m (λ e. omega arith) low ∙ so.rest m (omega arith) low;
-  keeps = λ s is. keeps_index l words n here s (so.keeps s is);
+  keeps = λ s quiet is. keeps_index l words n here large s quiet (so.keeps s quiet is);
   weighs = λ s. keeps_weight l words n here s ∙ so.weighs s;
 }
   where

@@ -31,12 +31,13 @@ pair_of p = (p.place, p.write)
 abbrev pub pairs : List PlacedWrite → List (ℕ × Write)
 pairs l = map {B = ℕ × Write} pair_of l
 
--- The caller is one of this index, with no call in flight, and keeps the writes that it placed.
+-- The caller is one of this index, with no call and no turn in flight, and keeps the writes that it placed.
 pub record IsCallerOf (s : Shared) (c : Caller) : Type 0 where
   pub table : c.seat.table_id ≡ s.table.shared.table_id
   pub lone : IsLone c.seat.me
   pub about : (party c.seat.me).about ≡ s.about
   pub idle : (party c.seat.me).state.machine ≡ None
+  pub resting : (party c.seat.me).state.turn ≡ None
   pub number : (party c.seat.me).state.caller ≡ c.number
   pub within : c.number < parties_of s.about.layout
   pub kept : pairs c.kept.items ≡ placed_by c.number (party c.seat.me).seen

@@ -72,6 +72,7 @@ run_of turned (Go m) (x ∷ xs) = run_of turned (turned m x) xs
 pub record Answers (call : CoreCall) (index : ℕ) (old : Member) (answer : Once Placed) (new : Member) : Type 0 where
   pub about : new.about ≡ old.about
   pub idle : new.state.machine ≡ None
+  pub turn : new.state.turn ≡ old.state.turn
   pub caller : new.state.caller ≡ old.state.caller
   pub ran : run_of running_turned (Go (machine_in old call)) new.told ≡ Done answer
   pub taken : new.taken ≡ old.taken + length new.told

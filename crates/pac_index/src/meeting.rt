@@ -98,6 +98,7 @@ fn idle_states(alloc: Global, callers: &[Caller]) -> Result<Vec<PartyState>, NoM
             index: callers[number].index,
             since: 0,
             machine: Flight::idle(),
+            turn: None,
         })?;
     }
     Ok(states)

@@ -1,0 +1,49 @@
+//! Turns of the updater, step by step beside calls.
+
+ghost use Rattle.std.specs.Prelude.{◌≡◌, ◌+◌, ◌≤◌, ◌↔◌, IsErr, OnErr, OnOk, true};
+ghost use Rattle.call_stages.specs.Leaving.{leaves_lines};
+ghost use Rattle.index_core.specs.Indexes.{IsBusy, IsIndex, IsTurning};
+ghost use Rattle.index_core.specs.Turns.{StartsTurn, TurnSteps};
+
+use crate::index::Core;
+use crate::party::InFlight;
+use pm_words::{Machine, Steps};
+use std::sync::ledger::Ledger;
+use updater::{MakeTurn, TurnReply};
+
+impl Core {
+    /// Begins a turn of the updater by the party, which gives merged nodes this stamp, and makes those FREE whose stamp is
+    /// at most `release`. `InFlight` comes exactly where the party's last call or turn isn't answered, and then nothing
+    /// changes. Turns are for an index whose splits and merges leave their log lines to them.
+    pub fn start_turn(&mut self, party: u64, stamp: u64, release: u64) -> Result<(), InFlight>
+        requires party { party ≤ self.old.layout.callers }
+        requires leaves { leaves_lines ≡ true }
+        requires stamp { 1 ≤ stamp }
+        ensures in_flight { IsErr result ↔ IsBusy self.old party }
+        ensures err { OnErr result (self.new ≡ self.old) }
+        ensures started { OnOk result (StartsTurn self.old party stamp release self.new) }
+        ensures index { IsIndex self.new }
+    {
+        let at = party as usize;
+        if self.states[at].is_busy() {
+            return Err(InFlight);
+        }
+        let making = MakeTurn::new(self.memory.layout(), self.generation, stamp, release);
+        self.states[at].turn = Some(making);
+        Ok(())
+    }
+
+    /// Takes one step of the party's turn of the updater, one action on one word, counted in `steps` as one event. Returns
+    /// the turn's answer, if that ends it. The map, the history and the list stay.
+    pub fn step_turn<L: Ledger>(&mut self, party: u64, steps: &mut Steps<L>) -> Option<TurnReply>
+        requires turns { IsTurning self.old party }
+        ensures stepped { TurnSteps self.old party self.new result }
+        ensures tick { steps.new ≡ steps.old + 1 }
+        ensures index { IsIndex self.new }
+    {
+        let at = party as usize;
+        let action = self.states[at].making().action();
+        let got = self.memory.act(action, steps);
+        self.states[at].advance_turn(got)
+    }
+}
