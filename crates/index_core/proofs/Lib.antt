@@ -33,3 +33,4 @@ pub mod Layering
 pub mod Busy
 pub mod TurnTold
 pub mod Turning
+pub mod TurnReading
