@@ -31,7 +31,7 @@ use Rattle.index_law.specs.Anchors.{anchors_of, anchors_in, members_most}
 use Rattle.shapes.specs.Anchors.{merges}
 use Rattle.index_law.proofs.Parties.{at_set, set_here}
 use Rattle.index_law.proofs.Starts.{listed_within}
-use Rattle.lone_law.specs.LoneCalls.{FindsFull, FindsWorn, IsLate, IsAnswered}
+use Rattle.lone_law.specs.LoneCalls.{FindsFull, NeedsLine, FindsWorn, IsLate, IsAnswered}
 use Rattle.lone_law.specs.Splitting.{HasFree, LacksFree}
 use Rattle.lone_law.specs.Tries.{IsHalvedSince}
 use Rattle.lone_law.specs.Rooms.{target_node, target_names}
@@ -52,7 +52,7 @@ use Rattle.index_core.specs.Weights.{weight_of, added_by, added_if, added_whole}
 use Rattle.index_core.specs.Listings.{IsPartAt}
 use Rattle.index_core.proofs.Lists.{set_twice}
 use Rattle.index_core.proofs.PartsAlone.{whole_part}
-use Rattle.index_core.proofs.Quiet.{rests}
+use Rattle.index_core.proofs.Quiet.{quiet_lacks_none, rests}
 
 -- to the node of a name belong as many names of the map as the node has
 pub target_has : (s : Index) → IsAtRest (world s) → (name : List ℕ) → target_names (world s) name ≡ length (names_beside s name)
@@ -293,7 +293,7 @@ module _ (s0 s : Index) (i : ℕ) (c : CoreCall) (is0 : IsIndex s0) (quiet0 : Is
     list = kept.0;
     most = inl kept.1;
   }
-  ends (once.Again again.NoFree) one on_name (unworn, below, full, lacks, same, kept) = record {
+  ends (once.Again again.NoFree) one on_name (unworn, below, full, has, lacks, same, kept) = record {
     cause = (unworn, (λ over. below (late_was (limit_of c) (length s0.history) over)), no_room_is s0 c rest0 full lacks);
     history = same ∙ sym (append-nil s0.history);
     list = kept.0;
@@ -303,10 +303,10 @@ module _ (s0 s : Index) (i : ℕ) (c : CoreCall) (is0 : IsIndex s0) (quiet0 : Is
   ends (once.Again (again.Locked n word)) one on_name end = absurd end
   ends (once.Again (again.Moved n first second)) one on_name end = absurd end
   ends (once.Again (again.Hops count)) one on_name end = absurd end
-  ends (once.Again again.LogFull) one on_name end = absurd end
+  ends (once.Again again.LogFull) one on_name (unworn, below, needs, lacks, same, kept) = absurd (quiet_lacks_none s0 is0 quiet0 t.state.caller lacks)
   ends (once.Again (again.Held word)) one on_name end = absurd end
   ends (once.Again (again.Epoch first second)) one on_name end = absurd end
-  ends (once.Done placed) one on_name ((unworn, below, not_full), old, place, hops, write, shape) =
+  ends (once.Done placed) one on_name ((unworn, below, not_full, line), old, place, hops, write, shape) =
       let left = leaves t.named not_full shape in
       record {
         cause = (
@@ -381,6 +381,11 @@ put_keeps (call.Put name value limit) w0 w1 w full =
     ⊎_elim (λ (kept : ¬ ⊥ × HasKeptList w1 w). kept.1) (λ (merge : ⊥ × IsMergedSince name w1 w). absurd merge.0)
 put_keeps c w0 w1 w full = absurd full
 
+-- and one that looked for a log line found its node full
+put_needs : (c : CoreCall) (w0 w1 : World) → FindsFull w0 (op_of c) → NeedsLine w1 (op_of c) → FindsFull w1 (op_of c)
+put_needs (call.Put name value limit) w0 w1 full needs = needs
+put_needs c w0 w1 full needs = absurd full
+
 -- a try that split, and another
 module _ (s0 s1 s : Index) (i : ℕ) (c : CoreCall) (is0 : IsIndex s0) (quiet0 : IsQuiet s0) (is1 : IsIndex s1) (quiet1 : IsQuiet s1) (first answer : Once Placed)
     (none : count_of c ≡ None) (t : TriesAlone s0 i c s1 first) (u : TriesAlone s1 i c s answer)
@@ -396,7 +401,7 @@ module _ (s0 s1 s : Index) (i : ℕ) (c : CoreCall) (is0 : IsIndex s0) (quiet0 :
   splits_first (once.Spent clock) again end = absurd (cc)
   splits_first (once.Done placed) again end = absurd (cc)
   splits_first (once.Again again.NoFree) again end = absurd (cc)
-  splits_first (once.Again (again.NeedsSplit n)) again (unworn, below, full, free, same, halved, most) = record {
+  splits_first (once.Again (again.NeedsSplit n)) again (unworn, below, full, has, free, same, halved, most) = record {
     unworn = unworn;
     below = below;
     full = full;
@@ -408,7 +413,7 @@ module _ (s0 s1 s : Index) (i : ℕ) (c : CoreCall) (is0 : IsIndex s0) (quiet0 :
   splits_first (once.Again (again.Locked n word)) again end = absurd end
   splits_first (once.Again (again.Moved n one two)) again end = absurd end
   splits_first (once.Again (again.Hops count)) again end = absurd end
-  splits_first (once.Again again.LogFull) again end = absurd end
+  splits_first (once.Again again.LogFull) again end = absurd (cc)
   splits_first (once.Again (again.Held word)) again end = absurd end
   splits_first (once.Again (again.Epoch one two)) again end = absurd end
 
@@ -447,15 +452,15 @@ module _ (s0 s1 s : Index) (i : ℕ) (c : CoreCall) (is0 : IsIndex s0) (quiet0 :
         )
     ends_then (once.Spent clock) (unworn, late, clock_is, same, kept) =
         absurd (cut.below (subst (λ (n : ℕ). IsTrue (is_spent (limit_of c) n)) (ap length cut.history) late))
-    ends_then (once.Again again.NoFree) (unworn, below, full, lacks, same, kept) = absurd (not_full full)
-    ends_then (once.Again (again.NeedsSplit n)) (unworn, below, full, free, same, halved, most) = absurd (not_full full)
+    ends_then (once.Again again.NoFree) (unworn, below, full, has, lacks, same, kept) = absurd (not_full full)
+    ends_then (once.Again (again.NeedsSplit n)) (unworn, below, full, has, free, same, halved, most) = absurd (not_full full)
     ends_then (once.Again (again.Locked n word)) end = absurd end
     ends_then (once.Again (again.Moved n one two)) end = absurd end
     ends_then (once.Again (again.Hops count)) end = absurd end
-    ends_then (once.Again again.LogFull) end = absurd end
+    ends_then (once.Again again.LogFull) (unworn, below, needs, lacks, same, kept) = absurd (not_full (put_needs c (world s0) (world s1) cut.full needs))
     ends_then (once.Again (again.Held word)) end = absurd end
     ends_then (once.Again (again.Epoch one two)) end = absurd end
-    ends_then (once.Done placed) ((unworn, below, has_room_now), old, place, hops, write, shape) =
+    ends_then (once.Done placed) ((unworn, below, has_room_now, line), old, place, hops, write, shape) =
         let kept = put_keeps c (world s0) (world s1) (world s) cut.full shape in
         let split_now = split_on s0 s1 s c kept.0 split in (
           record {
@@ -561,7 +566,7 @@ module _ (s0 s : Index) (i : ℕ) (low : List ℕ) (count : ℕ) (is0 : IsIndex 
   part_early (once.Again (again.Locked n word)) early t each locks = absurd t.answered
   part_early (once.Again (again.Moved n one two)) early t each locks = absurd t.answered
   part_early (once.Again (again.Hops hops)) early t each locks = absurd t.answered
-  part_early (once.Again again.LogFull) early t each locks = absurd t.answered
+  part_early (once.Again again.LogFull) early t each locks = absurd t.answered.2
   part_early (once.Again (again.Held word)) early t each locks = absurd t.answered
   part_early (once.Again (again.Epoch one two)) early t each locks = absurd t.answered
   part_early (once.Done placed) early t each locks = absurd early

@@ -8,6 +8,7 @@ use mathlib.Core.Option.{some}
 use lib.ListN.{get_elem?}
 use Rattle.pm_words.specs.declared.layout.Layout.{Layout}
 use Rattle.pm_words.specs.declared.action.Action.{Action}
+use Rattle.pm_words.specs.declared.again.Again.{Again}
 use Rattle.pm_words.specs.declared.again.Again.TheVariants as again
 use Rattle.pm_words.specs.declared.machine.Turn.{Turn}
 use Rattle.pm_words.specs.declared.machine.Turn.TheVariants.{Go, Done}
@@ -97,7 +98,7 @@ use Rattle.index_law.specs.Worlds.{Party, World, facts, stepped, started, moved_
 use Rattle.index_law.proofs.Starts.{start_law, rest_law}
 use Rattle.index_law.proofs.Parties.{set_here, set_else}
 use Rattle.index_law.specs.Lawful.{Sure}
-use Rattle.index_law.specs.Laws.{ActionLaw, IsLegal, HasNoRoom, IsAtRest}
+use Rattle.index_law.specs.Laws.{ActionLaw, IsLegal, IsAtRest}
 use Rattle.index_law.specs.AnySteps.{MayDo}
 use Rattle.index_law.proofs.AnySteps.{any_allowed, any_can, any_keeps}
 use Rattle.index_law.proofs.Actions.{some_told, some_leads}
@@ -108,12 +109,12 @@ use Rattle.lone_law.specs.Rooms.{target_node}
 use Rattle.lone_law.specs.Locks.{locks_of, HasLocked, HoldsBoth, PartsOnce, AfterLocks}
 use Rattle.lone_law.specs.Merging.{LeavesShape}
 use Rattle.lone_law.specs.MergeStands.{merge_leaves}
-use Rattle.lone_law.specs.Splitting.{AreEmpty, HasFree, LacksFree, HoldsAlone}
-use Rattle.lone_law.specs.Tries.{IsFor, IsHalvedSince, is_same, Trying, HasKeptOrMerged, Says, LeavesHistory}
-use Rattle.lone_law.specs.LoneCalls.{HasClaimed, IsPast, IsThere, Foresees, is_leaving, LoneCall, FindsFull, FindsWorn, IsLate, IsAnswered, AfterCall, LoneCallsGo, LoneCallsBegin, LonePartsBegin}
+use Rattle.lone_law.specs.Splitting.{HasLine, LacksLine, HoldsAlone}
+use Rattle.lone_law.specs.Tries.{IsFor, is_same, Trying, HasKeptOrMerged, Says, LeavesHistory}
+use Rattle.lone_law.specs.LoneCalls.{HasClaimed, IsPast, IsThere, Foresees, is_leaving, LoneCall, FindsFull, NeedsLine, FindsWorn, IsLate, IsAnswered, AfterCall, LoneCallsGo, LoneCallsBegin, LonePartsBegin}
 use Rattle.lone_law.proofs.There.{rest_is_still}
 use Rattle.node_ops.specs.Endings.{limit_in, IsPutOp}
-use Rattle.lone_law.proofs.Foreseeing.{DelForeseesSo, EndsSo, del_foresees, del_ends}
+use Rattle.lone_law.proofs.Foreseeing.{DelForeseesSo, EndsSo, del_foresees, del_ends, del_had_line, PutForeseesSo, put_foresees}
 use Rattle.lone_law.proofs.Locks.{locks_go}
 use Rattle.lone_law.proofs.MergeStands.{merge_is_for, MergeParts, merge_parts}
 use Rattle.lone_law.proofs.Standing.{both}
@@ -122,8 +123,8 @@ use Rattle.split_merge.specs.declared.merging.Merge.{Merge}
 use Rattle.split_merge.specs.declared.merging.Merged.{Merged}
 use Rattle.split_merge.specs.Merges.{merge_turned}
 use Rattle.lone_law.proofs.Tries.{tries_go, tries_end}
-use Rattle.lone_law.proofs.Rooms.{added_had_room, refused_was_full, split_was_full}
-use Rattle.lone_law.proofs.Went.{HasEnded, NeedsPlace, MayLackRoom, KnowsOwn, Went, machine_went}
+use Rattle.lone_law.proofs.Rooms.{added_had_room}
+use Rattle.lone_law.proofs.Went.{HasEnded, NeedsPlace, MayLackRoom, IsRefusing, MayLack, KnowsOwn, Went, machine_went}
 
 -- the name that it is about
 of_name : (asked : NameOp) (machine : Running) → IsOf asked machine → name_in (running_call machine) ≡ name_asked asked
@@ -140,41 +141,22 @@ of_name (op.Del name) (Putting put) is = absurd is
 of_name (op.Del name) (Deleting del) is = is.0
 of_name (op.Del name) (Parting p) is = absurd is
 
--- its limit stays
-abbrev KeepsLimit : Option ℕ → Turn Running (Once Placed) → Type 0
-KeepsLimit limit (Go next) = (running_call next).limit ≡ limit
-KeepsLimit limit (Done answer) = Unit {0}
+-- its limit and its view stay
+abbrev KeepsCall : Call → Turn Running (Once Placed) → Type 0
+KeepsCall call (Go next) = ((running_call next).limit ≡ call.limit) × ((running_call next).view ≡ call.view)
+KeepsCall call (Done answer) = Unit {0}
 
-keeps_limit : {M : Type 0} (sound : M → Type 0) (of : M → Call) (wrap : M → Running) (call : Call) (turn : Turn M (Once Placed)) → ((machine : M) → running_call (wrap machine) ≡ of machine)
-    → Stays sound of call turn → KeepsLimit call.limit (wrapped wrap turn)
-keeps_limit sound of wrap call (Go machine) same stays = ap (λ (c : Call). c.limit) (same machine ∙ stays.1)
-keeps_limit sound of wrap call (Done answer) same stays = tt
+keeps_call : {M : Type 0} (sound : M → Type 0) (of : M → Call) (wrap : M → Running) (call : Call) (turn : Turn M (Once Placed)) → ((machine : M) → running_call (wrap machine) ≡ of machine)
+    → Stays sound of call turn → KeepsCall call (wrapped wrap turn)
+keeps_call sound of wrap call (Go machine) same stays = (ap (λ (c : Call). c.limit) (same machine ∙ stays.1), ap (λ (c : Call). c.view) (same machine ∙ stays.1))
+keeps_call sound of wrap call (Done answer) same stays = tt
 
-limit_kept : (machine : Running) (x : ℕ) → IsRunning machine → Told (running_call machine).view.layout (running_call machine).view.generation (running_asks machine) x
-    → running_leads machine x → KeepsLimit (running_call machine).limit (running_turned machine x)
-limit_kept (Getting m) x sound told leads = keeps_limit IsGet get_call (λ (k : Get). Getting k) (get_call m) (get_turned m x) (λ k. refl) (get_stays m x sound told)
-limit_kept (Putting m) x sound told leads = keeps_limit IsPut put_call (λ (k : Put). Putting k) (put_call m) (put_turned m x) (λ k. refl) (put_stays m x sound told leads)
-limit_kept (Deleting m) x sound told leads = keeps_limit IsDel del_call (λ (k : Del). Deleting k) (del_call m) (del_turned m x) (λ k. refl) (del_stays m x sound told leads)
-limit_kept (Parting m) x sound told leads = keeps_limit IsPart part_call (λ (k : Part). Parting k) (part_call m) (placed_turn (part_turned m x)) (λ k. refl) (part_stays m x sound told)
-
--- a call that was refused for want of room held a full node
-record WasFull (l : Layout) (f : Facts) (since : ℕ) (name : List ℕ) : Type 0 where
-  node : ℕ
-  held : Held
-  no_room : HasNoRoom l f since node held
-  about : held.name ≡ name
-
-was_full : (l : Layout) (g : ℕ) (f : Facts) (caller index since : ℕ) (name : List ℕ) (s : Stage) → IsAbout name s → IsLegal l g f caller index since s (Some (once.Again again.NoFree)) → WasFull l f since name
-was_full l g f caller index since name Idle about legal = absurd legal
-was_full l g f caller index since name (Saw n v w k) about legal = absurd legal
-was_full l g f caller index since name (Wears n v) about legal = absurd legal
-was_full l g f caller index since name (Holds n w h) about legal =
-    ⊎_elim (λ full. record { node = n; held = h; no_room = full.1; about = about }) (λ no. absurd no) legal.1
-was_full l g f caller index since name (Eyes n w h m v u free) about legal = absurd legal
-was_full l g f caller index since name (Splits left fresh phase) about legal = absurd legal
-was_full l g f caller index since name (Meets n w h right) about legal = absurd legal
-was_full l g f caller index since name (Joins h left right pace) about legal = absurd legal
-was_full l g f caller index since name (Leaves left) about legal = absurd (cc)
+call_kept : (machine : Running) (x : ℕ) → IsRunning machine → Told (running_call machine).view.layout (running_call machine).view.generation (running_asks machine) x
+    → running_leads machine x → KeepsCall (running_call machine) (running_turned machine x)
+call_kept (Getting m) x sound told leads = keeps_call IsGet get_call (λ (k : Get). Getting k) (get_call m) (get_turned m x) (λ k. refl) (get_stays m x sound told)
+call_kept (Putting m) x sound told leads = keeps_call IsPut put_call (λ (k : Put). Putting k) (put_call m) (put_turned m x) (λ k. refl) (put_stays m x sound told leads)
+call_kept (Deleting m) x sound told leads = keeps_call IsDel del_call (λ (k : Del). Deleting k) (del_call m) (del_turned m x) (λ k. refl) (del_stays m x sound told leads)
+call_kept (Parting m) x sound told leads = keeps_call IsPart part_call (λ (k : Part). Parting k) (part_call m) (placed_turn (part_turned m x)) (λ k. refl) (part_stays m x sound told)
 
 -- its clock was below its limit
 sure_below : (l : Layout) (g : ℕ) (f : Facts) (caller index since : ℕ) (s : Stage) → Sure l g f caller index since s → IfSome (limit_in s) (λ most. since < most)
@@ -547,12 +529,11 @@ module _ (w0 : World) (i : ℕ) (asked : NameOp) (limit : Option ℕ) (w : World
       let still = subst (λ (q : Layout × ℕ). IsQuietList q.0 q.1 (nodes_in q.0 w0.words)) (λ k. (sym layout_is k, sym generation_is k)) (rest_is_still w0 rest) in
       let stands = subst (λ (k : Layout). IsThere k w0.words w.words machine) (sym layout_is) o.stands in
       let own_told = subst (λ (k : Layout). x ≡ got k w.words a) (sym o.sound.layout) told in
-      let empty = subst (λ (k : Layout). AreEmpty k w0.words) (sym layout_is) o.empty in
       let own_tells = subst (λ (q : Layout × ℕ). Told q.0 q.1 a x) (λ k. (sym o.sound.layout k, sym o.sound.generation k)) tells in
       let own_mine = subst (λ (k : Layout). KnowsOwn k w.words machine) (sym o.sound.layout) mine_word in
       subst (λ (k : Layout). Went w0.layout w0.generation w0.words (acted k w.words a) machine (running_turned machine x)) o.sound.layout
       (subst (λ (q : Layout × ℕ). Went q.0 q.1 w0.words (acted (running_call machine).view.layout w.words a) machine (running_turned machine x)) (λ k. (layout_is k, generation_is k))
-      (machine_went machine w0.words w.words x o.sound.here still empty own_tells own_mine stands own_told))
+      (machine_went machine w0.words w.words x o.sound.here still own_tells own_mine stands own_told))
 
   name_is : name_in (running_call machine) ≡ name_asked asked
   name_is = of_name asked machine o.of
@@ -578,20 +559,46 @@ module _ (w0 : World) (i : ℕ) (asked : NameOp) (limit : Option ℕ) (w : World
   wrote (op.Del name) (Deleting m) is place needs before given = given needs
   wrote (op.Del name) (Parting m) is place needs before given = absurd is
 
-  full : (d : NameOp) (m : Running) → IsOf d m → MayLackRoom m → IsAtRest w' → IsAbout (name_asked d) p.stage → IsLegal l g (facts w') p.caller p.index p.since p.stage (Some (once.Again again.NoFree))
-      → w'.history ≡ w0.history → (facts w').list ≡ (facts w0).list → FindsFull w0 d
-  full (op.Put name value) (Putting m) is may rest' about' legal history list =
-      let was = was_full l g (facts w') p.caller p.index p.since name p.stage about' legal in
-      refused_was_full w0 w' name p.since was.node was.held rest rest' o.trying.layout list (λ k. after_all (o.trying.base k) (history k)) was.no_room was.about
-  full (op.Get name) (Getting m) is may rest' about' legal history list = may
-  full (op.Del name) (Deleting m) is may rest' about' legal history list = may
-  full d (Parting m) is may rest' about' legal history list = absurd may
-  full (op.Get name) (Putting m) is may rest' about' legal history list = absurd is
-  full (op.Get name) (Deleting m) is may rest' about' legal history list = absurd is
-  full (op.Put name value) (Getting m) is may rest' about' legal history list = absurd is
-  full (op.Put name value) (Deleting m) is may rest' about' legal history list = absurd is
-  full (op.Del name) (Getting m) is may rest' about' legal history list = absurd is
-  full (op.Del name) (Putting m) is may rest' about' legal history list = absurd is
+  -- what a put that splits has found
+  full : (d : NameOp) (m : Running) → Foresees w0 d m → MayLackRoom m → FindsFull w0 d
+  full d (Getting m) so splits = absurd splits
+  full d (Putting (put.Single single)) so splits = absurd splits
+  full d (Putting (put.Splitting call hold bitmap value split)) so splits = so
+  full d (Deleting m) so splits = absurd splits
+  full d (Parting m) so splits = absurd splits
+
+  lacks_room : (why : Again) → (why ≡ again.LogFull → ⊥) → MayLack machine why → MayLackRoom machine
+  lacks_room why other = ⊎_elim (λ (splits : MayLackRoom machine). splits) (λ (refuses : (why ≡ again.LogFull) × IsRefusing machine). absurd (other refuses.0))
+
+  -- what needs a line
+  full_needs : (d : NameOp) → FindsFull w0 d → NeedsLine w0 d
+  full_needs (op.Get name) full = absurd full
+  full_needs (op.Put name value) full = full
+  full_needs (op.Del name) full = absurd full
+
+  needs : (d : NameOp) (m : Running) → IsOf d m → Foresees w0 d m → MayLack m again.LogFull → NeedsLine w0 d
+  needs d m is so = ⊎_elim
+      (λ (splits : MayLackRoom m). full_needs d (full d m so splits))
+      (λ (refuses : (again.LogFull ≡ again.LogFull) × IsRefusing m). refused d refuses.1 (subst (IsOf d) refuses.1.is is) (subst (Foresees w0 d) refuses.1.is so))
+    where
+      refused : (d : NameOp) (r : IsRefusing m) → IsOf d (Deleting (del.Single (single_del.Refusing r.call r.hold r.bitmap r.hit))) → Foresees w0 d (Deleting (del.Single (single_del.Refusing r.call r.hold r.bitmap r.hit))) → NeedsLine w0 d
+      refused (op.Get name) r is so = absurd is
+      refused (op.Put name value) r is so = absurd is
+      refused (op.Del name) r is so = so
+
+  -- as it was answered that it took place it had the line that it needs
+  had_line : (d : NameOp) (m : Running) → IsOf d m → IsThere w0.layout w0.words w.words m → Foresees w0 d m → NeedsPlace m (placed_in (stage_of m)) → (FindsFull w0 d → ⊥) → NeedsLine w0 d
+      → HasLine w0.layout w0.words (running_call m).view.caller
+  had_line (op.Get name) m is stands so given room needs = absurd needs
+  had_line (op.Put name value) m is stands so given room needs = absurd (room needs)
+  had_line (op.Del name) (Deleting m) is stands so given room needs = del_had_line w0 name w0.layout w0.words w.words m stands so given needs
+  had_line (op.Del name) (Getting m) is stands so given room needs = absurd is
+  had_line (op.Del name) (Putting m) is stands so given room needs = absurd is
+  had_line (op.Del name) (Parting m) is stands so given room needs = absurd is
+
+  -- of the party's own lines
+  own_line : HasLine w0.layout w0.words (running_call machine).view.caller → HasLine w0.layout w0.words p.caller
+  own_line = subst (HasLine w0.layout w0.words) o.own
 
   since_is : p.since ≡ length w0.history
   since_is = o.trying.since
@@ -619,23 +626,11 @@ module _ (w0 : World) (i : ℕ) (asked : NameOp) (limit : Option ℕ) (w : World
   split_late (Putting (put.Single (single_put.Replacing call hold bitmap hit value))) is knows timely same splits late = splits
   split_late (Putting (put.Single (single_put.Finishing finish))) is knows timely same splits late = splits
 
-  lacks : LacksFree w0.layout w0.generation w0.words → LacksFree w0.layout w0.generation w0.words
-  lacks is = is
-
-  has : HasFree w0.layout w0.generation w0.words → HasFree w0.layout w0.generation w0.words
-  has is = is
-
-  was_split : (d : NameOp) (m : Running) → IsOf d m → MayLackRoom m → IsHalvedSince (name_asked d) w0 w' → FindsFull w0 d
-  was_split (op.Put name value) (Putting m) is may cut = split_was_full w0 w' name rest o.trying.layout cut
-  was_split (op.Get name) (Getting m) is may cut = may
-  was_split (op.Del name) (Deleting m) is may cut = may
-  was_split d (Parting m) is may cut = absurd may
-  was_split (op.Get name) (Putting m) is may cut = absurd is
-  was_split (op.Get name) (Deleting m) is may cut = absurd is
-  was_split (op.Put name value) (Getting m) is may cut = absurd is
-  was_split (op.Put name value) (Deleting m) is may cut = absurd is
-  was_split (op.Del name) (Getting m) is may cut = absurd is
-  was_split (op.Del name) (Putting m) is may cut = absurd is
+  -- nor was it late as it looked for a line
+  line_late : MayLack machine again.LogFull → IsLate w0 limit → ⊥
+  line_late = ⊎_elim
+      (λ (splits : MayLackRoom machine). split_late machine o.sound sure o.timely o.limited splits)
+      (λ (refuses : (again.LogFull ≡ again.LogFull) × IsRefusing machine). in_time (subst (λ (m : Running). limit_in (stage_of m) ≡ (running_call m).limit) (sym refuses.1.is) refl))
 
   fresh : IsAtNode w0.layout w0.words (running_call machine) → FindsWorn w0 asked → ⊥
   fresh stands worn =
@@ -662,7 +657,7 @@ module _ (w0 : World) (i : ℕ) (asked : NameOp) (limit : Option ℕ) (w : World
   ends_so (op.Get name) m placed is sound so legal needs done = tt
   ends_so (op.Put name value) m placed is sound so legal needs done = tt
   ends_so (op.Del name) (Deleting m) placed is sound so legal needs done =
-      del_ends w0 name l g (facts w') p.caller p.index p.since placed m x sound so legal needs (unwrapped (del_turned m x) done)
+      del_ends w0 name o.trying.began l g (facts w') p.caller p.index p.since placed m x sound so legal needs (unwrapped (del_turned m x) done)
     where
       unwrapped : (turn : Turn Del (Once Placed)) → wrapped Deleting turn ≡ Done (once.Done placed) → turn ≡ Done (once.Done placed)
       unwrapped (Go next) e = absurd (cc)
@@ -689,14 +684,15 @@ module _ (w0 : World) (i : ℕ) (asked : NameOp) (limit : Option ℕ) (w : World
 
   answered : (answer : Once Placed) → running_turned machine x ≡ Done answer → IsAtRest w' → Says w0 w' (name_asked asked) own p.stage answer → LeavesHistory own w0 w' p
       → IsLegal l g (facts w') p.caller p.index p.since p.stage (Some answer)
-      → HasEnded w0.layout w0.generation w0.words (running_call machine) (NeedsPlace machine) (MayLackRoom machine) (placed_in (stage_of machine)) (limit_in (stage_of machine)) answer
+      → HasEnded w0.layout w0.generation w0.words (running_call machine) (NeedsPlace machine) (MayLack machine) (placed_in (stage_of machine)) (limit_in (stage_of machine)) answer
       → IsAnswered w0 asked limit w' p answer
   answered (once.Done placed) done rest' says leaves legal ended =
       let same_place = ap placed_in o.stage in
       let history = wrote asked machine o.of (placed_in (stage_of machine)) ended.2 (λ e. leaves.0 (same_place ∙ e)) (λ some. leaves.1 (λ e. some (sym same_place ∙ e))) in
       let named = named_by l g (facts w) (facts w') p.caller p.index p.since (name_asked asked) p.stage placed (o.trying.lawful.sure i p o.trying.there) about legal in
-      let ends = ends_so asked machine placed o.of o.sound.here o.foresees (subst (λ (s : Stage). IsLegal l g (facts w') p.caller p.index p.since s (Some (once.Done placed))) o.stage legal) ended.2 done in (
-        (fresh ended.0, in_time ended.3, had_room asked named rest' history (put_keeps asked p.stage says.2)),
+      let ends = ends_so asked machine placed o.of o.sound.here o.foresees (subst (λ (s : Stage). IsLegal l g (facts w') p.caller p.index p.since s (Some (once.Done placed))) o.stage legal) ended.2 done in
+      let room_had = had_room asked named rest' history (put_keeps asked p.stage says.2) in (
+        (fresh ended.0, in_time ended.3, room_had, λ needs. own_line (had_line asked machine o.of o.stands o.foresees ended.2 room_had needs)),
         says.0,
         says.1,
         ended.1 ∙ ended.0.hops ∙ ap (λ (n : List ℕ). position_from (list_in w0.layout w0.words) (key_of n)) name_is,
@@ -708,21 +704,28 @@ module _ (w0 : World) (i : ℕ) (asked : NameOp) (limit : Option ℕ) (w : World
   answered (once.Worn node word) done rest' says leaves legal ended =
       let node_is : node ≡ target_node w0 (name_asked asked) = ended.0 ∙ ap (λ (n : List ℕ). target_node w0 n) name_is in
       (subst (λ (v : ℕ). IsWorn v w0.generation) (ended.1 ∙ ap (facts w0).version node_is) ended.2, node_is, ended.1, says.0, says.1)
+  answered (once.Again again.LogFull) done rest' says leaves legal ended =
+      (fresh ended.0, line_late ended.1, needs asked machine o.of o.foresees ended.1, subst (LacksLine w0.layout w0.words) o.own ended.2, says.0, says.1)
   answered (once.Again again.NoFree) done rest' says leaves legal ended =
-      (fresh ended.0, split_late machine o.sound sure o.timely o.limited ended.1, full asked machine o.of ended.1 rest' about legal says.0 says.1.0, lacks ended.2, says.0, says.1)
+      let splits = lacks_room again.NoFree (λ e. cc) ended.1 in
+      (fresh ended.0, split_late machine o.sound sure o.timely o.limited splits, full asked machine o.foresees splits, own_line ended.2.0, ended.2.1, says.0, says.1)
   answered (once.Again (again.NeedsSplit node)) done rest' says leaves legal ended =
-      (fresh ended.0, split_late machine o.sound sure o.timely o.limited ended.1, was_split asked machine o.of ended.1 says.1, has ended.2, says.0, says.1, says.2)
-  answered (once.Again (again.Locked n word)) done rest' says leaves legal ended = absurd ended
-  answered (once.Again (again.Moved n first second)) done rest' says leaves legal ended = absurd ended
-  answered (once.Again (again.Hops count)) done rest' says leaves legal ended = absurd ended
-  answered (once.Again again.LogFull) done rest' says leaves legal ended = absurd ended
-  answered (once.Again (again.Held word)) done rest' says leaves legal ended = absurd ended
-  answered (once.Again (again.Epoch first second)) done rest' says leaves legal ended = absurd ended
+      let splits = lacks_room (again.NeedsSplit node) (λ e. cc) ended.1 in
+      (fresh ended.0, split_late machine o.sound sure o.timely o.limited splits, full asked machine o.foresees splits, own_line ended.2, ended.3, says.0, says.1, says.2)
+  answered (once.Again (again.Locked n word)) done rest' says leaves legal ended = absurd ended.2
+  answered (once.Again (again.Moved n first second)) done rest' says leaves legal ended = absurd ended.2
+  answered (once.Again (again.Hops count)) done rest' says leaves legal ended = absurd ended.2
+  answered (once.Again (again.Held word)) done rest' says leaves legal ended = absurd ended.2
+  answered (once.Again (again.Epoch first second)) done rest' says leaves legal ended = absurd ended.2
 
   -- the try goes on to each stage
   goes_on_to : (next : Running) → running_turned machine x ≡ Go next → Trying (name_asked asked) own w0 i (stepped w i p a (stage_of next)) (moved_on p (stage_of next))
   goes_on_to next turn = tries_go (name_asked asked) own w0 i w p a x (stage_of next) o.trying is_for mine
       (subst (λ (t : Turn Running (Once Placed)). AnyStep l g p.stage a x (stage_after t) (reply_of t)) turn step) told room
+
+  -- which is in order
+  goes_on_so : (next : Running) → running_turned machine x ≡ Go next → Sound l g next × Trying (name_asked asked) own w0 i (stepped w i p a (stage_of next)) (moved_on p (stage_of next))
+  goes_on_so next turn = (subst (SoundAfter l g) turn (turns_stay_sound l g machine x o.sound tells takes), goes_on_to next turn)
 
   -- the version words after a turn
   locks_so : AfterLocks g (facts w0).version (facts (stepped w i p a (stage_after (running_turned machine x)))).version (leaves_after (running_turned machine x)) (stage_after (running_turned machine x)) (reply_of (running_turned machine x))
@@ -733,29 +736,32 @@ module _ (w0 : World) (i : ℕ) (asked : NameOp) (limit : Option ℕ) (w : World
 
   -- what it has found out after a turn
   foresees_so : ForeseesTurn w0 asked (running_turned machine x)
-  foresees_so = of asked machine o.of o.foresees o.locks o.sound o.stage told o.trying goes_on_to
+  foresees_so = of asked machine o.of o.foresees o.locks o.sound o.stage told o.trying goes_on_so
     where
       of : (d : NameOp) (m : Running) → IsOf d m → Foresees w0 d m → HasLocked g (facts w0).version (facts w).version (is_leaving m) (stage_of m) → Sound l g m → p.stage ≡ stage_of m → x ≡ got l w.words (running_asks m)
           → Trying (name_asked d) (change_of d) w0 i w p
-          → ((next : Running) → running_turned m x ≡ Go next → Trying (name_asked d) (change_of d) w0 i (stepped w i p (running_asks m) (stage_of next)) (moved_on p (stage_of next)))
+          → ((next : Running) → running_turned m x ≡ Go next → Sound l g next × Trying (name_asked d) (change_of d) w0 i (stepped w i p (running_asks m) (stage_of next)) (moved_on p (stage_of next)))
           → ForeseesTurn w0 d (running_turned m x)
       of d (Getting m) is so locks sound stage heard trying goes = on (get_turned m x)
         where
           on : (turn : Turn Get (Once Placed)) → ForeseesTurn w0 d (wrapped Getting turn)
           on (Go next) = tt
           on (Done answer) = tt
-      of d (Putting m) is so locks sound stage heard trying goes = on (put_turned m x)
+      of (op.Put name value) (Putting m) is so locks sound stage heard trying goes = on (put_turned m x)
+          (put_foresees name value (change_of (op.Put name value)) w0 i w p rest m x is.0 sound.layout so (λ next e. let on = goes (Putting next) (ap (wrapped Putting) e) in (on.0.here, on.1)))
         where
-          on : (turn : Turn Put (Once Placed)) → ForeseesTurn w0 d (wrapped Putting turn)
-          on (Go next) = tt
-          on (Done answer) = tt
+          on : (turn : Turn Put (Once Placed)) → PutForeseesSo w0 (op.Put name value) turn → ForeseesTurn w0 (op.Put name value) (wrapped Putting turn)
+          on (Go next) so = so
+          on (Done answer) so = tt
+      of (op.Get name) (Putting m) is so locks sound stage heard trying goes = absurd is
+      of (op.Del name) (Putting m) is so locks sound stage heard trying goes = absurd is
       of d (Parting m) is so locks sound stage heard trying goes = on (part_turned m x)
         where
           on : (turn : Turn Part (Once PartWords)) → ForeseesTurn w0 d (wrapped_part turn)
           on (Go next) = tt
           on (Done answer) = tt
       of (op.Del name) (Deleting m) is so locks sound stage heard trying goes = on (del_turned m x)
-          (del_foresees name w0 i w p trying rest m x sound.here is.0 sound.layout sound.generation stage so locks heard (λ next e. goes (Deleting next) (ap (wrapped Deleting) e)))
+          (del_foresees name w0 i w p trying rest m x sound.here is.0 sound.layout sound.generation stage so locks heard (λ next e. let on = goes (Deleting next) (ap (wrapped Deleting) e) in (on.0.here, on.1)))
         where
           on : (turn : Turn Del (Once Placed)) → DelForeseesSo w0 name turn → ForeseesTurn w0 (op.Del name) (wrapped Deleting turn)
           on (Go next) so = so
@@ -763,7 +769,7 @@ module _ (w0 : World) (i : ℕ) (asked : NameOp) (limit : Option ℕ) (w : World
       of (op.Get name) (Deleting m) is so locks sound stage heard trying goes = absurd is
       of (op.Put name value) (Deleting m) is so locks sound stage heard trying goes = absurd is
 
-  after_turn : (t : Turn Running (Once Placed)) → running_turned machine x ≡ t → AnyStep l g p.stage a x (stage_after t) (reply_of t) → SoundAfter l g t → IsOfAfter asked t → KeepsLimit (running_call machine).limit t
+  after_turn : (t : Turn Running (Once Placed)) → running_turned machine x ≡ t → AnyStep l g p.stage a x (stage_after t) (reply_of t) → SoundAfter l g t → IsOfAfter asked t → KeepsCall (running_call machine) t
       → (HasOne machine → IsNotPast t) → ForeseesTurn w0 asked t → AfterLocks g (facts w0).version (facts (stepped w i p a (stage_after t))).version (leaves_after t) (stage_after t) (reply_of t)
       → Went w0.layout w0.generation w0.words (acted w.layout w.words a) machine t → AfterCall w0 i asked limit w p machine t
   after_turn (Go next) turn k sound of keeps begun foreseen locks been = record {
@@ -771,11 +777,11 @@ module _ (w0 : World) (i : ℕ) (asked : NameOp) (limit : Option ℕ) (w : World
     stage = refl;
     sound = sound;
     of = of;
-    limited = keeps ∙ o.limited;
+    limited = keeps.0 ∙ o.limited;
+    own = ap (λ (v : View). v.caller) keeps.1 ∙ o.own;
     stands = been;
     foresees = foreseen;
     locks = locks;
-    empty = o.empty;
     timely = λ past. ⊎_elim
         (λ (one : HasOne machine). absurd (begun one past))
         (λ (splits : MayLackRoom machine). split_late machine o.sound sure o.timely o.limited splits)
@@ -793,7 +799,7 @@ lone_calls_go w0 i asked limit w p machine x o rest told room =
     let led = takes w0 i asked limit w p machine x o rest told room in
     after_turn w0 i asked limit w p machine x o rest told room (running_turned machine x) refl (step w0 i asked limit w p machine x o rest told room)
     (turns_stay_sound w.layout w.generation machine x o.sound is_told led) (turns_keep_op w.layout w.generation asked machine x o.sound is_told led o.of)
-    (limit_kept machine x o.sound.here own_told led) (not_past machine x)
+    (call_kept machine x o.sound.here own_told led) (not_past machine x)
     (foresees_so w0 i asked limit w p machine x o rest told room) (locks_so w0 i asked limit w p machine x o rest told room) (went w0 i asked limit w p machine x o rest told room)
 
 module _ (w0 : World) (i : ℕ) (limit : Option ℕ) (p : Party) (index : ℕ) (view : View) (name : List ℕ) (rest : IsAtRest w0) (there : get_elem? w0.parties i ≡ some p)
@@ -838,40 +844,40 @@ module _ (w0 : World) (i : ℕ) (limit : Option ℕ) (p : Party) (index : ℕ) (
   about_name = bytes_of-words_of name named
 
 pub lone_calls_begin : LoneCallsBegin
-lone_calls_begin w0 i (op.Get name) limit p index view rest there is_view layout generation named most fits empty = record {
+lone_calls_begin w0 i (op.Get name) limit p index view rest there is_view layout generation own named most fits = record {
   foresees = tt;
   locks = λ m. refl;
-  empty = empty;
   timely = λ past. absurd past;
   trying = tries w0 i limit p index view name rest there is_view layout generation named most None;
   stage = refl;
   sound = record { layout = layout; generation = generation; here = looks_sound w0 i limit p index view name rest there is_view layout generation named most };
   of = bytes_of-words_of name named;
   limited = refl;
+  own = own;
   stands = (refl, on_way w0 i limit p index view name rest there is_view layout generation named most);
 }
-lone_calls_begin w0 i (op.Put name value) limit p index view rest there is_view layout generation named most fits empty = record {
+lone_calls_begin w0 i (op.Put name value) limit p index view rest there is_view layout generation own named most fits = record {
   foresees = tt;
   locks = λ m. refl;
-  empty = empty;
   timely = λ past. absurd past;
   trying = tries w0 i limit p index view name rest there is_view layout generation named most (Some (change.Put name value));
   stage = refl;
   sound = record { layout = layout; generation = generation; here = (looks_sound w0 i limit p index view name rest there is_view layout generation named most, fits) };
   of = (bytes_of-words_of name named, refl);
   limited = refl;
+  own = own;
   stands = (refl, on_way w0 i limit p index view name rest there is_view layout generation named most);
 }
-lone_calls_begin w0 i (op.Del name) limit p index view rest there is_view layout generation named most fits empty = record {
+lone_calls_begin w0 i (op.Del name) limit p index view rest there is_view layout generation own named most fits = record {
   foresees = tt;
   locks = λ m. refl;
-  empty = empty;
   timely = λ past. absurd past;
   trying = tries w0 i limit p index view name rest there is_view layout generation named most (Some (change.Del name));
   stage = refl;
   sound = record { layout = layout; generation = generation; here = looks_sound w0 i limit p index view name rest there is_view layout generation named most };
   of = (bytes_of-words_of name named, tt);
   limited = refl;
+  own = own;
   stands = (refl, on_way w0 i limit p index view name rest there is_view layout generation named most);
 }
 
@@ -884,10 +890,10 @@ as_part lookup count o = record {
   sound = record { layout = o.sound.layout; generation = o.sound.generation; here = o.sound.here };
   of = of_part _ o.of;
   limited = o.limited;
+  own = o.own;
   stands = o.stands;
   foresees = tt;
   locks = o.locks;
-  empty = o.empty;
   timely = λ past. absurd past;
 }
   where
@@ -897,5 +903,5 @@ as_part lookup count o = record {
     of_part (op.Del name) is = is
 
 pub lone_parts_begin : LonePartsBegin
-lone_parts_begin w0 i low count p index view rest there is_view layout generation named empty =
-    as_part (starts (new_call view low None)) count (lone_calls_begin w0 i (op.Get low) None p index view rest there is_view layout generation named tt tt empty)
+lone_parts_begin w0 i low count p index view rest there is_view layout generation own named =
+    as_part (starts (new_call view low None)) count (lone_calls_begin w0 i (op.Get low) None p index view rest there is_view layout generation own named tt tt)

@@ -16,8 +16,11 @@ use Rattle.call_stages.specs.Kinds.{below_key, from_key}
 use Rattle.index_law.specs.Facts.{map_now, range_of, IsListed}
 use Rattle.index_law.specs.Worlds.{World, facts}
 use Rattle.index_law.specs.Laws.{IsAtRest}
+use Rattle.data_node.specs.Slots.{AreAllLive}
 use Rattle.data_node.proofs.ListLemmas.{target_in}
+use Rattle.index_law.specs.Lawful.{IsSettled}
 use Rattle.index_law.proofs.Copies.{full_names}
+use Rattle.index_law.proofs.Switch.{inside_listed}
 use Rattle.lone_law.specs.Rooms.{target_node, target_names, AddedHadRoom, RefusedWasFull, SplitWasFull, CutHasRoom, IsBetweenTries, OneSplit, FullIsFirst}
 
 pub names_most : (count : ℕ) (range : List ℕ → Bool) (s : Spot) → names_in count range s ≤ count
@@ -51,22 +54,28 @@ added_had_room w0 w name rest0 rest layout list named lacks has also =
     let most = names_most w0.layout.slots range ((facts w).now n) in
     omega arith
 
+-- where each slot of the node is live in which a name belongs, while list and map are as they were, the target was full
+pub target_was_full : (w0 w : World) (name : List ℕ) (n : ℕ) → IsAtRest w0 → w.layout ≡ w0.layout → (facts w).list ≡ (facts w0).list → map_now (facts w) ≡ map_now (facts w0) → range_of w.layout (facts w) n name ≡ true
+    → IsSettled w.layout (facts w) n → AreAllLive ((facts w).now n bitmap_offset) w.layout.slots → target_names w0 name ≡ w0.layout.slots
+target_was_full w0 w name n rest0 layout list map inside settled live =
+    let l = w0.layout in
+    let is_n : target_node w0 name ≡ n = ap (λ (q : List ListNode). target_from 0 q (key_of name)) (sym list) ∙ eqb-true _ _ inside in
+    let full : names_in w.layout.slots (range_of w.layout (facts w) n) ((facts w).now n) ≡ w.layout.slots =
+    full_names w.layout.slots w.layout.slots (range_of w.layout (facts w) n) ((facts w).now n) (omega arith) live (λ slot within. settled.means.tidy.named slot within (live slot within)) settled.stays in
+    let full_then : names_in l.slots (range_of l (facts w0) n) ((facts w).now n) ≡ l.slots =
+    subst (λ (q : Layout × List ListNode). names_in q.0.slots (λ other. target_from 0 q.1 (key_of other) == n) ((facts w).now n) ≡ q.0.slots) (λ k. (layout k, list k)) full in
+    let to : Means l.slots (range_of l (facts w0) n) ((facts w).now n) (map_now (facts w0)) =
+    subst (λ (m : Map). Means l.slots (range_of l (facts w0) n) ((facts w).now n) m) map
+    (subst (λ (q : Layout × List ListNode). Means q.0.slots (λ other. target_from 0 q.1 (key_of other) == n) ((facts w).now n) (map_now (facts w))) (λ k. (layout k, list k)) settled.means) in
+    let from = subst (λ (q : ℕ). Means l.slots (range_of l (facts w0) q) ((facts w0).now q) (map_now (facts w0))) is_n (settled_then w0 w0 name rest0 refl refl) in
+    ap (λ (q : ℕ). names_in l.slots (range_of l (facts w0) q) ((facts w0).now q)) is_n
+    ∙ same_names l.slots (range_of l (facts w0) n) ((facts w0).now n) ((facts w).now n) (map_now (facts w0)) from to ∙ full_then
+
 pub refused_was_full : RefusedWasFull
 refused_was_full w0 w name since n h rest0 rest layout list map no_room about =
-    let target_now : target_from 0 (facts w).list (key_of h.name) ≡ n = eqb-true _ _ no_room.inside in
-    let is_n : target_node w0 name ≡ n = (λ k. target_from 0 (sym list k) (key_of (sym about k))) ∙ target_now in
-    let listed : IsListed (facts w) n = subst (IsListed (facts w)) target_now (target_in 0 (facts w).list (key_of h.name)) in
-    let settled = rest.settled n listed in
-    let full : names_in w.layout.slots (range_of w.layout (facts w) n) ((facts w).now n) ≡ w.layout.slots =
-    full_names w.layout.slots w.layout.slots (range_of w.layout (facts w) n) ((facts w).now n) (omega arith) no_room.full (λ slot within. settled.means.tidy.named slot within (no_room.full slot within)) settled.stays in
-    let full_then : names_in w0.layout.slots (range_of w0.layout (facts w0) (target_node w0 name)) ((facts w).now (target_node w0 name)) ≡ w0.layout.slots =
-    subst (λ (q : ℕ). names_in w0.layout.slots (range_of w0.layout (facts w0) q) ((facts w).now q) ≡ w0.layout.slots) (sym is_n)
-    (subst (λ (q : Layout × List ListNode). names_in q.0.slots (λ other. target_from 0 q.1 (key_of other) == n) ((facts w).now n) ≡ q.0.slots) (λ k. (layout k, list k)) full) in
-    let from = settled_then w0 w0 name rest0 refl refl in
-    let to = subst (Means w0.layout.slots (range_of w0.layout (facts w0) (target_node w0 name)) ((facts w).now (target_node w0 name))) map (settled_then w0 w name rest layout list) in (
-      (λ k. at (sym map k) (sym about k)) ∙ no_room.lacks,
-      same_names w0.layout.slots (range_of w0.layout (facts w0) (target_node w0 name)) ((facts w0).now (target_node w0 name)) ((facts w).now (target_node w0 name)) (map_now (facts w0)) from to ∙ full_then,
-    )
+    let inside : range_of w.layout (facts w) n name ≡ true = subst (λ (x : List ℕ). range_of w.layout (facts w) n x ≡ true) about no_room.inside in
+    let settled = rest.settled n (inside_listed w.layout (facts w) rest.list n name inside) in
+    ((λ k. at (sym map k) (sym about k)) ∙ no_room.lacks, target_was_full w0 w name n rest0 layout list map inside settled no_room.full)
 
 pub split_was_full : SplitWasFull
 split_was_full w0 w name rest0 layout cut =

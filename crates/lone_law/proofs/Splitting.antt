@@ -1,5 +1,5 @@
 -- A split that nobody disturbs takes an EMPTY line, and claims a FREE node if there is one.
-use Rattle.std.proofs.Common.{◌≡◌, ◌≢◌, ℕ, ◌+◌, ◌/◌, ◌%◌, ◌^◌, ◌<◌, ◌≤◌, ◌⊎◌, inl, inr, ⊎_elim, true, false, cond, ltb, List, set, refl, sym, subst, ap, ◌∙◌, arith}
+use Rattle.std.proofs.Common.{◌≡◌, ◌≢◌, ℕ, ◌+◌, ◌/◌, ◌%◌, ◌<◌, ◌≤◌, ◌⊎◌, inl, inr, ⊎_elim, true, false, cond, ltb, List, set, refl, sym, subst, ap, ◌∙◌, arith}
 use Rattle.std.proofs.lemmas.Bool.{cases_eq, eq-eqb, ne_eqb}
 use Rattle.std.proofs.lemmas.List.{set-get_or}
 use Rattle.pm_words.specs.declared.layout.Layout.{Layout}
@@ -33,9 +33,9 @@ use Rattle.smo_log.specs.declared.take.TakeAt.TheVariants as take_at
 use Rattle.smo_log.specs.declared.take.Taken.{Taken}
 use Rattle.smo_log.specs.declared.take.Taken.TheVariants as taken
 use Rattle.smo_log.specs.LogLines.{numbered_address}
-use Rattle.smo_log.specs.Takes.{IsTake, IsTakeAt, take_line, take_asks, take_at_asks, take_turned, take_held, TakeNotes}
-use Rattle.smo_log.specs.Laws.{HasLooked, TakeHeeds}
-use Rattle.smo_log.proofs.LineLaw.{takes_heed, takes_are_notes}
+use Rattle.smo_log.specs.Takes.{IsTake, IsTakeAt, take_line, take_asks, take_at_asks, take_turned}
+use Rattle.smo_log.specs.Laws.{TakeHeeds}
+use Rattle.smo_log.proofs.LineLaw.{takes_heed}
 use Rattle.split_merge.specs.declared.moving.Move.{Move}
 use Rattle.split_merge.specs.declared.splitting.Split.{Split}
 use Rattle.split_merge.specs.declared.splitting.SplitAt.{SplitAt}
@@ -48,7 +48,7 @@ use Rattle.index_law.specs.Lines.{line_in}
 use Rattle.index_law.proofs.Rows.{version_in-here, status_in-here, version_in-alike, status_in-alike}
 use Rattle.index_law.proofs.Noting.{line-alike, line-here}
 use Rattle.lone_law.specs.There.{IsUnmoved}
-use Rattle.lone_law.specs.Splitting.{heard_in, SplitStands, SplitWent, IsReadyToSplit, HoldsAlone, SplitsComeThere}
+use Rattle.lone_law.specs.Splitting.{HasLine, heard_in, SplitStands, SplitWent, IsReadyToSplit, HoldsAlone, SplitsComeThere}
 
 -- a drain of a word of a line leaves all cached words
 drained_unmoved : (l : Layout) (words0 words : List ℕ) (n c j offset y : ℕ) → c < l.callers → j < 8 → offset < 8 → IsUnmoved l words0 words n
@@ -104,21 +104,7 @@ worn_or_fresh v g = elim (is_worn_word v g) as (λ b. is_worn_word v g ≡ b →
   | false ↦ λ is. inr (fresh_word v g is)
 ] refl
 
--- a look for a line goes on as one of the same caller
-abbrev pub TakeCaller : ℕ → Turn Take Taken → Type 0
-TakeCaller c (Go take) = take.caller ≡ c
-TakeCaller c (Done answer) = Unit {0}
-
-pub take_stays : (take : Take) (x : ℕ) → IsTake take → x < 2 ^ 64 → TakeCaller take.caller (take_turned take x)
-take_stays take x is fits = of (take_turned take x) (takes_are_notes take x is fits)
-  where
-    of : (turn : Turn Take Taken) → TakeNotes take.layout take.caller (take_held take) (take_asks take) x turn → TakeCaller take.caller turn
-    of (Go next) note = note.3
-    of (Done (taken.Line line)) note = tt
-    of (Done taken.Full) note = tt
-
-module _ (split : Split) (sound : IsSplit split) (words0 words : List ℕ) (ready : IsReadyToSplit split.view.layout split.view.generation words0 split.node) (x : ℕ)
-    (fits : x < 2 ^ 64) where
+module _ (split : Split) (sound : IsSplit split) (words0 words : List ℕ) (ready : IsReadyToSplit split.view.layout split.view.generation words0 split.node) (x : ℕ) where
   abbrev layout : Layout
   layout = split.view.layout
 
@@ -131,11 +117,14 @@ module _ (split : Split) (sound : IsSplit split) (words0 words : List ℕ) (read
   abbrev w : ℕ
   w = split.word
 
+  abbrev caller : ℕ
+  caller = split.view.caller
+
   abbrev heard : Heard
   heard = heard_in layout words0 n w x
 
   abbrev Goes : List ℕ → Turn Split SplitDone → Type 0
-  Goes now = SplitWent layout g words0 now n w
+  Goes now = SplitWent layout g words0 now n w caller
 
   -- a FREE node is another, whose word is as it was
   other_free : (m : ℕ) → status_in layout words0 m ≡ free_status → m ≢ n
@@ -144,28 +133,29 @@ module _ (split : Split) (sound : IsSplit split) (words0 words : List ℕ) (read
   heard_else : (m : ℕ) → m ≢ n → heard.version m ≡ version_in layout words0 m
   heard_else m other = ap (λ b. cond b w (version_in layout words0 m)) (ne_eqb m n other)
 
-  taken_on : (next : ℕ) (take : Take) (now : List ℕ) → IsUnmoved layout words0 now n → take.layout ≡ layout → take.caller < layout.callers → (turn : Turn Take Taken)
-      → TakeHeeds take.caller (λ index. line_in layout words0 take.caller index 0) take.index turn → TakeCaller take.caller turn → Goes now (split_taken split next turn)
-  taken_on next take now unmoved same low (Go take') heeds own =
-      (unmoved, subst (λ c. HasLooked (λ index. line_in layout words0 c index 0) take'.index take'.at) (sym own) heeds)
-  taken_on next take now unmoved same low (Done (taken.Line line)) heeds own = (unmoved, claims_begin layout g (heard_in layout words0 n w 0))
-  taken_on next take now unmoved same low (Done taken.Full) heeds own = absurd (heeds 0 (omega arith) (ready.empty take.caller 0 low (omega arith)))
+  -- a look for a line finds one, or each is in use
+  taken_on : (next index : ℕ) (now : List ℕ) → IsUnmoved layout words0 now n → (turn : Turn Take Taken) → TakeHeeds caller (λ number. line_in layout words0 caller number 0) index turn → Goes now (split_taken split next turn)
+  taken_on next index now unmoved (Go take) heeds = (unmoved, heeds)
+  taken_on next index now unmoved (Done (taken.Line line)) heeds = (unmoved, record { number = index; within = heeds.1; empty = heeds.2 }, claims_begin layout g (heard_in layout words0 n w 0))
+  taken_on next index now unmoved (Done taken.Full) heeds = heeds
 
   claimed_on : (next line : ℕ) (now : List ℕ) (turn : Turn Claim Claimed) → ((found : ℕ) → Heeds layout g (heard_in layout words0 n w found) turn) → IsUnmoved layout words0 now n
-      → Goes now (split_claimed split next line turn)
-  claimed_on next line now (Go claim) heeds unmoved = (unmoved, (heeds 0).3)
-  claimed_on next line now (Done (claimed.Node m word)) heeds unmoved =
+      → HasLine layout words0 caller → Goes now (split_claimed split next line turn)
+  claimed_on next line now (Go claim) heeds unmoved has = (unmoved, has, (heeds 0).3)
+  claimed_on next line now (Done (claimed.Node m word)) heeds unmoved has =
       let first = (heeds 0).0 in
       let free : status_in layout words0 m ≡ free_status = first.ready.0 in
-      let same = heard_else m (other_free m free) in
-      record {
-        node = m;
-        within = first.within;
-        free = free;
-        unworn = subst (λ v. IsWorn v g → ⊥) same (first.ready.1 (subst (λ v. IsFree v g) (sym same) (ready.free m first.within)));
-      }
-  claimed_on next line now (Done claimed.NoFree) heeds unmoved = (
-    refl,
+      let same = heard_else m (other_free m free) in (
+        has,
+        record {
+          node = m;
+          within = first.within;
+          free = free;
+          unworn = subst (λ v. IsWorn v g → ⊥) same (first.ready.1 (subst (λ v. IsFree v g) (sym same) (ready.free m first.within)));
+        },
+      )
+  claimed_on next line now (Done claimed.NoFree) heeds unmoved has = (
+    has,
     λ m within free. ⊎_elim
         (λ worn. worn)
         (λ fresh.
@@ -174,17 +164,17 @@ module _ (split : Split) (sound : IsSplit split) (words0 words : List ℕ) (read
         absurd (heeds 0 m positive within (free, λ is worn. fresh (subst (λ v. IsWorn v g) (heard_else m other) worn))))
         (worn_or_fresh (version_in layout words0 m) g),
   )
-  claimed_on next line now (Done (claimed.Again (again.Locked m word))) heeds unmoved =
+  claimed_on next line now (Done (claimed.Again (again.Locked m word))) heeds unmoved has =
       let first = (heeds 0).0 in
       let same = heard_else m (other_free m first.ready.0) in
       absurd ((heeds 0).2 (subst (λ v. IsFree v g) (sym same) (ready.free m first.within)))
-  claimed_on next line now (Done (claimed.Again (again.Moved m first second))) heeds unmoved = absurd ((heeds (heard.version m)).4 refl)
-  claimed_on next line now (Done (claimed.Again (again.Hops count))) heeds unmoved = absurd (heeds 0)
-  claimed_on next line now (Done (claimed.Again again.LogFull)) heeds unmoved = absurd (heeds 0)
-  claimed_on next line now (Done (claimed.Again again.NoFree)) heeds unmoved = absurd (heeds 0)
-  claimed_on next line now (Done (claimed.Again (again.NeedsSplit m))) heeds unmoved = absurd (heeds 0)
-  claimed_on next line now (Done (claimed.Again (again.Held word))) heeds unmoved = absurd (heeds 0)
-  claimed_on next line now (Done (claimed.Again (again.Epoch first second))) heeds unmoved = absurd (heeds 0)
+  claimed_on next line now (Done (claimed.Again (again.Moved m first second))) heeds unmoved has = absurd ((heeds (heard.version m)).4 refl)
+  claimed_on next line now (Done (claimed.Again (again.Hops count))) heeds unmoved has = absurd (heeds 0)
+  claimed_on next line now (Done (claimed.Again again.LogFull)) heeds unmoved has = absurd (heeds 0)
+  claimed_on next line now (Done (claimed.Again again.NoFree)) heeds unmoved has = absurd (heeds 0)
+  claimed_on next line now (Done (claimed.Again (again.NeedsSplit m))) heeds unmoved has = absurd (heeds 0)
+  claimed_on next line now (Done (claimed.Again (again.Held word))) heeds unmoved has = absurd (heeds 0)
+  claimed_on next line now (Done (claimed.Again (again.Epoch first second))) heeds unmoved has = absurd (heeds 0)
 
   abbrev claim_with : ℕ → ClaimAt → Claim
   claim_with m at = record { layout = layout; generation = g; node = m; at = at }
@@ -201,33 +191,33 @@ module _ (split : Split) (sound : IsSplit split) (words0 words : List ℕ) (read
     version_told is = is ∙ sym (version_in-here layout words m here) ∙ version_now
 
     by_heard : (at : ClaimAt) → IsClaim (claim_with m at) → Told layout g (claim_at_asks layout m at) x → HasHeard layout g (heard_in layout words0 n w 0) m at
-        → ((found : ℕ) → x ≡ heard_at (heard_in layout words0 n w found) m at) → (now : List ℕ) → IsUnmoved layout words0 now n → (next line : ℕ)
+        → ((found : ℕ) → x ≡ heard_at (heard_in layout words0 n w found) m at) → (now : List ℕ) → IsUnmoved layout words0 now n → HasLine layout words0 caller → (next line : ℕ)
         → Goes now (split_claimed split next line (claim_turned (claim_with m at) x))
-    by_heard at is tells so is_told now still next line =
+    by_heard at is tells so is_told now still has next line =
         claimed_on next line now (claim_turned (claim_with m at) x)
         (λ found. subst (λ y. Heeds layout g (heard_in layout words0 n w found) (claim_turned (claim_with m at) y)) (sym (is_told found))
-        (claims_heed (claim_with m at) (heard_in layout words0 n w found) is (subst (Told layout g (claim_at_asks layout m at)) (is_told found) tells) so)) still
+        (claims_heed (claim_with m at) (heard_in layout words0 n w found) is (subst (Told layout g (claim_at_asks layout m at)) (is_told found) tells) so)) still has
 
     claims_there : (at : ClaimAt) → IsClaim (claim_with m at) → Told layout g (claim_at_asks layout m at) x → HasHeard layout g (heard_in layout words0 n w 0) m at
-        → x ≡ got layout words (claim_at_asks layout m at) → (next line : ℕ)
+        → x ≡ got layout words (claim_at_asks layout m at) → HasLine layout words0 caller → (next line : ℕ)
         → Goes (acted layout words (claim_at_asks layout m at)) (split_claimed split next line (claim_turned (claim_with m at) x))
-    claims_there claim_at.Nowhere is tells so loads next line =
-        by_heard claim_at.Nowhere is tells so (λ found. version_told loads) (acted layout words (Load (version_address layout m))) (loaded layout words0 words n (version_address layout m) unmoved) next line
-    claims_there claim_at.Version is tells so loads next line =
-        by_heard claim_at.Version is tells so (λ found. version_told loads) (acted layout words (Load (version_address layout m))) (loaded layout words0 words n (version_address layout m) unmoved) next line
-    claims_there (claim_at.Status version) is tells so loads next line =
+    claims_there claim_at.Nowhere is tells so loads has next line =
+        by_heard claim_at.Nowhere is tells so (λ found. version_told loads) (acted layout words (Load (version_address layout m))) (loaded layout words0 words n (version_address layout m) unmoved) has next line
+    claims_there claim_at.Version is tells so loads has next line =
+        by_heard claim_at.Version is tells so (λ found. version_told loads) (acted layout words (Load (version_address layout m))) (loaded layout words0 words n (version_address layout m) unmoved) has next line
+    claims_there (claim_at.Status version) is tells so loads has next line =
         by_heard (claim_at.Status version) is tells so (λ found. loads ∙ sym (status_in-here layout words m here) ∙ unmoved.statuses m) (acted layout words (Load (status_address layout m)))
-        (loaded layout words0 words n (status_address layout m) unmoved) next line
-    claims_there (claim_at.Lock version locked) is tells so loads next line =
+        (loaded layout words0 words n (status_address layout m) unmoved) has next line
+    claims_there (claim_at.Lock version locked) is tells so loads has next line =
         let word = version_told loads in
         let same : x ≡ version = word ∙ sym so.1 in
         let other = other_free m so.2 in
         subst (λ b. Goes (acted layout words (claim_at_asks layout m (claim_at.Lock version locked))) (split_claimed split next line
         (cond b (Done (claimed.Node m locked)) (Done (claimed.Again (again.Moved m version x)))))) (sym (eq-eqb x version same))
-        (record { node = m; within = here; free = so.2; unworn = subst (λ v. IsWorn v g → ⊥) (so.1 ∙ heard_else m other) is.here.1.unworn })
+        (has, record { node = m; within = here; free = so.2; unworn = subst (λ v. IsWorn v g → ⊥) (so.1 ∙ heard_else m other) is.here.1.unworn })
 
   -- each turn of the split
-  splits_there : (at : SplitAt) → IsSplitAt split.view n w at → SplitStands layout g words0 words n w at → Told layout g (split_at_asks split at) x → (HoldsAlone at → version_in layout words n ≡ w)
+  splits_there : (at : SplitAt) → IsSplitAt split.view n w at → SplitStands layout g words0 words n w caller at → Told layout g (split_at_asks split at) x → (HoldsAlone at → version_in layout words n ≡ w)
       → x ≡ got layout words (split_at_asks split at) → Goes (acted layout words (split_at_asks split at)) (split_at_turned split at x)
   splits_there at.Next is stands tells mine loads =
       (loaded layout words0 words n (word_address layout n 2) stands, λ index lt. absurd (let no : index < 0 = lt in omega arith))
@@ -236,16 +226,17 @@ module _ (split : Split) (sound : IsSplit split) (words0 words : List ℕ) (read
       let unmoved = subst (λ (k : Layout). IsUnmoved k words0 words n) (sym same) stands.0 in
       let own_loads : x ≡ got take.layout words (take_asks take) = subst (λ (k : Layout). x ≡ got k words (take_asks take)) (sym same) loads in
       let now = subst (λ (k : Layout). IsUnmoved k words0 (acted k words (take_asks take)) n) same (take_unmoved take is.1 words0 words n unmoved) in
-      let states : take.at ≡ take_at.State → x ≡ line_in layout words0 take.caller take.index 0 =
-      λ state. subst (λ (k : Layout). x ≡ line_in k words0 take.caller take.index 0) same (take_told take is.1 words0 words n unmoved x own_loads state) in
-      taken_on next take (acted layout words (take_asks take)) now same (subst (λ (k : Layout). take.caller < k.callers) same is.1.caller) (take_turned take x)
-      (takes_heed take (λ index. line_in layout words0 take.caller index 0) x is.1 states stands.1) (take_stays take x is.1 fits)
+      let states : take.at ≡ take_at.State → x ≡ line_in layout words0 caller take.index 0 =
+      λ state. subst (λ (q : Layout × ℕ). x ≡ line_in q.0 words0 q.1 take.index 0) (λ k. (same k, is.3 k)) (take_told take is.1 words0 words n unmoved x own_loads state) in
+      taken_on next take.index (acted layout words (take_asks take)) now (take_turned take x)
+      (subst (λ (c : ℕ). TakeHeeds c (λ number. line_in layout words0 caller number 0) take.index (take_turned take x)) is.3
+      (takes_heed take (λ number. line_in layout words0 caller number 0) x is.1 states stands.1))
   splits_there (at.Claim next line claim) is stands tells mine loads =
       let layout_is = is.3 in
       let generation_is = is.4 in
       let whole : IsClaim (claim_with claim.node claim.at) = subst (λ (q : Layout × ℕ). IsClaim (record { layout = q.0; generation = q.1; node = claim.node; at = claim.at })) (λ k. (layout_is k, generation_is k)) is.2 in
       let asks : claim_asks claim ≡ claim_at_asks layout claim.node claim.at = ap (λ (k : Layout). claim_at_asks k claim.node claim.at) layout_is in
-      let ends = claims_there stands.0 (mine tt) claim.node whole.node claim.at whole (subst (λ a. Told layout g a x) asks tells) stands.1 (loads ∙ ap (got layout words) asks) next line in
+      let ends = claims_there stands.0 (mine tt) claim.node whole.node claim.at whole (subst (λ a. Told layout g a x) asks tells) stands.2 (loads ∙ ap (got layout words) asks) stands.1 next line in
       subst (λ (q : Action × Claim). Goes (acted layout words q.0) (split_claimed split next line (claim_turned q.1 x)))
       (λ k. (sym asks k, record { layout = sym layout_is k; generation = sym generation_is k; node = claim.node; at = claim.at })) ends
   splits_there (at.Read share full count) is stands tells mine loads =
@@ -261,4 +252,4 @@ module _ (split : Split) (sound : IsSplit split) (words0 words : List ℕ) (read
 
 pub splits_come_there : SplitsComeThere
 splits_come_there split words0 words x sound ready stands tells mine loads =
-    splits_there split sound words0 words ready x tells.fits split.at sound.here stands tells mine loads
+    splits_there split sound words0 words ready x split.at sound.here stands tells mine loads

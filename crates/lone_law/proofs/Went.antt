@@ -1,5 +1,5 @@
 -- Where the machine of a lone call is after a turn.
-use Rattle.std.proofs.Common.{◌≡◌, ◌≢◌, ℕ, ◌+◌, ◌/◌, ◌<◌, ◌^◌, ◌==◌, nat_lt, true, false, cond, ltb, List, inl, refl, sym, ◌∙◌, subst, arith}
+use Rattle.std.proofs.Common.{◌≡◌, ◌≢◌, ℕ, ◌+◌, ◌/◌, ◌<◌, ◌==◌, ◌⊎◌, nat_lt, true, false, cond, ltb, List, inl, inr, refl, sym, ◌∙◌, subst, arith}
 use Rattle.std.specs.Prelude.{Option, Some, None}
 use Rattle.pm_words.specs.declared.layout.Layout.{Layout}
 use Rattle.pm_words.specs.declared.again.Again.TheVariants as again
@@ -66,8 +66,8 @@ use Rattle.split_merge.specs.declared.merging.Merged.{Merged}
 use Rattle.split_merge.specs.Merges.{merge_turned}
 use Rattle.index_law.specs.Lines.{line_in}
 use Rattle.lone_law.specs.There.{nodes_in, IsAtNode, IsUnmoved, EndsEarly, LookedStands}
-use Rattle.lone_law.specs.Splitting.{AreEmpty, HasFree, LacksFree, SplitStands, SplitWent, IsReadyToSplit, HoldsAlone}
-use Rattle.lone_law.proofs.Splitting.{splits_come_there, TakeCaller, take_unmoved, take_told, take_stays}
+use Rattle.lone_law.specs.Splitting.{HasLine, HasFree, IsLacking, SplitStands, SplitWent, IsReadyToSplit, HoldsAlone}
+use Rattle.lone_law.proofs.Splitting.{splits_come_there, take_unmoved, take_told}
 use Rattle.index_law.specs.Facts.{version_in, list_in}
 use Rattle.data_node.specs.Lists.{IsIn, key_of, next_offset}
 use Rattle.data_node.proofs.ListLemmas.{target_in}
@@ -80,7 +80,7 @@ use Rattle.split_merge.specs.Splits.{split_asks, split_turned}
 use Rattle.pm_words.specs.declared.again.Again.{Again}
 use Rattle.node_ops.specs.declared.lookup.Hold.{Hold}
 use Rattle.node_ops.specs.Calls.{name_in, call_address}
-use Rattle.lone_law.specs.LoneCalls.{GetIsThere, PutIsThere, DelIsThere, PartIsThere, IsThere}
+use Rattle.lone_law.specs.LoneCalls.{GetIsThere, PutIsThere, HasFoundLine, DelIsThere, PartIsThere, IsThere}
 use Rattle.lone_law.proofs.There.{looks_come_there, loaded_unmoved}
 use Rattle.node_ops.specs.declared.get.Get.TheVariants as get
 use Rattle.node_ops.specs.GetSteps.{get_looked}
@@ -112,26 +112,37 @@ get_went (get.Looking lookup) words0 words x sound still stands told = at (looku
     at (Done (looked.Found found)) is = is.0
 get_went (get.Unlocking call hold old) words0 words x sound still stands told = (stands, refl, refl)
 
--- an answer of a machine: one that wrote had a place
-abbrev pub HasEnded : Layout → ℕ → List ℕ → Call → (Option ℕ → Type 0) → Type 0 → Option ℕ → Option ℕ → Once Placed → Type 0
+-- An answer of a machine: one that wrote had a place, and one that is turned back may be so.
+abbrev pub HasEnded : Layout → ℕ → List ℕ → Call → (Option ℕ → Type 0) → (Again → Type 0) → Option ℕ → Option ℕ → Once Placed → Type 0
 HasEnded l g words0 call P R place limit (once.Done placed) = IsAtNode l words0 call × (placed.hops ≡ call.hops) × P place × (limit ≡ call.limit)
 HasEnded l g words0 call P R place limit (once.Worn node word) = EndsEarly l g words0 call (once.Worn node word)
 HasEnded l g words0 call P R place limit (once.Spent clock) = EndsEarly l g words0 call (once.Spent clock)
-HasEnded l g words0 call P R place limit (once.Again again.NoFree) = IsAtNode l words0 call × R × LacksFree l g words0
-HasEnded l g words0 call P R place limit (once.Again (again.NeedsSplit node)) = IsAtNode l words0 call × R × HasFree l g words0
-HasEnded l g words0 call P R place limit (once.Again why) = ⊥
+HasEnded l g words0 call P R place limit (once.Again (again.NeedsSplit node)) = IsAtNode l words0 call × R (again.NeedsSplit node) × HasLine l words0 call.view.caller × HasFree l g words0
+HasEnded l g words0 call P R place limit (once.Again why) = IsAtNode l words0 call × R why × IsLacking l g words0 call.view.caller why
 
-early : (l : Layout) (g : ℕ) (words0 : List ℕ) (call : Call) (P : Option ℕ → Type 0) (R : Type 0) (place limit : Option ℕ) (answer : Once Placed) → EndsEarly l g words0 call answer → HasEnded l g words0 call P R place limit answer
+early : (l : Layout) (g : ℕ) (words0 : List ℕ) (call : Call) (P : Option ℕ → Type 0) (R : Again → Type 0) (place limit : Option ℕ) (answer : Once Placed) → EndsEarly l g words0 call answer → HasEnded l g words0 call P R place limit answer
 early l g words0 call P R place limit (once.Done placed) is = absurd is
 early l g words0 call P R place limit (once.Worn node word) is = is
 early l g words0 call P R place limit (once.Spent clock) is = is
 early l g words0 call P R place limit (once.Again why) is = absurd is
 
+-- one that lacks a line or a node is turned back
+turned_back : (l : Layout) (g : ℕ) (words0 : List ℕ) (call : Call) (P : Option ℕ → Type 0) (R : Again → Type 0) (place limit : Option ℕ) (why : Again) → IsAtNode l words0 call → ((why : Again) → R why)
+    → IsLacking l g words0 call.view.caller why → HasEnded l g words0 call P R place limit (once.Again why)
+turned_back l g words0 call P R place limit again.LogFull at may lacks = (at, may again.LogFull, lacks)
+turned_back l g words0 call P R place limit again.NoFree at may lacks = (at, may again.NoFree, lacks)
+turned_back l g words0 call P R place limit (again.Locked n word) at may lacks = absurd lacks
+turned_back l g words0 call P R place limit (again.Moved n first second) at may lacks = absurd lacks
+turned_back l g words0 call P R place limit (again.Hops count) at may lacks = absurd lacks
+turned_back l g words0 call P R place limit (again.NeedsSplit n) at may lacks = absurd lacks
+turned_back l g words0 call P R place limit (again.Held word) at may lacks = absurd lacks
+turned_back l g words0 call P R place limit (again.Epoch first second) at may lacks = absurd lacks
+
 -- it has a place
 abbrev pub IsGiven : Option ℕ → Type 0
 IsGiven place = place ≢ None
 
-module _ (l : Layout) (g : ℕ) (words0 words : List ℕ) (R : Type 0) where
+module _ (l : Layout) (g : ℕ) (words0 words : List ℕ) (R : Again → Type 0) where
   abbrev PutWent : Call → Option ℕ → Option ℕ → Turn Put (Once Placed) → Type 0
   PutWent call place limit (Go next) = PutIsThere l words0 words next
   PutWent call place limit (Done answer) = HasEnded l g words0 call IsGiven R place limit answer
@@ -140,20 +151,22 @@ module _ (l : Layout) (g : ℕ) (words0 words : List ℕ) (R : Type 0) where
   DelWent call place limit (Go next) = DelIsThere l words0 words next
   DelWent call place limit (Done answer) = HasEnded l g words0 call IsGiven R place limit answer
 
-  abbrev FinishWent : Call → Option ℕ → Option ℕ → Turn Finish (Once Placed) → Type 0
-  FinishWent call place limit (Go next) = IsAtNode l words0 next.call
-  FinishWent call place limit (Done answer) = HasEnded l g words0 call IsGiven R place limit answer
+  -- the end of a write keeps what is so of its call
+  abbrev FinishWent : (Call → Type 0) → Call → Option ℕ → Option ℕ → Turn Finish (Once Placed) → Type 0
+  FinishWent Q call place limit (Go next) = Q next.call
+  FinishWent Q call place limit (Done answer) = HasEnded l g words0 call IsGiven R place limit answer
 
-  finish_went : (finish : Finish) (x : ℕ) → IsAtNode l words0 finish.call → FinishWent finish.call (placed_in (put_stage (put.Single (single_put.Finishing finish)))) (limit_in (put_stage (put.Single (single_put.Finishing finish)))) (finish_turned finish x)
-  finish_went finish x stands = at finish.at
+  finish_went : (Q : Call → Type 0) (finish : Finish) (x : ℕ) → Q finish.call → IsAtNode l words0 finish.call
+      → FinishWent Q finish.call (placed_in (put_stage (put.Single (single_put.Finishing finish)))) (limit_in (put_stage (put.Single (single_put.Finishing finish)))) (finish_turned finish x)
+  finish_went Q finish x holds stands = at finish.at
     where
-      fenced : (line : ℕ) (o : Option Fence) (place limit : Option ℕ) → FinishWent finish.call place limit (finish_fenced finish line o)
-      fenced line (Some fence) place limit = stands
-      fenced line None place limit = stands
+      fenced : (line : ℕ) (o : Option Fence) (place limit : Option ℕ) → FinishWent Q finish.call place limit (finish_fenced finish line o)
+      fenced line (Some fence) place limit = holds
+      fenced line None place limit = holds
 
-      at : (at : FinishAt) → FinishWent finish.call (placed_in (put_stage (put.Single (single_put.Finishing (record finish { at = at }))))) (limit_in (put_stage (put.Single (single_put.Finishing (record finish { at = at }))))) (finish_at_turned finish at x)
+      at : (at : FinishAt) → FinishWent Q finish.call (placed_in (put_stage (put.Single (single_put.Finishing (record finish { at = at }))))) (limit_in (put_stage (put.Single (single_put.Finishing (record finish { at = at }))))) (finish_at_turned finish at x)
       at (finish_at.Fence line fence) = fenced line (fence_next fence x) None finish.call.limit
-      at finish_at.Add = stands
+      at finish_at.Add = holds
       at (finish_at.Unlock place) = (stands, refl, (λ e. cc), refl)
 
   abbrev FillWent : Turn Fill Finish → Type 0
@@ -195,13 +208,13 @@ module _ (l : Layout) (g : ℕ) (words0 words : List ℕ) (R : Type 0) where
 
   slot_stands : (call : Call) (hold : Hold) (bitmap : ℕ) (hit : Hit) → IsAtNode l words0 call × IsUnmoved l words0 words call.node → DelIsThere l words0 words (del_slot call hold bitmap hit)
   slot_stands call hold bitmap hit stands = elim (nat_lt (call.view.layout.slots / 2) (names_left call bitmap hit)) as (λ b. DelIsThere l words0 words (cond b (del.Single (single_del.Clearing call hold bitmap hit None)) (del.Single (single_del.Next call hold bitmap hit)))) [
-    | true ↦ stands.0
+    | true ↦ (stands.0, tt)
     | false ↦ stands
   ]
 
   hit_stands : (call : Call) (found : Found) (hit : Option Hit) → IsAtNode l words0 call × IsUnmoved l words0 words call.node → DelIsThere l words0 words (del_hit call found.hold found.directory.bitmap hit)
   hit_stands call found (Some hit) stands = slot_stands call found.hold found.directory.bitmap hit stands
-  hit_stands call found None stands = stands.0
+  hit_stands call found None stands = (stands.0, tt)
 
   del_looked_went : (call : Call) (place limit : Option ℕ) (turn : Turn Lookup Looked) → LookedStands l g words0 words call turn → DelWent call place limit (del_looked call turn)
   del_looked_went call place limit (Go next) is = is
@@ -213,21 +226,19 @@ module _ (l : Layout) (g : ℕ) (words0 words : List ℕ) (R : Type 0) where
       → DelWent call place limit (Go (saw_next call hold bitmap hit next))
   next_went call hold bitmap hit place limit next stands =
       elim (next == 0) as (λ b. DelIsThere l words0 words (cond b (del.Single (single_del.Clearing call hold bitmap hit None)) (del.Single (single_del.Taking call hold bitmap hit (take_from call.view.layout call.view.caller))))) [
-        | true ↦ stands.0
+        | true ↦ (stands.0, tt)
         | false ↦ (stands.0, stands.1, λ index lt. absurd (let no : index < 0 = lt in omega arith))
       ]
 
-  -- and it finds one, since each is EMPTY
-  del_taken_went : (call : Call) (hold : Hold) (bitmap : ℕ) (hit : Hit) (place limit : Option ℕ) (take : Take) → AreEmpty l words0 → take.caller < l.callers
-      → IsAtNode l words0 call → IsUnmoved l words0 words call.node → (turn : Turn Take Taken) → TakeHeeds take.caller (λ index. line_in l words0 take.caller index 0) take.index turn
-      → TakeCaller take.caller turn → DelWent call place limit (del_taken call hold bitmap hit turn)
-  del_taken_went call hold bitmap hit place limit take empty low there unmoved (Go take') heeds own =
-      (there, unmoved, subst (λ c. HasLooked (λ index. line_in l words0 c index 0) take'.index take'.at) (sym own) heeds)
-  del_taken_went call hold bitmap hit place limit take empty low there unmoved (Done (taken.Line line)) heeds own = there
-  del_taken_went call hold bitmap hit place limit take empty low there unmoved (Done taken.Full) heeds own = absurd (heeds 0 (omega arith) (empty take.caller 0 low (omega arith)))
+  -- and it finds one, or each is in use
+  del_taken_went : (call : Call) (hold : Hold) (bitmap : ℕ) (hit : Hit) (place limit : Option ℕ) (index : ℕ) → IsAtNode l words0 call → IsUnmoved l words0 words call.node → (turn : Turn Take Taken)
+      → TakeHeeds call.view.caller (λ number. line_in l words0 call.view.caller number 0) index turn → DelWent call place limit (del_taken call hold bitmap hit turn)
+  del_taken_went call hold bitmap hit place limit index there unmoved (Go take) heeds = (there, unmoved, heeds)
+  del_taken_went call hold bitmap hit place limit index there unmoved (Done (taken.Line line)) heeds = (there, record { number = index; within = heeds.1; empty = heeds.2 })
+  del_taken_went call hold bitmap hit place limit index there unmoved (Done taken.Full) heeds = (there, heeds)
 
   -- the end of a write, which may go on with a merge
-  goes_on_there : (finish : Finish) (line : Option ℕ) → IsAtNode l words0 finish.call → DelIsThere l words0 words (goes_on finish line)
+  goes_on_there : (finish : Finish) (line : Option ℕ) → IsAtNode l words0 finish.call × HasFoundLine l words0 finish.call line → DelIsThere l words0 words (goes_on finish line)
   goes_on_there finish None stands = stands
   goes_on_there finish (Some number) stands = at finish.at
     where
@@ -240,19 +251,23 @@ module _ (l : Layout) (g : ℕ) (words0 words : List ℕ) (R : Type 0) where
   put_filled_went call place limit (Go next) is = is
   put_filled_went call place limit (Done finish) is = is
 
-  put_finished_went : (call : Call) (place limit : Option ℕ) (turn : Turn Finish (Once Placed)) → FinishWent call place limit turn → PutWent call place limit (put_finished turn)
+  put_finished_went : (call : Call) (place limit : Option ℕ) (turn : Turn Finish (Once Placed)) → FinishWent (IsAtNode l words0) call place limit turn → PutWent call place limit (put_finished turn)
   put_finished_went call place limit (Go next) is = is
   put_finished_went call place limit (Done answer) is = is
 
-  del_finished_went : (line : Option ℕ) (call : Call) (place limit : Option ℕ) (turn : Turn Finish (Once Placed)) → FinishWent call place limit turn → DelWent call place limit (del_finished line turn)
+  -- a call with its line
+  abbrev WithLine : Option ℕ → Call → Type 0
+  WithLine line call = IsAtNode l words0 call × HasFoundLine l words0 call line
+
+  del_finished_went : (line : Option ℕ) (call : Call) (place limit : Option ℕ) (turn : Turn Finish (Once Placed)) → FinishWent (WithLine line) call place limit turn → DelWent call place limit (del_finished line turn)
   del_finished_went line call place limit (Go next) is = goes_on_there next line is
   del_finished_went line call place limit (Done answer) is = is
 
   -- a merge, at whose end it is answered
-  del_merged_went : (call : Call) (hold : Hold) (old place limit : Option ℕ) (number : ℕ) → IsAtNode l words0 call → place ≢ None → limit ≡ call.limit → (turn : Turn Merge Merged)
+  del_merged_went : (call : Call) (hold : Hold) (old place limit : Option ℕ) (number : ℕ) → IsAtNode l words0 call → HasLine l words0 call.view.caller → place ≢ None → limit ≡ call.limit → (turn : Turn Merge Merged)
       → DelWent call place limit (del_merged call hold old number turn)
-  del_merged_went call hold old place limit number stands given below (Go merge) = stands
-  del_merged_went call hold old place limit number stands given below (Done merged) = (stands, refl, given, below)
+  del_merged_went call hold old place limit number stands has given below (Go merge) = (stands, has)
+  del_merged_went call hold old place limit number stands has given below (Done merged) = (stands, refl, given, below)
 
 -- a get and a part need no place
 abbrev pub NeedsPlace : Running → Option ℕ → Type 0
@@ -272,9 +287,21 @@ MayLackRoom (Putting machine) = IsSplittingPut machine
 MayLackRoom (Deleting machine) = ⊥
 MayLackRoom (Parting machine) = ⊥
 
+-- A delete that looked for a line gives its node back.
+pub record IsRefusing (machine : Running) : Type 0 where
+  pub call : Call
+  pub hold : Hold
+  pub bitmap : ℕ
+  pub hit : Hit
+  pub is : machine ≡ Deleting (del.Single (single_del.Refusing call hold bitmap hit))
+
+-- such a delete may find no line, and so may a put that splits
+abbrev pub MayLack : Running → Again → Type 0
+MayLack machine why = MayLackRoom machine ⊎ ((why ≡ again.LogFull) × IsRefusing machine)
+
 abbrev pub Went : Layout → ℕ → List ℕ → List ℕ → Running → Turn Running (Once Placed) → Type 0
 Went l g words0 words machine (Go next) = IsThere l words0 words next
-Went l g words0 words machine (Done answer) = HasEnded l g words0 (running_call machine) (NeedsPlace machine) (MayLackRoom machine) (placed_in (stage_of machine)) (limit_in (stage_of machine)) answer
+Went l g words0 words machine (Done answer) = HasEnded l g words0 (running_call machine) (NeedsPlace machine) (MayLack machine) (placed_in (stage_of machine)) (limit_in (stage_of machine)) answer
 
 -- the version word of a node that is held alone while it is to be split is its own
 abbrev pub KnowsOwn : Layout → List ℕ → Running → Type 0
@@ -282,92 +309,93 @@ KnowsOwn l words (Putting (put.Splitting call hold bitmap value split)) = HoldsA
 KnowsOwn l words _ = Unit {0}
 
 -- the words as they were are ready for a split of a listed node
-ready_to_split : (l : Layout) (g : ℕ) (words0 : List ℕ) (call : Call) → IsQuietList l g (nodes_in l words0) → AreEmpty l words0 → IsAtNode l words0 call → IsReadyToSplit l g words0 call.node
-ready_to_split l g words0 call still empty at = record {
+ready_to_split : (l : Layout) (g : ℕ) (words0 : List ℕ) (call : Call) → IsQuietList l g (nodes_in l words0) → IsAtNode l words0 call → IsReadyToSplit l g words0 call.node
+ready_to_split l g words0 call still at = record {
   live = still.live call.node (subst (IsIn (list_in l words0)) (sym at.node) (target_in 0 (list_in l words0) (key_of (name_in call))));
   first = still.live 0 (inl refl);
   free = still.free;
-  empty = empty;
 }
 
 split_went : (call : Call) (hold : Hold) (bitmap value : ℕ) (split : Split) (words0 words : List ℕ) (x : ℕ) → IsSplitting call hold bitmap split
-    → IsQuietList call.view.layout call.view.generation (nodes_in call.view.layout words0) → AreEmpty call.view.layout words0
-    → IsAtNode call.view.layout words0 call → SplitStands call.view.layout call.view.generation words0 words call.node hold.locked split.at
+    → IsQuietList call.view.layout call.view.generation (nodes_in call.view.layout words0)
+    → IsAtNode call.view.layout words0 call → SplitStands call.view.layout call.view.generation words0 words call.node hold.locked call.view.caller split.at
     → Told call.view.layout call.view.generation (split_asks split) x → (HoldsAlone split.at → version_in call.view.layout words call.node ≡ hold.locked)
     → x ≡ got call.view.layout words (split_asks split)
-    → SplitWent call.view.layout call.view.generation words0 (acted call.view.layout words (split_asks split)) call.node hold.locked (split_turned split x)
-split_went call hold bitmap value split words0 words x sound still empty at stands tells mine told =
+    → SplitWent call.view.layout call.view.generation words0 (acted call.view.layout words (split_asks split)) call.node hold.locked call.view.caller (split_turned split x)
+split_went call hold bitmap value split words0 words x sound still at stands tells mine told =
     let all : Path (View × (ℕ × ℕ)) (split.view, (split.node, split.word)) (call.view, (call.node, hold.locked)) = λ k. (sound.view k, (sound.node k, sound.word k)) in
     let back = sym all in
-    subst (λ (q : View × (ℕ × ℕ)). SplitWent q.0.layout q.0.generation words0 (acted q.0.layout words (split_asks split)) q.1.0 q.1.1 (split_turned split x)) all
+    subst (λ (q : View × (ℕ × ℕ)). SplitWent q.0.layout q.0.generation words0 (acted q.0.layout words (split_asks split)) q.1.0 q.1.1 q.0.caller (split_turned split x)) all
     (splits_come_there split words0 words x sound.here
-    (subst (λ (q : View × (ℕ × ℕ)). IsReadyToSplit q.0.layout q.0.generation words0 q.1.0) back (ready_to_split call.view.layout call.view.generation words0 call still empty at))
-    (subst (λ (q : View × (ℕ × ℕ)). SplitStands q.0.layout q.0.generation words0 words q.1.0 q.1.1 split.at) back stands)
+    (subst (λ (q : View × (ℕ × ℕ)). IsReadyToSplit q.0.layout q.0.generation words0 q.1.0) back (ready_to_split call.view.layout call.view.generation words0 call still at))
+    (subst (λ (q : View × (ℕ × ℕ)). SplitStands q.0.layout q.0.generation words0 words q.1.0 q.1.1 q.0.caller split.at) back stands)
     (subst (λ (q : View × (ℕ × ℕ)). Told q.0.layout q.0.generation (split_asks split) x) back tells)
     (subst (λ (q : View × (ℕ × ℕ)). HoldsAlone split.at → version_in q.0.layout words q.1.0 ≡ q.1.1) back mine)
     (subst (λ (q : View × (ℕ × ℕ)). x ≡ got q.0.layout words (split_asks split)) back told))
 
 put_went : (machine : Put) (words0 words : List ℕ) (x : ℕ) → IsPut machine
     → IsQuietList (put_call machine).view.layout (put_call machine).view.generation (nodes_in (put_call machine).view.layout words0)
-    → AreEmpty (put_call machine).view.layout words0 → Told (put_call machine).view.layout (put_call machine).view.generation (put_asks machine) x
+    → Told (put_call machine).view.layout (put_call machine).view.generation (put_asks machine) x
     → KnowsOwn (put_call machine).view.layout words (Putting machine)
     → PutIsThere (put_call machine).view.layout words0 words machine → x ≡ got (put_call machine).view.layout words (put_asks machine)
-    → PutWent (put_call machine).view.layout (put_call machine).view.generation words0 (acted (put_call machine).view.layout words (put_asks machine)) (IsSplittingPut machine) (put_call machine) (placed_in (put_stage machine)) (limit_in (put_stage machine)) (put_turned machine x)
-put_went (put.Single (single_put.Looking lookup value)) words0 words x sound still empty tells mine stands told =
-    put_looked_went _ _ words0 _ ⊥ lookup.call value (placed_in (put_stage (put.Single (single_put.Looking lookup value)))) (limit_in (put_stage (put.Single (single_put.Looking lookup value)))) (lookup_turned lookup x) (looks_come_there lookup words0 words x sound.0 still stands told)
-put_went (put.Single (single_put.Filling fill)) words0 words x sound still empty tells mine stands told = put_filled_went _ _ words0 _ ⊥ fill.call None fill.call.limit (fill_turned fill x) (fill_went _ fill.call.view.generation words0 words ⊥ fill x stands)
-put_went (put.Single (single_put.Replacing call hold bitmap hit value)) words0 words x sound still empty tells mine stands told = stands
-put_went (put.Single (single_put.Finishing finish)) words0 words x sound still empty tells mine stands told =
-    put_finished_went _ _ words0 _ ⊥ finish.call (placed_in (put_stage (put.Single (single_put.Finishing finish)))) (limit_in (put_stage (put.Single (single_put.Finishing finish)))) (finish_turned finish x) (finish_went _ _ words0 words ⊥ finish x stands)
-put_went (put.Splitting call hold bitmap value split) words0 words x sound still empty tells mine stands told =
-    on (split_turned split x) (split_went call hold bitmap value split words0 words x sound still empty stands.0 stands.1 tells mine told)
+    → PutWent (put_call machine).view.layout (put_call machine).view.generation words0 (acted (put_call machine).view.layout words (put_asks machine)) (MayLack (Putting machine)) (put_call machine) (placed_in (put_stage machine)) (limit_in (put_stage machine)) (put_turned machine x)
+put_went (put.Single (single_put.Looking lookup value)) words0 words x sound still tells mine stands told =
+    put_looked_went _ _ words0 _ (MayLack (Putting (put.Single (single_put.Looking lookup value)))) lookup.call value (placed_in (put_stage (put.Single (single_put.Looking lookup value)))) (limit_in (put_stage (put.Single (single_put.Looking lookup value)))) (lookup_turned lookup x) (looks_come_there lookup words0 words x sound.0 still stands told)
+put_went (put.Single (single_put.Filling fill)) words0 words x sound still tells mine stands told =
+    put_filled_went _ _ words0 _ (MayLack (Putting (put.Single (single_put.Filling fill)))) fill.call None fill.call.limit (fill_turned fill x) (fill_went _ fill.call.view.generation words0 words (MayLack (Putting (put.Single (single_put.Filling fill)))) fill x stands)
+put_went (put.Single (single_put.Replacing call hold bitmap hit value)) words0 words x sound still tells mine stands told = stands
+put_went (put.Single (single_put.Finishing finish)) words0 words x sound still tells mine stands told =
+    put_finished_went _ _ words0 _ (MayLack (Putting (put.Single (single_put.Finishing finish)))) finish.call (placed_in (put_stage (put.Single (single_put.Finishing finish)))) (limit_in (put_stage (put.Single (single_put.Finishing finish)))) (finish_turned finish x)
+    (finish_went _ _ words0 words (MayLack (Putting (put.Single (single_put.Finishing finish)))) (IsAtNode finish.call.view.layout words0) finish x stands stands)
+put_went (put.Splitting call hold bitmap value split) words0 words x sound still tells mine stands told =
+    on (split_turned split x) (split_went call hold bitmap value split words0 words x sound still stands.0 stands.1 tells mine told)
   where
-    on : (turn : Turn Split SplitDone) → SplitWent call.view.layout call.view.generation words0 (acted call.view.layout words (split_asks split)) call.node hold.locked turn
-        → PutWent call.view.layout call.view.generation words0 (acted call.view.layout words (split_asks split)) (Unit {0}) call (placed_in (put_stage (put.Splitting call hold bitmap value split)))
+    on : (turn : Turn Split SplitDone) → SplitWent call.view.layout call.view.generation words0 (acted call.view.layout words (split_asks split)) call.node hold.locked call.view.caller turn
+        → PutWent call.view.layout call.view.generation words0 (acted call.view.layout words (split_asks split)) (MayLack (Putting (put.Splitting call hold bitmap value split))) call (placed_in (put_stage (put.Splitting call hold bitmap value split)))
         (limit_in (put_stage (put.Splitting call hold bitmap value split))) (put_split call hold bitmap value turn)
     on (Go next) went = (stands.0, went)
-    on (Done (done.Done fresh)) went = (stands.0, tt, went)
-    on (Done (done.Again why)) went =
-        subst (λ (y : Again). HasEnded call.view.layout call.view.generation words0 call IsGiven (Unit {0}) (placed_in (put_stage (put.Splitting call hold bitmap value split)))
-        (limit_in (put_stage (put.Splitting call hold bitmap value split))) (once.Again y)) (sym went.0) (stands.0, tt, went.1)
+    on (Done (done.Done fresh)) went = (stands.0, inl tt, went.0, went.1)
+    on (Done (done.Again why)) went = turned_back call.view.layout call.view.generation words0 call IsGiven (MayLack (Putting (put.Splitting call hold bitmap value split)))
+        (placed_in (put_stage (put.Splitting call hold bitmap value split))) (limit_in (put_stage (put.Splitting call hold bitmap value split))) why stands.0 (λ y. inl tt) went
 
 -- a look for a line of a delete
-del_take_went : (call : Call) (hold : Hold) (bitmap : ℕ) (hit : Hit) (take : Take) (words0 words : List ℕ) (x : ℕ) (place limit : Option ℕ) → IsTakeOf call.view take → AreEmpty call.view.layout words0 → x < 2 ^ 64
-    → IsAtNode call.view.layout words0 call → IsUnmoved call.view.layout words0 words call.node → HasLooked (λ index. line_in call.view.layout words0 take.caller index 0) take.index take.at
+del_take_went : (call : Call) (hold : Hold) (bitmap : ℕ) (hit : Hit) (take : Take) (words0 words : List ℕ) (x : ℕ) (place limit : Option ℕ) (R : Again → Type 0) → IsTakeOf call.view take
+    → IsAtNode call.view.layout words0 call → IsUnmoved call.view.layout words0 words call.node → HasLooked (λ number. line_in call.view.layout words0 call.view.caller number 0) take.index take.at
     → x ≡ got call.view.layout words (take_asks take)
-    → DelWent call.view.layout call.view.generation words0 (acted call.view.layout words (take_asks take)) ⊥ call place limit (del_taken call hold bitmap hit (take_turned take x))
-del_take_went call hold bitmap hit take words0 words x place limit is empty fits there still looked told =
+    → DelWent call.view.layout call.view.generation words0 (acted call.view.layout words (take_asks take)) R call place limit (del_taken call hold bitmap hit (take_turned take x))
+del_take_went call hold bitmap hit take words0 words x place limit R is there still looked told =
     let same = is.layout_is in
     let unmoved = subst (λ (k : Layout). IsUnmoved k words0 words call.node) (sym same) still in
     let own_told : x ≡ got take.layout words (take_asks take) = subst (λ (k : Layout). x ≡ got k words (take_asks take)) (sym same) told in
     let now = subst (λ (k : Layout). IsUnmoved k words0 (acted k words (take_asks take)) call.node) same (take_unmoved take is.here words0 words call.node unmoved) in
-    let states : take.at ≡ take_at.State → x ≡ line_in call.view.layout words0 take.caller take.index 0 =
-    λ state. subst (λ (k : Layout). x ≡ line_in k words0 take.caller take.index 0) same (take_told take is.here words0 words call.node unmoved x own_told state) in
-    del_taken_went call.view.layout call.view.generation words0 (acted call.view.layout words (take_asks take)) ⊥ call hold bitmap hit place limit take empty
-    (subst (λ (k : Layout). take.caller < k.callers) same is.here.caller) there now (take_turned take x)
-    (takes_heed take (λ index. line_in call.view.layout words0 take.caller index 0) x is.here states looked) (take_stays take x is.here fits)
+    let states : take.at ≡ take_at.State → x ≡ line_in call.view.layout words0 call.view.caller take.index 0 =
+    λ state. subst (λ (q : Layout × ℕ). x ≡ line_in q.0 words0 q.1 take.index 0) (λ k. (same k, is.caller_is k)) (take_told take is.here words0 words call.node unmoved x own_told state) in
+    del_taken_went call.view.layout call.view.generation words0 (acted call.view.layout words (take_asks take)) R call hold bitmap hit place limit take.index there now (take_turned take x)
+    (subst (λ (c : ℕ). TakeHeeds c (λ number. line_in call.view.layout words0 call.view.caller number 0) take.index (take_turned take x)) is.caller_is
+    (takes_heed take (λ number. line_in call.view.layout words0 call.view.caller number 0) x is.here states looked))
 
 del_went : (machine : Del) (words0 words : List ℕ) (x : ℕ) → IsDel machine
     → IsQuietList (del_call machine).view.layout (del_call machine).view.generation (nodes_in (del_call machine).view.layout words0)
-    → AreEmpty (del_call machine).view.layout words0 → Told (del_call machine).view.layout (del_call machine).view.generation (del_asks machine) x
+    → Told (del_call machine).view.layout (del_call machine).view.generation (del_asks machine) x
     → DelIsThere (del_call machine).view.layout words0 words machine → x ≡ got (del_call machine).view.layout words (del_asks machine)
-    → DelWent (del_call machine).view.layout (del_call machine).view.generation words0 (acted (del_call machine).view.layout words (del_asks machine)) ⊥ (del_call machine) (placed_in (del_stage machine)) (limit_in (del_stage machine)) (del_turned machine x)
-del_went (del.Single (single_del.Looking lookup)) words0 words x sound still empty tells stands told =
-    del_looked_went _ _ words0 _ ⊥ lookup.call (placed_in (del_stage (del.Single (single_del.Looking lookup)))) (limit_in (del_stage (del.Single (single_del.Looking lookup)))) (lookup_turned lookup x) (looks_come_there lookup words0 words x sound still stands told)
-del_went (del.Single (single_del.Next call hold bitmap hit)) words0 words x sound still empty tells stands told =
-    next_went call.view.layout call.view.generation words0 (acted call.view.layout words (Load (call_address call next_offset))) ⊥ call hold bitmap hit None call.limit x
+    → DelWent (del_call machine).view.layout (del_call machine).view.generation words0 (acted (del_call machine).view.layout words (del_asks machine)) (MayLack (Deleting machine)) (del_call machine) (placed_in (del_stage machine)) (limit_in (del_stage machine)) (del_turned machine x)
+del_went (del.Single (single_del.Looking lookup)) words0 words x sound still tells stands told =
+    del_looked_went _ _ words0 _ (MayLack (Deleting (del.Single (single_del.Looking lookup)))) lookup.call (placed_in (del_stage (del.Single (single_del.Looking lookup)))) (limit_in (del_stage (del.Single (single_del.Looking lookup)))) (lookup_turned lookup x) (looks_come_there lookup words0 words x sound still stands told)
+del_went (del.Single (single_del.Next call hold bitmap hit)) words0 words x sound still tells stands told =
+    next_went call.view.layout call.view.generation words0 (acted call.view.layout words (Load (call_address call next_offset))) (MayLack (Deleting (del.Single (single_del.Next call hold bitmap hit)))) call hold bitmap hit None call.limit x
     (stands.0, loaded_unmoved call.view.layout words0 words call.node (call_address call next_offset) stands.1)
-del_went (del.Single (single_del.Taking call hold bitmap hit take)) words0 words x sound still empty tells stands told =
-    del_take_went call hold bitmap hit take words0 words x None call.limit sound.2 empty tells.fits stands.0 stands.1 stands.2 told
-del_went (del.Single (single_del.Refusing call hold bitmap hit)) words0 words x sound still empty tells stands told = absurd stands
-del_went (del.Single (single_del.Clearing call hold bitmap hit line)) words0 words x sound still empty tells stands told = stands
-del_went (del.Single (single_del.Finishing finish line)) words0 words x sound still empty tells stands told =
-    del_finished_went _ _ words0 _ ⊥ line finish.call (placed_in (put_stage (put.Single (single_put.Finishing finish)))) (limit_in (put_stage (put.Single (single_put.Finishing finish)))) (finish_turned finish x) (finish_went _ _ words0 words ⊥ finish x stands)
-del_went (del.Merging call hold old place merge) words0 words x sound still empty tells stands told =
+del_went (del.Single (single_del.Taking call hold bitmap hit take)) words0 words x sound still tells stands told =
+    del_take_went call hold bitmap hit take words0 words x None call.limit (MayLack (Deleting (del.Single (single_del.Taking call hold bitmap hit take)))) sound.2 stands.0 stands.1 stands.2 told
+del_went (del.Single (single_del.Refusing call hold bitmap hit)) words0 words x sound still tells stands told = (stands.0, inr (refl, record { call = call; hold = hold; bitmap = bitmap; hit = hit; is = refl }), stands.1)
+del_went (del.Single (single_del.Clearing call hold bitmap hit line)) words0 words x sound still tells stands told = stands
+del_went (del.Single (single_del.Finishing finish line)) words0 words x sound still tells stands told =
+    del_finished_went _ _ words0 _ (MayLack (Deleting (del.Single (single_del.Finishing finish line)))) line finish.call (placed_in (put_stage (put.Single (single_put.Finishing finish)))) (limit_in (put_stage (put.Single (single_put.Finishing finish)))) (finish_turned finish x)
+    (finish_went _ _ words0 words (MayLack (Deleting (del.Single (single_del.Finishing finish line)))) (WithLine finish.call.view.layout finish.call.view.generation words0 words (MayLack (Deleting (del.Single (single_del.Finishing finish line)))) line) finish x stands stands.0)
+del_went (del.Merging call hold old place merge) words0 words x sound still tells stands told =
     let stage = del_stage (del.Merging call hold old place merge) in
     let of = merging_stage call old place merge in
     let placed : placed_in stage ≡ Some place = merge_placed (has_place call old place) stage of in
-    del_merged_went _ _ words0 _ ⊥ call hold old (placed_in stage) (limit_in stage) place stands (λ none. let no : Some place ≡ None = sym placed ∙ none in cc)
+    del_merged_went _ _ words0 _ (MayLack (Deleting (del.Merging call hold old place merge))) call hold old (placed_in stage) (limit_in stage) place stands.0 stands.1 (λ none. let no : Some place ≡ None = sym placed ∙ none in cc)
     (merge_limited (has_place call old place) stage of) (merge_turned merge x)
 
 -- where a part is after a turn
@@ -397,14 +425,14 @@ part_went (part.Reading reading) words0 words x sound still stands told = readin
 
 pub machine_went : (machine : Running) (words0 words : List ℕ) (x : ℕ) → IsRunning machine
     → IsQuietList (running_call machine).view.layout (running_call machine).view.generation (nodes_in (running_call machine).view.layout words0)
-    → AreEmpty (running_call machine).view.layout words0 → Told (running_call machine).view.layout (running_call machine).view.generation (running_asks machine) x
+    → Told (running_call machine).view.layout (running_call machine).view.generation (running_asks machine) x
     → KnowsOwn (running_call machine).view.layout words machine
     → IsThere (running_call machine).view.layout words0 words machine → x ≡ got (running_call machine).view.layout words (running_asks machine)
     → Went (running_call machine).view.layout (running_call machine).view.generation words0 (acted (running_call machine).view.layout words (running_asks machine)) machine (running_turned machine x)
-machine_went (Getting machine) words0 words x sound still empty tells mine stands told = at (get_turned machine x) (get_went machine words0 words x sound still stands told)
+machine_went (Getting machine) words0 words x sound still tells mine stands told = at (get_turned machine x) (get_went machine words0 words x sound still stands told)
   where
     ended : (answer : Once Placed) → GetWent (get_call machine).view.layout (get_call machine).view.generation words0 (acted (get_call machine).view.layout words (get_asks machine)) (get_call machine) (limit_in (get_stage machine)) (Done answer)
-        → HasEnded (get_call machine).view.layout (get_call machine).view.generation words0 (get_call machine) (λ place. Unit {0}) ⊥ (placed_in (stage_of (Getting machine))) (limit_in (stage_of (Getting machine))) answer
+        → HasEnded (get_call machine).view.layout (get_call machine).view.generation words0 (get_call machine) (λ place. Unit {0}) (MayLack (Getting machine)) (placed_in (stage_of (Getting machine))) (limit_in (stage_of (Getting machine))) answer
     ended (once.Done placed) is = (is.0, is.1, tt, is.2)
     ended (once.Worn node word) is = is
     ended (once.Spent clock) is = is
@@ -414,16 +442,16 @@ machine_went (Getting machine) words0 words x sound still empty tells mine stand
         → Went (get_call machine).view.layout (get_call machine).view.generation words0 (acted (get_call machine).view.layout words (get_asks machine)) (Getting machine) (wrapped Getting turn)
     at (Go next) is = is
     at (Done answer) is = ended answer is
-machine_went (Putting machine) words0 words x sound still empty tells mine stands told = at (put_turned machine x) (put_went machine words0 words x sound still empty tells mine stands told)
+machine_went (Putting machine) words0 words x sound still tells mine stands told = at (put_turned machine x) (put_went machine words0 words x sound still tells mine stands told)
   where
-    at : (turn : Turn Put (Once Placed)) → PutWent (put_call machine).view.layout (put_call machine).view.generation words0 (acted (put_call machine).view.layout words (put_asks machine)) (IsSplittingPut machine) (put_call machine) (placed_in (put_stage machine)) (limit_in (put_stage machine)) turn
+    at : (turn : Turn Put (Once Placed)) → PutWent (put_call machine).view.layout (put_call machine).view.generation words0 (acted (put_call machine).view.layout words (put_asks machine)) (MayLack (Putting machine)) (put_call machine) (placed_in (put_stage machine)) (limit_in (put_stage machine)) turn
         → Went (put_call machine).view.layout (put_call machine).view.generation words0 (acted (put_call machine).view.layout words (put_asks machine)) (Putting machine) (wrapped Putting turn)
     at (Go next) is = is
     at (Done answer) is = is
-machine_went (Deleting machine) words0 words x sound still empty tells mine stands told = at (del_turned machine x) (del_went machine words0 words x sound still empty tells stands told)
+machine_went (Deleting machine) words0 words x sound still tells mine stands told = at (del_turned machine x) (del_went machine words0 words x sound still tells stands told)
   where
-    at : (turn : Turn Del (Once Placed)) → DelWent (del_call machine).view.layout (del_call machine).view.generation words0 (acted (del_call machine).view.layout words (del_asks machine)) ⊥ (del_call machine) (placed_in (del_stage machine)) (limit_in (del_stage machine)) turn
+    at : (turn : Turn Del (Once Placed)) → DelWent (del_call machine).view.layout (del_call machine).view.generation words0 (acted (del_call machine).view.layout words (del_asks machine)) (MayLack (Deleting machine)) (del_call machine) (placed_in (del_stage machine)) (limit_in (del_stage machine)) turn
         → Went (del_call machine).view.layout (del_call machine).view.generation words0 (acted (del_call machine).view.layout words (del_asks machine)) (Deleting machine) (wrapped Deleting turn)
     at (Go next) is = is
     at (Done answer) is = is
-machine_went (Parting machine) words0 words x sound still empty tells mine stands told = part_went machine words0 words x sound still stands told
+machine_went (Parting machine) words0 words x sound still tells mine stands told = part_went machine words0 words x sound still stands told

@@ -1,5 +1,5 @@
 -- A whole try of any call, with no other in flight.
-use Rattle.std.specs.Prelude.{◌≡◌, ℕ, ◌+◌, ◌/◌, ◌<◌, ◌≤◌, ◌^◌, ◌⊎◌, Bool, false, List, ◌++◌, length, Option, Some}
+use Rattle.std.specs.Prelude.{◌≡◌, ℕ, ◌+◌, ◌<◌, ◌≤◌, ◌^◌, Bool, false, List, ◌++◌, length, Option, Some}
 use Rattle.std.specs.Prelude.{None, IfSome, IsTrue}
 use mathlib.Core.Option.{some}
 use lib.ListN.{get_elem?}
@@ -23,8 +23,6 @@ use Rattle.cat_key.specs.Names.{IsName}
 use Rattle.call_stages.specs.declared.view.View.{View}
 use Rattle.node_ops.specs.Calls.{new_call}
 use Rattle.node_ops.specs.declared.call.Call.{Call}
-use Rattle.node_ops.specs.declared.lookup.Hit.{Hit}
-use Rattle.node_ops.specs.DelSteps.{names_left}
 use Rattle.smo_log.specs.Laws.{HasLooked}
 use Rattle.index_law.specs.Lines.{line_in}
 use Rattle.index_law.specs.Anchors.{members_most}
@@ -50,12 +48,12 @@ use Rattle.index_law.specs.Worlds.{Party, World, facts, stepped, started, moved_
 use Rattle.index_law.specs.Laws.{IsAtRest}
 use Rattle.lone_law.specs.There.{IsAtNode, IsUnmoved, LookupStands}
 use Rattle.lone_law.specs.Locks.{locks_of, HasLocked}
-use Rattle.lone_law.specs.Merging.{HasKeptList, LeavesShape}
-use Rattle.lone_law.specs.MergeStands.{merge_leaves, FindsNone, MergeForesees}
+use Rattle.lone_law.specs.Merging.{KeepsFew, TriesMerge, HasKeptList, LeavesShape}
+use Rattle.lone_law.specs.MergeStands.{merge_leaves, MergeForesees}
 use Rattle.lone_law.specs.Tries.{Trying, IsHalvedSince}
 use Rattle.split_merge.specs.declared.splitting.SplitAt.{SplitAt}
 use Rattle.split_merge.specs.declared.splitting.SplitAt.TheVariants as split_at
-use Rattle.lone_law.specs.Splitting.{AreEmpty, HasFree, LacksFree, SplitStands}
+use Rattle.lone_law.specs.Splitting.{HasLine, LacksLine, HasFree, LacksFree, SplitStands}
 use Rattle.lone_law.specs.Rooms.{target_node, target_names}
 
 -- Where a get stands.
@@ -68,19 +66,28 @@ PutIsThere l words0 words (put.Single (single_put.Looking lookup value)) = Looku
 PutIsThere l words0 words (put.Single (single_put.Filling fill)) = IsAtNode l words0 fill.call
 PutIsThere l words0 words (put.Single (single_put.Replacing call hold bitmap hit value)) = IsAtNode l words0 call
 PutIsThere l words0 words (put.Single (single_put.Finishing finish)) = IsAtNode l words0 finish.call
-PutIsThere l words0 words (put.Splitting call hold bitmap value split) =
-    IsAtNode l words0 call × SplitStands l call.view.generation words0 words call.node hold.locked split.at
+PutIsThere l words0 words (put.Splitting call hold bitmap value split) = IsAtNode l words0 call ×
+    SplitStands l call.view.generation words0 words call.node hold.locked call.view.caller split.at
 
--- Until it has a line nothing but the lock has changed; and it finds one.
+-- Where a delete goes on with a log line, its caller had one that was EMPTY.
+abbrev pub HasFoundLine : Layout → List ℕ → Call → Option ℕ → Type 0
+HasFoundLine l words0 call line = IfSome line (λ number. HasLine l words0 call.view.caller)
+
+-- Until it has looked for a line nothing but the lock has changed.
 abbrev pub DelIsThere : Layout → List ℕ → List ℕ → Del → Type 0
 DelIsThere l words0 words (del.Single (single_del.Looking lookup)) = LookupStands l words0 words lookup.call lookup.at
 DelIsThere l words0 words (del.Single (single_del.Next call hold bitmap hit)) = IsAtNode l words0 call × IsUnmoved l words0 words call.node
-DelIsThere l words0 words (del.Single (single_del.Taking call hold bitmap hit take)) = IsAtNode l words0 call ×
-    IsUnmoved l words0 words call.node × HasLooked (λ index. line_in l words0 take.caller index 0) take.index take.at
-DelIsThere l words0 words (del.Single (single_del.Refusing call hold bitmap hit)) = ⊥
-DelIsThere l words0 words (del.Single (single_del.Clearing call hold bitmap hit line)) = IsAtNode l words0 call
-DelIsThere l words0 words (del.Single (single_del.Finishing finish line)) = IsAtNode l words0 finish.call
-DelIsThere l words0 words (del.Merging call hold old place merge) = IsAtNode l words0 call
+DelIsThere l words0 words (del.Single (single_del.Taking call hold bitmap hit take)) =
+    IsAtNode l words0 call × IsUnmoved l words0 words call.node ×
+    HasLooked (λ index. line_in l words0 call.view.caller index 0) take.index take.at
+DelIsThere l words0 words (del.Single (single_del.Refusing call hold bitmap hit)) =
+    IsAtNode l words0 call × LacksLine l words0 call.view.caller
+DelIsThere l words0 words (del.Single (single_del.Clearing call hold bitmap hit line)) =
+    IsAtNode l words0 call × HasFoundLine l words0 call line
+DelIsThere l words0 words (del.Single (single_del.Finishing finish line)) =
+    IsAtNode l words0 finish.call × HasFoundLine l words0 finish.call line
+DelIsThere l words0 words (del.Merging call hold old place merge) =
+    IsAtNode l words0 call × HasLine l words0 call.view.caller
 
 -- A part of a range scan stands where a get of its low name does.
 abbrev pub PartIsThere : Layout → List ℕ → List ℕ → Part → Type 0
@@ -107,26 +114,43 @@ IsPast _ = ⊥
 abbrev pub IsLate : World → Option ℕ → Type 0
 IsLate w limit = IsTrue (is_spent limit (length w.history))
 
--- Its node keeps more than half as many names as it has slots.
-abbrev pub LeavesMany : Call → ℕ → Hit → Type 0
-LeavesMany call bitmap hit = call.view.layout.slots / 2 < names_left call bitmap hit
+-- It is a put of a name that the map lacks, and the target of the name has as many names as slots.
+abbrev pub FindsFull : World → NameOp → Type 0
+FindsFull w (op.Put name value) = (at (map_now (facts w)) name ≡ None) × (target_names w name ≡ w.layout.slots)
+FindsFull w (op.Get name) = ⊥
+FindsFull w (op.Del name) = ⊥
+
+-- It takes a log line: it is a put that finds its node full, or a delete that tries to merge.
+abbrev pub NeedsLine : World → NameOp → Type 0
+NeedsLine w (op.Put name value) = FindsFull w (op.Put name value)
+NeedsLine w (op.Del name) = TriesMerge w name
+NeedsLine w (op.Get name) = ⊥
 
 -- The name had a value.
 abbrev pub HadValue : Option ℕ → Type 0
 HadValue old = (value : ℕ) × (old ≡ Some value)
 
--- A delete that takes no line has nothing to merge; one that took a line has taken a name out, and what its merge has
--- found out is so.
+-- A delete looks for a line exactly where it tries to merge. One that has its place with a line has taken a name out,
+-- and what its merge has found out is so.
 abbrev pub DelForesees : World → List ℕ → Del → Type 0
-DelForesees w name (del.Single (single_del.Clearing call hold bitmap hit None)) = LeavesMany call bitmap hit ⊎ FindsNone w name
-DelForesees w name (del.Single (single_del.Finishing finish None)) = FindsNone w name
+DelForesees w name (del.Single (single_del.Looking lookup)) = Unit {0}
+DelForesees w name (del.Single (single_del.Next call hold bitmap hit)) = KeepsFew w name
+DelForesees w name (del.Single (single_del.Taking call hold bitmap hit take)) = TriesMerge w name
+DelForesees w name (del.Single (single_del.Refusing call hold bitmap hit)) = TriesMerge w name
+DelForesees w name (del.Single (single_del.Clearing call hold bitmap hit None)) = ¬ TriesMerge w name
+DelForesees w name (del.Single (single_del.Clearing call hold bitmap hit (Some line))) = Unit {0}
+DelForesees w name (del.Single (single_del.Finishing finish None)) = ¬ TriesMerge w name
 DelForesees w name (del.Single (single_del.Finishing finish (Some line))) = HadValue finish.old
 DelForesees w name (del.Merging call hold old place merge) = HadValue old × MergeForesees w name merge.at
-DelForesees w name _ = Unit {0}
+
+-- A put that splits has found its node full.
+abbrev pub PutForesees : World → NameOp → Put → Type 0
+PutForesees w asked (put.Single single) = Unit {0}
+PutForesees w asked (put.Splitting call hold bitmap value split) = FindsFull w asked
 
 abbrev pub Foresees : World → NameOp → Running → Type 0
 Foresees w asked (Getting machine) = Unit {0}
-Foresees w asked (Putting machine) = Unit {0}
+Foresees w asked (Putting machine) = PutForesees w asked machine
 Foresees w asked (Deleting machine) = DelForesees w (name_asked asked) machine
 Foresees w asked (Parting machine) = Unit {0}
 
@@ -141,7 +165,8 @@ is_leaving (Putting machine) = false
 is_leaving (Deleting machine) = del_leaves machine
 is_leaving (Parting machine) = false
 
--- A call of this op and limit is in flight, as the index was w0 when it began, and no other.
+-- A call of this op and limit is in flight, which the party makes as its own, as the index was w0 when it began, and no
+-- other.
 pub record LoneCall (w0 : World) (i : ℕ) (asked : NameOp) (limit : Option ℕ) (w : World) (p : Party)
     (machine : Running) : Type 0 where
   pub trying : Trying (name_asked asked) (change_of asked) w0 i w p
@@ -149,17 +174,11 @@ pub record LoneCall (w0 : World) (i : ℕ) (asked : NameOp) (limit : Option ℕ)
   pub sound : Sound w.layout w.generation machine
   pub of : IsOf asked machine
   pub limited : (running_call machine).limit ≡ limit
+  pub own : (running_call machine).view.caller ≡ p.caller
   pub stands : IsThere w0.layout w0.words w.words machine
   pub foresees : Foresees w0 asked machine
   pub locks : HasLocked w.generation (facts w0).version (facts w).version (is_leaving machine) (stage_of machine)
-  pub empty : AreEmpty w0.layout w0.words  -- each log line was EMPTY
   pub timely : IsPast machine → IsLate w0 limit → ⊥
-
--- It is a put of a name that the map lacks, and the target of the name has as many names as slots.
-abbrev pub FindsFull : World → NameOp → Type 0
-FindsFull w (op.Put name value) = (at (map_now (facts w)) name ≡ None) × (target_names w name ≡ w.layout.slots)
-FindsFull w (op.Get name) = ⊥
-FindsFull w (op.Del name) = ⊥
 
 -- No lock can be taken any more from the version word of the target of its name.
 abbrev pub FindsWorn : World → NameOp → Type 0
@@ -172,14 +191,19 @@ IsAnswered w0 asked limit w p (once.Worn node word) =
     × (w.history ≡ w0.history) × HasKeptList w0 w
 IsAnswered w0 asked limit w p (once.Spent clock) =
     ¬ FindsWorn w0 asked × IsLate w0 limit × (clock ≡ length w0.history) × (w.history ≡ w0.history) × HasKeptList w0 w
-IsAnswered w0 asked limit w p (once.Again again.NoFree) =
-    ¬ FindsWorn w0 asked × ¬ IsLate w0 limit × FindsFull w0 asked × LacksFree w0.layout w0.generation w0.words ×
+IsAnswered w0 asked limit w p (once.Again again.LogFull) =
+    ¬ FindsWorn w0 asked × ¬ IsLate w0 limit × NeedsLine w0 asked × LacksLine w0.layout w0.words p.caller ×
     (w.history ≡ w0.history) × HasKeptList w0 w
+IsAnswered w0 asked limit w p (once.Again again.NoFree) =
+    ¬ FindsWorn w0 asked × ¬ IsLate w0 limit × FindsFull w0 asked × HasLine w0.layout w0.words p.caller ×
+    LacksFree w0.layout w0.generation w0.words × (w.history ≡ w0.history) × HasKeptList w0 w
 IsAnswered w0 asked limit w p (once.Again (again.NeedsSplit node)) =
-    ¬ FindsWorn w0 asked × ¬ IsLate w0 limit × FindsFull w0 asked × HasFree w0.layout w0.generation w0.words ×
-    (w.history ≡ w0.history) × IsHalvedSince (name_asked asked) w0 w × (members_most w ≡ members_most w0)
+    ¬ FindsWorn w0 asked × ¬ IsLate w0 limit × FindsFull w0 asked × HasLine w0.layout w0.words p.caller ×
+    HasFree w0.layout w0.generation w0.words × (w.history ≡ w0.history) × IsHalvedSince (name_asked asked) w0 w ×
+    (members_most w ≡ members_most w0)
 IsAnswered w0 asked limit w p (once.Done placed) =
-    (¬ FindsWorn w0 asked × ¬ IsLate w0 limit × ¬ FindsFull w0 asked)
+    (¬ FindsWorn w0 asked × ¬ IsLate w0 limit × ¬ FindsFull w0 asked ×
+    (NeedsLine w0 asked → HasLine w0.layout w0.words p.caller))
     × (placed.old ≡ at (map_now (facts w0)) (name_asked asked)) × (placed.place ≡ length w0.history)
     × (placed.hops ≡ position_from (facts w0).list (key_of (name_asked asked)))
     × (w.history ≡ w0.history ++ written p.caller p.index (change_of asked)) × LeavesShape w0 asked w
@@ -223,15 +247,15 @@ begun_party w0 p index = record { caller = p.caller; index = index; since = leng
 abbrev pub LoneCallsBegin : Type 0
 LoneCallsBegin = (w0 : World) (i : ℕ) (asked : NameOp) (limit : Option ℕ) (p : Party) (index : ℕ) (view : View) →
     IsAtRest w0 → get_elem? w0.parties i ≡ some p →
-    IsView view → view.layout ≡ w0.layout → view.generation ≡ w0.generation → IsName (name_asked asked) →
-    IfSome limit (λ most. most ≤ 2 ^ 62) → ValueFits asked → AreEmpty w0.layout w0.words →
+    IsView view → view.layout ≡ w0.layout → view.generation ≡ w0.generation → view.caller ≡ p.caller →
+    IsName (name_asked asked) →
+    IfSome limit (λ most. most ≤ 2 ^ 62) → ValueFits asked →
     LoneCall w0 i asked limit (started w0 i p index) (begun_party w0 p index) (machine_for asked view limit)
 
 -- So does a part of a range scan, which is a call of a get of its low name.
 abbrev pub LonePartsBegin : Type 0
 LonePartsBegin = (w0 : World) (i : ℕ) (low : List ℕ) (count : ℕ) (p : Party) (index : ℕ) (view : View) →
     IsAtRest w0 → get_elem? w0.parties i ≡ some p →
-    IsView view → view.layout ≡ w0.layout → view.generation ≡ w0.generation → IsName low →
-    AreEmpty w0.layout w0.words →
+    IsView view → view.layout ≡ w0.layout → view.generation ≡ w0.generation → view.caller ≡ p.caller → IsName low →
     LoneCall w0 i (op.Get low) None (started w0 i p index) (begun_party w0 p index)
     (Parting (part.Looking (starts (new_call view low None)) count None))

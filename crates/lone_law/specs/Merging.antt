@@ -1,9 +1,11 @@
 -- What a delete that is made with no other call in flight makes of the list: it may merge its node with the next one.
-use Rattle.std.specs.Prelude.{◌≡◌, ℕ, ◌+◌, ◌⊎◌, true, List}
+use Rattle.std.specs.Prelude.{◌≡◌, ℕ, ◌+◌, ◌/◌, ◌≤◌, ◌⊎◌, true, List, length, IsSome}
+use Rattle.std.specs.FinMap.{remove}
+use Rattle.cat_history.specs.Maps.{at}
 use Rattle.cat_history.specs.declared.op.NameOp.{NameOp}
 use Rattle.cat_history.specs.declared.op.NameOp.TheVariants as op
 use Rattle.version_lock.specs.Versions.{IsWorn}
-use Rattle.shapes.specs.Anchors.{merges, del_anchors}
+use Rattle.shapes.specs.Anchors.{next_of, names_at, merges, del_anchors}
 use Rattle.data_node.specs.Lists.{next_offset, target_from, key_of, without_member}
 use Rattle.data_list.specs.Still.{position_from}
 use Rattle.node_ops.specs.Asked.{name_asked}
@@ -23,6 +25,15 @@ NextIsWorn w name = IsWorn ((facts w).version (next_node w name)) w.generation
 -- A delete of the name merges its target with the next node, by the shape.
 abbrev pub ShapeMerges : World → List ℕ → Type 0
 ShapeMerges w name = merges w.layout.slots (map_now (facts w)) (anchors_in w) name ≡ true
+
+-- The map has the name, and without it the target keeps at most half as many names as a node has slots.
+abbrev pub KeepsFew : World → List ℕ → Type 0
+KeepsFew w name = IsSome (at (map_now (facts w)) name) ×
+    (length (names_at (remove (map_now (facts w)) name) (anchors_in w) name) ≤ w.layout.slots / 2)
+
+-- Then a delete of the name tries to merge the target with the next node, if there is one.
+abbrev pub TriesMerge : World → List ℕ → Type 0
+TriesMerge w name = KeepsFew w name × IsSome (next_of (anchors_in w) name)
 
 -- It is a delete that merges the node of its name with the next one: the shape says so, and that one can be locked.
 abbrev pub FindsMerge : World → NameOp → Type 0
@@ -49,3 +60,7 @@ LeavesShape w0 asked w = (¬ FindsMerge w0 asked × HasKeptList w0 w) ⊎
 abbrev pub MergeKeepsHops : Type 0
 MergeKeepsHops = (w0 w : World) (name : List ℕ) → IsAtRest w0 → IsMergedSince name w0 w →
     position_from (facts w).list (key_of name) ≡ position_from (facts w0).list (key_of name)
+
+-- A delete that merges by the shape tries to.
+abbrev pub MergeIsTried : Type 0
+MergeIsTried = (w : World) (name : List ℕ) → IsAtRest w → ShapeMerges w name → TriesMerge w name

@@ -1,6 +1,7 @@
 -- Where the split of a full node stands that nobody disturbs: which log line it takes, and which node it claims.
-use Rattle.std.specs.Prelude.{◌≡◌, ℕ, ◌<◌, ◌==◌, if◌then◌else◌, List}
+use Rattle.std.specs.Prelude.{◌≡◌, ◌≢◌, ℕ, ◌<◌, ◌==◌, if◌then◌else◌, List}
 use Rattle.pm_words.specs.declared.layout.Layout.{Layout}
+use Rattle.pm_words.specs.declared.again.Again.{Again}
 use Rattle.pm_words.specs.declared.again.Again.TheVariants as again
 use Rattle.pm_words.specs.declared.machine.Turn.{Turn}
 use Rattle.pm_words.specs.declared.machine.Turn.TheVariants.{Go, Done}
@@ -19,9 +20,15 @@ use Rattle.index_law.specs.Facts.{version_in, status_in}
 use Rattle.index_law.specs.Lines.{line_in}
 use Rattle.lone_law.specs.There.{IsUnmoved}
 
--- Each log line is EMPTY.
-abbrev pub AreEmpty : Layout → List ℕ → Type 0
-AreEmpty l words = (c j : ℕ) → c < l.callers → j < 8 → line_in l words c j 0 ≡ 0
+-- One of the caller's log lines is EMPTY.
+pub record HasLine (l : Layout) (words : List ℕ) (caller : ℕ) : Type 0 where
+  pub number : ℕ
+  pub within : number < 8
+  pub empty : line_in l words caller number 0 ≡ 0
+
+-- None of them is.
+abbrev pub LacksLine : Layout → List ℕ → ℕ → Type 0
+LacksLine l words caller = (number : ℕ) → number < 8 → line_in l words caller number 0 ≢ 0
 
 -- Some node is FREE, and its lock can be taken.
 pub record HasFree (l : Layout) (g : ℕ) (words : List ℕ) : Type 0 where
@@ -42,30 +49,36 @@ heard_in l words n w found = record {
   found = found;
 }
 
--- Until it has a node of its own, nothing but the lock has changed. Then there was a free one; and where it is refused,
--- there was none.
-abbrev pub SplitStands : Layout → ℕ → List ℕ → List ℕ → ℕ → ℕ → SplitAt → Type 0
-SplitStands l g words0 words n w at.Next = IsUnmoved l words0 words n
-SplitStands l g words0 words n w (at.Take next take) =
-    IsUnmoved l words0 words n × HasLooked (λ index. line_in l words0 take.caller index 0) take.index take.at
-SplitStands l g words0 words n w (at.Claim next line claim) =
-    IsUnmoved l words0 words n × HasHeard l g (heard_in l words0 n w 0) claim.node claim.at
-SplitStands l g words0 words n w (at.Read share full count) = HasFree l g words0
-SplitStands l g words0 words n w (at.Move moving) = HasFree l g words0
-SplitStands l g words0 words n w (at.Refuse next why) = (why ≡ again.NoFree) × LacksFree l g words0
+-- Why a split of this caller is refused: it has no EMPTY line; or it has one, and there is no node to claim.
+abbrev pub IsLacking : Layout → ℕ → List ℕ → ℕ → Again → Type 0
+IsLacking l g words caller again.LogFull = LacksLine l words caller
+IsLacking l g words caller again.NoFree = HasLine l words caller × LacksFree l g words
+IsLacking l g words caller _ = ⊥
+
+-- Until it has a node of its own, nothing but the lock has changed. Then there was an EMPTY line, and a free node; and
+-- where it is refused, one of the two was lacking.
+abbrev pub SplitStands : Layout → ℕ → List ℕ → List ℕ → ℕ → ℕ → ℕ → SplitAt → Type 0
+SplitStands l g words0 words n w caller at.Next = IsUnmoved l words0 words n
+SplitStands l g words0 words n w caller (at.Take next take) =
+    IsUnmoved l words0 words n × HasLooked (λ index. line_in l words0 caller index 0) take.index take.at
+SplitStands l g words0 words n w caller (at.Claim next line claim) =
+    IsUnmoved l words0 words n × HasLine l words0 caller ×
+    HasHeard l g (heard_in l words0 n w 0) claim.node claim.at
+SplitStands l g words0 words n w caller (at.Read share full count) = HasLine l words0 caller × HasFree l g words0
+SplitStands l g words0 words n w caller (at.Move moving) = HasLine l words0 caller × HasFree l g words0
+SplitStands l g words0 words n w caller (at.Refuse next why) = IsLacking l g words0 caller why
 
 -- Where a turn of a split leads
-abbrev pub SplitWent : Layout → ℕ → List ℕ → List ℕ → ℕ → ℕ → Turn Split SplitDone → Type 0
-SplitWent l g words0 words n w (Go next) = SplitStands l g words0 words n w next.at
-SplitWent l g words0 words n w (Done (done.Done fresh)) = HasFree l g words0
-SplitWent l g words0 words n w (Done (done.Again why)) = (why ≡ again.NoFree) × LacksFree l g words0
+abbrev pub SplitWent : Layout → ℕ → List ℕ → List ℕ → ℕ → ℕ → ℕ → Turn Split SplitDone → Type 0
+SplitWent l g words0 words n w caller (Go next) = SplitStands l g words0 words n w caller next.at
+SplitWent l g words0 words n w caller (Done (done.Done fresh)) = HasLine l words0 caller × HasFree l g words0
+SplitWent l g words0 words n w caller (Done (done.Again why)) = IsLacking l g words0 caller why
 
--- The words as the call that splits began: its node and the first one are LIVE, all are free, and each log line is EMPTY
+-- The words as the call that splits began: its node and the first one are LIVE, and all are free
 pub record IsReadyToSplit (l : Layout) (g : ℕ) (words0 : List ℕ) (n : ℕ) : Type 0 where
   pub live : status_in l words0 n ≡ live_status
   pub first : status_in l words0 0 ≡ live_status
   pub free : (m : ℕ) → m < l.nodes → IsFree (version_in l words0 m) g
-  pub empty : AreEmpty l words0
 
 -- It holds no other node yet
 abbrev pub HoldsAlone : SplitAt → Type 0
@@ -76,9 +89,9 @@ HoldsAlone _ = ⊥
 abbrev pub SplitsComeThere : Type 0
 SplitsComeThere = (split : Split) (words0 words : List ℕ) (x : ℕ) → IsSplit split →
     IsReadyToSplit split.view.layout split.view.generation words0 split.node →
-    SplitStands split.view.layout split.view.generation words0 words split.node split.word split.at →
+    SplitStands split.view.layout split.view.generation words0 words split.node split.word split.view.caller split.at →
     Told split.view.layout split.view.generation (split_asks split) x →
     (HoldsAlone split.at → version_in split.view.layout words split.node ≡ split.word) →
     x ≡ got split.view.layout words (split_asks split) →
     SplitWent split.view.layout split.view.generation words0 (acted split.view.layout words (split_asks split)) split.node
-    split.word (split_turned split x)
+    split.word split.view.caller (split_turned split x)

@@ -56,21 +56,24 @@ pub fn target_law()
     ensures { TargetStands }
 {}
 
+ghost use Rattle.lone_law.specs.Merging.{MergeIsTried};
 ghost use Rattle.lone_law.specs.Shapes.{RoomIsNoSplit, CutIsSplit, FullIsNoRoom, NoRoomIsFull};
 
 /// What a lone put makes of the shape: where it has room it splits nothing, a cut for its name is its split, and it
-/// finds no room exactly where its target is full and no node is FREE.
+/// finds no room exactly where its target is full and no node is FREE. A delete that merges by the shape tries to, for
+/// which it takes a log line.
 pub fn lone_shapes()
     ensures room { RoomIsNoSplit }
     ensures cut { CutIsSplit }
     ensures full { FullIsNoRoom }
     ensures no_room { NoRoomIsFull }
+    ensures tried { MergeIsTried }
 {}
 
 ghost use Rattle.lone_law.specs.Splitting.{SplitsComeThere};
 
-/// A split that nobody disturbs takes a log line, if each is EMPTY as it begins, and claims a node exactly where one is
-/// FREE whose lock can be taken.
+/// A split that nobody disturbs takes a log line exactly where its caller has an EMPTY one, and then claims a node
+/// exactly where one is FREE whose lock can be taken.
 pub fn splits_come_there()
     ensures { SplitsComeThere }
 {}
