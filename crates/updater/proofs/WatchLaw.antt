@@ -175,7 +175,7 @@ pub keys_have_one_number : KeysHaveOneNumber
 keys_have_one_number words = refl
 
 -- what is told of log lines says nothing of a load elsewhere
-none_of_line : (l : Layout) (a : Action) (x : ℕ) → LoadsApart l a → ToldOfLine l a x
+pub none_of_line : (l : Layout) (a : Action) (x : ℕ) → LoadsApart l a → ToldOfLine l a x
 none_of_line l a x place = record {
   node = λ line within is. absurd (elsewhere line 2 within (omega arith) is);
   named = λ line within is. absurd (elsewhere line 3 within (omega arith) is);
