@@ -1,2 +1,3 @@
 pub mod MarkSteps
 pub mod Told
+pub mod WalkStays
