@@ -1,3 +1,4 @@
 pub mod MarkSteps
 pub mod Told
 pub mod WalkStays
+pub mod Hearing

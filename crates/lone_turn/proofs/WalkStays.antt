@@ -55,6 +55,14 @@ walk_told terms entry walk words x to told =
     ∙ told_loaded l terms.generation words walk walk.at (subst (λ (k : Layout). walk.node < k.nodes) to.layout to.sound.node)
     (subst (λ (g : ℕ). IsWalkAt l g walk.key walk.at) to.generation (subst (λ (k : Layout). IsWalkAt k walk.generation walk.key walk.at) to.layout to.sound.here))
 
+-- so its walk stays on its way
+pub walk_goes : (terms : Terms) (entry : Entry) (walk : Walk) (words : List ℕ) (x hops : ℕ) → IsWalkTo terms entry walk → AreQuiet terms.layout terms.generation (nodes_in terms.layout words) → x ≡ got terms.layout words (walk_asks walk)
+    → IsOnWay terms.layout (nodes_in terms.layout words) hops walk → StaysOnWay terms.layout (nodes_in terms.layout words) hops walk.key (walk_turned walk x)
+walk_goes terms entry walk words x hops to quiet told way =
+    let l : Layout = terms.layout in
+    subst (λ n. StaysOnWay l (nodes_in l words) hops walk.key (walk_turned walk n)) (sym (walk_told terms entry walk words x to told))
+    (walks_come_there l terms.generation (nodes_in l words) hops walk quiet.quiet to.layout to.generation way)
+
 -- the words after a load
 walk_same : (terms : Terms) (entry : Entry) (walk : Walk) (words : List ℕ) → IsWalkTo terms entry walk → acted terms.layout words (walk_asks walk) ≡ words
 walk_same terms entry walk words to =
@@ -146,12 +154,8 @@ walk_after work (at.Landing line entry floor) words x here sound quiet told walk
     subst (λ ws. GoesAfter work ws (Lands (line_of line entry)) (Go (has_landed work line entry (floor_turned floor x)))) (sym same)
     (at_landing work words line entry (floor_turned floor x) quiet sound)
 walk_after work (at.Walking line entry walk) words x here sound quiet told stands =
-    let l : Layout = work.terms.layout in
-    let to = here.2 in
-    let way = subst (λ n. StaysOnWay l (nodes_in l words) stands.0 walk.key (walk_turned walk n)) (sym (walk_told work.terms entry walk words x to told))
-    (walks_come_there l work.terms.generation (nodes_in l words) stands.0 walk quiet.quiet to.layout to.generation stands.1) in
-    subst (λ ws. GoesAfter work ws (Lands (line_of line entry)) (Go (has_walked work line entry (walk_turned walk x)))) (sym (walk_same work.terms entry walk words to))
-    (at_walking work words line entry stands.0 walk (walk_turned walk x) way)
+    subst (λ ws. GoesAfter work ws (Lands (line_of line entry)) (Go (has_walked work line entry (walk_turned walk x)))) (sym (walk_same work.terms entry walk words here.2))
+    (at_walking work words line entry stands.0 walk (walk_turned walk x) (walk_goes work.terms entry walk words x stands.0 here.2 quiet told stands.1))
 walk_after work (at.Seeing line entry found) words x here sound quiet told walk =
     at_seeing work (row_after work words (at.Seeing line entry found)) line entry found x (told ∙ sym (version_in-here work.terms.layout words found.node here.2) ∙ sym walk)
 walk_after work (at.Setting line entry set) words x here sound quiet told walk = at_setting work (row_after work words (at.Setting line entry set)) (stage_at work (at.Setting line entry set)) line entry (set_turned set x) (λ u. tt)
