@@ -2,3 +2,4 @@ pub mod MarkSteps
 pub mod Told
 pub mod WalkStays
 pub mod Hearing
+pub mod TurnSteps
