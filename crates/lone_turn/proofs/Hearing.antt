@@ -33,7 +33,7 @@ use Rattle.lone_turn.specs.Laws.{terms_in, heard_from, Hears}
 use Rattle.lone_turn.proofs.MarkSteps.{then_some}
 
 -- its walk isn't turned back
-abbrev GoesOrFinds : Turn Walk Walked → Type 0
+abbrev pub GoesOrFinds : Turn Walk Walked → Type 0
 GoesOrFinds (Go walk) = Unit {0}
 GoesOrFinds (Done (walked.Target target)) = Unit {0}
 GoesOrFinds (Done (walked.Again why)) = ⊥

@@ -3,3 +3,4 @@ pub mod Told
 pub mod WalkStays
 pub mod Hearing
 pub mod TurnSteps
+pub mod Going
