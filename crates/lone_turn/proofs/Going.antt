@@ -1,11 +1,10 @@
 -- Each turn of the machine keeps what holds of a turn that is alone, and its last one leaves what it is to leave.
-use Rattle.std.proofs.Common.{◌≡◌, ◌≢◌, ℕ, ◌+◌, ◌^◌, ◌<◌, ◌≤◌, ◌⊎◌, inl, inr, List, refl, sym, subst, ap, ◌∙◌, arith}
+use Rattle.std.proofs.Common.{◌≡◌, ◌≢◌, ℕ, ◌≤◌, ◌⊎◌, inl, inr, List, refl, sym, subst, ap, ◌∙◌, arith}
 use Rattle.std.proofs.lemmas.Bool.{eqb-true}
 use mathlib.Core.Option.{some}
 use lib.ListN.{get_elem?}
 use Rattle.pm_words.specs.declared.layout.Layout.{Layout}
 use Rattle.pm_words.specs.declared.action.Action.{Action}
-use Rattle.pm_words.specs.declared.action.Action.TheVariants.{Store}
 use Rattle.pm_words.specs.declared.machine.Turn.{Turn}
 use Rattle.pm_words.specs.declared.machine.Turn.TheVariants.{Go, Done}
 use Rattle.pm_words.specs.Locations.{Updater, Volatile, Cached, at}
@@ -32,7 +31,7 @@ use Rattle.pm_alloc.specs.declared.gone.ReleaseAt.{ReleaseAt}
 use Rattle.pm_alloc.specs.declared.gone.ReleaseAt.TheVariants as release_at
 use Rattle.smo_log.specs.declared.line.Entry.{Entry}
 use Rattle.turn_row.specs.Columns.{line_count, line_word, node_field}
-use Rattle.turn_row.specs.RowStages.{RowStage, Resting}
+use Rattle.turn_row.specs.RowStages.{Resting}
 use Rattle.turn_row.specs.Turnings.{Turning, TurnFoot}
 use Rattle.turn_row.proofs.RowColumns.{column-here}
 use Rattle.updater.specs.declared.terms.Terms.{Terms}
@@ -42,10 +41,9 @@ use Rattle.updater.specs.declared.work.Work.{Work}
 use Rattle.updater.specs.declared.work.WorkAt.{WorkAt}
 use Rattle.updater.specs.declared.work.WorkAt.TheVariants as at
 use Rattle.updater.specs.Laws.{WorkStays}
-use Rattle.updater.specs.Takings.{updater_address}
-use Rattle.updater.specs.Works.{IsWork, IsWorkAt, work_at_asks, work_asks, work_turned, work_takes}
+use Rattle.updater.specs.Works.{IsWorkAt, work_at_asks, work_asks, work_turned, work_takes}
 use Rattle.updater.specs.Events.{HasHeard}
-use Rattle.updater.specs.Steps.{row_terms, release_stage, work_at_stage, work_stage, stage_after}
+use Rattle.updater.specs.Steps.{row_terms, release_stage, work_at_stage}
 use Rattle.updater.specs.Watches.{turning_at, work_turning, turning_after}
 use Rattle.updater.proofs.FootLaw.{works_are_feet}
 use Rattle.updater.proofs.WorkLaw.{works_leave}
@@ -55,18 +53,17 @@ use Rattle.layer_law.specs.Layers.{Layered, IsLayered}
 use Rattle.layer_law.specs.Laws.{IsAtRest, turned}
 use Rattle.layer_law.proofs.FactTies.{version_tie}
 use Rattle.layer_law.proofs.LayerCover.{layer_is_covered}
-use Rattle.lone_turn.specs.LoneTurns.{IsIdle, KeepsNodes, IsLoneTurn}
+use Rattle.lone_turn.specs.LoneTurns.{KeepsNodes}
 use Rattle.lone_turn.specs.Marks.{Marks, marks_in, HasDone}
 use Rattle.lone_turn.specs.Laws.{terms_in, WalkStands, heard_from, LoneTurning, GoesOn, TurnGoes, TurnsGo}
-use Rattle.lone_turn.proofs.Hearing.{IsSo, GoesOrFinds, HearsAfter, AnswersSo, hears_after}
-use Rattle.lone_turn.proofs.MarkSteps.{Handles, row_marks, done_after}
-use Rattle.lone_turn.proofs.Told.{ReadsReady, told_any, told_of_line}
+use Rattle.lone_turn.proofs.Hearing.{IsSo, GoesOrFinds, HearsAfter, hears_after}
+use Rattle.lone_turn.proofs.MarkSteps.{Handles, done_after}
+use Rattle.lone_turn.proofs.Acting.{turns_act}
 use Rattle.lone_turn.proofs.TurnSteps.{marks_tie, past_lines, each_state, none_held, walks_are_quiet, can_act, layered_after, lawful_row, nodes_kept, law_after}
 use Rattle.lone_turn.proofs.WalkStays.{GoesAfter, walk_goes, walk_after}
 
 -- What it knows at each state.
 record Knows (before : World) (stamp release : ℕ) (terms : Terms) (words : List ℕ) (at : WorkAt) (x : ℕ) : Type 0 where
-  ready : ReadsReady terms.layout words at
   so : IsSo before stamp release at x
   busy : work_at_stage terms at ≢ Resting
 
@@ -93,31 +90,29 @@ module _ (before w : World) (stamp release : ℕ) (tally : Tally) (x : ℕ) (nod
   knows : (at : WorkAt) → IsWorkAt t tally at → HasDone before stamp release (marks_in w) (work_at_stage t at) → HasHeard t (heard_from before stamp release entry target) tally at → WalkStands l words at
       → x ≡ got l words (work_at_asks t at) → Knows before stamp release t words at x
   knows (at.State line) here done heard walk told = record {
-    ready = tt;
     so = told ∙ sym (column-here l words (line_count l) (λ k. Cached (line_word 0 k)) line here.within) ∙ done.rest line (omega arith);
     busy = λ e. cc;
   }
-  knows (at.Reading read) here done heard walk told = record { ready = done.rest read.line (omega arith) ∙ eqb-true _ _ heard.1; so = tt; busy = λ e. cc }
-  knows (at.Landing line asked floor) here done heard walk told = record { ready = tt; so = tt; busy = λ e. cc }
+  knows (at.Reading read) here done heard walk told = record { so = tt; busy = λ e. cc }
+  knows (at.Landing line asked floor) here done heard walk told = record { so = tt; busy = λ e. cc }
   knows (at.Walking line asked walk) here done heard stands told = record {
-    ready = tt;
     so = goes_or_finds (nodes_in l words) stands.0 walk.key (walk_turned walk x) (walk_goes t asked walk words x stands.0 here.2 quiet told stands.1);
     busy = λ e. cc;
   }
-  knows (at.Seeing line asked found) here done heard walk told = record { ready = tt; so = told ∙ sym (version_in-here l words found.node here.2) ∙ sym walk; busy = λ e. cc }
-  knows (at.Setting line asked set) here done heard walk told = record { ready = tt; so = tt; busy = λ e. cc }
-  knows (at.Unsetting line asked unset) here done heard walk told = record { ready = tt; so = tt; busy = λ e. cc }
-  knows (at.Stamping line asked) here done heard walk told = record { ready = tt; so = tt; busy = λ e. cc }
-  knows (at.Clearing clear) here done heard walk told = record { ready = tt; so = tt; busy = λ e. cc }
-  knows (at.Status node) here done heard walk told = record { ready = tt; so = told ∙ sym (status_in-here l words node here.within) ∙ (done.ahead node (omega arith)).status; busy = λ e. cc }
+  knows (at.Seeing line asked found) here done heard walk told = record { so = told ∙ sym (version_in-here l words found.node here.2) ∙ sym walk; busy = λ e. cc }
+  knows (at.Setting line asked set) here done heard walk told = record { so = tt; busy = λ e. cc }
+  knows (at.Unsetting line asked unset) here done heard walk told = record { so = tt; busy = λ e. cc }
+  knows (at.Stamping line asked) here done heard walk told = record { so = tt; busy = λ e. cc }
+  knows (at.Clearing clear) here done heard walk told = record { so = tt; busy = λ e. cc }
+  knows (at.Status node) here done heard walk told = record { so = told ∙ sym (status_in-here l words node here.within) ∙ (done.ahead node (omega arith)).status; busy = λ e. cc }
   knows (at.Stamp node) here done heard walk told =
       let ahead = done.ahead node (omega arith) in
-      record { ready = tt; so = told ∙ sym (column-here l words l.nodes (λ k. Volatile k 2) node here.within) ∙ ahead.stamped (ahead.status ∙ heard.1); busy = λ e. cc }
-  knows (at.Version node) here done heard walk told = record { ready = tt; so = told ∙ sym (version_in-here l words node here.within) ∙ versions node; busy = λ e. cc }
-  knows (at.Releasing release) here done heard walk told = record { ready = tt; so = tt; busy = releasing release.at release.node }
+      record { so = told ∙ sym (column-here l words l.nodes (λ k. Volatile k 2) node here.within) ∙ ahead.stamped (ahead.status ∙ heard.1); busy = λ e. cc }
+  knows (at.Version node) here done heard walk told = record { so = told ∙ sym (version_in-here l words node here.within) ∙ versions node; busy = λ e. cc }
+  knows (at.Releasing release) here done heard walk told = record { so = tt; busy = releasing release.at release.node }
   knows (at.Counting node none) here done heard walk told =
-      record { ready = tt; so = told ∙ sym (status_in-here l words node here.0) ∙ (done.left node (omega (arith, nodes, here.0))).status; busy = λ e. cc }
-  knows (at.Leaving none) here done heard walk told = record { ready = tt; so = tt; busy = λ e. cc }
+      record { so = told ∙ sym (status_in-here l words node here.0) ∙ (done.left node (omega (arith, nodes, here.0))).status; busy = λ e. cc }
+  knows (at.Leaving none) here done heard walk told = record { so = tt; busy = λ e. cc }
 
 module _ (before : Layered) (stamp release i : ℕ) (tally : Tally) (state : WorkAt) (z : Layered) (x : ℕ) (is : LoneTurning before stamp release i (record { terms = terms_in z.whole.world stamp release; tally = tally; at = state }) z)
     (told : x ≡ got z.whole.world.layout z.whole.world.words (work_at_asks (terms_in z.whole.world stamp release) state)) where
@@ -161,8 +156,7 @@ module _ (before : Layered) (stamp release i : ℕ) (tally : Tally) (state : Wor
   known = knows before.whole.world w stamp release tally x node_count (λ n. ap (λ (f : Facts). f.version n) is.kept.facts) is.hears.entry is.hears.target quiet state is.sound.here is.done is.hears.heard is.walk told
 
   takes : work_takes work x
-  takes = subst (λ y. work_takes work y) (sym told)
-      (is.sound, told_any w asks is.layered.whole.joint.lawful, told_of_line terms tally state w.words is.sound.terms is.sound.here is.layered.whole.joint.fit known.ready)
+  takes = (turns_act z i work x is.layered is.there refl is.small is.sound told).takes
 
   resting : AreRestingBut z.turns i
   resting j u at_u other = (is.others j u at_u other).stage

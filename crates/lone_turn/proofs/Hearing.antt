@@ -28,7 +28,7 @@ use Rattle.updater.specs.Works.{work_turned, work_takes}
 use Rattle.updater.specs.Events.{Heard, how_many, is_emptied, is_left, Tells, SaysSo, EndsSo, IsTold, HasHeard, Heeds}
 use Rattle.updater.specs.Events as events
 use Rattle.updater.proofs.WorkLaw.{works_heed}
-use Rattle.lone_turn.specs.LoneTurns.{line_state, stamp_in, is_ready, stamp_then, is_freed, status_then}
+use Rattle.lone_turn.specs.LoneTurns.{line_state, is_ready, stamp_then, frees_node, status_then}
 use Rattle.lone_turn.specs.Laws.{terms_in, heard_from, Hears}
 use Rattle.lone_turn.proofs.MarkSteps.{then_some}
 
@@ -130,7 +130,7 @@ module _ (before : World) (stamp release : ℕ) where
   pub record AnswersSo (answer : Turned) : Type 0 where
     pub applied : answer.applied ≡ how_many (is_ready before) (line_count before.layout)
     pub left : answer.left ≡ 0
-    pub freed : answer.freed ≡ how_many (is_freed before stamp release) before.layout.nodes
+    pub freed : answer.freed ≡ how_many (frees_node before stamp release) before.layout.nodes
     pub none_free : (answer.none_free ≡ true) ↔ ((n : ℕ) → n < before.layout.nodes → status_then before stamp release n ≢ free_status)
 
   abbrev pub HearsAfter : Terms → Turn Work Turned → Type 0
@@ -149,11 +149,11 @@ module _ (before : World) (stamp release : ℕ) where
     none_free = tells.none_free;
   }
     where
-      one : (n : ℕ) → events.is_freed (terms_in before stamp release) (from entry target) n ≡ is_freed before stamp release n
+      one : (n : ℕ) → events.is_freed (terms_in before stamp release) (from entry target) n ≡ frees_node before stamp release n
       one n = ap (λ b. (facts before).status n == 2 && ((not b && nat_le (stamp_then before stamp n) release) && not (is_worn_word ((facts before).version n) before.generation)))
           (ne_eqb (stamp_then before stamp n) 0 (then_some before stamp some n))
 
-      freed_is : events.is_freed (terms_in before stamp release) (from entry target) ≡ is_freed before stamp release
+      freed_is : events.is_freed (terms_in before stamp release) (from entry target) ≡ frees_node before stamp release
       freed_is = λ k n. one n k
 
   pub hears_after : (work : Work) (x : ℕ) → stamp ≢ 0 → work.terms ≡ terms_in before stamp release → work_takes work x → IsSo work.at x → Hears before stamp release work → HearsAfter work.terms (work_turned work x)

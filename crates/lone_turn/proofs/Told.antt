@@ -1,5 +1,5 @@
 -- What the actions of a turn give in an index: it may be told that, and of a READY line a node and an anchor.
-use Rattle.std.proofs.Common.{◌≡◌, ◌≢◌, ℕ, ◌+◌, ◌*◌, ◌/◌, ◌%◌, ◌^◌, ◌<◌, ◌≤◌, List, [], ◌∷◌, slice_index, inl, inr, refl, sym, subst, ap, ◌∙◌, arith}
+use Rattle.std.proofs.Common.{◌≡◌, ◌≢◌, ℕ, ◌/◌, ◌%◌, ◌^◌, ◌<◌, ◌≤◌, List, [], ◌∷◌, slice_index, inl, inr, refl, sym, subst, ap, ◌∙◌, arith}
 use Rattle.std.proofs.lemmas.Bool.{cases_eq}
 use Rattle.std.proofs.lemmas.List.Elements.{All-head}
 use Rattle.pm_words.specs.declared.layout.Layout.{Layout}
@@ -11,14 +11,14 @@ use Rattle.pm_words.specs.Fences.{fence_at_asks}
 use Rattle.pm_words.specs.Locations.{Location, Leaf, Line, Node, Volatile, Cached, HasLocation, address_of, at, leaf_count}
 use Rattle.pm_words.specs.Rows.{got, given, action_address}
 use Rattle.pm_words.proofs.Apart.{addresses_apart}
-use Rattle.cat_key.specs.Names.{IsName, IsNameByte, word_of, words_of}
+use Rattle.cat_key.specs.Names.{IsName, IsNameByte, words_of}
 use Rattle.std.specs.Int.{w64, to_be_bytes}
 use Rattle.cat_key.proofs.Digits.{to_be_bytes-word_of}
 use Rattle.cat_key.proofs.Packing.{name_bytes}
 use Rattle.version_lock.specs.Versions.{generation_of}
 use Rattle.data_node.specs.Lists.{next_offset, anchor_in}
 use Rattle.data_node.proofs.KeyLemmas.{zero_anchor}
-use Rattle.call_stages.specs.Kinds.{version_address, HasWordAt, Told}
+use Rattle.call_stages.specs.Kinds.{HasWordAt, Told}
 use Rattle.call_stages.specs.Lines.{IsEntry}
 use Rattle.data_list.specs.Walks.{walk_asks}
 use Rattle.index_law.specs.Facts.{Facts}
@@ -37,12 +37,10 @@ use Rattle.search_layer.specs.declared.reader.Reader.{Reader}
 use Rattle.search_layer.specs.declared.reader.ReaderAt.{ReaderAt}
 use Rattle.search_layer.specs.declared.reader.ReaderAt.TheVariants as reader_at
 use Rattle.search_layer.specs.ChangeSteps.{change_at_asks, IsChangeAt}
-use Rattle.search_layer.specs.FloorSteps.{IsFloor}
 use Rattle.search_layer.specs.Leaves.{leaf_place}
 use Rattle.search_layer.specs.Reading.{IsReader, offset_read, reader_asks}
 use Rattle.smo_log.specs.declared.read.ReadLine.{ReadLine}
 use Rattle.smo_log.specs.LogLines.{numbered_address, caller_of, index_of}
-use Rattle.smo_log.specs.Reads.{read_asks, read_from}
 use Rattle.turn_row.specs.Columns.{line_count, line_word, line_field}
 use Rattle.turn_row.proofs.RowColumns.{column-here}
 use Rattle.updater.specs.declared.terms.Terms.{Terms}
@@ -194,15 +192,14 @@ change_told change (change_at.DrainingSwitch leaf fence) x is = fence_told chang
 
 -- the line that it reads is READY
 abbrev pub ReadsReady : Layout → List ℕ → WorkAt → Type 0
-ReadsReady l words (at.Reading read) = line_field l words Cached 0 read.line ≡ 2
-ReadsReady l words _ = Unit {0}
+ReadsReady l words state = (read : ReadLine) → state ≡ at.Reading read → line_field l words Cached 0 read.line ≡ 2
 
 pub told_of_line : (terms : Terms) (tally : Tally) (at : WorkAt) (words : List ℕ) → IsTerms terms → IsWorkAt terms tally at → AreFit terms.layout words → ReadsReady terms.layout words at
     → ToldOfLine terms.layout (work_at_asks terms at) (got terms.layout words (work_at_asks terms at))
 told_of_line terms tally (at.State line) words is here fit ready = line_told terms.layout words line 0 fit here.within (omega arith) (λ no. absurd (omega arith))
 told_of_line terms tally (at.Reading read) words is here fit ready =
     subst (λ (k : Layout). ToldOfLine terms.layout (Load (numbered_address k read.line read.offset)) (got terms.layout words (Load (numbered_address k read.line read.offset)))) (sym here.1.layout)
-    (line_told terms.layout words read.line read.offset fit here.0.within (let small : read.offset < 7 = here.1.sound.offset in omega arith) (λ some. ready))
+    (line_told terms.layout words read.line read.offset fit here.0.within (let small : read.offset < 7 = here.1.sound.offset in omega arith) (λ some. ready read refl))
 told_of_line terms tally (at.Landing line entry floor) words is here fit ready =
     let l : Layout = terms.layout in
     subst (λ (k : Layout). ToldOfLine l (reader_asks k floor.reader) (got l words (reader_asks k floor.reader))) (sym here.3)

@@ -1,15 +1,15 @@
 -- A step of a turn with no call in flight: it keeps the index with its search layer, and the words of the nodes.
-use Rattle.std.proofs.Common.{◌≡◌, ◌≢◌, ℕ, ◌+◌, ◌^◌, ◌<◌, ◌≤◌, ◌⊎◌, not, Bool, true, false, cond, List, slice_set, inl, inr, refl, sym, subst, ap, ◌∙◌, arith}
+use Rattle.std.proofs.Common.{◌≡◌, ℕ, ◌^◌, ◌<◌, ◌≤◌, ◌⊎◌, not, Bool, true, false, cond, List, inl, inr, refl, sym, subst, ap, ◌∙◌, arith}
 use Rattle.std.specs.Prelude.{nat_lt}
-use Rattle.std.proofs.lemmas.Bool.{cases_lt, ltb-true, ltb-false, le-ltb}
+use Rattle.std.proofs.lemmas.Bool.{cases_lt, ltb-true, le-ltb}
 use mathlib.Core.Option.{some}
 use lib.ListN.{get_elem?}
 use Rattle.pm_words.specs.declared.layout.Layout.{Layout}
 use Rattle.pm_words.specs.declared.action.Action.{Action}
-use Rattle.pm_words.specs.Locations.{Cached, Volatile, at}
+use Rattle.pm_words.specs.Locations.{Cached, at}
 use Rattle.pm_words.specs.Rows.{IsRow, CanAct, acted, got}
 use Rattle.pm_words.proofs.Kept.{acted_row}
-use Rattle.version_lock.specs.Versions.{is_free_word, is_worn_word}
+use Rattle.version_lock.specs.Versions.{is_free_word}
 use Rattle.version_lock.proofs.WordTests.{free_is}
 use Rattle.call_stages.specs.Stages.{Idle}
 use Rattle.call_stages.specs.Watches.{Nothing}
@@ -37,7 +37,7 @@ use Rattle.layer_law.proofs.TurnKept.{Keeps, touches_keep}
 use Rattle.layer_law.proofs.TurnSteps.{turn_step_keeps}
 use Rattle.layer_law.proofs.TurnTouches.{touched}
 use Rattle.lone_turn.specs.LoneTurns.{line_state, IsIdle, KeepsNodes}
-use Rattle.lone_turn.specs.Marks.{Marks, marks_in}
+use Rattle.lone_turn.specs.Marks.{marks_in}
 use Rattle.lone_turn.proofs.MarkSteps.{row_marks}
 
 -- the marks of the index, in the words of the law of turns

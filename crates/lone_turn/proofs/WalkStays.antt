@@ -1,14 +1,12 @@
 -- The walk of a turn that is alone stays on its way, and no line is left.
-use Rattle.std.proofs.Common.{◌≡◌, ℕ, ◌+◌, ◌<◌, ◌==◌, ◌&&◌, not, Bool, true, false, cond, List, refl, sym, subst, ap, ◌∙◌, arith}
+use Rattle.std.proofs.Common.{◌≡◌, ℕ, ◌+◌, ◌<◌, ◌==◌, ◌&&◌, not, Bool, true, false, cond, List, refl, sym, subst, ap, ◌∙◌}
 use Rattle.std.proofs.lemmas.Bool.{eq-eqb}
 use Rattle.std.proofs.lemmas.List.{set-get_or}
 use Rattle.pm_words.specs.declared.layout.Layout.{Layout}
-use Rattle.pm_words.specs.declared.action.Action.{Action}
-use Rattle.pm_words.specs.declared.action.Action.TheVariants.{Load}
 use Rattle.pm_words.specs.declared.machine.Turn.{Turn}
 use Rattle.pm_words.specs.declared.machine.Turn.TheVariants.{Go, Done}
 use Rattle.pm_words.specs.Rows.{acted, got}
-use Rattle.call_stages.specs.Kinds.{free_status, version_address}
+use Rattle.call_stages.specs.Kinds.{free_status}
 use Rattle.data_list.specs.declared.target.Walked.{Walked}
 use Rattle.data_list.specs.declared.target.Walked.TheVariants as walked
 use Rattle.data_list.specs.declared.walk.Walk.{Walk}
@@ -17,7 +15,6 @@ use Rattle.data_list.specs.Walks.{walk_from, walk_asks, walk_at_asks, walk_turne
 use Rattle.data_list.specs.Still.{Nodes, AreQuiet, IsOnWay, loaded, StaysOnWay}
 use Rattle.data_list.proofs.Comings.{each_comes}
 use Rattle.data_list.proofs.StillWalk.{begins_on_way, walks_come_there}
-use Rattle.index_law.specs.Facts.{version_in}
 use Rattle.index_law.proofs.Rows.{version_in-here}
 use Rattle.pm_alloc.specs.declared.gone.Release.{Release}
 use Rattle.pm_alloc.specs.declared.gone.ReleaseAt.{ReleaseAt}
@@ -40,7 +37,7 @@ use Rattle.updater.specs.declared.work.Work.{Work}
 use Rattle.updater.specs.declared.work.WorkAt.{WorkAt}
 use Rattle.updater.specs.declared.work.WorkAt.TheVariants as at
 use Rattle.updater.specs.Laws.{WorkStays}
-use Rattle.updater.specs.Works.{work_at_asks, after_line, reads_fields, changes, clears, changed, after_node, on, leaves, saw_again, has_read, has_landed, has_walked, has_set, has_unset, has_released, work_at_turned, IsWalkTo, IsTerms, IsWork, IsWorkAt}
+use Rattle.updater.specs.Works.{work_at_asks, after_line, reads_fields, changes, clears, changed, after_node, on, leaves, saw_again, has_read, has_landed, has_walked, has_set, has_unset, has_released, work_at_turned, IsWalkTo, IsTerms, IsWorkAt}
 use Rattle.updater.specs.Steps.{line_of, target_of, release_stage, work_at_stage, stage_after}
 use Rattle.lone_law.specs.There.{nodes_in}
 use Rattle.lone_law.proofs.There.{told_loaded, walk_loads}

@@ -1,5 +1,5 @@
 -- A turn of the updater with nothing else in flight: how it begins, and each turn of its machine, to its answer.
-use Rattle.std.specs.Prelude.{◌≡◌, ◌≢◌, ℕ, ◌^◌, ◌<◌, ◌≤◌, List, Option, Some, None, slice_set}
+use Rattle.std.specs.Prelude.{◌≡◌, ◌≢◌, ℕ, ◌^◌, ◌<◌, ◌≤◌, List}
 use mathlib.Core.Option.{some}
 use lib.ListN.{get_elem?}
 use Rattle.pm_words.specs.declared.layout.Layout.{Layout}
@@ -13,7 +13,6 @@ use Rattle.data_list.specs.Still.{IsOnWay}
 use Rattle.index_law.specs.Facts.{version_in}
 use Rattle.index_law.specs.Worlds.{World, facts}
 use Rattle.smo_log.specs.declared.line.Entry.{Entry}
-use Rattle.turn_row.specs.Columns.{RowTerms}
 use Rattle.turn_row.specs.RowStages.{Between}
 use Rattle.turn_row.specs.Turnings.{Turning}
 use Rattle.updater.specs.declared.taking.Took.TheVariants.{Taken}
@@ -41,6 +40,18 @@ terms_in w stamp release = record {
   stamp = stamp;
   release = release;
 }
+
+-- Whatever else is in flight, the action of a turn can be done, what that gives may be told, and the index keeps its
+-- search layer.
+pub record TurnActs (z : Layered) (i : ℕ) (work : Work) (x : ℕ) : Type 0 where
+  pub can : CanAct z.whole.world.layout z.whole.world.words (work_asks work)
+  pub takes : work_takes work x
+  pub kept : IsLayered (turned z i (work_asks work) (turning_after work.terms (work_turned work x)))
+
+abbrev pub TurnsAct : Type 0
+TurnsAct = (z : Layered) (i : ℕ) (work : Work) (x : ℕ) → IsLayered z → get_elem? z.turns i ≡ some (work_turning work) →
+    work.terms ≡ terms_in z.whole.world work.terms.stamp work.terms.release → work.terms.stamp < 2 ^ 64 →
+    IsWork work → x ≡ got z.whole.world.layout z.whole.world.words (work_asks work) → TurnActs z i work x
 
 -- Where its walk is: on its way to the target of the line's anchor; and that target's version word is as it was seen.
 abbrev pub WalkStands : Layout → List ℕ → WorkAt → Type 0

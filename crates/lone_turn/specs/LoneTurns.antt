@@ -27,14 +27,18 @@ line_state w = line_field w.layout w.words Cached 0
 abbrev pub stamp_in : World → ℕ → ℕ
 stamp_in w = volatile_field w.layout w.words 2
 
--- Nothing is in flight: each party is idle, each turn rests, nobody has the updater lock, and no log line is OPEN.
+-- Each log line is EMPTY or READY: none is OPEN.
+abbrev pub AreEmptyOrReady : World → Type 0
+AreEmptyOrReady w = (j : ℕ) → j < line_count w.layout → (line_state w j ≡ empty_state) ⊎ (line_state w j ≡ ready_state)
+
+-- Nothing is in flight: each party is idle, each turn rests, nobody has the updater lock, and no log line is OPEN. That
+-- the lock is free is said here, since a turn that rests doesn't tell it.
 pub record IsIdle (z : Layered) : Type 0 where
   pub layered : IsLayered z
   pub parties : Each (λ p. p.stage ≡ Idle) z.whole.world.parties
   pub turns : (i : ℕ) (t : Turning) → get_elem? z.turns i ≡ some t → IsAtRest t
   pub unlocked : at z.whole.world.layout z.whole.world.words Updater ≡ 0
-  pub lines : (j : ℕ) → j < line_count z.whole.world.layout →
-      (line_state z.whole.world j ≡ empty_state) ⊎ (line_state z.whole.world j ≡ ready_state)
+  pub lines : AreEmptyOrReady z.whole.world
 
 -- The line was READY as the turn began.
 abbrev pub is_ready : World → ℕ → Bool
@@ -45,13 +49,13 @@ abbrev pub stamp_then : World → ℕ → ℕ → ℕ
 stamp_then w stamp n = if stamp_in w n == 0 then stamp else stamp_in w n
 
 -- The turn makes the node FREE: it was GONE, its stamp is at most the greatest that the turn releases, and it isn't worn.
-abbrev pub is_freed : World → ℕ → ℕ → ℕ → Bool
-is_freed w stamp release n =
+abbrev pub frees_node : World → ℕ → ℕ → ℕ → Bool
+frees_node w stamp release n =
     (facts w).status n == gone_status && (nat_le (stamp_then w stamp n) release && not (is_worn_word
     ((facts w).version n) w.generation))
 
 abbrev pub status_then : World → ℕ → ℕ → ℕ → ℕ
-status_then w stamp release n = if is_freed w stamp release n then free_status else (facts w).status n
+status_then w stamp release n = if frees_node w stamp release n then free_status else (facts w).status n
 
 -- The parties with all that they have, the map and the history are as before; so are the words of the nodes, and with
 -- them the list. Only statuses may be others.
@@ -79,6 +83,6 @@ pub record IsLoneTurn (before : Layered) (stamp release : ℕ) (answer : Turned)
   -- it emptied each READY line and left none; it counted the nodes that it made FREE, and knows whether any is
   pub applied : answer.applied ≡ how_many (is_ready before.whole.world) (line_count before.whole.world.layout)
   pub left : answer.left ≡ 0
-  pub freed : answer.freed ≡ how_many (is_freed before.whole.world stamp release) before.whole.world.layout.nodes
+  pub freed : answer.freed ≡ how_many (frees_node before.whole.world stamp release) before.whole.world.layout.nodes
   pub none_free : (answer.none_free ≡ true) ↔ ((n : ℕ) → n < before.whole.world.layout.nodes →
       (facts now.whole.world).status n ≢ free_status)

@@ -1,4 +1,12 @@
-//! The laws of lone turns. The function does nothing: it names what is proved.
+//! The laws of turns. The functions do nothing: each names what is proved.
+
+ghost use Rattle.lone_turn.specs.Laws.{TurnsAct};
+
+/// Each action of a turn can be done, whatever else is in flight, and the turn may be told what that gives: of a READY
+/// log line that is a node of the layout, and an anchor. The index keeps its search layer.
+pub fn turns_act()
+    ensures { TurnsAct }
+{}
 
 ghost use Rattle.lone_turn.specs.Laws.{TurnsBegin, TurnsGo};
 
