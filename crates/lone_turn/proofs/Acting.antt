@@ -1,16 +1,14 @@
 -- Each action of a turn can be done, may be told what that gives, and keeps the index with its search layer.
-use Rattle.std.proofs.Common.{◌≡◌, ◌≢◌, ℕ, zero, suc, ◌^◌, ◌<◌, inl, inr, List, refl, sym, subst, ap, ◌∙◌}
+use Rattle.std.proofs.Common.{◌≡◌, ◌≢◌, ℕ, zero, suc, ◌^◌, ◌<◌, inl, inr, List, sym, subst, ap, ◌∙◌}
 use Rattle.std.proofs.lemmas.Bool.{cases_eq}
 use mathlib.Core.Option.{some}
 use lib.ListN.{get_elem?}
 use Rattle.pm_words.specs.Rows.{got}
 use Rattle.index_law.specs.Worlds.{World}
-use Rattle.smo_log.specs.declared.read.ReadLine.{ReadLine}
 use Rattle.turn_law.specs.Facts.{TurnTerms, TurnFacts}
 use Rattle.turn_law.specs.Lawful.{SureTurn}
 use Rattle.turn_row.specs.Columns as rows
 use Rattle.turn_row.specs.RowStages.{Resting, reading_stage, turn_stage}
-use Rattle.turn_row.specs.RowLaw.{RowLawful}
 use Rattle.turn_row.specs.Turnings.{Turning}
 use Rattle.updater.specs.declared.terms.Terms.{Terms}
 use Rattle.updater.specs.declared.terms.Tally.{Tally}
@@ -21,7 +19,7 @@ use Rattle.updater.specs.Steps.{work_at_stage}
 use Rattle.updater.specs.Watches.{work_turning, turning_after}
 use Rattle.updater.specs.Works.{IsWork, work_asks, work_turned, work_takes}
 use Rattle.updater.proofs.FootLaw.{works_are_feet}
-use Rattle.layer_law.specs.Turnings.{terms_of, AreRestingBut, ghosts_of}
+use Rattle.layer_law.specs.Turnings.{terms_of, AreRestingBut}
 use Rattle.layer_law.specs.Layers.{Layered, IsLayered, turn_facts}
 use Rattle.layer_law.proofs.TurnSteps.{turn_step_keeps}
 use Rattle.lone_turn.specs.Laws.{terms_in, TurnActs, TurnsAct}

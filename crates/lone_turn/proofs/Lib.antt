@@ -6,3 +6,4 @@ pub mod Hearing
 pub mod TurnSteps
 pub mod Going
 pub mod Begins
+pub mod Ending

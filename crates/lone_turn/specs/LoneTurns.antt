@@ -3,7 +3,7 @@ use Rattle.std.specs.Prelude.{◌≡◌, ◌≢◌, ℕ, ◌<◌, ◌==◌, ◌&
 use mathlib.Core.Option.{some}
 use lib.ListN.{get_elem?}
 use Rattle.pm_words.specs.Locations.{Updater, Cached, at}
-use Rattle.version_lock.specs.Versions.{is_worn_word}
+use Rattle.version_lock.specs.Versions.{is_worn_word, IsWorn}
 use Rattle.data_node.specs.Lists.{anchor_in}
 use Rattle.call_stages.specs.Kinds.{free_status, gone_status}
 use Rattle.call_stages.specs.Stages.{Idle}
@@ -48,7 +48,8 @@ is_ready w j = line_state w j == ready_state
 abbrev pub stamp_then : World → ℕ → ℕ → ℕ
 stamp_then w stamp n = if stamp_in w n == 0 then stamp else stamp_in w n
 
--- The turn makes the node FREE: it was GONE, its stamp is at most the greatest that the turn releases, and it isn't worn.
+-- The turn makes the node FREE: it was GONE, its stamp is at most the greatest that the turn releases, and it wasn't
+-- worn.
 abbrev pub frees_node : World → ℕ → ℕ → ℕ → Bool
 frees_node w stamp release n =
     (facts w).status n == gone_status && (nat_le (stamp_then w stamp n) release && not (is_worn_word
@@ -65,9 +66,10 @@ pub record KeepsNodes (before now : Layered) : Type 0 where
   }
   pub facts : facts now.whole.world ≡ record (facts before.whole.world) { status = (facts now.whole.world).status }
 
--- The search layer leads the anchor of each listed node to that node, and no other key.
+-- The search layer leads the anchor of each listed node to that node, and leads no other key.
 abbrev pub LeadsExactly : World → Type 0
-LeadsExactly w = IsCovered (IsListed (facts w)) (λ n. anchor_in ((facts w).now n)) (layer_of w.layout w.words) (λ key. ⊥)
+LeadsExactly w =
+    IsCovered (IsListed (facts w)) (λ n. anchor_in ((facts w).now n)) (layer_of w.layout w.words) (λ key. ⊥)
 
 -- The index as a turn began that gives this stamp and releases stamps up to this one, what the turn answered, and the
 -- index then.
@@ -86,3 +88,10 @@ pub record IsLoneTurn (before : Layered) (stamp release : ℕ) (answer : Turned)
   pub freed : answer.freed ≡ how_many (frees_node before.whole.world stamp release) before.whole.world.layout.nodes
   pub none_free : (answer.none_free ≡ true) ↔ ((n : ℕ) → n < before.whole.world.layout.nodes →
       (facts now.whole.world).status n ≢ free_status)
+
+-- So a node that is GONE after it is worn, or has a stamp that the turn doesn't release.
+abbrev pub GoneAreHeldBack : Type 0
+GoneAreHeldBack = (before : Layered) (stamp release : ℕ) (answer : Turned) (now : Layered) (n : ℕ) →
+    IsLoneTurn before stamp release answer now → n < before.whole.world.layout.nodes →
+    (facts now.whole.world).status n ≡ gone_status →
+    IsWorn ((facts now.whole.world).version n) now.whole.world.generation ⊎ (release < stamp_in now.whole.world n)

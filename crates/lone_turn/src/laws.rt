@@ -9,12 +9,15 @@ pub fn turns_act()
 {}
 
 ghost use Rattle.lone_turn.specs.Laws.{TurnsBegin, TurnsGo};
+ghost use Rattle.lone_turn.specs.LoneTurns.{GoneAreHeldBack};
 
-/// With nothing in flight a party takes the updater lock for a turn, and each action of the turn can be done. It leaves
-/// every log line EMPTY, the list, the map and the words of the nodes as they were, and makes those GONE nodes FREE that
-/// aren't worn and whose stamp it releases. It answers how many lines were READY and how many nodes are freed, that no
-/// line is left, and whether no node is FREE.
+/// With nothing in flight a party takes the updater lock for a turn, and each action of the turn can be done, to its
+/// end. Then every log line is EMPTY, the search layer leads the listed anchors and no other key, and each GONE node is
+/// FREE that isn't worn and whose stamp the turn releases; other statuses, the map, the list and the words of the nodes
+/// are as they were. It answers how many lines were READY, that none is left, how many nodes it freed, and whether no node
+/// is FREE.
 pub fn lone_turns()
     ensures begins { TurnsBegin }
     ensures goes { TurnsGo }
+    ensures gone { GoneAreHeldBack }
 {}

@@ -1,4 +1,5 @@
 use Rattle.lone_turn.proofs.Begins.{turns_begin}
+use Rattle.lone_turn.proofs.Ending.{gone_are_held_back}
 use Rattle.lone_turn.proofs.Going.{turns_go}
 use Rattle.lone_turn.proofs.laws.lone_turns.Goals as goal
 
@@ -7,3 +8,6 @@ returns-clause-begins c = turns_begin
 
 pub returns-clause-goes : goal.returns-clause-goes
 returns-clause-goes c = turns_go
+
+pub returns-clause-gone : goal.returns-clause-gone
+returns-clause-gone c = gone_are_held_back
