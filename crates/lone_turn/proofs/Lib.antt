@@ -7,3 +7,4 @@ pub mod TurnSteps
 pub mod Going
 pub mod Begins
 pub mod Ending
+pub mod Locks

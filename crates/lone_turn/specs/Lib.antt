@@ -1,3 +1,4 @@
 pub mod LoneTurns
+pub mod Locks
 pub mod Marks
 pub mod Laws

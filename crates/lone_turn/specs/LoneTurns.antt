@@ -48,12 +48,15 @@ is_ready w j = line_state w j == ready_state
 abbrev pub stamp_then : World → ℕ → ℕ → ℕ
 stamp_then w stamp n = if stamp_in w n == 0 then stamp else stamp_in w n
 
+-- The lock of the node can't be taken any more.
+abbrev pub is_worn : World → ℕ → Bool
+is_worn w n = is_worn_word ((facts w).version n) w.generation
+
 -- The turn makes the node FREE: it was GONE, its stamp is at most the greatest that the turn releases, and it wasn't
 -- worn.
 abbrev pub frees_node : World → ℕ → ℕ → ℕ → Bool
 frees_node w stamp release n =
-    (facts w).status n == gone_status && (nat_le (stamp_then w stamp n) release && not (is_worn_word
-    ((facts w).version n) w.generation))
+    (facts w).status n == gone_status && (nat_le (stamp_then w stamp n) release && not (is_worn w n))
 
 abbrev pub status_then : World → ℕ → ℕ → ℕ → ℕ
 status_then w stamp release n = if frees_node w stamp release n then free_status else (facts w).status n

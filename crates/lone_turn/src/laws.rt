@@ -8,6 +8,15 @@ pub fn turns_act()
     ensures { TurnsAct }
 {}
 
+ghost use Rattle.lone_turn.specs.Locks.{CallsLeaveLock, EvictionsLeaveLock};
+
+/// Nobody but a turn changes the updater lock: no step of a call does, and no word that becomes durable. So where it is
+/// free it is free when the next turn begins.
+pub fn lock_stays()
+    ensures calls { CallsLeaveLock }
+    ensures evictions { EvictionsLeaveLock }
+{}
+
 ghost use Rattle.lone_turn.specs.Laws.{TurnsBegin, TurnsGo};
 ghost use Rattle.lone_turn.specs.LoneTurns.{GoneAreHeldBack};
 
