@@ -23,8 +23,8 @@ ghost use Rattle.lone_turn.specs.LoneTurns.{GoneAreHeldBack};
 /// With nothing in flight a party takes the updater lock for a turn, and each action of the turn can be done, to its
 /// end. Then every log line is EMPTY, the search layer leads the listed anchors and no other key, and each GONE node is
 /// FREE that isn't worn and whose stamp the turn releases; other statuses, the map, the list and the words of the nodes
-/// are as they were. It answers how many lines were READY, that none is left, how many nodes it freed, and whether no node
-/// is FREE.
+/// are as they were. It answers how many lines were READY, that none is left, how many nodes it freed, and whether no
+/// node is FREE.
 pub fn lone_turns()
     ensures begins { TurnsBegin }
     ensures goes { TurnsGo }
