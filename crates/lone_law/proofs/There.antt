@@ -77,7 +77,7 @@ unfolding prev_in
 prev_at l words n within = rw (lt-ltb n l.nodes within) refl
 
 -- what a walk is told
-told_loaded : (l : Layout) (g : ℕ) (words : List ℕ) (walk : Walk) (at : WalkAt) → walk.node < l.nodes → IsWalkAt l g walk.key at
+pub told_loaded : (l : Layout) (g : ℕ) (words : List ℕ) (walk : Walk) (at : WalkAt) → walk.node < l.nodes → IsWalkAt l g walk.key at
     → got l words (walk_at_asks l walk.node at) ≡ loaded (nodes_in l words) walk.node at
 told_loaded l g words walk walk_at.Version node here = sym (version_in-here l words walk.node node)
 told_loaded l g words walk (walk_at.Status version) node here = sym (status_in-here l words walk.node node)
@@ -91,7 +91,7 @@ told_loaded l g words walk (walk_at.HighThird version low next first second) nod
 told_loaded l g words walk walk_at.Prev node here = sym (prev_at l words walk.node node)
 
 -- a walk only loads
-walk_loads : (l : Layout) (words : List ℕ) (n : ℕ) (at : WalkAt) → acted l words (walk_at_asks l n at) ≡ words
+pub walk_loads : (l : Layout) (words : List ℕ) (n : ℕ) (at : WalkAt) → acted l words (walk_at_asks l n at) ≡ words
 walk_loads l words n walk_at.Version = set-get_or words (version_address l n) 0
 walk_loads l words n (walk_at.Status version) = set-get_or words (status_address l n) 0
 walk_loads l words n (walk_at.First version) = set-get_or words (word_address l n 3) 0

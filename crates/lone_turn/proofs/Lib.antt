@@ -1,0 +1,9 @@
+pub mod MarkSteps
+pub mod Told
+pub mod Acting
+pub mod WalkStays
+pub mod Hearing
+pub mod TurnSteps
+pub mod Going
+pub mod Begins
+pub mod Ending

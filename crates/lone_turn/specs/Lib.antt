@@ -1,0 +1,3 @@
+pub mod LoneTurns
+pub mod Marks
+pub mod Laws
