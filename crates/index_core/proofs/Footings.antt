@@ -1,8 +1,7 @@
 -- What a start and a step of a party keep of all lines and prevs.
-use Rattle.std.proofs.Common.{◌≡◌, ◌≢◌, ℕ, ◌<◌, ◌^◌, ⊎_elim, List, ◌++◌, length, set, map, refl, sym, ap, ◌∙◌, subst, arith, inl, inr}
+use Rattle.std.proofs.Common.{◌≡◌, ℕ, ◌<◌, ◌^◌, List, ◌++◌, length, set, map, refl, sym, ap, ◌∙◌, subst, arith, inl, inr}
 use Rattle.std.specs.Prelude.{Option, Some, None, slice_set}
-use Rattle.std.proofs.lemmas.Bool.{cases_eq}
-use mathlib.Core.Option.{some, some-injective}
+use mathlib.Core.Option.{some}
 use lib.ListN.{get_elem?}
 use Rattle.pm_words.specs.declared.machine.Turn.{Turn}
 use Rattle.pm_words.specs.declared.machine.Turn.TheVariants.{Go, Done}
@@ -30,7 +29,7 @@ use Rattle.index_law.specs.Lawful.{Lawful}
 use Rattle.index_law.specs.Footings.{stepped_whole}
 use Rattle.index_law.proofs.AnySteps.{set_own}
 use Rattle.index_law.proofs.Footings.{foot_keeps}
-use Rattle.index_law.proofs.Parties.{at_set, set_here, set_else}
+use Rattle.index_law.proofs.Parties.{set_here}
 use Rattle.index_core.specs.declared.party.PartyState.{PartyState}
 use Rattle.index_core.specs.PartyStates.{machine_stage, machine_footing, party_of, state_after}
 use Rattle.index_core.specs.Indexes.{Index, world, footed, told, stepped_index}

@@ -5,8 +5,8 @@ ghost use Rattle.layer_law.specs.Laws.{EvictionKeepsLayer};
 ghost use Rattle.layer_law.specs.Laws.{RestIsLayered, TargetsStand, LayerIsCovered};
 ghost use Rattle.layer_law.specs.Beginnings.{BeginningKeepsLayer, OtherTurnsMayRest, StampKeepsLayer, FreshIsLayered};
 
-/// Where calls leave their log lines to turns, a step of a call keeps an index with its search layer and the turn beside
-/// it.
+/// Where calls leave their log lines to turns, a step of a call keeps an index with its search layer and the turn
+/// beside it.
 pub fn call_step_law()
     ensures { CallStepKeeps }
 {}
@@ -38,8 +38,8 @@ pub fn target_law()
     ensures { TargetsStand }
 {}
 
-/// At any moment the search layer leads exactly the anchors of the listed nodes, each to its node, but for keys that log
-/// lines have which aren't EMPTY; and so does the durable one, by the durable lines.
+/// At any moment the search layer leads exactly the anchors of the listed nodes, each to its node, but for keys that
+/// log lines have which aren't EMPTY; and so does the durable one, by the durable lines.
 pub fn covered_law()
     ensures { LayerIsCovered }
 {}

@@ -125,7 +125,7 @@ pub turns_begin : TurnsBegin
 turns_begin z i t stamp release is there positive small = record {
   can = can_take z i t stamp release is there positive small;
   takes = (record { layout = is.layered.whole.joint.lawful.row.layout }, is.layered.whole.joint.lawful.row.fits _);
-  taken = ap (λ x. Done (took_of x)) unlocked;
+  taken = ap (λ x. Done (took_of x)) (unlocked z i t stamp release is there positive small);
   turning = subst (λ (turns : List Turning). LoneTurning z stamp release i (work_from z.whole.world.layout z.whole.world.generation stamp release)
       (record { whole = (turned (about z i t stamp release is there positive small) i (asks z i t stamp release is there positive small) (next z i t stamp release is there positive small)).whole; turns = turns }))
       (set-set z.turns i (first z i t stamp release is there positive small) (next z i t stamp release is there positive small))
