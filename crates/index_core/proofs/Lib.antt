@@ -31,6 +31,5 @@ pub mod Fulls
 pub mod Rounds
 pub mod Layering
 pub mod Busy
-pub mod TurnTold
 pub mod Turning
 pub mod TurnReading

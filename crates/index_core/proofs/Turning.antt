@@ -44,6 +44,9 @@ use Rattle.updater.specs.Watches.{turning_at}
 use Rattle.updater.specs.Works.{IsWork, work_asks, ToldOfLine}
 use Rattle.updater.specs.Makings.{IsMaking, making_terms, making_asks, making_turned, making_takes, making_turning, turning_made, MakingStays, making_from}
 use Rattle.updater.proofs.MakingLaw.{makings_stay_sound, makings_are_feet}
+use Rattle.lone_turn.specs.Laws.{terms_in}
+use Rattle.lone_turn.proofs.Acting.{turns_act}
+use Rattle.lone_turn.proofs.Told.{told_any}
 use Rattle.layer_law.specs.Turnings.{terms_of, AreRestingBut}
 use Rattle.layer_law.specs.Layers.{Layered, IsLayered, turn_facts}
 use Rattle.layer_law.specs.Laws.{turned, LeavesNodes}
@@ -58,7 +61,6 @@ use Rattle.index_core.proofs.Layering.{turn_of, map_own}
 use Rattle.index_core.proofs.Lists.{map_there, map_set, set_twice}
 use Rattle.index_core.proofs.PartFacts.{running_listed}
 use Rattle.index_core.proofs.Stepping.{set_states}
-use Rattle.index_core.proofs.TurnTold.{told_any, ReadsReady, told_of_line}
 
 -- The parties, of which one may have another turn.
 module _ (s : Index) (i : ℕ) (state : PartyState) (turn : Option MakeTurn) (there : get_elem? s.states i ≡ some state) where
@@ -157,13 +159,6 @@ weighs_no_more w v layout parties leaves =
     let less : index_weight l (record f { status = status }) + lowered_sum l (record f { status = status }) w.parties ≤ weight_sum w = omega arith in
     subst (λ (q : Layout × (Facts × List Party)). index_weight q.0 q.1.0 + lowered_sum q.0 q.1.0 q.1.1 ≤ weight_sum w) (λ k. (sym layout k, (sym leaves.nodes k, sym parties k))) less
 
--- A READY line is being read.
-being_read : (c : TurnTerms) (f : TurnFacts) (offset j : ℕ) (seen : List ℕ) → SureTurn c f (reading_stage j offset seen) → f.line.state j ≡ ready_state
-being_read c f zero j seen sure = sure
-being_read c f (suc zero) j seen sure = sure
-being_read c f (suc (suc zero)) j seen sure = sure.0
-being_read c f (suc (suc (suc more))) j seen sure = sure.0
-
 stamp_is : (making : MakeTurn) → (making_turning making).stamp ≡ (making_terms making).stamp
 stamp_is (Taking terms) = refl
 stamp_is (Working work) = refl
@@ -192,48 +187,17 @@ module _ (s : Index) (i : ℕ) (state : PartyState) (making : MakeTurn) (is : Is
   terms_are : row_terms (making_terms making) ≡ terms_of (world s) (making_turning making)
   terms_are = λ k. record { layout = own.layout k; generation = own.generation k; stamp = sym (stamp_is making) k; release = sym (release_is making) k }
 
-  -- a line that is being read is READY
-  reads_ready : (work : Work) → making ≡ Working work → ReadsReady s.layout s.words work.at
-  reads_ready work is_work = by_state work.at refl
-    where
-      by_state : (a : WorkAt) → work.at ≡ a → ReadsReady s.layout s.words a
-      by_state (at.Reading read) same =
-          let stage : (making_turning making).stage ≡ Reads read.line read.offset read.words = ap (λ (m : MakeTurn). (making_turning m).stage) is_work ∙ ap (work_at_stage work.terms) same in
-          let rests = others_rest (layered s) i (making_turning making) layer at_turn (λ rests. let no : Resting ≡ Reads read.line read.offset read.words = sym rests ∙ stage in cc) in
-          let row = layer.rows i (making_turning making) at_turn rests in
-          being_read (columns.terms_of (terms_of (world s) (making_turning making))) (turn_facts (world s) layer.holder (making_turning making)) read.offset read.line read.words
-          (subst (λ (q : RowStage). SureTurn (columns.terms_of (terms_of (world s) (making_turning making))) (turn_facts (world s) layer.holder (making_turning making)) (turn_stage q)) stage row.law.sure)
-      by_state (at.State line) same = tt
-      by_state (at.Landing line entry floor) same = tt
-      by_state (at.Walking line entry walk) same = tt
-      by_state (at.Seeing line entry found) same = tt
-      by_state (at.Setting line entry set) same = tt
-      by_state (at.Unsetting line entry unset) same = tt
-      by_state (at.Stamping line entry) same = tt
-      by_state (at.Clearing clear) same = tt
-      by_state (at.Status node) same = tt
-      by_state (at.Stamp node) same = tt
-      by_state (at.Version node) same = tt
-      by_state (at.Releasing release) same = tt
-      by_state (at.Counting node none) same = tt
-      by_state (at.Leaving none) same = tt
-
   takes : making_takes making (turn_told s making)
   takes = by_machine making refl
     where
       by_machine : (m : MakeTurn) → making ≡ m → making_takes m (turn_told s m)
       by_machine (Taking terms) same = (subst IsMaking same own.sound, (told_any (world s) (making_asks (Taking terms)) is.lawful).fits)
       by_machine (Working work) same =
-          let sound : IsWork work = subst IsMaking same own.sound in
           let layout : work.terms.layout ≡ s.layout = ap (λ (m : MakeTurn). (making_terms m).layout) (sym same) ∙ own.layout in
           let generation : work.terms.generation ≡ s.generation = ap (λ (m : MakeTurn). (making_terms m).generation) (sym same) ∙ own.generation in
-          (
-            sound,
-            subst (λ (q : Layout × ℕ). Told q.0 q.1 (work_asks work) (turn_told s (Working work))) (λ k. (sym layout k, sym generation k)) (told_any (world s) (work_asks work) is.lawful),
-            subst (λ (l : Layout). ToldOfLine work.terms.layout (work_asks work) (got l s.words (work_asks work))) layout
-                (told_of_line work.terms work.tally work.at s.words sound.terms sound.here (subst (λ (l : Layout). AreFit l s.words) (sym layout) layer.whole.joint.fit)
-                (subst (λ (l : Layout). ReadsReady l s.words work.at) (sym layout) (reads_ready work same))),
-          )
+          let terms : work.terms ≡ terms_in (world s) work.terms.stamp work.terms.release = λ k. record { layout = layout k; generation = generation k; stamp = work.terms.stamp; release = work.terms.release } in
+          (turns_act (layered s) i work (turn_told s (Working work)) layer (at_turn ∙ ap (λ (m : MakeTurn). some (making_turning m)) same) terms
+          (subst (λ (m : MakeTurn). (making_terms m).stamp < 2 ^ 64) same own.stamp) (subst IsMaking same own.sound) refl).takes
 
   abbrev turn : Turn MakeTurn TurnReply
   turn = making_turned making x
