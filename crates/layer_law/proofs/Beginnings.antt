@@ -1,13 +1,13 @@
 -- What leaves the search layer and the turns: parties that begin anew, a clock that does, and turns that rest.
-use Rattle.std.proofs.Common.{◌≡◌, ◌≢◌, ℕ, ◌<◌, ⊎_elim, inl, inr, List, slice_set, Option, refl, sym, ap, ◌∙◌, subst, arith}
+use Rattle.std.proofs.Common.{◌≡◌, ℕ, ◌<◌, inl, inr, List, slice_set, Option, sym, ap, ◌∙◌, subst, arith}
 use mathlib.Core.Option.{some}
 use lib.ListN.{get_elem?}
 use Rattle.pm_words.specs.declared.layout.Layout.{Layout}
-use Rattle.pm_words.specs.Locations.{Clock, Updater, Volatile, Cached, Durable, Leaf, HasLocation, at}
+use Rattle.pm_words.specs.Locations.{Clock, Updater, Volatile, Cached, Durable, Leaf}
 use Rattle.pm_words.proofs.Apart.{at-set_other}
 use Rattle.cat_history.specs.Maps.{Map}
 use Rattle.cat_history.specs.declared.op.Write.{Write}
-use Rattle.call_stages.specs.Stages.{Sight, Stage, Held, Grip, Gone, Idle, Joins, HoldsNode}
+use Rattle.call_stages.specs.Stages.{Sight, Stage, Gone, Idle, Joins, HoldsNode}
 use Rattle.call_stages.specs.Kinds.{clock_address}
 use Rattle.call_stages.specs.Lines.{HeldLine}
 use Rattle.call_stages.specs.Prevs.{Debt}
@@ -20,7 +20,7 @@ use Rattle.index_law.proofs.Rows.{facts-elsewhere}
 use Rattle.turn_law.specs.Facts.{TurnFacts}
 use Rattle.turn_row.specs.Columns.{line_field, line_count, line_word}
 use Rattle.turn_row.proofs.RowColumns.{column-alike}
-use Rattle.turn_row.specs.RowStages.{RowLine, RowTarget, Resting, HasTarget}
+use Rattle.turn_row.specs.RowStages.{RowTarget, Resting, HasTarget}
 use Rattle.turn_row.specs.RowLaw.{RowLawful}
 use Rattle.turn_row.specs.Turnings.{Turning}
 use Rattle.layer_law.specs.Turnings.{terms_of, ghosts_of, SureWatch, SureWatches, IsShown}
@@ -28,7 +28,6 @@ use Rattle.layer_law.specs.Layers.{Layered, turn_facts, IsLayered}
 use Rattle.layer_law.specs.Beginnings.{begun_anew, IsIdleOrKept, BeginningKeepsLayer, OtherTurnsMayRest}
 use Rattle.layer_law.proofs.FactTies.{Rest, known, rest_in, facts_tie, rest_same}
 use Rattle.layer_law.proofs.Retired.{retiring_lines}
-use Rattle.layer_law.proofs.CallMoves.{now_known}
 use Rattle.layer_law.proofs.CallRows.{row_after}
 use Rattle.layer_law.proofs.TurnRests.{rests_for}
 use Rattle.layer_law.proofs.TurnWalks.{found_target}

@@ -1,11 +1,11 @@
 -- A fresh index has its search layer.
-use Rattle.std.proofs.Common.{◌≡◌, ◌≢◌, ℕ, ◌<◌, ◌==◌, ◌||◌, ◌+◌, Bool, true, false, cond, List, refl, sym, ap, ◌∙◌, subst, inl, inr, arith}
+use Rattle.std.proofs.Common.{◌≡◌, ◌≢◌, ℕ, ◌<◌, ◌==◌, ◌||◌, Bool, true, false, cond, List, refl, sym, ap, ◌∙◌, subst, inl, inr, arith}
 use Rattle.std.specs.Prelude.{not, nat_lt}
-use Rattle.std.proofs.lemmas.Bool.{cases_eq, eq-eqb, ne_eqb, cond_both, lt-ltb, ltb-true}
+use Rattle.std.proofs.lemmas.Bool.{cases_eq, ne_eqb, cond_both, lt-ltb, ltb-true}
 use Rattle.pm_words.specs.declared.layout.Layout.{Layout}
 use Rattle.pm_words.specs.Layouts.{IsLayout}
 use Rattle.pm_words.specs.Images.{fresh_words, fresh_word}
-use Rattle.pm_words.specs.Locations.{Word, Location, Node, Line, Leaf, Updater, Volatile, Cached, Durable, HasLocation, HasWord, leaf_count, at}
+use Rattle.pm_words.specs.Locations.{Word, Location, Node, Leaf, Updater, Volatile, Cached, Durable, HasLocation, HasWord, leaf_count, at}
 use Rattle.pm_words.specs.Rows.{row_of}
 use Rattle.pm_words.proofs.Apart.{at-set_other, at-set_same}
 use Rattle.pm_words.proofs.Made.{fresh_at, fresh_image, row_of-at, row_of-at_volatile, row_of-row}

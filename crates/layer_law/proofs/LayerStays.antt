@@ -1,33 +1,21 @@
 -- A word that becomes durable leaves all that holds of the search layer and of the turns.
-use Rattle.std.proofs.Common.{◌≡◌, ◌≢◌, ℕ, ◌<◌, inl, ⊎_elim, List, [], length, slice_index, sym, ap, ◌∙◌, subst, arith}
+use Rattle.std.proofs.Common.{◌≡◌, ℕ, ◌<◌, slice_index, sym, ◌∙◌, subst, arith}
 use Rattle.std.proofs.lemmas.List.{get_or-set_other}
-use mathlib.Core.Option.{some}
-use lib.ListN.{get_elem?}
 use Rattle.pm_words.specs.declared.layout.Layout.{Layout}
-use Rattle.pm_words.specs.Locations.{Location, Leaf, Clock, Updater, Volatile, Cached, Durable, HasLocation, at, address_of, cached_address, durable_address}
+use Rattle.pm_words.specs.Locations.{Updater, Cached, address_of, cached_address, durable_address}
 use Rattle.pm_words.specs.Rows.{IsRow}
-use Rattle.pm_words.proofs.Apart.{at-set_other}
-use Rattle.call_stages.specs.Stages.{Stage, Gone, Idle, Joins, HoldsNode}
 use Rattle.turn_row.specs.Columns.{Ghosts, line_field, line_count, line_word}
-use Rattle.turn_row.specs.RowStages.{Resting, HasTarget}
 use Rattle.turn_row.specs.RowLaw.{RowLawful}
-use Rattle.turn_row.specs.Turnings.{Turning}
 use Rattle.turn_row.proofs.RowColumns.{column-same}
 use Rattle.turn_row.proofs.RowEvicts.{cached, eviction_keeps_turn}
-use Rattle.index_law.specs.Facts.{Facts, facts_of, map_now}
-use Rattle.index_law.specs.Worlds.{Party, World, facts, evicted_world}
-use Rattle.index_law.specs.Laws.{next_round}
+use Rattle.index_law.specs.Facts.{Facts}
+use Rattle.index_law.specs.Worlds.{World, facts, evicted_world}
 use Rattle.index_law.proofs.Evictions.{evict_facts}
-use Rattle.index_law.proofs.Footed.{evict_footed, start_footed, round_footed}
-use Rattle.index_law.proofs.Parties.{at_set}
-use Rattle.index_law.proofs.Rounds.{round_law}
-use Rattle.index_law.proofs.Rows.{facts-elsewhere}
-use Rattle.index_law.proofs.Starts.{rest_law, idle_law}
+use Rattle.index_law.proofs.Footed.{evict_footed}
 use Rattle.layer_law.specs.Turnings.{terms_of, is_listed, ghosts_of, SureWatch, IsShown}
 use Rattle.layer_law.specs.Layers.{turn_facts}
 use Rattle.layer_law.specs.Laws.{EvictionKeepsLayer}
-use Rattle.layer_law.proofs.CallRows.{row_after}
-use Rattle.layer_law.proofs.FactTies.{Rest, rest_in, known, facts_tie, lines_same, rest_same}
+use Rattle.layer_law.proofs.FactTies.{lines_same}
 use Rattle.layer_law.proofs.Retired.{retiring_lines}
 
 pub eviction_keeps_layer : EvictionKeepsLayer

@@ -1,8 +1,6 @@
 -- A stamp that becomes another leaves the search layer where no turn is in flight: only whether a node has one matters.
-use Rattle.std.proofs.Common.{◌≡◌, ◌≢◌, ℕ, ◌<◌, ◌⊎◌, inl, inr, List, slice_set, refl, sym, ap, ◌∙◌, subst, arith}
+use Rattle.std.proofs.Common.{◌≡◌, ◌≢◌, ℕ, ◌<◌, inl, inr, List, slice_set, sym, ap, ◌∙◌, subst, arith}
 use Rattle.std.proofs.lemmas.Bool.{cases_eq}
-use mathlib.Core.Option.{some}
-use lib.ListN.{get_elem?}
 use Rattle.pm_words.specs.declared.layout.Layout.{Layout}
 use Rattle.pm_words.specs.Locations.{Word, Location, Updater, Volatile, Cached, Durable, Leaf, HasLocation, leaf_count, address_of, at}
 use Rattle.pm_words.proofs.Apart.{at-set_other, at-set_same}
@@ -23,7 +21,7 @@ use Rattle.turn_row.proofs.RowColumns.{column-here, column-alike, column-same}
 use Rattle.layer_law.specs.Turnings.{terms_of, ghosts_of, SureWatch}
 use Rattle.layer_law.specs.Layers.{Layered, turn_facts, IsLayered}
 use Rattle.layer_law.specs.Beginnings.{restamped, StampKeepsLayer}
-use Rattle.layer_law.proofs.FactTies.{known, rest_in, facts_tie, lines_same}
+use Rattle.layer_law.proofs.FactTies.{known, facts_tie, lines_same}
 use Rattle.layer_law.proofs.Retired.{retiring_lines}
 
 -- for a turn that rests, stamps of which the same are 0

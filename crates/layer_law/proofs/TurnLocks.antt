@@ -1,12 +1,12 @@
 -- A turn that rests after a step of its work has given the updater lock back.
-use Rattle.std.proofs.Common.{◌≡◌, ◌≢◌, ℕ, ◌+◌, ◌*◌, ◌<◌, Bool, true, false, cond, List, refl, ap, arith}
+use Rattle.std.proofs.Common.{◌≡◌, ◌≢◌, ℕ, ◌+◌, Bool, true, false, cond, List, refl}
 use Rattle.pm_words.specs.declared.action.Action.{Action}
 use Rattle.pm_words.specs.Locations.{Updater, at}
 use Rattle.pm_words.specs.Rows.{IsRow, acted}
 use Rattle.pm_words.proofs.Apart.{at-set_same}
 use Rattle.turn_law.specs.Covers.{merge_kind}
 use Rattle.turn_row.specs.Columns.{RowTerms, line_count}
-use Rattle.turn_row.specs.RowStages.{RowLine, RowStage, Resting, Between, Reads, Lands, HasTarget, Changes, Stamps, Clears, Sweeps, Gone, HasStamp, IsUnworn, Frees, Counts, after_line, after_node, after_change}
+use Rattle.turn_row.specs.RowStages.{RowLine, RowStage, Resting, Between, Stamps, Clears, Sweeps, Counts, after_line, after_node, after_change}
 use Rattle.turn_row.specs.RowSteps.{RowStep, takes_lock, finds_held, passes, sees, reads, has_read, walks, is_turned_back, finds, loses, decides, changes, has_changed, stamps, empties, passes_node, sees_gone, passes_stamp, sees_stamp, passes_worn, sees_unworn, unstamps, frees, counts, leaves_lock}
 use Rattle.std.specs.Prelude.{nat_lt, ◌==◌}
 

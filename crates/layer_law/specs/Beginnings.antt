@@ -12,7 +12,7 @@ use Rattle.call_stages.specs.Stages.{Idle}
 use Rattle.call_stages.specs.Kinds.{clock_address}
 use Rattle.call_stages.specs.Lines.{HeldLine}
 use Rattle.call_stages.specs.Prevs.{Debt}
-use Rattle.index_law.specs.Worlds.{Party, World}
+use Rattle.index_law.specs.Worlds.{Party}
 use Rattle.index_law.specs.Lawful.{Each}
 use Rattle.index_law.specs.Laws.{fresh_world}
 use Rattle.index_law.specs.Whole.{Whole, IsWhole}

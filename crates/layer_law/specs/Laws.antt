@@ -1,5 +1,5 @@
 -- The laws: what steps of calls and of turns keep, and what it says of the search layer.
-use Rattle.std.specs.Prelude.{◌≡◌, ◌≢◌, ℕ, ◌<◌, ◌⊎◌, ◌^◌, true, List, [], length, slice_set, Option}
+use Rattle.std.specs.Prelude.{◌≡◌, ◌≢◌, ℕ, ◌<◌, ◌⊎◌, ◌^◌, true, length, slice_set, Option}
 use mathlib.Core.Option.{some}
 use lib.ListN.{get_elem?}
 use Rattle.pm_words.specs.declared.action.Action.{Action}
@@ -11,17 +11,14 @@ use Rattle.call_stages.specs.declared.once.Placed.{Placed}
 use Rattle.call_stages.specs.Stages.{Idle}
 use Rattle.call_stages.specs.Leaving.{leaves_lines}
 use Rattle.call_stages.specs.Kinds.{free_status}
-use Rattle.call_stages.specs.Lines.{HeldLine}
 use Rattle.call_stages.specs.Footings.{Footing, FootStep}
-use Rattle.call_stages.specs.Prevs.{Debt}
 use Rattle.call_stages.specs.Watches.{Nothing}
 use Rattle.index_law.specs.Facts.{Facts, IsListed}
 use Rattle.index_law.specs.Worlds.{Party, facts}
-use Rattle.index_law.specs.Lawful.{Each, HaveBegun}
-use Rattle.index_law.specs.Laws.{next_round}
+use Rattle.index_law.specs.Lawful.{Each}
 use Rattle.index_law.specs.Whole.{IsWhole}
 use Rattle.index_law.specs.Footings.{AreTended, stepped_whole}
-use Rattle.index_law.specs.Footed.{AreFree, evicted_whole, started_whole}
+use Rattle.index_law.specs.Footed.{evicted_whole}
 use Rattle.search_layer.specs.Keys.{key_number}
 use Rattle.search_layer.specs.Leaves.{leaves_in, layer_in, layer_of}
 use Rattle.turn_law.specs.Covered.{IsCovered, IsTarget}

@@ -6,9 +6,8 @@ use Rattle.pm_words.specs.declared.layout.Layout.{Layout}
 use Rattle.pm_words.specs.declared.action.Action.{Action}
 use Rattle.pm_words.specs.declared.machine.Turn.{Turn}
 use Rattle.pm_words.specs.declared.machine.Turn.TheVariants.{Go, Done}
-use Rattle.pm_words.specs.Locations.{Updater, Volatile, Cached, at}
+use Rattle.pm_words.specs.Locations.{Volatile, Cached}
 use Rattle.pm_words.specs.Rows.{acted, got}
-use Rattle.pm_words.proofs.Apart.{at-set_same}
 use Rattle.version_lock.specs.Versions.{is_worn_word}
 use Rattle.call_stages.specs.Stages.{Idle}
 use Rattle.call_stages.specs.Watches.{Nothing}
@@ -45,7 +44,6 @@ use Rattle.updater.specs.Events.{HasHeard}
 use Rattle.updater.specs.Steps.{row_terms, release_stage, work_at_stage}
 use Rattle.updater.specs.Watches.{turning_at, work_turning, turning_after}
 use Rattle.updater.proofs.FootLaw.{works_are_feet}
-use Rattle.updater.proofs.WorkLaw.{works_leave}
 use Rattle.updater.proofs.WorkSound.{works_stay_sound}
 use Rattle.layer_law.specs.Turnings.{AreRestingBut, ghosts_of}
 use Rattle.layer_law.specs.Layers.{Layered, IsLayered}

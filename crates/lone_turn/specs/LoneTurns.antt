@@ -2,7 +2,7 @@
 use Rattle.std.specs.Prelude.{◌≡◌, ◌≢◌, ℕ, ◌<◌, ◌==◌, ◌&&◌, ◌↔◌, ◌⊎◌, not, nat_le, Bool, true, if◌then◌else◌}
 use mathlib.Core.Option.{some}
 use lib.ListN.{get_elem?}
-use Rattle.pm_words.specs.Locations.{Updater, Cached, at}
+use Rattle.pm_words.specs.Locations.{Cached}
 use Rattle.version_lock.specs.Versions.{is_worn_word, IsWorn}
 use Rattle.data_node.specs.Lists.{anchor_in}
 use Rattle.call_stages.specs.Kinds.{free_status, gone_status}

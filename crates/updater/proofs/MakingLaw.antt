@@ -6,14 +6,13 @@ use Rattle.pm_words.specs.declared.machine.Turn.TheVariants.{Go, Done}
 use Rattle.call_stages.specs.Watches.{Nothing}
 use Rattle.turn_row.specs.RowStages.{Resting}
 use Rattle.turn_row.specs.Turnings.{Turning, TurnFoot}
-use Rattle.updater.specs.declared.making.MakeTurn.{MakeTurn}
 use Rattle.updater.specs.declared.making.MakeTurn.TheVariants.{Taking, Working}
 use Rattle.updater.specs.declared.terms.Terms.{Terms}
 use Rattle.updater.specs.declared.terms.Turned.{Turned}
 use Rattle.updater.specs.declared.work.Work.{Work}
 use Rattle.updater.specs.Laws.{WorkStays}
 use Rattle.updater.specs.Steps.{row_terms, stage_taken}
-use Rattle.updater.specs.Takings.{taking_from, taking_asks, taking_turned, took_of}
+use Rattle.updater.specs.Takings.{taking_from, taking_asks, taking_turned}
 use Rattle.updater.specs.Works.{IsTerms, work_from, work_asks, work_turned}
 use Rattle.updater.specs.Watches.{turning_at, work_turning, turning_after}
 use Rattle.updater.specs.Makings.{worked, lock_found, turning_made, MakingStays, MakingsStaySound, MakingsAreFeet}

@@ -1,10 +1,9 @@
 -- A whole turn: the exchange of the updater lock, and the work under it.
-use Rattle.std.specs.Prelude.{◌≡◌, ◌≤◌, ◌+◌, ◌^◌, ◌<◌, ◌==◌, if◌then◌else◌, ℕ, Some, None, IfSome}
+use Rattle.std.specs.Prelude.{◌≡◌, ◌+◌, ◌^◌, ◌<◌, ◌==◌, if◌then◌else◌, ℕ}
 use Rattle.pm_words.specs.declared.layout.Layout.{Layout}
 use Rattle.pm_words.specs.declared.action.Action.{Action}
 use Rattle.pm_words.specs.declared.machine.Turn.{Turn}
 use Rattle.pm_words.specs.declared.machine.Turn.TheVariants.{Go, Done}
-use Rattle.call_stages.specs.Kinds.{Told}
 use Rattle.call_stages.specs.Watches.{Nothing}
 use Rattle.turn_row.specs.RowStages.{Resting}
 use Rattle.turn_row.specs.Turnings.{Turning, TurnFoot}
@@ -16,7 +15,7 @@ use Rattle.updater.specs.declared.terms.Terms.{Terms}
 use Rattle.updater.specs.declared.terms.Turned.{Turned}
 use Rattle.updater.specs.declared.work.Work.{Work}
 use Rattle.updater.specs.Takings.{untaken, taking_from, taking_asks}
-use Rattle.updater.specs.Works.{IsTerms, IsWork, ToldOfLine, work_from, work_asks, work_turned, work_left, work_takes}
+use Rattle.updater.specs.Works.{IsTerms, IsWork, work_from, work_asks, work_turned, work_left, work_takes}
 use Rattle.updater.specs.Steps.{row_terms}
 use Rattle.updater.specs.Watches.{turning_at, work_turning}
 
