@@ -71,11 +71,11 @@ module _ (s : Index) (clock : ℕ) (states : List PartyState) (base : List Pair)
       elim (same i from.0 from.1) [
         | inl idle ↦ inl (ap (λ (q : Party). q.stage) (sym from.2) ∙ idle)
         | inr was ↦ inr (
-            party_of was.0,
-            map_there party_of s.states i was.0 was.1,
-            ap machine_stage was.2 ∙ ap (λ (q : Party). q.stage) from.2,
-            map_there line_of states i from.0 from.1 ∙ ap (λ (m : Option Running). some (machine_footing m).line) (sym was.2) ∙ sym (map_there line_of s.states i was.0 was.1),
-          )
+          party_of was.0,
+          map_there party_of s.states i was.0 was.1,
+          ap machine_stage was.2 ∙ ap (λ (q : Party). q.stage) from.2,
+          map_there line_of states i from.0 from.1 ∙ ap (λ (m : Option Running). some (machine_footing m).line) (sym was.2) ∙ sym (map_there line_of s.states i was.0 was.1),
+        )
       ]
 
   pub begun_layered : IsLayered (layered s) → IsFooted (footed after) → map turn_of states ≡ map turn_of s.states → ((i : ℕ) (now : PartyState) → get_elem? states i ≡ some now → IsIdleOrSame s.states i now) → IsLayered (layered after)
