@@ -1,6 +1,6 @@
 -- Whether a party's last call isn't answered.
-use Rattle.std.proofs.Common.{◌≡◌, ℕ, ◌||◌, inl, inr, true, false, refl, sym, ◌∙◌, ap}
-use Rattle.std.specs.Prelude.{Option, Some, None, is_some, Bool}
+use Rattle.std.proofs.Common.{◌≡◌, ℕ, ◌||◌, inl, inr, true, false, refl, sym, ◌∙◌}
+use Rattle.std.specs.Prelude.{Option, Some, None, is_some}
 use mathlib.Core.Option.{some}
 use lib.ListN.{get_elem?}
 use Rattle.node_ops.specs.declared.running.Running.{Running}

@@ -1,45 +1,40 @@
 -- What keeps an index with its search layer and its turns.
-use Rattle.std.proofs.Common.{◌≡◌, ◌≢◌, ℕ, ◌<◌, ◌^◌, ◌⊎◌, inl, inr, ⊎_elim, List, [], set, map, slice_set, slice_index, refl, sym, ap, ◌∙◌, subst, arith}
+use Rattle.std.proofs.Common.{◌≡◌, ◌≢◌, ℕ, ◌<◌, ◌^◌, ◌⊎◌, inl, inr, ⊎_elim, List, set, map, slice_set, slice_index, refl, sym, ap, ◌∙◌, subst, arith}
 use Rattle.std.specs.Prelude.{Option, Some, None, true, length}
 use Rattle.std.proofs.lemmas.List.{set-get_or}
-use Rattle.std.proofs.lemmas.Bool.{cases_eq}
-use mathlib.Core.Option.{some, some-injective}
+use mathlib.Core.Option.{some}
 use lib.ListN.{get_elem?}
-use Rattle.pm_words.specs.Locations.{Clock, Volatile, image_words, address_of, at}
+use Rattle.pm_words.specs.Locations.{Volatile, image_words, address_of, at}
 use Rattle.pm_words.specs.Layouts.{IsLayout}
 use Rattle.pm_words.specs.declared.layout.Layout.{Layout}
 use Rattle.pm_words.specs.declared.action.Action.{Action}
 use Rattle.pm_words.specs.declared.machine.Turn.{Turn}
 use Rattle.pm_words.specs.declared.machine.Turn.TheVariants.{Go, Done}
-use Rattle.cat_history.specs.Maps.{Map, map_of}
+use Rattle.cat_history.specs.Maps.{map_of}
 use Rattle.cat_history.specs.declared.op.Write.{Write}
 use Rattle.cat_key.specs.declared.Pair.{Pair}
 use Rattle.call_stages.specs.declared.once.Once.{Once}
 use Rattle.call_stages.specs.declared.once.Placed.{Placed}
-use Rattle.call_stages.specs.Stages.{Stage, Idle}
+use Rattle.call_stages.specs.Stages.{Idle}
 use Rattle.call_stages.specs.Kinds.{clock_address}
 use Rattle.call_stages.specs.Lines.{HeldLine}
-use Rattle.call_stages.specs.Prevs.{Debt}
-use Rattle.call_stages.specs.Watches.{Nothing}
 use Rattle.call_stages.specs.Footings.{Footing, FootStep}
 use Rattle.call_stages.specs.Leaving.{leaves_lines}
 use Rattle.node_ops.specs.declared.running.Running.{Running}
 use Rattle.node_ops.specs.CallStages.{stage_of, footing_of, footing_after, reply_of}
 use Rattle.node_ops.specs.RunningSteps.{running_asks, running_turned}
 use Rattle.node_ops.proofs.CallLaw.{footing_stage}
-use Rattle.index_law.specs.Worlds.{Party, World, facts, moved_on, stepped, written}
+use Rattle.index_law.specs.Worlds.{Party, moved_on}
 use Rattle.index_law.specs.Laws.{fresh_world}
 use Rattle.index_law.specs.Lawful.{Each}
-use Rattle.index_law.specs.Whole.{Whole, IsWhole}
+use Rattle.index_law.specs.Whole.{Whole}
 use Rattle.index_law.specs.Footings.{stepped_whole}
 use Rattle.index_law.specs.Footed.{IsFooted}
 use Rattle.index_law.proofs.AnySteps.{set_own}
 use Rattle.index_law.proofs.Parties.{at_set, set_here, set_else}
-use Rattle.turn_row.specs.RowStages.{Resting}
 use Rattle.turn_row.specs.Turnings.{Turning}
-use Rattle.updater.specs.declared.making.MakeTurn.{MakeTurn}
 use Rattle.layer_law.specs.Layers.{Layered, IsLayered}
-use Rattle.layer_law.specs.Laws.{IsAtRest, turned}
+use Rattle.layer_law.specs.Laws.{IsAtRest}
 use Rattle.layer_law.specs.Beginnings.{IsIdleOrKept}
 use Rattle.layer_law.proofs.Restamping.{stamp_keeps_layer}
 use Rattle.layer_law.proofs.Beginnings.{beginning_keeps_layer, other_turns_may_rest}
@@ -49,9 +44,9 @@ use Rattle.layer_law.proofs.FreshLayer.{fresh_is_layered}
 use Rattle.index_core.specs.declared.party.PartyState.{PartyState}
 use Rattle.index_core.specs.PartyStates.{machine_stage, machine_footing, party_of, resting, turning_of, state_after, idle_states}
 use Rattle.index_core.specs.Crashes.{evicted_index}
-use Rattle.index_core.specs.Indexes.{Index, footed, layered, world, told, stepped_index, IsIndex, parties_of}
+use Rattle.index_core.specs.Indexes.{Index, footed, layered, world, told, stepped_index, parties_of}
 use Rattle.index_core.proofs.Footings.{line_of, debt_of}
-use Rattle.index_core.proofs.Lists.{map_there, map_from, map_set, set_twice, there_is, idle-length, idle-each}
+use Rattle.index_core.proofs.Lists.{map_there, map_from, map_set, there_is, idle-length, idle-each}
 
 abbrev pub turn_of : PartyState → Turning
 turn_of state = turning_of state.turn

@@ -9,7 +9,7 @@ use Rattle.pm_words.specs.declared.machine.Turn.TheVariants.{Go, Done}
 use Rattle.pm_words.specs.Turns.{GoesBelow}
 use Rattle.pm_words.specs.Rows.{acted}
 use Rattle.cat_key.specs.Names.{IsName}
-use Rattle.cat_history.specs.Maps.{at, map_of}
+use Rattle.cat_history.specs.Maps.{map_of}
 use Rattle.cat_history.specs.declared.op.NameOp.{NameOp}
 use Rattle.call_stages.specs.declared.once.Once.{Once}
 use Rattle.call_stages.specs.declared.once.Once.TheVariants as once

@@ -1,12 +1,12 @@
 -- What the code of a turn of the updater has in hand.
-use Rattle.std.proofs.Common.{◌≡◌, ℕ, ◌+◌, ◌-◌, ◌<◌, ◌≤◌, List, get_or, set, refl, sym, ap, ◌∙◌, subst, arith}
-use Rattle.std.specs.Prelude.{Option, Some, None, IfSome, IsSome, IsSomeAnd}
+use Rattle.std.proofs.Common.{◌≡◌, ℕ, List, get_or, set, sym, ap, ◌∙◌, subst, arith}
+use Rattle.std.specs.Prelude.{Option, Some, IfSome}
 use mathlib.Core.Option.{some}
 use lib.ListN.{get_elem?}
 use Rattle.pm_words.specs.Images.{Row}
-use Rattle.pm_words.specs.Rows.{acted, got}
+use Rattle.pm_words.specs.Rows.{acted}
 use Rattle.updater.specs.declared.making.MakeTurn.{MakeTurn}
-use Rattle.updater.specs.Makings.{IsMaking, making_from, making_asks, making_turned, making_takes}
+use Rattle.updater.specs.Makings.{IsMaking, making_from, making_asks, making_turned}
 use Rattle.index_core.specs.declared.party.PartyState.{PartyState}
 use Rattle.index_core.specs.PartyStates.{owed, state_turned, IsTurnOf}
 use Rattle.index_core.specs.Indexes.{Index, IsIndex, IsTurning}

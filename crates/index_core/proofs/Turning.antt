@@ -1,6 +1,6 @@
 -- Each step of a turn of the updater keeps the index.
-use Rattle.std.proofs.Common.{◌≡◌, ◌≢◌, ℕ, zero, suc, ◌+◌, ◌/◌, ◌<◌, ◌≤◌, ◌^◌, ◌⊎◌, inl, inr, ⊎_elim, List, [], ◌∷◌, set, map, refl, sym, ap, ◌∙◌, subst, arith}
-use Rattle.std.specs.Prelude.{Option, Some, None, IfSome, true}
+use Rattle.std.proofs.Common.{◌≡◌, ◌≢◌, ℕ, ◌+◌, ◌/◌, ◌<◌, ◌≤◌, ◌^◌, inl, inr, ⊎_elim, List, [], ◌∷◌, set, map, refl, sym, ap, ◌∙◌, subst, arith}
+use Rattle.std.specs.Prelude.{Option, Some, IfSome, true}
 use Rattle.std.proofs.lemmas.Option.{IfSome_then}
 use mathlib.Core.Option.{some}
 use lib.ListN.{get_elem?, length-set}
@@ -8,54 +8,40 @@ use Rattle.pm_words.specs.declared.layout.Layout.{Layout}
 use Rattle.pm_words.specs.declared.action.Action.{Action}
 use Rattle.pm_words.specs.declared.machine.Turn.{Turn}
 use Rattle.pm_words.specs.declared.machine.Turn.TheVariants.{Go, Done}
-use Rattle.pm_words.specs.Locations.{Cached}
-use Rattle.pm_words.specs.Rows.{CanAct, acted, got}
-use Rattle.cat_history.specs.declared.op.Write.{Write}
-use Rattle.call_stages.specs.Kinds.{gone_status, free_status, Told}
+use Rattle.pm_words.specs.Rows.{CanAct, acted}
+use Rattle.call_stages.specs.Kinds.{gone_status, free_status}
 use Rattle.call_stages.specs.Leaving.{leaves_lines}
-use Rattle.call_stages.specs.Lines.{HeldLine}
-use Rattle.call_stages.specs.Prevs.{Debt}
-use Rattle.call_stages.specs.Stages.{Stage, Idle, Saw, Wears, Holds, Eyes, Splits, Leaves, Meets, Joins, Gathered, Joined, Gone}
+use Rattle.call_stages.specs.Stages.{Stage, Idle, Saw, Wears, Holds, Eyes, Splits, Leaves, Meets, Joins}
 use Rattle.call_stages.specs.Watches.{Nothing}
-use Rattle.data_node.specs.Lists.{ListNode}
 use Rattle.node_ops.specs.declared.running.Running.{Running}
 use Rattle.index_law.specs.Facts.{Facts}
-use Rattle.index_law.specs.Lines.{AreFit}
 use Rattle.index_law.specs.Worlds.{Party, World, facts}
 use Rattle.index_law.specs.Weights.{gone_weight, index_weight, lowered_in, lowered_sum, weight_sum}
 use Rattle.index_law.proofs.Weights.{gone_less}
 use Rattle.index_law.proofs.Parties.{at_set, set_here}
-use Rattle.turn_law.specs.Covers.{ready_state}
-use Rattle.turn_law.specs.Facts.{TurnTerms, TurnFacts}
-use Rattle.turn_law.specs.Lawful.{SureTurn}
-use Rattle.turn_row.specs.Columns.{RowTerms, line_field}
-use Rattle.turn_row.specs.RowStages.{RowStage, Resting, Reads, reading_stage, turn_stage}
-use Rattle.turn_row.specs.Columns as columns
+use Rattle.turn_row.specs.Columns.{RowTerms}
+use Rattle.turn_row.specs.RowStages.{Resting}
 use Rattle.turn_row.specs.Turnings.{Turning, TurnFoot}
 use Rattle.updater.specs.declared.making.MakeTurn.{MakeTurn}
 use Rattle.updater.specs.declared.making.MakeTurn.TheVariants.{Taking, Working}
 use Rattle.updater.specs.declared.making.TurnReply.{TurnReply}
 use Rattle.updater.specs.declared.terms.Terms.{Terms}
-use Rattle.updater.specs.declared.work.Work.{Work}
-use Rattle.updater.specs.declared.work.WorkAt.{WorkAt}
-use Rattle.updater.specs.declared.work.WorkAt.TheVariants as at
-use Rattle.updater.specs.Steps.{row_terms, work_at_stage}
+use Rattle.updater.specs.Steps.{row_terms}
 use Rattle.updater.specs.Watches.{turning_at}
-use Rattle.updater.specs.Works.{IsWork, work_asks, ToldOfLine}
 use Rattle.updater.specs.Makings.{IsMaking, making_terms, making_asks, making_turned, making_takes, making_turning, turning_made, MakingStays, making_from}
 use Rattle.updater.proofs.MakingLaw.{makings_stay_sound, makings_are_feet}
 use Rattle.lone_turn.specs.Laws.{terms_in}
 use Rattle.lone_turn.proofs.Acting.{turns_act}
 use Rattle.lone_turn.proofs.Told.{told_any}
-use Rattle.layer_law.specs.Turnings.{terms_of, AreRestingBut}
-use Rattle.layer_law.specs.Layers.{Layered, IsLayered, turn_facts}
+use Rattle.layer_law.specs.Turnings.{terms_of}
+use Rattle.layer_law.specs.Layers.{IsLayered}
 use Rattle.layer_law.specs.Laws.{turned, LeavesNodes}
-use Rattle.layer_law.proofs.TurnSteps.{others_rest, turn_step_keeps, turn_step_leaves}
+use Rattle.layer_law.proofs.TurnSteps.{turn_step_keeps, turn_step_leaves}
 use Rattle.layer_law.proofs.TurnRests.{turn_start_keeps}
 use Rattle.index_core.specs.declared.party.PartyState.{PartyState}
-use Rattle.index_core.specs.PartyStates.{party_of, resting, turning_of, turn_after, IsTurnOf, IsPartyState}
-use Rattle.index_core.specs.Indexes.{Index, IsOwnWrite, IsIndex, RunningEnds, world, footed, layered}
-use Rattle.index_core.specs.Turns.{turn_begun, turn_told, turned_index, TurnLaw, TurnKeeps, TurnBegins}
+use Rattle.index_core.specs.PartyStates.{party_of, resting, turning_of, turn_after, IsTurnOf}
+use Rattle.index_core.specs.Indexes.{Index, IsIndex, RunningEnds, world, footed, layered}
+use Rattle.index_core.specs.Turns.{turn_told, turned_index, TurnLaw, TurnKeeps, TurnBegins}
 use Rattle.index_core.proofs.Footings.{line_of, debt_of}
 use Rattle.index_core.proofs.Layering.{turn_of, map_own}
 use Rattle.index_core.proofs.Lists.{map_there, map_set, set_twice}

@@ -7,7 +7,7 @@ use Rattle.updater.specs.declared.making.MakeTurn.{MakeTurn}
 use Rattle.updater.specs.Makings.{IsMaking, making_asks, making_takes, making_turned, making_left}
 use Rattle.index_core.specs.declared.party.PartyState.{PartyState}
 use Rattle.index_core.specs.PartyStates.{owed, state_turned, turn_after, turn_reply}
-use Rattle.index_core.specs.Cores.{index_with, index_of}
+use Rattle.index_core.specs.Cores.{index_with}
 use Rattle.index_core.specs.Indexes.{Index, IsIndex}
 use Rattle.index_core.specs.Turns.{turn_told, turned_index, KeepsNodes}
 use Rattle.index_core.proofs.Lists.{within, read_is}

@@ -1,4 +1,4 @@
-use Rattle.std.proofs.Common.{refl, sym, ◌∙◌}
+use Rattle.std.proofs.Common.{refl}
 use Rattle.index_core.proofs.Busy.{quiet_is_idle}
 use Rattle.index_core.proofs.Tries.{lone_start, lone_flies, lone_goes, lone_tries, lone_quiet, lone_locks, lone_each, spare_left}
 use Rattle.index_core.proofs.index.Core.try_alone.Goals as goal
