@@ -184,12 +184,12 @@ pub evict_layered : (s : Index) (word : ℕ) → IsLayered (layered s) → word 
 evict_layered s word is within = eviction_keeps_layer (layered s) word is within
 
 -- Parties of which no turn is in flight.
-rest_turns : (states : List PartyState) → ((i : ℕ) (e : PartyState) → get_elem? states i ≡ some e → e.turn ≡ None) → (j : ℕ) (u : Turning) → get_elem? (map turn_of states) j ≡ some u → u ≡ resting
+pub rest_turns : (states : List PartyState) → ((i : ℕ) (e : PartyState) → get_elem? states i ≡ some e → e.turn ≡ None) → (j : ℕ) (u : Turning) → get_elem? (map turn_of states) j ≡ some u → u ≡ resting
 rest_turns states none j u at =
     let from = map_from turn_of states j u at in
     sym from.2 ∙ ap turning_of (none j from.0 from.1)
 
-at_rest : (u : Turning) → u ≡ resting → IsAtRest u
+pub at_rest : (u : Turning) → u ≡ resting → IsAtRest u
 at_rest u is = subst IsAtRest (sym is) (record { stage = refl; stamp = λ no. omega arith; watch = refl })
 
 first_turn : (states : List PartyState) → 0 < length states → (u : Turning) × (get_elem? (map turn_of states) 0 ≡ some u)

@@ -33,3 +33,4 @@ pub mod Layering
 pub mod Busy
 pub mod Turning
 pub mod TurnReading
+pub mod LoneTurning

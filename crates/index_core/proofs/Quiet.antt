@@ -28,7 +28,7 @@ quiet_parties s quiet i p at =
     subst (λ (q : Party). q.stage ≡ Idle) from.2 (ap machine_stage (quiet.calls i from.0 from.1))
 
 -- and no log line is in a hand, so each is EMPTY, since splits and merges empty theirs, and no caller lacks one
-quiet_lines : (s : Index) → IsQuiet s → (i : ℕ) (e : Option HeldLine) → get_elem? (footed s).lines i ≡ some e → e ≡ None
+pub quiet_lines : (s : Index) → IsQuiet s → (i : ℕ) (e : Option HeldLine) → get_elem? (footed s).lines i ≡ some e → e ≡ None
 quiet_lines s quiet i e at =
     let from = map_from (λ (state : PartyState). (machine_footing state.machine).line) s.states i e at in
     sym from.2 ∙ ap (λ (machine : Option Running). (machine_footing machine).line) (quiet.calls i from.0 from.1)

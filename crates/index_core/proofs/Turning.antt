@@ -34,7 +34,7 @@ use Rattle.lone_turn.specs.Laws.{terms_in}
 use Rattle.lone_turn.proofs.Acting.{turns_act}
 use Rattle.lone_turn.proofs.Told.{told_any}
 use Rattle.layer_law.specs.Turnings.{terms_of}
-use Rattle.layer_law.specs.Layers.{IsLayered}
+use Rattle.layer_law.specs.Layers.{Layered, IsLayered}
 use Rattle.layer_law.specs.Laws.{turned, LeavesNodes}
 use Rattle.layer_law.proofs.TurnSteps.{turn_step_keeps, turn_step_leaves}
 use Rattle.layer_law.proofs.TurnRests.{turn_start_keeps}
@@ -65,20 +65,24 @@ module _ (s : Index) (i : ℕ) (state : PartyState) (turn : Option MakeTurn) (th
   pub debts_same : map debt_of states ≡ map debt_of s.states
   debts_same = map_own debt_of s.states i state now there refl
 
+  -- with its search layer
+  pub layered_is : (words : List ℕ) → Path Layered (record { whole = record (footed s) { world = record (world s) { words = words } }; turns = set (layered s).turns i (turning_of turn) }) (layered (record s { words = words; states = states }))
+  layered_is words = λ k. record {
+    whole = record {
+      world = record (world s) { words = words; parties = sym parties_same k };
+      lines = sym lines_same k;
+      debts = sym debts_same k;
+    };
+    turns = sym (map_set turn_of s.states i now) k;
+  }
+
   -- an index with these words is one with this turn
   pub with_turn : (words : List ℕ) → IsIndex s → (leaves_lines ≡ true → IsLayered (record { whole = record (footed s) { world = record (world s) { words = words } }; turns = set (layered s).turns i (turning_of turn) })) → leaves_lines ≡ true
       → LeavesNodes (facts (world s)) (facts (record (world s) { words = words })) → IfSome turn (IsTurnOf s.layout s.generation) → IsIndex (record s { words = words; states = states })
   with_turn words is law on leaves own_turn =
       let own = is.states i state there in
       let after : IsLayered (layered (record s { words = words; states = states })) =
-      subst IsLayered (λ k. record {
-        whole = record {
-          world = record (world s) { words = words; parties = sym parties_same k };
-          lines = sym lines_same k;
-          debts = sym debts_same k;
-        };
-        turns = sym (map_set turn_of s.states i now) k;
-      }) (law on) in
+      subst IsLayered (layered_is words) (law on) in
       record {
         lawful = after.whole.joint.lawful;
         whole = after.whole;

@@ -8,12 +8,14 @@ use Rattle.call_stages.specs.Leaving.{leaves_lines}
 use Rattle.index_law.specs.Worlds.{facts}
 use Rattle.index_law.specs.Weights.{weight_sum}
 use Rattle.layer_law.specs.Laws.{LeavesNodes}
+use Rattle.lone_turn.specs.LoneTurns.{IsLoneTurn}
 use Rattle.updater.specs.declared.making.MakeTurn.{MakeTurn}
 use Rattle.updater.specs.declared.making.TurnReply.{TurnReply}
+use Rattle.updater.specs.declared.terms.Turned.{Turned}
 use Rattle.updater.specs.Makings.{making_from, making_asks, making_turned, making_takes, making_left}
 use Rattle.index_core.specs.declared.party.PartyState.{PartyState}
 use Rattle.index_core.specs.PartyStates.{turn_reply, state_turned}
-use Rattle.index_core.specs.Indexes.{Index, IsIndex, world}
+use Rattle.index_core.specs.Indexes.{Index, IsIndex, world, layered}
 
 -- The index once the party has begun a turn with this stamp and release.
 abbrev pub turn_begun : Index → ℕ → PartyState → ℕ → ℕ → Index
@@ -72,3 +74,9 @@ abbrev pub TurnBegins : Type 0
 TurnBegins = (s : Index) (party : ℕ) (state : PartyState) (stamp release : ℕ) → leaves_lines ≡ true → IsIndex s →
     get_elem? s.states party ≡ some state → state.turn ≡ None → 1 ≤ stamp → stamp < 2 ^ 64 →
     IsIndex (turn_begun s party state stamp release)
+
+-- A whole turn by the party with nothing else in flight: what it answers and leaves is told by `IsLoneTurn`, and beside
+-- words nothing has changed.
+pub record TurnsAlone (old : Index) (stamp release : ℕ) (answer : Turned) (new : Index) : Type 0 where
+  pub lone : IsLoneTurn (layered old) stamp release answer (layered new)
+  pub is : new ≡ record old { words = new.words }

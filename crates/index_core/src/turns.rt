@@ -3,13 +3,14 @@
 ghost use Rattle.std.specs.Prelude.{◌≡◌, ◌+◌, ◌≤◌, ◌↔◌, IsErr, OnErr, OnOk, true};
 ghost use Rattle.call_stages.specs.Leaving.{leaves_lines};
 ghost use Rattle.index_core.specs.Indexes.{IsBusy, IsIndex, IsTurning};
-ghost use Rattle.index_core.specs.Turns.{StartsTurn, TurnSteps};
+ghost use Rattle.index_core.specs.Lone.{IsQuiet};
+ghost use Rattle.index_core.specs.Turns.{StartsTurn, TurnSteps, TurnsAlone};
 
 use crate::index::Core;
 use crate::party::InFlight;
 use pm_words::{Machine, Steps};
 use std::sync::ledger::Ledger;
-use updater::{MakeTurn, TurnReply};
+use updater::{MakeTurn, TurnReply, Turned};
 
 impl Core {
     /// Begins a turn of the updater by the party, which gives merged nodes this stamp, and makes those FREE whose stamp is
@@ -22,6 +23,7 @@ impl Core {
         ensures in_flight { IsErr result ↔ IsBusy self.old party }
         ensures err { OnErr result (self.new ≡ self.old) }
         ensures started { OnOk result (StartsTurn self.old party stamp release self.new) }
+        ensures before { IsIndex self.old }
         ensures index { IsIndex self.new }
     {
         let at = party as usize;
@@ -31,6 +33,37 @@ impl Core {
         let making = MakeTurn::new(self.memory.layout(), self.generation, stamp, release);
         self.states[at].turn = Some(making);
         Ok(())
+    }
+
+    /// A whole turn of the updater by the party, with nothing else in flight. It leaves every log line EMPTY, the search
+    /// layer with the anchors of the listed nodes alone, and each GONE node FREE that isn't worn and whose stamp is at most
+    /// `release`, where one that had no stamp has got this one. The map, the list and the history stay.
+    pub fn turn_alone<L: Ledger>(
+        &mut self,
+        party: u64,
+        stamp: u64,
+        release: u64,
+        steps: &mut Steps<L>,
+    ) -> Turned
+        requires party { party ≤ self.old.layout.callers }
+        requires leaves { leaves_lines ≡ true }
+        requires stamp { 1 ≤ stamp }
+        requires quiet { IsQuiet self.old }
+        ensures turns { TurnsAlone self.old stamp release result self.new }
+        ensures quiet { IsQuiet self.new }
+        ensures index { IsIndex self.new }
+    {
+        let Ok(()) = self.start_turn(party, stamp, release) else {
+            unreachable!()
+        };
+        'steps: loop {
+            if let Some(reply) = self.step_turn(party, steps) {
+                let TurnReply::Turned(turned) = reply else {
+                    unreachable!()
+                };
+                return turned;
+            }
+        }
     }
 
     /// Takes one step of the party's turn of the updater, one action on one word, counted in `steps` as one event. Returns

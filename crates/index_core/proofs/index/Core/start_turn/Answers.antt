@@ -96,5 +96,11 @@ returns-clause-started c =
       is = begun_is c s _ refl owing ∙ ap (λ (v : Index). turn_begun v i e.0 c.args.stamp c.args.release) c.self.view_is;
     }
 
+pub returns-then-is_busy-clause-before : goal.returns-then-is_busy-clause-before
+returns-then-is_busy-clause-before c = subst IsIndex c.self.view_is (respare _ _ c.self.invariant.0)
+
+pub returns-clause-before : goal.returns-clause-before
+returns-clause-before c = subst IsIndex c.self.view_is (respare _ _ c.self.invariant.0)
+
 pub returns-clause-index : goal.returns-clause-index
 returns-clause-index c = respare _ _ (invariant_of-self c).0
