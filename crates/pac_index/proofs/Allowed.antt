@@ -70,6 +70,15 @@ grown about states h e now o u apart f = record {
   own = others_keep u.state.caller e.caller e.index h o apart ∙ f.own;
 }
 
+-- and is kept where the history stays
+pub stayed : (about : About) (states : List PartyState) (h : List Write) (c : ℕ) (now : PartyState) (u : Member) → c ≢ u.state.caller → Fits about states h u → Fits about (set states c now) h u
+stayed about states h c now u apart f = record {
+  same = f.same;
+  there = set_else states c u.state.caller now (λ same. apart (sym same)) ∙ f.there;
+  seen = f.seen;
+  own = f.own;
+}
+
 -- two parties of two seats have two numbers
 apart : (n : ℕ) (views : List (List Member)) (i j : ℕ) (v u : Member) (view : List Member) (k : ℕ) → times_in_all n views ≤ 1 → v.state.caller ≡ n → get_elem? views i ≡ some (v ∷ []) → j ≢ i → get_elem? views j ≡ some view → get_elem? view k ≡ some u
     → n ≢ u.state.caller
@@ -78,6 +87,27 @@ apart n views i j v u view k once mine at other there here same =
     let one = times_there n (v ∷ []) 0 v refl mine in
     let more = times_there n view k u here (sym same) in
     omega arith
+
+-- One party steps: its state, what it knows and the words are others then, and of the rest no more than that the history
+-- has grown.
+pub moved : (about : About) (id : ℕ) (v w : Member) (words : List ℕ) (history : List Write) (s : State (Unit {0}) (List Member)) (kept : Kept about s) → get_elem? s.views id ≡ some (v ∷ []) → w.state.caller ≡ v.state.caller
+    → IsIndex (index_of about words (set kept.states v.state.caller w.state) history) → Fits about (set kept.states v.state.caller w.state) history w
+    → ((u : Member) → v.state.caller ≢ u.state.caller → Fits about kept.states kept.history u → Fits about (set kept.states v.state.caller w.state) history u)
+    → weight_sum (world (index_of about words (set kept.states v.state.caller w.state) history)) + (v.added + showing v.state.machine) ≤ weight_sum (world (index_of about s.words kept.states kept.history)) + (w.added + showing w.state.machine)
+    → Kept about (record { words = words; homes = s.homes; views = set s.views id (w ∷ []) })
+moved about id v w words history s kept at caller index fit others weighs =
+    let states = set kept.states v.state.caller w.state in
+    record {
+      states = states;
+      history = history;
+      index = index;
+      fits = λ j view there. ⊎_elim
+          (λ (t : (j ≡ id) × (w ∷ [] ≡ view)). subst (AllFit about states history) t.1 (alone (Fits about states history) w fit))
+          (λ (t : (j ≢ id) × (get_elem? s.views j ≡ some view)) k u here. others u (apart v.state.caller s.views id j v u view k (kept.once v.state.caller) refl at t.0 t.1 here) (kept.fits j view t.1 k u here))
+          (at_set s.views id j (w ∷ []) view there);
+      once = λ number. let moved = times_set number s.views id (v ∷ []) (w ∷ []) at in let before = kept.once number in let alike = ap (λ (k : ℕ). times_in number (record w { state = record w.state { caller = k } } ∷ [])) caller in omega arith;
+      weight = let after = added_set s.views id (v ∷ []) (w ∷ []) at in let before = kept.weight in omega arith;
+    }
 
 -- what a step of the party's machine leaves
 record Stepped (about : About) (s : State (Unit {0}) (List Member)) (id : ℕ) (v : Member) (m : Running) (words : List ℕ) (x : ℕ) : Type 0 where
@@ -108,33 +138,19 @@ module _ (about : About) (id : ℕ) (v : Member) (m : Running) (f : ℕ → ℕ)
       let change = same n fits step.can.1 in
       let path : Path Index (stepped_index old c v.state m 0) (index_of about words' states' (h ++ more)) =
       λ k. record { layout = about.layout; generation = about.generation; words = set s.words place (sym change k); states = states'; base = about.base; history = h ++ more; spare = 0 } in
-      let index' = subst IsIndex path step.kept in
       let caller = after_caller v.state turn in
       let there' : get_elem? states' now.caller ≡ some now = ap (get_elem? states') caller ∙ set_here kept.states c now v.state own.there in
       let placed : placed_by c (h ++ more) ≡ placed_by c h ++ noted x more =
       placed_append c 0 h more ∙ ap (λ (l : List (ℕ × Write)). placed_by c h ++ l) (own_placed c v.state.index (0 + length h) (counted (stage_of m)) ∙ ap (λ (k : ℕ). noted k more) (let z : 0 + length h ≡ length h = omega arith in z)
       ∙ told_place about.layout (length h) x c v.state.index a (counted (stage_of m)) step.counts) in
       let fit : Fits about states' (h ++ more) w = record { same = own.same; there = there'; seen = begins_self (h ++ more); own = refl } in
+      let flies = ap showing is in
+      let heavier = step.weighs in
+      let same_weight = ap (λ (s' : Index). weight_sum (world s')) path in
+      let shows_now = showing_is v.state (op_in m) turn in
       record {
         now = w;
-        kept = record {
-          states = states';
-          history = h ++ more;
-          index = index';
-          fits = λ j view there. ⊎_elim
-              (λ (t : (j ≡ id) × (w ∷ [] ≡ view)). subst (AllFit about states' (h ++ more)) t.1 (alone (Fits about states' (h ++ more)) w fit))
-              (λ (t : (j ≢ id) × (get_elem? s.views j ≡ some view)) k u here. grown about kept.states h v.state now (counted (stage_of m)) u (apart c s.views id j v u view k (kept.once c) refl at t.0 t.1 here) (kept.fits j view t.1 k u here))
-              (at_set s.views id j (w ∷ []) view there);
-          once = λ number. let moved = times_set number s.views id (v ∷ []) (w ∷ []) at in let before = kept.once number in let alike = ap (λ (k : ℕ). times_in number (record w { state = record now { caller = k } } ∷ [])) caller in omega arith;
-          weight =
-              let heavier = step.weighs in
-              let same_weight = ap (λ (s' : Index). weight_sum (world s')) path in
-              let moved = added_set s.views id (v ∷ []) (w ∷ []) at in
-              let flies = ap showing is in
-              let shows_now = showing_is v.state (op_in m) turn in
-              let before = kept.weight in
-              omega arith;
-        };
+        kept = moved about id v w words' (h ++ more) s kept at caller (subst IsIndex path step.kept) fit (λ u apart f. grown about kept.states h v.state now (counted (stage_of m)) u apart f) (omega arith);
         goes = record {
           takes = step.takes;
           about = refl;
@@ -181,7 +197,7 @@ allows about words slots id me m lone is within = (
       ),
 )
 
-set_twice : (l : List (List Member)) (i : ℕ) (a b : List Member) → set (set l i a) i b ≡ set l i b
+pub set_twice : (l : List (List Member)) (i : ℕ) (a b : List Member) → set (set l i a) i b ≡ set l i b
 set_twice [] i a b = refl
 set_twice (x ∷ xs) zero a b = refl
 set_twice (x ∷ xs) (suc i) a b = ap (λ (t : List (List Member)). x ∷ t) (set_twice xs i a b)
@@ -200,27 +216,11 @@ begun about id v c index s kept at idle here =
     let path : Path Index (started_index old i (record v.state { index = index }) c 0) (index_of about s.words (set kept.states i u.state) h) =
     λ k. record { layout = about.layout; generation = about.generation; words = s.words; states = set kept.states i (state_with (record v.state { index = index }) (length h) (machine k)); base = about.base; history = h; spare = 0 } in
     let fit : Fits about (set kept.states i u.state) h u = record { same = own.same; there = set_here kept.states i u.state v.state own.there; seen = own.seen; own = own.own } in
-    record {
-      states = set kept.states i u.state;
-      history = h;
-      index = subst IsIndex path begins.kept;
-      fits = λ j view there. ⊎_elim
-          (λ (t : (j ≡ id) × (u ∷ [] ≡ view)). subst (AllFit about (set kept.states i u.state) h) t.1 (alone (Fits about (set kept.states i u.state) h) u fit))
-          (λ (t : (j ≢ id) × (get_elem? s.views j ≡ some view)) k d found.
-          let f = kept.fits j view t.1 k d found in
-          let other = apart i s.views id j v d view k (kept.once i) refl at t.0 t.1 found in
-          record { same = f.same; there = set_else kept.states i d.state.caller u.state (λ same. other (sym same)) ∙ f.there; seen = f.seen; own = f.own })
-          (at_set s.views id j (u ∷ []) view there);
-      once = λ number. let moved = times_set number s.views id (v ∷ []) (u ∷ []) at in let before = kept.once number in omega arith;
-      weight =
-          let same_weight = ap (λ (s' : Index). weight_sum (world s')) path in
-          let as_before = begins.weighs in
-          let moved = added_set s.views id (v ∷ []) (u ∷ []) at in
-          let was = ap showing idle in
-          let now = ap (λ (q : Running). showing (Some q)) (sym machine) ∙ begins.shows_none in
-          let before = kept.weight in
-          omega arith;
-    }
+    let same_weight = ap (λ (s' : Index). weight_sum (world s')) path in
+    let as_before = begins.weighs in
+    let was = ap showing idle in
+    let now = ap (λ (q : Running). showing (Some q)) (sym machine) ∙ begins.shows_none in
+    moved about id v u s.words h s kept at refl (subst IsIndex path begins.kept) fit (λ d other f. stayed about kept.states h v.state.caller u.state d other f) (omega arith)
 
 -- the same where the step begins the call
 pub allows_first : (about : About) (words slots id : ℕ) (me : Me (Unit {0}) (List Member)) (c : CoreCall) (index : ℕ) → IsLone me → (party me).state.machine ≡ None → IsRunning (machine_in (party me) c)

@@ -1,6 +1,8 @@
 pub mod Lists
 pub mod PartRuns
 pub mod Allowed
+pub mod TurnSteps
+pub mod TurnRunning
 pub mod Running
 pub mod Repeating
 pub mod Scanning

@@ -4,3 +4,4 @@ pub mod Callers
 pub mod Stamps
 pub mod Ends
 pub mod Scanned
+pub mod Turns

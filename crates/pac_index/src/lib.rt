@@ -19,17 +19,18 @@ mod scans;
 mod shared;
 mod stamps;
 mod tried;
+mod turns;
 
 pub use caller::{Caller, PlacedWrite};
 pub use ended::Ended;
 pub use gate::Gate;
 pub use rule::{
-    About, BeginsCall, ByOutcome, FirstStep, JoinAll, Member, Members, NextStep, Outcome, Ruled,
-    SplitFirst,
+    About, BeginsCall, ByOutcome, FirstStep, FirstTurnStep, JoinAll, Member, Members, NextStep,
+    NextTurnStep, Outcome, Ruled, SplitFirst,
 };
 pub use scans::Scanned;
 pub use shared::Shared;
-pub use tried::Tried;
+pub use tried::{Tried, TriedTurn};
 
 #[cfg(test)]
 mod tests;

@@ -101,6 +101,24 @@ impl<C: BeginsCall> Outcome for FirstStep<C> {
     ghost tells = { Starts C.call C.index };
 }
 
+/// The first step of a turn of the updater.
+pub struct FirstTurnStep;
+
+impl Outcome for FirstTurnStep {
+    ghost use Rattle.pac_index.specs.Turns.{StartsTurn};
+
+    ghost tells = { StartsTurn };
+}
+
+/// A step of the turn in flight.
+pub struct NextTurnStep;
+
+impl Outcome for NextTurnStep {
+    ghost use Rattle.pac_index.specs.Turns.{TellsTurn};
+
+    ghost tells = { TellsTurn };
+}
+
 /// The load by which a seat comes that has no party.
 pub struct EmptySeat;
 

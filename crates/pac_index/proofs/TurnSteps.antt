@@ -1,0 +1,148 @@
+-- Each step of a turn keeps the table's rule, by the core's law on a step of a party's turn.
+use Rattle.std.proofs.Common.{◌≡◌, ℕ, ◌+◌, ◌<◌, ◌^◌, List, [], ◌∷◌, ◌++◌, set, refl, sym, ap, ◌∙◌, subst, arith}
+use Rattle.std.specs.Prelude.{Option, Some, None, IfSome, slice_index, true}
+use mathlib.Core.Option.{some}
+use lib.ListN.{get_elem?}
+use Rattle.cat_history.specs.declared.op.Write.{Write}
+use Rattle.pm_words.specs.declared.machine.Turn.{Turn}
+use Rattle.pm_words.specs.declared.machine.Turn.TheVariants.{Go, Done}
+use Rattle.pm_words.specs.Rows.{given, action_address, word_after, CanChange}
+use Rattle.call_stages.specs.Leaving.{leaves_lines}
+use Rattle.updater.specs.declared.making.MakeTurn.{MakeTurn}
+use Rattle.updater.specs.declared.making.TurnReply.{TurnReply}
+use Rattle.updater.specs.Makings.{making_from, making_asks, making_turned}
+use Rattle.index_law.specs.Worlds.{Party}
+use Rattle.index_law.specs.Weights.{weight_sum}
+use Rattle.index_law.proofs.Parties.{set_here}
+use Rattle.index_core.specs.declared.party.PartyState.{PartyState}
+use Rattle.index_core.specs.PartyStates.{party_of, state_turned, turn_after, IsTurnOf}
+use Rattle.index_core.specs.Indexes.{Index, IsIndex, world}
+use Rattle.index_core.specs.Turns.{turn_begun, turned_index}
+use Rattle.index_core.proofs.Lists.{some_same}
+use Rattle.index_core.proofs.Turning.{parties_same, turns_keep, turn_begins}
+use Rattle.atomic_table.specs.Table.{State, Me, keeps}
+use Rattle.pac_index.specs.declared.rule.About.{About}
+use Rattle.pac_index.specs.declared.rule.Member.{Member}
+use Rattle.pac_index.specs.Kept.{index_of, Fits, Kept, May, party, IsLone}
+use Rattle.pac_index.specs.Turns.{turn_in, turning, TurnReady, TurnGoes, TellsTurn, StartsTurn}
+use Rattle.pac_index.proofs.Allowed.{moved, stayed, place_inside, set_twice}
+use Rattle.pac_index.proofs.Lists.{begins_self}
+
+-- A turn in flight of an index is sound, and its next action is on a word of the row.
+ready_after : (about : About) (words : List ℕ) (states : List PartyState) (history : List Write) (c : ℕ) (e : PartyState) (turn : Turn MakeTurn TurnReply) → IsIndex (index_of about words states history) → get_elem? states c ≡ some e → e.turn ≡ turn_after turn → TurnReady about.layout turn
+ready_after about words states history c e (Go next) index there is = (
+  (subst (λ (o : Option MakeTurn). IfSome o (IsTurnOf about.layout about.generation)) is (index.states c e there).turn).sound,
+  place_inside about.layout (making_asks next) (turns_keep (index_of about words states history) c e next index there is).can.0,
+)
+ready_after about words states history c e (Done reply) index there is = tt
+
+-- what a step of the party's turn leaves
+record Turned (about : About) (s : State (Unit {0}) (List Member)) (id : ℕ) (v : Member) (making : MakeTurn) (words : List ℕ) (x : ℕ) : Type 0 where
+  now : Member
+  kept : Kept about (record { words = words; homes = s.homes; views = set s.views id (now ∷ []) })
+  goes : TurnGoes making v x now
+
+module _ (about : About) (id : ℕ) (v : Member) (making : MakeTurn) (f : ℕ → ℕ) (is : v.state.turn ≡ Some making) (same : (n : ℕ) → n < 2 ^ 64 → CanChange (making_asks making) n → f n ≡ word_after (making_asks making) n) where
+  done : (s : State (Unit {0}) (List Member)) → Kept about s → get_elem? s.views id ≡ some (v ∷ []) → slice_index s.words (action_address about.layout (making_asks making)) < 2 ^ 64
+      → Turned about s id v making (set s.words (action_address about.layout (making_asks making)) (f (slice_index s.words (action_address about.layout (making_asks making))))) (given (making_asks making) (slice_index s.words (action_address about.layout (making_asks making))))
+  done s kept at fits =
+      let h = kept.history in
+      let old = index_of about s.words kept.states h in
+      let own = kept.fits id (v ∷ []) at 0 v refl in
+      let c = v.state.caller in
+      let step = turns_keep old c v.state making kept.index own.there is in
+      let place = action_address about.layout (making_asks making) in
+      let n = slice_index s.words place in
+      let x = given (making_asks making) n in
+      let turn = making_turned making x in
+      let now = state_turned v.state turn in
+      let w : Member = record { about = v.about; state = now; seen = h; told = v.told ++ x ∷ []; taken = v.taken + 1; added = v.added } in
+      let words' = set s.words place (f n) in
+      let states' = set kept.states c now in
+      let change = same n fits step.can.1 in
+      let path : Path Index (turned_index old c v.state making) (index_of about words' states' h) =
+      λ k. record { layout = about.layout; generation = about.generation; words = set s.words place (sym change k); states = states'; base = about.base; history = h; spare = 0 } in
+      let index' = subst IsIndex path step.kept in
+      let there' = set_here kept.states c now v.state own.there in
+      let fit : Fits about states' h w = record { same = own.same; there = there'; seen = begins_self h; own = refl } in
+      let no_heavier = step.weighs in
+      let same_weight = ap (λ (s' : Index). weight_sum (world s')) path in
+      record {
+        now = w;
+        kept = moved about id v w words' h s kept at refl index' fit (λ u other. stayed about kept.states h c now u other) (omega arith);
+        goes = record {
+          takes = step.takes;
+          about = refl;
+          state = refl;
+          told = refl;
+          taken = refl;
+          added = refl;
+          seen = own.seen;
+          own = own.own;
+          ready = subst (λ (b : About). TurnReady b.layout turn) (sym own.same) (ready_after about words' states' h c now turn index' there' refl);
+        };
+      }
+
+-- Whatever the table is, the word of the turn's action becomes what the action makes of it.
+pub turn_allows : (about : About) (words slots id : ℕ) (me : Me (Unit {0}) (List Member)) (making : MakeTurn) → IsLone me → (party me).state.turn ≡ Some making → action_address about.layout (making_asks making) < words
+    → May about words slots id me (making_asks making) TellsTurn
+turn_allows about words slots id me making lone is within = (
+  within,
+  λ f told same tells s kept count at fits.
+      let n = slice_index s.words (action_address about.layout (making_asks making)) in
+      let v = party me in
+      let d = done about id v making f is same s kept (at ∙ ap (λ (q : Me (Unit {0}) (List Member)). some q.0) lone) fits in (
+        d.now ∷ [],
+        keeps,
+        tt,
+        d.kept,
+        (λ m' is'.
+            let one : making ≡ m' = some_same (sym is ∙ is') in (
+              ap (λ (q : Me (Unit {0}) (List Member)). (d.now ∷ [], q.1)) lone,
+              subst (λ (m : MakeTurn). TurnGoes m v (given (making_asks m) (told n)) d.now) one (subst (λ (x : ℕ). TurnGoes making v x d.now) (sym (tells n)) d.goes),
+            )),
+      ),
+)
+
+-- the parties and the views once a party has begun its turn
+begun : (about : About) (id : ℕ) (v : Member) (s : State (Unit {0}) (List Member)) (kept : Kept about s) → leaves_lines ≡ true → get_elem? s.views id ≡ some (v ∷ []) → v.state.turn ≡ None
+    → Kept about (record { words = s.words; homes = s.homes; views = set s.views id (turning v ∷ []) })
+begun about id v s kept leaves at rests =
+    let h = kept.history in
+    let old = index_of about s.words kept.states h in
+    let own = kept.fits id (v ∷ []) at 0 v refl in
+    let c = v.state.caller in
+    let u = turning v in
+    let index = turn_begins old c v.state 1 1 leaves kept.index own.there rests (omega arith) (omega arith) in
+    let path : Path Index (turn_begun old c v.state 1 1) (index_of about s.words (set kept.states c u.state) h) =
+    λ k. record { layout = about.layout; generation = about.generation; words = s.words; states = set kept.states c (record v.state { turn = Some (making_from (sym own.same k).layout (sym own.same k).generation 1 1) }); base = about.base; history = h; spare = 0 } in
+    let fit : Fits about (set kept.states c u.state) h u = record { same = own.same; there = set_here kept.states c u.state v.state own.there; seen = own.seen; own = own.own } in
+    let weight = ap (λ (ps : List Party). weight_sum (record (world old) { parties = ps })) (parties_same old c v.state (Some (turn_in v)) own.there) in
+    let same_weight : weight_sum (world (index_of about s.words (set kept.states c u.state) h)) ≡ weight_sum (world old) = weight in
+    moved about id v u s.words h s kept at refl (subst IsIndex path index) fit (λ d other. stayed about kept.states h c u.state d other) (omega arith)
+
+-- the same where the step begins the turn
+pub turn_allows_first : (about : About) (words slots id : ℕ) (me : Me (Unit {0}) (List Member)) → leaves_lines ≡ true → IsLone me → (party me).state.turn ≡ None → action_address about.layout (making_asks (turn_in (party me))) < words
+    → May about words slots id me (making_asks (turn_in (party me))) StartsTurn
+turn_allows_first about words slots id me leaves lone rests within = (
+  within,
+  λ f told same tells s kept count at fits.
+      let v = party me in
+      let making = turn_in v in
+      let at' = at ∙ ap (λ (q : Me (Unit {0}) (List Member)). some q.0) lone in
+      let u = turning v in
+      let s' : State (Unit {0}) (List Member) = record { words = s.words; homes = s.homes; views = set s.views id (u ∷ []) } in
+      let kept' : Kept about s' = begun about id v s kept leaves at' rests in
+      let place = action_address about.layout (making_asks making) in
+      let n = slice_index s.words place in
+      let d = done about id u making f refl same s' kept' (set_here s.views id (u ∷ []) me.0 at) fits in (
+        d.now ∷ [],
+        keeps,
+        tt,
+        subst (λ (l : List (List Member)). Kept about (record { words = set s.words place (f n); homes = s.homes; views = l })) (set_twice s.views id (u ∷ []) (d.now ∷ [])) d.kept,
+        (
+          ap (λ (q : Me (Unit {0}) (List Member)). (d.now ∷ [], q.1)) lone,
+          subst (λ (x : ℕ). TurnGoes making u x d.now) (sym (tells n)) d.goes,
+        ),
+      ),
+)

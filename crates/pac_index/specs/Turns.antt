@@ -1,0 +1,114 @@
+-- Turns of the updater by a seat's party: what each step tells, and what a turn is answered.
+use Rattle.std.specs.Prelude.{◌≡◌, ◌≢◌, ℕ, ◌+◌, ◌<◌, List, [], ◌∷◌, ◌++◌, length, Option, Some, None}
+use Rattle.pm_words.specs.declared.layout.Layout.{Layout}
+use Rattle.pm_words.specs.declared.machine.Turn.{Turn}
+use Rattle.pm_words.specs.declared.machine.Turn.TheVariants.{Go, Done}
+use Rattle.pm_words.specs.Locations.{row_words}
+use Rattle.pm_words.specs.Rows.{given, action_address}
+use Rattle.updater.specs.declared.making.MakeTurn.{MakeTurn}
+use Rattle.updater.specs.declared.making.MakeTurn.TheVariants.{Taking, Working}
+use Rattle.updater.specs.declared.making.TurnReply.{TurnReply}
+use Rattle.updater.specs.declared.making.TurnReply.TheVariants as reply
+use Rattle.updater.specs.Takings.{untaken}
+use Rattle.updater.specs.Makings.{IsMaking, making_from, making_asks, making_turned, making_takes, making_left}
+use Rattle.split_merge.specs.Advances.{AdvancesTo, turn_of}
+use Rattle.index_core.specs.PartyStates.{state_turned}
+use Rattle.atomic_table.specs.Table.{Me}
+use Rattle.pac_index.specs.declared.rule.Member.{Member}
+use Rattle.pac_index.specs.declared.tried.TriedTurn.{TriedTurn}
+use Rattle.pac_index.specs.declared.tried.TriedTurn.TheVariants as tried
+use Rattle.pac_index.specs.Kept.{Begins, placed_by, party, IsLone}
+use Rattle.pac_index.specs.Calls.{run_of}
+
+-- The turn of a party, before its first action: it gives merged nodes the stamp 1, and makes those FREE that have it.
+abbrev pub turn_in : Member → MakeTurn
+turn_in v = making_from v.about.layout v.about.generation 1 1
+
+-- The party once it has begun its turn.
+abbrev pub turning : Member → Member
+turning v = record v { state = record v.state { turn = Some (turn_in v) }; told = [] }
+
+-- Where it goes on, its fields keep their law, and its next action is on a word of the row.
+abbrev pub TurnReady : Layout → Turn MakeTurn TurnReply → Type 0
+TurnReady l (Go making) = IsMaking making × (action_address l (making_asks making) < row_words l)
+TurnReady l (Done answer) = Unit {0}
+
+-- What a step of a party's turn, which is told this number, leaves and shows.
+pub record TurnGoes (making : MakeTurn) (v : Member) (x : ℕ) (w : Member) : Type 0 where
+  pub takes : making_takes making x
+  pub about : w.about ≡ v.about
+  pub state : w.state ≡ state_turned v.state (making_turned making x)
+  pub told : w.told ≡ v.told ++ x ∷ []
+  pub taken : w.taken ≡ v.taken + 1
+  pub added : w.added ≡ v.added
+  pub seen : Begins v.seen w.seen
+  pub own : placed_by v.state.caller w.seen ≡ placed_by v.state.caller v.seen
+  pub ready : TurnReady v.about.layout (making_turned making x)
+
+-- A step of the turn that is in flight.
+abbrev pub TellsTurn : Me (Unit {0}) (List Member) → ℕ → Me (Unit {0}) (List Member) → Type 0
+TellsTurn me found after = (making : MakeTurn) → (party me).state.turn ≡ Some making → IsLone after ×
+    TurnGoes making (party me) (given (making_asks making) found) (party after)
+
+-- The first step of a turn.
+abbrev pub StartsTurn : Me (Unit {0}) (List Member) → ℕ → Me (Unit {0}) (List Member) → Type 0
+StartsTurn me found after = IsLone after ×
+    TurnGoes (turn_in (party me)) (turning (party me)) (given (making_asks (turn_in (party me))) found) (party after)
+
+-- The first number that a turn is told is what its exchange found at the updater lock: no party's word where it was
+-- done, and where it was refused another, which it answers and with which it ended.
+abbrev pub FoundLock : List ℕ → TurnReply → Type 0
+FoundLock told (reply.Turned turned) = (rest : List ℕ) × (told ≡ untaken ∷ rest)
+FoundLock told (reply.Held word) = (told ≡ word ∷ []) × (word ≢ untaken)
+
+-- A turn that goes on has taken the lock, which no party had.
+abbrev pub IsUnderLock : MakeTurn → Type 0
+IsUnderLock (Taking terms) = ⊥
+IsUnderLock (Working work) = Unit {0}
+
+abbrev pub HasLock : List ℕ → Turn MakeTurn TurnReply → Type 0
+HasLock told (Go making) = IsUnderLock making × ((rest : List ℕ) × (told ≡ untaken ∷ rest))
+HasLock told (Done answer) = FoundLock told answer
+
+-- How far a turn is: it places no write.
+pub record TurnRuns (old : Member) (turn : Turn MakeTurn TurnReply) (new : Member) : Type 0 where
+  pub about : new.about ≡ old.about
+  pub state : new.state ≡ state_turned old.state turn
+  pub ran : run_of making_turned (Go (turn_in old)) new.told ≡ turn
+  pub lock : HasLock new.told turn
+  pub taken : new.taken ≡ old.taken + length new.told
+  pub added : new.added ≡ old.added
+  pub seen : Begins old.seen new.seen
+  pub own : placed_by old.state.caller new.seen ≡ placed_by old.state.caller old.seen
+  pub ready : TurnReady old.about.layout turn
+
+-- What a turn is answered: what its machine ends with on the numbers that its steps on the table gave, of which the
+-- caller's count of steps tells how many there were. The caller has seen a longer history, with no more writes of its
+-- own, and has counted no call.
+pub record TurnAnswers (old : Member) (answer : TurnReply) (new : Member) : Type 0 where
+  pub about : new.about ≡ old.about
+  pub state : new.state ≡ record old.state { turn = None }
+  pub ran : run_of making_turned (Go (turn_in old)) new.told ≡ Done answer
+  pub lock : FoundLock new.told answer
+  pub taken : new.taken ≡ old.taken + length new.told
+  pub added : new.added ≡ old.added
+  pub seen : Begins old.seen new.seen
+  pub own : placed_by old.state.caller new.seen ≡ placed_by old.state.caller old.seen
+
+-- The try was answered, so that its caller wasn't cut, and this holds of the answer.
+abbrev pub IsTold : TriedTurn → (TurnReply → Type 0) → Type 0
+IsTold (tried.Turned turned) holds = holds (reply.Turned turned)
+IsTold (tried.Held word) holds = holds (reply.Held word)
+IsTold tried.Cut holds = ⊥
+
+-- For how many actions a turn may go on.
+abbrev pub actions_left : Turn MakeTurn TurnReply → ℕ
+actions_left (Go making) = making_left making + 1
+actions_left (Done answer) = 0
+
+-- A step of the turn in flight leaves it so, or it was answered.
+pub record TurnStepsOn (making : MakeTurn) (v w : Member) (next : MakeTurn) (answer : Option TurnReply) : Type 0 where
+  pub told : ℕ
+  pub goes : TurnGoes making v told w
+  pub turned : AdvancesTo (making_turned making told) next answer
+  pub fewer : actions_left (turn_of next answer) < actions_left (Go making)

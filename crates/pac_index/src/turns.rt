@@ -1,0 +1,129 @@
+//! Turns of the updater beside calls.
+
+ghost use Rattle.std.specs.Prelude.{◌≡◌, None, Some, true};
+ghost use Rattle.pm_words.specs.declared.machine.Turn.TheVariants.{Go};
+ghost use Rattle.call_stages.specs.Leaving.{leaves_lines};
+ghost use Rattle.split_merge.specs.Advances.{turn_of};
+ghost use Rattle.updater.specs.Makings.{IsMaking};
+ghost use Rattle.pac_index.specs.Kept.{IsLone, party};
+ghost use Rattle.pac_index.specs.Callers.{IsCallerOf, seen_by};
+ghost use Rattle.pac_index.specs.Turns.{IsTold, TurnAnswers, TurnReady, TurnRuns, TurnStepsOn, turn_in};
+
+use crate::caller::Caller;
+use crate::gate::{Gate, OpenGate};
+use crate::rule::{FirstTurnStep, Members, NextTurnStep};
+use crate::shared::Shared;
+use crate::tried::TriedTurn;
+use atomic_table::Seat;
+use pm_words::Machine;
+use updater::{MakeTurn, TurnReply};
+
+impl Shared {
+    /// One try of a turn of the updater by its caller, the last one, beside the calls of the others: it takes the READY log
+    /// lines to the search layer and empties them, and makes merged nodes FREE. `Held` comes exactly where its first
+    /// action finds the updater lock taken. It places no write and counts no call. Turns are for an index whose splits and
+    /// merges leave their log lines to them.
+    pub fn turn_once(&self, caller: &mut Caller) -> TriedTurn
+        requires caller { IsCallerOf self.now caller.old }
+        requires updater { caller.old.number ≡ self.now.about.layout.callers }
+        requires leaves { leaves_lines ≡ true }
+        ensures caller { IsCallerOf self.now caller.new }
+        ensures same { (caller.new.number ≡ caller.old.number) × (caller.new.index ≡ caller.old.index) ×
+            (caller.new.kept ≡ caller.old.kept) }
+        ensures told { IsTold result (λ answer. TurnAnswers (seen_by caller.old) answer (seen_by caller.new)) }
+    {
+        self.try_turn(caller, &OpenGate)
+    }
+
+    /// One try of a turn, with the gate before its first step and between its steps.
+    pub(crate) fn try_turn<G: Gate>(&self, caller: &mut Caller, gate: &G) -> TriedTurn
+        requires caller { IsCallerOf self.now caller.old }
+        requires leaves { leaves_lines ≡ true }
+        ensures caller { IsCallerOf self.now caller.new }
+        ensures same { (caller.new.number ≡ caller.old.number) × (caller.new.index ≡ caller.old.index) ×
+            (caller.new.kept ≡ caller.old.kept) }
+        ensures told { IsTold result (λ answer. TurnAnswers (seen_by caller.old) answer (seen_by caller.new)) }
+    {
+        match self.run_turn(&mut caller.seat, caller.number, caller.index, gate) {
+            TurnReply::Turned(turned) => TriedTurn::Turned { turned },
+            TurnReply::Held { word } => TriedTurn::Held { word },
+        }
+    }
+
+    /// A turn by the seat's party, from its first step to its answer, with the gate before each step.
+    fn run_turn<G: Gate>(
+        &self,
+        seat: &mut Seat<(), Members>,
+        number: u64,
+        index: u64,
+        gate: &G,
+    ) -> TurnReply
+        requires table { seat.old.table_id ≡ self.now.table.shared.table_id }
+        requires leaves { leaves_lines ≡ true }
+        requires lone { IsLone seat.old.me }
+        requires about { (party seat.old.me).about ≡ self.now.about }
+        requires resting { (party seat.old.me).state.turn ≡ None }
+        ensures seat { (seat.new.table_id ≡ seat.old.table_id) × (seat.new.id ≡ seat.old.id) }
+        ensures lone { IsLone seat.new.me }
+        ensures answered { TurnAnswers (party seat.old.me) result (party seat.new.me) }
+    {
+        let mut making = MakeTurn::new(self.about.layout, self.about.generation, 1, 1);
+        let mut reply = self.begin_turn(seat, &mut making, number, index, gate);
+        let mut step = 0u64;
+        'steps: loop {
+            if let Some(reply) = reply {
+                return reply;
+            }
+            step = step.saturating_add(1);
+            reply = self.go_on_turn(seat, &mut making, number, step, gate);
+        }
+    }
+
+    /// The first step of a turn, with the gate before it.
+    fn begin_turn<G: Gate>(
+        &self,
+        seat: &mut Seat<(), Members>,
+        making: &mut MakeTurn,
+        number: u64,
+        index: u64,
+        gate: &G,
+    ) -> Option<TurnReply>
+        requires table { seat.old.table_id ≡ self.now.table.shared.table_id }
+        requires leaves { leaves_lines ≡ true }
+        requires lone { IsLone seat.old.me }
+        requires about { (party seat.old.me).about ≡ self.now.about }
+        requires resting { (party seat.old.me).state.turn ≡ None }
+        requires making { making.old ≡ turn_in (party seat.old.me) }
+        requires sound { IsMaking making.old }
+        ensures seat { (seat.new.table_id ≡ seat.old.table_id) × (seat.new.id ≡ seat.old.id) }
+        ensures lone { IsLone seat.new.me }
+        ensures runs { TurnRuns (party seat.old.me) (turn_of making.new result) (party seat.new.me) }
+    {
+        gate.before(number, index);
+        gate.within(number, 0);
+        let got = self.act::<FirstTurnStep>(seat, making.action());
+        making.advance(got)
+    }
+
+    /// The next step of the turn in flight, with the gate before it.
+    fn go_on_turn<G: Gate>(
+        &self,
+        seat: &mut Seat<(), Members>,
+        making: &mut MakeTurn,
+        number: u64,
+        step: u64,
+        gate: &G,
+    ) -> Option<TurnReply>
+        requires table { seat.old.table_id ≡ self.now.table.shared.table_id }
+        requires lone { IsLone seat.old.me }
+        requires flies { (party seat.old.me).state.turn ≡ Some making.old }
+        requires ready { TurnReady self.now.about.layout (Go making.old) }
+        ensures seat { (seat.new.table_id ≡ seat.old.table_id) × (seat.new.id ≡ seat.old.id) }
+        ensures lone { IsLone seat.new.me }
+        ensures steps { TurnStepsOn making.old (party seat.old.me) (party seat.new.me) making.new result }
+    {
+        gate.within(number, step);
+        let got = self.act::<NextTurnStep>(seat, making.action());
+        making.advance(got)
+    }
+}
