@@ -12,12 +12,18 @@ use Rattle.index_core.specs.declared.party.CoreCall.TheVariants as call
 use Rattle.index_core.specs.PartyStates.{next_index}
 use Rattle.pac_index.specs.declared.tried.Tried.{Tried}
 use Rattle.pac_index.specs.declared.tried.Tried.TheVariants as tried
+use Rattle.updater.specs.declared.making.TurnReply.TheVariants as reply
+use Rattle.updater.specs.declared.terms.Turned.{Turned}
+use Rattle.index_core.specs.declared.party.PartyState.{PartyState}
+use Rattle.pac_index.specs.declared.tried.TriedTurn.{TriedTurn}
+use Rattle.pac_index.specs.declared.tried.TriedTurn.TheVariants as turn
 use Rattle.pac_index.specs.declared.ended.Ended.{Ended}
 use Rattle.pac_index.specs.declared.ended.Ended.TheVariants as ended
 use Rattle.pac_index.specs.declared.rule.Member.{Member}
 use Rattle.pac_index.specs.Kept.{placed_by}
 use Rattle.pac_index.specs.Calls.{Answers, PartAnswers, IsAnswered, counted_index}
-use Rattle.pac_index.specs.Ends.{ended_of, ended_by, IsDone, HasOnlyRead, AtLast}
+use Rattle.pac_index.specs.Ends.{ended_of, ended_by, turn_ended_by, IsDone, HasOnlyRead, AtLast}
+use Rattle.pac_index.specs.Turns.{IsTold, TurnAnswers}
 use Rattle.pac_index.proofs.Lists.{begins_self, begins_trans}
 
 pub back_self : (v : Member) → HasOnlyRead v v
@@ -124,3 +130,24 @@ part_ends_so low count n i j old v w (tried.Answered (once.Spent clock)) end tri
 part_ends_so low count n i j old v w (tried.Answered (once.Worn node word)) end tries ends index is = absurd (cc)
 part_ends_so low count n i j old v w (tried.Answered (once.Again why)) end tries ends index is = absurd (cc)
 part_ends_so low count n i j old v w tried.Cut end tries ends index is = absurd is
+
+-- a turn that finds the updater lock taken, and the last one
+pub turn_again : (old v w : Member) (t : TriedTurn) → HasOnlyRead old v → turn_ended_by t ≡ None → IsTold t (λ answer. TurnAnswers v answer w) → HasOnlyRead old w
+turn_again old v w (turn.Turned turned) back none is = absurd (cc)
+turn_again old v w (turn.Held word) back none is = back_trans old v w back (record {
+  about = is.about;
+  caller = ap (λ (e : PartyState). e.caller) is.state;
+  taken = let t = is.taken in omega arith;
+  added = is.added;
+  seen = is.seen;
+  own = is.own;
+})
+turn_again old v w turn.Cut back none is = absurd is
+
+pub turn_ends_so : (old v w : Member) (t : TriedTurn) (end : Ended Turned) → HasOnlyRead old v → turn_ended_by t ≡ Some end → IsTold t (λ answer. TurnAnswers v answer w)
+    → IsDone end (λ turned. AtLast (λ before after. TurnAnswers before (reply.Turned turned) after) old w)
+turn_ends_so old v w (turn.Turned turned) end back ends is =
+    let gives : ended.Done turned ≡ end = cc in
+    subst (λ (e : Ended Turned). IsDone e (λ turned. AtLast (λ before after. TurnAnswers before (reply.Turned turned) after) old w)) gives (record { before = v; back = back; last = is })
+turn_ends_so old v w (turn.Held word) end back ends is = absurd (cc)
+turn_ends_so old v w turn.Cut end back ends is = absurd is

@@ -4,6 +4,9 @@ use Rattle.call_stages.specs.declared.once.Once.{Once}
 use Rattle.call_stages.specs.declared.once.Once.TheVariants as once
 use Rattle.pac_index.specs.declared.tried.Tried.{Tried}
 use Rattle.pac_index.specs.declared.tried.Tried.TheVariants as tried
+use Rattle.updater.specs.declared.terms.Turned.{Turned}
+use Rattle.pac_index.specs.declared.tried.TriedTurn.{TriedTurn}
+use Rattle.pac_index.specs.declared.tried.TriedTurn.TheVariants as turn
 use Rattle.pac_index.specs.declared.ended.Ended.{Ended}
 use Rattle.pac_index.specs.declared.ended.Ended.TheVariants as ended
 use Rattle.pac_index.specs.declared.rule.Member.{Member}
@@ -19,6 +22,12 @@ ended_of (once.Again why) = None
 abbrev pub ended_by : {T : Type 0} → Tried T → Option (Ended T)
 ended_by (tried.Answered answer) = ended_of answer
 ended_by tried.Cut = Some ended.Cut
+
+-- How a turn of the updater ends, unless it is made again.
+abbrev pub turn_ended_by : TriedTurn → Option (Ended Turned)
+turn_ended_by (turn.Turned turned) = Some (ended.Done turned)
+turn_ended_by (turn.Held word) = None
+turn_ended_by turn.Cut = Some ended.Cut
 
 -- It is done, and this holds of what it gave.
 abbrev pub IsDone : {T : Type 0} → Ended T → (T → Type 0) → Type 0

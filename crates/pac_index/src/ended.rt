@@ -1,7 +1,8 @@
 //! What a call comes to that is made again until it is answered.
 
-use crate::tried::Tried;
+use crate::tried::{Tried, TriedTurn};
 use call_stages::Once;
+use updater::Turned;
 
 /// What a call comes to that is made again while it is turned back.
 #[derive(Clone, Copy, PartialEq, Eq, Debug)]
@@ -28,6 +29,22 @@ impl<T> Tried<T> {
             Tried::Answered(Once::Spent { clock }) => Some(Ended::Spent { clock }),
             Tried::Answered(Once::Worn { .. } | Once::Again(_)) => None,
             Tried::Cut => Some(Ended::Cut),
+        }
+    }
+}
+
+impl TriedTurn {
+    ghost use Rattle.std.specs.Prelude.{◌≡◌};
+    ghost use Rattle.pac_index.specs.Ends.{turn_ended_by};
+
+    /// How a turn ends that is so answered. One that finds the updater lock taken is made again.
+    pub(crate) fn ended(self) -> Option<Ended<Turned>>
+        ensures { result ≡ turn_ended_by self }
+    {
+        match self {
+            TriedTurn::Turned { turned } => Some(Ended::Done(turned)),
+            TriedTurn::Held { .. } => None,
+            TriedTurn::Cut => Some(Ended::Cut),
         }
     }
 }

@@ -1,12 +1,15 @@
 //! Calls that are made again until they take place, which may wait for a node that another caller holds.
 
-ghost use Rattle.std.specs.Prelude.{◌≡◌, ◌≤◌, ◌<◌};
+ghost use Rattle.std.specs.Prelude.{◌≡◌, ◌≤◌, ◌<◌, true};
+ghost use Rattle.call_stages.specs.Leaving.{leaves_lines};
 ghost use Rattle.call_stages.specs.declared.once.Once.TheVariants as once;
+ghost use Rattle.updater.specs.declared.making.TurnReply.TheVariants as reply;
 ghost use Rattle.index_core.specs.declared.party.CoreCall.TheVariants as call;
 ghost use Rattle.index_core.specs.PartyStates.{next_index};
 ghost use Rattle.pac_index.specs.Calls.{Answers, PartAnswers};
 ghost use Rattle.pac_index.specs.Callers.{IsCallerOf, spare_of, seen_by};
 ghost use Rattle.pac_index.specs.Ends.{AtLast, IsDone};
+ghost use Rattle.pac_index.specs.Turns.{TurnAnswers};
 
 use crate::caller::Caller;
 use crate::ended::Ended;
@@ -16,6 +19,7 @@ use cat_key::Name;
 use node_ops::PartWords;
 use std::sync::Wait;
 use std::thread::yield_now;
+use updater::Turned;
 
 impl Shared {
     /// A get by one of the callers before the last, which is the updater's. It is tried again while it is turned back
@@ -58,6 +62,27 @@ impl Shared {
     {
         for _ in rt.forever() {
             if let Some(ended) = self.part_once(caller, low, count).ended() {
+                return ended;
+            }
+            yield_now();
+        }
+        unreachable!()
+    }
+
+    /// A turn of the updater by its caller, the last one. It is tried again while another party has the updater lock, so it
+    /// may wait for as long as that one has it.
+    pub fn turn<R: Wait>(&self, rt: &R, caller: &mut Caller) -> Ended<Turned>
+        requires caller { IsCallerOf self.now caller.old }
+        requires updater { caller.old.number ≡ self.now.about.layout.callers }
+        requires leaves { leaves_lines ≡ true }
+        ensures caller { IsCallerOf self.now caller.new }
+        ensures same { (caller.new.number ≡ caller.old.number) × (caller.new.index ≡ caller.old.index) ×
+            (caller.new.kept ≡ caller.old.kept) }
+        ensures done { IsDone result (λ turned. AtLast (λ before after. TurnAnswers before (reply.Turned turned) after)
+            (seen_by caller.old) (seen_by caller.new)) }
+    {
+        for _ in rt.forever() {
+            if let Some(ended) = self.turn_once(caller).ended() {
                 return ended;
             }
             yield_now();
