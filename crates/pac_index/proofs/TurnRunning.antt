@@ -1,8 +1,8 @@
 -- How a turn goes on by one step, and what it is answered at its end.
-use Rattle.std.proofs.Common.{◌≡◌, ◌≢◌, ℕ, ◌+◌, ◌<◌, ◌==◌, cond, true, false, List, [], ◌∷◌, ◌++◌, length, refl, sym, ap, ◌∙◌, subst, arith}
+use Rattle.std.proofs.Common.{◌≡◌, ℕ, ◌+◌, ◌<◌, ◌==◌, cond, true, false, List, [], ◌∷◌, ◌++◌, length, refl, sym, ap, ◌∙◌, subst, arith}
 use Rattle.std.proofs.lemmas.Bool.{eqb-true, eqb-false}
 use Rattle.std.proofs.lemmas.List.{length-append}
-use Rattle.std.specs.Prelude.{Option, Some, None, if◌then◌else◌}
+use Rattle.std.specs.Prelude.{Option, Some, None}
 use Rattle.pm_words.specs.declared.machine.Turn.{Turn}
 use Rattle.pm_words.specs.declared.machine.Turn.TheVariants.{Go, Done}
 use Rattle.pm_words.specs.Turns.{GoesBelow}
@@ -13,18 +13,18 @@ use Rattle.updater.specs.declared.making.TurnReply.TheVariants as reply
 use Rattle.updater.specs.declared.terms.Terms.{Terms}
 use Rattle.updater.specs.declared.terms.Turned.{Turned}
 use Rattle.updater.specs.declared.work.Work.{Work}
-use Rattle.updater.specs.Makings.{making_from, making_left, making_turned, worked}
+use Rattle.updater.specs.Makings.{making_left, making_turned, worked}
 use Rattle.updater.specs.Takings.{untaken}
 use Rattle.updater.specs.Works.{work_from, work_turned}
 use Rattle.split_merge.specs.Advances.{turn_of}
-use Rattle.index_core.specs.PartyStates.{state_turned, turn_after}
+use Rattle.index_core.specs.PartyStates.{state_turned}
 use Rattle.index_core.specs.declared.party.PartyState.{PartyState}
 use Rattle.pac_index.specs.declared.rule.About.{About}
 use Rattle.pac_index.specs.declared.rule.Member.{Member}
 use Rattle.pac_index.specs.Kept.{placed_by}
 use Rattle.pac_index.specs.Calls.{run_of}
 use Rattle.pac_index.specs.Turns.{turn_in, turning, TurnReady, TurnGoes, TurnRuns, HasLock, TurnAnswers, TurnStepsOn, actions_left}
-use Rattle.pac_index.proofs.Lists.{begins_self, begins_trans}
+use Rattle.pac_index.proofs.Lists.{begins_trans}
 use Rattle.pac_index.proofs.PartRuns.{run_more}
 
 -- by the first number it has the lock, or is refused

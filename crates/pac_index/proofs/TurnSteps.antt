@@ -15,7 +15,7 @@ use Rattle.index_law.specs.Worlds.{Party}
 use Rattle.index_law.specs.Weights.{weight_sum}
 use Rattle.index_law.proofs.Parties.{set_here}
 use Rattle.index_core.specs.declared.party.PartyState.{PartyState}
-use Rattle.index_core.specs.PartyStates.{party_of, state_turned, turn_after, IsTurnOf}
+use Rattle.index_core.specs.PartyStates.{state_turned, turn_after, IsTurnOf}
 use Rattle.index_core.specs.Indexes.{Index, IsIndex, world}
 use Rattle.index_core.specs.Turns.{turn_begun, turned_index}
 use Rattle.index_core.proofs.Lists.{some_same}

@@ -9,7 +9,6 @@ use Rattle.updater.specs.Makings.{making_asks, making_turned, making_takes}
 use Rattle.pac_index.specs.declared.rule.About.{About}
 use Rattle.pac_index.specs.Kept.{May, party}
 use Rattle.pac_index.specs.Turns.{TellsTurn, TurnGoes, actions_left}
-use Rattle.split_merge.specs.Advances.{turn_of}
 use Rattle.pm_words.specs.declared.machine.Turn.TheVariants.{Go}
 use Rattle.pac_index.proofs.TurnSteps.{turn_allows}
 use Rattle.pac_index.proofs.TurnRunning.{turn_lessens}
