@@ -124,7 +124,7 @@ few_names s names is =
 pub fresh_map : (l : Layout) (s s' : Index) → IsFreshIndex l s → s' ≡ record s { spare = s'.spare } → IsCoreMap s' 0
 fresh_map l s s' fresh kept = record {
   index = subst IsIndex (sym kept) (respare s s'.spare fresh.index);
-  quiet = subst IsQuiet (sym kept) (fresh_quiet l s fresh);
+  quiet = subst IsQuiet (sym kept) (let quiet = fresh_quiet l s fresh in record { calls = quiet.calls; turns = quiet.turns });
   counted = sym (ap (λ (v : Index). len (map_of_index v)) kept ∙ (λ k. len (after_all (map_of (fresh.base k)) (fresh.history k))) ∙ len-empty name_cmp ℕ);
 }
 

@@ -1,5 +1,6 @@
-ghost use Rattle.std.specs.Prelude.{◌≡◌, ◌<◌, ◌≤◌};
+ghost use Rattle.std.specs.Prelude.{◌≡◌, ◌<◌, ◌≤◌, IsTrue};
 ghost use Rattle.index_core.specs.CoreCalls.{MayBegin, most_writes};
+ghost use Rattle.index_core.specs.Indexes.{IsInFlight};
 
 use super::*;
 use crate::party::needs_split;
@@ -63,17 +64,22 @@ fn begin(core: &mut Core, party: u64, kind: u64) -> Result<(), Fail> {
     begin_call(core, party, call_of(kind, name, 7))
 }
 
-/// At most so many steps of a party's call, and its reply if it is answered. That the call is in flight is told by a
-/// start, which is refused and changes nothing.
+/// Whether the party is a caller whose call is in flight.
+fn has_call(core: &Core, party: u64) -> bool
+    ensures { IsTrue result → IsInFlight core.now party }
+{
+    party < core.layout().callers() && core.states[party as usize].machine.flies()
+}
+
+/// At most so many steps of a party's call, and its reply if it is answered.
 fn run_to_reply<L: Ledger>(
     core: &mut Core,
     party: u64,
     most: u64,
     steps: &mut Steps<L>,
 ) -> Result<Option<CoreReply>, Fail> {
-    let name = Name::read(b"z").ok().ok_or("z")?;
     for _ in 0..most {
-        if party >= core.layout().callers() || core.start(party, CoreCall::Get { name }).is_ok() {
+        if !has_call(core, party) {
             return Ok(None);
         }
         if let Stepped::Answered(reply) = core.step(party, steps) {
