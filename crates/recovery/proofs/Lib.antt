@@ -1,0 +1,3 @@
+pub mod Trimming
+pub mod Walking
+pub mod PlanLemmas

@@ -1,0 +1,15 @@
+//! The recovery of a catalogue's image, as code.
+//!
+//! `recovery_law` says which moves a recovery makes, and what they leave whenever it is broken. Here they are planned:
+//! which nodes get another bitmap, which anchors of log lines are taken out of the search layer, which are set and to
+//! which nodes, and which lines get EMPTY.
+#![tactic(auto)]
+
+mod anchored;
+mod moves;
+mod planning;
+mod trim;
+mod words;
+
+pub use moves::Move;
+pub use planning::plan;
