@@ -1,1 +1,4 @@
 pub mod Plans
+pub mod Storings
+pub mod Makings
+pub mod MakingLaw

@@ -6,10 +6,15 @@
 #![tactic(auto)]
 
 mod anchored;
+pub mod laws;
+mod making;
 mod moves;
 mod planning;
+mod storing;
 mod trim;
 mod words;
 
+pub use making::Making;
 pub use moves::Move;
 pub use planning::plan;
+pub use storing::{Storing, StoringAt};

@@ -1,0 +1,12 @@
+//! The laws. The functions do nothing: each names what is proved.
+
+ghost use Rattle.recovery.specs.MakingLaw.{MakingsBegin, MakingsGo, MakingsEvict, MakingsAreSure};
+
+/// The moves of a plan, made one after another, an action a turn, are the steps of a recovery: they may be made, and at
+/// each moment, whichever words have become durable, the law is sure of what it says.
+pub fn making_law()
+    ensures begins { MakingsBegin }
+    ensures goes { MakingsGo }
+    ensures evicts { MakingsEvict }
+    ensures sure { MakingsAreSure }
+{}
