@@ -5,3 +5,5 @@ pub mod Evens
 pub mod StoringLaw
 pub mod ChangingLaw
 pub mod MakingLemmas
+pub mod SoundColumns
+pub mod RecoveringLemmas

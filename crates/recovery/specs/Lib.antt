@@ -2,3 +2,4 @@ pub mod Plans
 pub mod Storings
 pub mod Makings
 pub mod MakingLaw
+pub mod Recovered

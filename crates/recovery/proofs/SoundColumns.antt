@@ -1,0 +1,50 @@
+-- The columns of an image that is sound by all rules are those of a sound image.
+use Rattle.std.proofs.Common.{◌≡◌, ℕ, ◌⊎◌, List, inl, inr, refl, sym, subst}
+use Rattle.pm_words.specs.declared.layout.Layout.{Layout}
+use Rattle.pm_words.specs.Images.{IsImage}
+use Rattle.pm_words.specs.Locations.{leaf_count}
+use Rattle.data_node.specs.Spots.{Spot}
+use Rattle.data_node.specs.Lists.{IsIn, anchor_in}
+use Rattle.sound_image.specs.Nodes.{image_spot, image_list}
+use Rattle.search_layer.specs.Layers.{HasFew}
+use Rattle.search_layer.specs.Leaves.{LayerWords, layer_in, IsLayerRow}
+use Rattle.turn_law.specs.Covered.{IsCovered}
+use Rattle.turn_law.specs.Covers.{Lines, IsOpenFor}
+use Rattle.sound_layer.specs.Leaves as layer
+use Rattle.sound_layer.specs.Sound.{IsSoundByAll}
+use Rattle.sound_layer.proofs.LayerLaws.{sound_keeps_layer}
+use Rattle.recovery_law.specs.Columns.{Columns, IsSound, IsNameKey, HasNameKeys, lines_of, layer_kept}
+use Rattle.recovery_law.specs.Rows.{word_if, image_leaves, image_columns}
+use Rattle.recovery_law.proofs.SoundColumns.{spots_are, sound_nodes}
+
+module _ (l : Layout) (words : List ℕ) where
+  abbrev o : Columns
+  o = image_columns l words
+
+  leaves_are : layer.image_leaves l words ≡ image_leaves l words
+  unfolding layer.image_leaves image_leaves
+  leaves_are = refl
+
+  lines_are : layer.image_lines l words ≡ lines_of o
+  unfolding layer.line_word word_if anchor_in
+  lines_are = refl
+
+  key_named : (key : ℕ) → layer.IsKeyNumber key → (key ≡ 0) ⊎ IsNameKey key
+  key_named key (inl zero) = inl zero
+  key_named key (inr named) = inr (record { name = named.0; is_name = named.1; same = named.2 })
+
+  pub all_sound : IsImage l words → IsSoundByAll l words → IsSound l (image_list l words) o
+  all_sound is sound =
+      let both = sound_keeps_layer l words sound in
+      let keeps = both.1 in
+      record {
+        nodes = sound_nodes l words is both.0;
+        layer = record {
+          row = subst (λ (w : LayerWords). IsLayerRow (leaf_count l) l.nodes w) leaves_are keeps.row;
+          keys = subst (λ (w : LayerWords). HasNameKeys (layer_in w (leaf_count l))) leaves_are (λ key node leads. key_named key (keeps.keys key node leads));
+          few = subst (λ (w : LayerWords). HasFew l.nodes (layer_in w (leaf_count l))) leaves_are keeps.few;
+          covered = subst (λ (now : ℕ → Spot). IsCovered (IsIn (image_list l words)) (λ n. anchor_in (now n)) (layer_kept l o) (IsOpenFor (lines_of o))) (sym (spots_are l words))
+              (subst (λ (lines : Lines). IsCovered (IsIn (image_list l words)) (λ n. anchor_in (image_spot l words n)) (layer_kept l o) (IsOpenFor lines)) lines_are
+              (subst (λ (w : LayerWords). IsCovered (IsIn (image_list l words)) (λ n. anchor_in (image_spot l words n)) (layer_in w (leaf_count l)) (IsOpenFor (layer.image_lines l words))) leaves_are keeps.covered));
+        };
+      }
