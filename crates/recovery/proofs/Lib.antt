@@ -7,3 +7,4 @@ pub mod ChangingLaw
 pub mod MakingLemmas
 pub mod SoundColumns
 pub mod RecoveringLemmas
+pub mod CrashLemmas

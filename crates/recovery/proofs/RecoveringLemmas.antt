@@ -1,15 +1,16 @@
 -- A recovery from its beginning to its end: what is known of the rows between its moves, and after the last.
-use Rattle.std.proofs.Common.{◌≡◌, ℕ, suc, ◌+◌, ◌<◌, ◌≤◌, List, [], ◌∷◌, map, drop, length, get_or, refl, sym, subst, ap, ◌∙◌}
+use Rattle.std.proofs.Common.{arith, ◌≡◌, ℕ, suc, ◌+◌, ◌<◌, ◌≤◌, List, [], ◌∷◌, map, drop, length, get_or, refl, sym, subst, ap, ◌∙◌}
 use Rattle.std.proofs.lemmas.List.{drop_more, drop_all}
 use Rattle.pm_words.specs.declared.layout.Layout.{Layout}
 use Rattle.pm_words.specs.declared.action.Action.{Action}
 use Rattle.pm_words.specs.declared.machine.Turn.{Turn}
 use Rattle.pm_words.specs.Images.{Row, IsImage}
-use Rattle.pm_words.specs.Locations.{Cached, Durable}
+use Rattle.pm_words.specs.Locations.{Root, Cached, Durable}
 use Rattle.pm_words.specs.Rows.{CanAct, acted, got, row_of}
-use Rattle.pm_words.proofs.Made.{row_of-row}
+use Rattle.pm_words.proofs.Made.{row_of-row, row_of-at}
 use Rattle.version_lock.specs.Versions.{IsGeneration}
 use Rattle.sound_layer.specs.Sound.{IsSoundByAll}
+use Rattle.sound_layer.proofs.LayerLaws.{sound_keeps_layer}
 use Rattle.recovery_law.specs.Columns.{Columns}
 use Rattle.recovery_law.specs.Stages.{Begins, Sure}
 use Rattle.recovery_law.specs.Rows.{columns_in}
@@ -45,7 +46,7 @@ none_left moves i past = ap (map move_of) (drop_all i moves past)
 
 -- an image that is sound by all rules, of a generation that isn't the last
 pub is_recoverable : (image : Row) → IsImage image.layout image.words → IsSoundByAll image.layout image.words → IsGeneration (suc (columns image).generation) → IsRecoverable image
-is_recoverable image is sound next = record { sound = all_sound image.layout image.words is sound; next = next }
+is_recoverable image is sound next = record { sound = all_sound image.layout image.words is sound; root = (sound_keeps_layer image.layout image.words sound).1.root; next = next }
 
 module _ (image : Row) (recoverable : IsRecoverable image) where
   abbrev At : List law.Move → List ℕ → Making → Type 0
@@ -79,11 +80,14 @@ module _ (image : Row) (recoverable : IsRecoverable image) where
   begins_row is moves plan =
       let o = columns image in
       let same = start_has_columns image.layout image.words is in
+      let eight : 0 < 8 = omega arith in
+      let twins = row_of-at image.layout image.words (Root 0) is eight in
       let sure : Sure image.layout (list_of image) o Begins o o = starts image.layout (list_of image) o recoverable.sound in
       record {
         layout = refl;
         between = record {
           row = row_of-row image.layout image.words is;
+          root = (twins.0 ∙ recoverable.root, twins.1 ∙ recoverable.root);
           stage = Begins;
           sure = subst (λ (c : Columns). Sure image.layout (list_of image) o Begins (columns_in image.layout (row_of image.layout image.words) Cached) c) (sym same.1)
               (subst (λ (c : Columns). Sure image.layout (list_of image) o Begins c o) (sym same.0) sure);

@@ -1,10 +1,11 @@
 -- The columns of an image that is sound by all rules are those of a sound image.
-use Rattle.std.proofs.Common.{◌≡◌, ℕ, ◌⊎◌, List, inl, inr, refl, sym, subst}
+use Rattle.std.proofs.Common.{Some, ◌≡◌, ℕ, ◌⊎◌, List, inl, inr, refl, sym, subst}
 use Rattle.pm_words.specs.declared.layout.Layout.{Layout}
 use Rattle.pm_words.specs.Images.{IsImage}
-use Rattle.pm_words.specs.Locations.{leaf_count}
+use Rattle.pm_words.specs.Locations.{Root, leaf_count, word_at}
 use Rattle.data_node.specs.Spots.{Spot}
-use Rattle.data_node.specs.Lists.{IsIn, anchor_in}
+use Rattle.data_node.specs.Lists.{ListNode, IsIn, MakeList, Rise, anchor_in}
+use Rattle.data_node.proofs.ListLemmas.{members_few, chain_is}
 use Rattle.sound_image.specs.Nodes.{image_spot, image_list}
 use Rattle.search_layer.specs.Layers.{HasFew}
 use Rattle.search_layer.specs.Leaves.{LayerWords, layer_in, IsLayerRow}
@@ -12,10 +13,10 @@ use Rattle.turn_law.specs.Covered.{IsCovered}
 use Rattle.turn_law.specs.Covers.{Lines, IsOpenFor}
 use Rattle.sound_layer.specs.Leaves as layer
 use Rattle.sound_layer.specs.Sound.{IsSoundByAll}
-use Rattle.sound_layer.proofs.LayerLaws.{sound_keeps_layer}
+use Rattle.sound_layer.proofs.LayerLaws.{sound_keeps_layer, layer_makes_sound}
 use Rattle.recovery_law.specs.Columns.{Columns, IsSound, IsNameKey, HasNameKeys, lines_of, layer_kept}
 use Rattle.recovery_law.specs.Rows.{word_if, image_leaves, image_columns}
-use Rattle.recovery_law.proofs.SoundColumns.{spots_are, sound_nodes}
+use Rattle.recovery_law.proofs.SoundColumns.{spots_are, sound_nodes, columns_are_sound}
 
 module _ (l : Layout) (words : List ℕ) where
   abbrev o : Columns
@@ -48,3 +49,26 @@ module _ (l : Layout) (words : List ℕ) where
               (subst (λ (w : LayerWords). IsCovered (IsIn (image_list l words)) (λ n. anchor_in (image_spot l words n)) (layer_in w (leaf_count l)) (IsOpenFor (layer.image_lines l words))) leaves_are keeps.covered));
         };
       }
+
+  -- and the other way
+  name_keyed : (key : ℕ) → (key ≡ 0) ⊎ IsNameKey key → layer.IsKeyNumber key
+  name_keyed key (inl zero) = inl zero
+  name_keyed key (inr named) = inr (named.name, named.is_name, named.same)
+
+  pub sound_all : IsImage l words → word_at l words (Root 0) ≡ 0 → IsSound l (image_list l words) o → IsSoundByAll l words
+  sound_all is root sound = layer_makes_sound l words is ((columns_are_sound l words is).0 sound.nodes) (record {
+    root = root;
+    row = subst (λ (w : LayerWords). IsLayerRow (leaf_count l) l.nodes w) (sym leaves_are) sound.layer.row;
+    keys = λ key node leads. name_keyed key (sound.layer.keys key node (subst (λ (w : LayerWords). layer_in w (leaf_count l) key ≡ Some node) leaves_are leads));
+    few = subst (λ (w : LayerWords). HasFew l.nodes (layer_in w (leaf_count l))) (sym leaves_are) sound.layer.few;
+    covered = subst (λ (w : LayerWords). IsCovered (IsIn (image_list l words)) (λ n. anchor_in (image_spot l words n)) (layer_in w (leaf_count l)) (IsOpenFor (layer.image_lines l words))) (sym leaves_are)
+        (subst (λ (lines : Lines). IsCovered (IsIn (image_list l words)) (λ n. anchor_in (image_spot l words n)) (layer_kept l o) (IsOpenFor lines)) (sym lines_are)
+        (subst (λ (now : ℕ → Spot). IsCovered (IsIn (image_list l words)) (λ n. anchor_in (now n)) (layer_kept l o) (IsOpenFor (lines_of o))) (spots_are l words) sound.layer.covered));
+  })
+
+  -- the list that the columns make is that of the image
+  pub list_is : (list : List ListNode) → IsSound l list o → image_list l words ≡ list
+  list_is list sound =
+      let makes = subst (λ (now : ℕ → Spot). MakeList l.nodes now list) (spots_are l words) sound.nodes.makes in
+      let few = members_few (image_spot l words) 0 l.nodes list makes.chain (subst (λ least. Rise least list) (sym makes.lowest) makes.rise) makes.within in
+      chain_is (image_spot l words) l.nodes 0 list makes.chain few

@@ -5,7 +5,7 @@ use Rattle.pm_words.specs.declared.machine.Turn.{Turn}
 use Rattle.pm_words.specs.declared.machine.Turn.TheVariants.{Go, Done}
 use Rattle.pm_words.specs.declared.fence.FenceAt.{FenceAt}
 use Rattle.pm_words.specs.declared.fence.FenceAt.TheVariants as fence
-use Rattle.pm_words.specs.Locations.{Word, word_number, image_words, cached_address, durable_address}
+use Rattle.pm_words.specs.Locations.{Word, Root, Cached, Durable, at, word_number, image_words, cached_address, durable_address}
 use Rattle.pm_words.specs.Rows.{IsRow, CanAct, acted, got, evicted}
 use Rattle.version_lock.specs.Versions.{IsGeneration}
 use Rattle.data_node.specs.Lists.{ListNode}
@@ -20,7 +20,7 @@ use Rattle.recovery.specs.declared.making.Making.TheVariants.{Stores, Changes}
 use Rattle.recovery.specs.declared.moves.Move.{Move}
 use Rattle.recovery.specs.declared.storing.Storing.{Storing}
 use Rattle.recovery.specs.declared.storing.StoringAt.{StoringAt}
-use Rattle.recovery.specs.declared.storing.StoringAt.TheVariants as at
+use Rattle.recovery.specs.declared.storing.StoringAt.TheVariants as does
 use Rattle.recovery.specs.Plans.{move_of}
 use Rattle.recovery.specs.Storings.{fenced_word}
 use Rattle.recovery.specs.Makings.{IsMaking, MayMake, making_of, making_asks, making_turned}
@@ -45,8 +45,8 @@ pub record IsStoreOf (l : Layout) (list : List ListNode) (o : Columns) (rest : L
 
 -- The stage before the store, or the one after it; and once the fence is past the word, that is durable.
 abbrev pub SureStoringAt : Layout → List ListNode → Columns → Storing → Stage → Stage → List ℕ → StoringAt → Type 0
-SureStoringAt l list o storing before after words at.Word = RowSure l list o before words
-SureStoringAt l list o storing before after words (at.Line fence) =
+SureStoringAt l list o storing before after words does.Word = RowSure l list o before words
+SureStoringAt l list o storing before after words (does.Line fence) =
     RowSure l list o after words × HasInHand l words (fenced_word storing.word fence) fence.at ×
     (storing.word < fenced_word storing.word fence → IsEvenAt l words storing.word)
 
@@ -63,10 +63,15 @@ pub data SureMaking (l : Layout) (list : List ListNode) (o : Columns) (rest : Li
       RowSure l list o (Setting line n (stage_of change)) words → law.Plan l list o (Sets (suc line)) rest →
       SureMaking l list o rest words (Changes change)
 
+-- The root word is 0, cached and durable. No column tells it.
+abbrev pub HasNoRoot : Layout → List ℕ → Type 0
+HasNoRoot l words = (at l words (Cached (Root 0)) ≡ 0) × (at l words (Durable (Root 0)) ≡ 0)
+
 -- A recovery of o is at this move, and these are planned behind it.
 pub record IsAtMove (l : Layout) (list : List ListNode) (o : Columns) (rest : List law.Move) (words : List ℕ)
     (making : Making) : Type 0 where
   pub row : IsRow l words
+  pub root : HasNoRoot l words
   pub fits : IsMaking making
   pub sure : SureMaking l list o rest words making
 
@@ -74,6 +79,7 @@ pub record IsAtMove (l : Layout) (list : List ListNode) (o : Columns) (rest : Li
 pub record IsBetweenMoves (l : Layout) (list : List ListNode) (o : Columns) (rest : List law.Move) (words : List ℕ) :
     Type 0 where
   pub row : IsRow l words
+  pub root : HasNoRoot l words
   pub stage : Stage
   pub sure : RowSure l list o stage words
   pub plan : law.Plan l list o stage rest

@@ -1,21 +1,28 @@
 -- A recovery on its way, and what it leaves at its end.
-use Rattle.std.specs.Prelude.{◌≡◌, suc, List, ◌∷◌}
-use Rattle.pm_words.specs.Images.{Row}
-use Rattle.pm_words.specs.Locations.{Cached, Durable}
+use Rattle.std.specs.Prelude.{◌≡◌, ◌⊎◌, ◌↔◌, ℕ, suc, List, ◌∷◌}
+use Rattle.pm_words.specs.Images.{Row, IsImage}
+use Rattle.pm_words.specs.Locations.{Root, Cached, Durable, word_at}
+use Rattle.pm_words.specs.Rows.{durable_row}
+use Rattle.cat_history.specs.Maps.{Map}
 use Rattle.version_lock.specs.Versions.{IsGeneration}
+use Rattle.sound_image.specs.Nodes.{image_list}
+use Rattle.sound_image.specs.Rules.{header_generation}
+use Rattle.sound_image.specs.Sound.{IsMapOf}
 use Rattle.sound_layer.specs.Sound.{IsSoundByAll, IsFirstOfAll}
 use Rattle.recovery_law.specs.Columns.{IsSound}
 use Rattle.recovery_law.specs.Rest.{Rests}
 use Rattle.recovery_law.specs.Rows.{columns_in}
 use Rattle.recovery_law.specs.Moves as law
+use Rattle.recovery.specs.declared.making.Making.{Making}
 use Rattle.recovery.specs.declared.recovering.Refused.{Refused}
 use Rattle.recovery.specs.declared.recovering.Refused.TheVariants.{Unsound, LastGeneration, NoMemory}
 use Rattle.recovery.specs.Plans.{columns, list_of}
-use Rattle.recovery.specs.MakingLaw.{IsBetweenMoves}
+use Rattle.recovery.specs.MakingLaw.{IsAtMove, IsBetweenMoves}
 
--- The image is sound, and there is a next generation.
+-- The image is sound, its root word is 0, and there is a next generation.
 pub record IsRecoverable (image : Row) : Type 0 where
   pub sound : IsSound image.layout (list_of image) (columns image)
+  pub root : word_at image.layout image.words (Root 0) ≡ 0
   pub next : IsGeneration (suc (columns image).generation)
 
 -- The rows are those of a recovery of the image between two moves, and these moves are left.
@@ -50,3 +57,24 @@ IsRefusedFor image LastGeneration =
     IsSoundByAll image.layout image.words × ¬ IsGeneration (suc (columns image).generation)
 IsRefusedFor image NoMemory =
     IsSoundByAll image.layout image.words × IsGeneration (suc (columns image).generation)
+
+-- What is left of the image where a recovery of it is broken: an image that is sound by all rules, with the same list
+-- and the same map, in the generation that it had or in the next one.
+pub record IsLeftOf (image : Row) (left : List ℕ) : Type 0 where
+  pub is_image : IsImage image.layout left
+  pub sound : IsSoundByAll image.layout left
+  pub same_list : image_list image.layout left ≡ list_of image
+  pub same_map : (m : Map) → IsMapOf image.layout image.words m ↔ IsMapOf image.layout left m
+  pub generation : (header_generation image.layout left ≡ header_generation image.layout image.words) ⊎
+      (header_generation image.layout left ≡ suc (header_generation image.layout image.words))
+
+-- So does each crash leave it, during a move and between two.
+abbrev pub CrashLeavesSound : Type 0
+CrashLeavesSound = (image : Row) (rest : List law.Move) (words : List ℕ) (making : Making) → IsRecoverable image →
+    IsAtMove image.layout (list_of image) (columns image) rest words making →
+    IsLeftOf image (durable_row image.layout words)
+
+abbrev pub CrashBetweenLeavesSound : Type 0
+CrashBetweenLeavesSound = (image : Row) (rest : List law.Move) (words : List ℕ) → IsRecoverable image →
+    IsBetweenMoves image.layout (list_of image) (columns image) rest words →
+    IsLeftOf image (durable_row image.layout words)

@@ -20,3 +20,6 @@ pub use moves::Move;
 pub use planning::plan;
 pub use recovering::{Refused, make, make_all, recover};
 pub use storing::{Storing, StoringAt};
+
+#[cfg(test)]
+mod tests;
