@@ -1,5 +1,5 @@
 -- What a crash leaves of a recovery, at any time.
-use Rattle.std.proofs.Common.{◌≡◌, ◌↔◌, ℕ, suc, ◌⊎◌, List, inr, refl, sym, subst, ◌∙◌}
+use Rattle.std.proofs.Common.{Option, Some, None, ◌≡◌, ◌↔◌, ℕ, suc, ◌⊎◌, List, inr, refl, sym, subst, ◌∙◌}
 use Rattle.pm_words.specs.declared.layout.Layout.{Layout}
 use Rattle.pm_words.specs.Images.{Row, IsImage}
 use Rattle.pm_words.specs.Locations.{Root, Cached, Durable}
@@ -19,6 +19,8 @@ use Rattle.recovery_law.proofs.SoundColumns.{columns_keep_maps}
 use Rattle.recovery.specs.Plans.{columns, list_of}
 use Rattle.recovery.specs.MakingLaw.{HasNoRoot}
 use Rattle.recovery.specs.Recovered.{IsRecoverable, IsLeftOf, CrashLeavesSound, CrashBetweenLeavesSound}
+use Rattle.recovery.specs.declared.making.Making.{Making}
+use Rattle.recovery.specs.Recoveries.{IsRecoveringAt, StopLeavesSound, moves_left}
 use Rattle.recovery.proofs.MakingLemmas.{makings_are_sure}
 use Rattle.recovery.proofs.SoundColumns.{sound_all, list_is}
 
@@ -76,3 +78,10 @@ crash_leaves_sound image rest words making recoverable here =
 
 pub crash_between_leaves_sound : CrashBetweenLeavesSound
 crash_between_leaves_sound image rest words recoverable between = leaves image recoverable words between.row between.root between.stage between.sure
+
+pub stop_leaves_sound : StopLeavesSound
+stop_leaves_sound image recovery row recoverable here = at recovery.making here
+  where
+    at : (making : Option Making) → IsRecoveringAt image row (moves_left recovery) making → IsLeftOf image (durable_row image.layout row.words)
+    at None under = crash_between_leaves_sound image (moves_left recovery) row.words recoverable under.between
+    at (Some making) one = crash_leaves_sound image (moves_left recovery) row.words making recoverable one.here

@@ -1,5 +1,5 @@
 -- A recovery from its beginning to its end: what is known of the rows between its moves, and after the last.
-use Rattle.std.proofs.Common.{arith, ◌≡◌, ℕ, suc, ◌+◌, ◌<◌, ◌≤◌, List, [], ◌∷◌, map, drop, length, get_or, refl, sym, subst, ap, ◌∙◌}
+use Rattle.std.proofs.Common.{Option, None, arith, ◌≡◌, ℕ, suc, ◌+◌, ◌<◌, ◌≤◌, List, [], ◌∷◌, map, drop, length, get_or, refl, sym, subst, ap, ◌∙◌}
 use Rattle.std.proofs.lemmas.List.{drop_more, drop_all}
 use Rattle.pm_words.specs.declared.layout.Layout.{Layout}
 use Rattle.pm_words.specs.declared.action.Action.{Action}
@@ -20,12 +20,14 @@ use Rattle.recovery_law.proofs.Rest.{ends_at_rest}
 use Rattle.recovery_law.proofs.RowColumns.{start_has_columns}
 use Rattle.recovery_law.proofs.Steps.{starts}
 use Rattle.recovery.specs.declared.making.Making.{Making}
+use Rattle.recovery.specs.declared.stepping.Recovery.{Recovery}
 use Rattle.recovery.specs.declared.moves.Move.{Move}
 use Rattle.recovery.specs.declared.moves.Move.TheVariants.{Raise}
 use Rattle.recovery.specs.Plans.{columns, list_of, move_of, IsPlanOf}
 use Rattle.recovery.specs.Makings.{IsMaking, MayMake, making_of, making_asks, making_turned}
 use Rattle.recovery.specs.MakingLaw.{IsAtMove, IsAfterTurn}
 use Rattle.recovery.specs.Recovered.{IsRecoverable, IsUnderWay, IsRecoveredTo}
+use Rattle.recovery.specs.Recoveries.{IsRecoveringAt, IsRecovering, IsMakingOne, moves_left}
 use Rattle.recovery.proofs.SoundColumns.{all_sound}
 use Rattle.recovery.proofs.MakingLemmas.{makings_begin, makings_go}
 
@@ -111,3 +113,19 @@ module _ (image : Row) (recoverable : IsRecoverable image) where
         rests = ends_at_rest image.layout (list_of image) o now safe recoverable.sound recoverable.next
             (plan_ends image.layout (list_of image) o now safe under.between.stage recoverable.sound under.between.sure under.between.plan);
       }
+
+-- Recoveries that may be stopped. Between two moves the next one is under way,
+pub next_is : (image row : Row) (recovery : Recovery) (next : Move) → recovery.making ≡ None → recovery.begun < length recovery.moves.items → next ≡ get_or recovery.moves.items recovery.begun next → IsRecovering image recovery row
+    → IsUnderWay image row (move_of next ∷ map move_of (drop (recovery.begun + 1) recovery.moves.items))
+next_is image row recovery next is within told here =
+    let items = recovery.moves.items in
+    let behind = map move_of (drop (recovery.begun + 1) items) in
+    let left : moves_left recovery ≡ move_of next ∷ behind = ap (map move_of) (drop_more items recovery.begun next within) ∙ ap (λ (m : Move). move_of m ∷ behind) (sym told) in
+    subst (IsUnderWay image row) left (subst (λ (x : Option Making). IsRecoveringAt image row (moves_left recovery) x) is here)
+
+-- and so begins.
+pub next_begins : (image row : Row) (next : Move) (rest : List law.Move) (making : Making) → IsRecoverable image → IsUnderWay image row (move_of next ∷ rest) → making ≡ making_of row next → IsMaking making → IsMakingOne image row rest making
+next_begins image row next rest making recoverable under new fits = record {
+  layout = under.layout;
+  here = subst (λ (m : Making). IsAtMove image.layout (list_of image) (columns image) rest row.words m) (sym new) ((begins_move image recoverable row next rest under).1 (subst IsMaking new fits));
+}

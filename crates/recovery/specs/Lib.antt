@@ -3,3 +3,4 @@ pub mod Storings
 pub mod Makings
 pub mod MakingLaw
 pub mod Recovered
+pub mod Recoveries

@@ -2,6 +2,7 @@
 
 ghost use Rattle.recovery.specs.MakingLaw.{MakingsBegin, MakingsGo, MakingsEvict, MakingsAreSure};
 ghost use Rattle.recovery.specs.Recovered.{CrashLeavesSound, CrashBetweenLeavesSound};
+ghost use Rattle.recovery.specs.Recoveries.{StopLeavesSound};
 
 /// The moves of a plan, made one after another, an action a turn, are the steps of a recovery: they may be made, and at
 /// each moment, whichever words have become durable, the law is sure of what it says.
@@ -17,4 +18,5 @@ pub fn making_law()
 pub fn crash_law()
     ensures during { CrashLeavesSound }
     ensures between { CrashBetweenLeavesSound }
+    ensures stops { StopLeavesSound }
 {}

@@ -1,8 +1,8 @@
 //! The recovery of a catalogue's image, as code.
 //!
-//! `recovery_law` says which moves a recovery makes, and what they leave whenever it is broken. Here they are planned:
-//! which nodes get another bitmap, which anchors of log lines are taken out of the search layer, which are set and to
-//! which nodes, and which lines get EMPTY.
+//! `recovery_law` says which moves a recovery makes, and what they leave whenever it is broken. Here they are planned on
+//! the image (`plan`), and made on the memory, an action at a time (`Making`): to the end at once (`recover`), or by
+//! someone who may stop it after each action (`begin`, `Recovery`). An image that isn't sound by all rules is refused.
 #![tactic(auto)]
 
 mod anchored;
@@ -11,6 +11,7 @@ mod making;
 mod moves;
 mod planning;
 mod recovering;
+mod stepping;
 mod storing;
 mod trim;
 mod words;
@@ -19,6 +20,7 @@ pub use making::Making;
 pub use moves::Move;
 pub use planning::plan;
 pub use recovering::{Refused, make, make_all, recover};
+pub use stepping::{Begun, Recovery, begin};
 pub use storing::{Storing, StoringAt};
 
 #[cfg(test)]

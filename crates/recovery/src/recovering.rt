@@ -1,6 +1,6 @@
 //! A recovery from its beginning to its end.
 
-ghost use Rattle.std.specs.Prelude.{◌≡◌, ◌↔◌, suc, List, ◌∷◌, IsTrue, IfOk, MatchResult, map};
+ghost use Rattle.std.specs.Prelude.{◌≡◌, ◌↔◌, suc, List, ◌∷◌, IsTrue, IfOk, MatchOption, MatchResult, map};
 ghost use Rattle.pm_words.specs.Images.{Row};
 ghost use Rattle.version_lock.specs.Versions.{IsGeneration};
 ghost use Rattle.sound_layer.specs.Sound.{IsSoundByAll};
@@ -80,6 +80,21 @@ fn recovered<L: Ledger>(
     Ok(memory)
 }
 
+/// Why an image isn't to be recovered.
+pub(crate) fn refusal(image: &Image) -> Option<Refused>
+    ensures { MatchOption result
+        (IsSoundByAll image.now.layout image.now.words × IsGeneration (suc (columns image.now).generation))
+        (IsRefusedFor image.now) }
+{
+    if let Some(broken) = first_broken_of_all(image) {
+        return Some(Refused::Unsound(broken));
+    }
+    if is_last(image) {
+        return Some(Refused::LastGeneration);
+    }
+    None
+}
+
 /// Recovers an image: the memory then has the same list and the same map, in the next generation, with an empty log, a
 /// search layer that is exactly the list's, and no live slot out of its node's range; and all of it is durable. An
 /// image that isn't sound is refused, by the first of all rules that it breaks, and so is one of the last generation.
@@ -91,11 +106,8 @@ pub fn recover<L: Ledger>(
     ensures { MatchResult result
         (λ memory. IsSoundByAll image.layout image.words × IsRecoveredTo image memory) (IsRefusedFor image) }
 {
-    if let Some(broken) = first_broken_of_all(&image) {
-        return Err(Refused::Unsound(broken));
-    }
-    if is_last(&image) {
-        return Err(Refused::LastGeneration);
+    if let Some(refused) = refusal(&image) {
+        return Err(refused);
     }
     match recovered(alloc, image, steps) {
         Ok(memory) => Ok(memory),

@@ -2,7 +2,7 @@
 
 ghost use Rattle.std.specs.Prelude.{◌≡◌, ◌<◌};
 
-use crate::{Move, Refused, plan, recover};
+use crate::{Begun, Move, Refused, begin, plan, recover};
 use pm_words::{Image, Layout, Steps};
 use sound_image::{Broken, first_broken};
 use sound_layer::first_broken_of_all;
@@ -120,13 +120,16 @@ fn recovered<L: Ledger>(
 {
     let (book, share) = blank.open::<L>();
     let mut steps = Steps::new(book, share);
-    let memory = match recover(alloc, image_with(alloc, changes)?, &mut steps) {
-        Ok(memory) => memory,
-        Err(refused) => return Ok(Err(refused)),
-    };
-    let image = memory.crash();
+    match recover(alloc, image_with(alloc, changes)?, &mut steps) {
+        Ok(memory) => Ok(Ok(words_at(alloc, memory.crash(), places)?)),
+        Err(refused) => Ok(Err(refused)),
+    }
+}
+
+/// The words of an image that is sound.
+fn words_at(alloc: Global, image: Image, places: [u64; 3]) -> Result<[u64; 3], Fail> {
     if first_broken_of_all(&image).is_some() {
-        return Err("what is left isn't sound")?;
+        return Err("the image isn't sound")?;
     }
     let bytes = image.write(alloc)?;
     let (words, _) = bytes.as_chunks::<8>();
@@ -136,7 +139,7 @@ fn recovered<L: Ledger>(
             *word = u64::from_le_bytes(*bytes);
         }
     }
-    Ok(Ok(found))
+    Ok(found)
 }
 
 #[test]
@@ -173,6 +176,62 @@ fn refusals(rt: HostRuntime) -> Result<(), Fail> {
         changes[0] = change;
         let found = recovered::<Brand>(rt.alloc(), Blank::new(1), changes, [0; 3])?;
         assert_eq!(rt; found, Err(want), "{change:?}");
+    }
+    Ok(())
+}
+
+/// The same words where a recovery is stopped after so many actions, and what a crash leaves is recovered.
+fn recovered_again<L: Ledger>(
+    alloc: Global,
+    blank: Blank,
+    changes: Changes,
+    places: [u64; 3],
+    count: u64,
+) -> Result<[u64; 3], Fail>
+    requires name { blank.name ≡ L.name }
+    requires parts { (blank.parts ≡ L.parts) × (0 < L.parts) }
+{
+    let (book, share) = blank.open::<L>();
+    let mut steps = Steps::new(book, share);
+    let Ok(
+        Begun {
+            mut recovery,
+            mut memory,
+        },
+    ) = begin(alloc, image_with(alloc, changes)?)
+    else {
+        return Err("the image is refused")?;
+    };
+    for _action in 0..count {
+        recovery.step(&mut memory, &mut steps);
+    }
+    let image = memory.crash();
+    if first_broken_of_all(&image).is_some() {
+        return Err("what a stop leaves isn't sound")?;
+    }
+    match recover(alloc, image, &mut steps) {
+        Ok(memory) => words_at(alloc, memory.crash(), places),
+        Err(_) => Err("it can't be recovered again")?,
+    }
+}
+
+#[test]
+fn stops(rt: HostRuntime) -> Result<(), Fail> {
+    for (changes, places, want) in [
+        (STRAY, [267, 144, 219], [0, 0, 2]),
+        (MISSING, [219, 144, 235], [2, 0, 3]),
+        (STALE, [81, 96, 100], [1, A, C]),
+    ] {
+        for count in [0, 1, 2, 13, 18, 40, 60, 90] {
+            let found = recovered_again::<Brand>(
+                rt.alloc(),
+                Blank::new(1),
+                changes,
+                places,
+                count,
+            )?;
+            assert_eq!(rt; found, want, "{changes:?} stopped at {count}");
+        }
     }
     Ok(())
 }
