@@ -1,0 +1,31 @@
+use Rattle.std.proofs.Common.{Option, ◌∙◌, sym, subst, ap}
+use Rattle.pm_words.specs.declared.machine.Turn.TheVariants.{Go, Done}
+use Rattle.pm_words.specs.Images.{Row}
+use Rattle.recovery.specs.declared.making.Making.{Making}
+use Rattle.recovery.specs.Recoveries.{IsRecoveringAt, moves_left}
+use Rattle.recovery.proofs.RecoveringLemmas.{move_acts, move_goes}
+use Rattle.recovery.proofs.stepping.Recovery.step.Goals as goal
+use Rattle.recovery.proofs.stepping.Recovery.step.Goals.{in-Go, in-Done}
+
+pub act-got-requires : goal.act-got-requires
+act-got-requires g c =
+    let one = c.in-Some.ensures {u = tt} c.requires.image c.requires.recoverable c.requires.recovering in
+    move_acts c.requires.image c.requires.recoverable c.args.memory.now c.in-Some.making (moves_left c.current.new.self) c.action.result one.layout c.action.ensures one.here
+
+pub returns-clause-goes : goal.returns-clause-goes
+returns-clause-goes g c = λ image recoverable recovering.
+    let rest = moves_left c.current.new.self in
+    let one = c.in-Some.ensures {u = tt} image recoverable recovering in
+    let layout = ap (λ (r : Row). r.layout) c.act-got.ensures.row ∙ one.layout in
+    elim c.match-resume.branch as (λ _. IsRecoveringAt image c.act-got.new.self rest c.match-resume.self) [
+      | in-Go w ↦ subst (λ (m : Option Making). IsRecoveringAt image c.act-got.new.self rest m) (sym w.self-is) (record {
+        layout = layout;
+        here = move_goes image recoverable c.args.memory.now c.act-got.new.self c.in-Some.making rest c.action.result c.act-got.result (Go w.in-Go.next) one.layout c.action.ensures one.here
+            c.act-got.ensures.row c.act-got.ensures.got (sym c.resume.ensures.turned ∙ w.in-Go.is);
+      })
+      | in-Done w ↦ subst (λ (m : Option Making). IsRecoveringAt image c.act-got.new.self rest m) (sym w.self-is) (record {
+        layout = layout;
+        between = move_goes image recoverable c.args.memory.now c.act-got.new.self c.in-Some.making rest c.action.result c.act-got.result (Done w.in-Done.field-0) one.layout c.action.ensures one.here
+            c.act-got.ensures.row c.act-got.ensures.got (sym c.resume.ensures.turned ∙ w.in-Done.is);
+      })
+    ]
