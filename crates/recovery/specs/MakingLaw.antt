@@ -5,7 +5,8 @@ use Rattle.pm_words.specs.declared.machine.Turn.{Turn}
 use Rattle.pm_words.specs.declared.machine.Turn.TheVariants.{Go, Done}
 use Rattle.pm_words.specs.declared.fence.FenceAt.{FenceAt}
 use Rattle.pm_words.specs.declared.fence.FenceAt.TheVariants as fence
-use Rattle.pm_words.specs.Locations.{Word, Root, Cached, Durable, at, word_number, image_words, cached_address, durable_address}
+use Rattle.pm_words.specs.Locations.{Word, Root, Cached, Durable, at}
+use Rattle.pm_words.specs.Locations.{word_number, image_words, cached_address, durable_address}
 use Rattle.pm_words.specs.Rows.{IsRow, CanAct, acted, got, evicted}
 use Rattle.version_lock.specs.Versions.{IsGeneration}
 use Rattle.data_node.specs.Lists.{ListNode}

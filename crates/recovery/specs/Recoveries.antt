@@ -1,5 +1,5 @@
 -- A recovery between any two of its actions.
-use Rattle.std.specs.Prelude.{◌≡◌, List, map, drop, Option, Some, None}
+use Rattle.std.specs.Prelude.{◌≡◌, ◌<◌, ◌⊎◌, ℕ, suc, List, map, drop, Option, Some, None}
 use Rattle.pm_words.specs.Images.{Row}
 use Rattle.pm_words.specs.Rows.{durable_row}
 use Rattle.recovery_law.specs.Moves as law
@@ -7,6 +7,7 @@ use Rattle.recovery.specs.declared.making.Making.{Making}
 use Rattle.recovery.specs.declared.stepping.Begun.{Begun}
 use Rattle.recovery.specs.declared.stepping.Recovery.{Recovery}
 use Rattle.recovery.specs.Plans.{columns, list_of, move_of}
+use Rattle.recovery.specs.Makings.{making_left}
 use Rattle.recovery.specs.MakingLaw.{IsAtMove}
 use Rattle.recovery.specs.Recovered.{IsRecoverable, IsUnderWay, IsLeftOf}
 
@@ -37,6 +38,21 @@ pub record MayStep (recovery : Recovery) (row : Row) : Type 0 where
 pub record IsBegun (image : Row) (begun : Begun) : Type 0 where
   pub recoverable : IsRecoverable image
   pub recovering : IsRecovering image begun.recovery begun.memory
+
+-- The move that it was at is taken, or else a further one has begun.
+pub record IsTaken (old new : Recovery) (making : Making) : Type 0 where
+  pub moves : new.moves ≡ old.moves
+  pub which : ((new.begun ≡ old.begun) × (old.making ≡ Some making)) ⊎ (old.begun < new.begun)
+
+-- how many actions the move at hand asks for at most
+abbrev pub actions_left : Option Making → ℕ
+actions_left None = 0
+actions_left (Some making) = suc (making_left making)
+
+-- It has come nearer to its end: more moves have begun, or as many, and the one at hand asks for fewer actions.
+pub record IsNearer (old new : Recovery) : Type 0 where
+  pub moves : new.moves ≡ old.moves
+  pub nearer : (old.begun < new.begun) ⊎ ((new.begun ≡ old.begun) × (actions_left new.making < actions_left old.making))
 
 -- Whenever it is stopped, a crash leaves an image that may be recovered again.
 abbrev pub StopLeavesSound : Type 0

@@ -58,11 +58,11 @@ pub fn begin(alloc: Global, image: Image) -> Result<Begun, Refused>
 }
 
 impl Recovery {
-    ghost use Rattle.std.specs.Prelude.{◌≡◌, List, map, false, MatchOption};
+    ghost use Rattle.std.specs.Prelude.{◌≡◌, ◌+◌, List, map, true, false, if◌then◌else◌, IfSome, MatchOption};
     ghost use Rattle.pm_words.specs.Images.{Row};
     ghost use Rattle.recovery.specs.Plans.{move_of};
     ghost use Rattle.recovery.specs.Recovered.{IsRecoverable, IsUnderWay, IsRecoveredTo};
-    ghost use Rattle.recovery.specs.Recoveries.{IsRecovering, MayStep, IsMakingOne, moves_left};
+    ghost use Rattle.recovery.specs.Recoveries.{IsRecovering, MayStep, IsMakingOne, moves_left, IsTaken, IsNearer};
 
     /// The recovery that makes these moves.
     pub fn new(moves: Vec<Move>) -> Recovery
@@ -78,7 +78,8 @@ impl Recovery {
     /// The move that is made, or else the next one; None where all are made.
     fn current(&mut self, memory: &Memory) -> Option<Making>
         requires { MayStep self.old memory.now }
-        ensures { (image : Row) → IsRecoverable image → IsRecovering image self.old memory.now →
+        ensures taken { IfSome result (IsTaken self.old self.new) }
+        ensures at { (image : Row) → IsRecoverable image → IsRecovering image self.old memory.now →
             MatchOption result (IsRecoveredTo image memory.now × IsRecovering image self.new memory.now)
             (IsMakingOne image memory.now (moves_left self.new)) }
     {
@@ -100,6 +101,8 @@ impl Recovery {
             IsRecovering image self.new memory.new }
         ensures ends { (image : Row) → IsRecoverable image → IsRecovering image self.old memory.old →
             result ≡ false → IsRecoveredTo image memory.new }
+        ensures nearer { result ≡ true → IsNearer self.old self.new }
+        ensures counts { steps.new ≡ (if result then steps.old + 1 else steps.old) }
     {
         let Some(making) = self.current(memory) else {
             return false;

@@ -18,8 +18,8 @@ const B: u64 = 0x62 << 56;
 
 const C: u64 = 0x63 << 56;
 
-/// Of four nodes with four slots each: the list goes by node 2, whose anchor is `a`, and then by node 1, whose anchor is
-/// `b`; leaf 3 leads `a` to node 2, and leaf 1 leads `b` to node 1. Node n starts at word 16 + 32 n, the log at word
+/// Of four nodes with four slots each: the list goes by node 2, whose anchor is `a`, and then by node 1, whose anchor
+/// is `b`; leaf 3 leads `a` to node 2, and leaf 1 leads `b` to node 1. Node n starts at word 16 + 32 n, the log at word
 /// 144, and the leaves at word 208.
 const LISTED: [(u64, u64); 8] = [
     (18, 2),

@@ -15,8 +15,8 @@ of-requires c =
     (begins_move c.requires.image c.requires.recoverable c.args.memory.now c.index-next.result.now rest
     (next_is c.requires.image c.args.memory.now recovery c.index-next.result.now c.in_default.is within c.index-next.ensures c.requires.recovering)).0
 
-pub returns : goal.returns
-returns c = λ image recoverable recovering.
+pub returns-clause-at : goal.returns-clause-at
+returns-clause-at c = λ image recoverable recovering.
     let recovery = c.args.self.now in
     let ok = recovery.moves.ok in
     let within : recovery.begun < length recovery.moves.items = omega arith in
@@ -24,8 +24,8 @@ returns c = λ image recoverable recovering.
     next_begins image c.args.memory.now c.index-next.result.now rest c.of.result recoverable
     (next_is image c.args.memory.now recovery c.index-next.result.now c.in_default.is within c.index-next.ensures recovering) c.of.ensures.new c.of.ensures.sound
 
-pub returns-then-len-self : goal.returns-then-len-self
-returns-then-len-self c = λ image recoverable recovering.
+pub returns-then-len-self-clause-at : goal.returns-then-len-self-clause-at
+returns-then-len-self-clause-at c = λ image recoverable recovering.
     let recovery = c.args.self.now in
     let ok = recovery.moves.ok in
     let past : length recovery.moves.items ≤ recovery.begun = omega arith in (
