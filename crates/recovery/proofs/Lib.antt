@@ -6,5 +6,5 @@ pub mod StoringLaw
 pub mod ChangingLaw
 pub mod MakingLemmas
 pub mod SoundColumns
-pub mod RecoveringLemmas
 pub mod CrashLemmas
+pub mod RecoveringLemmas

@@ -29,6 +29,7 @@ use Rattle.recovery.specs.MakingLaw.{IsAtMove, IsAfterTurn}
 use Rattle.recovery.specs.Recovered.{IsRecoverable, IsUnderWay, IsRecoveredTo}
 use Rattle.recovery.specs.Recoveries.{IsRecoveringAt, IsRecovering, IsMakingOne, moves_left}
 use Rattle.recovery.proofs.SoundColumns.{all_sound}
+use Rattle.recovery.proofs.CrashLemmas.{crash_between_leaves_sound}
 use Rattle.recovery.proofs.MakingLemmas.{makings_begin, makings_go}
 
 -- of one action: the number that it gave, and the words afterwards, where it is told what was asked
@@ -112,6 +113,7 @@ module _ (image : Row) (recoverable : IsRecoverable image) where
         layout = under.layout;
         rests = ends_at_rest image.layout (list_of image) o now safe recoverable.sound recoverable.next
             (plan_ends image.layout (list_of image) o now safe under.between.stage recoverable.sound under.between.sure under.between.plan);
+        left = crash_between_leaves_sound image [] row.words recoverable under.between;
       }
 
 -- Recoveries that may be stopped. Between two moves the next one is under way,

@@ -43,11 +43,23 @@ pub record MayEnd (row : Row) (rest : List law.Move) : Type 0 where
   pub recoverable : IsRecoverable image
   pub under_way : IsUnderWay image row rest
 
--- The rows are those of the image once it is recovered.
+-- What a recovery leaves of the image, whole or broken: an image that is sound by all rules, with the same list
+-- and the same map, in the generation that it had or in the next one.
+pub record IsLeftOf (image : Row) (left : List ℕ) : Type 0 where
+  pub is_image : IsImage image.layout left
+  pub sound : IsSoundByAll image.layout left
+  pub same_list : image_list image.layout left ≡ list_of image
+  pub same_map : (m : Map) → IsMapOf image.layout image.words m ↔ IsMapOf image.layout left m
+  pub generation : (header_generation image.layout left ≡ header_generation image.layout image.words) ⊎
+      (header_generation image.layout left ≡ suc (header_generation image.layout image.words))
+
+-- The rows are those of the image once it is recovered: by its columns, cached and durable, and as the image that is
+-- durable then.
 pub record IsRecoveredTo (image row : Row) : Type 0 where
   pub layout : row.layout ≡ image.layout
   pub rests : Rests image.layout (list_of image) (columns image) (columns_in image.layout row.words Cached)
       (columns_in image.layout row.words Durable)
+  pub left : IsLeftOf image (durable_row image.layout row.words)
 
 -- Why the image is refused: by the first of all rules that it breaks; or it is sound, and of the last generation; or
 -- neither, and there was no memory.
@@ -57,16 +69,6 @@ IsRefusedFor image LastGeneration =
     IsSoundByAll image.layout image.words × ¬ IsGeneration (suc (columns image).generation)
 IsRefusedFor image NoMemory =
     IsSoundByAll image.layout image.words × IsGeneration (suc (columns image).generation)
-
--- What is left of the image where a recovery of it is broken: an image that is sound by all rules, with the same list
--- and the same map, in the generation that it had or in the next one.
-pub record IsLeftOf (image : Row) (left : List ℕ) : Type 0 where
-  pub is_image : IsImage image.layout left
-  pub sound : IsSoundByAll image.layout left
-  pub same_list : image_list image.layout left ≡ list_of image
-  pub same_map : (m : Map) → IsMapOf image.layout image.words m ↔ IsMapOf image.layout left m
-  pub generation : (header_generation image.layout left ≡ header_generation image.layout image.words) ⊎
-      (header_generation image.layout left ≡ suc (header_generation image.layout image.words))
 
 -- So does each crash leave it, during a move and between two.
 abbrev pub CrashLeavesSound : Type 0
