@@ -1,1 +1,1 @@
-pub mod EmptiedLines
+pub mod LeftLines

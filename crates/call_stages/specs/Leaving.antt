@@ -1,11 +1,11 @@
 -- Who empties the log lines of splits and merges.
-use Rattle.std.specs.Prelude.{◌≡◌, Bool, false}
+use Rattle.std.specs.Prelude.{◌≡◌, Bool, true}
 
 -- Whether splits and merges leave their READY log lines to a turn of the updater. It doesn't unfold, so what is proved
 -- holds for both.
 unfoldable pub leaves_lines : Bool
-leaves_lines = false
+leaves_lines = true
 
--- Today they don't: they empty them themselves.
-abbrev pub LinesAreEmptied : Type 0
-LinesAreEmptied = leaves_lines ≡ false
+-- They do.
+abbrev pub LinesAreLeft : Type 0
+LinesAreLeft = leaves_lines ≡ true

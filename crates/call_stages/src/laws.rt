@@ -1,8 +1,8 @@
 //! The law on who empties log lines. The function does nothing: it names what is proved.
 
-ghost use Rattle.call_stages.specs.Leaving.{LinesAreEmptied};
+ghost use Rattle.call_stages.specs.Leaving.{LinesAreLeft};
 
-/// Today splits and merges empty their own log lines.
-pub fn emptied_law()
-    ensures { LinesAreEmptied }
+/// Splits and merges leave their log lines to turns of the updater.
+pub fn left_law()
+    ensures { LinesAreLeft }
 {}
