@@ -10,7 +10,6 @@ use Rattle.call_stages.specs.declared.once.Placed.{Placed}
 use Rattle.call_stages.specs.Stages.{Held, Grip, Filling, Linked, Gathered, Joined, Gone, Stage, Holds, Splits, Joins}
 use Rattle.call_stages.specs.Stages.{Tells, counted}
 use Rattle.call_stages.specs.Kinds.{Step}
-use Rattle.call_stages.specs.Leaving.{leaves_lines}
 use Rattle.call_stages.specs.Lines.{HeldLine, Notes}
 use Rattle.call_stages.specs.AnySteps.{IsBeside}
 use Rattle.call_stages.specs.Prevs.{Debt, Deals, Prevs}
@@ -45,15 +44,13 @@ HasLine None P = ⊥
 HasLine (Some e) P = P e
 
 -- What a step on nodes asks of the party's line: by a switch the list changes only while the line is OPEN for it, and
--- a node becomes GONE while the line isn't READY yet; where lines are left to turns, the node is given back only once
--- the line is READY.
+-- a node becomes GONE while the line isn't READY yet; it is given back only once the line is READY.
 abbrev pub Minds : Stage → Stage → Option HeldLine → Type 0
 Minds (Splits left fresh (Filling true)) (Splits after other Linked) line = HasLine line (λ e. IsOpenOf e fresh)
 Minds (Joins h left right Gathered) (Joins held after other Joined) line =
     HasLine line (λ e. IsOpenOf e right × IsOfMerge e right)
 Minds (Joins h left right Joined) (Joins held after other Gone) line = HasLine line (λ e. e.ready ≡ false)
-Minds (Joins h left right Gone) (Holds n lock held) line =
-    leaves_lines ≡ true → HasLine line (λ e. (e.ready ≡ true) × IsOfMerge e right)
+Minds (Joins h left right Gone) (Holds n lock held) line = HasLine line (λ e. (e.ready ≡ true) × IsOfMerge e right)
 Minds _ _ line = Unit {0}
 
 -- The stage holds the right node of its merge, which is GONE.
@@ -78,7 +75,6 @@ IsKnownEmpty e = (s : Spot) → Tells e.seen s → s 0 ≡ 0
 
 -- The line is left to a turn: it was made READY, and the party gives back the node that it merged, if it did.
 pub record IsLeftToTurn (next : Stage) (e : HeldLine) : Type 0 where
-  pub leaves : leaves_lines ≡ true
   pub ready : e.ready ≡ true
   pub given_back : (right : Grip) → HoldsMerged next right → ⊥
 

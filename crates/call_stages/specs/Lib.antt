@@ -7,4 +7,3 @@ pub mod Orders
 pub mod Footings
 pub mod Views
 pub mod Watches
-pub mod Leaving

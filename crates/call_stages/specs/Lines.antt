@@ -9,7 +9,6 @@ use Rattle.data_node.specs.Spots.{Spot, updated}
 use Rattle.data_node.specs.Lines as lines
 use Rattle.call_stages.specs.Stages.{IsAmong, Tells}
 use Rattle.call_stages.specs.Kinds.{Soils, Cleans}
-use Rattle.call_stages.specs.Leaving.{leaves_lines}
 
 -- A line of the caller: words of it by offset, those that may differ from their durable twins, and the word in hand.
 -- Once the line is READY its state isn't the party's any more: a turn may empty it at any time.
@@ -47,11 +46,9 @@ pub data Marks (e : HeldLine) : ℕ → ℕ → List (ℕ × ℕ) → Bool → T
       ((s : Spot) → Tells e.seen s → s 0 ≡ 0) → Marks e offset y seen false
   -- its state: OPEN, of an EMPTY line;
   opens : {seen : List (ℕ × ℕ)} → e.ready ≡ false → ((s : Spot) → Tells e.seen s → s 0 ≡ 0) → Marks e 0 1 seen false
-  -- READY, of an OPEN line, all of which is durable;
+  -- READY, of an OPEN line, all of which is durable
   readies : {seen : List (ℕ × ℕ)} → e.ready ≡ false → e.dirty ≡ [] →
       ((s : Spot) → Tells e.seen s → s 0 ≡ 1) → IsBlind seen → Marks e 0 2 seen true
-  -- EMPTY, where no turn does that
-  empties : {seen : List (ℕ × ℕ)} → leaves_lines ≡ false → Marks e 0 0 seen false
 
 -- The steps on a line: a word of a line is loaded that nothing is relied on of; an EMPTY line is taken, its words are
 -- loaded, stored so that it stays in order whichever of them are durable, and made durable. What is no longer relied on

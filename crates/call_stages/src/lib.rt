@@ -4,11 +4,8 @@
 //! kinds, and the law is proved for the kinds, whatever machine makes the step.
 #![tactic(auto)]
 
-pub mod laws;
-mod leaving;
 mod once;
 mod view;
 
-pub use leaving::leaves_lines;
 pub use once::{Once, Placed};
 pub use view::View;
