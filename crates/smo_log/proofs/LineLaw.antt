@@ -16,7 +16,7 @@ use Rattle.data_node.specs.Spots.{Spot, updated}
 use Rattle.data_node.proofs.SpotLemmas.{updated-same, updated-other}
 use Rattle.call_stages.specs.Stages.{IsAmong, Tells}
 use Rattle.call_stages.specs.Kinds.{Soils}
-use Rattle.call_stages.specs.Lines.{HeldLine, IsEntry, IsFitLine, TellsDurably, line_address, IsBlind, fills, opens, readies, empties, Notes, passes_line, takes, looks_up, notes, keeps_safe}
+use Rattle.call_stages.specs.Lines.{HeldLine, IsEntry, IsFitLine, TellsDurably, IsBlind, fills, opens, readies, Notes, passes_line, takes, looks_up, notes, keeps_safe}
 use Rattle.call_stages.specs.AnySteps.{loads_line, stores_line, drains_line}
 use Rattle.pm_words.specs.declared.fence.Fence.{Fence}
 use Rattle.smo_log.specs.declared.line.Entry.{Entry}
@@ -36,7 +36,7 @@ use Rattle.smo_log.specs.LogLines.{caller_of, index_of, numbered_address, field_
 use Rattle.smo_log.specs.Takes.{take_line, take_at_asks, saw_state, take_fenced, take_at_turned, IsTakeAt, IsTake, take_at_held, TakeNotes}
 use Rattle.smo_log.specs.Opens.{opens_on, open_at_asks, fields_fenced, state_fenced, open_at_turned, IsOpenAt, IsOpen, stored, filled_line, open_at_held, OpenNotes}
 use Rattle.smo_log.specs.States.{ready_at_asks, ready_fenced, ready_at_turned, IsReadyAt, IsReady, ready_at_held, ReadyNotes}
-use Rattle.smo_log.specs.Laws.{TakesAreNotes, OpensAreNotes, ReadiesAreNotes, ClearsAreNotes, ReadsAreNotes, NoneEmpty, HasLooked, TakeHeeds, TakesHeed, ReadsHeed, NotesAreBeside}
+use Rattle.smo_log.specs.Laws.{TakesAreNotes, OpensAreNotes, ReadiesAreNotes, ReadsAreNotes, NoneEmpty, HasLooked, TakeHeeds, TakesHeed, ReadsHeed, NotesAreBeside}
 use Rattle.smo_log.specs.Reads.{ReadNotes, ReadsOn, seen_in}
 use Rattle.smo_log.proofs.FenceLaw.{Fences, fence_leads}
 
@@ -297,13 +297,6 @@ module _ (ready : Ready) (entry : Entry) (sound : IsReady ready) where
 
 pub readies_are_notes : ReadiesAreNotes
 readies_are_notes ready entry x sound fits = ready_leads ready entry sound ready.at x sound.here fits
-
-pub clears_are_notes : ClearsAreNotes
-clears_are_notes clear held x emptied sound caller number =
-    subst (λ (p : ℕ × ℕ). Notes clear.layout (Some held) (Store (line_address clear.layout p.0 p.1 0) 0) x (Some (record { caller = p.0; number = p.1; seen = (0, 0) ∷ []; dirty = (0, 1) ∷ held.dirty; hand = None; ready = false })))
-    (λ k. (caller k, number k))
-    (notes (omega arith) (omega arith) (empties emptied) (record { stored = inl (omega arith, omega arith); others = λ other among. inr among })
-    (λ s told. (updated-same s 0 0, tt)) (λ s told fit. inl (updated-same s 0 0)))
 
 pub reads_are_notes : ReadsAreNotes
 reads_are_notes read x sound =

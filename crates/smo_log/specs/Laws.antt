@@ -1,10 +1,9 @@
 -- What every turn on a log line is.
-use Rattle.std.specs.Prelude.{◌≡◌, ◌≢◌, ℕ, ◌+◌, ◌*◌, ◌^◌, ◌<◌, false, Option, Some, IfSome}
+use Rattle.std.specs.Prelude.{◌≡◌, ◌≢◌, ℕ, ◌+◌, ◌*◌, ◌^◌, ◌<◌, Option, IfSome}
 use Rattle.pm_words.specs.declared.layout.Layout.{Layout}
 use Rattle.pm_words.specs.declared.action.Action.{Action}
 use Rattle.pm_words.specs.declared.machine.Turn.{Turn}
 use Rattle.pm_words.specs.declared.machine.Turn.TheVariants.{Go, Done}
-use Rattle.call_stages.specs.Leaving.{leaves_lines}
 use Rattle.call_stages.specs.Lines.{HeldLine, Notes}
 use Rattle.call_stages.specs.AnySteps.{IsBeside}
 use Rattle.smo_log.specs.declared.line.Entry.{Entry}
@@ -15,13 +14,10 @@ use Rattle.smo_log.specs.declared.take.TakeAt.{TakeAt}
 use Rattle.smo_log.specs.declared.take.TakeAt.TheVariants as at
 use Rattle.smo_log.specs.declared.open.Open.{Open}
 use Rattle.smo_log.specs.declared.state.Ready.{Ready}
-use Rattle.smo_log.specs.declared.state.Clear.{Clear}
 use Rattle.smo_log.specs.declared.read.ReadLine.{ReadLine}
-use Rattle.smo_log.specs.LogLines.{caller_of, index_of}
 use Rattle.smo_log.specs.Takes.{IsTake, take_asks, take_turned, take_held, TakeNotes}
 use Rattle.smo_log.specs.Opens.{IsOpen, open_asks, open_turned, open_held, OpenNotes}
-use Rattle.smo_log.specs.States.{IsReady, ready_asks, ready_turned, ready_held, ReadyNotes, IsClear, clear_asks}
-use Rattle.smo_log.specs.States.{cleared_line}
+use Rattle.smo_log.specs.States.{IsReady, ready_asks, ready_turned, ready_held, ReadyNotes}
 use Rattle.smo_log.specs.Reads.{IsRead, read_asks, read_turned, ReadNotes, HasRead, ReadsOn}
 
 -- Each turn of a look for a line, whatever word it is told, is a step on a line,
@@ -38,12 +34,6 @@ OpensAreNotes = (open_ : Open) (x : ℕ) → IsOpen open_ → x < 2 ^ 64 →
 abbrev pub ReadiesAreNotes : Type 0
 ReadiesAreNotes = (ready : Ready) (entry : Entry) (x : ℕ) → IsReady ready → x < 2 ^ 64 →
     ReadyNotes ready.layout ready.line entry (ready_held entry ready) (ready_asks ready) x (ready_turned ready x)
-
--- the store of its state EMPTY, where lines aren't left to turns,
-abbrev pub ClearsAreNotes : Type 0
-ClearsAreNotes = (clear : Clear) (held : HeldLine) (x : ℕ) → leaves_lines ≡ false → IsClear clear →
-    held.caller ≡ caller_of clear.line → held.number ≡ index_of clear.line →
-    Notes clear.layout (Some held) (clear_asks clear) x (Some (cleared_line clear.line held.dirty))
 
 -- and each of a read, which relies on nothing.
 abbrev pub ReadsAreNotes : Type 0

@@ -1,5 +1,5 @@
 -- The states READY and EMPTY, step by step.
-use Rattle.std.specs.Prelude.{◌≡◌, ℕ, ◌*◌, ◌^◌, ◌<◌, true, false, List, [], ◌∷◌, Option, Some, None}
+use Rattle.std.specs.Prelude.{◌≡◌, ℕ, ◌*◌, ◌^◌, ◌<◌, true, Option, Some, None}
 use Rattle.pm_words.specs.declared.layout.Layout.{Layout}
 use Rattle.pm_words.specs.declared.action.Action.{Action}
 use Rattle.pm_words.specs.declared.action.Action.TheVariants.{Store}
@@ -14,7 +14,7 @@ use Rattle.smo_log.specs.declared.state.ReadyAt.{ReadyAt}
 use Rattle.smo_log.specs.declared.state.ReadyAt.TheVariants as at
 use Rattle.smo_log.specs.declared.state.Clear.{Clear}
 use Rattle.pm_words.specs.Fences.{fence_start, IsFence, fence_asks, fence_next, fence_left}
-use Rattle.smo_log.specs.LogLines.{caller_of, index_of, numbered_address, fields, fenced, open_line, ready_line}
+use Rattle.smo_log.specs.LogLines.{numbered_address, fields, fenced, open_line, ready_line}
 
 abbrev pub ready_from : Layout → ℕ → Ready
 ready_from layout line = record { layout = layout; line = line; at = at.State }
@@ -94,16 +94,3 @@ clear_takes clear got = IsClear clear × (got < 2 ^ 64)
 
 abbrev pub clear_left : Clear → ℕ
 clear_left clear = 1
-
--- what the party knows of a line that it cleared: it is EMPTY, but that, and what wasn't durable before, may not be
--- durable yet
-abbrev pub cleared_line : ℕ → List (ℕ × ℕ) → HeldLine
-cleared_line line dirty = record {
-  caller = caller_of line;
-  number = index_of line;
-  seen = (0, 0) ∷ [];
-  dirty =
-      (0, 1) ∷ dirty;
-  hand = None;
-  ready = false;
-}

@@ -1,6 +1,6 @@
 //! The laws of log lines.
 
-ghost use Rattle.smo_log.specs.Laws.{TakesAreNotes, OpensAreNotes, ReadiesAreNotes, ClearsAreNotes, ReadsAreNotes};
+ghost use Rattle.smo_log.specs.Laws.{TakesAreNotes, OpensAreNotes, ReadiesAreNotes, ReadsAreNotes};
 ghost use Rattle.smo_log.specs.Laws.{TakesHeed, ReadsHeed};
 
 /// Each turn on a line, whatever it is told, is a step on a line. A line that is taken is durably EMPTY, one that is
@@ -9,7 +9,6 @@ pub fn turns_are_notes()
     ensures takes { TakesAreNotes }
     ensures opens { OpensAreNotes }
     ensures readies { ReadiesAreNotes }
-    ensures clears { ClearsAreNotes }
     ensures reads { ReadsAreNotes }
 {}
 
