@@ -81,7 +81,7 @@ cases_both c j e = ⊎_elim
 -- a line that is let go needs no party
 let_go : (l : Layout) (words : List ℕ) (next : Stage) (e : HeldLine) → SureLine l words e → IsKnownEmpty e ⊎ IsLeftToTurn next e → NeedsNoParty (line_in l words e.caller e.number 0)
 let_go l words next e sure (inl empty) = inl (empty (line_in l words e.caller e.number) sure.seen)
-let_go l words next e sure (inr left) = ⊎_elim (λ emptied. inl emptied) (λ ready. inr (left.leaves, ready)) (sure.waits left.ready).state
+let_go l words next e sure (inr left) = (sure.waits left.ready).state
 
 module _ (z : Whole) (i : ℕ) (p : Party) (whole : IsWhole z) (tended : AreTended z) (there : get_elem? z.world.parties i ≡ some p) where
   abbrev l : Layout

@@ -14,7 +14,7 @@ use Rattle.data_node.specs.Spots.{Spot, updated}
 use Rattle.data_node.proofs.SpotLemmas.{updated-same, updated-other}
 use Rattle.call_stages.specs.Stages.{IsAmong, Held, just_held, Tells}
 use Rattle.call_stages.specs.Kinds.{Cleans, word_address, status_address, prev_address, clock_address}
-use Rattle.call_stages.specs.Lines.{HeldLine, line_address, IsEntry, IsFitLine, Marks, fills, opens, readies, empties, TellsDurably, looks_up, notes, keeps_safe}
+use Rattle.call_stages.specs.Lines.{HeldLine, line_address, IsEntry, IsFitLine, Marks, fills, opens, readies, TellsDurably, looks_up, notes, keeps_safe}
 use Rattle.index_law.specs.Facts.{Facts}
 use Rattle.index_law.specs.Worlds.{World, facts}
 use Rattle.index_law.specs.Lawful.{IsList, AreLive, AreKnown, AreSure, AreSettled, AreFreeOrHeld, AreBacked, Lawful}
@@ -292,19 +292,11 @@ waiting_fit l seen now safe mix waits (inl none) same = inl none
 waiting_fit l seen now safe mix waits (inr ready) same =
     inr (entry_like l (updated now 0 2) mix (omega arith) (λ offset other. same offset other ∙ sym (updated-other now 0 2 offset other)) waits.entry)
 
--- what a store into a line is for: whose words it may change, and what follows of a line that is READY then
-marks_given : (e : HeldLine) (offset y : ℕ) (seen : List (ℕ × ℕ)) (ready : Bool) → Marks e offset y seen ready → (o : ℕ) → IsGiven e o → o ≡ offset
-marks_given e offset y seen ready (fills other unready empty_state) o given = absurd (let no : true ≡ false = sym given.ready ∙ unready in cc)
-marks_given e offset y seen ready (opens unready empty_state) o given = absurd (let no : true ≡ false = sym given.ready ∙ unready in cc)
-marks_given e offset y seen ready (readies unready durable open_state blind) o given = absurd (let no : true ≡ false = sym given.ready ∙ unready in cc)
-marks_given e offset y seen ready (empties today) o given = given.state
-
--- a mark is of a line that isn't READY, or empties the line
-marks_cases : {P : Type 0} (e : HeldLine) (offset y : ℕ) (seen : List (ℕ × ℕ)) (ready : Bool) → Marks e offset y seen ready → (e.ready ≡ false → P) → (offset ≡ 0 → y ≡ 0 → P) → P
-marks_cases e offset y seen ready (fills other unready empty_state) own emptied = own unready
-marks_cases e offset y seen ready (opens unready empty_state) own emptied = own unready
-marks_cases e offset y seen ready (readies unready durable open_state blind) own emptied = own unready
-marks_cases e offset y seen ready (empties today) own emptied = emptied refl refl
+-- a store into a line is for one that isn't READY
+pub marks_unready : (e : HeldLine) (offset y : ℕ) (seen : List (ℕ × ℕ)) (ready : Bool) → Marks e offset y seen ready → e.ready ≡ false
+marks_unready e offset y seen ready (fills other unready empty_state) = unready
+marks_unready e offset y seen ready (opens unready empty_state) = unready
+marks_unready e offset y seen ready (readies unready durable open_state blind) = unready
 
 -- one that wasn't made READY isn't
 marked_unready : (e : HeldLine) (offset y : ℕ) (seen : List (ℕ × ℕ)) (ready : Bool) → Marks e offset y seen ready → (now : Spot) → Tells e.seen now → ready ≡ false → updated now offset y 0 ≢ 2
@@ -312,7 +304,6 @@ marked_unready e offset y seen ready (fills other unready empty_state) now told 
     let same = updated-other now offset y 0 (λ zero. other (sym zero)) in let none : now 0 ≡ 0 = empty_state now told in omega arith
 marked_unready e offset y seen ready (opens unready empty_state) now told is two = let one = updated-same now 0 1 in omega arith
 marked_unready e offset y seen ready (readies unready durable open_state blind) now told is two = absurd (let no : true ≡ false = is in cc)
-marked_unready e offset y seen ready (empties today) now told is two = let none = updated-same now 0 0 in omega arith
 
 -- a line that was made READY waits
 marked_waits : (l : Layout) (e : HeldLine) (offset y : ℕ) (seen : List (ℕ × ℕ)) (ready : Bool) → Marks e offset y seen ready → (now safe now' safe' : Spot) → Tells e.seen now
@@ -320,7 +311,6 @@ marked_waits : (l : Layout) (e : HeldLine) (offset y : ℕ) (seen : List (ℕ ×
     → IsWaiting l seen now' safe'
 marked_waits l e offset y seen ready (fills other unready empty_state) now safe now' safe' told clean fit stored stays is = absurd (cc)
 marked_waits l e offset y seen ready (opens unready empty_state) now safe now' safe' told clean fit stored stays is = absurd (cc)
-marked_waits l e offset y seen ready (empties today) now safe now' safe' told clean fit stored stays is = absurd (cc)
 marked_waits l e offset y seen ready (readies unready durable open_state blind) now safe now' safe' told clean fit stored stays is =
     let beside : (o : ℕ) → o ≢ 0 → now' o ≡ now o = λ o other. stored o ∙ updated-other now 0 2 o other in
     let entry : IsEntry l now = ⊎_elim (λ none. absurd (let opened : now 0 ≡ 1 = open_state now told in omega arith)) (λ entry. entry) fit in
@@ -481,17 +471,16 @@ notes_law w e a x next lawful fit sure (notes {y = y} {offset = offset} {seen = 
     let own = own_line w lawful fit e sure offset small y fits in
     let stays = safe_stays w lawful fit e sure offset small y fits in
     let now = line_in l w.words e.caller e.number in
+    let unready : e.ready ≡ false = marks_unready e offset y seen ready marks in
     record {
       kept = stored_lawful w lawful fit e sure offset small y fits;
-      fit = stored_fit w lawful fit e sure offset small y fits (marks_cases e offset y seen ready marks
-          (λ unready. unready_keeps w lawful fit e sure offset small y fits unready keeps)
-          (λ zero none before is fit_before. inl ((λ k. updated before (zero k) (none k) 0) ∙ updated-same before 0 0)));
+      fit = stored_fit w lawful fit e sure offset small y fits (unready_keeps w lawful fit e sure offset small y fits unready keeps);
       sure = record {
         here = sure.here;
         seen = subst (Tells seen) (sym (same_spots (line_in l words e.caller e.number) (updated now offset y) own)) (told_seen now sure.seen);
         clean = λ o spared given.
             let beside : o ≢ offset = (λ same. spared (subst (IsAmong dirty) (sym same) soils.stored)) in
-            stays e.caller e.number o ∙ sure.clean o (λ among. spared (soils.others o among)) (λ g. beside (marks_given e offset y seen ready marks o g))
+            stays e.caller e.number o ∙ sure.clean o (λ among. spared (soils.others o among)) (λ given'. absurd (let no : true ≡ false = sym given'.ready ∙ unready in cc))
             ∙ sym (updated-other now offset y o beside) ∙ sym (own o);
         hand = tt;
         unready = λ own two. marked_unready e offset y seen ready marks now sure.seen own (sym (own_line w lawful fit e sure offset small y fits 0) ∙ two);

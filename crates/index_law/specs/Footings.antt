@@ -1,5 +1,5 @@
 -- What the steps of a party, on nodes, on its log line and on prevs, keep of all parties' lines and debts.
-use Rattle.std.specs.Prelude.{◌≡◌, ℕ, ◌<◌, ◌^◌, ◌⊎◌, true, length, slice_set, Option, Some}
+use Rattle.std.specs.Prelude.{◌≡◌, ℕ, ◌<◌, ◌^◌, ◌⊎◌, length, slice_set, Option, Some}
 use mathlib.Core.Option.{some}
 use lib.ListN.{get_elem?}
 use Rattle.pm_words.specs.declared.layout.Layout.{Layout}
@@ -7,7 +7,6 @@ use Rattle.pm_words.specs.declared.action.Action.{Action}
 use Rattle.pm_words.specs.Rows.{got}
 use Rattle.call_stages.specs.declared.once.Once.{Once}
 use Rattle.call_stages.specs.declared.once.Placed.{Placed}
-use Rattle.call_stages.specs.Leaving.{leaves_lines}
 use Rattle.call_stages.specs.Lines.{HeldLine}
 use Rattle.call_stages.specs.AnySteps.{AnyStep}
 use Rattle.call_stages.specs.Footings.{Footing, FootStep}
@@ -28,9 +27,9 @@ pub record IsInHand (z : Whole) (c j : ℕ) : Type 0 where
   pub caller : line.caller ≡ c
   pub index : line.number ≡ j
 
--- A log line of this state needs no party: it is EMPTY, or, where lines are left to turns, READY.
+-- A log line of this state needs no party: it is EMPTY, or READY and left to a turn.
 abbrev pub NeedsNoParty : ℕ → Type 0
-NeedsNoParty state = (state ≡ 0) ⊎ ((leaves_lines ≡ true) × (state ≡ 2))
+NeedsNoParty state = (state ≡ 0) ⊎ (state ≡ 2)
 
 -- Each log line needs no party, or is in some party's hand.
 abbrev pub AreTended : Whole → Type 0
