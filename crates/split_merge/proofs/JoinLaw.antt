@@ -24,7 +24,6 @@ use Rattle.call_stages.specs.declared.once.Once.{Once}
 use Rattle.call_stages.specs.declared.once.Placed.{Placed}
 use Rattle.call_stages.specs.Stages.{Tells, AreCopies, IsAmong, Held, Grip, Pace, Gathered, Joined, Gone, Stage, Idle, Holds, Splits, Meets, Joins, Filling, Linked, HoldsNode, counted, left_grip, merged_held}
 use Rattle.call_stages.specs.Kinds.{HasWordAt, Soils, Answers, writes, word_address, knows_right, copies, takes_up, puts_down, gathers, joins, glances_joined, drains_joined, retires, yields, Step, merges, unlocks}
-use Rattle.call_stages.specs.Leaving.{leaves_lines}
 use Rattle.call_stages.specs.Lines.{HeldLine, Notes}
 use Rattle.call_stages.specs.AnySteps.{stores_prev}
 use Rattle.call_stages.specs.Prevs.{IsSwitch, IsJoin as IsSwitchOver, IsRetire, Debt, no_debt, Deals, keeps, forgets, ends, joins as deals_join, pays, renews}
@@ -37,18 +36,17 @@ use Rattle.smo_log.specs.declared.state.ReadyAt.TheVariants as ready_at
 use Rattle.smo_log.specs.LogLines.{caller_of, index_of, fields, open_line, ready_line}
 use Rattle.smo_log.specs.Opens.{IsOpen, open_asks, open_turned, open_held, OpenNotes}
 use Rattle.smo_log.specs.States.{IsReady, ready_asks, ready_turned, ready_held, ReadyNotes, ready_at_held}
-use Rattle.smo_log.proofs.LineLaw.{opens_are_notes, readies_are_notes, clears_are_notes, caller_within, index_within, notes_beside}
+use Rattle.smo_log.proofs.LineLaw.{opens_are_notes, readies_are_notes, caller_within, index_within, notes_beside}
 use Rattle.split_merge.specs.declared.uniting.Union.{Union}
 use Rattle.split_merge.specs.declared.joining.Join.{Join}
 use Rattle.split_merge.specs.declared.joining.JoinAt.{JoinAt}
 use Rattle.split_merge.specs.declared.joining.JoinAt.TheVariants as at
 use Rattle.split_merge.specs.Unions.{head_word, from_in, half_of, own_prints, joined_end, joined_prints, behind_in, entry_in}
 use Rattle.split_merge.specs.Joins.{lowest, loads_from, copies_to, IsLeft, IsJoinAt, IsJoin, after_open, after_slot, after_copy, after_print, after_copies, after_bitmap, after_join, after_prev, join_at_asks, joins_on, opened, readied, join_at_turned}
-use Rattle.split_merge.specs.MoveStages.{words_onto, last_line}
-use Rattle.split_merge.specs.JoinStages.{near_seen, knowing, prints_now, own_seen, head_seen, slots_copied, copied_so, all_copied, right_of, slots_dirty, copy_dirty, meeting, stored_in, gathering, joining, past_seen, past_debt, last_debt, join_at_stage, join_at_line, join_at_debt}
+use Rattle.split_merge.specs.MoveStages.{words_onto}
+use Rattle.split_merge.specs.JoinStages.{near_seen, knowing, prints_now, own_seen, head_seen, slots_copied, copied_so, all_copied, right_of, slots_dirty, copy_dirty, meeting, stored_in, gathering, joining, past_seen, past_debt, join_at_stage, join_at_line, join_at_debt}
 use Rattle.split_merge.specs.MergeLaws.{Answered, JoinsSo, JoinsAreSteps}
 use Rattle.split_merge.proofs.MoveLaw.{shrinks, vanishes, open_caller, open_number, open_unready, no_ready, ready_waits, ready_caller, ready_number}
-use Rattle.split_merge.proofs.LastLines.{last_left, last_emptied, last_goes}
 use Rattle.split_merge.proofs.CutLaw.{told_at, told_past}
 use Rattle.split_merge.proofs.PairLemmas.{gets_parts}
 use Rattle.split_merge.proofs.LeftLemmas.{IsFirst, first_left}
@@ -559,36 +557,19 @@ module _ (join : Join) (sound : IsJoin join) (g : ℕ) (h : Held) (answer : Once
           (ready_caller next.line (entry_in union) next.at ∙ ap caller_of (note.3 ∙ line)))
           (note.1, note.2 ∙ layout, note.3 ∙ line)
       after (Done nothing) note =
-          elim leaves_lines as (λ b. leaves_lines ≡ b → Leads_to (footing (at.Ready ready)) (ready_asks ready) x (joins_on join (cond b at.UnlockRight at.Clear))) [
-            | true ↦ λ left. on (footing (at.Ready ready)) (ready_asks ready) x at.UnlockRight (subst readies (last_left union.line (entry_in union) left) ready_now) tt
-            | false ↦ λ emptied. on (footing (at.Ready ready)) (ready_asks ready) x at.Clear ready_now emptied
-          ] refl
-        where
-          -- the READY line, whether that is the last of it or not
-          readies : HeldLine → Type 0
-          readies e = FootStep l g c (footing (at.Ready ready)) (ready_asks ready) x (record { stage = joining h union (past_seen union) [] None Gone; line = Some e; debt = last_debt union }) None
+          on (footing (at.Ready ready)) (ready_asks ready) x at.UnlockRight
+          (line_step (waits ready.line line (ready_line union.line (entry_in union)) ready.at) refl
+          (subst (λ k. Notes l (Some (ready_held (entry_in union) ready)) (ready_asks ready) x (Some (ready_line k (entry_in union)))) line (noted (Some (ready_line ready.line (entry_in union))) note))
+          (ready_caller ready.line (entry_in union) ready.at ∙ ap caller_of line, ready_number ready.line (entry_in union) ready.at ∙ ap index_of line) refl) tt
 
-          ready_now : readies (ready_line union.line (entry_in union))
-          ready_now = line_step (waits ready.line line (ready_line union.line (entry_in union)) ready.at) refl
-              (subst (λ k. Notes l (Some (ready_held (entry_in union) ready)) (ready_asks ready) x (Some (ready_line k (entry_in union)))) line (noted (Some (ready_line ready.line (entry_in union))) note))
-              (ready_caller ready.line (entry_in union) ready.at ∙ ap caller_of line, ready_number ready.line (entry_in union) ready.at ∙ ap index_of line) refl
-
-  at_clear : (x : ℕ) → leaves_lines ≡ false → Leads_to (footing at.Clear) (join_at_asks union at.Clear) x (joins_on join at.UnlockRight)
-  at_clear x emptied = on (footing at.Clear) (join_at_asks union at.Clear) x at.UnlockRight
-      (subst (λ (e : HeldLine). FootStep l g c (footing at.Clear) (join_at_asks union at.Clear) x (record { stage = joining h union (past_seen union) [] None Gone; line = Some e; debt = last_debt union }) None)
-      (last_emptied union.line (entry_in union) emptied)
-      (line_step (λ unready ready. absurd (no_ready refl ready)) refl
-      (clears_are_notes (record { layout = l; line = union.line }) (ready_line union.line (entry_in union)) x emptied (record { layout = sound.union.layout; line = sound.union.line }) refl refl) (refl, refl) refl)) tt
-
-  -- where the line is left to a turn, it is READY and says what is merged
-  last_minds : leaves_lines ≡ true → HasLine (Some (last_line union.line (entry_in union))) (λ e. (e.ready ≡ true) × IsOfMerge e (right_of union (head_seen union) (all_copied union)))
-  last_minds left = subst (λ (e : HeldLine). (e.ready ≡ true) × IsOfMerge e (right_of union (head_seen union) (all_copied union))) (last_left union.line (entry_in union) left)
-      (refl, record { kind = λ s told. told.1.1.1.1.1.1.0; node = λ s told. told.1.1.1.1.1.0; anchor = line_anchored })
+  -- the line is READY and says what is merged
+  last_minds : HasLine (Some (ready_line union.line (entry_in union))) (λ e. (e.ready ≡ true) × IsOfMerge e (right_of union (head_seen union) (all_copied union)))
+  last_minds = (refl, record { kind = λ s told. told.1.1.1.1.1.1.0; node = λ s told. told.1.1.1.1.1.0; anchor = line_anchored })
 
   at_unlock_right : (x : ℕ) → Leads_to (footing at.UnlockRight) (join_at_asks union at.UnlockRight) x (joins_on join at.Unlock)
   at_unlock_right x =
       on (footing at.UnlockRight) (join_at_asks union at.UnlockRight) x at.Unlock
-      (on_nodes last_minds (inr (refl, last_goes union.line (entry_in union) is (λ right merged. let no : Holds union.node union.locked (merged_held (gathering h union)) ≡ Joins merged.0 merged.1 right Gone = merged.2 in cc))) (merges (yields refl refl))
+      (on_nodes last_minds (inr (refl, inr (record { ready = refl; given_back = λ right merged. let no : Holds union.node union.locked (merged_held (gathering h union)) ≡ Joins merged.0 merged.1 right Gone = merged.2 in cc }))) (merges (yields refl refl))
       (elim (behind_in union == 0) as (λ b. (behind_in union == 0) ≡ b → Deals was is (record { known = Some (union.right, union.node); owes = cond b (Some union.node) None }) no_debt) [
         | true ↦ λ none. ends {n = union.node} switch join' retire refl (refl, λ s told. told.0 ∙ eqb-true _ _ none)
         | false ↦ λ some. forgets switch join' retire tt
@@ -628,7 +609,6 @@ module _ (join : Join) (sound : IsJoin join) (g : ℕ) (h : Held) (answer : Once
   join_leads at.Prev x here fits = at_prev x
   join_leads at.NextPrev x here fits = at_next_prev x here
   join_leads (at.Ready ready) x here fits = at_ready ready x here.0 here.1 here.2 fits
-  join_leads at.Clear x here fits = at_clear x here
   join_leads at.UnlockRight x here fits = at_unlock_right x
   join_leads at.Unlock x here fits = at_unlock x
 

@@ -1,4 +1,3 @@
-pub mod LastLines
 pub mod MoveLaw
 pub mod Staying
 pub mod OfSplits

@@ -13,7 +13,6 @@ use Rattle.data_node.specs.Lists.{three_words, next_offset, anchor_in}
 use Rattle.data_node.proofs.SpotLemmas.{updated-same, updated-other}
 use Rattle.call_stages.specs.Stages.{Tells, Grip, Phase, Filling, Linked, Parted, Stage, Idle, Splits, Leaves, Joins, Gathered, Joined, Gone}
 use Rattle.call_stages.specs.Kinds.{HasWordAt, Soils, Cleans, word_address, Step, splits, publishes, leaves, fills as fills_word, lights, switches, glances_left, glances_fresh, drains_left, drains_fresh, trims}
-use Rattle.call_stages.specs.Leaving.{leaves_lines}
 use Rattle.call_stages.specs.Lines.{HeldLine, Notes}
 use Rattle.call_stages.specs.Stages.{HoldsNode, counted}
 use Rattle.call_stages.specs.AnySteps.{stores_prev}
@@ -34,7 +33,7 @@ use Rattle.pm_words.specs.Fences.{IsFence, IsFenceAt, fence_start, fence_asks, f
 use Rattle.smo_log.specs.LogLines.{caller_of, index_of, fields, open_line, ready_line}
 use Rattle.smo_log.specs.Opens.{IsOpen, open_asks, open_turned, open_at_held, open_held, OpenNotes}
 use Rattle.smo_log.specs.States.{IsReady, ready_asks, ready_turned, ready_at_held, ready_held, ReadyNotes}
-use Rattle.smo_log.proofs.LineLaw.{opens_are_notes, readies_are_notes, clears_are_notes, caller_within, index_within, notes_beside}
+use Rattle.smo_log.proofs.LineLaw.{opens_are_notes, readies_are_notes, caller_within, index_within, notes_beside}
 use Rattle.split_merge.specs.declared.planning.Plan.{Plan}
 use Rattle.split_merge.specs.declared.moving.Move.{Move}
 use Rattle.split_merge.specs.declared.moving.MoveAt.{MoveAt}
@@ -44,7 +43,6 @@ use Rattle.split_merge.specs.Moves.{slot_count, print_count, filled_end, fills, 
 use Rattle.call_stages.specs.Footings.{Footing, IsRetired, Waits, FootStep, on_nodes, on_line, on_prev}
 use Rattle.split_merge.specs.MoveStages.{Known, words_onto, slots_seen, prints_seen, anchor_seen, fresh_seen, fresh_of, left_of, full_left, slot_dirty, filling, move_at_stage, move_at_line, move_at_debt, knows_prev, owes_prev, cut_key, linked}
 use Rattle.split_merge.specs.Laws.{Cuts, Moves, MovesAreSteps}
-use Rattle.split_merge.proofs.LastLines.{last_left, last_emptied, last_goes}
 
 -- words at other offsets than this one
 abbrev pub Apart : ℕ → List (ℕ × ℕ) → Type 0
@@ -393,7 +391,7 @@ module _ (move : Move) (sound : IsMove move) (g : ℕ) (known : Known) (cuts : C
 
   at_unlock_fresh : (x : ℕ) → Leads_to (footing at.UnlockFresh) (move_at_asks plan at.UnlockFresh) x (moves_on move at.Unlock)
   at_unlock_fresh x = on (footing at.UnlockFresh) (move_at_asks plan at.UnlockFresh) x at.Unlock
-      (on_nodes tt (inr (refl, last_goes plan.line (entry_in plan) (Leaves (left_of plan known [] [] None)) (λ right merged. let no : Leaves (left_of plan known [] [] None) ≡ Joins merged.0 merged.1 right Gone = merged.2 in cc))) (publishes refl refl refl)
+      (on_nodes tt (inr (refl, inr (record { ready = refl; given_back = λ right merged. let no : Leaves (left_of plan known [] [] None) ≡ Joins merged.0 merged.1 right Gone = merged.2 in cc }))) (publishes refl refl refl)
       (keeps (λ q. absurd (let e : Leaves (left_of plan known [] [] None) ≡ Splits q.after q.fresh Linked = q.is in cc))
       (no_join (left_of plan known [] [] None) (fresh_of plan (fresh_seen plan) [] None) Parted (Leaves (left_of plan known [] [] None)))
       (λ q. absurd (no_retire (left_of plan known [] [] None) (fresh_of plan (fresh_seen plan) [] None) Parted (Leaves (left_of plan known [] [] None)) q)) tt tt)) tt
@@ -496,26 +494,10 @@ module _ (move : Move) (sound : IsMove move) (g : ℕ) (known : Known) (cuts : C
           (line_step (waits (ready_held (entry_in plan) next)) refl (noted (Some (ready_held (entry_in plan) next)) note.0) (ready_caller ready.line (entry_in plan) ready.at ∙ ap caller_of line, ready_number ready.line (entry_in plan) ready.at ∙ ap index_of line) (ready_caller next.line (entry_in plan) next.at ∙ ap caller_of (note.3 ∙ line)))
           (note.1, note.2 ∙ layout, note.3 ∙ line)
       after (Done answer) note =
-          elim leaves_lines as (λ b. leaves_lines ≡ b → Leads_to (footing (at.Ready ready)) (ready_asks ready) x (moves_on move (cond b at.UnlockFresh at.Clear))) [
-            | true ↦ λ left. on (footing (at.Ready ready)) (ready_asks ready) x at.UnlockFresh (subst readies (last_left plan.line (entry_in plan) left) ready_now) tt
-            | false ↦ λ emptied. on (footing (at.Ready ready)) (ready_asks ready) x at.Clear ready_now emptied
-          ] refl
-        where
-          -- the READY line, whether that is the last of it or not
-          readies : HeldLine → Type 0
-          readies e = FootStep l g c (footing (at.Ready ready)) (ready_asks ready) x (record { stage = linked plan known [] [] None Parted; line = Some e; debt = no_debt }) None
-
-          ready_now : readies (ready_line plan.line (entry_in plan))
-          ready_now = line_step (waits (ready_line plan.line (entry_in plan))) refl
-              (subst (λ k. Notes l (Some (ready_held (entry_in plan) ready)) (ready_asks ready) x (Some (ready_line k (entry_in plan)))) line (noted (Some (ready_line ready.line (entry_in plan))) note))
-              (ready_caller ready.line (entry_in plan) ready.at ∙ ap caller_of line, ready_number ready.line (entry_in plan) ready.at ∙ ap index_of line) refl
-
-  at_clear : (x : ℕ) → leaves_lines ≡ false → Leads_to (footing at.Clear) (move_at_asks plan at.Clear) x (moves_on move at.UnlockFresh)
-  at_clear x emptied = on (footing at.Clear) (move_at_asks plan at.Clear) x at.UnlockFresh
-      (subst (λ (e : HeldLine). FootStep l g c (footing at.Clear) (move_at_asks plan at.Clear) x (record { stage = linked plan known [] [] None Parted; line = Some e; debt = no_debt }) None)
-      (last_emptied plan.line (entry_in plan) emptied)
-      (line_step (λ unready ready. absurd (no_ready refl ready)) refl
-      (clears_are_notes (record { layout = plan.layout; line = plan.line }) (ready_line plan.line (entry_in plan)) x emptied (record { layout = sound.plan.layout; line = sound.plan.line }) refl refl) (refl, refl) refl)) tt
+          on (footing (at.Ready ready)) (ready_asks ready) x at.UnlockFresh
+          (line_step (waits (ready_line plan.line (entry_in plan))) refl
+          (subst (λ k. Notes l (Some (ready_held (entry_in plan) ready)) (ready_asks ready) x (Some (ready_line k (entry_in plan)))) line (noted (Some (ready_line ready.line (entry_in plan))) note))
+          (ready_caller ready.line (entry_in plan) ready.at ∙ ap caller_of line, ready_number ready.line (entry_in plan) ready.at ∙ ap index_of line) refl) tt
 
   move_leads : (at : MoveAt) (x : ℕ) → IsMoveAt plan at → x < 2 ^ 64 → Leads_to (footing at) (move_at_asks plan at) x (move_at_turned move at x)
   move_leads (at.Slot word) x here fits = at_slot word x here
@@ -533,7 +515,6 @@ module _ (move : Move) (sound : IsMove move) (g : ℕ) (known : Known) (cuts : C
   move_leads at.Trim x here fits = at_trim x
   move_leads (at.FenceTrim fence) x here fits = at_fence_trim fence x here fits
   move_leads (at.Ready ready) x here fits = at_ready ready x here.0 here.1 here.2 fits
-  move_leads at.Clear x here fits = at_clear x here
   move_leads at.UnlockFresh x here fits = at_unlock_fresh x
   move_leads at.Unlock x here fits = at_unlock x
 

@@ -46,7 +46,6 @@ moves_stand h plan move.NextPrev = (refl, refl)
 moves_stand h plan move.Trim = (refl, refl)
 moves_stand h plan (move.FenceTrim fence) = (refl, refl)
 moves_stand h plan (move.Ready ready) = (refl, refl)
-moves_stand h plan move.Clear = (refl, refl)
 moves_stand h plan move.UnlockFresh = (refl, refl)
 moves_stand h plan move.Unlock = tt
 

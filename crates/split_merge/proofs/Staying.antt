@@ -3,7 +3,6 @@ use Rattle.std.proofs.Common.{◌≡◌, ℕ, ◌+◌, ◌%◌, ◌^◌, ◌<◌
 use Rattle.std.proofs.lemmas.Bool.{eqb-false, ltb-true}
 use Rattle.pm_words.specs.declared.machine.Turn.{Turn}
 use Rattle.pm_words.specs.declared.machine.Turn.TheVariants.{Go, Done}
-use Rattle.call_stages.specs.Leaving.{leaves_lines}
 use Rattle.pm_words.specs.declared.fence.Fence.{Fence}
 use Rattle.pm_words.specs.declared.fence.FenceAt.{FenceAt}
 use Rattle.pm_words.specs.declared.fence.FenceAt.TheVariants as fence_at
@@ -120,10 +119,7 @@ module _ (move : Move) (sound : IsMove move) where
     where
       after : (turn : Turn Ready (Unit {0})) → ReadyNotes ready.layout ready.line (entry_in plan) (ready_held (entry_in plan) ready) (ready_asks ready) x turn → Stays (readied move turn)
       after (Go next) note = on (at.Ready next) (note.1, note.2 ∙ layout, note.3 ∙ line)
-      after (Done answer) note = elim leaves_lines as (λ b. leaves_lines ≡ b → Stays (moves_on move (cond b at.UnlockFresh at.Clear))) [
-        | true ↦ λ left. on at.UnlockFresh tt
-        | false ↦ λ emptied. on at.Clear emptied
-      ] refl
+      after (Done answer) note = on at.UnlockFresh tt
 
   stays : (at : MoveAt) (x : ℕ) → IsMoveAt plan at → x < 2 ^ 64 → Stays (move_at_turned move at x)
   stays (at.Slot word) x here fits = at_slot word
@@ -141,7 +137,6 @@ module _ (move : Move) (sound : IsMove move) where
   stays at.Trim x here fits = on (at.FenceTrim fence_start) starts
   stays (at.FenceTrim fence) x here fits = at_fence_trim fence x here fits
   stays (at.Ready ready) x here fits = at_ready ready x here.0 here.1 here.2 fits
-  stays at.Clear x here fits = on at.UnlockFresh tt
   stays at.UnlockFresh x here fits = on at.Unlock tt
   stays at.Unlock x here fits = tt
 

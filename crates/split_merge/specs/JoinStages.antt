@@ -18,7 +18,7 @@ use Rattle.split_merge.specs.declared.uniting.Union.{Union}
 use Rattle.split_merge.specs.declared.joining.Join.{Join}
 use Rattle.split_merge.specs.declared.joining.JoinAt.{JoinAt}
 use Rattle.split_merge.specs.declared.joining.JoinAt.TheVariants as at
-use Rattle.split_merge.specs.MoveStages.{words_onto, last_line}
+use Rattle.split_merge.specs.MoveStages.{words_onto}
 use Rattle.split_merge.specs.Unions.{from_in, half_of, own_prints, joined_end, joined_prints, head_word, behind_in}
 use Rattle.split_merge.specs.Unions.{entry_in}
 use Rattle.split_merge.specs.Joins.{lowest}
@@ -133,7 +133,6 @@ join_at_stage h union at.Retire = joining h union (past_seen union) [] None Join
 join_at_stage h union at.Prev = joining h union (past_seen union) [] None Gone
 join_at_stage h union at.NextPrev = joining h union (past_seen union) [] None Gone
 join_at_stage h union (at.Ready ready) = joining h union (past_seen union) [] None Gone
-join_at_stage h union at.Clear = joining h union (past_seen union) [] None Gone
 join_at_stage h union at.UnlockRight = joining h union (past_seen union) [] None Gone
 join_at_stage h union at.Unlock = Holds union.node union.locked (merged_held (gathering h union))
 
@@ -141,8 +140,7 @@ join_at_stage h union at.Unlock = Holds union.node union.locked (merged_held (ga
 abbrev pub join_at_line : Union → JoinAt → Option HeldLine
 join_at_line union (at.Open machine) = Some (open_held machine)
 join_at_line union (at.Ready ready) = Some (ready_held (entry_in union) ready)
-join_at_line union at.Clear = Some (ready_line union.line (entry_in union))
-join_at_line union at.UnlockRight = Some (last_line union.line (entry_in union))
+join_at_line union at.UnlockRight = Some (ready_line union.line (entry_in union))
 join_at_line union at.Unlock = None
 join_at_line union _ = Some (open_line union.line (entry_in union))
 
@@ -163,7 +161,6 @@ join_at_debt union at.Retire = past_debt union
 join_at_debt union at.Prev = past_debt union
 join_at_debt union at.NextPrev = past_debt union
 join_at_debt union (at.Ready ready) = last_debt union
-join_at_debt union at.Clear = last_debt union
 join_at_debt union at.UnlockRight = last_debt union
 join_at_debt union _ = no_debt
 

@@ -1,5 +1,5 @@
 -- The merge of the right node into the left one, step by step.
-use Rattle.std.specs.Prelude.{◌≡◌, ◌≢◌, ℕ, ◌+◌, ◌-◌, ◌*◌, ◌%◌, ◌^◌, ◌<◌, ◌≤◌, ◌==◌, nat_lt, if◌then◌else◌, false}
+use Rattle.std.specs.Prelude.{◌≡◌, ◌≢◌, ℕ, ◌+◌, ◌-◌, ◌*◌, ◌%◌, ◌^◌, ◌<◌, ◌≤◌, ◌==◌, nat_lt, if◌then◌else◌}
 use Rattle.std.specs.Prelude.{Option, Some, None}
 use Rattle.std.specs.Int.{w64, trailing_zeros}
 use Rattle.pm_words.specs.declared.action.Action.{Action}
@@ -12,10 +12,8 @@ use Rattle.data_node.specs.Bits.{without_live, live_count}
 use Rattle.data_node.specs.Slots.{IsLive}
 use Rattle.data_node.specs.Spots.{slot_offset}
 use Rattle.call_stages.specs.Kinds.{word_address, version_address, status_address, prev_address, gone_status}
-use Rattle.call_stages.specs.Leaving.{leaves_lines}
 use Rattle.smo_log.specs.declared.open.Open.{Open}
 use Rattle.smo_log.specs.declared.state.Ready.{Ready}
-use Rattle.smo_log.specs.LogLines.{numbered_address}
 use Rattle.smo_log.specs.Opens.{IsOpen, open_asks, open_turned, open_left}
 use Rattle.smo_log.specs.States.{IsReady, ready_from, ready_asks, ready_turned, ready_left}
 use Rattle.split_merge.specs.declared.uniting.Union.{Union}
@@ -84,10 +82,6 @@ makes_ready union = at.Ready (ready_from union.layout union.line)
 abbrev pub after_prev : Union → JoinAt
 after_prev union = if behind_in union == 0 then makes_ready union else at.NextPrev
 
--- the line is READY, and is left to a turn or emptied
-abbrev pub after_ready : JoinAt
-after_ready = if leaves_lines then at.UnlockRight else at.Clear
-
 abbrev pub join_at_asks : Union → JoinAt → Action
 join_at_asks union (at.Open machine) = open_asks machine
 join_at_asks union (at.Load left word) = loads_from union left word
@@ -104,7 +98,6 @@ join_at_asks union at.Retire = Store (status_address union.layout union.right) g
 join_at_asks union at.Prev = stores_prev union union.right
 join_at_asks union at.NextPrev = stores_prev union (behind_in union)
 join_at_asks union (at.Ready ready) = ready_asks ready
-join_at_asks union at.Clear = Store (numbered_address union.layout union.line 0) 0
 join_at_asks union at.UnlockRight = unlocks_node union union.right union.right_locked
 join_at_asks union at.Unlock = unlocks_node union union.node union.locked
 
@@ -119,9 +112,10 @@ abbrev pub opened : Join → Turn Open (Unit {0}) → Turn Join (Unit {0})
 opened join (Go machine) = joins_on join (at.Open machine)
 opened join (Done answer) = joins_on join (after_open join.union)
 
+-- the line is READY, and is left to a turn
 abbrev pub readied : Join → Turn Ready (Unit {0}) → Turn Join (Unit {0})
 readied join (Go ready) = joins_on join (at.Ready ready)
-readied join (Done answer) = joins_on join after_ready
+readied join (Done answer) = joins_on join at.UnlockRight
 
 abbrev pub join_at_turned : Join → JoinAt → ℕ → Turn Join (Unit {0})
 join_at_turned join (at.Open machine) got = opened join (open_turned machine got)
@@ -138,7 +132,6 @@ join_at_turned join at.Retire got = joins_on join at.Prev
 join_at_turned join at.Prev got = joins_on join (after_prev join.union)
 join_at_turned join at.NextPrev got = joins_on join (makes_ready join.union)
 join_at_turned join (at.Ready ready) got = readied join (ready_turned ready got)
-join_at_turned join at.Clear got = joins_on join at.UnlockRight
 join_at_turned join at.UnlockRight got = joins_on join at.Unlock
 join_at_turned join at.Unlock got = Done tt
 
@@ -163,7 +156,6 @@ IsJoinAt union (at.FenceBitmap fence) = IsFence fence
 IsJoinAt union (at.FenceSwitch fence) = IsFence fence
 IsJoinAt union at.NextPrev = behind_in union ≢ 0
 IsJoinAt union (at.Ready ready) = IsReady ready × (ready.layout ≡ union.layout) × (ready.line ≡ union.line)
-IsJoinAt union at.Clear = leaves_lines ≡ false
 IsJoinAt union _ = Unit {0}
 
 pub record IsJoin (join : Join) : Type 0 where
@@ -188,7 +180,6 @@ join_at_left union at.Retire = 70
 join_at_left union at.Prev = 69
 join_at_left union at.NextPrev = 68
 join_at_left union (at.Ready ready) = ready_left ready + 30
-join_at_left union at.Clear = 3
 join_at_left union at.UnlockRight = 2
 join_at_left union at.Unlock = 1
 

@@ -1,16 +1,14 @@
 -- What a party relies on that moves the upper half of a full node.
-use Rattle.std.specs.Prelude.{ℕ, zero, suc, ◌+◌, ◌-◌, if◌then◌else◌, Bool, true, false, List, [], ◌∷◌}
+use Rattle.std.specs.Prelude.{ℕ, zero, suc, ◌+◌, ◌-◌, Bool, true, false, List, [], ◌∷◌}
 use Rattle.std.specs.Prelude.{Option, Some, None}
 use Rattle.data_node.specs.Lists.{three_words}
 use Rattle.call_stages.specs.Stages.{Grip, Phase, Filling, Linked, Parted, Stage, Splits, Leaves}
-use Rattle.call_stages.specs.Leaving.{leaves_lines}
 use Rattle.call_stages.specs.Lines.{HeldLine}
 use Rattle.call_stages.specs.Prevs.{Debt, no_debt}
 use Rattle.pm_words.specs.Fences.{hand_of}
-use Rattle.smo_log.specs.declared.line.Entry.{Entry}
 use Rattle.smo_log.specs.LogLines.{empty_line, open_line, ready_line}
 use Rattle.smo_log.specs.Opens.{open_held}
-use Rattle.smo_log.specs.States.{ready_held, cleared_line}
+use Rattle.smo_log.specs.States.{ready_held}
 use Rattle.split_merge.specs.declared.planning.Plan.{Plan}
 use Rattle.split_merge.specs.declared.moving.Move.{Move}
 use Rattle.split_merge.specs.declared.moving.MoveAt.{MoveAt}
@@ -116,15 +114,10 @@ move_at_stage plan known at.Trim = linked plan known known.linked [] None Linked
 move_at_stage plan known (at.FenceTrim fence) =
     linked plan known [] ((fence.word, 8 - fence.word) ∷ []) (hand_of fence.word fence.at) Parted
 move_at_stage plan known (at.Ready ready) = linked plan known [] [] None Parted
-move_at_stage plan known at.Clear = linked plan known [] [] None Parted
 move_at_stage plan known at.UnlockFresh = linked plan known [] [] None Parted
 move_at_stage plan known at.Unlock = Leaves (left_of plan known [] [] None)
 
--- the last that is known of a line before it is let go: it is READY and left to a turn, or emptied
-abbrev pub last_line : ℕ → Entry → HeldLine
-last_line line entry = if leaves_lines then ready_line line entry else cleared_line line []
-
--- the line is EMPTY, is opened, and is READY
+-- the line is EMPTY, is opened, and is READY as it is left to a turn
 abbrev pub move_at_line : Plan → MoveAt → Option HeldLine
 move_at_line plan (at.Slot word) = Some (empty_line plan.line)
 move_at_line plan (at.Print word) = Some (empty_line plan.line)
@@ -134,8 +127,7 @@ move_at_line plan at.Next = Some (empty_line plan.line)
 move_at_line plan (at.FenceFresh first fence) = Some (empty_line plan.line)
 move_at_line plan (at.Open machine) = Some (open_held machine)
 move_at_line plan (at.Ready ready) = Some (ready_held (entry_in plan) ready)
-move_at_line plan at.Clear = Some (ready_line plan.line (entry_in plan))
-move_at_line plan at.UnlockFresh = Some (last_line plan.line (entry_in plan))
+move_at_line plan at.UnlockFresh = Some (ready_line plan.line (entry_in plan))
 move_at_line plan at.Unlock = None
 move_at_line plan _ = Some (open_line plan.line (entry_in plan))
 

@@ -1,17 +1,15 @@
 -- The move of a full node's upper half into a fresh node, step by step.
-use Rattle.std.specs.Prelude.{◌≡◌, ◌≢◌, ℕ, ◌+◌, ◌-◌, ◌*◌, ◌/◌, ◌%◌, ◌^◌, ◌<◌, ◌==◌, nat_lt, if◌then◌else◌, false}
+use Rattle.std.specs.Prelude.{◌≡◌, ◌≢◌, ℕ, ◌+◌, ◌-◌, ◌*◌, ◌/◌, ◌%◌, ◌^◌, ◌<◌, ◌==◌, nat_lt, if◌then◌else◌}
 use Rattle.std.specs.Prelude.{Option, Some, None}
 use Rattle.pm_words.specs.declared.action.Action.{Action}
 use Rattle.pm_words.specs.declared.action.Action.TheVariants.{Store}
 use Rattle.pm_words.specs.declared.machine.Turn.{Turn}
 use Rattle.pm_words.specs.declared.machine.Turn.TheVariants.{Go, Done}
 use Rattle.call_stages.specs.Kinds.{word_address, version_address, status_address, prev_address, live_status}
-use Rattle.call_stages.specs.Leaving.{leaves_lines}
 use Rattle.pm_words.specs.declared.fence.Fence.{Fence}
 use Rattle.smo_log.specs.declared.open.Open.{Open}
 use Rattle.smo_log.specs.declared.state.Ready.{Ready}
 use Rattle.pm_words.specs.Fences.{fence_start, IsFence, fence_asks, fence_next, fence_left}
-use Rattle.smo_log.specs.LogLines.{numbered_address}
 use Rattle.smo_log.specs.Opens.{IsOpen, open_from, open_asks, open_turned, open_left}
 use Rattle.smo_log.specs.States.{IsReady, ready_from, ready_asks, ready_turned, ready_left}
 use Rattle.split_merge.specs.declared.planning.Plan.{Plan}
@@ -63,10 +61,6 @@ abbrev pub after_trim : Plan → Option Fence → MoveAt
 after_trim plan (Some fence) = at.FenceTrim fence
 after_trim plan None = at.Ready (ready_from plan.layout plan.line)
 
--- the line is READY, and is left to a turn or emptied
-abbrev pub after_ready : MoveAt
-after_ready = if leaves_lines then at.UnlockFresh else at.Clear
-
 abbrev pub move_at_asks : Plan → MoveAt → Action
 move_at_asks plan (at.Slot word) = fills plan (16 + word)
 move_at_asks plan (at.Print word) = fills plan (8 + word)
@@ -84,7 +78,6 @@ move_at_asks plan at.NextPrev = Store (prev_address plan.layout (next_in plan)) 
 move_at_asks plan at.Trim = Store (word_address plan.layout plan.node 1) plan.keep
 move_at_asks plan (at.FenceTrim fence) = fence_asks (word_address plan.layout plan.node fence.word) fence
 move_at_asks plan (at.Ready ready) = ready_asks ready
-move_at_asks plan at.Clear = Store (numbered_address plan.layout plan.line 0) 0
 move_at_asks plan at.UnlockFresh = Store (version_address plan.layout plan.fresh) (plan.fresh_locked + 1)
 move_at_asks plan at.Unlock = Store (version_address plan.layout plan.node) (plan.locked + 1)
 
@@ -104,9 +97,10 @@ abbrev pub opened : Move → Turn Open (Unit {0}) → Turn Move (Unit {0})
 opened move (Go machine) = moves_on move (at.Open machine)
 opened move (Done answer) = moves_on move at.Prev
 
+-- the line is READY, and is left to a turn
 abbrev pub readied : Move → Turn Ready (Unit {0}) → Turn Move (Unit {0})
 readied move (Go ready) = moves_on move (at.Ready ready)
-readied move (Done answer) = moves_on move after_ready
+readied move (Done answer) = moves_on move at.UnlockFresh
 
 abbrev pub move_at_turned : Move → MoveAt → ℕ → Turn Move (Unit {0})
 move_at_turned move (at.Slot word) got = moves_on move (after_slot move.plan word)
@@ -124,7 +118,6 @@ move_at_turned move at.NextPrev got = moves_on move at.Trim
 move_at_turned move at.Trim got = moves_on move (at.FenceTrim fence_start)
 move_at_turned move (at.FenceTrim fence) got = moves_on move (after_trim move.plan (fence_next fence got))
 move_at_turned move (at.Ready ready) got = readied move (ready_turned ready got)
-move_at_turned move at.Clear got = moves_on move at.UnlockFresh
 move_at_turned move at.UnlockFresh got = moves_on move at.Unlock
 move_at_turned move at.Unlock got = Done tt
 
@@ -142,7 +135,6 @@ IsMoveAt plan (at.FenceSwitch fence) = IsFence fence
 IsMoveAt plan at.NextPrev = next_in plan ≢ 0
 IsMoveAt plan (at.FenceTrim fence) = IsFence fence
 IsMoveAt plan (at.Ready ready) = IsReady ready × (ready.layout ≡ plan.layout) × (ready.line ≡ plan.line)
-IsMoveAt plan at.Clear = leaves_lines ≡ false
 IsMoveAt plan _ = Unit {0}
 
 pub record IsMove (move : Move) : Type 0 where
@@ -169,7 +161,6 @@ move_at_left plan at.NextPrev = 79
 move_at_left plan at.Trim = 78
 move_at_left plan (at.FenceTrim fence) = fence_left fence + 60
 move_at_left plan (at.Ready ready) = ready_left ready + 30
-move_at_left plan at.Clear = 3
 move_at_left plan at.UnlockFresh = 2
 move_at_left plan at.Unlock = 1
 

@@ -1,17 +1,13 @@
 ghost use Rattle.std.specs.Prelude.{◌≡◌, ◌<◌};
-ghost use Rattle.split_merge.specs.Joins.{after_copy, after_bitmap, after_join, after_ready};
+ghost use Rattle.split_merge.specs.Joins.{after_copy, after_bitmap, after_join};
 
 use crate::uniting::Union;
-use call_stages::leaves_lines;
 use data_node::without_live;
 use pm_alloc::Retire;
-use pm_words::offsets::{line, node, volatile};
+use pm_words::offsets::{node, volatile};
 use pm_words::{Action, Fence, LINE, Machine, Turn};
 use smo_log::{Open, Ready};
 use version_lock::freed_of;
-
-/// The state of a log line that says nothing.
-const EMPTY: u64 = 0;
 
 /// How many words a slot has: those of a name, and its value.
 const SLOT: u64 = 4;
@@ -45,8 +41,6 @@ pub enum JoinAt {
     /// It stores the prev of the node behind the right one.
     NextPrev,
     Ready { ready: Ready },
-    /// It stores EMPTY into the line, where that isn't left to a turn.
-    Clear,
     UnlockRight,
     Unlock,
 }
@@ -92,7 +86,6 @@ impl Machine for Join {
             JoinAt::Prev => union.prev(union.right),
             JoinAt::NextPrev => union.prev(union.behind()),
             JoinAt::Ready { ready } => ready.action(),
-            JoinAt::Clear => Action::Store(union.line_address(line::STATE), EMPTY),
             JoinAt::UnlockRight => union.unlock(union.right, union.right_locked),
             JoinAt::Unlock => union.unlock(union.node, union.locked),
         }
@@ -127,9 +120,8 @@ impl Machine for Join {
             JoinAt::NextPrev => self.goes_to(self.union.makes_ready()),
             JoinAt::Ready { ready } => match ready.resume(got) {
                 Turn::Go(ready) => self.goes_to(JoinAt::Ready { ready }),
-                Turn::Done(()) => self.goes_to(after_ready()),
+                Turn::Done(()) => self.goes_to(JoinAt::UnlockRight),
             },
-            JoinAt::Clear => self.goes_to(JoinAt::UnlockRight),
             JoinAt::UnlockRight => self.goes_to(JoinAt::Unlock),
             JoinAt::Unlock => Turn::Done(()),
         }
@@ -187,22 +179,10 @@ fn after_switch(fence: Option<Fence>) -> JoinAt
     }
 }
 
-/// Once the line is READY.
-fn after_ready() -> JoinAt
-    ensures { result ≡ after_ready }
-{
-    if leaves_lines() {
-        JoinAt::UnlockRight
-    } else {
-        JoinAt::Clear
-    }
-}
-
 impl Union {
     ghost use Rattle.std.specs.Prelude.{◌≡◌, ◌+◌, ◌*◌, ◌/◌, ◌<◌, ◌≤◌, Option};
     ghost use Rattle.pm_words.specs.Locations.{node_words};
     ghost use Rattle.call_stages.specs.Kinds.{word_address};
-    ghost use Rattle.smo_log.specs.LogLines.{numbered_address};
     ghost use Rattle.version_lock.specs.Versions.{IsLockWord};
     ghost use Rattle.split_merge.specs.Unions.{IsUnion};
     ghost use Rattle.split_merge.specs.Joins.{IsLeft, loads_from, copies_to, stores_prev, unlocks_node};
@@ -216,16 +196,6 @@ impl Union {
         ensures { result ≡ word_address self.now.layout node offset }
     {
         self.layout.cached(self.layout.node_word(node, offset))
-    }
-
-    /// The address of the line's word.
-    fn line_address(&self, offset: u64) -> u64
-        requires sound { IsUnion self.now }
-        requires offset { offset < 8 }
-        ensures { result ≡ numbered_address self.now.layout self.now.line offset }
-    {
-        let word = self.layout.line_word(self.line / 8, self.line % 8, offset);
-        self.layout.cached(word)
     }
 
     /// The load of a word of the right node's slot whose name goes into the lowest of these slots.

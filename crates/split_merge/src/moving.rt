@@ -1,18 +1,11 @@
-ghost use Rattle.std.specs.Prelude.{◌≡◌};
-ghost use Rattle.split_merge.specs.Moves.{after_ready};
-
 use crate::planning::Plan;
-use call_stages::leaves_lines;
-use pm_words::offsets::{line, node, volatile};
+use pm_words::offsets::{node, volatile};
 use pm_words::{Action, Fence, KEY, LINE, Machine, Turn};
 use smo_log::{Open, Ready};
 use version_lock::freed_of;
 
 /// The status of a node that is in use.
 const LIVE: u64 = 1;
-
-/// The state of a log line that says nothing.
-const EMPTY: u64 = 0;
 
 /// It moves the upper half of a full node's names into a fresh node, and gives both back.
 #[derive(Clone, Copy)]
@@ -43,8 +36,6 @@ pub enum MoveAt {
     Trim,
     FenceTrim { fence: Fence },
     Ready { ready: Ready },
-    /// It stores EMPTY into the line, where that isn't left to a turn.
-    Clear,
     UnlockFresh,
     Unlock,
 }
@@ -96,7 +87,6 @@ impl Machine for Move {
             ),
             MoveAt::Trim => Action::Store(plan.address(plan.node, node::BITMAP), plan.keep),
             MoveAt::Ready { ready } => ready.action(),
-            MoveAt::Clear => Action::Store(plan.line_address(line::STATE), EMPTY),
             MoveAt::UnlockFresh => Action::Store(
                 plan.address(plan.fresh, node::VERSION),
                 freed_of(plan.fresh_locked),
@@ -162,23 +152,11 @@ impl Move {
             MoveAt::FenceTrim { fence } => Some(self.plan.after_trim(fence.next(got))),
             MoveAt::Ready { ready } => match ready.resume(got) {
                 Turn::Go(ready) => Some(MoveAt::Ready { ready }),
-                Turn::Done(()) => Some(after_ready()),
+                Turn::Done(()) => Some(MoveAt::UnlockFresh),
             },
-            MoveAt::Clear => Some(MoveAt::UnlockFresh),
             MoveAt::UnlockFresh => Some(MoveAt::Unlock),
             MoveAt::Unlock => None,
         }
-    }
-}
-
-/// Once the line is READY.
-fn after_ready() -> MoveAt
-    ensures { result ≡ after_ready }
-{
-    if leaves_lines() {
-        MoveAt::UnlockFresh
-    } else {
-        MoveAt::Clear
     }
 }
 
@@ -186,7 +164,6 @@ impl Plan {
     ghost use Rattle.std.specs.Prelude.{◌≡◌, ◌+◌, ◌*◌, ◌/◌, ◌<◌, ◌≤◌, Option};
     ghost use Rattle.pm_words.specs.Locations.{node_words};
     ghost use Rattle.call_stages.specs.Kinds.{word_address};
-    ghost use Rattle.smo_log.specs.LogLines.{numbered_address};
     ghost use Rattle.split_merge.specs.Plans.{IsPlan};
     ghost use Rattle.split_merge.specs.Moves.{filled_end, fills, after_slot, after_print, after_fence, after_switch};
     ghost use Rattle.split_merge.specs.Moves.{after_trim};
@@ -199,16 +176,6 @@ impl Plan {
         ensures { result ≡ word_address self.now.layout node offset }
     {
         self.layout.cached(self.layout.node_word(node, offset))
-    }
-
-    /// The address of the line's word.
-    fn line_address(&self, offset: u64) -> u64
-        requires plan { IsPlan self.now }
-        requires offset { offset < 8 }
-        ensures { result ≡ numbered_address self.now.layout self.now.line offset }
-    {
-        let word = self.layout.line_word(self.line / 8, self.line % 8, offset);
-        self.layout.cached(word)
     }
 
     /// The store of the fresh node's word with this offset.
