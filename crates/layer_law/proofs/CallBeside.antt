@@ -15,15 +15,14 @@ use Rattle.data_node.specs.Spots.{Spot}
 use Rattle.data_node.specs.Lists.{next_offset, anchor_in, key_of}
 use Rattle.call_stages.specs.Stages.{Stage, Held, Grip, Gone, Gathered, Joined, Joins, Idle, Saw, Wears, Holds, Eyes, Splits, Leaves, Meets, HoldsNode, Tells}
 use Rattle.call_stages.specs.Kinds.{prev_address}
-use Rattle.call_stages.specs.Leaving.{leaves_lines}
-use Rattle.call_stages.specs.Lines.{HeldLine, line_address, Marks, fills, opens, readies, empties, Notes, passes_line, takes, looks_up, notes, keeps_safe}
+use Rattle.call_stages.specs.Lines.{HeldLine, line_address, Marks, fills, opens, readies, Notes, passes_line, takes, looks_up, notes, keeps_safe}
 use Rattle.call_stages.specs.Footings.{Waits, IsRetired, IsOfMerge}
 use Rattle.call_stages.specs.Prevs.{Debt, Prevs, names, pays, renews}
 use Rattle.index_law.specs.Facts.{Facts, IsListed}
 use Rattle.index_law.specs.Worlds.{Party, World, facts}
 use Rattle.index_law.specs.Lawful.{Sure, Lawful}
 use Rattle.index_law.specs.Lines.{line_in, SureLine}
-use Rattle.index_law.proofs.Noting.{hand_word, line-here}
+use Rattle.index_law.proofs.Noting.{hand_word, line-here, marks_unready}
 use Rattle.index_law.proofs.Prevs.{leads_now}
 use Rattle.index_law.proofs.Starts.{listed_within}
 use Rattle.index_law.proofs.Switch.{inside_between, leads_on}
@@ -38,7 +37,7 @@ use Rattle.layer_law.proofs.FactTies.{listed_tells, Rest, known, rest_in, facts_
 use Rattle.layer_law.proofs.Targets.{one_target}
 use Rattle.layer_law.proofs.CallMoves.{Moved, now_known, held_is}
 use Rattle.layer_law.proofs.CallLines.{line_tie, anchor_line_tie, named_words}
-use Rattle.layer_law.proofs.CallNotes.{stored, field_other, cached_leaves_same, safe_leaves_same, unemptied, marks_moved}
+use Rattle.layer_law.proofs.CallNotes.{stored, field_other, cached_leaves_same, safe_leaves_same, marks_moved}
 use Rattle.layer_law.proofs.CallDrains.{drained, cached_leaves_stay, safe_leaves_stay, drain_moved}
 
 -- What a step beside nodes makes of the words: those that the leaves have and the READY lines stay, and for the law of
@@ -127,40 +126,32 @@ module _ (z : Layered) (i : ℕ) (p : Party) (is : IsLayered z) (there : get_ele
   retired_is (Joins h left right Joined) e is_retired = absurd is_retired
   retired_is (Joins h left right Gone) e is_retired = (h, left, right, refl, is_retired)
 
-  -- a mark is on a line that isn't READY
-  pub marks_unready : (e : HeldLine) (offset y : ℕ) (seen : List (ℕ × ℕ)) (ready : Bool) → Marks e offset y seen ready → leaves_lines ≡ true → e.ready ≡ false
-  marks_unready e offset y seen ready (fills some_offset unready empty_state) leaves = unready
-  marks_unready e offset y seen ready (opens unready empty_state) leaves = unready
-  marks_unready e offset y seen ready (readies unready durable open_state blind) leaves = unready
-  marks_unready e offset y seen ready (empties emptied) leaves = unemptied leaves emptied
-
   -- a line becomes READY by the store of that state
-  pub marks_ready : (e : HeldLine) (offset y : ℕ) (seen : List (ℕ × ℕ)) (ready : Bool) → Marks e offset y seen ready → leaves_lines ≡ true → (offset ≡ 0) × (y ≡ 2) × (ready ≡ true) ⊎ ((ready ≡ false) × ((offset ≡ 0 → y ≢ 2)))
-  marks_ready e offset y seen ready (fills some_offset unready empty_state) leaves = inr (refl, λ zero_offset two. some_offset zero_offset)
-  marks_ready e offset y seen ready (opens unready empty_state) leaves = inr (refl, λ zero_offset two. omega arith)
-  marks_ready e offset y seen ready (readies unready durable open_state blind) leaves = inl (refl, refl, refl)
-  marks_ready e offset y seen ready (empties emptied) leaves = unemptied leaves emptied
+  pub marks_ready : (e : HeldLine) (offset y : ℕ) (seen : List (ℕ × ℕ)) (ready : Bool) → Marks e offset y seen ready → (offset ≡ 0) × (y ≡ 2) × (ready ≡ true) ⊎ ((ready ≡ false) × ((offset ≡ 0 → y ≢ 2)))
+  marks_ready e offset y seen ready (fills some_offset unready empty_state) = inr (refl, λ zero_offset two. some_offset zero_offset)
+  marks_ready e offset y seen ready (opens unready empty_state) = inr (refl, λ zero_offset two. omega arith)
+  marks_ready e offset y seen ready (readies unready durable open_state blind) = inl (refl, refl, refl)
 
   module _ (e : HeldLine) (at_line : get_elem? z.whole.lines i ≡ some (Some e)) (offset y : ℕ) (small : offset < 8) where
     sure : SureLine l words e
     sure = is.whole.joint.sure i e at_line
 
-    pub own_ready : (seen : List (ℕ × ℕ)) (ready : Bool) (after : HeldLine) → Marks e offset y seen ready → leaves_lines ≡ true → after.ready ≡ ready → Waits p.stage (Some e) (Some after) → ready ≡ true → F.line.kind (line_number e) ≡ 2
+    pub own_ready : (seen : List (ℕ × ℕ)) (ready : Bool) (after : HeldLine) → Marks e offset y seen ready → after.ready ≡ ready → Waits p.stage (Some e) (Some after) → ready ≡ true → F.line.kind (line_number e) ≡ 2
         → (h : Held) × (left : Grip) × (right : Grip) × (p.stage ≡ Joins h left right Gone) × IsOfMerge e right
-    own_ready seen ready after marks leaves same waits is_ready kind = ⊎_elim
+    own_ready seen ready after marks same waits is_ready kind = ⊎_elim
         (λ (split : (s : Spot) → Tells e.seen s → s 1 ≢ 2). absurd (split (line_in l words e.caller e.number) sure.seen (sym (line_tie l words e sure.here 1 (omega arith)) ∙ kind)))
         (λ (retired : IsRetired p.stage e). retired_is p.stage e retired)
-        (waits (marks_unready e offset y seen ready marks leaves) (same ∙ is_ready))
+        (waits (marks_unready e offset y seen ready marks) (same ∙ is_ready))
 
-    marks_beside : (seen : List (ℕ × ℕ)) (ready : Bool) (after : HeldLine) → Marks e offset y seen ready → leaves_lines ≡ true → after.ready ≡ ready → Waits p.stage (Some e) (Some after) → Besides w is.holder (stored l words law.row e sure offset y small)
-    marks_beside seen ready after marks leaves same waits = record {
+    marks_beside : (seen : List (ℕ × ℕ)) (ready : Bool) (after : HeldLine) → Marks e offset y seen ready → after.ready ≡ ready → Waits p.stage (Some e) (Some after) → Besides w is.holder (stored l words law.row e sure offset y small)
+    marks_beside seen ready after marks same waits = record {
       cached = cached_leaves_same l words law.row e sure offset y small;
       durable = safe_leaves_same l words law.row e sure offset y small;
       lines = λ j two o within. field_other l words law.row e sure offset y small o j within
-          (λ own. sure.unready (marks_unready e offset y seen ready marks leaves) (sym (line_tie l words e sure.here 0 (omega arith)) ∙ ap (line_field l words Cached 0) (sym own) ∙ two));
+          (λ own. sure.unready (marks_unready e offset y seen ready marks) (sym (line_tie l words e sure.here 0 (omega arith)) ∙ ap (line_field l words Cached 0) (sym own) ∙ two));
       lock = at-set_other l words (Cached (Line e.caller e.number offset)) Updater y (sure.here.0, sure.here.1, small) tt (λ d. cc);
-      moved = marks_moved l words law.row e sure offset y small seen ready marks g f is.holder leaves
-          (λ is_ready kind. let merge = own_ready seen ready after marks leaves same waits is_ready kind in ripe merge.0 merge.1 merge.2 e merge.3 at_line (marks_unready e offset y seen ready marks leaves) merge.4);
+      moved = marks_moved l words law.row e sure offset y small seen ready marks g f is.holder
+          (λ is_ready kind. let merge = own_ready seen ready after marks same waits is_ready kind in ripe merge.0 merge.1 merge.2 e merge.3 at_line (marks_unready e offset y seen ready marks) merge.4);
     }
 
     drain_beside : e.hand ≡ Some (offset, y) → Besides w is.holder (acted l words (Drain (line_address l e.caller e.number offset) y))
@@ -181,13 +172,13 @@ module _ (z : Layered) (i : ℕ) (p : Party) (is : IsLayered z) (there : get_ele
         })
 
   -- each step on the line
-  pub line_beside : (line after : Option HeldLine) (a : Action) (x : ℕ) → get_elem? z.whole.lines i ≡ some line → Notes l line a x after → Waits p.stage line after → leaves_lines ≡ true → Besides w is.holder (acted l words a)
-  line_beside line after a x at (passes_line {c = c} {j = j} {offset = o} caller low within) waits leaves = same_besides w is.holder (acted l words a) (set-get_or words (line_address l c j o) 0)
-  line_beside line after a x at (takes {c = c} {j = j} caller low empty_state) waits leaves = same_besides w is.holder (acted l words a) (set-get_or words (line_address l c j 0) 0)
-  line_beside line after a x at (looks_up {offset = o} {e = e} within learnt blind) waits leaves = same_besides w is.holder (acted l words a) (set-get_or words (line_address l e.caller e.number o) 0)
-  line_beside line after a x at (notes {y = y} {offset = o} {e = e} {seen = seen} {dirty = dirty} {ready = ready} within fits marks soils told keeps) waits leaves =
-      marks_beside e at o y within seen ready (record e { seen = seen; dirty = dirty; hand = None; ready = ready }) marks leaves refl waits
-  line_beside line after a x at (keeps_safe {y = y} {offset = o} {e = e} within fits hand cleans) waits leaves = drain_beside e at o y within hand
+  pub line_beside : (line after : Option HeldLine) (a : Action) (x : ℕ) → get_elem? z.whole.lines i ≡ some line → Notes l line a x after → Waits p.stage line after → Besides w is.holder (acted l words a)
+  line_beside line after a x at (passes_line {c = c} {j = j} {offset = o} caller low within) waits = same_besides w is.holder (acted l words a) (set-get_or words (line_address l c j o) 0)
+  line_beside line after a x at (takes {c = c} {j = j} caller low empty_state) waits = same_besides w is.holder (acted l words a) (set-get_or words (line_address l c j 0) 0)
+  line_beside line after a x at (looks_up {offset = o} {e = e} within learnt blind) waits = same_besides w is.holder (acted l words a) (set-get_or words (line_address l e.caller e.number o) 0)
+  line_beside line after a x at (notes {y = y} {offset = o} {e = e} {seen = seen} {dirty = dirty} {ready = ready} within fits marks soils told keeps) waits =
+      marks_beside e at o y within seen ready (record e { seen = seen; dirty = dirty; hand = None; ready = ready }) marks refl waits
+  line_beside line after a x at (keeps_safe {y = y} {offset = o} {e = e} within fits hand cleans) waits = drain_beside e at o y within hand
 
   -- and the store of a prev
   abbrev BesidesAll : List ℕ → Type 0

@@ -13,7 +13,6 @@ use Rattle.pm_words.proofs.Apart.{at-set_other}
 use Rattle.pm_words.proofs.Kept.{action_address-drain}
 use Rattle.call_stages.specs.Stages.{Stage, Held, Grip, Gone, Joins, HoldsNode, counted}
 use Rattle.call_stages.specs.Kinds.{Step}
-use Rattle.call_stages.specs.Leaving.{leaves_lines}
 use Rattle.call_stages.specs.Lines.{HeldLine, line_address, Marks, Notes, passes_line, takes, looks_up, notes, keeps_safe}
 use Rattle.call_stages.specs.AnySteps.{IsBeside}
 use Rattle.call_stages.specs.Footings.{Footing, Minds, Waits, HasLine, IsOfMerge, FootStep}
@@ -25,6 +24,7 @@ use Rattle.index_law.specs.Whole.{IsWhole}
 use Rattle.index_law.specs.Footings.{AreTended, stepped_whole}
 use Rattle.index_law.proofs.AnySteps.{beside_keeps}
 use Rattle.index_law.proofs.Footings.{foot_keeps}
+use Rattle.index_law.proofs.Noting.{marks_unready}
 use Rattle.index_law.proofs.Parties.{at_set}
 use Rattle.turn_law.specs.Covers.{Lines}
 use Rattle.turn_law.specs.Facts.{TurnFacts}
@@ -44,7 +44,7 @@ use Rattle.layer_law.proofs.CallNotes.{stored, field_else, field_other, state_li
 use Rattle.layer_law.proofs.CallRows.{row_after}
 use Rattle.layer_law.proofs.CallNodes.{moved_along}
 use Rattle.layer_law.proofs.CallLayered.{nodes_keep}
-use Rattle.layer_law.proofs.CallBeside.{Besides, marks_unready, marks_ready, own_ready, line_beside, prev_beside}
+use Rattle.layer_law.proofs.CallBeside.{Besides, marks_ready, own_ready, line_beside, prev_beside}
 use Rattle.layer_law.proofs.TurnWalks.{found_target}
 
 -- A step beside nodes leaves the stages of the parties.
@@ -114,7 +114,7 @@ module _ (z : Layered) (i : ℕ) (p : Party) (is : IsLayered z) (there : get_ele
 
 -- What is retired after a store into the party's line.
 module _ (z : Layered) (i : ℕ) (p : Party) (is : IsLayered z) (there : get_elem? z.whole.world.parties i ≡ some p) (e : HeldLine) (at_line : get_elem? z.whole.lines i ≡ some (Some e)) (offset y : ℕ) (small : offset < 8)
-    (seen : List (ℕ × ℕ)) (ready : Bool) (after : HeldLine) (marks : Marks e offset y seen ready) (leaves : leaves_lines ≡ true) (is_ready : after.ready ≡ ready) (waits : Waits p.stage (Some e) (Some after)) (number : line_number after ≡ line_number e) where
+    (seen : List (ℕ × ℕ)) (ready : Bool) (after : HeldLine) (marks : Marks e offset y seen ready) (is_ready : after.ready ≡ ready) (waits : Waits p.stage (Some e) (Some after)) (number : line_number after ≡ line_number e) where
   abbrev own_sure : SureLine z.whole.world.layout z.whole.world.words e
   own_sure = is.whole.joint.sure i e at_line
 
@@ -125,7 +125,7 @@ module _ (z : Layered) (i : ℕ) (p : Party) (is : IsLayered z) (there : get_ele
   put = stored z.whole.world.layout z.whole.world.words row e own_sure offset y small
 
   unready : e.ready ≡ false
-  unready = marks_unready z i p is there e offset y seen ready marks leaves
+  unready = marks_unready e offset y seen ready marks
 
   not_ready_before : line_field z.whole.world.layout z.whole.world.words Cached 0 (line_number e) ≢ 2
   not_ready_before two = own_sure.unready unready (sym (line_tie z.whole.world.layout z.whole.world.words e own_sure.here 0 (omega arith)) ∙ two)
@@ -140,7 +140,7 @@ module _ (z : Layered) (i : ℕ) (p : Party) (is : IsLayered z) (there : get_ele
       (λ (first : offset ≡ 0). not_made.1 first (sym (state_here first) ∙ two))
       (λ (further : offset ≢ 0). not_ready_before (ap (λ (s : ℕ → ℕ). s (line_number e)) (sym (field_else z.whole.world.layout z.whole.world.words row e own_sure offset y small 0 (omega arith) (λ zero_offset. further (sym zero_offset)))) ∙ two))
       (cases_eq offset 0)))
-      (marks_ready z i p is there e offset y seen ready marks leaves)
+      (marks_ready z i p is there e offset y seen ready marks)
 
   else_was : (o n : ℕ) → o < 8 → n ≢ line_number e → line_field z.whole.world.layout put Cached o n ≡ line_field z.whole.world.layout z.whole.world.words Cached o n
   else_was o n within apart = field_other z.whole.world.layout z.whole.world.words row e own_sure offset y small o n within apart
@@ -161,7 +161,7 @@ module _ (z : Layered) (i : ℕ) (p : Party) (is : IsLayered z) (there : get_ele
     waits = λ now_ready says. ⊎_elim
         (λ made. ap (λ (k : Lines). k.state (line_number after)) lines ∙ ap (line_field z.whole.world.layout put Cached 0) number ∙ state_here made.0 ∙ made.1)
         (λ not_made. absurd (let no : true ≡ false = sym now_ready ∙ is_ready ∙ not_made.0 in cc))
-        (marks_ready z i p is there e offset y seen ready marks leaves);
+        (marks_ready z i p is there e offset y seen ready marks);
   }
 
   other_retiring : (w' : World) (u : Turning) (j : ℕ) (q : Party) (own : Option HeldLine) (h : Held) (left right : Grip) → (turn_facts w' is.holder u).line ≡ lines_in z.whole.world.layout put Cached → j ≢ i → get_elem? z.whole.world.parties j ≡ some q
@@ -176,7 +176,7 @@ module _ (z : Layered) (i : ℕ) (p : Party) (is : IsLayered z) (there : get_ele
             λ o positive within. ap (λ (s : ℕ → ℕ). s n) (sym (field_else z.whole.world.layout z.whole.world.words row e own_sure offset y small o within (λ same. let first = made.0 in omega arith))) in
             let kind = beyond 1 (omega arith) (omega arith) ∙ sym (ap (λ (k : Lines). k.kind n) lines) ∙ says.0 in
             let node = beyond 2 (omega arith) (omega arith) ∙ sym (ap (λ (k : Lines). k.node n) lines) ∙ says.1 in
-            let merge = own_ready z i p is there e at_line offset y small seen ready after marks leaves is_ready waits made.2 (sym (ap (line_field z.whole.world.layout z.whole.world.words Cached 1) mine) ∙ kind) in
+            let merge = own_ready z i p is there e at_line offset y small seen ready after marks is_ready waits made.2 (sym (ap (line_field z.whole.world.layout z.whole.world.words Cached 1) mine) ∙ kind) in
             let its_node = line_tie z.whole.world.layout z.whole.world.words e own_sure.here 2 (omega arith) ∙ merge.4.node (line_in z.whole.world.layout z.whole.world.words e.caller e.number) own_sure.seen in
             let one : merge.2.node ≡ right.node = sym its_node ∙ sym (ap (line_field z.whole.world.layout z.whole.world.words Cached 2) mine) ∙ node in
             differ (is.whole.joint.lawful.alone j i right.node q p at_q there (subst (λ (s : Stage). HoldsNode s right.node) (sym stage) (inr refl)) (subst (λ (s : Stage). HoldsNode s right.node) (sym merge.3) (inr one)))))
@@ -218,24 +218,23 @@ line_retiring : (z : Layered) (i : ℕ) (p : Party) (is : IsLayered z) (there : 
     (is_beside : IsBeside z.whole.world.layout a)
     (whole : IsWhole (stepped_whole z.whole i p a (record { stage = p.stage; line = after; debt = debt })) × AreTended (stepped_whole z.whole i p a (record { stage = p.stage; line = after; debt = debt })))
     (besides : Besides z.whole.world is.holder (acted z.whole.world.layout z.whole.world.words a)) → get_elem? z.whole.lines i ≡ some line → Notes z.whole.world.layout line a x after → Waits p.stage line after
-    → leaves_lines ≡ true
     → (j : ℕ) (q : Party) (own : Option HeldLine) (u : Turning) (h : Held) (left right : Grip) → get_elem? z.whole.world.parties j ≡ some q → get_elem? (slice_set z.whole.lines i after) j ≡ some own → q.stage ≡ Joins h left right Gone
     → IsRetiring (turn_facts (stepped z.whole.world i p a p.stage) is.holder u) own right
-line_retiring z i p is there a x line after debt none is_beside whole besides here_line (passes_line {c = c} {j = k} {offset = o} caller low within) waits leaves j q own u h left right at_q at_own stage =
+line_retiring z i p is there a x line after debt none is_beside whole besides here_line (passes_line {c = c} {j = k} {offset = o} caller low within) waits j q own u h left right at_q at_own stage =
     let l = z.whole.world.layout in
     same_retiring z i p is there a line after debt none is_beside whole besides
     (λ n small. ap (λ (v : List ℕ). line_field l v Cached n) (set-get_or z.whole.world.words (line_address l c k o) 0)) here_line (λ other f was. was) j q own u h left right at_q at_own stage
-line_retiring z i p is there a x line after debt none is_beside whole besides here_line (takes {c = c} {j = k} caller low empty_state) waits leaves j q own u h left right at_q at_own stage =
+line_retiring z i p is there a x line after debt none is_beside whole besides here_line (takes {c = c} {j = k} caller low empty_state) waits j q own u h left right at_q at_own stage =
     let l = z.whole.world.layout in
     same_retiring z i p is there a line after debt none is_beside whole besides
     (λ n small. ap (λ (v : List ℕ). line_field l v Cached n) (set-get_or z.whole.world.words (line_address l c k 0) 0)) here_line
     (λ other f was. record { alone = λ n two says. absurd (was.alone n two says); waits = λ ready. absurd (let no : false ≡ true = ready in cc) }) j q own u h left right at_q at_own stage
-line_retiring z i p is there a x line after debt none is_beside whole besides here_line (looks_up {x = y} {offset = o} {e = e} {seen = seen} within learnt blind) waits leaves j q own u h left right at_q at_own stage =
+line_retiring z i p is there a x line after debt none is_beside whole besides here_line (looks_up {x = y} {offset = o} {e = e} {seen = seen} within learnt blind) waits j q own u h left right at_q at_own stage =
     let l = z.whole.world.layout in
     same_retiring z i p is there a line after debt none is_beside whole besides
     (λ n small. ap (λ (v : List ℕ). line_field l v Cached n) (set-get_or z.whole.world.words (line_address l e.caller e.number o) 0)) here_line
     (λ other f was. with_line f other e (record e { seen = seen; hand = Some (o, y) }) refl refl was) j q own u h left right at_q at_own stage
-line_retiring z i p is there a x line after debt none is_beside whole besides here_line (keeps_safe {y = y} {offset = o} {e = e} {dirty = dirty} within fits hand cleans) waits leaves j q own u h left right at_q at_own stage =
+line_retiring z i p is there a x line after debt none is_beside whole besides here_line (keeps_safe {y = y} {offset = o} {e = e} {dirty = dirty} within fits hand cleans) waits j q own u h left right at_q at_own stage =
     let l = z.whole.world.layout in
     let words = z.whole.world.words in
     let sure = is.whole.joint.sure i e here_line in
@@ -245,34 +244,33 @@ line_retiring z i p is there a x line after debt none is_beside whole besides he
     ∙ column-same l words (slice_set words (address_of l (Durable (Line e.caller e.number o))) y) (line_count l) (λ m. Cached (line_word n m))
     (λ m there_m. at-set_other l words (Durable (Line e.caller e.number o)) (Cached (line_word n m)) y has (omega arith, omega arith, small) (λ d. cc))) here_line
     (λ other f was. with_line f other e (record e { dirty = dirty; hand = None }) refl refl was) j q own u h left right at_q at_own stage
-line_retiring z i p is there a x line after debt none is_beside whole besides here_line (notes {y = y} {offset = o} {e = e} {seen = seen} {dirty = dirty} {ready = ready} within fits marks soils told keeps) waits leaves j q own u h left right at_q at_own stage =
+line_retiring z i p is there a x line after debt none is_beside whole besides here_line (notes {y = y} {offset = o} {e = e} {seen = seen} {dirty = dirty} {ready = ready} within fits marks soils told keeps) waits j q own u h left right at_q at_own stage =
     let next : HeldLine = record e { seen = seen; dirty = dirty; hand = None; ready = ready } in
     ⊎_elim
     (λ (mine : (j ≡ i) × (Some next ≡ own)).
     let same : q ≡ p = some-injective _ _ (sym at_q ∙ ap (get_elem? z.whole.world.parties) mine.0 ∙ there) in
     subst (λ d. IsRetiring (turn_facts (stepped z.whole.world i p a p.stage) is.holder u) d right) mine.1
-    (own_retiring z i p is there e here_line o y within seen ready next marks leaves refl waits refl (stepped z.whole.world i p a p.stage) u h left right refl refl (ap (λ (d : Party). d.stage) (sym same) ∙ stage)))
+    (own_retiring z i p is there e here_line o y within seen ready next marks refl waits refl (stepped z.whole.world i p a p.stage) u h left right refl refl (ap (λ (d : Party). d.stage) (sym same) ∙ stage)))
     (λ (other : (j ≢ i) × (get_elem? z.whole.lines j ≡ some own)).
-    other_retiring z i p is there e here_line o y within seen ready next marks leaves refl waits refl (stepped z.whole.world i p a p.stage) u j q own h left right refl other.0 at_q other.1 stage)
+    other_retiring z i p is there e here_line o y within seen ready next marks refl waits refl (stepped z.whole.world i p a p.stage) u j q own h left right refl other.0 at_q other.1 stage)
     (at_set z.whole.lines i j (Some next) own at_own)
 
 pub call_step_keeps : CallStepKeeps
-call_step_keeps leaves z i p f next a x r is there at owing stage (foot.on_nodes {stage = s} {next = t} {line = line} {after = after} {debt = d} {debt' = d'} minds kept k deals) told room =
+call_step_keeps z i p f next a x r is there at owing stage (foot.on_nodes {stage = s} {next = t} {line = line} {after = after} {debt = d} {debt' = d'} minds kept k deals) told room =
     let l = z.whole.world.layout in
     let g = z.whole.world.generation in
     let whole = foot_keeps z.whole i p f next a x r is.whole is.tended there at owing stage (foot.on_nodes minds kept k deals) told room in
-    nodes_keep z i p is there line after d' a x t r at (subst (λ (u : Stage). Step l g u a x t r) (sym stage) k) (subst (λ (u : Stage). Minds u t line) (sym stage) minds) kept
-    leaves told whole
-call_step_keeps leaves z i p f next a x r is there at owing stage (foot.on_line {stage = s} {line = line} {after = after} {debt = d} waits none is_beside k own) told room =
+    nodes_keep z i p is there line after d' a x t r at (subst (λ (u : Stage). Step l g u a x t r) (sym stage) k) (subst (λ (u : Stage). Minds u t line) (sym stage) minds) kept told whole
+call_step_keeps z i p f next a x r is there at owing stage (foot.on_line {stage = s} {line = line} {after = after} {debt = d} waits none is_beside k own) told room =
     let l = z.whole.world.layout in
     let whole = foot_keeps z.whole i p f next a x r is.whole is.tended there at owing stage (foot.on_line waits none is_beside k own) told room in
     let goal : Stage → Type 0 = λ u. IsLayered (record { whole = stepped_whole z.whole i p a (record { stage = u; line = after; debt = d }); turns = z.turns }) in
     let waits' : Waits p.stage line after = subst (λ (u : Stage). Waits u line after) (sym stage) waits in
     let none' : counted p.stage ≡ None = ap counted stage ∙ none in
     let whole' = subst (λ (u : Stage). IsWhole (stepped_whole z.whole i p a (record { stage = u; line = after; debt = d })) × AreTended (stepped_whole z.whole i p a (record { stage = u; line = after; debt = d }))) (sym stage) whole in
-    let besides = line_beside z i p is there line after a x at k waits' leaves in
-    subst goal stage (beside_layered z i p is there a line after d none' is_beside whole' besides (line_retiring z i p is there a x line after d none' is_beside whole' besides at k waits' leaves))
-call_step_keeps leaves z i p f next a x r is there at owing stage (foot.on_prev {stage = s} {line = line} {debt = d} {debt' = d'} none is_beside k) told room =
+    let besides = line_beside z i p is there line after a x at k waits' in
+    subst goal stage (beside_layered z i p is there a line after d none' is_beside whole' besides (line_retiring z i p is there a x line after d none' is_beside whole' besides at k waits'))
+call_step_keeps z i p f next a x r is there at owing stage (foot.on_prev {stage = s} {line = line} {debt = d} {debt' = d'} none is_beside k) told room =
     let l = z.whole.world.layout in
     let whole = foot_keeps z.whole i p f next a x r is.whole is.tended there at owing stage (foot.on_prev none is_beside k) told room in
     let goal : Stage → Type 0 = λ u. IsLayered (record { whole = stepped_whole z.whole i p a (record { stage = u; line = line; debt = d' }); turns = z.turns }) in

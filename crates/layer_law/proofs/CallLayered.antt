@@ -13,7 +13,6 @@ use Rattle.call_stages.specs.declared.once.Once.{Once}
 use Rattle.call_stages.specs.declared.once.Placed.{Placed}
 use Rattle.call_stages.specs.Stages.{Stage, Held, Grip, Gone, Joins, HoldsNode, Tells}
 use Rattle.call_stages.specs.Kinds.{Step}
-use Rattle.call_stages.specs.Leaving.{leaves_lines}
 use Rattle.call_stages.specs.Lines.{HeldLine}
 use Rattle.call_stages.specs.Footings.{Minds, IsKnownEmpty, IsLeftToTurn, KeepsOrLetsGo, HasLine, IsOfMerge}
 use Rattle.call_stages.specs.Prevs.{Debt}
@@ -52,7 +51,6 @@ use Rattle.layer_law.proofs.CallNodes.{mine_after, others_after, Comes, was_gone
 -- a step on nodes
 module _ (z : Layered) (i : ℕ) (p : Party) (is : IsLayered z) (there : get_elem? z.whole.world.parties i ≡ some p) (line after : Option HeldLine) (debt : Debt) (a : Action) (x : ℕ) (t : Stage) (r : Option (Once Placed))
     (at_line : get_elem? z.whole.lines i ≡ some line) (k : Step z.whole.world.layout z.whole.world.generation p.stage a x t r) (minds : Minds p.stage t line) (kept : KeepsOrLetsGo t line after)
-    (leaves : leaves_lines ≡ true)
     (told : x ≡ got z.whole.world.layout z.whole.world.words a)
     (whole : IsWhole (stepped_whole z.whole i p a (record { stage = t; line = after; debt = debt })) × AreTended (stepped_whole z.whole i p a (record { stage = t; line = after; debt = debt }))) where
   abbrev w : World
@@ -119,7 +117,7 @@ module _ (z : Layered) (i : ℕ) (p : Party) (is : IsLayered z) (there : get_ele
   )
 
   gives_ready : GivesReady l g words w.base w.history law.row p.caller p.index p.since i is.holder p.stage t
-  gives_ready h held left right n lock was next = of line at_line sure_line (subst (λ (u : Stage × Stage). Minds u.0 u.1 line) (λ k. (was k, next k)) minds leaves)
+  gives_ready h held left right n lock was next = of line at_line sure_line (subst (λ (u : Stage × Stage). Minds u.0 u.1 line) (λ k. (was k, next k)) minds)
     where
       of : (own : Option HeldLine) → get_elem? z.whole.lines i ≡ some own → IfSome own (SureLine l words) → HasLine own (λ e. (e.ready ≡ true) × IsOfMerge e right) → HasReadyMerge (now_known l g f (rest_in l words) is.holder) right.node
       of None at sure has = absurd has

@@ -7,8 +7,7 @@ use Rattle.pm_words.specs.Rows.{IsRow}
 use Rattle.pm_words.proofs.Apart.{at-set_other}
 use Rattle.data_node.specs.Lists.{anchor_in}
 use Rattle.call_stages.specs.Stages.{IsAmong}
-use Rattle.call_stages.specs.Leaving.{leaves_lines}
-use Rattle.call_stages.specs.Lines.{HeldLine, Marks, fills, opens, readies, empties}
+use Rattle.call_stages.specs.Lines.{HeldLine, Marks, fills, opens, readies}
 use Rattle.index_law.specs.Facts.{Facts}
 use Rattle.index_law.specs.Lines.{line_in, safe_line, SureLine}
 use Rattle.search_layer.specs.Keys.{key_of}
@@ -163,19 +162,15 @@ module _ (l : Layout) (words : List ℕ) (row : IsRow l words) (e : HeldLine) (s
     state_moved : offset ≡ 0 → OtherStep F (record F { line = record lines { state = set_at lines.state number y } }) → Moved F after
     state_moved is step = inr (subst (OtherStep F) (sym (path (record lines { state = set_at lines.state number y }) (state_lines is))) step)
 
--- no call empties its line then
-pub unemptied : {A : Type 0} → leaves_lines ≡ true → leaves_lines ≡ false → A
-unemptied leaves emptied = absurd (let no : true ≡ false = sym leaves ∙ emptied in cc)
-
 -- A mark on a line is such a step. A line that becomes READY is of a merge only once that is ripe.
 pub marks_moved : (l : Layout) (words : List ℕ) (row : IsRow l words) (e : HeldLine) (sure : SureLine l words e) (offset y : ℕ) (small : offset < 8) (seen : List (ℕ × ℕ)) (ready : Bool) → Marks e offset y seen ready
-    → (g : ℕ) (f : Facts) (holder : ℕ → ℕ) → leaves_lines ≡ true → (ready ≡ true → (lines_in l words Cached).kind (line_number e) ≡ 2 → IsRipe (now_known l g f (rest_in l words) holder) (line_number e))
+    → (g : ℕ) (f : Facts) (holder : ℕ → ℕ) → (ready ≡ true → (lines_in l words Cached).kind (line_number e) ≡ 2 → IsRipe (now_known l g f (rest_in l words) holder) (line_number e))
     → Moved (now_known l g f (rest_in l words) holder) (known l g f holder (rest_in l (stored l words row e sure offset y small)))
-marks_moved l words row e sure offset y small seen ready (fills some_offset unready empty_state) g f holder leaves ripe =
+marks_moved l words row e sure offset y small seen ready (fills some_offset unready empty_state) g f holder ripe =
     fills_moved l words row e sure offset y small g f holder some_offset (line_tie l words e sure.here 0 (omega arith) ∙ empty_state (line_in l words e.caller e.number) sure.seen)
-marks_moved l words row e sure offset y small seen ready (opens unready empty_state) g f holder leaves ripe =
+marks_moved l words row e sure offset y small seen ready (opens unready empty_state) g f holder ripe =
     state_moved l words row e sure 0 1 small g f holder refl (others.opens (line_number e) (line_tie l words e sure.here 0 (omega arith) ∙ empty_state (line_in l words e.caller e.number) sure.seen))
-marks_moved l words row e sure offset y small seen ready (readies unready durable open_state blind) g f holder leaves ripe =
+marks_moved l words row e sure offset y small seen ready (readies unready durable open_state blind) g f holder ripe =
     let now = line_in l words e.caller e.number in
     let safe = safe_line l words e.caller e.number in
     let spared : (o : ℕ) → IsAmong e.dirty o → ⊥ = λ o among. subst (λ (dirty : List (ℕ × ℕ)). IsAmong dirty o) durable among in
@@ -183,4 +178,3 @@ marks_moved l words row e sure offset y small seen ready (readies unready durabl
     let safe_state : (lines_in l words Durable).state (line_number e) ≡ 1 = safe_tie l words e sure.here 0 (omega arith) ∙ (λ k. clean k 0) ∙ open_state now sure.seen in
     state_moved l words row e sure 0 2 small g f holder refl (others.readies (line_number e) (line_tie l words e sure.here 0 (omega arith) ∙ open_state now sure.seen)
     (λ none. let one = sym safe_state ∙ none in omega arith) (anchor_safe_tie l words e sure.here ∙ ap anchor_in clean ∙ sym (anchor_line_tie l words e sure.here)) (ripe refl))
-marks_moved l words row e sure offset y small seen ready (empties emptied) g f holder leaves ripe = unemptied leaves emptied

@@ -1,5 +1,5 @@
 -- The laws: what steps of calls and of turns keep, and what it says of the search layer.
-use Rattle.std.specs.Prelude.{◌≡◌, ◌≢◌, ℕ, ◌<◌, ◌⊎◌, ◌^◌, true, length, slice_set, Option}
+use Rattle.std.specs.Prelude.{◌≡◌, ◌≢◌, ℕ, ◌<◌, ◌⊎◌, ◌^◌, length, slice_set, Option}
 use mathlib.Core.Option.{some}
 use lib.ListN.{get_elem?}
 use Rattle.pm_words.specs.declared.action.Action.{Action}
@@ -9,7 +9,6 @@ use Rattle.data_node.specs.Lists.{anchor_in}
 use Rattle.call_stages.specs.declared.once.Once.{Once}
 use Rattle.call_stages.specs.declared.once.Placed.{Placed}
 use Rattle.call_stages.specs.Stages.{Idle}
-use Rattle.call_stages.specs.Leaving.{leaves_lines}
 use Rattle.call_stages.specs.Kinds.{free_status}
 use Rattle.call_stages.specs.Footings.{Footing, FootStep}
 use Rattle.call_stages.specs.Watches.{Nothing}
@@ -30,9 +29,9 @@ use Rattle.turn_row.specs.Turnings.{Turning, TurnFoot}
 use Rattle.layer_law.specs.Turnings.{terms_of, ghosts_of}
 use Rattle.layer_law.specs.Layers.{Layered, IsLayered}
 
--- A step of a call, of the party that stands at i, where calls leave their lines to turns.
+-- A step of a call, of the party that stands at i.
 abbrev pub CallStepKeeps : Type 0
-CallStepKeeps = leaves_lines ≡ true → (z : Layered) (i : ℕ) (p : Party) (foot next : Footing) (action : Action) (x : ℕ)
+CallStepKeeps = (z : Layered) (i : ℕ) (p : Party) (foot next : Footing) (action : Action) (x : ℕ)
     (answer : Option (Once Placed)) → IsLayered z → get_elem? z.whole.world.parties i ≡ some p →
     get_elem? z.whole.lines i ≡ some foot.line → get_elem? z.whole.debts i ≡ some foot.debt → p.stage ≡ foot.stage →
     FootStep z.whole.world.layout z.whole.world.generation p.caller foot action x next answer →

@@ -5,8 +5,7 @@ ghost use Rattle.layer_law.specs.Laws.{EvictionKeepsLayer};
 ghost use Rattle.layer_law.specs.Laws.{RestIsLayered, TargetsStand, LayerIsCovered};
 ghost use Rattle.layer_law.specs.Beginnings.{BeginningKeepsLayer, OtherTurnsMayRest, StampKeepsLayer, FreshIsLayered};
 
-/// Where calls leave their log lines to turns, a step of a call keeps an index with its search layer and the turn
-/// beside it.
+/// A step of a call keeps an index with its search layer and the turn beside it.
 pub fn call_step_law()
     ensures { CallStepKeeps }
 {}
