@@ -46,7 +46,6 @@ joins_of_merge h union join_at.Retire is = stands_knowing h _ _ _
 joins_of_merge h union join_at.Prev is = stands_knowing h _ _ _
 joins_of_merge h union join_at.NextPrev is = stands_knowing h _ _ _
 joins_of_merge h union (join_at.Ready ready) is = stands_knowing h _ _ _
-joins_of_merge h union join_at.Clear is = stands_knowing h _ _ _
 joins_of_merge h union join_at.UnlockRight is = stands_knowing h _ _ _
 joins_of_merge h union join_at.Unlock is = record { name = refl; limit = refl; old = refl; pending = sym is.pending; ready = sym is.ready; placed = refl }
 

@@ -8,7 +8,7 @@ ghost use Rattle.node_ops.specs.CallStages.{SoundAfter};
 use super::*;
 use call_stages::{Once, Placed, View};
 use cat_key::Name;
-use pm_words::offsets::{node, volatile};
+use pm_words::offsets::{line, node, volatile};
 use pm_words::{Action, Again, Layout, Machine, Turn};
 use split_merge::{MergeAt, SplitAt};
 use std::process::Abort;
@@ -422,7 +422,7 @@ fn one_caller_on_four_slots(rt: HostRuntime) -> Result<(), Fail> {
 /// A put that finds its node full splits it, and is to be made again: then it goes to the fresh node. The split takes 1
 /// load of next, 17 actions for a line, 3 for the claim, 24 loads of the node's words, 14 stores and three fences for the
 /// fresh node, 40 actions for the opened line, 3 stores up to the switch and its fence, a store and a fence for the
-/// bitmap, 17 actions for READY, and 3 stores.
+/// bitmap, 17 actions for READY, and 2 stores. Its line is left READY.
 #[test]
 fn a_put_splits_its_full_node(rt: HostRuntime) -> Result<(), Fail> {
     let layout = Layout::new(2, 4, 1)?;
@@ -433,7 +433,7 @@ fn a_put_splits_its_full_node(rt: HostRuntime) -> Result<(), Fail> {
         value,
         limit: FAR,
     };
-    let split = 1 + 17 + 3 + 24 + 14 + 48 + 40 + 3 + 16 + 17 + 17 + 3;
+    let split = 1 + 17 + 3 + 24 + 14 + 48 + 40 + 3 + 16 + 17 + 17 + 2;
     let calls = [
         (put(b'c', 1), done(None, 0), 73),
         (put(b'a', 2), done(None, 1), 73),
@@ -466,6 +466,7 @@ fn a_put_splits_its_full_node(rt: HostRuntime) -> Result<(), Fail> {
             "{node}"
         );
     }
+    assert_eq!(rt; row.line_twins(&rt, 0, line::STATE), (2, 2));
     Ok(())
 }
 
