@@ -292,7 +292,6 @@ module _ (w0 : World) (name : List ℕ) (list : IsList w0.layout (facts w0)) (l 
   join_ends h join join_at.Prev legal fresh = absurd legal
   join_ends h join join_at.NextPrev legal fresh = absurd legal
   join_ends h join (join_at.Ready ready) legal fresh = absurd legal
-  join_ends h join join_at.Clear legal fresh = absurd legal
   join_ends h join join_at.UnlockRight legal fresh = absurd legal
   join_ends h join join_at.Unlock legal fresh = ((λ not. absurd (both refl not)), λ _. fresh)
 

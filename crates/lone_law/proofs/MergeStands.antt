@@ -86,7 +86,6 @@ merge_parts h merge x = by_at merge.at
     on_join join join_at.Prev = joined_on (record join { at = join_at.Prev }) (join_at_turned (record join { at = join_at.Prev }) join_at.Prev x) (λ one. one)
     on_join join join_at.NextPrev = joined_on (record join { at = join_at.NextPrev }) (join_at_turned (record join { at = join_at.NextPrev }) join_at.NextPrev x) (λ one. one)
     on_join join (join_at.Ready ready) = joined_on (record join { at = join_at.Ready ready }) (join_at_turned (record join { at = join_at.Ready ready }) (join_at.Ready ready) x) (λ one. one)
-    on_join join join_at.Clear = joined_on (record join { at = join_at.Clear }) (join_at_turned (record join { at = join_at.Clear }) join_at.Clear x) (λ one. one)
     on_join join join_at.UnlockRight = joined_on (record join { at = join_at.UnlockRight }) (join_at_turned (record join { at = join_at.UnlockRight }) join_at.UnlockRight x) (λ one. one)
     on_join join join_at.Unlock = tt
 
