@@ -104,7 +104,7 @@ use Rattle.index_law.proofs.AnySteps.{any_allowed, any_can, any_keeps}
 use Rattle.index_law.proofs.Actions.{some_told, some_leads}
 use Rattle.index_law.proofs.Own.{sure_within}
 use Rattle.index_law.proofs.Maps.{after_all-push}
-use Rattle.lone_law.specs.There.{nodes_in, IsAtNode}
+use Rattle.lone_law.specs.There.{nodes_in, IsAtNode, IsUnmoved}
 use Rattle.lone_law.specs.Rooms.{target_node}
 use Rattle.lone_law.specs.Locks.{locks_of, HasLocked, HoldsBoth, PartsOnce, AfterLocks}
 use Rattle.lone_law.specs.Merging.{LeavesShape}
@@ -682,9 +682,14 @@ module _ (w0 : World) (i : ℕ) (asked : NameOp) (limit : Option ℕ) (w : World
   put_keeps (op.Put name value) s (inl kept) is = kept.1.0
   put_keeps (op.Put name value) s (inr merged) is = absurd (let no = merged.1 in cc)
 
+  -- where it was turned back nothing but the version word of its node has changed
+  unmoved : IsAtNode w0.layout w0.words (running_call machine) → IsUnmoved w0.layout w0.words (acted w.layout w.words a) (running_call machine).node
+      → IsUnmoved w0.layout w0.words w'.words (target_node w0 (name_asked asked))
+  unmoved stands = subst (IsUnmoved w0.layout w0.words (acted w.layout w.words a)) (stands.node ∙ ap (λ (n : List ℕ). target_node w0 n) name_is)
+
   answered : (answer : Once Placed) → running_turned machine x ≡ Done answer → IsAtRest w' → Says w0 w' (name_asked asked) own p.stage answer → LeavesHistory own w0 w' p
       → IsLegal l g (facts w') p.caller p.index p.since p.stage (Some answer)
-      → HasEnded w0.layout w0.generation w0.words (running_call machine) (NeedsPlace machine) (MayLack machine) (placed_in (stage_of machine)) (limit_in (stage_of machine)) answer
+      → HasEnded w0.layout w0.generation w0.words (acted w.layout w.words a) (running_call machine) (NeedsPlace machine) (MayLack machine) (placed_in (stage_of machine)) (limit_in (stage_of machine)) answer
       → IsAnswered w0 asked limit w' p answer
   answered (once.Done placed) done rest' says leaves legal ended =
       let same_place = ap placed_in o.stage in
@@ -705,10 +710,10 @@ module _ (w0 : World) (i : ℕ) (asked : NameOp) (limit : Option ℕ) (w : World
       let node_is : node ≡ target_node w0 (name_asked asked) = ended.0 ∙ ap (λ (n : List ℕ). target_node w0 n) name_is in
       (subst (λ (v : ℕ). IsWorn v w0.generation) (ended.1 ∙ ap (facts w0).version node_is) ended.2, node_is, ended.1, says.0, says.1)
   answered (once.Again again.LogFull) done rest' says leaves legal ended =
-      (fresh ended.0, line_late ended.1, needs asked machine o.of o.foresees ended.1, subst (LacksLine w0.layout w0.words) o.own ended.2, says.0, says.1)
+      (fresh ended.0, line_late ended.1, needs asked machine o.of o.foresees ended.1, subst (LacksLine w0.layout w0.words) o.own ended.2, says.0, says.1, unmoved ended.0 ended.3)
   answered (once.Again again.NoFree) done rest' says leaves legal ended =
       let splits = lacks_room again.NoFree (λ e. cc) ended.1 in
-      (fresh ended.0, split_late machine o.sound sure o.timely o.limited splits, full asked machine o.foresees splits, own_line ended.2.0, ended.2.1, says.0, says.1)
+      (fresh ended.0, split_late machine o.sound sure o.timely o.limited splits, full asked machine o.foresees splits, own_line ended.2.0, ended.2.1, says.0, says.1, unmoved ended.0 ended.3)
   answered (once.Again (again.NeedsSplit node)) done rest' says leaves legal ended =
       let splits = lacks_room (again.NeedsSplit node) (λ e. cc) ended.1 in
       (fresh ended.0, split_late machine o.sound sure o.timely o.limited splits, full asked machine o.foresees splits, own_line ended.2, ended.3, says.0, says.1, says.2)

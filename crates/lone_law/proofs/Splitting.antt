@@ -45,9 +45,11 @@ use Rattle.split_merge.specs.Moves.{move_asks, move_turned}
 use Rattle.split_merge.specs.Splits.{IsSplit, IsSplitAt, word_count, plan_of, move_from, splits_on, claimed as split_claimed, taken as split_taken, moved, split_at_asks, split_at_turned}
 use Rattle.index_law.specs.Facts.{version_in, status_in}
 use Rattle.index_law.specs.Lines.{line_in}
-use Rattle.index_law.proofs.Rows.{version_in-here, status_in-here, version_in-alike, status_in-alike}
+use Rattle.index_law.proofs.Rows.{version_in-here, status_in-here, version_in-alike, spot_in-alike, status_in-alike}
+use Rattle.data_node.specs.Lists.{next_offset}
 use Rattle.index_law.proofs.Noting.{line-alike, line-here}
 use Rattle.lone_law.specs.There.{IsUnmoved}
+use Rattle.lone_law.proofs.There.{stored_unmoved}
 use Rattle.lone_law.specs.Splitting.{HasLine, heard_in, SplitStands, SplitWent, IsReadyToSplit, HoldsAlone, SplitsComeThere}
 
 -- a drain of a word of a line leaves all cached words
@@ -59,6 +61,7 @@ drained_unmoved l words0 words n c j offset y low index small unmoved =
     subst (λ ws. IsUnmoved l words0 ws n) (sym is) (record {
       versions = λ m other. version_in-alike l words stored m (λ there. at-set_other l words (Durable (Line c j offset)) (Cached (Node m 0)) y (low, index, small) (there, omega arith) (λ e. cc)) ∙ unmoved.versions m other;
       statuses = λ m. status_in-alike l words stored m (λ there. at-set_other l words (Durable (Line c j offset)) (Volatile m 0) y (low, index, small) (there, omega arith) (λ e. cc)) ∙ unmoved.statuses m;
+      nexts = λ m. spot_in-alike l words stored m next_offset (λ there _. at-set_other l words (Durable (Line c j offset)) (Cached (Node m next_offset)) y (low, index, small) there (λ e. cc)) ∙ unmoved.nexts m;
       lines = λ d k. line-alike l words stored d k 0 (λ there. at-set_other l words (Durable (Line c j offset)) (Cached (Line d k 0)) y (low, index, small) there (λ e. cc)) ∙ unmoved.lines d k;
     })
 
@@ -137,7 +140,7 @@ module _ (split : Split) (sound : IsSplit split) (words0 words : List ℕ) (read
   taken_on : (next index : ℕ) (now : List ℕ) → IsUnmoved layout words0 now n → (turn : Turn Take Taken) → TakeHeeds caller (λ number. line_in layout words0 caller number 0) index turn → Goes now (split_taken split next turn)
   taken_on next index now unmoved (Go take) heeds = (unmoved, heeds)
   taken_on next index now unmoved (Done (taken.Line line)) heeds = (unmoved, record { number = index; within = heeds.1; empty = heeds.2 }, claims_begin layout g (heard_in layout words0 n w 0))
-  taken_on next index now unmoved (Done taken.Full) heeds = heeds
+  taken_on next index now unmoved (Done taken.Full) heeds = (unmoved, heeds)
 
   claimed_on : (next line : ℕ) (now : List ℕ) (turn : Turn Claim Claimed) → ((found : ℕ) → Heeds layout g (heard_in layout words0 n w found) turn) → IsUnmoved layout words0 now n
       → HasLine layout words0 caller → Goes now (split_claimed split next line turn)
@@ -155,14 +158,14 @@ module _ (split : Split) (sound : IsSplit split) (words0 words : List ℕ) (read
         },
       )
   claimed_on next line now (Done claimed.NoFree) heeds unmoved has = (
-    has,
-    λ m within free. ⊎_elim
+    unmoved,
+    (has, λ m within free. ⊎_elim
         (λ worn. worn)
         (λ fresh.
         let other = other_free m free in
         let positive : 1 ≤ m = ⊎_elim (λ (zero : m ≡ 0). let live = ap (status_in layout words0) zero ∙ ready.first in let no : 0 ≡ 1 = sym free ∙ live in omega arith) (λ (some : m ≢ 0). omega arith) (cases_eq m 0) in
         absurd (heeds 0 m positive within (free, λ is worn. fresh (subst (λ v. IsWorn v g) (heard_else m other) worn))))
-        (worn_or_fresh (version_in layout words0 m) g),
+        (worn_or_fresh (version_in layout words0 m) g)),
   )
   claimed_on next line now (Done (claimed.Again (again.Locked m word))) heeds unmoved has =
       let first = (heeds 0).0 in
@@ -248,7 +251,7 @@ module _ (split : Split) (sound : IsSplit split) (words0 words : List ℕ) (read
       moved_on : (turn : Turn Move (Unit {0})) → Goes (acted layout words (move_asks moving)) (moved split moving.plan.fresh turn)
       moved_on (Go moving') = stands
       moved_on (Done nothing) = stands
-  splits_there (at.Refuse next why) is stands tells mine loads = stands
+  splits_there (at.Refuse next why) is stands tells mine loads = (stored_unmoved layout words0 words n (w + 1) sound.node stands.0, stands.1)
 
 pub splits_come_there : SplitsComeThere
 splits_come_there split words0 words x sound ready stands tells mine loads =

@@ -37,7 +37,7 @@ use Rattle.node_ops.proofs.LookupLaw.{key_is}
 use Rattle.index_law.specs.Facts.{list_in}
 use Rattle.index_law.specs.Worlds.{facts}
 use Rattle.index_law.specs.Prevs.{prev_in}
-use Rattle.index_law.proofs.Rows.{version_in-here, spot_in-here, status_in-here, version_in-alike, status_in-alike}
+use Rattle.index_law.proofs.Rows.{version_in-here, spot_in-here, status_in-here, version_in-alike, spot_in-alike, status_in-alike}
 use Rattle.index_law.proofs.Noting.{line-alike}
 use Rattle.index_law.proofs.Starts.{idle_law}
 use Rattle.index_law.proofs.Prevs.{idle_follow}
@@ -107,9 +107,24 @@ abbrev node_of : Location → ℕ
 node_of (Cached (Node n offset)) = n
 node_of _ = 0
 
+abbrev offset_of : Location → ℕ
+offset_of (Cached (Node n offset)) = offset
+offset_of _ = 0
+
 -- a load leaves all words
 pub loaded_unmoved : (l : Layout) (words0 words : List ℕ) (n address : ℕ) → IsUnmoved l words0 words n → IsUnmoved l words0 (acted l words (Load address)) n
 loaded_unmoved l words0 words n address unmoved = subst (λ ws. IsUnmoved l words0 ws n) (sym (set-get_or words address 0)) unmoved
+
+-- and a store of a version word leaves all but that
+pub stored_unmoved : (l : Layout) (words0 words : List ℕ) (n word : ℕ) → n < l.nodes → IsUnmoved l words0 words n → IsUnmoved l words0 (set words (version_address l n) word) n
+stored_unmoved l words0 words n word here unmoved =
+    let stored : List ℕ = set words (version_address l n) word in
+    record {
+      versions = λ m other. version_in-alike l words stored m (λ there. at-set_other l words (Cached (Node n 0)) (Cached (Node m 0)) word (here, omega arith) (there, omega arith) (λ e. other (ap node_of e))) ∙ unmoved.versions m other;
+      statuses = λ m. status_in-alike l words stored m (λ there. at-set_other l words (Cached (Node n 0)) (Volatile m 0) word (here, omega arith) (there, omega arith) (λ e. cc)) ∙ unmoved.statuses m;
+      nexts = λ m. spot_in-alike l words stored m next_offset (λ there _. at-set_other l words (Cached (Node n 0)) (Cached (Node m next_offset)) word (here, omega arith) there (λ e. let no : 2 ≡ 0 = ap offset_of e in omega arith)) ∙ unmoved.nexts m;
+      lines = λ c j. line-alike l words stored c j 0 (λ there. at-set_other l words (Cached (Node n 0)) (Cached (Line c j 0)) word (here, omega arith) there (λ e. cc)) ∙ unmoved.lines c j;
+    }
 
 -- and as its lock is taken a node's version word alone changes
 locked_unmoved : (l : Layout) (words0 words : List ℕ) (n old new : ℕ) → n < l.nodes → words ≡ words0 → IsUnmoved l words0 (acted l words (Exchange (version_address l n) old new)) n
@@ -119,6 +134,7 @@ locked_unmoved l words0 words n old new here same =
     subst (λ ws. IsUnmoved l ws stored n) same (record {
       versions = λ m other. version_in-alike l words stored m (λ there. at-set_other l words (Cached (Node n 0)) (Cached (Node m 0)) word (here, omega arith) (there, omega arith) (λ e. other (ap node_of e)));
       statuses = λ m. status_in-alike l words stored m (λ there. at-set_other l words (Cached (Node n 0)) (Volatile m 0) word (here, omega arith) (there, omega arith) (λ e. cc));
+      nexts = λ m. spot_in-alike l words stored m next_offset (λ there _. at-set_other l words (Cached (Node n 0)) (Cached (Node m next_offset)) word (here, omega arith) there (λ e. let no : 2 ≡ 0 = ap offset_of e in omega arith));
       lines = λ c j. line-alike l words stored c j 0 (λ there. at-set_other l words (Cached (Node n 0)) (Cached (Line c j 0)) word (here, omega arith) there (λ e. cc));
     })
 

@@ -81,7 +81,7 @@ use Rattle.pm_words.specs.declared.again.Again.{Again}
 use Rattle.node_ops.specs.declared.lookup.Hold.{Hold}
 use Rattle.node_ops.specs.Calls.{name_in, call_address}
 use Rattle.lone_law.specs.LoneCalls.{GetIsThere, PutIsThere, HasFoundLine, DelIsThere, PartIsThere, IsThere}
-use Rattle.lone_law.proofs.There.{looks_come_there, loaded_unmoved}
+use Rattle.lone_law.proofs.There.{looks_come_there, loaded_unmoved, stored_unmoved}
 use Rattle.node_ops.specs.declared.get.Get.TheVariants as get
 use Rattle.node_ops.specs.GetSteps.{get_looked}
 
@@ -113,30 +113,30 @@ get_went (get.Looking lookup) words0 words x sound still stands told = at (looku
 get_went (get.Unlocking call hold old) words0 words x sound still stands told = (stands, refl, refl)
 
 -- An answer of a machine: one that wrote had a place, and one that is turned back may be so.
-abbrev pub HasEnded : Layout → ℕ → List ℕ → Call → (Option ℕ → Type 0) → (Again → Type 0) → Option ℕ → Option ℕ → Once Placed → Type 0
-HasEnded l g words0 call P R place limit (once.Done placed) = IsAtNode l words0 call × (placed.hops ≡ call.hops) × P place × (limit ≡ call.limit)
-HasEnded l g words0 call P R place limit (once.Worn node word) = EndsEarly l g words0 call (once.Worn node word)
-HasEnded l g words0 call P R place limit (once.Spent clock) = EndsEarly l g words0 call (once.Spent clock)
-HasEnded l g words0 call P R place limit (once.Again (again.NeedsSplit node)) = IsAtNode l words0 call × R (again.NeedsSplit node) × HasLine l words0 call.view.caller × HasFree l g words0
-HasEnded l g words0 call P R place limit (once.Again why) = IsAtNode l words0 call × R why × IsLacking l g words0 call.view.caller why
+abbrev pub HasEnded : Layout → ℕ → List ℕ → List ℕ → Call → (Option ℕ → Type 0) → (Again → Type 0) → Option ℕ → Option ℕ → Once Placed → Type 0
+HasEnded l g words0 words call P R place limit (once.Done placed) = IsAtNode l words0 call × (placed.hops ≡ call.hops) × P place × (limit ≡ call.limit)
+HasEnded l g words0 words call P R place limit (once.Worn node word) = EndsEarly l g words0 call (once.Worn node word)
+HasEnded l g words0 words call P R place limit (once.Spent clock) = EndsEarly l g words0 call (once.Spent clock)
+HasEnded l g words0 words call P R place limit (once.Again (again.NeedsSplit node)) = IsAtNode l words0 call × R (again.NeedsSplit node) × HasLine l words0 call.view.caller × HasFree l g words0
+HasEnded l g words0 words call P R place limit (once.Again why) = IsAtNode l words0 call × R why × IsLacking l g words0 call.view.caller why × IsUnmoved l words0 words call.node
 
-early : (l : Layout) (g : ℕ) (words0 : List ℕ) (call : Call) (P : Option ℕ → Type 0) (R : Again → Type 0) (place limit : Option ℕ) (answer : Once Placed) → EndsEarly l g words0 call answer → HasEnded l g words0 call P R place limit answer
-early l g words0 call P R place limit (once.Done placed) is = absurd is
-early l g words0 call P R place limit (once.Worn node word) is = is
-early l g words0 call P R place limit (once.Spent clock) is = is
-early l g words0 call P R place limit (once.Again why) is = absurd is
+early : (l : Layout) (g : ℕ) (words0 words : List ℕ) (call : Call) (P : Option ℕ → Type 0) (R : Again → Type 0) (place limit : Option ℕ) (answer : Once Placed) → EndsEarly l g words0 call answer → HasEnded l g words0 words call P R place limit answer
+early l g words0 words call P R place limit (once.Done placed) is = absurd is
+early l g words0 words call P R place limit (once.Worn node word) is = is
+early l g words0 words call P R place limit (once.Spent clock) is = is
+early l g words0 words call P R place limit (once.Again why) is = absurd is
 
 -- one that lacks a line or a node is turned back
-turned_back : (l : Layout) (g : ℕ) (words0 : List ℕ) (call : Call) (P : Option ℕ → Type 0) (R : Again → Type 0) (place limit : Option ℕ) (why : Again) → IsAtNode l words0 call → ((why : Again) → R why)
-    → IsLacking l g words0 call.view.caller why → HasEnded l g words0 call P R place limit (once.Again why)
-turned_back l g words0 call P R place limit again.LogFull at may lacks = (at, may again.LogFull, lacks)
-turned_back l g words0 call P R place limit again.NoFree at may lacks = (at, may again.NoFree, lacks)
-turned_back l g words0 call P R place limit (again.Locked n word) at may lacks = absurd lacks
-turned_back l g words0 call P R place limit (again.Moved n first second) at may lacks = absurd lacks
-turned_back l g words0 call P R place limit (again.Hops count) at may lacks = absurd lacks
-turned_back l g words0 call P R place limit (again.NeedsSplit n) at may lacks = absurd lacks
-turned_back l g words0 call P R place limit (again.Held word) at may lacks = absurd lacks
-turned_back l g words0 call P R place limit (again.Epoch first second) at may lacks = absurd lacks
+turned_back : (l : Layout) (g : ℕ) (words0 words : List ℕ) (call : Call) (P : Option ℕ → Type 0) (R : Again → Type 0) (place limit : Option ℕ) (why : Again) → IsAtNode l words0 call → ((why : Again) → R why)
+    → IsUnmoved l words0 words call.node × IsLacking l g words0 call.view.caller why → HasEnded l g words0 words call P R place limit (once.Again why)
+turned_back l g words0 words call P R place limit again.LogFull at may lacks = (at, may again.LogFull, lacks.1, lacks.0)
+turned_back l g words0 words call P R place limit again.NoFree at may lacks = (at, may again.NoFree, lacks.1, lacks.0)
+turned_back l g words0 words call P R place limit (again.Locked n word) at may lacks = absurd lacks.1
+turned_back l g words0 words call P R place limit (again.Moved n first second) at may lacks = absurd lacks.1
+turned_back l g words0 words call P R place limit (again.Hops count) at may lacks = absurd lacks.1
+turned_back l g words0 words call P R place limit (again.NeedsSplit n) at may lacks = absurd lacks.1
+turned_back l g words0 words call P R place limit (again.Held word) at may lacks = absurd lacks.1
+turned_back l g words0 words call P R place limit (again.Epoch first second) at may lacks = absurd lacks.1
 
 -- it has a place
 abbrev pub IsGiven : Option ℕ → Type 0
@@ -145,16 +145,16 @@ IsGiven place = place ≢ None
 module _ (l : Layout) (g : ℕ) (words0 words : List ℕ) (R : Again → Type 0) where
   abbrev PutWent : Call → Option ℕ → Option ℕ → Turn Put (Once Placed) → Type 0
   PutWent call place limit (Go next) = PutIsThere l words0 words next
-  PutWent call place limit (Done answer) = HasEnded l g words0 call IsGiven R place limit answer
+  PutWent call place limit (Done answer) = HasEnded l g words0 words call IsGiven R place limit answer
 
   abbrev DelWent : Call → Option ℕ → Option ℕ → Turn Del (Once Placed) → Type 0
   DelWent call place limit (Go next) = DelIsThere l words0 words next
-  DelWent call place limit (Done answer) = HasEnded l g words0 call IsGiven R place limit answer
+  DelWent call place limit (Done answer) = HasEnded l g words0 words call IsGiven R place limit answer
 
   -- the end of a write keeps what is so of its call
   abbrev FinishWent : (Call → Type 0) → Call → Option ℕ → Option ℕ → Turn Finish (Once Placed) → Type 0
   FinishWent Q call place limit (Go next) = Q next.call
-  FinishWent Q call place limit (Done answer) = HasEnded l g words0 call IsGiven R place limit answer
+  FinishWent Q call place limit (Done answer) = HasEnded l g words0 words call IsGiven R place limit answer
 
   finish_went : (Q : Call → Type 0) (finish : Finish) (x : ℕ) → Q finish.call → IsAtNode l words0 finish.call
       → FinishWent Q finish.call (placed_in (put_stage (put.Single (single_put.Finishing finish)))) (limit_in (put_stage (put.Single (single_put.Finishing finish)))) (finish_turned finish x)
@@ -203,7 +203,7 @@ module _ (l : Layout) (g : ℕ) (words0 words : List ℕ) (R : Again → Type 0)
 
   put_looked_went : (call : Call) (value : ℕ) (place limit : Option ℕ) (turn : Turn Lookup Looked) → LookedStands l g words0 words call turn → PutWent call place limit (put_looked call value turn)
   put_looked_went call value place limit (Go next) is = is
-  put_looked_went call value place limit (Done (looked.Early answer)) is = early l g words0 call IsGiven R place limit answer is
+  put_looked_went call value place limit (Done (looked.Early answer)) is = early l g words0 words call IsGiven R place limit answer is
   put_looked_went call value place limit (Done (looked.Found found)) is = into_stands call found value (lowest_clear found.directory.bitmap call.view.layout.slots) is
 
   slot_stands : (call : Call) (hold : Hold) (bitmap : ℕ) (hit : Hit) → IsAtNode l words0 call × IsUnmoved l words0 words call.node → DelIsThere l words0 words (del_slot call hold bitmap hit)
@@ -218,7 +218,7 @@ module _ (l : Layout) (g : ℕ) (words0 words : List ℕ) (R : Again → Type 0)
 
   del_looked_went : (call : Call) (place limit : Option ℕ) (turn : Turn Lookup Looked) → LookedStands l g words0 words call turn → DelWent call place limit (del_looked call turn)
   del_looked_went call place limit (Go next) is = is
-  del_looked_went call place limit (Done (looked.Early answer)) is = early l g words0 call IsGiven R place limit answer is
+  del_looked_went call place limit (Done (looked.Early answer)) is = early l g words0 words call IsGiven R place limit answer is
   del_looked_went call place limit (Done (looked.Found found)) is = hit_stands call found found.hit is
 
   -- a look for a line begins
@@ -235,7 +235,7 @@ module _ (l : Layout) (g : ℕ) (words0 words : List ℕ) (R : Again → Type 0)
       → TakeHeeds call.view.caller (λ number. line_in l words0 call.view.caller number 0) index turn → DelWent call place limit (del_taken call hold bitmap hit turn)
   del_taken_went call hold bitmap hit place limit index there unmoved (Go take) heeds = (there, unmoved, heeds)
   del_taken_went call hold bitmap hit place limit index there unmoved (Done (taken.Line line)) heeds = (there, record { number = index; within = heeds.1; empty = heeds.2 })
-  del_taken_went call hold bitmap hit place limit index there unmoved (Done taken.Full) heeds = (there, heeds)
+  del_taken_went call hold bitmap hit place limit index there unmoved (Done taken.Full) heeds = (there, unmoved, heeds)
 
   -- the end of a write, which may go on with a merge
   goes_on_there : (finish : Finish) (line : Option ℕ) → IsAtNode l words0 finish.call × HasFoundLine l words0 finish.call line → DelIsThere l words0 words (goes_on finish line)
@@ -301,7 +301,7 @@ MayLack machine why = MayLackRoom machine ⊎ ((why ≡ again.LogFull) × IsRefu
 
 abbrev pub Went : Layout → ℕ → List ℕ → List ℕ → Running → Turn Running (Once Placed) → Type 0
 Went l g words0 words machine (Go next) = IsThere l words0 words next
-Went l g words0 words machine (Done answer) = HasEnded l g words0 (running_call machine) (NeedsPlace machine) (MayLack machine) (placed_in (stage_of machine)) (limit_in (stage_of machine)) answer
+Went l g words0 words machine (Done answer) = HasEnded l g words0 words (running_call machine) (NeedsPlace machine) (MayLack machine) (placed_in (stage_of machine)) (limit_in (stage_of machine)) answer
 
 -- the version word of a node that is held alone while it is to be split is its own
 abbrev pub KnowsOwn : Layout → List ℕ → Running → Type 0
@@ -346,7 +346,7 @@ put_went (put.Single (single_put.Filling fill)) words0 words x sound still tells
 put_went (put.Single (single_put.Replacing call hold bitmap hit value)) words0 words x sound still tells mine stands told = stands
 put_went (put.Single (single_put.Finishing finish)) words0 words x sound still tells mine stands told =
     put_finished_went _ _ words0 _ (MayLack (Putting (put.Single (single_put.Finishing finish)))) finish.call (placed_in (put_stage (put.Single (single_put.Finishing finish)))) (limit_in (put_stage (put.Single (single_put.Finishing finish)))) (finish_turned finish x)
-    (finish_went _ _ words0 words (MayLack (Putting (put.Single (single_put.Finishing finish)))) (IsAtNode finish.call.view.layout words0) finish x stands stands)
+    (finish_went _ _ words0 (acted finish.call.view.layout words (put_asks (put.Single (single_put.Finishing finish)))) (MayLack (Putting (put.Single (single_put.Finishing finish)))) (IsAtNode finish.call.view.layout words0) finish x stands stands)
 put_went (put.Splitting call hold bitmap value split) words0 words x sound still tells mine stands told =
     on (split_turned split x) (split_went call hold bitmap value split words0 words x sound still stands.0 stands.1 tells mine told)
   where
@@ -355,7 +355,7 @@ put_went (put.Splitting call hold bitmap value split) words0 words x sound still
         (limit_in (put_stage (put.Splitting call hold bitmap value split))) (put_split call hold bitmap value turn)
     on (Go next) went = (stands.0, went)
     on (Done (done.Done fresh)) went = (stands.0, inl tt, went.0, went.1)
-    on (Done (done.Again why)) went = turned_back call.view.layout call.view.generation words0 call IsGiven (MayLack (Putting (put.Splitting call hold bitmap value split)))
+    on (Done (done.Again why)) went = turned_back call.view.layout call.view.generation words0 (acted call.view.layout words (split_asks split)) call IsGiven (MayLack (Putting (put.Splitting call hold bitmap value split)))
         (placed_in (put_stage (put.Splitting call hold bitmap value split))) (limit_in (put_stage (put.Splitting call hold bitmap value split))) why stands.0 (λ y. inl tt) went
 
 -- a look for a line of a delete
@@ -386,11 +386,12 @@ del_went (del.Single (single_del.Next call hold bitmap hit)) words0 words x soun
     (stands.0, loaded_unmoved call.view.layout words0 words call.node (call_address call next_offset) stands.1)
 del_went (del.Single (single_del.Taking call hold bitmap hit take)) words0 words x sound still tells stands told =
     del_take_went call hold bitmap hit take words0 words x None call.limit (MayLack (Deleting (del.Single (single_del.Taking call hold bitmap hit take)))) sound.2 stands.0 stands.1 stands.2 told
-del_went (del.Single (single_del.Refusing call hold bitmap hit)) words0 words x sound still tells stands told = (stands.0, inr (refl, record { call = call; hold = hold; bitmap = bitmap; hit = hit; is = refl }), stands.1)
+del_went (del.Single (single_del.Refusing call hold bitmap hit)) words0 words x sound still tells stands told =
+    (stands.0, inr (refl, record { call = call; hold = hold; bitmap = bitmap; hit = hit; is = refl }), stands.2, stored_unmoved call.view.layout words0 words call.node (hold.locked + 1) sound.call.node stands.1)
 del_went (del.Single (single_del.Clearing call hold bitmap hit line)) words0 words x sound still tells stands told = stands
 del_went (del.Single (single_del.Finishing finish line)) words0 words x sound still tells stands told =
     del_finished_went _ _ words0 _ (MayLack (Deleting (del.Single (single_del.Finishing finish line)))) line finish.call (placed_in (put_stage (put.Single (single_put.Finishing finish)))) (limit_in (put_stage (put.Single (single_put.Finishing finish)))) (finish_turned finish x)
-    (finish_went _ _ words0 words (MayLack (Deleting (del.Single (single_del.Finishing finish line)))) (WithLine finish.call.view.layout finish.call.view.generation words0 words (MayLack (Deleting (del.Single (single_del.Finishing finish line)))) line) finish x stands stands.0)
+    (finish_went _ _ words0 (acted finish.call.view.layout words (del_asks (del.Single (single_del.Finishing finish line)))) (MayLack (Deleting (del.Single (single_del.Finishing finish line)))) (WithLine finish.call.view.layout finish.call.view.generation words0 (acted finish.call.view.layout words (del_asks (del.Single (single_del.Finishing finish line)))) (MayLack (Deleting (del.Single (single_del.Finishing finish line)))) line) finish x stands stands.0)
 del_went (del.Merging call hold old place merge) words0 words x sound still tells stands told =
     let stage = del_stage (del.Merging call hold old place merge) in
     let of = merging_stage call old place merge in
@@ -432,7 +433,7 @@ pub machine_went : (machine : Running) (words0 words : List ℕ) (x : ℕ) → I
 machine_went (Getting machine) words0 words x sound still tells mine stands told = at (get_turned machine x) (get_went machine words0 words x sound still stands told)
   where
     ended : (answer : Once Placed) → GetWent (get_call machine).view.layout (get_call machine).view.generation words0 (acted (get_call machine).view.layout words (get_asks machine)) (get_call machine) (limit_in (get_stage machine)) (Done answer)
-        → HasEnded (get_call machine).view.layout (get_call machine).view.generation words0 (get_call machine) (λ place. Unit {0}) (MayLack (Getting machine)) (placed_in (stage_of (Getting machine))) (limit_in (stage_of (Getting machine))) answer
+        → HasEnded (get_call machine).view.layout (get_call machine).view.generation words0 (acted (get_call machine).view.layout words (get_asks machine)) (get_call machine) (λ place. Unit {0}) (MayLack (Getting machine)) (placed_in (stage_of (Getting machine))) (limit_in (stage_of (Getting machine))) answer
     ended (once.Done placed) is = (is.0, is.1, tt, is.2)
     ended (once.Worn node word) is = is
     ended (once.Spent clock) is = is

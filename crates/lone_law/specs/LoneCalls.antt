@@ -81,7 +81,7 @@ DelIsThere l words0 words (del.Single (single_del.Taking call hold bitmap hit ta
     IsAtNode l words0 call × IsUnmoved l words0 words call.node ×
     HasLooked (λ index. line_in l words0 call.view.caller index 0) take.index take.at
 DelIsThere l words0 words (del.Single (single_del.Refusing call hold bitmap hit)) =
-    IsAtNode l words0 call × LacksLine l words0 call.view.caller
+    IsAtNode l words0 call × IsUnmoved l words0 words call.node × LacksLine l words0 call.view.caller
 DelIsThere l words0 words (del.Single (single_del.Clearing call hold bitmap hit line)) =
     IsAtNode l words0 call × HasFoundLine l words0 call line
 DelIsThere l words0 words (del.Single (single_del.Finishing finish line)) =
@@ -193,10 +193,11 @@ IsAnswered w0 asked limit w p (once.Spent clock) =
     ¬ FindsWorn w0 asked × IsLate w0 limit × (clock ≡ length w0.history) × (w.history ≡ w0.history) × HasKeptList w0 w
 IsAnswered w0 asked limit w p (once.Again again.LogFull) =
     ¬ FindsWorn w0 asked × ¬ IsLate w0 limit × NeedsLine w0 asked × LacksLine w0.layout w0.words p.caller ×
-    (w.history ≡ w0.history) × HasKeptList w0 w
+    (w.history ≡ w0.history) × HasKeptList w0 w × IsUnmoved w0.layout w0.words w.words (target_node w0 (name_asked asked))
 IsAnswered w0 asked limit w p (once.Again again.NoFree) =
     ¬ FindsWorn w0 asked × ¬ IsLate w0 limit × FindsFull w0 asked × HasLine w0.layout w0.words p.caller ×
-    LacksFree w0.layout w0.generation w0.words × (w.history ≡ w0.history) × HasKeptList w0 w
+    LacksFree w0.layout w0.generation w0.words × (w.history ≡ w0.history) × HasKeptList w0 w ×
+    IsUnmoved w0.layout w0.words w.words (target_node w0 (name_asked asked))
 IsAnswered w0 asked limit w p (once.Again (again.NeedsSplit node)) =
     ¬ FindsWorn w0 asked × ¬ IsLate w0 limit × FindsFull w0 asked × HasLine w0.layout w0.words p.caller ×
     HasFree w0.layout w0.generation w0.words × (w.history ≡ w0.history) × IsHalvedSince (name_asked asked) w0 w ×

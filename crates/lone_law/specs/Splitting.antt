@@ -66,13 +66,15 @@ SplitStands l g words0 words n w caller (at.Claim next line claim) =
     HasHeard l g (heard_in l words0 n w 0) claim.node claim.at
 SplitStands l g words0 words n w caller (at.Read share full count) = HasLine l words0 caller × HasFree l g words0
 SplitStands l g words0 words n w caller (at.Move moving) = HasLine l words0 caller × HasFree l g words0
-SplitStands l g words0 words n w caller (at.Refuse next why) = IsLacking l g words0 caller why
+SplitStands l g words0 words n w caller (at.Refuse next why) =
+    IsUnmoved l words0 words n × IsLacking l g words0 caller why
 
 -- Where a turn of a split leads
 abbrev pub SplitWent : Layout → ℕ → List ℕ → List ℕ → ℕ → ℕ → ℕ → Turn Split SplitDone → Type 0
 SplitWent l g words0 words n w caller (Go next) = SplitStands l g words0 words n w caller next.at
 SplitWent l g words0 words n w caller (Done (done.Done fresh)) = HasLine l words0 caller × HasFree l g words0
-SplitWent l g words0 words n w caller (Done (done.Again why)) = IsLacking l g words0 caller why
+SplitWent l g words0 words n w caller (Done (done.Again why)) =
+    IsUnmoved l words0 words n × IsLacking l g words0 caller why
 
 -- The words as the call that splits began: its node and the first one are LIVE, and all are free
 pub record IsReadyToSplit (l : Layout) (g : ℕ) (words0 : List ℕ) (n : ℕ) : Type 0 where

@@ -5,7 +5,7 @@ use Rattle.pm_words.specs.declared.machine.Turn.{Turn}
 use Rattle.pm_words.specs.declared.machine.Turn.TheVariants.{Go, Done}
 use Rattle.pm_words.specs.Rows.{acted, got}
 use Rattle.version_lock.specs.Versions.{IsWorn}
-use Rattle.data_node.specs.Lists.{target_from, key_of}
+use Rattle.data_node.specs.Lists.{next_offset, target_from, key_of}
 use Rattle.call_stages.specs.declared.once.Once.{Once}
 use Rattle.call_stages.specs.declared.once.Once.TheVariants as once
 use Rattle.call_stages.specs.declared.once.Placed.{Placed}
@@ -42,11 +42,12 @@ pub record IsAtNode (l : Layout) (words : List ℕ) (call : Call) : Type 0 where
   pub hops : call.hops ≡ position_from (list_in l words) (key_of (name_in call))
   pub unworn : IsWorn (version_in l words call.node) call.view.generation → ⊥
 
--- Since the call took the lock of this node nothing else has changed: no version word of another, no status, and no log
--- line's state.
+-- Since the call took the lock of this node nothing else has changed: no version word of another, no status, no node
+-- that one leads to, and no log line's state.
 pub record IsUnmoved (l : Layout) (words0 words : List ℕ) (node : ℕ) : Type 0 where
   pub versions : (m : ℕ) → m ≢ node → version_in l words m ≡ version_in l words0 m
   pub statuses : (m : ℕ) → status_in l words m ≡ status_in l words0 m
+  pub nexts : (m : ℕ) → spot_in l words m next_offset ≡ spot_in l words0 m next_offset
   pub lines : (c j : ℕ) → line_in l words c j 0 ≡ line_in l words0 c j 0
 
 -- A look-up is on its way there, with the words as they were, or has come there.
