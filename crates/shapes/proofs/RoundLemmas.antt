@@ -1,5 +1,5 @@
 -- Shapes along the records of a round, and from round to round.
-use Rattle.std.proofs.Common.{◌≡◌, ℕ, ◌+◌, ◌-◌, ◌≤◌, Bool, true, false, ◌↔◌, is_some, is_none, Option, Some, None, List, [], ◌∷◌, ◌++◌, length, cond, refl, sym, ap, subst, ◌∙◌, arith, All}
+use Rattle.std.proofs.Common.{◌≡◌, ℕ, ◌+◌, ◌-◌, ◌≤◌, Bool, true, false, ◌↔◌, is_some, is_none, Option, Some, None, List, [], ◌∷◌, ◌++◌, length, get_or, cond, refl, sym, ap, subst, ◌∙◌, arith, All}
 use Rattle.std.proofs.lemmas.List.Elements.{All-from_recursion}
 use Rattle.std.proofs.lemmas.List.Sums.{fold-append}
 use Rattle.std.specs.FinMap.{len, insert, remove, len-insert, len-remove}
@@ -17,7 +17,7 @@ use Rattle.cat_history.specs.declared.record.Reply.TheVariants.{Old, Parts, Full
 use Rattle.cat_history.proofs.LoneRoundLemmas.{writes_of-cons}
 use Rattle.shapes.specs.Anchors.{Anchors, IsFullPut}
 use Rattle.shapes.specs.Weights.{IsShape, weight, one_if, one_lacking}
-use Rattle.shapes.specs.ShapeRounds.{anchors_after, HoldsInShape, anchors_end, PutsFull, IsFullByShape, one_added, puts_added, FullIsPaid, LoneRoundsKeepShape, IsShapeWithin, LeavesShape, GoesOnFrom, RoundsArePaid}
+use Rattle.shapes.specs.ShapeRounds.{anchors_after, HoldsInShape, anchors_end, PutsFull, IsFullByShape, one_added, puts_added, FullIsPaid, RoundInShape, LoneRoundsKeepShape, IsShapeWithin, LeavesShape, GoesOnFrom, RoundsArePaid}
 use Rattle.shapes.proofs.Shapes.{put_keeps_shape, delete_keeps_shape, put_weighs, delete_weighs, full_weighs}
 use Rattle.shapes.proofs.NameLists.{all_by}
 
@@ -110,12 +110,15 @@ record Along (slots nodes : ℕ) (m : Map) (anchors : Anchors) (records : List R
 pub after-cons : (m : Map) (r : Record) (records : List Record) → after_all m (writes_of (r ∷ records)) ≡ after_all (after_all m (write_of r)) (writes_of records)
 after-cons m r records = ap (after_all m) (writes_of-cons r records) ∙ fold-append (λ n (w : Write). changed n w.change) m (write_of r) (writes_of records)
 
-along : (slots nodes : ℕ) (m : Map) (anchors : Anchors) (place : ℕ) (records : List Record) → 2 ≤ slots → IsShape slots nodes m anchors →
-    HoldsAlong (λ m place r. IsAnswerNow m place r.op r.reply) m place records → IsFullByShape slots nodes m anchors records → Along slots nodes m anchors records
-along slots nodes m anchors place [] enough shape answers full = record { shape = shape; weighs = omega arith; names = omega arith; paid = tt }
-along slots nodes m anchors place (r ∷ records) enough shape answers full =
-    let one = one-call slots nodes m anchors enough shape r.caller r.index r.op r.reply place answers.0 full.0 in
-    let rest = along slots nodes (after_all m (write_of r)) (anchors_after slots m anchors r.op r.reply) (place + length (write_of r)) records enough one.shape answers.1 full.1 in
+-- Each record is what one call makes of shape, weight and names, if the nodes can hold the shape that it finds.
+abbrev pub AreCalls : ℕ → ℕ → Map → Anchors → List Record → Type 0
+AreCalls slots nodes m anchors records = HoldsInShape slots (λ n shape r. IsShape slots nodes n shape → OneCall slots nodes n shape r) m anchors records
+
+along : (slots nodes : ℕ) (m : Map) (anchors : Anchors) (records : List Record) → IsShape slots nodes m anchors → AreCalls slots nodes m anchors records → Along slots nodes m anchors records
+along slots nodes m anchors [] shape calls = record { shape = shape; weighs = omega arith; names = omega arith; paid = tt }
+along slots nodes m anchors (r ∷ records) shape calls =
+    let one = calls.0 shape in
+    let rest = along slots nodes (after_all m (write_of r)) (anchors_after slots m anchors r.op r.reply) records one.shape calls.1 in
     let ends = after-cons m r records in
     let heavy = one.weighs in
     let many = one.names in
@@ -134,15 +137,27 @@ along slots nodes m anchors place (r ∷ records) enough shape answers full =
       );
     }
 
-pub lone_rounds_keep_shape : LoneRoundsKeepShape
-lone_rounds_keep_shape slots nodes base anchors records enough shape answers full =
-    let is = along slots nodes base anchors 0 records enough shape answers full in
+pub round_in_shape : (slots nodes : ℕ) (m : Map) (anchors : Anchors) (records : List Record) → IsShape slots nodes m anchors → AreCalls slots nodes m anchors records → RoundInShape slots nodes m anchors records
+round_in_shape slots nodes m anchors records shape calls =
+    let is = along slots nodes m anchors records shape calls in
     record {
       shape = is.shape;
       weighs = is.weighs;
       names = is.names;
-      paid = All-from_recursion (FullIsPaid slots nodes (weight slots base anchors + puts_added records) (len base + puts_added records)) records is.paid;
+      paid = All-from_recursion (FullIsPaid slots nodes (weight slots m anchors + puts_added records) (len m + puts_added records)) records is.paid;
     }
+
+lone-calls : (slots nodes : ℕ) (m : Map) (anchors : Anchors) (place : ℕ) (records : List Record) → 2 ≤ slots → HoldsAlong (λ m place r. IsAnswerNow m place r.op r.reply) m place records →
+    IsFullByShape slots nodes m anchors records → AreCalls slots nodes m anchors records
+lone-calls slots nodes m anchors place [] enough answers full = tt
+lone-calls slots nodes m anchors place (r ∷ records) enough answers full = (
+  λ shape. one-call slots nodes m anchors enough shape r.caller r.index r.op r.reply place answers.0 full.0,
+  lone-calls slots nodes (after_all m (write_of r)) (anchors_after slots m anchors r.op r.reply) (place + length (write_of r)) records enough answers.1 full.1,
+)
+
+pub lone_rounds_keep_shape : LoneRoundsKeepShape
+lone_rounds_keep_shape slots nodes base anchors records enough shape answers full =
+    round_in_shape slots nodes base anchors records shape (lone-calls slots nodes base anchors 0 records enough answers full)
 
 -- what holds along records holds along one more of which it holds at their end
 pub HoldsInShape-push : (slots : ℕ) (P : Map → Anchors → Record → Type 0) (m : Map) (anchors : Anchors) (records : List Record) (r : Record) → HoldsInShape slots P m anchors records →
@@ -163,24 +178,29 @@ anchors_end-push slots m anchors (q ∷ records) r =
 
 -- ---- from round to round
 
+-- a round from a shape within bounds leaves one within those that its puts raise, which pay for its full answers
+pub goes_within : (slots nodes weighs names : ℕ) (m : Map) (anchors : Anchors) (records : List Record) → IsShapeWithin slots nodes weighs names m anchors → RoundInShape slots nodes m anchors records →
+    All (FullIsPaid slots nodes (weighs + puts_added records) (names + puts_added records)) records
+    × IsShapeWithin slots nodes (weighs + puts_added records) (names + puts_added records) (after_all m (writes_of records)) (anchors_end slots m anchors records)
+goes_within slots nodes weighs names m anchors records within is =
+    let heavy = is.weighs in
+    let many = is.names in
+    let at_most = within.light in
+    let at_most' = within.few in (
+      λ k r inside.
+          more-pays slots nodes (weight slots m anchors + puts_added records) (len m + puts_added records) (weighs + puts_added records) (names + puts_added records) (omega arith) (omega arith) (get_or records k r)
+          (is.paid k r inside),
+      record { shape = is.shape; light = omega arith; few = omega arith },
+    )
+
 -- a round goes on from a shape within its bounds to one within its own, and pays for its full answers
 one-round : (slots nodes weighs names : ℕ) (m : Map) (anchors : Anchors) (lone joined : Bool) (records : List Record) (end : Map) (next : Anchors) → 2 ≤ slots → IsShapeWithin slots nodes weighs names m anchors →
     GoesOnFrom slots nodes (weighs + puts_added records) (names + puts_added records) m anchors (record { lone = lone; joined = joined; records = records; end = end }) next →
     All (FullIsPaid slots nodes (weighs + puts_added records) (names + puts_added records)) records
     × IsShapeWithin slots nodes (weighs + puts_added records) (names + puts_added records) end next
 one-round slots nodes weighs names m anchors true joined records end next enough within goes =
-    let is = along slots nodes m anchors 0 records enough within.shape goes.0.0 goes.0.1 in
-    let heavy = is.weighs in
-    let many = is.names in
-    let at_most = within.light in
-    let at_most' = within.few in
-    let here : IsShapeWithin slots nodes (weighs + puts_added records) (names + puts_added records) (after_all m (writes_of records)) (anchors_end slots m anchors records) =
-    record { shape = is.shape; light = omega arith; few = omega arith } in (
-      All-from_recursion (FullIsPaid slots nodes (weighs + puts_added records) (names + puts_added records)) records
-          (all_by (FullIsPaid slots nodes (weight slots m anchors + puts_added records) (len m + puts_added records)) (FullIsPaid slots nodes (weighs + puts_added records) (names + puts_added records))
-          (λ r. more-pays slots nodes (weight slots m anchors + puts_added records) (len m + puts_added records) (weighs + puts_added records) (names + puts_added records) (omega arith) (omega arith) r) records is.paid),
-      by-end joined here goes.1,
-    )
+    let is = goes_within slots nodes weighs names m anchors records within (lone_rounds_keep_shape slots nodes m anchors records enough within.shape goes.0.0 goes.0.1) in
+    (is.0, by-end joined is.1 goes.1)
   where
     by-end : (joined : Bool) → IsShapeWithin slots nodes (weighs + puts_added records) (names + puts_added records) (after_all m (writes_of records)) (anchors_end slots m anchors records) →
         LeavesShape slots nodes (weighs + puts_added records) (names + puts_added records) m anchors (record { lone = true; joined = joined; records = records; end = end }) next →

@@ -8,14 +8,14 @@ use Rattle.cat_history.specs.Maps.{Map, at}
 use Rattle.shapes.specs.Anchors.{below, AnchorsRise, Anchors, AreAnchors, is_between, names_between, up_to, past, target_of, next_of, names_at, IsFullPut, splits, middle_of, put_anchors, merges, del_anchors}
 use Rattle.shapes.specs.Members.{Member, lower, upper, Placed, Puts, members}
 use Rattle.shapes.specs.Weights.{IsShape, members_weight, weight, one_if, one_lacking}
-use Rattle.shapes.specs.Laws.{PartsAgree, FreshIsShape, PutKeepsShape, DeleteKeepsShape, PutKeepsMost, SplitIsEnough, PutWeighs, DeleteWeighs, MergePays, FullWeighs, OneNodeIsRoom}
+use Rattle.shapes.specs.Laws.{PartsAgree, FreshIsShape, PutKeepsShape, DeleteKeepsShape, SplitIsEnough, PutWeighs, DeleteWeighs, FullWeighs, OneNodeIsRoom}
 use Rattle.shapes.proofs.Orders.{true_or_false, clash, empty_first}
 use Rattle.shapes.proofs.NameLists.{all_append, all_first, all_second, filter-keeps, filter-drops, filter-short, with_name-there}
 use Rattle.shapes.proofs.Keys.{rise-keys, among-keys, keys-insert}
 use Rattle.shapes.proofs.Targets.{Parted, part, target-is, next-is, names_at-is, members_before, member_of, is-target, all-between, and_false}
 use Rattle.shapes.proofs.Turns.{Parts, one_target}
 use Rattle.shapes.proofs.Agreements.{put_agrees, delete_agrees, length-members, fits-target, none-is, some-none, put-stays, put-splits, by-keys, first-kept, and-first, and-second, split-are, split-members, split-few, lower-names, upper-names}
-use Rattle.shapes.proofs.MemberWeights.{each_weighs, split-weighs, put-weighs, put-fits, delete-weighs, delete-pays, delete-fits}
+use Rattle.shapes.proofs.MemberWeights.{each_weighs, split-weighs, put-weighs, put-fits, delete-weighs, delete-fits}
 
 pub len-keys : (m : Map) → len m ≡ length (keys m)
 len-keys m = len-entries m ∙ sym (length-map (entries m) (λ e. e.0))
@@ -103,36 +103,6 @@ put_keeps_shape slots nodes m anchors name value enough shape room =
       few = put-few slots nodes m anchors name shape room;
       fits = put-fits slots nodes name (members m anchors) (members (insert m name value) (put_anchors slots m anchors name)) (put-there slots nodes m anchors name value enough shape room) shape.fits;
     }
-
--- ---- puts take no member away
-
-parted-length : (name : List ℕ) (anchors : Anchors) → length (up_to anchors name) + length (past anchors name) ≡ length anchors
-parted-length name [] = refl
-parted-length name (a ∷ later) =
-    let rest = parted-length name later in
-    ⊎_elim
-    (λ (is : below name a ≡ true).
-    let low = ap length (filter-drops (λ anchor. not (below name anchor)) a later (ap not is)) in
-    let high = ap length (filter-keeps (λ anchor. below name anchor) a later is) in
-    omega arith)
-    (λ (isnt : below name a ≡ false).
-    let low = ap length (filter-keeps (λ anchor. not (below name anchor)) a later (ap not isnt)) in
-    let high = ap length (filter-drops (λ anchor. below name anchor) a later isnt) in
-    omega arith)
-    (true_or_false (below name a))
-
-pub put_keeps_most : PutKeepsMost
-put_keeps_most slots most m anchors name =
-    ⊎_elim
-    (λ (is : splits slots m anchors name ≡ true).
-    let middle : List ℕ = middle_of slots m anchors name in
-    let now : length (put_anchors slots m anchors name) ≡ length (up_to anchors name ++ middle ∷ past anchors name) =
-    ap (λ b. length (if b then up_to anchors name ++ middle ∷ past anchors name else anchors)) is in
-    let both = length-append (up_to anchors name) (middle ∷ past anchors name) in
-    let parts = parted-length name anchors in
-    omega arith)
-    (λ (isnt : splits slots m anchors name ≡ false). let same = ap length (put-stays slots m anchors name isnt) in omega arith)
-    (true_or_false (splits slots m anchors name))
 
 -- ---- deletes
 
@@ -281,31 +251,6 @@ pub delete_weighs : DeleteWeighs
 delete_weighs slots m anchors name are =
     delete-weighs slots name (members m anchors) (members (remove m name) (del_anchors slots m anchors name))
     ((delete_agrees slots m anchors name are (members (remove m name) (del_anchors slots m anchors name))).1 refl)
-
-next-there : (anchors : Anchors) (name : List ℕ) (p : Parted anchors name) → is_some (next_of anchors name) ≡ true → 0 < length p.after
-next-there anchors name p is = by p.after (ap is_some (sym (next-is anchors name p)) ∙ is)
-  where
-    by : (after : Anchors) → is_some (slice_get after 0) ≡ true → 0 < length after
-    by [] is = clash is refl
-    by (h ∷ rest) is = omega arith
-
-pub merge_pays : MergePays
-merge_pays slots m anchors name are is =
-    let p = part anchors name are in
-    let some = next-there anchors name p (and-first (is_some (next_of anchors name)) (nat_le (length (names_between (remove m name) (target_of anchors name) (slice_get (past anchors name) 1))) (slots / 2))
-    (and-second (is_some (at m name)) (is_some (next_of anchors name) && nat_le (length (names_between (remove m name) (target_of anchors name) (slice_get (past anchors name) 1))) (slots / 2)) is)) in
-    let here = ap length (del-merges slots m anchors name p is) in
-    let was = ap length p.is in
-    let first = length-append p.before (p.low ∷ drop 1 p.after) in
-    let second = length-append p.before (p.low ∷ p.after) in
-    let gone = length-drop 1 p.after in
-    let after : List Member = members (remove m name) (del_anchors slots m anchors name) in
-    let size = length-members (remove m name) (del_anchors slots m anchors name) in
-    let size' = length-members m anchors in
-    let less : length after < length (members m anchors) = omega arith in (
-      delete-pays slots name (members m anchors) after ((delete_agrees slots m anchors name are after).1 refl) less,
-      omega arith,
-    )
 
 pub full_weighs : FullWeighs
 full_weighs slots nodes m anchors name full =

@@ -1,6 +1,6 @@
 -- The list of nodes as its callers can tell it: since the map is known, it is enough where in the order of names each
 -- member begins.
-use Rattle.std.specs.Prelude.{◌≡◌, ℕ, ◌-◌, ◌/◌, ◌≤◌, ◌&&◌, Bool, true, not, nat_le, if◌then◌else◌, List, [], ◌∷◌, ◌++◌}
+use Rattle.std.specs.Prelude.{◌≡◌, ℕ, ◌/◌, ◌≤◌, ◌&&◌, Bool, true, not, nat_le, if◌then◌else◌, List, [], ◌∷◌, ◌++◌}
 use Rattle.std.specs.Prelude.{Option, Some, None, length, drop, slice_get, slice_index_or, is_some, is_none}
 use Rattle.std.specs.FinMap.{keys, remove}
 use Rattle.std.specs.List.{filter, last_or, AllByRecursion}
@@ -91,8 +91,3 @@ merges slots m anchors name =
 abbrev pub del_anchors : ℕ → Map → Anchors → List ℕ → Anchors
 del_anchors slots m anchors name =
     if merges slots m anchors name then up_to anchors name ++ drop 1 (past anchors name) else anchors
-
--- How many members there can be after a call that leaves these anchors. Until there is an updater a member that a merge
--- takes away can't come back, and so leaves one member less that there can be.
-abbrev pub most_after : ℕ → Anchors → Anchors → ℕ
-most_after most anchors after = most - (length anchors - length after)

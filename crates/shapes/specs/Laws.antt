@@ -9,7 +9,7 @@ use Rattle.cat_history.specs.Scans.{IsLegalScan}
 use Rattle.cat_history.specs.declared.record.Reply.TheVariants.{Parts}
 use Rattle.cat_history.specs.declared.record.ScanPart.{ScanPart}
 use Rattle.shapes.specs.Anchors.{Anchors, AreAnchors, is_between, names_between, target_of, next_of, IsFullPut, splits}
-use Rattle.shapes.specs.Anchors.{middle_of, put_anchors, merges, del_anchors, most_after}
+use Rattle.shapes.specs.Anchors.{middle_of, put_anchors, merges, del_anchors}
 use Rattle.shapes.specs.Members.{Member, with_name, without_name, IsTargetMember, members, Outcome, Full, Placed, Puts}
 use Rattle.shapes.specs.Members.{Deletes}
 use Rattle.shapes.specs.ShapeRounds.{EndsWithMembers}
@@ -76,11 +76,6 @@ abbrev pub DeleteKeepsShape : Type 0
 DeleteKeepsShape = (slots nodes : ℕ) (m : Map) (anchors : Anchors) (name : List ℕ) → IsShape slots nodes m anchors →
     IsShape slots nodes (remove m name) (del_anchors slots m anchors name)
 
--- No put takes a member away, so there can be as many after it.
-abbrev pub PutKeepsMost : Type 0
-PutKeepsMost = (slots most : ℕ) (m : Map) (anchors : Anchors) (name : List ℕ) →
-    most_after most anchors (put_anchors slots m anchors name) ≡ most
-
 -- What a split leaves: each half has half as many names as a node has slots, the shape is one that the nodes can hold
 -- where one is left, and weighs no more. So the same put, made again, splits nothing and isn't full.
 pub record LeavesHalves (slots nodes : ℕ) (m : Map) (anchors : Anchors) (name : List ℕ) : Type 0 where
@@ -109,14 +104,6 @@ PutWeighs = (slots nodes : ℕ) (m : Map) (anchors : Anchors) (name : List ℕ) 
 abbrev pub DeleteWeighs : Type 0
 DeleteWeighs = (slots : ℕ) (m : Map) (anchors : Anchors) (name : List ℕ) → AreAnchors anchors →
     weight slots (remove m name) (del_anchors slots m anchors name) ≤ weight slots m anchors
-
--- A merge lowers it by half as many as a node has slots: so much weighs the node that it takes out of the list, as long
--- as that one isn't free again.
-abbrev pub MergePays : Type 0
-MergePays = (slots : ℕ) (m : Map) (anchors : Anchors) (name : List ℕ) → AreAnchors anchors →
-    merges slots m anchors name ≡ true →
-    (weight slots (remove m name) (del_anchors slots m anchors name) + slots / 2 ≤ weight slots m anchors)
-    × (length (del_anchors slots m anchors name) + 1 ≡ length anchors)
 
 -- Each member weighs half as many as a node has slots at least; so where a put is full, all the nodes do, and the map
 -- has at least as many names as one has slots.

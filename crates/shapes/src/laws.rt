@@ -1,12 +1,10 @@
 //! Laws of shapes, each named by the contract of a function.
 
-ghost use Rattle.shapes.specs.Runs.{OneNodeRounds};
+ghost use Rattle.shapes.specs.Runs.{OneNodeRounds, TimelyRoundsArePaid};
 ghost use Rattle.shapes.specs.ShapeRounds.{LoneRoundsKeepShape, RoundsArePaid};
 ghost use Rattle.shapes.specs.Laws.{MembersPartNames, PutAgrees, DeleteAgrees, PartsAgree, FreshIsShape, PutKeepsShape};
-ghost use Rattle.shapes.specs.Laws.{DeleteKeepsShape, PutKeepsMost, SplitIsEnough, PutWeighs, DeleteWeighs};
-ghost use Rattle.shapes.specs.Laws.{MergePays, FullWeighs, OneNodeIsRoom, HalfIsSplit, DropIsMerge, ScansAreOne};
-ghost use Rattle.shapes.specs.Laws.{ScansAreShort};
-ghost use Rattle.shapes.specs.PaidRounds.{TimelyRoundsArePaid};
+ghost use Rattle.shapes.specs.Laws.{DeleteKeepsShape, SplitIsEnough, PutWeighs, DeleteWeighs, FullWeighs};
+ghost use Rattle.shapes.specs.Laws.{OneNodeIsRoom, HalfIsSplit, DropIsMerge, ScansAreOne, ScansAreShort};
 
 /// The members part the names of the map among them.
 pub fn parts_law()
@@ -27,12 +25,11 @@ pub fn scan_law()
     ensures few { ScansAreShort }
 {}
 
-/// What nodes can hold, they can hold after each call, and no put leaves one member less that there can be.
+/// What nodes can hold, they can hold after each call.
 pub fn keeps_law()
     ensures fresh { FreshIsShape }
     ensures put { PutKeepsShape }
     ensures del { DeleteKeepsShape }
-    ensures most { PutKeepsMost }
 {}
 
 /// One split is enough.
@@ -44,7 +41,6 @@ pub fn split_law()
 pub fn weight_law()
     ensures put { PutWeighs }
     ensures del { DeleteWeighs }
-    ensures merge { MergePays }
     ensures full { FullWeighs }
 {}
 
@@ -65,7 +61,7 @@ pub fn run_law()
     ensures { OneNodeRounds }
 {}
 
-/// Full answers are paid for, where members that merges take away come back and where they don't.
+/// What a lone round under a limit makes of the shape, and that each full answer is paid for.
 pub fn paid_law()
     ensures { TimelyRoundsArePaid }
 {}

@@ -5,7 +5,7 @@ ghost use Rattle.std.specs.FinMap.{insert, remove, len};
 ghost use Rattle.cat_key.specs.Names.{IsName};
 ghost use Rattle.cat_history.specs.Maps.{at};
 ghost use Rattle.cat_history.specs.Scans.{range};
-ghost use Rattle.shapes.specs.Anchors.{IsFullPut, del_anchors, most_after, next_of, put_anchors};
+ghost use Rattle.shapes.specs.Anchors.{IsFullPut, del_anchors, next_of, put_anchors};
 ghost use Rattle.shapes.specs.Weights.{IsShape};
 
 use cat_history::{NoMemory, Pairs};
@@ -101,7 +101,8 @@ pub trait NameMap {
         ensures writes_left { writes_left self.old ≤ writes_left self.new + 1 };
 
     /// Removes a name, and answers the number that it had; None where the map lacks it. Where its target and the next
-    /// member then have few names together, that one is merged into it, and doesn't come back.
+    /// member then have few names together, that one is merged into it; its node comes back, so that there can be as
+    /// many members as before.
     fn del(&mut self, name: &Name) -> Option<u64>
         requires calls { 0 < calls_left self.old }
         requires writes { 0 < writes_left self.old }
@@ -110,7 +111,7 @@ pub trait NameMap {
         ensures anchors { anchors self.new ≡ del_anchors (slots self.old) (contents self.old) (anchors self.old)
             name.now }
         ensures slots { slots self.new ≡ slots self.old }
-        ensures most { most self.new ≡ most_after (most self.old) (anchors self.old) (anchors self.new) }
+        ensures most { most self.new ≡ most self.old }
         ensures calls_left { calls_left self.old ≤ calls_left self.new + 1 }
         ensures writes_left { writes_left self.old ≤ writes_left self.new + 1 };
 
