@@ -80,7 +80,7 @@ StepMovesAnchors = (w : World) (i : ℕ) (p : Party) (action : Action) (x : ℕ)
     (drop.node ≡ join.left.node)
     × (drop.name ≡ join.held.name)))
 
--- How many of the first so many nodes were merged into others. Until an updater frees them they don't come back.
+-- How many of the first so many nodes were merged into others, and aren't FREE again yet.
 abbrev pub gone_nodes : ℕ → Facts → ℕ
 gone_nodes zero f = 0
 gone_nodes (suc n) f = (if f.status n == gone_status then 1 else 0) + gone_nodes n f
@@ -89,7 +89,7 @@ gone_nodes (suc n) f = (if f.status n == gone_status then 1 else 0) + gone_nodes
 abbrev pub anchors_in : World → Anchors
 anchors_in w = anchors_of (facts w).list
 
--- How many members there can be.
+-- How many members there can be before a turn of the updater frees merged nodes.
 abbrev pub members_most : World → ℕ
 members_most w = w.layout.nodes - gone_nodes w.layout.nodes (facts w)
 
