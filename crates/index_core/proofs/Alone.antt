@@ -24,15 +24,16 @@ use Rattle.node_ops.specs.Asked.{name_asked}
 use Rattle.node_ops.specs.declared.part.PartWords.{PartWords}
 use Rattle.node_ops.specs.LookupSteps.{is_spent}
 use Rattle.node_ops.specs.PartSteps.{IsEarly, early_of, words_placed}
-use Rattle.index_law.specs.Facts.{range_of}
+use Rattle.index_law.specs.Facts.{range_of, version_in}
 use Rattle.index_law.specs.Worlds.{World, facts}
 use Rattle.index_law.specs.Laws.{IsAtRest}
-use Rattle.index_law.specs.Anchors.{anchors_of, anchors_in, members_most}
+use Rattle.index_law.specs.Anchors.{anchors_of, anchors_in}
 use Rattle.shapes.specs.Anchors.{merges}
 use Rattle.index_law.proofs.Parties.{at_set, set_here}
 use Rattle.index_law.proofs.Starts.{listed_within}
 use Rattle.lone_law.specs.LoneCalls.{FindsFull, NeedsLine, FindsWorn, IsLate, IsAnswered}
-use Rattle.lone_law.specs.Splitting.{HasFree, LacksFree}
+use Rattle.lone_law.specs.Splitting.{HasFree, LacksFree, LacksLine}
+use Rattle.call_stages.specs.Kinds.{free_status}
 use Rattle.lone_law.specs.Tries.{IsHalvedSince}
 use Rattle.lone_law.specs.Rooms.{target_node, target_names}
 use Rattle.lone_law.specs.Merging.{FindsMerge, HasKeptList, IsMergedSince, LeavesShape, NextIsWorn, next_node}
@@ -47,12 +48,12 @@ use Rattle.index_core.specs.declared.party.Whole.TheVariants as whole
 use Rattle.index_core.specs.CoreCalls.{op_of, limit_of, count_of}
 use Rattle.index_core.specs.PartyStates.{party_of, state_counted}
 use Rattle.index_core.specs.Indexes.{Index, world, map_of_index, IsIndex}
-use Rattle.index_core.specs.Lone.{IsQuiet, FindsNoRoom, HasSameList, SplitsFor, SplitsNothing, MergesFor, MergesNothing, LeavesList, LeavesMost, TakesLocks, LoseAtMost, TakesEachLock, names_beside, locks_left, IsWholeAnswer, TriesAlone, RunsAlone, CountsCall, alone_writes, needs_split, node_for, part_whole, whole_of, state_tried, state_done}
+use Rattle.index_core.specs.Lone.{IsQuiet, FindsNoRoom, HasSameList, SplitsFor, SplitsNothing, MergesFor, MergesNothing, LeavesList, TakesLocks, LoseAtMost, TakesEachLock, names_beside, locks_left, IsWholeAnswer, TriesAlone, RunsAlone, CountsCall, ComesFree, KeepsStamps, IsMadeAgain, most_tries, alone_writes, lacks_line, lacks_node, needs_split, node_for, part_whole, whole_of, state_tried, state_done}
 use Rattle.index_core.specs.Weights.{weight_of, added_by, added_if, added_whole}
 use Rattle.index_core.specs.Listings.{IsPartAt}
 use Rattle.index_core.proofs.Lists.{set_twice}
 use Rattle.index_core.proofs.PartsAlone.{whole_part}
-use Rattle.index_core.proofs.Quiet.{quiet_lacks_none, rests}
+use Rattle.index_core.proofs.Quiet.{rests}
 
 -- to the node of a name belong as many names of the map as the node has
 pub target_has : (s : Index) → IsAtRest (world s) → (name : List ℕ) → target_names (world s) name ≡ length (names_beside s name)
@@ -61,12 +62,28 @@ target_has s rest name =
     range_names s.layout.slots (range_of s.layout (facts w) (target_node w name)) ((facts w).now (target_node w name)) (map_of_index s)
     (rest.settled (target_node w name) (target_in 0 (facts w).list (key_of name))).means rest.named
 
-no_room_is : (s : Index) (c : CoreCall) → IsAtRest (world s) → FindsFull (world s) (op_of c) → LacksFree s.layout s.generation s.words → FindsNoRoom c s
-no_room_is s (call.Put name value limit) rest full lacks = (full.0, sym (target_has s rest name) ∙ full.1, lacks)
-no_room_is s c rest full lacks = absurd full
+-- a put that finds its node full is made again
+pub full_again_if : (s : Index) (i : ℕ) (c : CoreCall) → IsAtRest (world s) → FindsFull (world s) (op_of c) → IsMadeAgain i c s
+full_again_if s i (call.Put name value limit) rest full = (full.0, sym (target_has s rest name) ∙ full.1)
+full_again_if s i c rest full = absurd full
+
+-- As a turn leaves it: no log line of a caller is in use, and what a turn makes FREE is FREE.
+pub record IsSwept (s : Index) : Type 0 where
+  pub lines : (caller : ℕ) → caller < s.layout.callers → LacksLine s.layout s.words caller → ⊥
+  pub freed : (n : ℕ) → n < s.layout.nodes → ComesFree s n → ((facts (world s)).status n ≡ free_status) ⊎ IsWorn (version_in s.layout s.words n) s.generation
+
+no_room_is : (s : Index) (c : CoreCall) → IsAtRest (world s) → IsSwept s → FindsFull (world s) (op_of c) → LacksFree s.layout s.generation s.words → FindsNoRoom c s
+no_room_is s (call.Put name value limit) rest swept full lacks = (
+  (full.0, sym (target_has s rest name) ∙ full.1),
+  (λ n here comes. ⊎_elim
+      (λ (free : (facts (world s)).status n ≡ free_status). lacks n here free)
+      (λ (worn : IsWorn (version_in s.layout s.words n) s.generation). worn)
+      (swept.freed n here comes)),
+)
+no_room_is s c rest swept full lacks = absurd full
 
 no_room_was : (s : Index) (c : CoreCall) → IsAtRest (world s) → FindsNoRoom c s → FindsFull (world s) (op_of c)
-no_room_was s (call.Put name value limit) rest none = (none.0, target_has s rest name ∙ none.1)
+no_room_was s (call.Put name value limit) rest none = (none.0.0, target_has s rest name ∙ none.0.1)
 no_room_was s c rest none = absurd none
 
 -- a call is late where its limit is reached
@@ -74,7 +91,7 @@ late_is : (o : Option ℕ) (n : ℕ) → IsTrue (is_spent o n) → IsSomeAnd o (
 late_is None n late = absurd (cc)
 late_is (Some limit) n late = leb-true limit n late
 
-late_was : (o : Option ℕ) (n : ℕ) → IsSomeAnd o (λ limit. limit ≤ n) → IsTrue (is_spent o n)
+pub late_was : (o : Option ℕ) (n : ℕ) → IsSomeAnd o (λ limit. limit ≤ n) → IsTrue (is_spent o n)
 late_was None n over = absurd over
 late_was (Some limit) n over = le-leb limit n over
 
@@ -91,27 +108,28 @@ count_quiet s i new quiet t = subst IsQuiet (sym t.is) (record {
       (at_set s.states i j (state_counted t.state) state at);
 })
 
--- What the tries of a whole call answer and leave, before it is counted where it was turned back.
-pub record Ran (s0 s : Index) (i : ℕ) (c : CoreCall) (answer : Once Placed) : Type 0 where
+-- What so many tries of a whole call answer and leave, before it is counted where it was turned back.
+pub record Ran (s0 s : Index) (i : ℕ) (c : CoreCall) (answer : Once Placed) (tries : ℕ) : Type 0 where
   pub state : PartyState
   pub there : get_elem? s0.states i ≡ some state
   pub named : IsName (name_asked (op_of c))
-  pub cause : IsWholeAnswer s0 c s (whole_of answer)
+  pub cause : IsWholeAnswer tries s0 i c s (whole_of answer)
   pub history : s.history ≡ s0.history ++ alone_writes i state.index c (whole_of answer)
   pub states : s.states ≡ slice_set s0.states i (state_tried state (length s0.history) answer)
   pub layout : s.layout ≡ s0.layout
   pub generation : s.generation ≡ s0.generation
   pub base : s.base ≡ s0.base
   pub list : LeavesList c (whole_of answer) s0 s
-  pub most : LeavesMost c s0 s
-  pub each_lock : TakesEachLock c s0 s
-  pub locks : TakesLocks c s0 s
+  pub stamps : KeepsStamps s0 s
+  pub again : (tries ≤ 1) ⊎ IsMadeAgain i c s0
+  pub each_lock : LoseAtMost tries s0 s
+  pub locks : locks_left s0 ≤ locks_left s + tries
   pub weighs : weight_of s ≤ weight_of s0 + added_whole (op_of c) (whole_of answer)
 
 -- where its party is as a whole call leaves it
-counted_runs : (s0 s : Index) (i : ℕ) (c : CoreCall) (answer : Once Placed) (ran : Ran s0 s i c answer) (states : List PartyState) → states ≡ slice_set s0.states i (state_done ran.state (length s0.history))
+counted_runs : (s0 s : Index) (i : ℕ) (c : CoreCall) (answer : Once Placed) (tries : ℕ) (ran : Ran s0 s i c answer tries) → tries ≤ most_tries c → (states : List PartyState) → states ≡ slice_set s0.states i (state_done ran.state (length s0.history))
     → RunsAlone s0 i c (record s { states = states }) (whole_of answer)
-counted_runs s0 s i c answer ran states are = record {
+counted_runs s0 s i c answer tries ran few states are = record {
   state = ran.state;
   there = ran.there;
   named = ran.named;
@@ -122,7 +140,7 @@ counted_runs s0 s i c answer ran states are = record {
   generation = ran.generation;
   base = ran.base;
   list = same_list answer ran.list;
-  most = same_most ran.most;
+  stamps = ran.stamps;
   weighs = ran.weighs;
 }
   where
@@ -134,11 +152,10 @@ counted_runs s0 s i c answer ran states are = record {
     same_merge (call.Del name limit) merge = merge
     same_merge c merge = absurd merge
 
-    same_most : LeavesMost c s0 s → LeavesMost c s0 (record s { states = states })
-    same_most = ⊎_elim (λ same. inl same) (λ (merge : MergesFor c s0 s). inr (same_merge c merge))
-
-    same_cause : (r : Once Placed) → IsWholeAnswer s0 c s (whole_of r) → IsWholeAnswer s0 c (record s { states = states }) (whole_of r)
-    same_cause (once.Worn node word) cause = ⊎_elim (λ first. inl first) (λ (second : SplitsFor c s0 s × (locks_left s0 ≤ 1) × (node ≡ target_node (world s) (name_asked (op_of c))) × IsWorn word s0.generation). inr (same_split c second.0, second.1, second.2, second.3)) cause
+    same_cause : (r : Once Placed) → IsWholeAnswer tries s0 i c s (whole_of r) → IsWholeAnswer (most_tries c) s0 i c (record s { states = states }) (whole_of r)
+    same_cause (once.Worn node word) cause = ⊎_elim (λ first. inl first) (λ (later : IsMadeAgain i c s0 × (locks_left s0 < tries) × (HasSameList s0 s ⊎ SplitsFor c s0 s) × (node ≡ target_node (world s) (name_asked (op_of c))) × IsWorn word s0.generation).
+        let less = later.1 in
+        inr (later.0, omega arith, ⊎_elim (λ (same : HasSameList s0 s). inl same) (λ (cut : SplitsFor c s0 s). inr (same_split c cut)) later.2, later.3, later.4)) cause
     same_cause (once.Spent clock) cause = cause
     same_cause (once.Again why) cause = cause
     same_cause (once.Done placed) cause = cause
@@ -153,14 +170,17 @@ counted_runs s0 s i c answer ran states are = record {
         (λ (changed : SplitsFor c s0 s ⊎ MergesFor c s0 s). inr (⊎_elim (λ (cut : SplitsFor c s0 s). inl (same_split c cut)) (λ (merge : MergesFor c s0 s). inr (same_merge c merge)) changed))
         list
 
--- the same of an index that differs in the states of its parties alone
-other_states : (c : CoreCall) (s0 s : Index) (states : List PartyState) → TakesLocks c s0 s → TakesLocks c s0 (record s { states = states })
-other_states (call.Put name value limit) s0 s states locks = locks
-other_states c s0 s states locks = locks
+-- the locks that so many tries take
+pub ran_each : (s0 s : Index) (i : ℕ) (c : CoreCall) (answer : Once Placed) (tries : ℕ) → Ran s0 s i c answer tries → tries ≤ most_tries c → TakesEachLock i c s0 s
+ran_each s0 s i c answer tries ran few = ⊎_elim
+    (λ (one : tries ≤ 1). inl (λ n. let lost = ran.each_lock n in omega arith))
+    (λ (again : IsMadeAgain i c s0). inr (again, (λ n. let lost = ran.each_lock n in omega arith)))
+    ran.again
 
-other_each : (c : CoreCall) (s0 s : Index) (states : List PartyState) → TakesEachLock c s0 s → TakesEachLock c s0 (record s { states = states })
-other_each (call.Put name value limit) s0 s states each = each
-other_each c s0 s states each = each
+pub ran_locks : (s0 s : Index) (i : ℕ) (c : CoreCall) (answer : Once Placed) (tries : ℕ) → Ran s0 s i c answer tries → tries ≤ most_tries c → TakesLocks i c s0 s
+ran_locks s0 s i c answer tries ran few =
+    let lost = ran.locks in
+    ⊎_elim (λ (one : tries ≤ 1). inl (omega arith)) (λ (again : IsMadeAgain i c s0). inr (again, omega arith)) ran.again
 
 -- a try counts the call unless it was turned back
 try_counts : (answer : Once Placed) (state : PartyState) (since : ℕ) → (whole_of answer ≡ whole.Full → ⊥) → state_tried state since answer ≡ state_done state since
@@ -182,25 +202,24 @@ full_again (once.Spent clock) full = absurd cc
 full_again (once.Worn node word) full = absurd cc
 full_again (once.Again why) full = (why, refl)
 
-pub ran_runs : (s0 s : Index) (i : ℕ) (c : CoreCall) (answer : Once Placed) → Ran s0 s i c answer → (whole_of answer ≡ whole.Full → ⊥) → RunsAlone s0 i c s (whole_of answer)
-ran_runs s0 s i c answer ran other = counted_runs s0 s i c answer ran s.states (ran.states ∙ ap (slice_set s0.states i) (try_counts answer ran.state (length s0.history) other))
+pub ran_runs : (s0 s : Index) (i : ℕ) (c : CoreCall) (answer : Once Placed) (tries : ℕ) → Ran s0 s i c answer tries → tries ≤ most_tries c → (whole_of answer ≡ whole.Full → ⊥) → RunsAlone s0 i c s (whole_of answer)
+ran_runs s0 s i c answer tries ran few other = counted_runs s0 s i c answer tries ran few s.states (ran.states ∙ ap (slice_set s0.states i) (try_counts answer ran.state (length s0.history) other))
 
-pub full_runs : (s0 s : Index) (i : ℕ) (c : CoreCall) (answer : Once Placed) → Ran s0 s i c answer → whole_of answer ≡ whole.Full → (new : Index) → CountsCall s i new → RunsAlone s0 i c new (whole_of answer)
-full_runs s0 s i c answer ran full new t =
+pub full_runs : (s0 s : Index) (i : ℕ) (c : CoreCall) (answer : Once Placed) (tries : ℕ) → Ran s0 s i c answer tries → tries ≤ most_tries c → whole_of answer ≡ whole.Full → (new : Index) → CountsCall s i new → RunsAlone s0 i c new (whole_of answer)
+full_runs s0 s i c answer tries ran few full new t =
     let tried = state_tried ran.state (length s0.history) answer in
     let here = ap (λ (l : List PartyState). get_elem? l i) ran.states ∙ set_here s0.states i tried ran.state ran.there in
     let state : t.state ≡ tried = some-injective _ _ (sym t.there ∙ here) in
     subst (λ (v : Index). RunsAlone s0 i c v (whole_of answer)) (sym t.is)
-    (counted_runs s0 s i c answer ran (slice_set s.states i (state_counted t.state))
+    (counted_runs s0 s i c answer tries ran few (slice_set s.states i (state_counted t.state))
     ((λ k. set (ran.states k) i (state_counted (state k))) ∙ set_twice s0.states i tried (state_counted tried) ∙ ap (slice_set s0.states i) (full_counts answer ran.state (length s0.history) full)))
 
-pub full_locks : (s0 s : Index) (i : ℕ) (c : CoreCall) (answer : Once Placed) → Ran s0 s i c answer → (new : Index) → CountsCall s i new → TakesLocks c s0 new
-full_locks s0 s i c answer ran new t =
-    subst (TakesLocks c s0) (sym t.is) (other_states c s0 s (slice_set s.states i (state_counted t.state)) ran.locks)
+-- the locks left are those of an index that differs in the states of its parties alone
+pub counted_each : (s0 s : Index) (i : ℕ) (c : CoreCall) (new : Index) → CountsCall s i new → TakesEachLock i c s0 s → TakesEachLock i c s0 new
+counted_each s0 s i c new t each = subst (TakesEachLock i c s0) (sym t.is) each
 
-pub full_each : (s0 s : Index) (i : ℕ) (c : CoreCall) (answer : Once Placed) → Ran s0 s i c answer → (new : Index) → CountsCall s i new → TakesEachLock c s0 new
-full_each s0 s i c answer ran new t =
-    subst (TakesEachLock c s0) (sym t.is) (other_each c s0 s (slice_set s.states i (state_counted t.state)) ran.each_lock)
+pub counted_locks : (s0 s : Index) (i : ℕ) (c : CoreCall) (new : Index) → CountsCall s i new → TakesLocks i c s0 s → TakesLocks i c s0 new
+counted_locks s0 s i c new t locks = subst (TakesLocks i c s0) (sym t.is) locks
 
 -- what an answer adds
 adds : (c : CoreCall) (answer : Once Placed) → added_by (op_of c) answer ≡ added_whole (op_of c) (whole_of answer)
@@ -213,12 +232,11 @@ has_room : (o : Option ℕ) (n most : ℕ) → n ≤ most → ((o ≡ None) × (
 has_room (Some value) n most few not_full = inl refl
 has_room None n most few not_full = inr (⊎_elim (λ (less : n < most). less) (λ (as_many : most ≤ n). absurd (not_full (refl, omega arith))) (cases_lt n most))
 
--- the cause of an answer, and what it leaves of the history, of the list, and of the nodes that may be listed
-record Ends (s0 s : Index) (i index : ℕ) (c : CoreCall) (r : Once Placed) : Type 0 where
-  cause : IsWholeAnswer s0 c s (whole_of r)
+-- the cause of an answer, and what it leaves of the history and of the list
+record Ends (s0 s : Index) (i index : ℕ) (c : CoreCall) (r : Once Placed) (tries : ℕ) : Type 0 where
+  cause : IsWholeAnswer tries s0 i c s (whole_of r)
   history : s.history ≡ s0.history ++ alone_writes i index c (whole_of r)
   list : LeavesList c (whole_of r) s0 s
-  most : LeavesMost c s0 s
 
 -- a call that finds nothing to merge is no delete that merges by the shape, or the next node is worn
 merges_nothing : (s : Index) (c : CoreCall) → (FindsMerge (world s) (op_of c) → ⊥) → MergesNothing c s
@@ -238,7 +256,6 @@ merges_nothing s c none = tt
 -- the shape that a call leaves which took place
 record Leaves (s0 s : Index) (c : CoreCall) : Type 0 where
   list : (HasSameList s0 s × SplitsNothing c s0 × MergesNothing c s0) ⊎ (SplitsFor c s0 s ⊎ MergesFor c s0 s)
-  most : LeavesMost c s0 s
   position : position_from (facts (world s0)).list (key_of (name_asked (op_of c))) ≡ position_from (facts (world s)).list (key_of (name_asked (op_of c)))
 
 -- A call that took place is one on a name, and no part of a scan, which lists names besides.
@@ -246,7 +263,7 @@ abbrev IsOnName : CoreCall → Once Placed → Type 0
 IsOnName c (once.Done placed) = count_of c ≡ None
 IsOnName c _ = Unit {0}
 
-on_name : (c : CoreCall) (r : Once Placed) → count_of c ≡ None → IsOnName c r
+pub on_name : (c : CoreCall) (r : Once Placed) → count_of c ≡ None → IsOnName c r
 on_name c (once.Done placed) none = none
 on_name c (once.Spent clock) none = tt
 on_name c (once.Worn node word) none = tt
@@ -267,46 +284,44 @@ module _ (s0 s : Index) (i : ℕ) (c : CoreCall) (is0 : IsIndex s0) (quiet0 : Is
 
   merged : (c : CoreCall) → FindsMerge (world s0) (op_of c) → IsMergedSince (name_asked (op_of c)) (world s0) (world s) → Leaves s0 s c
   merged (call.Del name limit) finds since =
-      let merge : MergesFor (call.Del name limit) s0 s = (finds, since.anchors, since.most) in
-      record { list = inr (inr merge); most = inr merge; position = sym (merge_keeps_hops (world s0) (world s) name rest0 since) }
+      let merge : MergesFor (call.Del name limit) s0 s = (finds, since.anchors) in
+      record { list = inr (inr merge); position = sym (merge_keeps_hops (world s0) (world s) name rest0 since) }
   merged c finds since = absurd finds
 
   leaves : IsName (name_asked (op_of c)) → (FindsFull (world s0) (op_of c) → ⊥) → LeavesShape (world s0) (op_of c) (world s) → Leaves s0 s c
   leaves named not_full = ⊎_elim
       (λ (kept : (FindsMerge (world s0) (op_of c) → ⊥) × HasKeptList (world s0) (world s)). record {
         list = inl (kept.1.0, splits_nothing c named not_full, merges_nothing s0 c kept.0);
-        most = inl kept.1.1;
         position = ap (λ (l : List ListNode). position_from l (key_of (name_asked (op_of c)))) (sym kept.1.0);
       })
       (λ (since : FindsMerge (world s0) (op_of c) × IsMergedSince (name_asked (op_of c)) (world s0) (world s)). merged c since.0 since.1)
 
-  ends : (r : Once Placed) → needs_split r ≡ false → IsOnName c r → IsAnswered (world s0) (op_of c) (limit_of c) (world s) (party_of t.state) r → Ends s0 s i t.state.index c r
-  ends (once.Worn node word) one on_name (worn, node_is, word_is, same, kept) = record {
+  -- where it lacked a node, a turn was made before it
+  ends : (r : Once Placed) → needs_split r ≡ false → lacks_line r ≡ false → (lacks_node r ≡ true → IsSwept s0) → IsOnName c r
+      → IsAnswered (world s0) (op_of c) (limit_of c) (world s) (party_of t.state) r → Ends s0 s i t.state.index c r 1
+  ends (once.Worn node word) one lined swept on_name (worn, node_is, word_is, same, kept) = record {
     cause = inl (worn, node_is, word_is, kept.0);
     history = same ∙ sym (append-nil s0.history);
     list = tt;
-    most = inl kept.1;
   }
-  ends (once.Spent clock) one on_name (unworn, late, clock_is, same, kept) = record {
+  ends (once.Spent clock) one lined swept on_name (unworn, late, clock_is, same, kept) = record {
     cause = (unworn, late_is (limit_of c) (length s0.history) late, clock_is);
     history = same ∙ sym (append-nil s0.history);
     list = kept.0;
-    most = inl kept.1;
   }
-  ends (once.Again again.NoFree) one on_name (unworn, below, full, has, lacks, same, kept) = record {
-    cause = (unworn, (λ over. below (late_was (limit_of c) (length s0.history) over)), no_room_is s0 c rest0 full lacks);
+  ends (once.Again again.NoFree) one lined swept on_name (unworn, below, full, has, lacks, same, kept, unmoved) = record {
+    cause = (unworn, (λ over. below (late_was (limit_of c) (length s0.history) over)), no_room_is s0 c rest0 (swept refl) full lacks);
     history = same ∙ sym (append-nil s0.history);
     list = kept.0;
-    most = inl kept.1;
   }
-  ends (once.Again (again.NeedsSplit n)) one on_name end = absurd (cc)
-  ends (once.Again (again.Locked n word)) one on_name end = absurd end
-  ends (once.Again (again.Moved n first second)) one on_name end = absurd end
-  ends (once.Again (again.Hops count)) one on_name end = absurd end
-  ends (once.Again again.LogFull) one on_name (unworn, below, needs, lacks, same, kept) = absurd (quiet_lacks_none s0 is0 quiet0 t.state.caller lacks)
-  ends (once.Again (again.Held word)) one on_name end = absurd end
-  ends (once.Again (again.Epoch first second)) one on_name end = absurd end
-  ends (once.Done placed) one on_name ((unworn, below, not_full, line), old, place, hops, write, shape) =
+  ends (once.Again (again.NeedsSplit n)) one lined swept on_name end = absurd (cc)
+  ends (once.Again (again.Locked n word)) one lined swept on_name end = absurd end
+  ends (once.Again (again.Moved n first second)) one lined swept on_name end = absurd end
+  ends (once.Again (again.Hops count)) one lined swept on_name end = absurd end
+  ends (once.Again again.LogFull) one lined swept on_name end = absurd (cc)
+  ends (once.Again (again.Held word)) one lined swept on_name end = absurd end
+  ends (once.Again (again.Epoch first second)) one lined swept on_name end = absurd end
+  ends (once.Done placed) one lined swept on_name ((unworn, below, not_full, line), old, place, hops, write, shape) =
       let left = leaves t.named not_full shape in
       record {
         cause = (
@@ -318,12 +333,11 @@ module _ (s0 s : Index) (i : ℕ) (c : CoreCall) (is0 : IsIndex s0) (quiet0 : Is
         );
         history = write ∙ ap (λ (j : ℕ). s0.history ++ alone_writes j t.state.index c (whole.Placed placed)) (is0.states i t.state t.there).caller;
         list = left.list;
-        most = left.most;
       }
 
-  pub one_try : needs_split answer ≡ false → IsOnName c answer → Ran s0 s i c answer
-  one_try one on_name =
-      let end = ends answer one on_name t.answered in
+  pub one_try : needs_split answer ≡ false → lacks_line answer ≡ false → (lacks_node answer ≡ true → IsSwept s0) → IsOnName c answer → Ran s0 s i c answer 1
+  one_try one lined swept on_name =
+      let end = ends answer one lined swept on_name t.answered in
       let added = adds c answer in
       let before = t.weighs in
       record {
@@ -337,9 +351,10 @@ module _ (s0 s : Index) (i : ℕ) (c : CoreCall) (is0 : IsIndex s0) (quiet0 : Is
         generation = t.generation;
         base = t.base;
         list = end.list;
-        most = end.most;
-        each_lock = inl each;
-        locks = inl locks;
+        stamps = λ n here. inl (ap (λ (stamp : ℕ → ℕ). stamp n) t.stamps);
+        again = inl (omega arith);
+        each_lock = each;
+        locks = locks;
         weighs = omega arith;
       }
 
@@ -362,7 +377,7 @@ split_has_room s0 s1 c rest map halved full = absurd full
 
 -- and where a node was free it had room before
 free_is_room : (s : Index) (c : CoreCall) → HasFree s.layout s.generation s.words → FindsNoRoom c s → ⊥
-free_is_room s (call.Put name value limit) free none = free.unworn (none.2 free.node free.within free.free)
+free_is_room s (call.Put name value limit) free none = free.unworn (none.1 free.node free.within (inl free.free))
 free_is_room s c free none = absurd none
 
 -- what a try says that split
@@ -373,7 +388,6 @@ record Split (s0 s1 : Index) (c : CoreCall) : Type 0 where
   free : HasFree s0.layout s0.generation s0.words
   history : s1.history ≡ s0.history
   halved : IsHalvedSince (name_asked (op_of c)) (world s0) (world s1)
-  most : members_most (world s1) ≡ members_most (world s0)
 
 -- a call that finds no room is a put, and merges nothing
 put_keeps : (c : CoreCall) (w0 w1 w : World) → FindsFull w0 (op_of c) → LeavesShape w1 (op_of c) w → HasKeptList w1 w
@@ -408,7 +422,6 @@ module _ (s0 s1 s : Index) (i : ℕ) (c : CoreCall) (is0 : IsIndex s0) (quiet0 :
     free = free;
     history = same;
     halved = halved;
-    most = most;
   }
   splits_first (once.Again (again.Locked n word)) again end = absurd end
   splits_first (once.Again (again.Moved n one two)) again end = absurd end
@@ -433,31 +446,31 @@ module _ (s0 s1 s : Index) (i : ℕ) (c : CoreCall) (is0 : IsIndex s0) (quiet0 :
         worn_has_none s1.generation (facts (world s1)).version n s1.layout.nodes
         (listed_within s1.layout (facts (world s1)) rest_between.list rest_between.row.layout n (target_in 0 (facts (world s1)).list (key_of (name_asked (op_of c))))) worn
 
-    ends_then : (r : Once Placed) → IsAnswered (world s1) (op_of c) (limit_of c) (world s) (party_of u.state) r → Ends s0 s i u.state.index c r × SplitsFor c s0 s
+    ends_then : (r : Once Placed) → IsAnswered (world s1) (op_of c) (limit_of c) (world s) (party_of u.state) r → Ends s0 s i u.state.index c r 2 × SplitsFor c s0 s
     ends_then (once.Worn node word) (worn, node_is, word_is, same, kept) =
         let no_lock = no_locks worn in
         let split_now = split_on s0 s1 s c kept.0 split in (
           record {
             cause = inr (
-              split_now,
+              full_again_if s0 i c rest_before cut.full,
               omega arith,
+              inr split_now,
               node_is ∙ ap (λ (l : List ListNode). target_from 0 l (key_of (name_asked (op_of c)))) (sym kept.0),
               subst (λ (q : ℕ × ℕ). IsWorn q.0 q.1) (λ k. ((sym word_is) k, t.generation k)) (subst (λ (n : ℕ). IsWorn ((facts (world s1)).version n) s1.generation) (sym node_is) worn),
             );
             history = same ∙ cut.history ∙ sym (append-nil s0.history);
             list = tt;
-            most = inl (kept.1 ∙ cut.most);
           },
           split_now,
         )
     ends_then (once.Spent clock) (unworn, late, clock_is, same, kept) =
         absurd (cut.below (subst (λ (n : ℕ). IsTrue (is_spent (limit_of c) n)) (ap length cut.history) late))
-    ends_then (once.Again again.NoFree) (unworn, below, full, has, lacks, same, kept) = absurd (not_full full)
+    ends_then (once.Again again.NoFree) (unworn, below, full, has, lacks, same, kept, unmoved) = absurd (not_full full)
     ends_then (once.Again (again.NeedsSplit n)) (unworn, below, full, has, free, same, halved, most) = absurd (not_full full)
     ends_then (once.Again (again.Locked n word)) end = absurd end
     ends_then (once.Again (again.Moved n one two)) end = absurd end
     ends_then (once.Again (again.Hops count)) end = absurd end
-    ends_then (once.Again again.LogFull) (unworn, below, needs, lacks, same, kept) = absurd (not_full (put_needs c (world s0) (world s1) cut.full needs))
+    ends_then (once.Again again.LogFull) (unworn, below, needs, lacks, same, kept, unmoved) = absurd (not_full (put_needs c (world s0) (world s1) cut.full needs))
     ends_then (once.Again (again.Held word)) end = absurd end
     ends_then (once.Again (again.Epoch one two)) end = absurd end
     ends_then (once.Done placed) ((unworn, below, has_room_now, line), old, place, hops, write, shape) =
@@ -473,7 +486,6 @@ module _ (s0 s1 s : Index) (i : ℕ) (c : CoreCall) (is0 : IsIndex s0) (quiet0 :
             );
             history = write ∙ (λ k. cut.history k ++ alone_writes ((is1.states i u.state u.there).caller k) u.state.index c (whole.Placed placed));
             list = inr (inl split_now);
-            most = inl (kept.1 ∙ cut.most);
           },
           split_now,
         )
@@ -504,7 +516,7 @@ module _ (s0 s1 s : Index) (i : ℕ) (c : CoreCall) (is0 : IsIndex s0) (quiet0 :
       let another = each_then n in
       omega arith
 
-  pub two_tries : needs_split first ≡ true → Ran s0 s i c answer
+  pub two_tries : needs_split first ≡ true → Ran s0 s i c answer 2
   two_tries again =
       let cut = splits_first first again t.answered in
       let end = ends_then cut answer u.answered in
@@ -529,22 +541,12 @@ module _ (s0 s1 s : Index) (i : ℕ) (c : CoreCall) (is0 : IsIndex s0) (quiet0 :
         generation = u.generation ∙ t.generation;
         base = u.base ∙ t.base;
         list = end.0.list;
-        most = end.0.most;
-        each_lock = inr (end.1, each_two);
-        locks = inr (end.1, omega arith);
+        stamps = λ n here. inl (ap (λ (stamp : ℕ → ℕ). stamp n) (u.stamps ∙ t.stamps));
+        again = inr (full_again_if s0 i c rest_before cut.full);
+        each_lock = each_two;
+        locks = omega arith;
         weighs = omega arith;
       }
-
--- the same of an index and an answer that equal those of the last try
-pub ran_once : {s0 s1 s : Index} {i : ℕ} {c : CoreCall} {first answer : Once Placed} → count_of c ≡ None → IsIndex s0 → IsQuiet s0 → TriesAlone s0 i c s1 first → LoseAtMost 1 s0 s1
-    → locks_left s0 ≤ locks_left s1 + 1 → needs_split first ≡ false → s ≡ s1 → answer ≡ first → Ran s0 s i c answer
-ran_once {s0} {s1} {s} {i} {c} {first} {answer} none is0 quiet0 t each locks one same_index same_answer =
-    subst (λ (q : Index × Once Placed). Ran s0 q.0 i c q.1) (λ k. (sym same_index k, sym same_answer k)) (one_try s0 s1 i c is0 quiet0 first t each locks one (on_name c first none))
-
-pub ran_twice : {s0 s1 s2 s : Index} {i : ℕ} {c : CoreCall} {first second answer : Once Placed} → count_of c ≡ None → IsIndex s0 → IsQuiet s0 → IsIndex s1 → IsQuiet s1 → TriesAlone s0 i c s1 first → TriesAlone s1 i c s2 second
-    → LoseAtMost 1 s0 s1 → LoseAtMost 1 s1 s2 → locks_left s0 ≤ locks_left s1 + 1 → locks_left s1 ≤ locks_left s2 + 1 → needs_split first ≡ true → s ≡ s2 → answer ≡ second → Ran s0 s i c answer
-ran_twice {s0} {s1} {s2} {s} {i} {c} {first} {second} {answer} none is0 quiet0 is1 quiet1 t u each each_then locks locks_then again same_index same_answer =
-    subst (λ (q : Index × Once Placed). Ran s0 q.0 i c q.1) (λ k. (sym same_index k, sym same_answer k)) (two_tries s0 s1 s2 i c is0 quiet0 is1 quiet1 first second none t u each each_then locks locks_then again)
 
 -- a get adds no name
 gets_add_nothing : (name : List ℕ) (old : Option ℕ) → added_if (op.Get name) old ≡ 0
@@ -559,7 +561,7 @@ module _ (s0 s : Index) (i : ℕ) (low : List ℕ) (count : ℕ) (is0 : IsIndex 
   -- one that ended early is worn
   pub part_early : (r : Once Placed) → IsEarly r → TriesAlone s0 i c s r → LoseAtMost 1 s0 s → locks_left s0 ≤ locks_left s + 1 → RunsAlone s0 i c s (part_whole (early_of r))
   part_early (once.Worn node word) early t each locks =
-      ran_runs s0 s i c (once.Worn node word) (one_try s0 s i c is0 quiet0 (once.Worn node word) t each locks refl tt) (λ full. cc)
+      ran_runs s0 s i c (once.Worn node word) 1 (one_try s0 s i c is0 quiet0 (once.Worn node word) t each locks refl refl (λ e. cc) tt) (omega arith) (λ full. cc)
   part_early (once.Spent clock) early t each locks = absurd (let late = t.answered.1 in cc)
   part_early (once.Again again.NoFree) early t each locks = absurd t.answered.2
   part_early (once.Again (again.NeedsSplit n)) early t each locks = absurd t.answered.2
@@ -592,6 +594,6 @@ module _ (s0 s : Index) (i : ℕ) (low : List ℕ) (count : ℕ) (is0 : IsIndex 
         generation = t.generation;
         base = t.base;
         list = kept.0;
-        most = inl kept.1;
+        stamps = λ n here. inl (ap (λ (stamp : ℕ → ℕ). stamp n) t.stamps);
         weighs = omega arith;
       }

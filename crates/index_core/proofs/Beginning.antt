@@ -40,7 +40,7 @@ use Rattle.index_core.specs.CoreCalls.{machine_of, op_of, limit_of, count_of}
 use Rattle.index_core.specs.Listings.{ListsRange}
 use Rattle.index_core.specs.PartyStates.{state_with, next_index}
 use Rattle.index_core.specs.Indexes.{Index, IsIndex, map_of_index, view_of, started_index}
-use Rattle.index_core.specs.Lone.{IsQuiet, FindsNoRoom, names_beside, node_for, IsWholeAnswer, alone_writes, state_done}
+use Rattle.index_core.specs.Lone.{IsQuiet, FindsNoRoom, names_beside, node_for, IsWholeAnswer, most_tries, alone_writes, state_done}
 use Rattle.index_core.specs.Schedules.{BegunCall, AnsweredCall, begun_call, flying_call, once_of, listed_of, CallLists, IsNext, IsNextIndex, flying_in, IsAnsweredWrite, IsWriteInFlight, AreCounted}
 use Rattle.index_core.proofs.Stepping.{begins_limit, begins_count}
 use Rattle.index_core.proofs.Flights.{each_starts, each_alone}
@@ -163,7 +163,7 @@ module _ (first : Index) (begun : List BegunCall) (calls : List AnsweredCall) (s
               cc
 
     -- a whole call
-    module _ (result : Whole) (new : Index) (quiet : IsQuiet s) (is : IsWholeAnswer s c new result) where
+    module _ (result : Whole) (new : Index) (quiet : IsQuiet s) (is : IsWholeAnswer (most_tries c) s i c new result) where
       abbrev base : Map
       base = map_of first.base
 
@@ -219,11 +219,11 @@ module _ (first : Index) (begun : List BegunCall) (calls : List AnsweredCall) (s
               clock = length s.history;
               later = omega arith;
               within = omega arith;
-              lacked = ap (λ (m : Map). at m name) same ∙ none.0;
+              lacked = ap (λ (m : Map). at m name) same ∙ none.0.0;
               many =
                   let all : len (after base (s.history ++ []) (length s.history)) ≡ length (keys (map_of_index s)) = ap len same ∙ len-keys (map_of_index s) in
                   let some_of = filter-short (λ other. node_for s other == node_for s name) (keys (map_of_index s)) in
-                  let full : length (names_beside s name) ≡ first.layout.slots = none.1 ∙ ap (λ (l : Layout). l.slots) k.layout_is in
+                  let full : length (names_beside s name) ≡ first.layout.slots = none.0.1 ∙ ap (λ (l : Layout). l.slots) k.layout_is in
                   omega arith;
             },
           )
@@ -232,7 +232,7 @@ module _ (first : Index) (begun : List BegunCall) (calls : List AnsweredCall) (s
       lacked_room (call.Part low count) none = absurd none
       lacked_room (call.Recheck node version) none = absurd none
 
-      tells : (r : Whole) → IsWholeAnswer s c new r
+      tells : (r : Whole) → IsWholeAnswer (most_tries c) s i c new r
           → AnswerHolds first.layout.slots base (s.history ++ alone_writes e.caller e.index c r) b (length (s.history ++ alone_writes e.caller e.index c r)) (once_of r)
       tells (whole.Placed placed) why = let both = took (op_of c) placed (below_limit (limit_of c) (length s.history) why.1.1) why.2 why.3 in (both, both.within)
       tells (whole.Part words) why =
@@ -251,7 +251,7 @@ module _ (first : Index) (begun : List BegunCall) (calls : List AnsweredCall) (s
       tells (whole.Worn node word) why = tt
 
       -- a part lists the map as it was at the end of the history
-      lists : (r : Whole) → IsWholeAnswer s c new r → CallLists base (s.history ++ alone_writes e.caller e.index c r) (op_of c) (count_of c) (once_of r) (listed_of r)
+      lists : (r : Whole) → IsWholeAnswer (most_tries c) s i c new r → CallLists base (s.history ++ alone_writes e.caller e.index c r) (op_of c) (count_of c) (once_of r) (listed_of r)
       lists (whole.Placed placed) why = subst (λ (o : Option ℕ). CallLists base (s.history ++ alone_writes e.caller e.index c (whole.Placed placed)) (op_of c) o (once.Done placed) None) (sym why.0) refl
       lists (whole.Part words) why =
           let counted = counts_is (count_of c) why.1 in
@@ -262,7 +262,7 @@ module _ (first : Index) (begun : List BegunCall) (calls : List AnsweredCall) (s
       lists (whole.Worn node word) why = none_lists base _ (op_of c) (count_of c) _ (λ placed is. cc)
 
       -- its write is the last
-      last_write : (r : Whole) → IsWholeAnswer s c new r → (place : ℕ) (write : Write) → slice_get (s.history ++ alone_writes e.caller e.index c r) place ≡ Some write
+      last_write : (r : Whole) → IsWholeAnswer (most_tries c) s i c new r → (place : ℕ) (write : Write) → slice_get (s.history ++ alone_writes e.caller e.index c r) place ≡ Some write
           → (slice_get s.history place ≡ Some write) ⊎ ((placed : Placed) × (once_of r ≡ once.Done placed) × (placed.place ≡ place) × (write.caller ≡ e.caller) × (write.index ≡ e.index) × (change_of (op_of c) ≡ Some write.change))
       last_write (whole.Placed placed) why place write stands = at (change_of (op_of c)) refl stands
         where

@@ -21,9 +21,11 @@ pub mod Shown
 pub mod WeightLaw
 pub mod MachineLaw
 pub mod Quiet
+pub mod Stamps
 pub mod Tries
 pub mod PartsAlone
 pub mod Alone
+pub mod Retrying
 pub mod PartTries
 pub mod Endings
 pub mod Told

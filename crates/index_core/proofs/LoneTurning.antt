@@ -1,6 +1,6 @@
 -- A whole turn of the updater with nothing else in flight.
 use Rattle.std.proofs.Common.{◌≡◌, ◌≢◌, ℕ, ◌/◌, ◌%◌, ◌<◌, ◌≤◌, ◌^◌, ◌⊎◌, inl, inr, ⊎_elim, cond, List, set, refl, sym, ap, ◌∙◌, subst, arith}
-use Rattle.std.specs.Prelude.{Option, Some, None, true}
+use Rattle.std.specs.Prelude.{Option, Some, None, true, false}
 use Rattle.std.proofs.lemmas.Bool.{cases_eq, ne_eqb}
 use mathlib.Core.Option.{none, some, some-injective}
 use lib.ListN.{get_elem?}
@@ -36,7 +36,14 @@ use Rattle.updater.specs.Works.{work_from, work_turned, work_asks}
 use Rattle.layer_law.specs.Layers.{Layered, IsLayered}
 use Rattle.layer_law.specs.Laws.{IsAtRest, turned}
 use Rattle.lone_turn.specs.Laws.{LoneTurning, GoesOn}
-use Rattle.lone_turn.specs.LoneTurns.{line_state, AreEmptyOrReady, IsIdle, IsLoneTurn}
+use Rattle.lone_turn.specs.LoneTurns.{line_state, frees_node, status_then, AreEmptyOrReady, IsIdle, IsLoneTurn}
+use Rattle.call_stages.specs.Kinds.{free_status, gone_status}
+use Rattle.pm_words.specs.declared.layout.Layout.{Layout}
+use Rattle.index_law.specs.Facts.{Facts}
+use Rattle.index_law.specs.Worlds.{World, facts}
+use Rattle.index_law.specs.Weights.{gone_weight, index_weight}
+use Rattle.index_law.proofs.Weights.{gone_less}
+use Rattle.index_core.specs.Weights.{weight_of}
 use Rattle.lone_turn.proofs.Begins.{turns_begin}
 use Rattle.lone_turn.proofs.Going.{turns_go}
 use Rattle.index_core.specs.declared.party.PartyState.{PartyState}
@@ -117,6 +124,23 @@ turn_left_at s i = elim (get_elem? s.states i) [
   | none ↦ 0
   | some e ↦ left_of_turn e.turn
 ]
+
+-- What it made FREE weighs nothing any more.
+was_gone : (w : World) (stamp release n : ℕ) → status_then w stamp release n ≡ gone_status → (facts w).status n ≡ gone_status
+was_gone w stamp release n = elim (frees_node w stamp release n) as (λ b. cond b free_status ((facts w).status n) ≡ gone_status → (facts w).status n ≡ gone_status) [
+  | true ↦ λ is. absurd (let no : free_status ≡ gone_status = is in omega arith)
+  | false ↦ λ is. is
+]
+
+lone_turn_weighs : (s s' : Index) (stamp release : ℕ) (answer : Turned) → IsLoneTurn (layered s) stamp release answer (layered s') → s'.layout ≡ s.layout → weight_of s' ≤ weight_of s
+lone_turn_weighs s s' stamp release answer lone layout =
+    let l = s.layout in
+    let f = facts (world s) in
+    let status = (facts (world s')).status in
+    let fewer : gone_weight (l.slots / 2) status l.nodes ≤ gone_weight (l.slots / 2) f.status l.nodes =
+    gone_less (l.slots / 2) f.status status l.nodes (λ n here gone. was_gone (world s) stamp release n (sym (lone.statuses n here) ∙ gone)) in
+    let less : index_weight l (record f { status = status }) ≤ index_weight l f = omega arith in
+    subst (λ (q : Layout × Facts). index_weight q.0 q.1 ≤ weight_of s) (λ k. (sym layout k, sym lone.kept.facts k)) less
 
 pub turned_same : {a b : Turned} → reply.Turned a ≡ reply.Turned b → a ≡ b
 turned_same e = cc
@@ -324,6 +348,7 @@ module _ (s0 s s' : Index) (i stamp release : ℕ) (o : LoneTurn s0 s i stamp re
           ap (λ (t : Option MakeTurn). set s0.states i (record (o.state) { turn = t })) after ∙ ap (set s0.states i) none_before ∙ set_own s0.states i o.state o.there in (
             answer,
             (let one : r ≡ reply.Turned answer = cc in one),
-            record { lone = stands; is = left_is ∙ (λ k. record s0 { words = s'.words; states = states k }) },
+            (let same = left_is ∙ (λ k. record s0 { words = s'.words; states = states k }) in
+                record { lone = stands; is = same; weighs = lone_turn_weighs s0 s' stamp release answer stands (ap (λ (v : Index). v.layout) same) }),
             quiet_then after,
           )

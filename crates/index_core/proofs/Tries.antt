@@ -50,6 +50,8 @@ use Rattle.cat_history.specs.declared.op.NameOp.TheVariants as op
 use Rattle.index_core.proofs.MachineLaw.{machine_law, begin_law, idle_weigh}
 use Rattle.index_core.proofs.Stepping.{begins_count, machine_idle, machine_writes}
 use Rattle.index_core.proofs.Told.{go_of, done_of}
+use Rattle.index_core.proofs.Stamps.{step_leaves_stamps}
+use Rattle.lone_turn.specs.LoneTurns.{stamp_in}
 
 -- One call is in flight, as the index was s0 before it.
 pub record Lone (s0 s : Index) (i : ℕ) (c : CoreCall) : Type 0 where
@@ -64,6 +66,7 @@ pub record Lone (s0 s : Index) (i : ℕ) (c : CoreCall) : Type 0 where
   pub call : LoneCall (world s0) i (op_of c) (limit_of c) (world s) (party_of (state_with state (length s0.history) machine)) machine
   pub count : count_in machine ≡ count_of c
   pub same_base : s.base ≡ s0.base
+  pub stamps : stamp_in (world s) ≡ stamp_in (world s0)
   pub weighs : weight_sum (world s) ≤ weight_of s0 + showing (Some machine)
   pub room : length s0.history + s0.spare ≤ room_of s
 
@@ -161,6 +164,7 @@ lone_start s0 s i c is0 quiet t spare is =
       call = begun_call s0 i t.state c s.spare is0 quiet t.there here t.of;
       count = begins_count (view_of s0 i) c;
       same_base = refl;
+      stamps = refl;
       weighs = omega arith;
       room = room;
     })
@@ -247,6 +251,9 @@ module _ (s0 s s' : Index) (i : ℕ) (c : CoreCall) (result : Option (Once Place
   same_layout : s'.layout ≡ s0.layout
   same_layout = ap (λ (v : Index). v.layout) is ∙ o.call.trying.layout
 
+  same_stamps : stamp_in (world s') ≡ stamp_in (world s0)
+  same_stamps = ap (λ (v : Index). stamp_in (world v)) is ∙ step_leaves_stamps s i e o.machine s'.spare o.index at_i refl ∙ o.stamps
+
   pub lone_goes : result ≡ None → Lone s0 s' i c × (suc (left_at s' i) ≤ left_at s i)
   lone_goes going =
       let go = go_of (running_turned o.machine x) (sym turn_told ∙ going) in
@@ -275,6 +282,7 @@ module _ (s0 s s' : Index) (i : ℕ) (c : CoreCall) (result : Option (Once Place
           call = subst (λ (w : World). LoneCall (world s0) i (op_of c) (limit_of c) w (moved_on p (stage_of next)) next) (sym (world_is next go.1)) call_on;
           count = count_stays o.machine next x go.1 ∙ o.count;
           same_base = ap (λ (v : Index). v.base) is ∙ o.same_base;
+          stamps = same_stamps;
           weighs = omega arith;
           room = omega arith;
         },
@@ -350,6 +358,7 @@ module _ (s0 s s' : Index) (i : ℕ) (c : CoreCall) (result : Option (Once Place
       layout = same_layout;
       generation = same_generation;
       base = ap (λ (v : Index). v.base) is ∙ o.same_base;
+      stamps = same_stamps;
       weighs = weighs;
     }
 

@@ -1,5 +1,5 @@
 -- A call that is made with no other in flight.
-use Rattle.std.specs.Prelude.{◌≡◌, ℕ, ◌+◌, ◌≤◌, ◌==◌, ◌⊎◌, Bool, true, false, List, [], ◌++◌, length, slice_set, Some, None, IsSomeAnd}
+use Rattle.std.specs.Prelude.{◌≡◌, ℕ, ◌+◌, ◌<◌, ◌≤◌, ◌==◌, ◌⊎◌, Bool, true, false, List, [], ◌++◌, length, slice_set, Some, None, IsSomeAnd}
 use Rattle.std.specs.FinMap.{keys}
 use Rattle.std.specs.List.{filter}
 use mathlib.Core.Option.{some}
@@ -13,6 +13,7 @@ use Rattle.pm_words.specs.declared.again.Again.TheVariants as again
 use Rattle.call_stages.specs.declared.once.Once.{Once}
 use Rattle.call_stages.specs.declared.once.Once.TheVariants as once
 use Rattle.call_stages.specs.declared.once.Placed.{Placed}
+use Rattle.call_stages.specs.Kinds.{free_status, gone_status}
 use Rattle.cat_history.specs.Records.{change_of}
 use Rattle.node_ops.specs.declared.part.PartWords.{PartWords}
 use Rattle.node_ops.specs.declared.running.Running.{Running}
@@ -21,13 +22,15 @@ use Rattle.node_ops.specs.RunningSteps.{listed_in}
 use Rattle.shapes.specs.Anchors.{next_of, names_at, splits, put_anchors, merges, del_anchors}
 use Rattle.version_lock.specs.Versions.{IsWorn}
 use Rattle.index_law.specs.Facts.{version_in}
-use Rattle.index_law.specs.Anchors.{anchors_in, members_most}
+use Rattle.index_law.specs.Anchors.{anchors_in}
 use Rattle.index_law.specs.Worlds.{facts, written}
 use Rattle.lone_law.specs.Rooms.{target_node}
-use Rattle.lone_law.specs.Merging.{NextIsWorn}
+use Rattle.lone_law.specs.Merging.{NextIsWorn, TriesMerge}
 use Rattle.lone_law.specs.LoneCalls.{FindsWorn, IsAnswered}
-use Rattle.lone_law.specs.Splitting.{LacksFree}
+use Rattle.lone_law.specs.Splitting.{LacksLine}
 use Rattle.lone_law.specs.Locks.{locks_of, locks_in}
+use Rattle.lone_turn.specs.LoneTurns.{stamp_in}
+use Rattle.updater.specs.declared.terms.Turned.{Turned}
 use Rattle.index_core.specs.declared.party.CoreCall.{CoreCall}
 use Rattle.index_core.specs.declared.party.CoreCall.TheVariants as call
 use Rattle.index_core.specs.declared.party.PartyState.{PartyState}
@@ -36,7 +39,8 @@ use Rattle.index_core.specs.declared.party.Whole.TheVariants as whole
 use Rattle.index_core.specs.CoreCalls.{op_of, limit_of, count_of}
 use Rattle.index_core.specs.Listings.{ListsRange}
 use Rattle.index_core.specs.PartyStates.{party_of, next_index, index_after, state_counted}
-use Rattle.index_core.specs.Indexes.{Index, map_of_index, world}
+use Rattle.index_core.specs.Indexes.{Index, IsIndex, map_of_index, world}
+use Rattle.index_core.specs.Turns.{TurnsAlone}
 use Rattle.index_core.specs.Weights.{weight_of, added_by, added_whole}
 
 -- No call is in flight, and no turn of the updater.
@@ -65,15 +69,41 @@ hops_before s name = position_from (facts (world s)).list (key_of name)
 abbrev pub FindsWornNode : CoreCall → Index → Type 0
 FindsWornNode c s = FindsWorn (world s) (op_of c)
 
+-- A turn of the updater with stamp 1 and release 1 leaves the node FREE, if it can be locked: it is FREE, or it is GONE
+-- and has no stamp above 1.
+abbrev pub ComesFree : Index → ℕ → Type 0
+ComesFree s n = ((facts (world s)).status n ≡ free_status) ⊎
+    (((facts (world s)).status n ≡ gone_status) × (stamp_in (world s) n ≤ 1))
+
+-- None of these nodes can be locked any more.
+abbrev pub LacksNode : Index → Type 0
+LacksNode s = (n : ℕ) → n < s.layout.nodes → ComesFree s n → IsWorn (version_in s.layout s.words n) s.generation
+
+-- The map lacks the name, and beside it belong as many names to its node as that has slots.
+abbrev pub FindsFullNode : List ℕ → Index → Type 0
+FindsFullNode name s = (at (map_of_index s) name ≡ None) × (length (names_beside s name) ≡ s.layout.slots)
+
+-- The call may be tried more than once: it is a put that finds its node full, or a delete that tries to merge and whose
+-- caller has no EMPTY log line.
+abbrev pub IsMadeAgain : ℕ → CoreCall → Index → Type 0
+IsMadeAgain caller (call.Put name value limit) s = FindsFullNode name s
+IsMadeAgain caller (call.Del name limit) s = TriesMerge (world s) name × LacksLine s.layout s.words caller
+IsMadeAgain caller _ s = ⊥
+
+-- How often a call is tried at most. A put may be turned back for want of a log line, and of a node, each time with a
+-- turn of the updater behind it, and may split its node then; a delete may be turned back for want of a log line.
+abbrev pub most_tries : CoreCall → ℕ
+most_tries (call.Put name value limit) = 4
+most_tries (call.Del name limit) = 2
+most_tries _ = 1
+
 -- The call has a limit, and the history is as long.
 abbrev pub IsOver : CoreCall → Index → Type 0
 IsOver c s = IsSomeAnd (limit_of c) (λ limit. limit ≤ length s.history)
 
--- It is a put of a name that the map lacks, beside that name belong as many names to its node as it has slots, and no
--- FREE node can be locked.
+-- It is a put that finds its node full, and no node that is FREE, or that a turn makes FREE, can be locked.
 abbrev pub FindsNoRoom : CoreCall → Index → Type 0
-FindsNoRoom (call.Put name value limit) s = (at (map_of_index s) name ≡ None) ×
-    (length (names_beside s name) ≡ s.layout.slots) × LacksFree s.layout s.generation s.words
+FindsNoRoom (call.Put name value limit) s = FindsFullNode name s × LacksNode s
 FindsNoRoom _ s = ⊥
 
 -- The same nodes are listed.
@@ -94,12 +124,11 @@ SplitsNothing (call.Put name value limit) s =
 SplitsNothing _ s = Unit {0}
 
 -- It is a delete that merges the node of its name with the next one, which can be locked, and leaves the shape that such
--- a delete leaves, with one node fewer to list.
+-- a delete leaves.
 abbrev pub MergesFor : CoreCall → Index → Index → Type 0
 MergesFor (call.Del name limit) s new =
     ((merges s.layout.slots (map_of_index s) (anchors_in (world s)) name ≡ true) × ¬ NextIsWorn (world s) name) ×
-    (anchors_in (world new) ≡ del_anchors s.layout.slots (map_of_index s) (anchors_in (world s)) name) ×
-    (members_most (world new) + 1 ≡ members_most (world s))
+    (anchors_in (world new) ≡ del_anchors s.layout.slots (map_of_index s) (anchors_in (world s)) name)
 MergesFor _ s new = ⊥
 
 -- It is no delete that would merge the node of its name with the next one, or that one can't be locked any more.
@@ -108,18 +137,20 @@ MergesNothing (call.Del name limit) s =
     (merges s.layout.slots (map_of_index s) (anchors_in (world s)) name ≡ false) ⊎ NextIsWorn (world s) name
 MergesNothing _ s = Unit {0}
 
--- As many nodes as before may be listed, but for one that was merged into another.
-abbrev pub LeavesMost : CoreCall → Index → Index → Type 0
-LeavesMost c s new = (members_most (world new) ≡ members_most (world s)) ⊎ MergesFor c s new
+-- Each node's stamp is as it was, or is 1 at most.
+abbrev pub KeepsStamps : Index → Index → Type 0
+KeepsStamps s new = (n : ℕ) → n < s.layout.nodes →
+    (stamp_in (world new) n ≡ stamp_in (world s) n) ⊎ (stamp_in (world new) n ≤ 1)
 
--- The node is that of the name, with this version word, from which no lock can be taken any more. Where it is the node
--- of its name once that is split, the call took the last lock but one.
-abbrev pub IsWornNode : Index → CoreCall → Index → ℕ → ℕ → Type 0
-IsWornNode s c new node word =
+-- The node is that of the name, with this version word, from which no lock can be taken any more. So it was before the
+-- call; or the call was made again, and its own tries, of which it makes fewer than so many before the last one, took the
+-- last locks of some node.
+abbrev pub IsWornNode : ℕ → Index → ℕ → CoreCall → Index → ℕ → ℕ → Type 0
+IsWornNode tries s caller c new node word =
     (FindsWornNode c s × (node ≡ node_for s (name_asked (op_of c))) × (word ≡ version_in s.layout s.words node) ×
     HasSameList s new)
-    ⊎ (SplitsFor c s new × (locks_left s ≤ 1) × (node ≡ node_for new (name_asked (op_of c))) ×
-    IsWorn word s.generation)
+    ⊎ (IsMadeAgain caller c s × (locks_left s < tries) × (HasSameList s new ⊎ SplitsFor c s new) ×
+    (node ≡ node_for new (name_asked (op_of c))) × IsWorn word s.generation)
 
 -- A part of a scan from this low name on lists the names of the map that belong to the low one's node, up to the next
 -- node's anchor.
@@ -133,14 +164,16 @@ pub record IsWholePart (s : Index) (low : List ℕ) (count : ℕ) (new : Index) 
   pub lists : ListsRange (map_of_index s) low count words
   pub compared : words.compared ≡ length (names_at (map_of_index s) (anchors_in (world s)) low)
 
--- The answer by its cause: of these five, exactly one holds where two locks are left of each node.
-abbrev pub IsWholeAnswer : Index → CoreCall → Index → Whole → Type 0
-IsWholeAnswer s c new (whole.Worn node word) = IsWornNode s c new node word
-IsWholeAnswer s c new (whole.Spent clock) = ¬ FindsWornNode c s × IsOver c s × (clock ≡ length s.history)
-IsWholeAnswer s c new whole.Full = ¬ FindsWornNode c s × ¬ IsOver c s × FindsNoRoom c s
-IsWholeAnswer s c new (whole.Part words) =
+-- The answer by its cause, of a call that is tried so many times at most: of these five, exactly one holds where as many
+-- locks are left of each node.
+abbrev pub IsWholeAnswer : ℕ → Index → ℕ → CoreCall → Index → Whole → Type 0
+IsWholeAnswer tries s caller c new (whole.Worn node word) = IsWornNode tries s caller c new node word
+IsWholeAnswer tries s caller c new (whole.Spent clock) =
+    ¬ FindsWornNode c s × IsOver c s × (clock ≡ length s.history)
+IsWholeAnswer tries s caller c new whole.Full = ¬ FindsWornNode c s × ¬ IsOver c s × FindsNoRoom c s
+IsWholeAnswer tries s caller c new (whole.Part words) =
     ¬ FindsWornNode c s × IsSomeAnd (count_of c) (λ count. IsWholePart s (name_asked (op_of c)) count new words)
-IsWholeAnswer s c new (whole.Placed placed) =
+IsWholeAnswer tries s caller c new (whole.Placed placed) =
     (count_of c ≡ None) × (¬ FindsWornNode c s × ¬ IsOver c s × ¬ FindsNoRoom c s)
     × (placed.old ≡ at (map_of_index s) (name_asked (op_of c))) × (placed.place ≡ length s.history) ×
     (placed.hops ≡ hops_before new (name_asked (op_of c)))
@@ -163,14 +196,14 @@ node_locks s n = locks_of s.generation (version_in s.layout s.words n)
 abbrev pub LoseAtMost : ℕ → Index → Index → Type 0
 LoseAtMost most s new = (n : ℕ) → node_locks s n ≤ node_locks new n + most
 
--- Of each node one lock is taken at most, or two where the call's put split.
-abbrev pub TakesEachLock : CoreCall → Index → Index → Type 0
-TakesEachLock c s new = LoseAtMost 1 s new ⊎ (SplitsFor c s new × LoseAtMost 2 s new)
+-- Of each node one lock is taken at most, or as many as there are tries where the call was made again.
+abbrev pub TakesEachLock : ℕ → CoreCall → Index → Index → Type 0
+TakesEachLock caller c s new = LoseAtMost 1 s new ⊎ (IsMadeAgain caller c s × LoseAtMost (most_tries c) s new)
 
--- So the fewest that are left of any node fall by one at most, or by two where its put split.
-abbrev pub TakesLocks : CoreCall → Index → Index → Type 0
-TakesLocks c s new =
-    (locks_left s ≤ locks_left new + 1) ⊎ (SplitsFor c s new × (locks_left s ≤ locks_left new + 2))
+-- So do the fewest fall that are left of any node.
+abbrev pub TakesLocks : ℕ → CoreCall → Index → Index → Type 0
+TakesLocks caller c s new = (locks_left s ≤ locks_left new + 1) ⊎
+    (IsMadeAgain caller c s × (locks_left s ≤ locks_left new + most_tries c))
 
 -- The write that it placed, if it is one and took place.
 abbrev pub alone_writes : ℕ → ℕ → CoreCall → Whole → List Write
@@ -205,6 +238,16 @@ abbrev pub needs_split : Once Placed → Bool
 needs_split (once.Again (again.NeedsSplit node)) = true
 needs_split _ = false
 
+-- The call was turned back, since none of its caller's log lines is EMPTY; or since there is no node to split its own
+-- with.
+abbrev pub lacks_line : Once Placed → Bool
+lacks_line (once.Again again.LogFull) = true
+lacks_line _ = false
+
+abbrev pub lacks_node : Once Placed → Bool
+lacks_node (once.Again again.NoFree) = true
+lacks_node _ = false
+
 -- The party once a try of its call is answered.
 abbrev pub state_tried : PartyState → ℕ → Once Placed → PartyState
 state_tried state since answer =
@@ -230,20 +273,32 @@ pub record TriesAlone (old : Index) (caller : ℕ) (c : CoreCall) (new : Index) 
   pub layout : new.layout ≡ old.layout
   pub generation : new.generation ≡ old.generation
   pub base : new.base ≡ old.base
+  pub stamps : stamp_in (world new) ≡ stamp_in (world old)
   pub weighs : weight_of new ≤ weight_of old + added_by (op_of c) answer
+
+-- A turn of the updater with stamp 1 and release 1, and one try of the call behind it.
+pub record TriesBehindTurn (old : Index) (caller : ℕ) (c : CoreCall) (new : Index) (answer : Once Placed) : Type 0 where
+  pub between : Index
+  pub turned : Turned
+  pub turn : TurnsAlone old 1 1 turned between
+  pub quiet : IsQuiet between
+  pub index : IsIndex between
+  pub tries : TriesAlone between caller c new answer
+  pub each_lock : LoseAtMost 1 between new
+  pub locks : locks_left between ≤ locks_left new + 1
 
 -- What a whole call answers and leaves.
 pub record RunsAlone (old : Index) (caller : ℕ) (c : CoreCall) (new : Index) (result : Whole) : Type 0 where
   pub state : PartyState
   pub there : get_elem? old.states caller ≡ some state
   pub named : IsName (name_asked (op_of c))
-  pub answer : IsWholeAnswer old c new result
+  pub answer : IsWholeAnswer (most_tries c) old caller c new result
   pub history : new.history ≡ old.history ++ alone_writes caller state.index c result
   pub states : new.states ≡ slice_set old.states caller (state_done state (length old.history))
   pub layout : new.layout ≡ old.layout
   pub generation : new.generation ≡ old.generation
   pub base : new.base ≡ old.base
   pub list : LeavesList c result old new
-  pub most : LeavesMost c old new
+  pub stamps : KeepsStamps old new
   -- it weighs one more at most, and that only where it adds a name
   pub weighs : weight_of new ≤ weight_of old + added_whole (op_of c) result

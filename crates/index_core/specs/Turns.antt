@@ -16,6 +16,7 @@ use Rattle.updater.specs.Makings.{making_from, making_asks, making_turned, makin
 use Rattle.index_core.specs.declared.party.PartyState.{PartyState}
 use Rattle.index_core.specs.PartyStates.{turn_reply, state_turned}
 use Rattle.index_core.specs.Indexes.{Index, IsIndex, world, layered}
+use Rattle.index_core.specs.Weights.{weight_of}
 
 -- The index once the party has begun a turn with this stamp and release.
 abbrev pub turn_begun : Index → ℕ → PartyState → ℕ → ℕ → Index
@@ -80,3 +81,4 @@ TurnBegins = (s : Index) (party : ℕ) (state : PartyState) (stamp release : ℕ
 pub record TurnsAlone (old : Index) (stamp release : ℕ) (answer : Turned) (new : Index) : Type 0 where
   pub lone : IsLoneTurn (layered old) stamp release answer (layered new)
   pub is : new ≡ record old { words = new.words }
+  pub weighs : weight_of new ≤ weight_of old  -- what it made FREE weighs nothing any more

@@ -8,15 +8,19 @@ ghost use Rattle.index_core.specs.declared.party.CoreCall.TheVariants as CoreCal
 ghost use Rattle.index_core.specs.CoreCalls.{MayBegin, count_of, most_writes};
 ghost use Rattle.index_core.specs.Indexes.{IsIndex};
 ghost use Rattle.index_core.specs.Lone.{IsQuiet, LoseAtMost, RunsAlone, TakesEachLock, TakesLocks, TriesAlone};
-ghost use Rattle.index_core.specs.Lone.{locks_left, part_whole, whole_of};
+ghost use Rattle.index_core.specs.Lone.{TriesBehindTurn, locks_left, part_whole, whole_of};
 
 use crate::index::Core;
-use crate::party::{CoreCall, Whole, needs_split};
+use crate::party::{CoreCall, Whole, lacks_line, lacks_node, needs_split};
 use call_stages::{Once, Placed};
 use cat_key::Name;
 use node_ops::{Part, PartWords};
 use pm_words::Steps;
 use std::sync::ledger::Ledger;
+
+/// The stamp that a lone call's turns of the updater give to merged nodes, and the greatest that they release: what is
+/// merged by then is FREE at once, since nobody else is about.
+const STAMP: u64 = 1;
 
 impl Core {
     /// A whole call of a caller, with no other in flight. Its answer is told by its cause: the locks of the node are
@@ -25,6 +29,9 @@ impl Core {
     /// where both together are left with at most half as many names as a node has slots. A part of a scan lists the
     /// names of its low name's node from that one on. Of `spare` a call takes one for a write that it places, and none
     /// otherwise.
+    ///
+    /// Where the caller has no EMPTY log line, or no node is FREE, the updater's party makes a turn, which empties the
+    /// log and frees merged nodes, and the call is made again. So it finds no room only where no turn could help.
     pub fn run_alone<L: Ledger>(
         &mut self,
         caller: u64,
@@ -38,8 +45,8 @@ impl Core {
         ensures runs { RunsAlone self.old caller call self.new result }
         ensures quiet { IsQuiet self.new }
         ensures spare { self.old.spare + length self.old.history ≤ self.new.spare + length self.new.history }
-        ensures each_lock { TakesEachLock call self.old self.new }
-        ensures locks { TakesLocks call self.old self.new }
+        ensures each_lock { TakesEachLock caller call self.old self.new }
+        ensures locks { TakesLocks caller call self.old self.new }
         ensures index { IsIndex self.new }
     {
         match call {
@@ -65,11 +72,17 @@ impl Core {
         ensures runs { RunsAlone self.old caller call self.new (whole_of result) }
         ensures quiet { IsQuiet self.new }
         ensures spare { self.old.spare + length self.old.history ≤ self.new.spare + length self.new.history }
-        ensures each_lock { TakesEachLock call self.old self.new }
-        ensures locks { TakesLocks call self.old self.new }
+        ensures each_lock { TakesEachLock caller call self.old self.new }
+        ensures locks { TakesLocks caller call self.old self.new }
         ensures index { IsIndex self.new }
     {
         let mut answer = self.try_alone(caller, &call, steps);
+        if lacks_line(&answer) {
+            answer = self.try_behind_turn(caller, &call, steps);
+        }
+        if lacks_node(&answer) {
+            answer = self.try_behind_turn(caller, &call, steps);
+        }
         if needs_split(&answer) {
             // The node is split now, and has room.
             answer = self.try_alone(caller, &call, steps);
@@ -111,6 +124,27 @@ impl Core {
                 return Part::early(answer);
             }
         }
+    }
+
+    /// A turn of the updater, and one try of a call behind it, with no other in flight.
+    fn try_behind_turn<L: Ledger>(
+        &mut self,
+        caller: u64,
+        call: &CoreCall,
+        steps: &mut Steps<L>,
+    ) -> Once<Placed>
+        requires caller { caller < self.old.layout.callers }
+        requires begins { MayBegin call.now }
+        requires spare { most_writes call.now ≤ self.old.spare }
+        requires quiet { IsQuiet self.old }
+        ensures tries { TriesBehindTurn self.old caller call.now self.new result }
+        ensures quiet { IsQuiet self.new }
+        ensures spare { self.old.spare + length self.old.history ≤ self.new.spare + length self.new.history }
+        ensures index { IsIndex self.new }
+    {
+        let updater = self.layout().callers();
+        self.turn_alone(updater, STAMP, STAMP, steps);
+        self.try_alone(caller, call, steps)
     }
 
     /// One try of a call, with no other in flight.

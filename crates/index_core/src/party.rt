@@ -1,6 +1,6 @@
 ghost use Rattle.std.specs.Prelude.{◌≡◌, IfOk};
 ghost use Rattle.index_core.specs.PartyStates.{idle_states};
-ghost use Rattle.index_core.specs.Lone.{needs_split};
+ghost use Rattle.index_core.specs.Lone.{lacks_line, lacks_node, needs_split};
 
 use crate::flight::Flight;
 use call_stages::{Once, Placed, View};
@@ -237,6 +237,20 @@ impl PartyState {
         }
         reply
     }
+}
+
+/// The call was turned back since none of its caller's log lines is EMPTY.
+pub(crate) fn lacks_line(answer: &Once<Placed>) -> bool
+    ensures { result ≡ lacks_line answer.now }
+{
+    matches!(answer, Once::Again(Again::LogFull))
+}
+
+/// The call was turned back since there is no node to split its own with.
+pub(crate) fn lacks_node(answer: &Once<Placed>) -> bool
+    ensures { result ≡ lacks_node answer.now }
+{
+    matches!(answer, Once::Again(Again::NoFree))
 }
 
 /// The call is to be made again, since its node was full.

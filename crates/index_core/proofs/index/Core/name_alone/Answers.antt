@@ -1,69 +1,126 @@
 use Rattle.std.proofs.Common.{sym, ap, ◌∙◌, subst}
+use Rattle.call_stages.specs.declared.once.Once.{Once}
+use Rattle.call_stages.specs.declared.once.Placed.{Placed}
+use Rattle.index_core.specs.Indexes.{Index, IsIndex}
 use Rattle.index_core.specs.Lone.{IsQuiet, whole_of}
-use Rattle.index_core.proofs.Alone.{Ran, ran_once, ran_twice, full_runs, full_locks, full_each, ran_runs, count_quiet, full_again}
+use Rattle.index_core.proofs.Alone.{ran_runs, ran_each, ran_locks, full_runs, full_again, counted_each, counted_locks, count_quiet}
+use Rattle.index_core.proofs.Retrying.{HasItsLine, HasItsNode, RanAll, tried_first, line_at_once, line_behind_turn, node_at_once, node_behind_turn, ran_once, ran_twice}
 use Rattle.index_core.proofs.index.Core.name_alone.Goals as goal
-use Rattle.index_core.proofs.index.Core.name_alone.Goals.{then-needs_split, else-needs_split}
+use Rattle.index_core.proofs.index.Core.name_alone.Goals.{After-needs_split, then-lacks_line, else-lacks_line, then-lacks_node, else-lacks_node, then-needs_split, else-needs_split}
 
--- it was turned back, and is counted
-full_ran : (g : _) (c : goal.After-count_call g) → Ran c.args.self.now c.if-needs_split.self c.args.caller c.args.call c.if-needs_split.answer
-full_ran g c =
+-- a log line isn't what it lacks any more
+has_line : (g : _) (c : After-needs_split g) → HasItsLine c.args.self.now c.if-lacks_line.self c.args.caller c.args.call c.if-lacks_line.answer
+has_line g c =
     let first = c.try_alone-answer.ensures in
+    let tried = tried_first c.args.self.now c.try_alone-answer.new.self c.args.caller c.args.call c.try_alone-answer.result first.before c.requires.quiet first.tries first.each_lock first.locks in
+    elim c.if-lacks_line.branch [
+      | then-lacks_line w ↦ subst (λ (q : Index × Once Placed). HasItsLine c.args.self.now q.0 c.args.caller c.args.call q.1) (λ k. (sym w.self-is k, sym w.answer-is k))
+          (line_behind_turn c.args.self.now _ _ c.args.caller c.args.call _ _ tried (sym c.lacks_line.ensures ∙ w.if-lacks_line.true) w.try_behind_turn-answer.ensures.tries c.requires.caller)
+      | else-lacks_line w ↦ subst (λ (q : Index × Once Placed). HasItsLine c.args.self.now q.0 c.args.caller c.args.call q.1) (λ k. (sym w.self-is k, sym w.answer-is k))
+          (line_at_once c.args.self.now _ c.args.caller c.args.call _ tried (sym c.lacks_line.ensures ∙ w.if-lacks_line.false))
+    ]
+
+-- nor is a node
+has_node : (g : _) (c : After-needs_split g) → HasItsNode c.args.self.now c.if-lacks_node.self c.args.caller c.args.call c.if-lacks_node.answer
+has_node g c = elim c.if-lacks_node.branch [
+  | then-lacks_node w ↦ subst (λ (q : Index × Once Placed). HasItsNode c.args.self.now q.0 c.args.caller c.args.call q.1) (λ k. (sym w.self-is k, sym w.answer-is k))
+      (node_behind_turn c.args.self.now _ _ c.args.caller c.args.call _ _ (has_line g c) (sym c.lacks_node.ensures ∙ w.if-lacks_node.true) w.try_behind_turn-answer-then-lacks_node.ensures.tries c.requires.caller)
+  | else-lacks_node w ↦ subst (λ (q : Index × Once Placed). HasItsNode c.args.self.now q.0 c.args.caller c.args.call q.1) (λ k. (sym w.self-is k, sym w.answer-is k))
+      (node_at_once c.args.self.now _ c.args.caller c.args.call _ (has_line g c) (sym c.lacks_node.ensures ∙ w.if-lacks_node.false))
+]
+
+node_index : (g : _) (c : After-needs_split g) → IsIndex c.if-lacks_node.self
+node_index g c = elim c.if-lacks_node.branch [
+  | then-lacks_node w ↦ subst IsIndex (sym w.self-is) w.try_behind_turn-answer-then-lacks_node.ensures.index
+  | else-lacks_node w ↦ subst IsIndex (sym w.self-is) (elim c.if-lacks_line.branch [
+    | then-lacks_line v ↦ subst IsIndex (sym v.self-is) v.try_behind_turn-answer.ensures.index
+    | else-lacks_line v ↦ subst IsIndex (sym v.self-is) c.try_alone-answer.ensures.index
+  ])
+]
+
+node_quiet : (g : _) (c : After-needs_split g) → IsQuiet c.if-lacks_node.self
+node_quiet g c = elim c.if-lacks_node.branch [
+  | then-lacks_node w ↦ subst IsQuiet (sym w.self-is) w.try_behind_turn-answer-then-lacks_node.ensures.quiet
+  | else-lacks_node w ↦ subst IsQuiet (sym w.self-is) (elim c.if-lacks_line.branch [
+    | then-lacks_line v ↦ subst IsQuiet (sym v.self-is) v.try_behind_turn-answer.ensures.quiet
+    | else-lacks_line v ↦ subst IsQuiet (sym v.self-is) c.try_alone-answer.ensures.quiet
+  ])
+]
+
+-- what all tries leave, where the call was turned back, and where not
+full_ran : (g : _) (c : goal.After-count_call g) → RanAll c.args.self.now c.if-needs_split.self c.args.caller c.args.call c.if-needs_split.answer
+full_ran g c =
+    let has = has_node g (goal.at.returns-in-Again-clause-runs g c).After-needs_split in
+    let split = sym c.needs_split.ensures in
     elim c.if-needs_split.branch [
-      | then-needs_split w ↦
-          ran_twice c.requires.name first.before c.requires.quiet first.index first.quiet first.tries w.try_alone-answer-then-needs_split.ensures.tries first.each_lock w.try_alone-answer-then-needs_split.ensures.each_lock first.locks w.try_alone-answer-then-needs_split.ensures.locks (sym c.needs_split.ensures ∙ w.if-needs_split.true) w.self-is w.answer-is
-      | else-needs_split w ↦ ran_once c.requires.name first.before c.requires.quiet first.tries first.each_lock first.locks (sym c.needs_split.ensures ∙ w.if-needs_split.false) w.self-is w.answer-is
+      | then-needs_split w ↦ subst (λ (q : Index × Once Placed). RanAll c.args.self.now q.0 c.args.caller c.args.call q.1) (λ k. (sym w.self-is k, sym w.answer-is k))
+          (ran_twice c.args.self.now _ _ c.args.caller c.args.call _ _ c.requires.name has (split ∙ w.if-needs_split.true) w.try_alone-answer-then-needs_split.ensures.before
+          (node_quiet g (goal.at.returns-in-Again-clause-runs g c).After-needs_split) w.try_alone-answer-then-needs_split.ensures.tries w.try_alone-answer-then-needs_split.ensures.each_lock w.try_alone-answer-then-needs_split.ensures.locks)
+      | else-needs_split w ↦ subst (λ (q : Index × Once Placed). RanAll c.args.self.now q.0 c.args.caller c.args.call q.1) (λ k. (sym w.self-is k, sym w.answer-is k))
+          (ran_once c.args.self.now _ c.args.caller c.args.call _ c.requires.name has (split ∙ w.if-needs_split.false))
     ]
 
 tried_quiet : (g : _) (c : goal.After-count_call g) → IsQuiet c.if-needs_split.self
 tried_quiet g c = elim c.if-needs_split.branch [
   | then-needs_split w ↦ subst IsQuiet (sym w.self-is) w.try_alone-answer-then-needs_split.ensures.quiet
-  | else-needs_split w ↦ subst IsQuiet (sym w.self-is) c.try_alone-answer.ensures.quiet
+  | else-needs_split w ↦ subst IsQuiet (sym w.self-is) (node_quiet g (goal.at.returns-in-Again-clause-runs g c).After-needs_split)
 ]
 
 pub count_call-requires-clause-quiet : goal.count_call-requires-clause-quiet
 count_call-requires-clause-quiet g c = elim c.if-needs_split.branch [
   | then-needs_split w ↦ subst IsQuiet (sym w.self-is) w.try_alone-answer-then-needs_split.ensures.quiet
-  | else-needs_split w ↦ subst IsQuiet (sym w.self-is) c.try_alone-answer.ensures.quiet
+  | else-needs_split w ↦ subst IsQuiet (sym w.self-is) (node_quiet g (goal.at.count_call-requires-clause-quiet g c).After-needs_split)
 ]
 
 pub returns-in-Again-clause-runs : goal.returns-in-Again-clause-runs
 returns-in-Again-clause-runs g c =
-    full_runs c.args.self.now c.if-needs_split.self c.args.caller c.args.call c.if-needs_split.answer (full_ran g c) (ap whole_of c.in-Again.is) c.count_call.new.self c.count_call.ensures.counts
+    let all = full_ran g c in
+    full_runs c.args.self.now c.if-needs_split.self c.args.caller c.args.call c.if-needs_split.answer all.tries all.ran all.few (ap whole_of c.in-Again.is) c.count_call.new.self c.count_call.ensures.counts
 
 pub returns-in-Again-clause-quiet : goal.returns-in-Again-clause-quiet
-returns-in-Again-clause-quiet g c =
-    count_quiet c.if-needs_split.self c.args.caller c.count_call.new.self (tried_quiet g c) c.count_call.ensures.counts
+returns-in-Again-clause-quiet g c = count_quiet c.if-needs_split.self c.args.caller c.count_call.new.self (tried_quiet g c) c.count_call.ensures.counts
 
 pub returns-in-Again-clause-locks : goal.returns-in-Again-clause-locks
 returns-in-Again-clause-locks g c =
-    full_locks c.args.self.now c.if-needs_split.self c.args.caller c.args.call c.if-needs_split.answer (full_ran g c) c.count_call.new.self c.count_call.ensures.counts
+    let all = full_ran g c in
+    counted_locks c.args.self.now c.if-needs_split.self c.args.caller c.args.call c.count_call.new.self c.count_call.ensures.counts (ran_locks _ _ _ _ _ all.tries all.ran all.few)
 
 pub returns-in-Again-clause-each_lock : goal.returns-in-Again-clause-each_lock
 returns-in-Again-clause-each_lock g c =
-    full_each c.args.self.now c.if-needs_split.self c.args.caller c.args.call c.if-needs_split.answer (full_ran g c) c.count_call.new.self c.count_call.ensures.counts
+    let all = full_ran g c in
+    counted_each c.args.self.now c.if-needs_split.self c.args.caller c.args.call c.count_call.new.self c.count_call.ensures.counts (ran_each _ _ _ _ _ all.tries all.ran all.few)
 
--- it was answered otherwise, and its last step has counted it
-other_ran : (g : _) (c : goal.In_default g) → Ran c.args.self.now c.if-needs_split.self c.args.caller c.args.call c.if-needs_split.answer
+other_ran : (g : _) (c : goal.In_default g) → RanAll c.args.self.now c.if-needs_split.self c.args.caller c.args.call c.if-needs_split.answer
 other_ran g c =
-    let first = c.try_alone-answer.ensures in
+    let has = has_node g (goal.at.returns-in_default-clause-runs g c).After-needs_split in
+    let split = sym c.needs_split.ensures in
     elim c.if-needs_split.branch [
-      | then-needs_split w ↦
-          ran_twice c.requires.name first.before c.requires.quiet first.index first.quiet first.tries w.try_alone-answer-then-needs_split.ensures.tries first.each_lock w.try_alone-answer-then-needs_split.ensures.each_lock first.locks w.try_alone-answer-then-needs_split.ensures.locks (sym c.needs_split.ensures ∙ w.if-needs_split.true) w.self-is w.answer-is
-      | else-needs_split w ↦ ran_once c.requires.name first.before c.requires.quiet first.tries first.each_lock first.locks (sym c.needs_split.ensures ∙ w.if-needs_split.false) w.self-is w.answer-is
+      | then-needs_split w ↦ subst (λ (q : Index × Once Placed). RanAll c.args.self.now q.0 c.args.caller c.args.call q.1) (λ k. (sym w.self-is k, sym w.answer-is k))
+          (ran_twice c.args.self.now _ _ c.args.caller c.args.call _ _ c.requires.name has (split ∙ w.if-needs_split.true) w.try_alone-answer-then-needs_split.ensures.before
+          (node_quiet g (goal.at.returns-in_default-clause-runs g c).After-needs_split) w.try_alone-answer-then-needs_split.ensures.tries w.try_alone-answer-then-needs_split.ensures.each_lock w.try_alone-answer-then-needs_split.ensures.locks)
+      | else-needs_split w ↦ subst (λ (q : Index × Once Placed). RanAll c.args.self.now q.0 c.args.caller c.args.call q.1) (λ k. (sym w.self-is k, sym w.answer-is k))
+          (ran_once c.args.self.now _ c.args.caller c.args.call _ c.requires.name has (split ∙ w.if-needs_split.false))
     ]
 
 pub returns-in_default-clause-runs : goal.returns-in_default-clause-runs
 returns-in_default-clause-runs g c =
-    ran_runs c.args.self.now c.if-needs_split.self c.args.caller c.args.call c.if-needs_split.answer (other_ran g c) (λ full. let again = full_again c.if-needs_split.answer full in c.in_default.not-Again again.0 again.1)
+    let all = other_ran g c in
+    ran_runs c.args.self.now c.if-needs_split.self c.args.caller c.args.call c.if-needs_split.answer all.tries all.ran all.few (λ full. let again = full_again c.if-needs_split.answer full in c.in_default.not-Again again.0 again.1)
 
 pub returns-in_default-clause-locks : goal.returns-in_default-clause-locks
-returns-in_default-clause-locks g c = (other_ran g c).locks
+returns-in_default-clause-locks g c = let all = other_ran g c in ran_locks _ _ _ _ _ all.tries all.ran all.few
 
 pub returns-in_default-clause-each_lock : goal.returns-in_default-clause-each_lock
-returns-in_default-clause-each_lock g c = (other_ran g c).each_lock
+returns-in_default-clause-each_lock g c = let all = other_ran g c in ran_each _ _ _ _ _ all.tries all.ran all.few
 
 pub returns-in_default-clause-quiet : goal.returns-in_default-clause-quiet
 returns-in_default-clause-quiet g c = elim c.if-needs_split.branch [
   | then-needs_split w ↦ subst IsQuiet (sym w.self-is) w.try_alone-answer-then-needs_split.ensures.quiet
-  | else-needs_split w ↦ subst IsQuiet (sym w.self-is) c.try_alone-answer.ensures.quiet
+  | else-needs_split w ↦ subst IsQuiet (sym w.self-is) (node_quiet g (goal.at.returns-in_default-clause-runs g c).After-needs_split)
+]
+
+pub returns-in_default-clause-index : goal.returns-in_default-clause-index
+returns-in_default-clause-index g c = elim c.if-needs_split.branch [
+  | then-needs_split w ↦ subst IsIndex (sym w.self-is) w.try_alone-answer-then-needs_split.ensures.index
+  | else-needs_split w ↦ subst IsIndex (sym w.self-is) (node_index g (goal.at.returns-in_default-clause-index g c).After-needs_split)
 ]
