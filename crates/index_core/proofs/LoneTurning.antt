@@ -13,7 +13,7 @@ use Rattle.updater.specs.Takings.{taking_from, taking_asks, took_of}
 use Rattle.updater.specs.declared.taking.TakeTurn.{TakeTurn}
 use Rattle.updater.specs.declared.taking.Took.{Took}
 use Rattle.updater.specs.declared.taking.Took.TheVariants.{Taken, Held}
-use Rattle.call_stages.specs.Leaving.{leaves_lines}
+use Rattle.call_stages.proofs.LeftLines.{lines_are_left}
 use Rattle.index_law.specs.Lines.{line_in}
 use Rattle.index_law.specs.Footings.{NeedsNoParty, IsInHand}
 use Rattle.index_law.specs.Whole.{Whole}
@@ -57,9 +57,9 @@ use Rattle.index_core.proofs.Quiet.{quiet_parties, quiet_lines}
 use Rattle.index_core.proofs.Turning.{layered_is}
 
 -- An index with nothing in flight is idle for a turn.
-pub quiet_is_idle_for_turns : (s : Index) → leaves_lines ≡ true → IsIndex s → IsQuiet s → IsIdle (layered s)
-quiet_is_idle_for_turns s on is quiet = record {
-  layered = is.layered on;
+pub quiet_is_idle_for_turns : (s : Index) → IsIndex s → IsQuiet s → IsIdle (layered s)
+quiet_is_idle_for_turns s is quiet = record {
+  layered = is.layered lines_are_left;
   parties = quiet_parties s quiet;
   turns = λ j u at. at_rest u (rest_turns s.states quiet.turns j u at);
   lines = lines;
@@ -81,7 +81,6 @@ TurnStands s0 s i stamp release (Working work) = LoneTurning (layered s0) stamp 
 
 -- A turn of the party i is in flight, and nothing else, as it was s0 when the turn began.
 pub record LoneTurn (s0 s : Index) (i stamp release : ℕ) : Type 0 where
-  pub leaves : leaves_lines ≡ true
   pub before : IsIndex s0
   pub quiet : IsQuiet s0
   pub index : IsIndex s
@@ -93,9 +92,8 @@ pub record LoneTurn (s0 s : Index) (i stamp release : ℕ) : Type 0 where
   pub is : s ≡ record s0 { words = s.words; states = set s0.states i (record state { turn = Some making }) }
   pub stands : TurnStands s0 s i stamp release making
 
-pub lone_turn_begins : (s0 s : Index) (i stamp release : ℕ) → leaves_lines ≡ true → IsIndex s0 → IsQuiet s0 → 1 ≤ stamp → stamp < 2 ^ 64 → StartsTurn s0 i stamp release s → IsIndex s → LoneTurn s0 s i stamp release
-lone_turn_begins s0 s i stamp release on is0 quiet some_stamp small starts is = record {
-  leaves = on;
+pub lone_turn_begins : (s0 s : Index) (i stamp release : ℕ) → IsIndex s0 → IsQuiet s0 → 1 ≤ stamp → stamp < 2 ^ 64 → StartsTurn s0 i stamp release s → IsIndex s → LoneTurn s0 s i stamp release
+lone_turn_begins s0 s i stamp release is0 quiet some_stamp small starts is = record {
   before = is0;
   quiet = quiet;
   index = is;
@@ -208,7 +206,7 @@ module _ (s0 s s' : Index) (i stamp release : ℕ) (o : LoneTurn s0 s i stamp re
   Ran (Done answer) z = IsLoneTurn (layered s0) stamp release answer z
 
   idle0 : IsIdle (layered s0)
-  idle0 = quiet_is_idle_for_turns s0 o.leaves o.before o.quiet
+  idle0 = quiet_is_idle_for_turns s0 o.before o.quiet
 
   -- a lone turn that is done leaves what it leaves whatever rests afterwards
   rests_as : (answer : Turned) (z z' : Layered) → z'.whole ≡ z.whole → IsLayered z' → ((j : ℕ) (u : Turning) → get_elem? z'.turns j ≡ some u → IsAtRest u) → IsLoneTurn (layered s0) stamp release answer z → IsLoneTurn (layered s0) stamp release answer z'
@@ -289,7 +287,7 @@ module _ (s0 s s' : Index) (i stamp release : ℕ) (o : LoneTurn s0 s i stamp re
       let quiet = quiet_then after in
       let whole : (layered s').whole ≡ (turned (layered s) i (work_asks work) (turning_after work.terms (Done answer))).whole =
       sym ((λ k. record (footed s) { world = record (world s) { words = asks_by (Working work) same k } }) ∙ ap (λ (l : Layered). l.whole) layered_then) in
-      rests_as answer (turned (layered s) i (work_asks work) (turning_after work.terms (Done answer))) (layered s') whole (is'.layered o.leaves)
+      rests_as answer (turned (layered s) i (work_asks work) (turning_after work.terms (Done answer))) (layered s') whole (is'.layered lines_are_left)
       (λ j u at. at_rest u (rest_turns s'.states quiet.turns j u at)) on
 
   stands_after : StandsAfter turn
@@ -314,7 +312,6 @@ module _ (s0 s s' : Index) (i stamp release : ℕ) (o : LoneTurn s0 s i stamp re
           let is : s' ≡ with_words s'.words (Some (Working work)) = left_is ∙ ap (λ (u : Turn MakeTurn TurnReply). with_words s'.words (turn_after u)) same in
           let there : get_elem? s'.states i ≡ some now = ap (λ (v : Index). get_elem? v.states i) is ∙ set_here s0.states i now o.state o.there in (
             record {
-              leaves = o.leaves;
               before = o.before;
               quiet = o.quiet;
               index = is';

@@ -1,6 +1,6 @@
 -- Each step of a turn of the updater keeps the index.
 use Rattle.std.proofs.Common.{◌≡◌, ◌≢◌, ℕ, ◌+◌, ◌/◌, ◌<◌, ◌≤◌, ◌^◌, inl, inr, ⊎_elim, List, [], ◌∷◌, set, map, refl, sym, ap, ◌∙◌, subst, arith}
-use Rattle.std.specs.Prelude.{Option, Some, IfSome, true}
+use Rattle.std.specs.Prelude.{Option, Some, IfSome}
 use Rattle.std.proofs.lemmas.Option.{IfSome_then}
 use mathlib.Core.Option.{some}
 use lib.ListN.{get_elem?, length-set}
@@ -10,7 +10,7 @@ use Rattle.pm_words.specs.declared.machine.Turn.{Turn}
 use Rattle.pm_words.specs.declared.machine.Turn.TheVariants.{Go, Done}
 use Rattle.pm_words.specs.Rows.{CanAct, acted}
 use Rattle.call_stages.specs.Kinds.{gone_status, free_status}
-use Rattle.call_stages.specs.Leaving.{leaves_lines}
+use Rattle.call_stages.proofs.LeftLines.{lines_are_left}
 use Rattle.call_stages.specs.Stages.{Stage, Idle, Saw, Wears, Holds, Eyes, Splits, Leaves, Meets, Joins}
 use Rattle.call_stages.specs.Watches.{Nothing}
 use Rattle.node_ops.specs.declared.running.Running.{Running}
@@ -77,12 +77,12 @@ module _ (s : Index) (i : ℕ) (state : PartyState) (turn : Option MakeTurn) (th
   }
 
   -- an index with these words is one with this turn
-  pub with_turn : (words : List ℕ) → IsIndex s → (leaves_lines ≡ true → IsLayered (record { whole = record (footed s) { world = record (world s) { words = words } }; turns = set (layered s).turns i (turning_of turn) })) → leaves_lines ≡ true
+  pub with_turn : (words : List ℕ) → IsIndex s → IsLayered (record { whole = record (footed s) { world = record (world s) { words = words } }; turns = set (layered s).turns i (turning_of turn) })
       → LeavesNodes (facts (world s)) (facts (record (world s) { words = words })) → IfSome turn (IsTurnOf s.layout s.generation) → IsIndex (record s { words = words; states = states })
-  with_turn words is law on leaves own_turn =
+  with_turn words is law leaves own_turn =
       let own = is.states i state there in
       let after : IsLayered (layered (record s { words = words; states = states })) =
-      subst IsLayered (layered_is words) (law on) in
+      subst IsLayered (layered_is words) law in
       record {
         lawful = after.whole.joint.lawful;
         whole = after.whole;
@@ -229,7 +229,7 @@ module _ (s : Index) (i : ℕ) (state : PartyState) (making : MakeTurn) (is : Is
   pub turn_law : TurnLaw s i state making
   turn_law =
       let words = acted s.layout s.words action in
-      let kept = with_turn s i state (turn_after turn) there words is (λ on. rests_then turn steps.1) own.leaves leaves (own_after turn (makings_stay_sound making x takes)) in
+      let kept = with_turn s i state (turn_after turn) there words is (rests_then turn steps.1) leaves (own_after turn (makings_stay_sound making x takes)) in
       let same = parties_same s i state (turn_after turn) there in
       let keeps : LeavesNodes (facts (world s)) (facts (world (turned_index s i state making))) = record { nodes = leaves.nodes; frees = leaves.frees } in
       record {
@@ -244,12 +244,11 @@ pub turns_keep : TurnKeeps
 turns_keep s i state making is there turns = turn_law s i state making is there turns
 
 pub turn_begins : TurnBegins
-turn_begins s i state stamp release on is there none some_stamp fits =
+turn_begins s i state stamp release is there none some_stamp fits =
     let making : MakeTurn = making_from s.layout s.generation stamp release in
     with_turn s i state (Some making) there s.words is
-    (λ leaves_on.
-    let layer = is.layered leaves_on in
+    (let layer = is.layered lines_are_left in
     let at_turn : get_elem? (layered s).turns i ≡ some resting = map_there turn_of s.states i state there ∙ ap (λ (o : Option MakeTurn). some (turning_of o)) none in
     turn_start_keeps (layered s) i resting stamp release layer at_turn refl (λ no. omega (arith, no, some_stamp)))
-    on (record { nodes = refl; frees = λ n. inl refl })
-    (record { leaves = on; sound = record { layout = is.lawful.row.layout; stamp = some_stamp }; layout = refl; generation = refl; stamp = fits })
+    (record { nodes = refl; frees = λ n. inl refl })
+    (record { leaves = lines_are_left; sound = record { layout = is.lawful.row.layout; stamp = some_stamp }; layout = refl; generation = refl; stamp = fits })

@@ -1,10 +1,9 @@
 -- Turns of the updater in the core: how one begins, what each step of it changes, and how it is answered.
-use Rattle.std.specs.Prelude.{◌≡◌, ℕ, ◌<◌, ◌≤◌, ◌^◌, true, slice_set, Option, Some, None}
+use Rattle.std.specs.Prelude.{◌≡◌, ℕ, ◌<◌, ◌≤◌, ◌^◌, slice_set, Option, Some, None}
 use mathlib.Core.Option.{some}
 use lib.ListN.{get_elem?}
 use Rattle.pm_words.specs.Rows.{CanAct, acted, got}
 use Rattle.pm_words.specs.Turns.{GoesBelow}
-use Rattle.call_stages.specs.Leaving.{leaves_lines}
 use Rattle.index_law.specs.Worlds.{facts}
 use Rattle.index_law.specs.Weights.{weight_sum}
 use Rattle.layer_law.specs.Laws.{LeavesNodes}
@@ -70,9 +69,9 @@ abbrev pub TurnKeeps : Type 0
 TurnKeeps = (s : Index) (party : ℕ) (state : PartyState) (making : MakeTurn) → IsIndex s →
     get_elem? s.states party ≡ some state → state.turn ≡ Some making → TurnLaw s party state making
 
--- A party without a turn may begin one, where splits and merges leave their lines to turns.
+-- A party without a turn may begin one.
 abbrev pub TurnBegins : Type 0
-TurnBegins = (s : Index) (party : ℕ) (state : PartyState) (stamp release : ℕ) → leaves_lines ≡ true → IsIndex s →
+TurnBegins = (s : Index) (party : ℕ) (state : PartyState) (stamp release : ℕ) → IsIndex s →
     get_elem? s.states party ≡ some state → state.turn ≡ None → 1 ≤ stamp → stamp < 2 ^ 64 →
     IsIndex (turn_begun s party state stamp release)
 

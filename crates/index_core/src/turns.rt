@@ -1,7 +1,6 @@
 //! Turns of the updater, step by step beside calls.
 
-ghost use Rattle.std.specs.Prelude.{◌≡◌, ◌+◌, ◌≤◌, ◌↔◌, IsErr, OnErr, OnOk, true};
-ghost use Rattle.call_stages.specs.Leaving.{leaves_lines};
+ghost use Rattle.std.specs.Prelude.{◌≡◌, ◌+◌, ◌≤◌, ◌↔◌, IsErr, OnErr, OnOk};
 ghost use Rattle.index_core.specs.Indexes.{IsBusy, IsIndex, IsTurning};
 ghost use Rattle.index_core.specs.Lone.{IsQuiet};
 ghost use Rattle.index_core.specs.Turns.{StartsTurn, TurnSteps, TurnsAlone};
@@ -15,10 +14,9 @@ use updater::{MakeTurn, TurnReply, Turned};
 impl Core {
     /// Begins a turn of the updater by the party, which gives merged nodes this stamp, and makes those FREE whose stamp is
     /// at most `release`. `InFlight` comes exactly where the party's last call or turn isn't answered, and then nothing
-    /// changes. Turns are for an index whose splits and merges leave their log lines to them.
+    /// changes.
     pub fn start_turn(&mut self, party: u64, stamp: u64, release: u64) -> Result<(), InFlight>
         requires party { party ≤ self.old.layout.callers }
-        requires leaves { leaves_lines ≡ true }
         requires stamp { 1 ≤ stamp }
         ensures in_flight { IsErr result ↔ IsBusy self.old party }
         ensures err { OnErr result (self.new ≡ self.old) }
@@ -46,7 +44,6 @@ impl Core {
         steps: &mut Steps<L>,
     ) -> Turned
         requires party { party ≤ self.old.layout.callers }
-        requires leaves { leaves_lines ≡ true }
         requires stamp { 1 ≤ stamp }
         requires quiet { IsQuiet self.old }
         ensures turns { TurnsAlone self.old stamp release result self.new }

@@ -70,7 +70,7 @@ begun_is c s spare is same =
 begins : (c : goal.After-self-1) → IsIndex (turn_begun (index_with c.self.inside 0) c.args.party (party_of c).0 c.args.stamp c.args.release)
 begins c =
     let e = party_of c in
-    turn_begins (index_with c.self.inside 0) c.args.party e.0 c.args.stamp c.args.release c.requires.leaves c.self.invariant.0 e.1 e.4 c.requires.stamp c.ranges.stamp.fits
+    turn_begins (index_with c.self.inside 0) c.args.party e.0 c.args.stamp c.args.release c.self.invariant.0 e.1 e.4 c.requires.stamp c.ranges.stamp.fits
 
 owes_same : (c : goal.After-self-1) → owed (slice_set c.self.inside.states.items c.args.party (record (c.index_mut.result.now) { turn = Some c.new-making.result })) ≡ owed c.self.inside.states.items
 owes_same c =

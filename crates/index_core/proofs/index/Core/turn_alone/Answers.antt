@@ -11,7 +11,7 @@ unreachable-requires g c =
 
 pub steps-init : goal.steps-init
 steps-init g c =
-    lone_turn_begins c.args.self.now c.start_turn.new.self c.args.party c.args.stamp c.args.release c.requires.leaves c.start_turn.ensures.before c.requires.quiet c.requires.stamp c.ranges.stamp.fits c.in-Ok.ensures.started c.start_turn.ensures.index
+    lone_turn_begins c.args.self.now c.start_turn.new.self c.args.party c.args.stamp c.args.release c.start_turn.ensures.before c.requires.quiet c.requires.stamp c.ranges.stamp.fits c.in-Ok.ensures.started c.start_turn.ensures.index
 
 pub step_turn-requires : goal.step_turn-requires
 step_turn-requires g c = record { turns = lone_turn_flies _ _ _ _ _ c.steps.invariant }
