@@ -45,7 +45,7 @@ fresh_is l layout =
       lawful = rest_law (fresh_world l parties) rest;
       whole = footed.0;
       tended = footed.1;
-      layered = λ on. fresh_layered l layout footed (each (λ p. p.stage ≡ Idle) (λ i. refl));
+      layered = fresh_layered l layout footed (each (λ p. p.stage ≡ Idle) (λ i. refl));
       parties = idle-length n;
       states = λ i state at. subst (IsPartyState l 1 i) (sym (idle-each n i state at)) (record { caller = refl; machine = tt; op = tt; own = tt; turn = tt });
       ordered = λ i place state machine write at flies stands caller. absurd (let none : None ≡ Some write = stands in cc);

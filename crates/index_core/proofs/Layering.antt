@@ -19,7 +19,6 @@ use Rattle.call_stages.specs.Stages.{Idle}
 use Rattle.call_stages.specs.Kinds.{clock_address}
 use Rattle.call_stages.specs.Lines.{HeldLine}
 use Rattle.call_stages.specs.Footings.{Footing, FootStep}
-use Rattle.call_stages.specs.Leaving.{leaves_lines}
 use Rattle.node_ops.specs.declared.running.Running.{Running}
 use Rattle.node_ops.specs.CallStages.{stage_of, footing_of, footing_after, reply_of}
 use Rattle.node_ops.specs.RunningSteps.{running_asks, running_turned}
@@ -160,16 +159,16 @@ module _ (s : Index) (i : ℕ) (state : PartyState) (machine : Running) (there :
       ))
       (at_set (map party_of s.states) i j (party_of now) q here)
 
-  pub step_layered : leaves_lines ≡ true → IsLayered (layered s) → IsFooted (footed (stepped_index s i state machine 0))
+  pub step_layered : IsLayered (layered s) → IsFooted (footed (stepped_index s i state machine 0))
       → FootStep s.layout s.generation state.caller (footing_of machine) action (told s machine) next (reply_of turn) → length s.history < 2 ^ 63
       → IsLayered (layered (stepped_index s i state machine 0))
-  step_layered on is footed_after k room =
+  step_layered is footed_after k room =
       let p = party_of state in
       let stage : machine_stage state.machine ≡ stage_of machine = ap machine_stage flies in
       let line_at = map_there line_of s.states i state there ∙ ap (λ (o : Option Running). some (machine_footing o).line) flies in
       let debt_at = map_there debt_of s.states i state there ∙ ap (λ (o : Option Running). some (machine_footing o).debt) flies in
       let stepped_is : IsLayered stepped_layered =
-      call_step_keeps on (layered s) i p (footing_of machine) next action (told s machine) (reply_of turn) is (map_there party_of s.states i state there) line_at debt_at (stage ∙ sym (footing_stage machine)) k refl room in
+      call_step_keeps (layered s) i p (footing_of machine) next action (told s machine) (reply_of turn) is (map_there party_of s.states i state there) line_at debt_at (stage ∙ sym (footing_stage machine)) k refl room in
       let end : Index = stepped_index s i state machine 0 in
       let clock = slice_index end.words (clock_address s.layout) in
       let words : slice_set end.words (clock_address s.layout) clock ≡ end.words = set-get_or end.words (clock_address s.layout) 0 in

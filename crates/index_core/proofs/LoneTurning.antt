@@ -13,7 +13,6 @@ use Rattle.updater.specs.Takings.{taking_from, taking_asks, took_of}
 use Rattle.updater.specs.declared.taking.TakeTurn.{TakeTurn}
 use Rattle.updater.specs.declared.taking.Took.{Took}
 use Rattle.updater.specs.declared.taking.Took.TheVariants.{Taken, Held}
-use Rattle.call_stages.proofs.LeftLines.{lines_are_left}
 use Rattle.index_law.specs.Lines.{line_in}
 use Rattle.index_law.specs.Footings.{NeedsNoParty, IsInHand}
 use Rattle.index_law.specs.Whole.{Whole}
@@ -59,7 +58,7 @@ use Rattle.index_core.proofs.Turning.{layered_is}
 -- An index with nothing in flight is idle for a turn.
 pub quiet_is_idle_for_turns : (s : Index) → IsIndex s → IsQuiet s → IsIdle (layered s)
 quiet_is_idle_for_turns s is quiet = record {
-  layered = is.layered lines_are_left;
+  layered = is.layered;
   parties = quiet_parties s quiet;
   turns = λ j u at. at_rest u (rest_turns s.states quiet.turns j u at);
   lines = lines;
@@ -70,7 +69,7 @@ quiet_is_idle_for_turns s is quiet = record {
         let same : line_state (world s) j ≡ line_in s.layout s.words (j / 8) (j % 8) 0 =
         column-here s.layout s.words (line_count s.layout) (λ k. Cached (line_word 0 k)) j here ∙ sym (line-here s.layout s.words (j / 8) (j % 8) 0 (omega arith, omega arith, omega arith)) in
         ⊎_elim
-        (λ (none : NeedsNoParty (line_in s.layout s.words (j / 8) (j % 8) 0)). ⊎_elim (λ empty. inl (same ∙ empty)) (λ ready. inr (same ∙ ready.1)) none)
+        (λ (none : NeedsNoParty (line_in s.layout s.words (j / 8) (j % 8) 0)). ⊎_elim (λ empty. inl (same ∙ empty)) (λ ready. inr (same ∙ ready)) none)
         (λ (hand : IsInHand (footed s) (j / 8) (j % 8)). absurd (let none = quiet_lines s quiet hand.number (Some hand.line) hand.there in cc))
         (is.tended (j / 8) (j % 8) (omega arith) (omega arith))
 
@@ -287,7 +286,7 @@ module _ (s0 s s' : Index) (i stamp release : ℕ) (o : LoneTurn s0 s i stamp re
       let quiet = quiet_then after in
       let whole : (layered s').whole ≡ (turned (layered s) i (work_asks work) (turning_after work.terms (Done answer))).whole =
       sym ((λ k. record (footed s) { world = record (world s) { words = asks_by (Working work) same k } }) ∙ ap (λ (l : Layered). l.whole) layered_then) in
-      rests_as answer (turned (layered s) i (work_asks work) (turning_after work.terms (Done answer))) (layered s') whole (is'.layered lines_are_left)
+      rests_as answer (turned (layered s) i (work_asks work) (turning_after work.terms (Done answer))) (layered s') whole is'.layered
       (λ j u at. at_rest u (rest_turns s'.states quiet.turns j u at)) on
 
   stands_after : StandsAfter turn

@@ -164,7 +164,7 @@ module _ (s : Index) (i : ℕ) (e : PartyState) (index : ℕ) (is : IsIndex s) (
         lawful = lawful';
         whole = footed.0;
         tended = footed.1;
-        layered = λ on. one_layered s i e now s.spare (is.layered on) there refl (inr refl) footed;
+        layered = one_layered s i e now s.spare is.layered there refl (inr refl) footed;
         parties = length-set s.states i now ∙ is.parties;
         states = λ j state at. ⊎_elim
             (λ (t : (j ≡ i) × (now ≡ state)). subst (λ (k : ℕ). IsPartyState s.layout s.generation k state) (sym t.0) (subst (IsPartyState s.layout s.generation i) t.1 (record { caller = own.caller; machine = own.machine; op = own.op; own = own.own; turn = own.turn })))
@@ -239,7 +239,7 @@ with_idle s states is quiet idle =
       lawful = rest_law w at_rest;
       whole = footed.0;
       tended = footed.1;
-      layered = λ on. idle_layered s states (is.layered on) quiet.turns idle.idle idle.resting (subst (λ n. 0 < n) (sym idle.count) (omega arith)) footed;
+      layered = idle_layered s states is.layered quiet.turns idle.idle idle.resting (subst (λ n. 0 < n) (sym idle.count) (omega arith)) footed;
       parties = idle.count;
       states = λ i e at. record { caller = idle.numbers i e at; machine = subst (λ (o : Option Running). IfSome o (Sound s.layout s.generation)) (sym (idle.idle i e at)) tt; op = subst (λ (o : Option Running). IfSome o (λ m. IsOf (op_in m) m)) (sym (idle.idle i e at)) tt; own = subst (λ (o : Option Running). IfSome o (λ m. (running_call m).view.caller ≡ i)) (sym (idle.idle i e at)) tt; turn = subst (λ (o : Option MakeTurn). IfSome o (IsTurnOf s.layout s.generation)) (sym (idle.resting i e at)) tt };
       ordered = λ i place e m w at flies stands caller. absurd (let both : None ≡ Some m = sym (idle.idle i e at) ∙ flies in cc);

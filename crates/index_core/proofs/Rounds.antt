@@ -77,7 +77,7 @@ module _ (s : Index) (is : IsIndex s) (quiet : IsQuiet s) where
         lawful = now.0;
         whole = now.1.0;
         tended = now.1.1;
-        layered = λ on. rest_layered s 0 states (pairs_of (map_of_index s)) [] (is.layered on) quiet.turns no_machine no_turn (subst (λ n. 0 < n) (sym (idle-length (parties_of s.layout))) (omega arith)) now.1;
+        layered = rest_layered s 0 states (pairs_of (map_of_index s)) [] is.layered quiet.turns no_machine no_turn (subst (λ n. 0 < n) (sym (idle-length (parties_of s.layout))) (omega arith)) now.1;
         parties = idle-length (parties_of s.layout);
         states = λ i state at. subst (IsPartyState s.layout s.generation i) (sym (idle-each (parties_of s.layout) i state at)) (record { caller = refl; machine = tt; op = tt; own = tt; turn = tt });
         ordered = λ i place state machine write at flies stands caller. absurd (let none : None ≡ Some write = stands in cc);

@@ -208,7 +208,7 @@ step_facts s i state machine is there flies =
         lawful = lawful;
         whole = footed.0;
         tended = footed.1;
-        layered = λ on. step_layered s i state machine there flies on (is.layered on) footed foot room;
+        layered = step_layered s i state machine there flies is.layered footed foot room;
         parties = length-set s.states i (state_after state turn) ∙ is.parties;
         states = set_states l g s.states i (state_after state turn) is.states
             (after_state l g i state (op_in machine) turn own.caller (turns_stay_sound l g machine x sound act.told taken) kept_op (calls_so machine turn (caller ∙ own.caller) (keeps_call machine x takes)) own.turn);
@@ -314,7 +314,7 @@ start_keeps s i state c spare is there idle here =
       lawful = lawful';
       whole = footed.0;
       tended = footed.1;
-      layered = λ on. one_layered s i state now spare (is.layered on) there refl (inl (machine_idle s i c)) footed;
+      layered = one_layered s i state now spare is.layered there refl (inl (machine_idle s i c)) footed;
       parties = length-set s.states i now ∙ is.parties;
       states = set_states s.layout s.generation s.states i now is.states (record { caller = (is.states i state there).caller; machine = machine_begins s i c here; op = machine_op s i c; own = begins_own s i c; turn = (is.states i state there).turn });
       ordered = start_ordered s.states s.history i state m is.ordered;
@@ -346,7 +346,7 @@ count_keeps s i state spare is there idle =
       lawful = lawful';
       whole = footed.0;
       tended = footed.1;
-      layered = λ on. one_layered s i state now spare (is.layered on) there refl (inr refl) footed;
+      layered = one_layered s i state now spare is.layered there refl (inr refl) footed;
       parties = length-set s.states i now ∙ is.parties;
       states = set_states s.layout s.generation s.states i now is.states (record { caller = own.caller; machine = own.machine; op = own.op; own = own.own; turn = own.turn });
       ordered = count_ordered s.states s.history i state idle is.ordered;

@@ -10,7 +10,6 @@ use Rattle.pm_words.specs.declared.machine.Turn.{Turn}
 use Rattle.pm_words.specs.declared.machine.Turn.TheVariants.{Go, Done}
 use Rattle.pm_words.specs.Rows.{CanAct, acted}
 use Rattle.call_stages.specs.Kinds.{gone_status, free_status}
-use Rattle.call_stages.proofs.LeftLines.{lines_are_left}
 use Rattle.call_stages.specs.Stages.{Stage, Idle, Saw, Wears, Holds, Eyes, Splits, Leaves, Meets, Joins}
 use Rattle.call_stages.specs.Watches.{Nothing}
 use Rattle.node_ops.specs.declared.running.Running.{Running}
@@ -87,7 +86,7 @@ module _ (s : Index) (i : ℕ) (state : PartyState) (turn : Option MakeTurn) (th
         lawful = after.whole.joint.lawful;
         whole = after.whole;
         tended = after.tended;
-        layered = λ leaves_on. after;
+        layered = after;
         parties = length-set s.states i now ∙ is.parties;
         states = set_states s.layout s.generation s.states i now is.states (record { caller = own.caller; machine = own.machine; op = own.op; own = own.own; turn = own_turn });
         ordered = λ j place e m write at flies stands caller. ⊎_elim
@@ -162,7 +161,7 @@ module _ (s : Index) (i : ℕ) (state : PartyState) (making : MakeTurn) (is : Is
   own = subst (λ (o : Option MakeTurn). IfSome o (IsTurnOf s.layout s.generation)) turns (is.states i state there).turn
 
   layer : IsLayered (layered s)
-  layer = is.layered own.leaves
+  layer = is.layered
 
   at_turn : get_elem? (layered s).turns i ≡ some (making_turning making)
   at_turn = map_there turn_of s.states i state there ∙ ap (λ (o : Option MakeTurn). some (turning_of o)) turns
@@ -218,7 +217,6 @@ module _ (s : Index) (i : ℕ) (state : PartyState) (making : MakeTurn) (is : Is
 
   own_after : (t : Turn MakeTurn TurnReply) → MakingStays (making_terms making) t → IfSome (turn_after t) (IsTurnOf s.layout s.generation)
   own_after (Go m) stays = record {
-    leaves = own.leaves;
     sound = stays.0;
     layout = ap (λ (t : Terms). t.layout) stays.1 ∙ own.layout;
     generation = ap (λ (t : Terms). t.generation) stays.1 ∙ own.generation;
@@ -247,8 +245,8 @@ pub turn_begins : TurnBegins
 turn_begins s i state stamp release is there none some_stamp fits =
     let making : MakeTurn = making_from s.layout s.generation stamp release in
     with_turn s i state (Some making) there s.words is
-    (let layer = is.layered lines_are_left in
+    (let layer = is.layered in
     let at_turn : get_elem? (layered s).turns i ≡ some resting = map_there turn_of s.states i state there ∙ ap (λ (o : Option MakeTurn). some (turning_of o)) none in
     turn_start_keeps (layered s) i resting stamp release layer at_turn refl (λ no. omega (arith, no, some_stamp)))
     (record { nodes = refl; frees = λ n. inl refl })
-    (record { leaves = lines_are_left; sound = record { layout = is.lawful.row.layout; stamp = some_stamp }; layout = refl; generation = refl; stamp = fits })
+    (record { sound = record { layout = is.lawful.row.layout; stamp = some_stamp }; layout = refl; generation = refl; stamp = fits })

@@ -13,7 +13,6 @@ use Rattle.cat_history.specs.declared.op.Write.{Write}
 use Rattle.call_stages.specs.Stages.{Stage, Idle, Saw, Wears, Holds, Eyes, Splits, Leaves, Meets, Joins, counted}
 use Rattle.call_stages.specs.Stages.{placed_in}
 use Rattle.call_stages.specs.AnySteps.{AnyStep}
-use Rattle.call_stages.specs.Leaving.{leaves_lines}
 use Rattle.call_stages.specs.declared.view.View.{View}
 use Rattle.data_list.specs.Walks.{high_of}
 use Rattle.node_ops.specs.declared.running.Running.{Running}
@@ -139,7 +138,7 @@ pub record IsIndex (s : Index) : Type 0 where
   pub lawful : Lawful (world s)
   pub whole : IsWhole (footed s)  -- so are its log lines and prevs
   pub tended : AreTended (footed s)
-  pub layered : leaves_lines ≡ true → IsLayered (layered s)  -- and its search layer, once lines are left to turns
+  pub layered : IsLayered (layered s)  -- and its search layer
   pub parties : length s.states ≡ parties_of s.layout
   pub states : (i : ℕ) (state : PartyState) → get_elem? s.states i ≡ some state →
       IsPartyState s.layout s.generation i state

@@ -1,5 +1,6 @@
 -- The parties of the core, each with its call in flight.
-use Rattle.std.specs.Prelude.{◌≡◌, ℕ, zero, suc, ◌+◌, ◌-◌, ◌<◌, ◌^◌, ◌||◌, Bool, true, is_some, min, List, [], ◌∷◌, ◌++◌, Option, Some, None, IfSome}
+use Rattle.std.specs.Prelude.{◌≡◌, ℕ, zero, suc, ◌+◌, ◌-◌, ◌<◌, ◌^◌, ◌||◌, Bool, is_some, min, List, [], ◌∷◌, ◌++◌}
+use Rattle.std.specs.Prelude.{Option, Some, None, IfSome}
 use Rattle.pm_words.specs.declared.layout.Layout.{Layout}
 use Rattle.pm_words.specs.declared.machine.Turn.{Turn}
 use Rattle.pm_words.specs.declared.machine.Turn.TheVariants.{Go, Done}
@@ -9,7 +10,6 @@ use Rattle.call_stages.specs.declared.once.Placed.{Placed}
 use Rattle.call_stages.specs.Stages.{Stage, Idle}
 use Rattle.call_stages.specs.Prevs.{no_debt}
 use Rattle.call_stages.specs.Watches.{Nothing}
-use Rattle.call_stages.specs.Leaving.{leaves_lines}
 use Rattle.call_stages.specs.Footings.{Footing}
 use Rattle.node_ops.specs.declared.finish.FinishAt.{FinishAt}
 use Rattle.node_ops.specs.declared.finish.FinishAt.TheVariants as finish_at
@@ -183,9 +183,8 @@ turn_reply (Done reply) = Some reply
 abbrev pub state_turned : PartyState → Turn MakeTurn TurnReply → PartyState
 state_turned state turn = record state { turn = turn_after turn }
 
--- A turn is made only where splits and merges leave their lines to it; it is one of this index.
+-- The turn is one of this index.
 pub record IsTurnOf (l : Layout) (g : ℕ) (making : MakeTurn) : Type 0 where
-  pub leaves : leaves_lines ≡ true
   pub sound : IsMaking making
   pub layout : (making_terms making).layout ≡ l
   pub generation : (making_terms making).generation ≡ g

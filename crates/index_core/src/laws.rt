@@ -89,8 +89,7 @@ pub fn full_law()
 ghost use Rattle.index_core.specs.Turns.{TurnBegins, TurnKeeps};
 
 /// A step of a party's turn of the updater keeps the index, the words of its nodes, and so the list, the map and the
-/// history; some GONE nodes become FREE, and so it weighs no more. A party may begin a turn, where splits and merges leave
-/// their log lines to it.
+/// history; some GONE nodes become FREE, and so it weighs no more. A party may begin a turn.
 pub fn turn_law()
     ensures keeps { TurnKeeps }
     ensures begins { TurnBegins }
