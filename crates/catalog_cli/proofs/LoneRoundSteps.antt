@@ -12,17 +12,16 @@ use Rattle.cat_history.specs.declared.plan.RoundPlan.{RoundPlan}
 use Rattle.cat_history.specs.declared.op.Write.{Write}
 use Rattle.cat_history.specs.declared.record.Record.{Record}
 use Rattle.cat_history.specs.declared.record.Reply.{Reply}
-use Rattle.shapes.specs.Anchors.{Anchors, most_after}
+use Rattle.shapes.specs.Anchors.{Anchors}
 use Rattle.cat_history.specs.Rounds.{IsWriter}
-use Rattle.cat_history.specs.declared.op.Op.{Op}
-use Rattle.cat_history.specs.declared.op.Op.TheVariants.{Put, Get, Del, Scan}
 use Rattle.cat_history.specs.declared.record.Reply.TheVariants.{Full}
 use Rattle.cat_text.specs.ReportGrammar.{IsReportRecord, IsReportReply}
 use Rattle.catalog_cli.specs.LoneCalls.{AreReportCalls, IsReportCall}
 use Rattle.catalog_cli.specs.Rounds.{StopsWithin}
 use Rattle.shapes.specs.ShapeRounds.{anchors_end, anchors_after, PutsFull, EndsWithMembers, IsBoundedByShape}
-use Rattle.shapes.specs.Runs.{HoldsFrom, Standing, stands_after, ComesLate, IsFullInTime}
+use Rattle.shapes.specs.Runs.{Standing, stands_after, ComesLate, IsFullInTime}
 use Rattle.shapes.proofs.RoundLemmas.{HoldsInShape-push, anchors_end-push}
+use Rattle.shapes.proofs.RunLemmas.{HoldsFrom-push, late_is}
 use Rattle.cat_history.proofs.LoneRoundLemmas.{writes_of-append, writes_of-cons, HoldsAlong-push, numbered-push}
 
 pub one_at_most : (b : Bool) (n : ℕ) → n ≡ cond b 1 0 → n ≤ 1
@@ -76,42 +75,23 @@ ends-push base now end records r ends left =
     left ∙ ap (λ (m : Map). after_all m (write_of r)) ends ∙ sym (fold-append (λ n (w : Write). changed n w.change) base (writes_of records) (write_of r))
     ∙ ap (after_all base) (sym (writes_of-push records r))
 
--- what holds from an opening on holds of one record more of which it holds at their end
-holds-push : {S : Type 0} (next : S → Record → S) (P : S → Record → Type 0) (s : S) (records : List Record) (r : Record) → HoldsFrom next P s records → P (fold next s records) r →
-    HoldsFrom next P s (records ++ r ∷ [])
-holds-push next P s [] r holds here = (here, tt)
-holds-push next P s (q ∷ records) r holds here = (holds.0, holds-push next P (next s q) records r holds.1 here)
-
--- a call that comes late is one that writes, when the places reach the limit
-late-to : (limit : ℕ) (s : Standing) (op : Op) → ComesLate limit s op → IsWriter op × (limit ≤ s.place)
-late-to limit s (Put name value) late = (tt, late)
-late-to limit s (Get name) late = absurd late
-late-to limit s (Del name) late = (tt, late)
-late-to limit s (Scan from count) late = absurd late
-
-late-from : (limit : ℕ) (s : Standing) (op : Op) → IsWriter op × (limit ≤ s.place) → ComesLate limit s op
-late-from limit s (Put name value) late = late.1
-late-from limit s (Get name) late = absurd late.0
-late-from limit s (Del name) late = late.1
-late-from limit s (Scan from count) late = absurd late.0
-
 -- `full` is told exactly by one call more
-pub full-push : (slots limit : ℕ) (opening now : Standing) (records : List Record) (r : Record) → IsFullInTime slots false limit opening records → fold (stands_after slots false) opening records ≡ now →
-    (r.reply ≡ Full) ↔ (((IsWriter r.op × (limit ≤ now.place)) → ⊥) × PutsFull slots now.most now.map now.anchors r.op) → IsFullInTime slots false limit opening (records ++ r ∷ [])
-full-push slots limit opening now records r full stands exact =
-    holds-push (stands_after slots false) (λ s q. (q.reply ≡ Full) ↔ ((ComesLate limit s q.op → ⊥) × PutsFull slots s.most s.map s.anchors q.op)) opening records r full
-    (subst (λ (s : Standing). (r.reply ≡ Full) ↔ ((ComesLate limit s r.op → ⊥) × PutsFull slots s.most s.map s.anchors r.op)) (sym stands)
-    ((λ is. ((λ late. (exact.0 is).0 (late-to limit now r.op late)), (exact.0 is).1)), (λ is. exact.1 ((λ late. is.0 (late-from limit now r.op late)), is.1))))
+pub full-push : (slots nodes limit : ℕ) (opening now : Standing) (records : List Record) (r : Record) → IsFullInTime slots nodes limit opening records → fold (stands_after slots) opening records ≡ now →
+    (r.reply ≡ Full) ↔ (((IsWriter r.op × (limit ≤ now.place)) → ⊥) × PutsFull slots nodes now.map now.anchors r.op) → IsFullInTime slots nodes limit opening (records ++ r ∷ [])
+full-push slots nodes limit opening now records r full stands exact =
+    let late = late_is limit now r.op in
+    HoldsFrom-push (stands_after slots) (λ s q. (q.reply ≡ Full) ↔ ((ComesLate limit s q.op → ⊥) × PutsFull slots nodes s.map s.anchors q.op)) opening records r full
+    (subst (λ (s : Standing). (r.reply ≡ Full) ↔ ((ComesLate limit s r.op → ⊥) × PutsFull slots nodes s.map s.anchors r.op)) (sym stands)
+    ((λ is. ((λ comes. (exact.0 is).0 (late.0 comes)), (exact.0 is).1)), (λ is. exact.1 ((λ comes. is.0 (late.1 comes)), is.1))))
 
 -- where it stands after one call more
-pub stands-push : (slots : ℕ) (opening now : Standing) (records : List Record) (r : Record) (m : Map) (anchors : Anchors) (most place : ℕ) → fold (stands_after slots false) opening records ≡ now →
-    m ≡ after_all now.map (write_of r) → anchors ≡ anchors_after slots now.map now.anchors r.op r.reply → most ≡ most_after now.most now.anchors anchors → place ≡ now.place + length (write_of r) →
-    fold (stands_after slots false) opening (records ++ r ∷ []) ≡ record { map = m; anchors = anchors; most = most; place = place }
-stands-push slots opening now records r m anchors most place stands maps shapes mosts places =
-    let few : most ≡ most_after now.most now.anchors (anchors_after slots now.map now.anchors r.op r.reply) = mosts ∙ ap (most_after now.most now.anchors) shapes in
-    let left : record { map = m; anchors = anchors; most = most; place = place } ≡ stands_after slots false now r =
-    λ i. record { map = maps i; anchors = shapes i; most = few i; place = places i } in
-    fold-append (stands_after slots false) opening records (r ∷ []) ∙ ap (λ (s : Standing). stands_after slots false s r) stands ∙ sym left
+pub stands-push : (slots : ℕ) (opening now : Standing) (records : List Record) (r : Record) (m : Map) (anchors : Anchors) (place : ℕ) → fold (stands_after slots) opening records ≡ now →
+    m ≡ after_all now.map (write_of r) → anchors ≡ anchors_after slots now.map now.anchors r.op r.reply → place ≡ now.place + length (write_of r) →
+    fold (stands_after slots) opening (records ++ r ∷ []) ≡ record { map = m; anchors = anchors; place = place }
+stands-push slots opening now records r m anchors place stands maps shapes places =
+    let left : record { map = m; anchors = anchors; place = place } ≡ stands_after slots now r =
+    λ i. record { map = maps i; anchors = shapes i; place = places i } in
+    fold-append (stands_after slots) opening records (r ∷ []) ∙ ap (λ (s : Standing). stands_after slots s r) stands ∙ sym left
 
 -- the anchors that one call more leaves
 pub anchors-push : (slots : ℕ) (base now : Map) (anchors shape end : Anchors) (records : List Record) (r : Record) → now ≡ after_all base (writes_of records) → shape ≡ anchors_end slots base anchors records →
@@ -128,6 +108,6 @@ bounds-push slots base anchors shape records r bounds ends here =
     HoldsInShape-push slots (λ m a q. EndsWithMembers a q.reply) base anchors records r bounds (subst (λ a. EndsWithMembers a r.reply) ends here)
 
 -- no call is played yet
-pub none-so-far : (slots most : ℕ) (base : Map) (anchors : Anchors) (plan : RoundPlan) → StopsWithin slots most base anchors plan most base anchors
-none-so-far slots most base anchors plan =
-    (0, [], record { answers = tt; in_script_order = refl; spent = tt; full = tt; bounds = tt; after = refl; after_shape = refl; after_most = refl })
+pub none-so-far : (slots nodes : ℕ) (base : Map) (anchors : Anchors) (plan : RoundPlan) → StopsWithin slots nodes base anchors plan base anchors
+none-so-far slots nodes base anchors plan =
+    (0, [], record { answers = tt; in_script_order = refl; spent = tt; full = tt; bounds = tt; after = refl; after_shape = refl })

@@ -1,6 +1,5 @@
 -- How many calls a script has.
 use Rattle.std.proofs.Common.{◌≡◌, ℕ, ◌+◌, ◌*◌, ◌<◌, ◌≤◌, List, [], ◌∷◌, ◌++◌, length, get_or, drop, sum_by, refl, sym, ap, ◌∙◌, arith, inl, inr}
-use Rattle.std.proofs.Math.Nat.{mul-le-mul_left}
 use Rattle.std.proofs.lemmas.List.Sums.{sum_by-cons, sum_by-drop_more, sum_by_push}
 use Rattle.cat_history.specs.declared.plan.RoundPlan.{RoundPlan}
 use Rattle.cat_script.specs.Limits.{call_count}
@@ -77,9 +76,9 @@ calls-to-come plans i plan less is =
     sum_by-drop_more (λ (p : RoundPlan). length p.ops) plans i plan less ∙ ap (λ (p : RoundPlan). length p.ops + calls_in (drop (i + 1) plans)) (sym is)
 
 -- what the rest needs of calls is enough for one round,
-pub calls-of-one : (one rest most most' left : ℕ) → most ≤ most' → (one + rest) * most' ≤ left → one * most ≤ left
-calls-of-one one rest most most' left fewer enough = omega (arith, enough, mul-le-mul_left one fewer)
+pub calls-of-one : (one rest most left : ℕ) → (one + rest) * most ≤ left → one * most ≤ left
+calls-of-one one rest most left enough = omega (arith, enough)
 
 -- and then for the others
-pub calls-of-rest : (one rest most most' left left' : ℕ) → most ≤ most' → (one + rest) * most' ≤ left → left ≤ left' + one * most → rest * most' ≤ left'
-calls-of-rest one rest most most' left left' fewer enough taken = omega (arith, enough, taken, mul-le-mul_left one fewer)
+pub calls-of-rest : (one rest most left left' : ℕ) → (one + rest) * most ≤ left → left ≤ left' + one * most → rest * most ≤ left'
+calls-of-rest one rest most left left' enough taken = omega (arith, enough, taken)

@@ -31,7 +31,7 @@ use Rattle.shapes.specs.ShapeRounds.{anchors_end, puts_added, FullIsPaid}
 use Rattle.catalog_cli.specs.Built.{unbuilt_command, first_unbuilt, IsCommandWord}
 use Rattle.catalog_cli.specs.Files.{CanBeDone, Formats, HasBytes, HasNoFile, IsFileCause, LeavesFiles, LeavesOldOrNew}
 use Rattle.catalog_cli.specs.Files.{ListsWords, NamesFile, file_of, formatted_line, lines_told}
-use Rattle.catalog_cli.specs.Rounds.{IsPlayedRound, most_end}
+use Rattle.catalog_cli.specs.Rounds.{IsPlayedRound}
 use Rattle.catalog_cli.specs.Summaries.{full_in, summary_of}
 use Rattle.catalog_cli.specs.declared.status.ImageRefusal.{ImageRefusal}
 use Rattle.catalog_cli.specs.declared.status.Verb.{Verb}
@@ -87,15 +87,15 @@ IsRefusedBy callers bytes (status.NotBuilt verb) = IsUnbuiltScript callers bytes
 -- ---- reports
 
 -- Each round of the plan is played and reported, the first on the base and its shape, and each later one on the map and
--- the shape that the calls of the one before it made of them, of as many members at most as those calls left.
+-- the shape that the calls of the one before it made of them. In each there can be as many members as nodes.
 abbrev pub ArePlayedRounds : ℕ → ℕ → Map → Anchors → List RoundPlan → List RoundReport → Type 0
-ArePlayedRounds slots most base anchors [] [] = Unit {0}
-ArePlayedRounds slots most base anchors [] (report ∷ reports) = ⊥
-ArePlayedRounds slots most base anchors (plan ∷ plans) [] = ⊥
-ArePlayedRounds slots most base anchors (plan ∷ plans) (report ∷ reports) =
-    IsPlayedRound slots most base anchors plan report (writes_of report.records) ×
-    ArePlayedRounds slots (most_end slots most base anchors report.records)
-    (after_all base (writes_of report.records)) (anchors_end slots base anchors report.records) plans reports
+ArePlayedRounds slots nodes base anchors [] [] = Unit {0}
+ArePlayedRounds slots nodes base anchors [] (report ∷ reports) = ⊥
+ArePlayedRounds slots nodes base anchors (plan ∷ plans) [] = ⊥
+ArePlayedRounds slots nodes base anchors (plan ∷ plans) (report ∷ reports) =
+    IsPlayedRound slots nodes base anchors plan report (writes_of report.records) ×
+    ArePlayedRounds slots nodes (after_all base (writes_of report.records))
+    (anchors_end slots base anchors report.records) plans reports
 
 -- In each round a call is answered full only where all nodes are paid for by the weight at the opening, and the slots
 -- of one by the names then, together with the puts since then, up to the end of that round, that added a name.

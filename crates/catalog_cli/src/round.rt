@@ -8,11 +8,11 @@ ghost use Rattle.cat_history.specs.Scans.{IsPart};
 ghost use Rattle.cat_history.specs.Writes.{after_all};
 ghost use Rattle.cat_history.specs.LoneRounds.{write_of, writes_of, IsAnswerNow, IsSpent};
 ghost use Rattle.cat_text.specs.ReportGrammar.{IsReportPart, IsReportReply, IsReportRound};
-ghost use Rattle.shapes.specs.Anchors.{most_after, next_of, past};
+ghost use Rattle.shapes.specs.Anchors.{next_of, past};
 ghost use Rattle.shapes.specs.Laws.{IsScanByShape};
 ghost use Rattle.shapes.specs.ShapeRounds.{anchors_after, anchors_end, EndsWithMembers, PutsFull};
 ghost use Rattle.catalog_cli.specs.LoneCalls.{AreLoneCalls, AreReportCalls, IsLeftBy};
-ghost use Rattle.catalog_cli.specs.Rounds.{IsPlayedRound, StopsWithin, most_end};
+ghost use Rattle.catalog_cli.specs.Rounds.{IsPlayedRound, StopsWithin};
 
 use cat_history::{CutMark, Listed, NoMemory, Op, Parts, Record, Reply, RoundPlan, ScanPart};
 use cat_key::Name;
@@ -44,13 +44,11 @@ pub fn run_lone_round<M: NameMap>(
     ensures anchors { IfOk result (λ report. M.anchors map.new ≡ anchors_end (M.slots map.old) (M.contents map.old)
         (M.anchors map.old) report.records) }
     ensures slots { M.slots map.new ≡ M.slots map.old }
-    ensures most { IfOk result (λ report. M.most map.new ≡ most_end (M.slots map.old) (M.most map.old)
-        (M.contents map.old) (M.anchors map.old) report.records) }
-    ensures fewer { M.most map.new ≤ M.most map.old }
+    ensures most { M.most map.new ≡ M.most map.old }
     ensures calls_left { M.calls_left map.old ≤ M.calls_left map.new + length plan.now.ops * M.most map.old }
     ensures writes_left { M.writes_left map.old ≤ M.writes_left map.new + length plan.now.ops }
     ensures err { OnErr result (StopsWithin (M.slots map.old) (M.most map.old) (M.contents map.old) (M.anchors map.old)
-        plan.now (M.most map.new) (M.contents map.new) (M.anchors map.new)) }
+        plan.now (M.contents map.new) (M.anchors map.new)) }
 {
     let asked = plan.ops.as_slice();
     let mut records = Vec::with_capacity(alloc, asked.len())?;
@@ -97,7 +95,7 @@ fn answer<M: NameMap>(
     ensures anchors { IfOk result (λ reply. M.anchors map.new ≡ anchors_after (M.slots map.old) (M.contents map.old)
         (M.anchors map.old) op.now reply) }
     ensures slots { M.slots map.new ≡ M.slots map.old }
-    ensures most { M.most map.new ≡ most_after (M.most map.old) (M.anchors map.old) (M.anchors map.new) }
+    ensures most { M.most map.new ≡ M.most map.old }
     ensures calls_left { M.calls_left map.old ≤ M.calls_left map.new + M.most map.old }
     ensures writes_left { M.writes_left map.old ≤ M.writes_left map.new + 1 }
     ensures err { OnErr result (M.contents map.new ≡ M.contents map.old) }
@@ -138,7 +136,7 @@ fn answer_in_time<M: NameMap>(
     ensures anchors { IfOk result (λ reply. M.anchors map.new ≡ anchors_after (M.slots map.old) (M.contents map.old)
         (M.anchors map.old) op.now reply) }
     ensures slots { M.slots map.new ≡ M.slots map.old }
-    ensures most { M.most map.new ≡ most_after (M.most map.old) (M.anchors map.old) (M.anchors map.new) }
+    ensures most { M.most map.new ≡ M.most map.old }
     ensures calls_left { M.calls_left map.old ≤ M.calls_left map.new + M.most map.old }
     ensures writes_left { M.writes_left map.old ≤ M.writes_left map.new + 1 }
     ensures err { OnErr result (M.contents map.new ≡ M.contents map.old) }

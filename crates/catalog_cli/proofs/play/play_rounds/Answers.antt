@@ -1,9 +1,9 @@
-use Rattle.std.proofs.Common.{ℕ, ◌+◌, ◌*◌, ◌≤◌, ◌∙◌, length, drop, ap, subst, refl, arith}
+use Rattle.std.proofs.Common.{ℕ, ◌+◌, ◌*◌, ◌≤◌, ◌∙◌, length, drop, ap, sym, subst, refl, arith}
 use Rattle.std.proofs.lemmas.List.Elements.{All-push}
 use Rattle.cat_history.specs.LoneRounds.{writes_of}
 use Rattle.cat_text.specs.ReportGrammar.{IsReportRound}
 use Rattle.shapes.specs.ShapeRounds.{anchors_end}
-use Rattle.catalog_cli.specs.Rounds.{IsPlayedRound, most_end}
+use Rattle.catalog_cli.specs.Rounds.{IsPlayedRound}
 use Rattle.catalog_cli.proofs.Played.{none-played-at, one-more-at, all-played, caller-of-plan, told-of-plan}
 use Rattle.catalog_cli.specs.LoneCalls.{calls_in}
 use Rattle.catalog_cli.proofs.ScriptCalls.{calls-to-come, calls-of-one, calls-of-rest}
@@ -13,9 +13,9 @@ pub loop-plan-init : goal.loop-plan-init
 loop-plan-init g c =
     record {
       slots_stay = refl;
+      most_stays = refl;
       played = none-played-at _ _ _ _ _ c.in_ok-rounds.ensures.items;
       told = rw c.in_ok-rounds.ensures.items (λ k d within. absurd (omega (arith, within)));
-      fewer = omega arith;
       calls = c.requires.calls;
       writes = c.requires.writes;
     }
@@ -28,8 +28,9 @@ run_lone_round-requires g c =
     record {
       caller = caller-of-plan c.args.plans.now plans c.loop-plan.plan-index c.plan-item.result c.requires.callers refl c.loop-plan-test.true c.plan-item.is;
       told = told-of-plan plans c.loop-plan.plan-index c.plan-item.result c.requires.told c.loop-plan-test.true c.plan-item.is;
-      calls = calls-of-one (length c.plan-item.result.ops) (calls_in (drop (c.loop-plan.plan-index + 1) plans)) (g.M.NameMap.most c.loop-plan.map) (g.M.NameMap.most c.args.map.now) _ was.fewer
-          (subst (λ n. n * g.M.NameMap.most c.args.map.now ≤ g.M.NameMap.calls_left c.loop-plan.map) come was.calls);
+      calls = subst (λ k. length c.plan-item.result.ops * k ≤ g.M.NameMap.calls_left c.loop-plan.map) (sym was.most_stays)
+          (calls-of-one (length c.plan-item.result.ops) (calls_in (drop (c.loop-plan.plan-index + 1) plans)) (g.M.NameMap.most c.args.map.now) _
+          (subst (λ n. n * g.M.NameMap.most c.args.map.now ≤ g.M.NameMap.calls_left c.loop-plan.map) come was.calls));
       writes = omega (arith, was.writes, come);
     }
 
@@ -42,23 +43,25 @@ loop-plan-preserved g c =
     let now = g.M.NameMap.contents c.loop-plan.map in
     let shape = g.M.NameMap.anchors c.loop-plan.map in
     let slots = g.M.NameMap.slots c.args.map.now in
-    let most = g.M.NameMap.most c.loop-plan.map in
+    let most = g.M.NameMap.most c.args.map.now in
     let come = calls-to-come plans c.loop-plan.plan-index c.plan-item.result c.loop-plan-test.true c.plan-item.is in
     let round : IsPlayedRound slots most now shape c.plan-item.result report (writes_of report.records) =
-    subst (λ (k : ℕ). IsPlayedRound k most now shape c.plan-item.result report (writes_of report.records)) was.slots_stay told.played in
+    subst (λ (k : ℕ). IsPlayedRound slots k now shape c.plan-item.result report (writes_of report.records)) was.most_stays
+    (subst (λ (k : ℕ). IsPlayedRound k (g.M.NameMap.most c.loop-plan.map) now shape c.plan-item.result report (writes_of report.records)) was.slots_stay told.played) in
+    let taken = subst (λ (k : ℕ). g.M.NameMap.calls_left c.loop-plan.map ≤ g.M.NameMap.calls_left c.run_lone_round.new.map + length c.plan-item.result.ops * k) was.most_stays c.run_lone_round.ensures.calls_left in
     record {
       slots_stay = c.run_lone_round.ensures.slots ∙ was.slots_stay;
-      played = one-more-at _ _ _ _ _ _ _ _ _ _ _ _ _ _ _ _ was.played c.loop-plan-test.true c.plan-item.is round
-          (told.most ∙ ap (λ (k : ℕ). most_end k most now shape report.records) was.slots_stay) told.after (told.anchors ∙ ap (λ (k : ℕ). anchors_end k now shape report.records) was.slots_stay) c.in_ok-push.ensures.items;
+      most_stays = c.run_lone_round.ensures.most ∙ was.most_stays;
+      played = one-more-at _ _ _ _ _ _ _ _ _ _ _ _ _ _ was.played c.loop-plan-test.true c.plan-item.is round told.after
+          (told.anchors ∙ ap (λ (k : ℕ). anchors_end k now shape report.records) was.slots_stay) c.in_ok-push.ensures.items;
       told = rw c.in_ok-push.ensures.items (All-push IsReportRound c.loop-plan.rounds.items report was.told told.report);
-      fewer = omega (arith, was.fewer, c.run_lone_round.ensures.fewer);
-      calls = calls-of-rest (length c.plan-item.result.ops) (calls_in (drop (c.loop-plan.plan-index + 1) plans)) most (g.M.NameMap.most c.args.map.now) _ _ was.fewer
-          (subst (λ n. n * g.M.NameMap.most c.args.map.now ≤ g.M.NameMap.calls_left c.loop-plan.map) come was.calls) c.run_lone_round.ensures.calls_left;
+      calls = calls-of-rest (length c.plan-item.result.ops) (calls_in (drop (c.loop-plan.plan-index + 1) plans)) most _ _
+          (subst (λ n. n * most ≤ g.M.NameMap.calls_left c.loop-plan.map) come was.calls) taken;
       writes = omega (arith, was.writes, c.run_lone_round.ensures.writes_left, come);
     }
 
 pub returns-clause-played : goal.returns-clause-played
-returns-clause-played g c = all-played _ _ _ _ _ _ _ _ _ _ _ _ c.loop-plan.invariant.played c.loop-plan-test.false refl c.of.ensures
+returns-clause-played g c = all-played _ _ _ _ _ _ _ _ _ _ _ c.loop-plan.invariant.played c.loop-plan-test.false refl c.of.ensures
 
 pub returns-clause-report : goal.returns-clause-report
 returns-clause-report g c = rw c.of.ensures c.loop-plan.invariant.told

@@ -13,9 +13,9 @@ invariant-loop-plan g l =
     let most = g.M.NameMap.most in
     record {
       slots_stay : slots l.map ≡ slots l.fn.map;
-      played : GoOn (slots l.fn.map) (most l.fn.map) (contents l.fn.map) (anchors l.fn.map) (take l.plan-index l.plans) l.rounds.items (most l.map) (contents l.map) (anchors l.map);
+      most_stays : most l.map ≡ most l.fn.map;
+      played : GoOn (slots l.fn.map) (most l.fn.map) (contents l.fn.map) (anchors l.fn.map) (take l.plan-index l.plans) l.rounds.items (contents l.map) (anchors l.map);
       told : All IsReportRound l.rounds.items;
-      fewer : most l.map ≤ most l.fn.map;
       calls : calls_in (drop l.plan-index l.plans) * most l.fn.map ≤ g.M.NameMap.calls_left l.map;
       writes : calls_in (drop l.plan-index l.plans) ≤ g.M.NameMap.writes_left l.map;
     }

@@ -1,6 +1,4 @@
-use Rattle.std.proofs.Common.{◌∙◌, sym, ap, arith}
-use Rattle.shapes.specs.Anchors.{most_after}
-use Rattle.shapes.proofs.Shapes.{put_keeps_most}
+use Rattle.std.proofs.Common.{arith}
 use Rattle.catalog_cli.proofs.ScanSteps.{parts-fit}
 use Rattle.catalog_cli.proofs.round.answer_in_time.Goals as goal
 
@@ -13,12 +11,3 @@ returns-in_err-scan-in-Scan-clause-calls_left g c = omega (arith, c.scan.ensures
 
 pub returns-in_ok-scan-in-Scan-clause-calls_left : goal.returns-in_ok-scan-in-Scan-clause-calls_left
 returns-in_ok-scan-in-Scan-clause-calls_left g c = omega (arith, c.scan.ensures.calls_left, parts-fit _ _ _ _ c.in-Scan.from c.has_shape.ensures)
-
--- a put takes no member away
-pub returns-in-Ok-clause-most : goal.returns-in-Ok-clause-most
-returns-in-Ok-clause-most g c =
-    let M = g.M.NameMap in
-    let most = M.most c.args.map.now in
-    let anchors = M.anchors c.args.map.now in
-    c.put.ensures.most ∙ sym (put_keeps_most (M.slots c.args.map.now) most (M.contents c.args.map.now) anchors c.in-Put.name)
-    ∙ sym (ap (most_after most anchors) c.in-Ok.ensures.splits)

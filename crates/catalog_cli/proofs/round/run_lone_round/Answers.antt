@@ -3,14 +3,13 @@ use Rattle.std.specs.FinMap.{len}
 use Rattle.cat_history.specs.LoneRounds.{write_of, writes_of, IsAnswerNow, IsSpent}
 use Rattle.cat_history.specs.Records.{call_of, numbered}
 use Rattle.cat_history.specs.Rounds.{IsWriter}
-use Rattle.catalog_cli.specs.Rounds.{opening}
 use Rattle.catalog_cli.specs.LoneCalls.{AreReportCalls}
 use Rattle.cat_history.specs.declared.op.CallerOp.{CallerOp}
 use Rattle.cat_history.specs.declared.record.Record.{Record}
 use Rattle.cat_history.specs.declared.record.Reply.TheVariants.{Full}
 use Rattle.cat_history.proofs.LoneRoundLemmas.{lone_rounds_are_legal}
 use Rattle.cat_text.proofs.LoneReports.{lone_stand}
-use Rattle.shapes.specs.Runs.{Standing}
+use Rattle.shapes.specs.Runs.{Standing, opening}
 use Rattle.shapes.specs.ShapeRounds.{PutsFull, anchors_after}
 use Rattle.catalog_cli.proofs.LoneRoundSteps.{one_at_most, recorded, writes_of-push, calls-push, calls-whole, along-push, ends-push, full-push, stands-push, anchors-push, bounds-push, told-push, none-so-far}
 use Rattle.catalog_cli.proofs.round.run_lone_round.Goals.{then-is_placed_write, else-is_placed_write}
@@ -37,44 +36,44 @@ loop-index-preserved g c =
     let now = M.contents c.loop-index.map in
     let anchors = M.anchors c.args.map.now in
     let slots = M.slots c.args.map.now in
-    let opened = opening (M.most c.args.map.now) base anchors in
-    let most = M.most c.loop-index.map in
+    let opened = opening base anchors in
+    let most = M.most c.args.map.now in
     let shape = M.anchors c.loop-index.map in
-    let stood : Standing = record { map = now; anchors = shape; most = most; place = c.loop-index.writes } in
+    let stood : Standing = record { map = now; anchors = shape; place = c.loop-index.writes } in
     let r : Record = recorded index call reply in
     let grown : c.push_reserved.new.self.items ≡ records ++ r ∷ [] = c.push_reserved.ensures.items in
     let one = subst (λ (ops : List CallerOp). All (λ a. a.caller ≡ c.requires.caller.0) ops) (sym same) c.requires.caller.1 in
     let told = subst AreReportCalls (sym same) c.requires.told in
     let limit = c.args.plan.now.limit in
     let late : Type 0 = IsWriter call.op × (limit ≤ c.loop-index.writes) in
-    let full = subst (λ (k : ℕ). (reply ≡ Full) ↔ ((late → ⊥) × PutsFull k most now shape call.op)) was.slots_stay answer.full in
+    let full = subst (λ (k : ℕ). (reply ≡ Full) ↔ ((late → ⊥) × PutsFull slots k now shape call.op)) was.most_stays
+    (subst (λ (k : ℕ). (reply ≡ Full) ↔ ((late → ⊥) × PutsFull k (M.most c.loop-index.map) now shape call.op)) was.slots_stay answer.full) in
     let left = answer.anchors ∙ ap (λ (k : ℕ). anchors_after k now shape call.op reply) was.slots_stay in
     let counted : c.if-is_placed_write.writes ≡ c.loop-index.writes + length (write_of r) =
     elim c.if-is_placed_write.branch [
       | then-is_placed_write w ↦ omega (arith, w.writes-is, c.is_placed_write.ensures, ap {B = ℕ} (λ b. cond b 1 0) w.if-is_placed_write.true)
       | else-is_placed_write w ↦ omega (arith, w.writes-is, c.is_placed_write.ensures, ap {B = ℕ} (λ b. cond b 1 0) w.if-is_placed_write.false)
     ] in
-    let stands = stands-push slots opened stood records r (M.contents c.answer.new.map) (M.anchors c.answer.new.map) (M.most c.answer.new.map) c.if-is_placed_write.writes was.stands
-    (answer.left call.caller index) left answer.most counted in
+    let stands = stands-push slots opened stood records r (M.contents c.answer.new.map) (M.anchors c.answer.new.map) c.if-is_placed_write.writes was.stands
+    (answer.left call.caller index) left counted in
     let calls : map call_of records ≡ numbered (take index asked) = was.played.in_script_order ∙ ap (λ (ops : List CallerOp). numbered (take index ops)) (sym same) in
     record {
       played = rw grown (record {
         answers = along-push (λ m place q. IsAnswerNow m place q.op q.reply) base now c.loop-index.writes records r was.played.answers was.played.after was.writes answer.answer;
         in_script_order = calls-push c.requires.caller.0 asked index call reply records one c.loop-index-test.true c.index-asked-index.is calls ∙ ap (λ (ops : List CallerOp). numbered (take (index + 1) ops)) same;
         spent = along-push (λ m place q. IsSpent q.reply ↔ (IsWriter q.op × (limit ≤ place))) base now c.loop-index.writes records r was.played.spent was.played.after was.writes answer.spent;
-        full = full-push slots limit opened stood records r was.played.full was.stands full;
+        full = full-push slots most limit opened stood records r was.played.full was.stands full;
         bounds = bounds-push slots base anchors shape records r was.played.bounds was.played.after_shape answer.bounds;
         after = ends-push base now (M.contents c.answer.new.map) records r was.played.after (answer.left call.caller index);
         after_shape = anchors-push slots base now anchors shape (M.anchors c.answer.new.map) records r was.played.after was.played.after_shape left;
-        after_most = sym (ap (λ (s : Standing). s.most) stands);
       });
       told = rw grown (told-push asked index call reply records told c.loop-index-test.true c.index-asked-index.is answer.report was.told);
       stands = rw grown stands;
       writes = rw (grown, writes_of-push) (omega (arith, counted, was.writes, length-append (writes_of records) (write_of r)));
       few = omega (arith, counted, was.few, one_at_most c.is_placed_write.result (length (write_of r)) c.is_placed_write.ensures);
       slots_stay = c.answer.ensures.slots ∙ was.slots_stay;
-      fewer = omega (arith, was.fewer, c.answer.ensures.most);
-      calls = omega (arith, was.calls, was.fewer, c.answer.ensures.calls_left);
+      most_stays = c.answer.ensures.most ∙ was.most_stays;
+      calls = omega (arith, was.calls, was.most_stays, c.answer.ensures.calls_left);
       writes_left = omega (arith, was.writes_left, c.answer.ensures.writes_left);
       made = c.push_reserved.ensures.len ∙ omega (arith, was.made);
       reserved = omega (arith, was.reserved, c.push_reserved.ensures.capacity);
