@@ -17,10 +17,10 @@ use Rattle.shapes.specs.Members.{Member, members}
 use Rattle.shapes.specs.ShapeRounds.{PutsFull}
 use Rattle.shapes.specs.Weights.{IsShape}
 use Rattle.cat_history.specs.Records.{as_op}
-use Rattle.shapes.specs.Anchors.{Anchors, AreAnchors, next_of, put_anchors, merges, del_anchors, most_after}
-use Rattle.shapes.proofs.Agreements.{length-members, put-stays, and-first, and-second}
-use Rattle.shapes.proofs.Shapes.{len-keys, put_keeps_most, del-merges, del-stays}
-use Rattle.shapes.proofs.Targets.{members_part_names, part, next-is}
+use Rattle.shapes.specs.Anchors.{next_of, put_anchors, merges, del_anchors}
+use Rattle.shapes.proofs.Agreements.{length-members, put-stays}
+use Rattle.shapes.proofs.Shapes.{len-keys, del-stays}
+use Rattle.shapes.proofs.Targets.{members_part_names}
 use Rattle.call_stages.specs.Kinds.{gone_status}
 use Rattle.call_stages.specs.declared.once.Once.{Once}
 use Rattle.call_stages.specs.declared.once.Once.TheVariants as once
@@ -30,7 +30,7 @@ use Rattle.pm_words.specs.declared.again.Again.{Again}
 use Rattle.node_ops.specs.Asked.{name_asked}
 use Rattle.data_node.specs.Lists.{key_of}
 use Rattle.data_node.proofs.ListLemmas.{chain_closed, target_in}
-use Rattle.index_law.specs.Anchors.{anchors_of, anchors_in, gone_nodes, members_most}
+use Rattle.index_law.specs.Anchors.{anchors_of, anchors_in}
 use Rattle.index_law.specs.Facts.{Facts, list_in}
 use Rattle.index_law.specs.Laws.{fresh_row}
 use Rattle.index_law.specs.Worlds.{facts}
@@ -41,12 +41,15 @@ use Rattle.lone_law.specs.Merging.{NextIsWorn, next_node}
 use Rattle.lone_law.proofs.Locks.{worn_has_none}
 use Rattle.index_core.specs.Fresh.{IsFreshIndex}
 use Rattle.index_core.specs.Indexes.{Index, IsIndex, map_of_index, world}
-use Rattle.index_core.specs.Lone.{IsQuiet, FindsNoRoom, FindsWornNode, HasSameList, IsOver, IsWornNode, IsWholeAnswer, RunsAlone, LeavesList, LeavesMost, SplitsFor, SplitsNothing, MergesFor, MergesNothing, node_for, locks_left, alone_writes, whole_of, part_whole}
+use Rattle.index_core.specs.Lone.{IsQuiet, FindsNoRoom, FindsWornNode, HasSameList, IsOver, IsWornNode, IsWholeAnswer, RunsAlone, LeavesList, most_tries, SplitsFor, SplitsNothing, MergesFor, MergesNothing, node_for, locks_left, alone_writes, whole_of, part_whole}
 use Rattle.index_core.specs.declared.party.CoreCall.TheVariants as call
 use Rattle.index_core.specs.declared.party.CoreCall.{CoreCall}
 use Rattle.index_core.specs.declared.party.Whole.{Whole}
 use Rattle.index_core.specs.declared.party.Whole.TheVariants as whole
 use Rattle.index_core.specs.CoreCalls.{op_of, most_writes}
+use Rattle.index_core.specs.Fulls.{HasLowStamps}
+use Rattle.lone_turn.specs.LoneTurns.{stamp_in}
+use Rattle.index_core.proofs.Retrying.{stamped_are_gone}
 use Rattle.index_core.proofs.Quiet.{quiet_parties}
 use Rattle.index_core.proofs.Fresh.{fresh_quiet, fresh_locks}
 use Rattle.index_core.proofs.Fulls.{no_room_is_full_put}
@@ -54,14 +57,15 @@ use Rattle.index_core.proofs.Stepping.{respare}
 use Rattle.catalog_cli.specs.CoreMaps.{calls_left_of, writes_left_of, IsUnlimited, IsCoreMap, anchors_made}
 
 -- a put of a name that the map lacks adds one, and of one that it has adds none
-pub put_counted : (s s' : Index) (name : List ℕ) (value names names' : ℕ) (old : Option ℕ) (b : Bool) → IsCoreMap s names → IsIndex s' → IsQuiet s' →
+pub put_counted : (s s' : Index) (name : List ℕ) (value names names' : ℕ) (old : Option ℕ) (b : Bool) → IsCoreMap s names → IsIndex s' → IsQuiet s' → HasLowStamps s' →
     old ≡ at (map_of_index s) name → map_of_index s' ≡ insert (map_of_index s) name value → is_some old ≡ b → names' ≡ cond b names (names + 1) → IsCoreMap s' names'
-put_counted s s' name value names names' old b was index quiet told after is counts =
+put_counted s s' name value names names' old b was index quiet stamps told after is counts =
     let m = map_of_index s in
     let has : is_some (at m name) ≡ b = sym (ap is_some told) ∙ is in
     record {
       index = index;
       quiet = quiet;
+      stamps = stamps;
       counted = counts ∙ ap (λ (n : ℕ). cond b n (n + 1)) was.counted
           ∙ sym (ap len after ∙ len-insert nat_list_cmp_total m name value ∙ ap (λ (c : Bool). cond c (len m) (len m + 1)) has);
     }
@@ -81,14 +85,15 @@ pub told_name : (s : Index) (name : List ℕ) (names : ℕ) (old : Option ℕ) �
 told_name s name names old was told is = let one = some_name (map_of_index s) name (sym (ap is_some told) ∙ is) in let counted = was.counted in omega (arith, one, counted)
 
 -- a removal of a name that the map has takes one, and of one that it lacks takes none
-pub removal_counted : (s s' : Index) (name : List ℕ) (names names' : ℕ) (old : Option ℕ) (b : Bool) → IsCoreMap s names → IsIndex s' → IsQuiet s' →
+pub removal_counted : (s s' : Index) (name : List ℕ) (names names' : ℕ) (old : Option ℕ) (b : Bool) → IsCoreMap s names → IsIndex s' → IsQuiet s' → HasLowStamps s' →
     old ≡ at (map_of_index s) name → map_of_index s' ≡ remove (map_of_index s) name → is_some old ≡ b → names' ≡ cond b (names - 1) names → IsCoreMap s' names'
-removal_counted s s' name names names' old b was index quiet told after is counts =
+removal_counted s s' name names names' old b was index quiet stamps told after is counts =
     let m = map_of_index s in
     let has : is_some (at m name) ≡ b = sym (ap is_some told) ∙ is in
     record {
       index = index;
       quiet = quiet;
+      stamps = stamps;
       counted = counts ∙ ap (λ (n : ℕ). cond b (n - 1) n) was.counted
           ∙ sym (ap len after ∙ len-remove nat_list_cmp_total m name ∙ ap (λ (c : Bool). cond c (len m - 1) (len m)) has);
     }
@@ -120,11 +125,24 @@ few_names s names is =
     let counted = is.counted in
     omega arith
 
+-- a fresh index has no node that is GONE, and so none with a stamp
+fresh_low : (l : Layout) (s s' : Index) → IsLayout l → IsFreshIndex l s → s' ≡ record s { spare = s'.spare } → HasLowStamps s'
+fresh_low l s s' layout fresh kept n here = ⊎_elim
+    (λ (none : stamp_in (world s') n ≡ 0). omega arith)
+    (λ (some_stamp : stamp_in (world s') n ≢ 0).
+    let gone = stamped_are_gone s' (subst IsIndex (sym kept) (respare s s'.spare fresh.index)).layered n some_stamp in
+    let within : n < l.nodes = subst (λ (k : Layout). n < k.nodes) (ap (λ (v : Index). v.layout) kept ∙ fresh.layout) here in
+    let same : (facts (world s')).status n ≡ (facts (world (record s { layout = l; words = fresh_row l }))).status n =
+    ap (λ (v : Index). (facts (world v)).status n) kept ∙ (λ k. (facts (world (record s { layout = fresh.layout k; words = fresh.words k }))).status n) in
+    absurd (fresh_statuses l layout n within (sym same ∙ gone)))
+    (cases_eq (stamp_in (world s') n) 0)
+
 -- a fresh index, once room for writes is made
-pub fresh_map : (l : Layout) (s s' : Index) → IsFreshIndex l s → s' ≡ record s { spare = s'.spare } → IsCoreMap s' 0
-fresh_map l s s' fresh kept = record {
+pub fresh_map : (l : Layout) (s s' : Index) → IsLayout l → IsFreshIndex l s → s' ≡ record s { spare = s'.spare } → IsCoreMap s' 0
+fresh_map l s s' layout fresh kept = record {
   index = subst IsIndex (sym kept) (respare s s'.spare fresh.index);
   quiet = subst IsQuiet (sym kept) (let quiet = fresh_quiet l s fresh in record { calls = quiet.calls; turns = quiet.turns });
+  stamps = fresh_low l s s' layout fresh kept;
   counted = sym (ap (λ (v : Index). len (map_of_index v)) kept ∙ (λ k. len (after_all (map_of (fresh.base k)) (fresh.history k))) ∙ len-empty name_cmp ℕ);
 }
 
@@ -133,22 +151,12 @@ pub fresh_anchors : (l : Layout) (s s' : Index) → IsLayout l → IsFreshIndex 
 fresh_anchors l s s' layout fresh kept =
     ap (λ (v : Index). anchors_in (world v)) kept ∙ (λ k. anchors_of (list_in (fresh.layout k) (fresh.words k))) ∙ ap anchors_of (fresh_list l layout)
 
-pub fresh_most : (l : Layout) (s s' : Index) → IsLayout l → IsFreshIndex l s → s' ≡ record s { spare = s'.spare } → members_most (world s') ≡ l.nodes
-fresh_most l s s' layout fresh kept =
-    ap (λ (v : Index). members_most (world v)) kept
-    ∙ (λ k. (fresh.layout k).nodes - gone_nodes (fresh.layout k).nodes (facts (world (record s { layout = fresh.layout k; words = fresh.words k }))))
-    ∙ ap (λ (gone : ℕ). l.nodes - gone) (none_gone l.nodes (facts (world (record s { layout = l; words = fresh_row l }))) (fresh_statuses l layout))
-    ∙ (let all : l.nodes - 0 ≡ l.nodes = omega arith in all)
-  where
-    none_gone : (n : ℕ) (f : Facts) → ((k : ℕ) → k < n → f.status k ≢ gone_status) → gone_nodes n f ≡ 0
-    none_gone zero f none = refl
-    none_gone (suc n) f none =
-        ap (λ (b : Bool). (if b then 1 else 0) + gone_nodes n f) (ne_eqb (f.status n) gone_status (none n (omega arith)))
-        ∙ zero-add (gone_nodes n f) ∙ none_gone n f (λ k below. none k (omega arith))
+pub fresh_most : (l : Layout) (s s' : Index) → IsFreshIndex l s → s' ≡ record s { spare = s'.spare } → s'.layout.nodes ≡ l.nodes
+fresh_most l s s' fresh kept = ap (λ (v : Index). v.layout.nodes) kept ∙ ap (λ (v : Layout). v.nodes) fresh.layout
 
 -- all locks of its nodes are left,
-pub fresh_calls : (l : Layout) (s s' : Index) → IsLayout l → IsFreshIndex l s → s' ≡ record s { spare = s'.spare } → calls_left_of s' ≡ LAST_COUNT / 2
-fresh_calls l s s' layout fresh kept = ap (λ (n : ℕ). n / 2) (ap locks_left kept ∙ fresh_locks l s layout fresh)
+pub fresh_calls : (l : Layout) (s s' : Index) → IsLayout l → IsFreshIndex l s → s' ≡ record s { spare = s'.spare } → calls_left_of s' ≡ LAST_COUNT / 4
+fresh_calls l s s' layout fresh kept = ap (λ (n : ℕ). n / 4) (ap locks_left kept ∙ fresh_locks l s layout fresh)
 
 -- and a number below 2^62 for its clock, for each of the writes
 pub fresh_writes : (l : Layout) (s s' : Index) (writes : ℕ) → IsFreshIndex l s → s' ≡ record s { spare = s'.spare } → writes ≤ s'.spare → writes ≤ 2 ^ 62 → writes ≤ writes_left_of s'
@@ -156,8 +164,8 @@ fresh_writes l s s' writes fresh kept spare few =
     let history : length s'.history ≡ 0 = ap (λ (v : Index). length v.history) kept ∙ ap length fresh.history in
     le-min spare (omega (arith, history, few))
 
--- where calls are left, so are two locks of each node
-locks_remain : (s : Index) → 0 < calls_left_of s → 2 ≤ locks_left s
+-- where calls are left, so are four locks of each node
+locks_remain : (s : Index) → 0 < calls_left_of s → 4 ≤ locks_left s
 locks_remain s left = omega (arith, left)
 
 -- then no node is worn, and no clock has come to a limit that is none
@@ -176,24 +184,45 @@ in_time s (call.Part low count) unlimited left over = over
 in_time s (call.Recheck node version) unlimited left over = over
 in_time s (call.Del name limit) unlimited left over = let room : 0 < 2 ^ 62 - length s.history = le_trans left (min-le_right s.spare (2 ^ 62 - length s.history)) in omega (arith, room, unlimited, over)
 
-pub goes_through : (s : Index) (c : CoreCall) (new : Index) (r : Once Placed) → IsIndex s → IsUnlimited c → 0 < calls_left_of s → most_writes c ≤ writes_left_of s → IsWholeAnswer s c new (whole_of r)
+few_tries : (c : CoreCall) → most_tries c ≤ 4
+few_tries (call.Put name value limit) = omega arith
+few_tries (call.Del name limit) = omega arith
+few_tries (call.Get name) = omega arith
+few_tries (call.Part low count) = omega arith
+few_tries (call.Recheck node version) = omega arith
+
+pub goes_through : (s : Index) (i : ℕ) (c : CoreCall) (new : Index) (r : Once Placed) → IsIndex s → IsUnlimited c → 0 < calls_left_of s → most_writes c ≤ writes_left_of s → IsWholeAnswer (most_tries c) s i c new (whole_of r)
     → ((clock : ℕ) × (r ≡ once.Spent clock)) ⊎ ((node : ℕ) × (word : ℕ) × (r ≡ once.Worn node word)) → ⊥
-goes_through s c new r is unlimited left writes answer = ⊎_elim
-    (λ (late : (clock : ℕ) × (r ≡ once.Spent clock)). in_time s c unlimited writes (subst (λ (o : Once Placed). IsWholeAnswer s c new (whole_of o)) late.1 answer).1)
-    (λ (worn : (node : ℕ) × (word : ℕ) × (r ≡ once.Worn node word)). both_worn worn.0 worn.1 (subst (λ (o : Once Placed). IsWholeAnswer s c new (whole_of o)) worn.2 answer))
+goes_through s i c new r is unlimited left writes answer = ⊎_elim
+    (λ (late : (clock : ℕ) × (r ≡ once.Spent clock)). in_time s c unlimited writes (subst (λ (o : Once Placed). IsWholeAnswer (most_tries c) s i c new (whole_of o)) late.1 answer).1)
+    (λ (worn : (node : ℕ) × (word : ℕ) × (r ≡ once.Worn node word)). both_worn worn.0 worn.1 (subst (λ (o : Once Placed). IsWholeAnswer (most_tries c) s i c new (whole_of o)) worn.2 answer))
   where
-    both_worn : (node word : ℕ) → IsWornNode s c new node word → ⊥
+    both_worn : (node word : ℕ) → IsWornNode (most_tries c) s i c new node word → ⊥
     both_worn node word (inl first) = unworn s c is left first.0
-    both_worn node word (inr split) = let two = locks_remain s left in let one = split.1 in omega (arith, two, one)
+    both_worn node word (inr again) =
+        let four = locks_remain s left in
+        let few = few_tries c in
+        let less = again.1 in
+        omega (arith, four, few, less)
 
 -- a call finds no room exactly where it is a put that is full in the shape
-pub full_exactly : (s : Index) (c : CoreCall) → IsIndex s → IsQuiet s → IsName (name_asked (op_of c)) → 0 < calls_left_of s →
-    FindsNoRoom c s ↔ PutsFull s.layout.slots (members_most (world s)) (map_of_index s) (anchors_in (world s)) (as_op (op_of c))
-full_exactly s (call.Put name value limit) is quiet named left = let two = locks_remain s left in no_room_is_full_put s name value limit is quiet named (omega arith)
-full_exactly s (call.Get name) is quiet named left = ((λ none. none), (λ none. none))
-full_exactly s (call.Del name limit) is quiet named left = ((λ none. none), (λ none. none))
-full_exactly s (call.Part low count) is quiet named left = ((λ none. none), (λ none. none))
-full_exactly s (call.Recheck node version) is quiet named left = ((λ none. none), (λ none. none))
+pub full_exactly : (s : Index) (c : CoreCall) → IsIndex s → IsQuiet s → IsName (name_asked (op_of c)) → 0 < calls_left_of s → HasLowStamps s →
+    FindsNoRoom c s ↔ PutsFull s.layout.slots s.layout.nodes (map_of_index s) (anchors_in (world s)) (as_op (op_of c))
+full_exactly s (call.Put name value limit) is quiet named left low = let four = locks_remain s left in no_room_is_full_put s name value limit is quiet named (omega arith) low
+full_exactly s (call.Get name) is quiet named left low = ((λ none. none), (λ none. none))
+full_exactly s (call.Del name limit) is quiet named left low = ((λ none. none), (λ none. none))
+full_exactly s (call.Part low_name count) is quiet named left low = ((λ none. none), (λ none. none))
+full_exactly s (call.Recheck node version) is quiet named left low = ((λ none. none), (λ none. none))
+
+-- no call gives a stamp above 1
+pub stays_low : (s : Index) (i : ℕ) (c : CoreCall) (new : Index) (r : Whole) → RunsAlone s i c new r → HasLowStamps s → HasLowStamps new
+stays_low s i c new r runs low n here =
+    let within : n < s.layout.nodes = subst (λ (l : Layout). n < l.nodes) runs.layout here in
+    let was = low n within in
+    ⊎_elim
+    (λ (same : stamp_in (world new) n ≡ stamp_in (world s) n). omega arith)
+    (λ (small : stamp_in (world new) n ≤ 1). small)
+    (runs.stamps n within)
 
 -- nor is the node worn behind that of a name
 next_unworn : (s : Index) (name : List ℕ) → IsIndex s → 0 < calls_left_of s → NextIsWorn (world s) name → ⊥
@@ -208,112 +237,48 @@ next_unworn s name is left worn =
     let some_left = locks_remain s left in
     omega arith
 
--- a delete that merges takes one anchor away
-some_first : (anchors : Anchors) → is_some (slice_get anchors 0) ≡ true → 0 < length anchors
-some_first [] is = absurd (cc)
-some_first (anchor ∷ later) is = omega arith
+-- one that takes place leaves the anchors that it makes
+same_made : (s : Index) (c : CoreCall) (new : Index) → anchors_in (world s) ≡ anchors_made s c → HasSameList s new → anchors_in (world new) ≡ anchors_made s c
+same_made s c new made same = ap anchors_of same ∙ made
 
-next_there : (slots : ℕ) (m : Map) (anchors : Anchors) (name : List ℕ) → merges slots m anchors name ≡ true → is_some (next_of anchors name) ≡ true
-next_there slots m anchors name is = and-first _ _ (and-second _ _ is)
-
-del_takes_one : (slots : ℕ) (m : Map) (anchors : Anchors) (name : List ℕ) → AreAnchors anchors → merges slots m anchors name ≡ true → length (del_anchors slots m anchors name) + 1 ≡ length anchors
-del_takes_one slots m anchors name are is =
-    let p = part anchors name are in
-    let behind : 0 < length p.after = some_first p.after (ap is_some (sym (next-is anchors name p)) ∙ next_there slots m anchors name is) in
-    let now = ap length (del-merges slots m anchors name p is) in
-    let was = ap length p.is in
-    let shorter = length-append p.before (p.low ∷ drop 1 p.after) in
-    let whole = length-append p.before (p.low ∷ p.after) in
-    let cut = length-drop 1 p.after in
-    omega arith
-
-same_most : (most : ℕ) (anchors after : Anchors) → after ≡ anchors → most ≡ most_after most anchors after
-same_most most anchors after same = let as_many = ap length same in omega arith
-
--- one that takes place leaves the anchors that it makes, and as many members as there can be but for one that it merged
-pub record Made (s : Index) (c : CoreCall) (new : Index) : Type 0 where
-  pub anchors : anchors_in (world new) ≡ anchors_made s c
-  pub most : members_most (world new) ≡ most_after (members_most (world s)) (anchors_in (world s)) (anchors_in (world new))
-
-same_made : (s : Index) (c : CoreCall) (new : Index) → anchors_in (world s) ≡ anchors_made s c → HasSameList s new → members_most (world new) ≡ members_most (world s) → Made s c new
-same_made s c new made same most =
-    let anchors : anchors_in (world new) ≡ anchors_in (world s) = ap anchors_of same in
-    record { anchors = anchors ∙ made; most = most ∙ same_most (members_most (world s)) _ _ anchors }
-
-put_made : (s : Index) (name : List ℕ) (value limit : ℕ) (new : Index) → SplitsFor (call.Put name value limit) s new → members_most (world new) ≡ members_most (world s) → Made s (call.Put name value limit) new
-put_made s name value limit new cut most = record {
-  anchors = cut.1;
-  most = most
-      ∙ sym (ap (most_after (members_most (world s)) (anchors_in (world s))) cut.1 ∙ put_keeps_most s.layout.slots (members_most (world s)) (map_of_index s) (anchors_in (world s)) name);
-}
-
-del_made : (s : Index) (name : List ℕ) (limit : ℕ) (new : Index) → AreAnchors (anchors_in (world s)) → MergesFor (call.Del name limit) s new → Made s (call.Del name limit) new
-del_made s name limit new are merge =
-    let fewer = del_takes_one s.layout.slots (map_of_index s) (anchors_in (world s)) name are merge.0.0 in
-    let now = ap length merge.1 in
-    let most = merge.2 in
-    record { anchors = merge.1; most = omega arith }
-
-made : (s : Index) (c : CoreCall) (new : Index) (placed : Placed) → IsIndex s → IsQuiet s → IsUnlimited c → 0 < calls_left_of s → LeavesList c (whole.Placed placed) s new → LeavesMost c s new → Made s c new
-made s (call.Put name value limit) new placed is quiet unlimited left list most =
-    let same : members_most (world new) ≡ members_most (world s) = ⊎_elim (λ (same : members_most (world new) ≡ members_most (world s)). same) (λ (merge : ⊥). absurd merge) most in
-    ⊎_elim
+made : (s : Index) (c : CoreCall) (new : Index) (placed : Placed) → IsIndex s → IsUnlimited c → 0 < calls_left_of s → LeavesList c (whole.Placed placed) s new → anchors_in (world new) ≡ anchors_made s c
+made s (call.Put name value limit) new placed is unlimited left list = ⊎_elim
     (λ (kept : HasSameList s new × SplitsNothing (call.Put name value limit) s × Unit {0}).
-    same_made s (call.Put name value limit) new (sym (put-stays s.layout.slots (map_of_index s) (anchors_in (world s)) name kept.1)) kept.0 same)
-    (λ (changed : SplitsFor (call.Put name value limit) s new ⊎ ⊥). ⊎_elim (λ (cut : SplitsFor (call.Put name value limit) s new). put_made s name value limit new cut same) (λ (merge : ⊥). absurd merge) changed)
+    same_made s (call.Put name value limit) new (sym (put-stays s.layout.slots (map_of_index s) (anchors_in (world s)) name kept.1)) kept.0)
+    (λ (changed : SplitsFor (call.Put name value limit) s new ⊎ ⊥). ⊎_elim (λ (cut : SplitsFor (call.Put name value limit) s new). cut.1) (λ (merge : ⊥). absurd merge) changed)
     list
-made s (call.Get name) new placed is quiet unlimited left list most =
-    let same : members_most (world new) ≡ members_most (world s) = ⊎_elim (λ (same : members_most (world new) ≡ members_most (world s)). same) (λ (merge : ⊥). absurd merge) most in
-    ⊎_elim
-    (λ (kept : HasSameList s new × Unit {0} × Unit {0}). same_made s (call.Get name) new refl kept.0 same)
+made s (call.Get name) new placed is unlimited left list = ⊎_elim
+    (λ (kept : HasSameList s new × Unit {0} × Unit {0}). same_made s (call.Get name) new refl kept.0)
     (λ (changed : ⊥ ⊎ ⊥). ⊎_elim (λ (cut : ⊥). absurd cut) (λ (merge : ⊥). absurd merge) changed)
     list
-made s (call.Part low count) new placed is quiet unlimited left list most = absurd unlimited
-made s (call.Recheck node version) new placed is quiet unlimited left list most = absurd unlimited
-made s (call.Del name limit) new placed is quiet unlimited left list most =
-    let merged = del_made s name limit new (idle_has_shape (world s) is.lawful (quiet_parties s quiet)).0.ordered in
-    ⊎_elim
+made s (call.Part low count) new placed is unlimited left list = absurd unlimited
+made s (call.Recheck node version) new placed is unlimited left list = absurd unlimited
+made s (call.Del name limit) new placed is unlimited left list = ⊎_elim
     (λ (kept : HasSameList s new × Unit {0} × MergesNothing (call.Del name limit) s).
     let stays : merges s.layout.slots (map_of_index s) (anchors_in (world s)) name ≡ false =
     ⊎_elim (λ (none : merges s.layout.slots (map_of_index s) (anchors_in (world s)) name ≡ false). none) (λ (worn : NextIsWorn (world s) name). absurd (next_unworn s name is left worn)) kept.2 in
-    ⊎_elim
-    (λ (same : members_most (world new) ≡ members_most (world s)). same_made s (call.Del name limit) new (sym (del-stays s.layout.slots (map_of_index s) (anchors_in (world s)) name stays)) kept.0 same)
-    (λ (merge : MergesFor (call.Del name limit) s new). merged merge)
-    most)
-    (λ (changed : ⊥ ⊎ MergesFor (call.Del name limit) s new). ⊎_elim (λ (cut : ⊥). absurd cut) (λ (merge : MergesFor (call.Del name limit) s new). merged merge) changed)
+    same_made s (call.Del name limit) new (sym (del-stays s.layout.slots (map_of_index s) (anchors_in (world s)) name stays)) kept.0)
+    (λ (changed : ⊥ ⊎ MergesFor (call.Del name limit) s new). ⊎_elim (λ (cut : ⊥). absurd cut) (λ (merge : MergesFor (call.Del name limit) s new). merge.1) changed)
     list
 
--- one that finds no room is a put, and merges nothing
-full_most : (s : Index) (c : CoreCall) (new : Index) → FindsNoRoom c s → LeavesMost c s new → members_most (world new) ≡ members_most (world s)
-full_most s (call.Put name value limit) new none most = ⊎_elim (λ (same : members_most (world new) ≡ members_most (world s)). same) (λ (merge : ⊥). absurd merge) most
-full_most s (call.Get name) new none most = absurd none
-full_most s (call.Del name limit) new none most = absurd none
-full_most s (call.Part low count) new none most = absurd none
-full_most s (call.Recheck node version) new none most = absurd none
-
 -- what a whole call that was answered so says of room and of the shape
-pub told_placed : (s : Index) (c : CoreCall) (new : Index) (r : Whole) (placed : Placed) → IsIndex s → IsQuiet s → IsUnlimited c → 0 < calls_left_of s → r ≡ whole.Placed placed → {caller : ℕ} → RunsAlone s caller c new r →
-    (FindsNoRoom c s → ⊥) × Made s c new
-told_placed s c new r placed index quiet unlimited left is {caller} runs =
+pub told_placed : (s : Index) (c : CoreCall) (new : Index) (r : Whole) (placed : Placed) → IsIndex s → IsUnlimited c → 0 < calls_left_of s → r ≡ whole.Placed placed → {caller : ℕ} → RunsAlone s caller c new r →
+    (FindsNoRoom c s → ⊥) × (anchors_in (world new) ≡ anchors_made s c)
+told_placed s c new r placed index unlimited left is {caller} runs =
     let run : RunsAlone s caller c new (whole.Placed placed) = subst (RunsAlone s caller c new) is runs in
-    (run.answer.1.2, made s c new placed index quiet unlimited left run.list run.most)
+    (run.answer.1.2, made s c new placed index unlimited left run.list)
 
-pub told_full : (s : Index) (c : CoreCall) (new : Index) (r : Whole) → r ≡ whole.Full → {caller : ℕ} → RunsAlone s caller c new r → FindsNoRoom c s × (anchors_in (world new) ≡ anchors_in (world s)) × (members_most (world new) ≡ most_after (members_most (world s)) (anchors_in (world s)) (anchors_in (world new)))
+pub told_full : (s : Index) (c : CoreCall) (new : Index) (r : Whole) → r ≡ whole.Full → {caller : ℕ} → RunsAlone s caller c new r → FindsNoRoom c s × (anchors_in (world new) ≡ anchors_in (world s))
 told_full s c new r is {caller} runs =
     let run : RunsAlone s caller c new whole.Full = subst (RunsAlone s caller c new) is runs in
-    let same : anchors_in (world new) ≡ anchors_in (world s) = ap anchors_of run.list in
-    (run.answer.2, same, full_most s c new run.answer.2 run.most ∙ same_most (members_most (world s)) _ _ same)
-
--- a put that takes place leaves as many members as there can be
-pub put_takes_none : (s s' : Index) (name : List ℕ) → anchors_in (world s') ≡ put_anchors s.layout.slots (map_of_index s) (anchors_in (world s)) name →
-    members_most (world s') ≡ most_after (members_most (world s)) (anchors_in (world s)) (anchors_in (world s')) → members_most (world s') ≡ members_most (world s)
-put_takes_none s s' name made most =
-    most ∙ ap (most_after (members_most (world s)) (anchors_in (world s))) made
-    ∙ put_keeps_most s.layout.slots (members_most (world s)) (map_of_index s) (anchors_in (world s)) name
+    (run.answer.2, ap anchors_of run.list)
 
 -- with no call in flight it has a shape that its members can have
-pub core_shape : (s : Index) (names : ℕ) → IsCoreMap s names → IsShape s.layout.slots (members_most (world s)) (map_of_index s) (anchors_in (world s))
-core_shape s names is = (idle_has_shape (world s) is.index.lawful (quiet_parties s is.quiet)).0
+pub core_shape : (s : Index) (names : ℕ) → IsCoreMap s names → IsShape s.layout.slots s.layout.nodes (map_of_index s) (anchors_in (world s))
+core_shape s names is =
+    let shape = (idle_has_shape (world s) is.index.lawful (quiet_parties s is.quiet)).0 in
+    let few = shape.few in
+    record { ordered = shape.ordered; few = omega arith; fits = shape.fits }
 
 -- of what is left for writes a call takes one at most, for its write
 few_writes : (c : CoreCall) (r : Whole) (caller index : ℕ) → length (alone_writes caller index c r) ≤ most_writes c
@@ -338,18 +303,18 @@ writes_fall s s' c r caller runs spare =
 -- ---- parts of scans
 
 -- where calls are left a part is done
-pub part_goes_through : (s : Index) (low : List ℕ) (count : ℕ) (new : Index) (r : Once PartWords) → IsIndex s → 0 < calls_left_of s → IsWholeAnswer s (call.Part low count) new (part_whole r) →
+pub part_goes_through : (s : Index) (i : ℕ) (low : List ℕ) (count : ℕ) (new : Index) (r : Once PartWords) → IsIndex s → 0 < calls_left_of s → IsWholeAnswer 1 s i (call.Part low count) new (part_whole r) →
     ((clock : ℕ) × (r ≡ once.Spent clock)) ⊎ (((node : ℕ) × (word : ℕ) × (r ≡ once.Worn node word)) ⊎ ((why : Again) × (r ≡ once.Again why))) → ⊥
-part_goes_through s low count new r is left answer = ⊎_elim
+part_goes_through s i low count new r is left answer = ⊎_elim
     (λ (late : (clock : ℕ) × (r ≡ once.Spent clock)). (at late.1).1)
     (λ (rest : ((node : ℕ) × (word : ℕ) × (r ≡ once.Worn node word)) ⊎ ((why : Again) × (r ≡ once.Again why))). ⊎_elim
     (λ (worn : (node : ℕ) × (word : ℕ) × (r ≡ once.Worn node word)). is_worn worn.0 worn.1 (at worn.2))
     (λ (turned : (why : Again) × (r ≡ once.Again why)). (at turned.1).2)
     rest)
   where
-    at : {o : Once PartWords} → r ≡ o → IsWholeAnswer s (call.Part low count) new (part_whole o)
-    at same = subst (λ (o : Once PartWords). IsWholeAnswer s (call.Part low count) new (part_whole o)) same answer
+    at : {o : Once PartWords} → r ≡ o → IsWholeAnswer 1 s i (call.Part low count) new (part_whole o)
+    at same = subst (λ (o : Once PartWords). IsWholeAnswer 1 s i (call.Part low count) new (part_whole o)) same answer
 
-    is_worn : (node word : ℕ) → IsWornNode s (call.Part low count) new node word → ⊥
+    is_worn : (node word : ℕ) → IsWornNode 1 s i (call.Part low count) new node word → ⊥
     is_worn node word (inl first) = unworn s (call.Part low count) is left first.0
-    is_worn node word (inr split) = split.0
+    is_worn node word (inr again) = again.0

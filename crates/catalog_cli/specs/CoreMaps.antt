@@ -7,10 +7,11 @@ use Rattle.index_core.specs.declared.party.CoreCall.{CoreCall}
 use Rattle.index_core.specs.declared.party.CoreCall.TheVariants as call
 use Rattle.index_core.specs.Indexes.{Index, IsIndex, map_of_index, world}
 use Rattle.index_core.specs.Lone.{IsQuiet, locks_left}
+use Rattle.index_core.specs.Fulls.{HasLowStamps}
 
--- How many more calls it can have: each takes two locks of each node at most.
+-- How many more calls it can have: each takes four locks of each node at most.
 abbrev pub calls_left_of : Index → ℕ
-calls_left_of s = locks_left s / 2
+calls_left_of s = locks_left s / 4
 
 -- How many more of them can be puts and deletes: each places one write at most, and finds the clock below 2^62.
 abbrev pub writes_left_of : Index → ℕ
@@ -32,8 +33,9 @@ anchors_made s (call.Del name limit) = del_anchors s.layout.slots (map_of_index 
 anchors_made s (call.Part low count) = anchors_in (world s)
 anchors_made s (call.Recheck node version) = anchors_in (world s)
 
--- Between two calls none is in flight, and the names are counted.
+-- Between two calls none is in flight, no node has a stamp that turns don't release, and the names are counted.
 pub record IsCoreMap (s : Index) (names : ℕ) : Type 0 where
   pub index : IsIndex s
   pub quiet : IsQuiet s
+  pub stamps : HasLowStamps s
   pub counted : names ≡ len (map_of_index s)

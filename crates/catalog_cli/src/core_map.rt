@@ -11,9 +11,10 @@ ghost use Rattle.node_ops.specs.Asked.{name_asked};
 ghost use Rattle.index_core.specs.CoreCalls.{most_writes, op_of};
 ghost use Rattle.index_core.specs.Indexes.{IsIndex, map_of_index, world};
 ghost use Rattle.index_core.specs.Listings.{ListsRange};
+ghost use Rattle.index_core.specs.Fulls.{HasLowStamps};
 ghost use Rattle.index_core.specs.Lone.{IsQuiet};
-ghost use Rattle.index_law.specs.Anchors.{anchors_in, members_most};
-ghost use Rattle.shapes.specs.Anchors.{most_after, next_of};
+ghost use Rattle.index_law.specs.Anchors.{anchors_in};
+ghost use Rattle.shapes.specs.Anchors.{next_of};
 ghost use Rattle.shapes.specs.ShapeRounds.{PutsFull};
 ghost use Rattle.catalog_cli.specs.CoreMaps.{IsUnlimited, anchors_made, calls_left_of, writes_left_of};
 
@@ -67,8 +68,8 @@ impl<L: Ledger> CoreMap<L> {
         ensures empty { IfOk result (λ map. map_of_index map ≡ empty) }
         ensures anchors { IfOk result (λ map. anchors_in (world map) ≡ [] ∷ []) }
         ensures slots { IfOk result (λ map. map.layout.slots ≡ layout.slots) }
-        ensures most { IfOk result (λ map. members_most (world map) ≡ layout.nodes) }
-        ensures calls_left { IfOk result (λ map. calls_left_of map ≡ LAST_COUNT / 2) }
+        ensures most { IfOk result (λ map. map.layout.nodes ≡ layout.nodes) }
+        ensures calls_left { IfOk result (λ map. calls_left_of map ≡ LAST_COUNT / 4) }
         ensures writes_left { IfOk result (λ map. writes ≤ writes_left_of map) }
     {
         let mut core = Core::fresh(alloc, layout)?;
@@ -83,7 +84,7 @@ impl<L: Ledger> CoreMap<L> {
 
 impl<L: Ledger> NameMap for CoreMap<L> {
     ghost use Rattle.index_core.specs.Indexes.{map_of_index, world};
-    ghost use Rattle.index_law.specs.Anchors.{anchors_in, members_most};
+    ghost use Rattle.index_law.specs.Anchors.{anchors_in};
     ghost use Rattle.catalog_cli.specs.CoreMaps.{calls_left_of, writes_left_of};
 
     ghost contents = { map_of_index };
@@ -92,7 +93,7 @@ impl<L: Ledger> NameMap for CoreMap<L> {
 
     ghost slots = { λ map. map.layout.slots };
 
-    ghost most = { λ map. members_most (world map) };
+    ghost most = { λ map. map.layout.nodes };
 
     ghost calls_left = { calls_left_of };
 
@@ -162,22 +163,22 @@ fn call_alone<L: Ledger>(
 ) -> Result<Option<u64>, Full>
     requires index { IsIndex core.old }
     requires quiet { IsQuiet core.old }
+    requires stamps { HasLowStamps core.old }
     requires unlimited { IsUnlimited call }
     requires calls_left { 0 < calls_left_of core.old }
     requires writes_left { most_writes call ≤ writes_left_of core.old }
     ensures old { IfOk result (λ old. old ≡ at (map_of_index core.old) (name_asked (op_of call))) }
     ensures ok { OnOk result (map_of_index core.new ≡ pended (change_of (op_of call)) (map_of_index core.old)) }
     ensures anchors { OnOk result (anchors_in (world core.new) ≡ anchors_made core.old call) }
-    ensures full { IsErr result ↔ PutsFull core.old.layout.slots (members_most (world core.old))
-        (map_of_index core.old) (anchors_in (world core.old)) (as_op (op_of call)) }
+    ensures full { IsErr result ↔ PutsFull core.old.layout.slots core.old.layout.nodes (map_of_index core.old)
+        (anchors_in (world core.old)) (as_op (op_of call)) }
     ensures err { OnErr result (map_of_index core.new ≡ map_of_index core.old) }
     ensures err_anchors { OnErr result (anchors_in (world core.new) ≡ anchors_in (world core.old)) }
-    ensures most { members_most (world core.new) ≡ most_after (members_most (world core.old))
-        (anchors_in (world core.old)) (anchors_in (world core.new)) }
     ensures layout { core.new.layout ≡ core.old.layout }
     ensures calls_left { calls_left_of core.old ≤ calls_left_of core.new + 1 }
     ensures writes_left { writes_left_of core.old ≤ writes_left_of core.new + most_writes call }
     ensures quiet { IsQuiet core.new }
+    ensures stamps { HasLowStamps core.old → HasLowStamps core.new }
     ensures index { IsIndex core.new }
 {
     match core.name_alone(CALLER, call, steps) {
@@ -199,11 +200,11 @@ fn list_alone<L: Ledger>(core: &mut Core, low: &Name, count: u64, steps: &mut St
     ensures lists { ListsRange (map_of_index core.old) low.now count result }
     ensures map { map_of_index core.new ≡ map_of_index core.old }
     ensures anchors { anchors_in (world core.new) ≡ anchors_in (world core.old) }
-    ensures most { members_most (world core.new) ≡ members_most (world core.old) }
     ensures layout { core.new.layout ≡ core.old.layout }
     ensures calls_left { calls_left_of core.old ≤ calls_left_of core.new + 1 }
     ensures writes_left { writes_left_of core.old ≤ writes_left_of core.new }
     ensures quiet { IsQuiet core.new }
+    ensures stamps { HasLowStamps core.old → HasLowStamps core.new }
     ensures index { IsIndex core.new }
 {
     match core.part_alone(CALLER, *low, count, steps) {

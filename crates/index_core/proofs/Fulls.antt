@@ -50,7 +50,7 @@ no_room_is_full_put s name value limit is quiet named left low =
     let same = target_has s rest name in
     let counts = nodes_are_counted (world s) is.lawful in (
       (λ none. subst (λ (most : ℕ). IsFullPut s.layout.slots most (map_of_index s) (anchors_in (world s)) name) (most_are_all s left low none.1)
-      (full_is_no_room (world s) name value rest named none.0.0 (same ∙ none.0.1) (none_free s left none.1))),
+          (full_is_no_room (world s) name value rest named none.0.0 (same ∙ none.0.1) (none_free s left none.1))),
       (λ full.
           let few = counts.few in
           let whole = full.no_node in

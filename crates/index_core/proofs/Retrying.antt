@@ -63,7 +63,7 @@ use Rattle.index_core.proofs.Lists.{set_twice}
 use Rattle.index_core.proofs.Quiet.{rests}
 
 -- a node with a stamp is GONE
-stamped_are_gone : (s : Index) → IsLayered (layered s) → (n : ℕ) → stamp_in (world s) n ≢ 0 → (facts (world s)).status n ≡ gone_status
+pub stamped_are_gone : (s : Index) → IsLayered (layered s) → (n : ℕ) → stamp_in (world s) n ≢ 0 → (facts (world s)).status n ≡ gone_status
 stamped_are_gone s is n some_stamp =
     let active = is.active in
     let row = is.rows active.0 active.1 active.2 active.3 in

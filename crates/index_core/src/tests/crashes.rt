@@ -267,7 +267,7 @@ fn a_crash_keeps_the_map_with_what_is_found(rt: HostRuntime) -> Result<(), Fail>
 
 #[test]
 fn a_crash_in_a_split_keeps_the_map(rt: HostRuntime) -> Result<(), Fail> {
-    // The put splits its full node in 220 events, and is then answered without a place.
+    // The put splits its full node in 219 events, and is then answered without a place.
     let split = Case {
         nodes: 2,
         put: true,

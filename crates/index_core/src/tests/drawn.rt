@@ -5,7 +5,7 @@ ghost use Rattle.std.specs.Prelude.{◌≡◌, ◌<◌};
 use super::crashes::{
     NAMES as LETTERS, add_found, evict, is_kept, map_of, name_of as letter_of, with_names,
 };
-use super::merges::{DEL, GET, PUT, gone_nodes};
+use super::merges::{DEL, GET, LIVE, PUT, nodes_with};
 use super::model::{Model, NAMES, count_of, name_of};
 use super::splits::number_at;
 use super::{begin_call, call_of, run, whole};
@@ -78,8 +78,8 @@ fn stands_alike<L: Ledger>(
     Ok(alike)
 }
 
-/// Whether so many drawn calls, on so many nodes of four slots, are answered as by the model, which has as many nodes
-/// GONE at the end.
+/// Whether so many drawn calls, on so many nodes of four slots, are answered as by the model, which has as many members
+/// at the end as nodes are LIVE.
 fn run_alike<L: Ledger>(
     alloc: Global,
     nodes: u64,
@@ -97,7 +97,7 @@ fn run_alike<L: Ledger>(
             alike = alike && stands_alike(alloc, &mut core, &mut model, steps)?;
         }
     }
-    Ok(alike && count_of(gone_nodes(core)) == nodes.saturating_sub(model.most()))
+    Ok(alike && count_of(nodes_with(core, LIVE)) == model.members())
 }
 
 /// The first sequence that the model answers otherwise, of fifty of two hundred calls, and then of one of ten thousand on

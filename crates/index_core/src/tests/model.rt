@@ -63,8 +63,8 @@ struct Member {
 #[derive(Drop)]
 pub(super) struct Model {
     slots: u64,
-    /// How many members there can be: one that was merged into another doesn't come back.
-    most: u64,
+    /// How many members there can be.
+    nodes: u64,
     members: Vec<Member>,
     map: PlainMap,
     writes: u64,
@@ -77,16 +77,16 @@ impl Model {
         members.push(Member { first: 0, names: 0 })?;
         Ok(Model {
             slots,
-            most: nodes,
+            nodes,
             members,
             map: PlainMap::new(alloc, NAMES)?,
             writes: 0,
         })
     }
 
-    /// How many members there can be.
-    pub(super) fn most(&self) -> u64 {
-        self.most
+    /// How many members there are.
+    pub(super) fn members(&self) -> u64 {
+        self.members.len() as u64
     }
 
     /// What a put of this number, a get or a delete is answered; None where it finds no room.
@@ -172,7 +172,7 @@ impl Model {
         if count_of(names) < self.slots {
             return Ok(true);
         }
-        if self.members.len() as u64 >= self.most {
+        if self.members() >= self.nodes {
             return Ok(false);
         }
         let lower = lowest_of(names, self.slots / 2);
@@ -231,7 +231,6 @@ impl Model {
         }
         self.members = members;
         self.set_names(target, joined);
-        self.most = self.most.saturating_sub(1);
         Ok(())
     }
 }

@@ -2,6 +2,7 @@
 
 ghost use Rattle.std.specs.Prelude.{◌≡◌, ◌<◌, ◌≤◌, IfOk};
 ghost use Rattle.index_core.specs.CoreCalls.{MayBegin, most_writes};
+ghost use Rattle.index_core.specs.Lone.{IsQuiet};
 
 use super::crashes::{NAMES, apply, is_kept, map_of, name_of, with_names};
 use super::{LIMIT, MANY, begin_call, call_of, placed, run};
@@ -53,7 +54,7 @@ fn on_two_nodes<L: Ledger>(alloc: Global, blank: Blank) -> Result<[Option<[u64; 
 #[test]
 fn a_full_node_is_split_while_one_is_free(rt: HostRuntime) -> Result<(), Fail> {
     // The fifth name splits the first node, which keeps `a` and `b`; the second one then fills up with `c` to `f`, and
-    // `g` finds no node FREE.
+    // `g` finds no node FREE, nor one that a turn of the updater could free.
     let found = on_two_nodes::<Brand>(rt.alloc(), Blank::new(1))?;
     assert_eq!(rt;
         found,
@@ -184,5 +185,88 @@ fn first_disagreed<L: Ledger>(alloc: Global, blank: Blank) -> Result<Option<u64>
 fn calls_beside_a_split_answer_as_the_plain_map(rt: HostRuntime) -> Result<(), Fail> {
     let found = first_disagreed::<Brand>(rt.alloc(), Blank::new(1))?;
     assert_eq!(rt; found, None);
+    Ok(())
+}
+
+/// The name `n` with two digits.
+fn numbered(number: u64) -> Result<Name, Fail> {
+    let [tens, ones] = [number / 10 % 10, number % 10];
+    let bytes = [b'n', 0x30 + tens as u8, 0x30 + ones as u8];
+    Ok(Name::read(&bytes).ok().ok_or("a name")?)
+}
+
+/// The place of a put of the name of this number.
+fn place_of<L: Ledger>(core: &mut Core, number: u64, steps: &mut Steps<L>) -> Result<u64, Fail>
+    requires { IsQuiet core.old }
+    ensures { IsQuiet core.new }
+{
+    core.reserve(1)?;
+    let call = CoreCall::Put {
+        name: numbered(number)?,
+        value: number,
+        limit: LIMIT,
+    };
+    if core.layout().callers() == 0 {
+        return Err("no caller")?;
+    }
+    match core.run_alone(0, call, steps) {
+        Whole::Placed(placed) => Ok(placed.place),
+        _ => Err("a put takes place")?,
+    }
+}
+
+/// How many names the part of a scan from this name on lists, and where the next one begins.
+fn part_from<L: Ledger>(
+    core: &mut Core,
+    low: Name,
+    steps: &mut Steps<L>,
+) -> Result<(u64, Option<Name>), Fail>
+    requires { IsQuiet core.old }
+    ensures { IsQuiet core.new }
+{
+    if core.layout().callers() == 0 {
+        return Err("no caller")?;
+    }
+    match core.run_alone(0, CoreCall::Part { low, count: 24 }, steps) {
+        Whole::Part(words) => Ok((words.len, words.high)),
+        _ => Err("a part takes place")?,
+    }
+}
+
+/// How many names each part of a scan lists, once 24 names were put in rising order on 64 nodes of four slots, each at
+/// the place of its number.
+fn parts_of_rising_names<L: Ledger>(alloc: Global, blank: Blank) -> Result<Vec<u64>, Fail>
+    requires name { blank.name ≡ L.name }
+    requires parts { (blank.parts ≡ L.parts) × (0 < L.parts) }
+{
+    let (book, share) = blank.open::<L>();
+    let mut steps = Steps::new(book, share);
+    let mut core = Core::fresh(alloc, Layout::new(64, 4, 1)?)?;
+    for number in 0..24 {
+        if place_of(&mut core, number, &mut steps)? != number {
+            return Err("another place")?;
+        }
+    }
+    let mut lens = Vec::new(alloc);
+    let mut low = Some(numbered(0)?);
+    for _part in 0..64 {
+        let Some(name) = low else {
+            break;
+        };
+        let (len, high) = part_from(&mut core, name, &mut steps)?;
+        lens.push(len)?;
+        low = high;
+    }
+    Ok(lens)
+}
+
+#[test]
+fn the_ninth_split_of_a_caller_makes_a_turn(rt: HostRuntime) -> Result<(), Fail> {
+    // The caller has eight log lines, and each of the ten splits leaves one READY.
+    let lens = parts_of_rising_names::<Brand>(rt.alloc(), Blank::new(1))?;
+    assert_eq!(rt;
+        lens.as_slice(),
+        [2, 2, 2, 2, 2, 2, 2, 2, 2, 2, 4].as_slice()
+    );
     Ok(())
 }

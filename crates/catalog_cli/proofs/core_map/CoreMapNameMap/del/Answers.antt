@@ -8,9 +8,9 @@ overflow_sub-self g c = told_name c.self.inside.core c.args.name.now c.self.insi
 pub invariant_of-self : goal.invariant_of-self
 invariant_of-self g c =
     removal_counted c.self.inside.core c.call_alone.new.core c.args.name.now c.self.inside.names _ c.in-Ok.old _ c.self.invariant c.call_alone.ensures.index
-    c.call_alone.ensures.quiet c.in-Ok.ensures.old c.in-Ok.ensures.ok (sym c.if-is_some.ensures) refl
+    c.call_alone.ensures.quiet (c.call_alone.ensures.stamps c.self.invariant.stamps) c.in-Ok.ensures.old c.in-Ok.ensures.ok (sym c.if-is_some.ensures) refl
 
 pub invariant_of-self-else-is_some : goal.invariant_of-self-else-is_some
 invariant_of-self-else-is_some g c =
     removal_counted c.self.inside.core c.call_alone.new.core c.args.name.now c.self.inside.names _ c.in-Ok.old _ c.self.invariant c.call_alone.ensures.index
-    c.call_alone.ensures.quiet c.in-Ok.ensures.old c.in-Ok.ensures.ok (sym c.if-is_some.ensures) refl
+    c.call_alone.ensures.quiet (c.call_alone.ensures.stamps c.self.invariant.stamps) c.in-Ok.ensures.old c.in-Ok.ensures.ok (sym c.if-is_some.ensures) refl

@@ -1,7 +1,5 @@
-use Rattle.std.proofs.Common.{refl, ap, ◌∙◌, arith}
-use Rattle.index_core.specs.Indexes.{world}
-use Rattle.index_law.specs.Anchors.{members_most}
-use Rattle.catalog_cli.proofs.CoreMaps.{few_names, put_counted, put_takes_none}
+use Rattle.std.proofs.Common.{refl, arith}
+use Rattle.catalog_cli.proofs.CoreMaps.{few_names, put_counted}
 use Rattle.catalog_cli.proofs.core_map.CoreMapNameMap.put.Goals as goal
 
 pub overflow_add-self : goal.overflow_add-self
@@ -10,15 +8,9 @@ overflow_add-self g c = let few = few_names c.self.inside.core c.self.inside.nam
 pub invariant_of-self-then-is_none : goal.invariant_of-self-then-is_none
 invariant_of-self-then-is_none g c =
     put_counted c.self.inside.core c.call_alone.new.core c.args.name.now c.args.value c.self.inside.names _ c.in_ok-old.old _ c.self.invariant c.call_alone.ensures.index
-    c.call_alone.ensures.quiet c.in_ok-old.ensures.old c.in_ok-old.ensures.ok c.if-is_none.ensures refl
+    c.call_alone.ensures.quiet (c.call_alone.ensures.stamps c.self.invariant.stamps) c.in_ok-old.ensures.old c.in_ok-old.ensures.ok c.if-is_none.ensures refl
 
 pub invariant_of-self-else-is_none : goal.invariant_of-self-else-is_none
 invariant_of-self-else-is_none g c =
     put_counted c.self.inside.core c.call_alone.new.core c.args.name.now c.args.value c.self.inside.names _ c.in_ok-old.old _ c.self.invariant c.call_alone.ensures.index
-    c.call_alone.ensures.quiet c.in_ok-old.ensures.old c.in_ok-old.ensures.ok c.if-is_none.ensures refl
-
--- a put takes no member away
-pub returns-then-is_none-clause-most : goal.returns-then-is_none-clause-most
-returns-then-is_none-clause-most g c =
-    put_takes_none c.self.inside.core c.call_alone.new.core c.args.name.now c.in_ok-old.ensures.anchors c.call_alone.ensures.most
-    ∙ ap (λ s. members_most (world s)) c.self.view_is
+    c.call_alone.ensures.quiet (c.call_alone.ensures.stamps c.self.invariant.stamps) c.in_ok-old.ensures.old c.in_ok-old.ensures.ok c.if-is_none.ensures refl
