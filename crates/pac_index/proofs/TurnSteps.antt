@@ -1,13 +1,12 @@
 -- Each step of a turn keeps the table's rule, by the core's law on a step of a party's turn.
 use Rattle.std.proofs.Common.{◌≡◌, ℕ, ◌+◌, ◌<◌, ◌^◌, List, [], ◌∷◌, ◌++◌, set, refl, sym, ap, ◌∙◌, subst, arith}
-use Rattle.std.specs.Prelude.{Option, Some, None, IfSome, slice_index, true}
+use Rattle.std.specs.Prelude.{Option, Some, None, IfSome, slice_index}
 use mathlib.Core.Option.{some}
 use lib.ListN.{get_elem?}
 use Rattle.cat_history.specs.declared.op.Write.{Write}
 use Rattle.pm_words.specs.declared.machine.Turn.{Turn}
 use Rattle.pm_words.specs.declared.machine.Turn.TheVariants.{Go, Done}
 use Rattle.pm_words.specs.Rows.{given, action_address, word_after, CanChange}
-use Rattle.call_stages.specs.Leaving.{leaves_lines}
 use Rattle.updater.specs.declared.making.MakeTurn.{MakeTurn}
 use Rattle.updater.specs.declared.making.TurnReply.{TurnReply}
 use Rattle.updater.specs.Makings.{making_from, making_asks, making_turned}
@@ -105,15 +104,15 @@ turn_allows about words slots id me making lone is within = (
 )
 
 -- the parties and the views once a party has begun its turn
-begun : (about : About) (id : ℕ) (v : Member) (s : State (Unit {0}) (List Member)) (kept : Kept about s) → leaves_lines ≡ true → get_elem? s.views id ≡ some (v ∷ []) → v.state.turn ≡ None
+begun : (about : About) (id : ℕ) (v : Member) (s : State (Unit {0}) (List Member)) (kept : Kept about s) → get_elem? s.views id ≡ some (v ∷ []) → v.state.turn ≡ None
     → Kept about (record { words = s.words; homes = s.homes; views = set s.views id (turning v ∷ []) })
-begun about id v s kept leaves at rests =
+begun about id v s kept at rests =
     let h = kept.history in
     let old = index_of about s.words kept.states h in
     let own = kept.fits id (v ∷ []) at 0 v refl in
     let c = v.state.caller in
     let u = turning v in
-    let index = turn_begins old c v.state 1 1 leaves kept.index own.there rests (omega arith) (omega arith) in
+    let index = turn_begins old c v.state 1 1 kept.index own.there rests (omega arith) (omega arith) in
     let path : Path Index (turn_begun old c v.state 1 1) (index_of about s.words (set kept.states c u.state) h) =
     λ k. record { layout = about.layout; generation = about.generation; words = s.words; states = set kept.states c (record v.state { turn = Some (making_from (sym own.same k).layout (sym own.same k).generation 1 1) }); base = about.base; history = h; spare = 0 } in
     let fit : Fits about (set kept.states c u.state) h u = record { same = own.same; there = set_here kept.states c u.state v.state own.there; seen = own.seen; own = own.own } in
@@ -122,9 +121,9 @@ begun about id v s kept leaves at rests =
     moved about id v u s.words h s kept at refl (subst IsIndex path index) fit (λ d other. stayed about kept.states h c u.state d other) (omega arith)
 
 -- the same where the step begins the turn
-pub turn_allows_first : (about : About) (words slots id : ℕ) (me : Me (Unit {0}) (List Member)) → leaves_lines ≡ true → IsLone me → (party me).state.turn ≡ None → action_address about.layout (making_asks (turn_in (party me))) < words
+pub turn_allows_first : (about : About) (words slots id : ℕ) (me : Me (Unit {0}) (List Member)) → IsLone me → (party me).state.turn ≡ None → action_address about.layout (making_asks (turn_in (party me))) < words
     → May about words slots id me (making_asks (turn_in (party me))) StartsTurn
-turn_allows_first about words slots id me leaves lone rests within = (
+turn_allows_first about words slots id me lone rests within = (
   within,
   λ f told same tells s kept count at fits.
       let v = party me in
@@ -132,7 +131,7 @@ turn_allows_first about words slots id me leaves lone rests within = (
       let at' = at ∙ ap (λ (q : Me (Unit {0}) (List Member)). some q.0) lone in
       let u = turning v in
       let s' : State (Unit {0}) (List Member) = record { words = s.words; homes = s.homes; views = set s.views id (u ∷ []) } in
-      let kept' : Kept about s' = begun about id v s kept leaves at' rests in
+      let kept' : Kept about s' = begun about id v s kept at' rests in
       let place = action_address about.layout (making_asks making) in
       let n = slice_index s.words place in
       let d = done about id u making f refl same s' kept' (set_here s.views id (u ∷ []) me.0 at) fits in (

@@ -1,7 +1,6 @@
 //! Calls that are made again until they take place, which may wait for a node that another caller holds.
 
-ghost use Rattle.std.specs.Prelude.{◌≡◌, ◌≤◌, ◌<◌, true};
-ghost use Rattle.call_stages.specs.Leaving.{leaves_lines};
+ghost use Rattle.std.specs.Prelude.{◌≡◌, ◌≤◌, ◌<◌};
 ghost use Rattle.call_stages.specs.declared.once.Once.TheVariants as once;
 ghost use Rattle.updater.specs.declared.making.TurnReply.TheVariants as reply;
 ghost use Rattle.index_core.specs.declared.party.CoreCall.TheVariants as call;
@@ -74,7 +73,6 @@ impl Shared {
     pub fn turn<R: Wait>(&self, rt: &R, caller: &mut Caller) -> Ended<Turned>
         requires caller { IsCallerOf self.now caller.old }
         requires updater { caller.old.number ≡ self.now.about.layout.callers }
-        requires leaves { leaves_lines ≡ true }
         ensures caller { IsCallerOf self.now caller.new }
         ensures same { (caller.new.number ≡ caller.old.number) × (caller.new.index ≡ caller.old.index) ×
             (caller.new.kept ≡ caller.old.kept) }

@@ -1,8 +1,7 @@
 //! Turns of the updater beside calls.
 
-ghost use Rattle.std.specs.Prelude.{◌≡◌, None, Some, true};
+ghost use Rattle.std.specs.Prelude.{◌≡◌, None, Some};
 ghost use Rattle.pm_words.specs.declared.machine.Turn.TheVariants.{Go};
-ghost use Rattle.call_stages.specs.Leaving.{leaves_lines};
 ghost use Rattle.split_merge.specs.Advances.{turn_of};
 ghost use Rattle.updater.specs.Makings.{IsMaking};
 ghost use Rattle.pac_index.specs.Kept.{IsLone, party};
@@ -21,12 +20,10 @@ use updater::{MakeTurn, TurnReply};
 impl Shared {
     /// One try of a turn of the updater by its caller, the last one, beside the calls of the others: it takes the READY log
     /// lines to the search layer and empties them, and makes merged nodes FREE. `Held` comes exactly where its first
-    /// action finds the updater lock taken. It places no write and counts no call. Turns are for an index whose splits and
-    /// merges leave their log lines to them.
+    /// action finds the updater lock taken. It places no write and counts no call.
     pub fn turn_once(&self, caller: &mut Caller) -> TriedTurn
         requires caller { IsCallerOf self.now caller.old }
         requires updater { caller.old.number ≡ self.now.about.layout.callers }
-        requires leaves { leaves_lines ≡ true }
         ensures caller { IsCallerOf self.now caller.new }
         ensures same { (caller.new.number ≡ caller.old.number) × (caller.new.index ≡ caller.old.index) ×
             (caller.new.kept ≡ caller.old.kept) }
@@ -38,7 +35,6 @@ impl Shared {
     /// One try of a turn, with the gate before its first step and between its steps.
     pub(crate) fn try_turn<G: Gate>(&self, caller: &mut Caller, gate: &G) -> TriedTurn
         requires caller { IsCallerOf self.now caller.old }
-        requires leaves { leaves_lines ≡ true }
         ensures caller { IsCallerOf self.now caller.new }
         ensures same { (caller.new.number ≡ caller.old.number) × (caller.new.index ≡ caller.old.index) ×
             (caller.new.kept ≡ caller.old.kept) }
@@ -59,7 +55,6 @@ impl Shared {
         gate: &G,
     ) -> TurnReply
         requires table { seat.old.table_id ≡ self.now.table.shared.table_id }
-        requires leaves { leaves_lines ≡ true }
         requires lone { IsLone seat.old.me }
         requires about { (party seat.old.me).about ≡ self.now.about }
         requires resting { (party seat.old.me).state.turn ≡ None }
@@ -89,7 +84,6 @@ impl Shared {
         gate: &G,
     ) -> Option<TurnReply>
         requires table { seat.old.table_id ≡ self.now.table.shared.table_id }
-        requires leaves { leaves_lines ≡ true }
         requires lone { IsLone seat.old.me }
         requires about { (party seat.old.me).about ≡ self.now.about }
         requires resting { (party seat.old.me).state.turn ≡ None }

@@ -26,7 +26,7 @@ act-got-requires-clause-allowed g c =
     subst (λ (n : ℕ). address_of v.about.layout Updater < n) (sym s.words)
     (subst (λ (b : About). address_of b.layout Updater < row_words s.about.layout) (sym c.requires.about) within) in
     subst (λ (x : Action). May t.key t.table_id.words t.table_id.slots seat.id seat.me x StartsTurn) (sym action)
-    (turn_allows_first t.key t.table_id.words t.table_id.slots seat.id seat.me c.requires.leaves c.requires.lone c.requires.resting inside)
+    (turn_allows_first t.key t.table_id.words t.table_id.slots seat.id seat.me c.requires.lone c.requires.resting inside)
 
 pub advance-requires : goal.advance-requires
 advance-requires g c =
