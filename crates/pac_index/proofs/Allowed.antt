@@ -109,15 +109,55 @@ moved about id v w words history s kept at caller index fit others weighs =
       weight = let after = added_set s.views id (v ∷ []) (w ∷ []) at in let before = kept.weight in omega arith;
     }
 
--- what a step of the party's machine leaves
-record Stepped (about : About) (s : State (Unit {0}) (List Member)) (id : ℕ) (v : Member) (m : Running) (words : List ℕ) (x : ℕ) : Type 0 where
-  now : Member
-  kept : Kept about (record { words = words; homes = s.homes; views = set s.views id (now ∷ []) })
-  goes : Goes m v x now
+-- What a seat's step with this action leaves of the table's rule: the party that the seat has then, and what that shows.
+pub record Leaves (about : About) (s : State (Unit {0}) (List Member)) (id : ℕ) (action : Action) (f : ℕ → ℕ) (shows : ℕ → Member → Type 0) : Type 0 where
+  pub now : Member
+  pub kept : Kept about (record { words = set s.words (action_address about.layout action) (f (slice_index s.words (action_address about.layout action))); homes = s.homes; views = set s.views id (now ∷ []) })
+  pub goes : shows (given action (slice_index s.words (action_address about.layout action))) now
+
+-- Whatever the table is, the seat may do an action whose steps leave its rule.
+pub may : (about : About) (words slots id : ℕ) (me : Me (Unit {0}) (List Member)) (action : Action) (shows : ℕ → Member → Type 0) (tells : Me (Unit {0}) (List Member) → ℕ → Me (Unit {0}) (List Member) → Type 0) → IsLone me → action_address about.layout action < words
+    → ((found : ℕ) (after : Me (Unit {0}) (List Member)) → IsLone after → shows (given action found) (party after) → tells me found after)
+    → ((f : ℕ → ℕ) → ((n : ℕ) → n < 2 ^ 64 → CanChange action n → f n ≡ word_after action n) → (s : State (Unit {0}) (List Member)) → Kept about s → get_elem? s.views id ≡ some (party me ∷ []) → slice_index s.words (action_address about.layout action) < 2 ^ 64
+    → Leaves about s id action f shows)
+    → May about words slots id me action tells
+may about words slots id me action shows tells lone within tell leaves = (
+  within,
+  λ f told same gives s kept count at fits.
+      let n = slice_index s.words (action_address about.layout action) in
+      let d = leaves f same s kept (at ∙ ap (λ (q : Me (Unit {0}) (List Member)). some q.0) lone) fits in (
+        d.now ∷ [],
+        keeps,
+        tt,
+        d.kept,
+        tell (told n) (d.now ∷ [], me.1) (ap (λ (q : Me (Unit {0}) (List Member)). (d.now ∷ [], q.1)) lone) (subst (λ (x : ℕ). shows x d.now) (sym (gives n)) d.goes),
+      ),
+)
+
+set_twice : (l : List (List Member)) (i : ℕ) (a b : List Member) → set (set l i a) i b ≡ set l i b
+set_twice [] i a b = refl
+set_twice (x ∷ xs) zero a b = refl
+set_twice (x ∷ xs) (suc i) a b = ap (λ (t : List (List Member)). x ∷ t) (set_twice xs i a b)
+
+-- The same where the party begins with the step: its seat has had it as it begins.
+pub leaves_first : (about : About) (s : State (Unit {0}) (List Member)) (id : ℕ) (action : Action) (f : ℕ → ℕ) (begun : Member) (shows shown : ℕ → Member → Type 0) → ((x : ℕ) (w : Member) → shows x w → shown x w)
+    → Leaves about (record { words = s.words; homes = s.homes; views = set s.views id (begun ∷ []) }) id action f shows → Leaves about s id action f shown
+leaves_first about s id action f begun shows shown on d =
+    let place = action_address about.layout action in
+    record {
+      now = d.now;
+      kept = subst (λ (l : List (List Member)). Kept about (record { words = set s.words place (f (slice_index s.words place)); homes = s.homes; views = l })) (set_twice s.views id (begun ∷ []) (d.now ∷ [])) d.kept;
+      goes = on (given action (slice_index s.words place)) d.now d.goes;
+    }
+
+-- a word of the row is one of the table
+pub inside_table : (about key : About) (words : ℕ) (action : Action) → key ≡ about → words ≡ row_words about.layout → action_address about.layout action < row_words about.layout → action_address key.layout action < words
+inside_table about key words action same all within =
+    subst (λ (n : ℕ). action_address key.layout action < n) (sym all) (subst (λ (b : About). action_address b.layout action < row_words about.layout) (sym same) within)
 
 module _ (about : About) (id : ℕ) (v : Member) (m : Running) (f : ℕ → ℕ) (is : v.state.machine ≡ Some m) (same : (n : ℕ) → n < 2 ^ 64 → CanChange (running_asks m) n → f n ≡ word_after (running_asks m) n) where
   done : (s : State (Unit {0}) (List Member)) → Kept about s → get_elem? s.views id ≡ some (v ∷ []) → slice_index s.words (action_address about.layout (running_asks m)) < 2 ^ 64
-      → Stepped about s id v m (set s.words (action_address about.layout (running_asks m)) (f (slice_index s.words (action_address about.layout (running_asks m))))) (given (running_asks m) (slice_index s.words (action_address about.layout (running_asks m))))
+      → Leaves about s id (running_asks m) f (Goes m v)
   done s kept at fits =
       let h = kept.history in
       let old = index_of about s.words kept.states h in
@@ -179,28 +219,13 @@ place_inside l (Drain place value) may = let top = may.0.1 in omega arith
 -- Whatever the table is, the word of the action becomes what the action makes of it.
 pub allows : (about : About) (words slots id : ℕ) (me : Me (Unit {0}) (List Member)) (m : Running) → IsLone me → (party me).state.machine ≡ Some m → action_address about.layout (running_asks m) < words
     → May about words slots id me (running_asks m) Tells
-allows about words slots id me m lone is within = (
-  within,
-  λ f told same tells s kept count at fits.
-      let n = slice_index s.words (action_address about.layout (running_asks m)) in
-      let v = party me in
-      let d = done about id v m f is same s kept (at ∙ ap (λ (q : Me (Unit {0}) (List Member)). some q.0) lone) fits in (
-        d.now ∷ [],
-        keeps,
-        tt,
-        d.kept,
-        (λ m' is'.
-            let one : m ≡ m' = some_same (sym is ∙ is') in (
-              ap (λ (q : Me (Unit {0}) (List Member)). (d.now ∷ [], q.1)) lone,
-              subst (λ (x : Running). Goes x v (given (running_asks x) (told n)) d.now) one (subst (λ (x : ℕ). Goes m v x d.now) (sym (tells n)) d.goes),
-            )),
-      ),
-)
-
-pub set_twice : (l : List (List Member)) (i : ℕ) (a b : List Member) → set (set l i a) i b ≡ set l i b
-set_twice [] i a b = refl
-set_twice (x ∷ xs) zero a b = refl
-set_twice (x ∷ xs) (suc i) a b = ap (λ (t : List (List Member)). x ∷ t) (set_twice xs i a b)
+allows about words slots id me m lone is within =
+    may about words slots id me (running_asks m) (Goes m (party me)) Tells lone within
+    (λ found after alone goes m' is'. (
+      alone,
+      subst (λ (x : Running). Goes x (party me) (given (running_asks x) found) (party after)) (some_same (sym is ∙ is')) goes,
+    ))
+    (λ f same. done about id (party me) m f is same)
 
 -- the parties and the views once a party has begun its call
 begun : (about : About) (id : ℕ) (v : Member) (c : CoreCall) (index : ℕ) (s : State (Unit {0}) (List Member)) (kept : Kept about s) → get_elem? s.views id ≡ some (v ∷ []) → v.state.machine ≡ None → IsRunning (machine_in v c)
@@ -222,34 +247,27 @@ begun about id v c index s kept at idle here =
     let now = ap (λ (q : Running). showing (Some q)) (sym machine) ∙ begins.shows_none in
     moved about id v u s.words h s kept at refl (subst IsIndex path begins.kept) fit (λ d other f. stayed about kept.states h v.state.caller u.state d other f) (omega arith)
 
+-- what the first step of a call shows
+record BeginsWith (c : CoreCall) (index : ℕ) (v : Member) (x : ℕ) (w : Member) : Type 0 where
+  since : ℕ
+  later : length v.seen ≤ since
+  goes : Goes (machine_in v c) (calling v c index since) x w
+
 -- the same where the step begins the call
 pub allows_first : (about : About) (words slots id : ℕ) (me : Me (Unit {0}) (List Member)) (c : CoreCall) (index : ℕ) → IsLone me → (party me).state.machine ≡ None → IsRunning (machine_in (party me) c)
     → action_address about.layout (running_asks (machine_in (party me) c)) < words → May about words slots id me (running_asks (machine_in (party me) c)) (Starts c index)
-allows_first about words slots id me c index lone idle here within = (
-  within,
-  λ f told same tells s kept count at fits.
-      let v = party me in
-      let m = machine_in v c in
-      let at' = at ∙ ap (λ (q : Me (Unit {0}) (List Member)). some q.0) lone in
-      let own = kept.fits id (v ∷ []) at' 0 v refl in
-      let u = calling v c index (length kept.history) in
-      let s' : State (Unit {0}) (List Member) = record { words = s.words; homes = s.homes; views = set s.views id (u ∷ []) } in
-      let kept' : Kept about s' = begun about id v c index s kept at' idle here in
-      let place = action_address about.layout (running_asks m) in
-      let n = slice_index s.words place in
-      let d = done about id u m f refl same s' kept' (set_here s.views id (u ∷ []) me.0 at) fits in (
-        d.now ∷ [],
-        keeps,
-        tt,
-        subst (λ (l : List (List Member)). Kept about (record { words = set s.words place (f n); homes = s.homes; views = l })) (set_twice s.views id (u ∷ []) (d.now ∷ [])) d.kept,
-        record {
-          since = length kept.history;
-          later = begins_le v.seen kept.history own.seen;
-          lone = ap (λ (q : Me (Unit {0}) (List Member)). (d.now ∷ [], q.1)) lone;
-          goes = subst (λ (x : ℕ). Goes m u x d.now) (sym (tells n)) d.goes;
-        },
-      ),
-)
+allows_first about words slots id me c index lone idle here within =
+    let v = party me in
+    let m = machine_in v c in
+    may about words slots id me (running_asks m) (λ x w. BeginsWith c index v x w) (Starts c index) lone within
+    (λ found after alone begins. record { since = begins.since; later = begins.later; lone = alone; goes = begins.goes })
+    (λ f same s kept at fits.
+    let own = kept.fits id (v ∷ []) at 0 v refl in
+    let u = calling v c index (length kept.history) in
+    leaves_first about s id (running_asks m) f u (Goes m u) (λ x w. BeginsWith c index v x w)
+    (λ x w goes. record { since = length kept.history; later = begins_le v.seen kept.history own.seen; goes = goes })
+    (done about id u m f refl same (record { words = s.words; homes = s.homes; views = set s.views id (u ∷ []) })
+    (begun about id v c index s kept at idle here) (set_here s.views id (u ∷ []) (v ∷ []) at) fits))
 
 pub small_mod : (n : ℕ) → n < 2 ^ 63 → (n + 1) % 2 ^ 64 ≡ n + 1
 small_mod n small = omega arith

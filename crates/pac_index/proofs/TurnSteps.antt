@@ -19,12 +19,12 @@ use Rattle.index_core.specs.Indexes.{Index, IsIndex, world}
 use Rattle.index_core.specs.Turns.{turn_begun, turned_index}
 use Rattle.index_core.proofs.Lists.{some_same}
 use Rattle.index_core.proofs.Turning.{parties_same, turns_keep, turn_begins}
-use Rattle.atomic_table.specs.Table.{State, Me, keeps}
+use Rattle.atomic_table.specs.Table.{State, Me}
 use Rattle.pac_index.specs.declared.rule.About.{About}
 use Rattle.pac_index.specs.declared.rule.Member.{Member}
 use Rattle.pac_index.specs.Kept.{index_of, Fits, Kept, May, party, IsLone}
 use Rattle.pac_index.specs.Turns.{turn_in, turning, TurnReady, TurnGoes, TellsTurn, StartsTurn}
-use Rattle.pac_index.proofs.Allowed.{moved, stayed, place_inside, set_twice}
+use Rattle.pac_index.proofs.Allowed.{Leaves, may, leaves_first, moved, stayed, place_inside}
 use Rattle.pac_index.proofs.Lists.{begins_self}
 
 -- A turn in flight of an index is sound, and its next action is on a word of the row.
@@ -35,15 +35,9 @@ ready_after about words states history c e (Go next) index there is = (
 )
 ready_after about words states history c e (Done reply) index there is = tt
 
--- what a step of the party's turn leaves
-record Turned (about : About) (s : State (Unit {0}) (List Member)) (id : ℕ) (v : Member) (making : MakeTurn) (words : List ℕ) (x : ℕ) : Type 0 where
-  now : Member
-  kept : Kept about (record { words = words; homes = s.homes; views = set s.views id (now ∷ []) })
-  goes : TurnGoes making v x now
-
 module _ (about : About) (id : ℕ) (v : Member) (making : MakeTurn) (f : ℕ → ℕ) (is : v.state.turn ≡ Some making) (same : (n : ℕ) → n < 2 ^ 64 → CanChange (making_asks making) n → f n ≡ word_after (making_asks making) n) where
   done : (s : State (Unit {0}) (List Member)) → Kept about s → get_elem? s.views id ≡ some (v ∷ []) → slice_index s.words (action_address about.layout (making_asks making)) < 2 ^ 64
-      → Turned about s id v making (set s.words (action_address about.layout (making_asks making)) (f (slice_index s.words (action_address about.layout (making_asks making))))) (given (making_asks making) (slice_index s.words (action_address about.layout (making_asks making))))
+      → Leaves about s id (making_asks making) f (TurnGoes making v)
   done s kept at fits =
       let h = kept.history in
       let old = index_of about s.words kept.states h in
@@ -85,23 +79,13 @@ module _ (about : About) (id : ℕ) (v : Member) (making : MakeTurn) (f : ℕ �
 -- Whatever the table is, the word of the turn's action becomes what the action makes of it.
 pub turn_allows : (about : About) (words slots id : ℕ) (me : Me (Unit {0}) (List Member)) (making : MakeTurn) → IsLone me → (party me).state.turn ≡ Some making → action_address about.layout (making_asks making) < words
     → May about words slots id me (making_asks making) TellsTurn
-turn_allows about words slots id me making lone is within = (
-  within,
-  λ f told same tells s kept count at fits.
-      let n = slice_index s.words (action_address about.layout (making_asks making)) in
-      let v = party me in
-      let d = done about id v making f is same s kept (at ∙ ap (λ (q : Me (Unit {0}) (List Member)). some q.0) lone) fits in (
-        d.now ∷ [],
-        keeps,
-        tt,
-        d.kept,
-        (λ m' is'.
-            let one : making ≡ m' = some_same (sym is ∙ is') in (
-              ap (λ (q : Me (Unit {0}) (List Member)). (d.now ∷ [], q.1)) lone,
-              subst (λ (m : MakeTurn). TurnGoes m v (given (making_asks m) (told n)) d.now) one (subst (λ (x : ℕ). TurnGoes making v x d.now) (sym (tells n)) d.goes),
-            )),
-      ),
-)
+turn_allows about words slots id me making lone is within =
+    may about words slots id me (making_asks making) (TurnGoes making (party me)) TellsTurn lone within
+    (λ found after alone goes making' is'. (
+      alone,
+      subst (λ (m : MakeTurn). TurnGoes m (party me) (given (making_asks m) found) (party after)) (some_same (sym is ∙ is')) goes,
+    ))
+    (λ f same. done about id (party me) making f is same)
 
 -- the parties and the views once a party has begun its turn
 begun : (about : About) (id : ℕ) (v : Member) (s : State (Unit {0}) (List Member)) (kept : Kept about s) → get_elem? s.views id ≡ some (v ∷ []) → v.state.turn ≡ None
@@ -123,25 +107,12 @@ begun about id v s kept at rests =
 -- the same where the step begins the turn
 pub turn_allows_first : (about : About) (words slots id : ℕ) (me : Me (Unit {0}) (List Member)) → IsLone me → (party me).state.turn ≡ None → action_address about.layout (making_asks (turn_in (party me))) < words
     → May about words slots id me (making_asks (turn_in (party me))) StartsTurn
-turn_allows_first about words slots id me lone rests within = (
-  within,
-  λ f told same tells s kept count at fits.
-      let v = party me in
-      let making = turn_in v in
-      let at' = at ∙ ap (λ (q : Me (Unit {0}) (List Member)). some q.0) lone in
-      let u = turning v in
-      let s' : State (Unit {0}) (List Member) = record { words = s.words; homes = s.homes; views = set s.views id (u ∷ []) } in
-      let kept' : Kept about s' = begun about id v s kept at' rests in
-      let place = action_address about.layout (making_asks making) in
-      let n = slice_index s.words place in
-      let d = done about id u making f refl same s' kept' (set_here s.views id (u ∷ []) me.0 at) fits in (
-        d.now ∷ [],
-        keeps,
-        tt,
-        subst (λ (l : List (List Member)). Kept about (record { words = set s.words place (f n); homes = s.homes; views = l })) (set_twice s.views id (u ∷ []) (d.now ∷ [])) d.kept,
-        (
-          ap (λ (q : Me (Unit {0}) (List Member)). (d.now ∷ [], q.1)) lone,
-          subst (λ (x : ℕ). TurnGoes making u x d.now) (sym (tells n)) d.goes,
-        ),
-      ),
-)
+turn_allows_first about words slots id me lone rests within =
+    let v = party me in
+    let making = turn_in v in
+    let u = turning v in
+    may about words slots id me (making_asks making) (TurnGoes making u) StartsTurn lone within (λ found after alone goes. (alone, goes))
+    (λ f same s kept at fits.
+    leaves_first about s id (making_asks making) f u (TurnGoes making u) (TurnGoes making u) (λ x w goes. goes)
+    (done about id u making f refl same (record { words = s.words; homes = s.homes; views = set s.views id (u ∷ []) })
+    (begun about id v s kept at rests) (set_here s.views id (u ∷ []) (v ∷ []) at) fits))

@@ -14,7 +14,7 @@ use Rattle.index_core.proofs.MachineLaw.{first_ready}
 use Rattle.pac_index.specs.declared.rule.About.{About}
 use Rattle.pac_index.specs.Kept.{May, Starts, Goes, party, view_in, machine_in, calling}
 use Rattle.pac_index.specs.Calls.{Runs}
-use Rattle.pac_index.proofs.Allowed.{allows_first, place_inside}
+use Rattle.pac_index.proofs.Allowed.{allows_first, inside_table, place_inside}
 use Rattle.pac_index.proofs.Running.{runs_first, runs_on}
 use Rattle.pac_index.proofs.shared.Shared.begin.Goals as goal
 
@@ -30,8 +30,8 @@ act-got-requires-clause-allowed g c =
     let ready = first_ready (view_in v) call here in
     let within = place_inside v.about.layout (running_asks (machine_in v call)) ready.names in
     let inside : action_address t.key.layout (running_asks (machine_in v call)) < t.table_id.words =
-    subst (λ (n : ℕ). action_address t.key.layout (running_asks (machine_in v call)) < n) (sym (s.words ∙ ap (λ (b : About). row_words b.layout) (sym s.key)))
-    (subst (λ (b : About). action_address b.layout (running_asks (machine_in v call)) < row_words b.layout) (c.requires.about ∙ sym s.key) within) in
+    inside_table s.about t.key t.table_id.words (running_asks (machine_in v call)) s.key s.words
+    (subst (λ (b : About). action_address b.layout (running_asks (machine_in v call)) < row_words b.layout) c.requires.about within) in
     subst (λ (x : Action). May t.key t.table_id.words t.table_id.slots seat.id seat.me x (Starts call g.C.BeginsCall.index)) (sym action)
     (allows_first t.key t.table_id.words t.table_id.slots seat.id seat.me call g.C.BeginsCall.index c.requires.lone c.requires.idle here inside)
 

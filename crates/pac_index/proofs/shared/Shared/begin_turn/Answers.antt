@@ -10,6 +10,7 @@ use Rattle.updater.specs.Makings.{making_asks, making_turned, making_takes}
 use Rattle.pac_index.specs.declared.rule.About.{About}
 use Rattle.pac_index.specs.Kept.{May, party}
 use Rattle.pac_index.specs.Turns.{turn_in, turning, StartsTurn, TurnGoes, TurnRuns}
+use Rattle.pac_index.proofs.Allowed.{inside_table}
 use Rattle.pac_index.proofs.TurnSteps.{turn_allows_first}
 use Rattle.pac_index.proofs.TurnRunning.{turn_first}
 use Rattle.pac_index.proofs.shared.Shared.begin_turn.Goals as goal
@@ -23,7 +24,7 @@ act-got-requires-clause-allowed g c =
     let action : c.action.result ≡ making_asks (turn_in v) = c.action.ensures ∙ ap making_asks c.requires.making in
     let within : address_of s.about.layout Updater < row_words s.about.layout = addresses_within s.about.layout Updater tt in
     let inside : action_address t.key.layout (making_asks (turn_in v)) < t.table_id.words =
-    subst (λ (n : ℕ). address_of v.about.layout Updater < n) (sym s.words)
+    inside_table s.about t.key t.table_id.words (making_asks (turn_in v)) s.key s.words
     (subst (λ (b : About). address_of b.layout Updater < row_words s.about.layout) (sym c.requires.about) within) in
     subst (λ (x : Action). May t.key t.table_id.words t.table_id.slots seat.id seat.me x StartsTurn) (sym action)
     (turn_allows_first t.key t.table_id.words t.table_id.slots seat.id seat.me c.requires.lone c.requires.resting inside)

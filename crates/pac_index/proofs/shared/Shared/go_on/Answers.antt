@@ -11,7 +11,7 @@ use Rattle.node_ops.specs.RunningSteps.{running_asks, running_turned}
 use Rattle.pac_index.specs.declared.rule.About.{About}
 use Rattle.pac_index.specs.Kept.{May, Tells, Goes, party}
 use Rattle.pac_index.specs.Calls.{turn_left}
-use Rattle.pac_index.proofs.Allowed.{allows, place_inside}
+use Rattle.pac_index.proofs.Allowed.{allows, inside_table, place_inside}
 use Rattle.pac_index.proofs.Running.{lessens}
 use Rattle.pac_index.proofs.shared.Shared.go_on.Goals as goal
 
@@ -21,10 +21,8 @@ act-got-requires-clause-allowed g c =
     let s = c.args.self.now in
     let t = s.table.shared in
     let m = c.args.machine.now in
-    let within = place_inside s.about.layout (running_asks m) c.requires.ready.names in
     let inside : action_address t.key.layout (running_asks m) < t.table_id.words =
-    subst (λ (n : ℕ). action_address t.key.layout (running_asks m) < n) (sym (s.words ∙ ap (λ (b : About). row_words b.layout) (sym s.key)))
-    (subst (λ (b : About). action_address b.layout (running_asks m) < row_words b.layout) (sym s.key) within) in
+    inside_table s.about t.key t.table_id.words (running_asks m) s.key s.words (place_inside s.about.layout (running_asks m) c.requires.ready.names) in
     subst (λ (a : Action). May t.key t.table_id.words t.table_id.slots seat.id seat.me a Tells) (sym c.action.ensures)
     (allows t.key t.table_id.words t.table_id.slots seat.id seat.me m c.requires.lone c.requires.flies inside)
 

@@ -10,6 +10,7 @@ use Rattle.pac_index.specs.declared.rule.About.{About}
 use Rattle.pac_index.specs.Kept.{May, party}
 use Rattle.pac_index.specs.Turns.{TellsTurn, TurnGoes, actions_left}
 use Rattle.pm_words.specs.declared.machine.Turn.TheVariants.{Go}
+use Rattle.pac_index.proofs.Allowed.{inside_table}
 use Rattle.pac_index.proofs.TurnSteps.{turn_allows}
 use Rattle.pac_index.proofs.TurnRunning.{turn_lessens}
 use Rattle.pac_index.proofs.shared.Shared.go_on_turn.Goals as goal
@@ -21,8 +22,7 @@ act-got-requires-clause-allowed g c =
     let t = s.table.shared in
     let making = c.args.making.now in
     let inside : action_address t.key.layout (making_asks making) < t.table_id.words =
-    subst (λ (n : ℕ). action_address t.key.layout (making_asks making) < n) (sym s.words)
-    (subst (λ (b : About). action_address b.layout (making_asks making) < row_words s.about.layout) (sym s.key) c.requires.ready.1) in
+    inside_table s.about t.key t.table_id.words (making_asks making) s.key s.words c.requires.ready.1 in
     subst (λ (a : Action). May t.key t.table_id.words t.table_id.slots seat.id seat.me a TellsTurn) (sym c.action.ensures)
     (turn_allows t.key t.table_id.words t.table_id.slots seat.id seat.me making c.requires.lone c.requires.flies inside)
 
