@@ -1,12 +1,10 @@
 use Rattle.std.proofs.Common.{◌≡◌, ℕ, ◌<◌, sym, ap, ◌∙◌, subst}
 use Rattle.pm_words.specs.declared.action.Action.{Action}
 use Rattle.pm_words.specs.declared.machine.Turn.{Turn}
-use Rattle.pm_words.specs.Locations.{row_words}
 use Rattle.pm_words.specs.Rows.{given, action_address}
 use Rattle.updater.specs.declared.making.MakeTurn.{MakeTurn}
 use Rattle.updater.specs.declared.making.TurnReply.{TurnReply}
 use Rattle.updater.specs.Makings.{making_asks, making_turned, making_takes}
-use Rattle.pac_index.specs.declared.rule.About.{About}
 use Rattle.pac_index.specs.Kept.{May, party}
 use Rattle.pac_index.specs.Turns.{TellsTurn, TurnGoes, actions_left}
 use Rattle.pm_words.specs.declared.machine.Turn.TheVariants.{Go}
