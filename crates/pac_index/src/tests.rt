@@ -14,14 +14,18 @@ use index_core::Core;
 use pm_words::{Layout, NoMemory};
 use shapes::{NameMap, PlainMap};
 use std::alloc::Global;
+use std::sync::Wait;
+use std::sync::atomic::{AtomicBool, Ordering};
 use std::test::Fail;
 use std::thread::{Threads, join, yield_now};
+use turns::make_turns;
 
 mod alone;
 mod gates;
 mod held;
 mod parts;
 mod scans;
+mod turns;
 
 /// No history here is as long.
 const LIMIT: u64 = 1 << 62;
@@ -236,6 +240,50 @@ fn all_four<R: Threads + Sync>(
     )
 }
 
+/// Four players beside the updater's turns, which go on until all four have played.
+fn all_turning<R: Threads + Wait + Sync>(
+    rt: &R,
+    shared: &Shared,
+    alloc: Global,
+    one: Player,
+    two: Player,
+    three: Player,
+    four: Player,
+    updater: Caller,
+    done: &AtomicBool,
+) -> (((Finished, Finished), (Finished, Finished)), (Caller, u64))
+    requires one { IsCallerOf shared.now one.caller × (one.caller.number < shared.now.about.layout.callers) }
+    requires two { IsCallerOf shared.now two.caller × (two.caller.number < shared.now.about.layout.callers) }
+    requires three { IsCallerOf shared.now three.caller × (three.caller.number < shared.now.about.layout.callers) }
+    requires four { IsCallerOf shared.now four.caller × (four.caller.number < shared.now.about.layout.callers) }
+    requires updater { IsCallerOf shared.now updater × (updater.number ≡ shared.now.about.layout.callers) }
+    ensures one { IsCallerOf shared.now result.0.0.0.caller × (result.0.0.0.caller.number ≡ one.caller.number) }
+    ensures two { IsCallerOf shared.now result.0.0.1.caller × (result.0.0.1.caller.number ≡ two.caller.number) }
+    ensures three { IsCallerOf shared.now result.0.1.0.caller × (result.0.1.0.caller.number ≡ three.caller.number) }
+    ensures four { IsCallerOf shared.now result.0.1.1.caller × (result.0.1.1.caller.number ≡ four.caller.number) }
+    ensures updater { IsCallerOf shared.now result.1.0 × (result.1.0.number ≡ updater.number) }
+{
+    join(
+        rt,
+        move || -> ((Finished, Finished), (Finished, Finished))
+            requires { IsSync R.row × IsCallerOf shared.now one.caller ×
+                (one.caller.number < shared.now.about.layout.callers) × IsCallerOf shared.now two.caller ×
+                (two.caller.number < shared.now.about.layout.callers) × IsCallerOf shared.now three.caller ×
+                (three.caller.number < shared.now.about.layout.callers) × IsCallerOf shared.now four.caller ×
+                (four.caller.number < shared.now.about.layout.callers) }
+            ensures { (IsCallerOf shared.entry.now result.0.0.caller × (result.0.0.caller.number ≡ one.caller.number)) ×
+                (IsCallerOf shared.entry.now result.0.1.caller × (result.0.1.caller.number ≡ two.caller.number)) ×
+                (IsCallerOf shared.entry.now result.1.0.caller × (result.1.0.caller.number ≡ three.caller.number)) ×
+                (IsCallerOf shared.entry.now result.1.1.caller × (result.1.1.caller.number ≡ four.caller.number)) }
+        {
+            let played = all_four(rt, shared, alloc, one, two, three, four);
+            done.store(true, Ordering::SeqCst);
+            played
+        },
+        move || make_turns(rt, shared, updater, done),
+    )
+}
+
 /// The last caller.
 fn take_last(shared: &Shared, callers: &mut Vec<Caller>) -> Caller
     requires callers { HasCallers shared.now (length callers.old.items) callers.old.items }
@@ -270,8 +318,8 @@ fn fresh(alloc: Global, layout: Layout) -> Result<Core, NoMemory>
     Ok(core)
 }
 
-/// What four players come to on a fresh index: the core in which they meet, and all their replies.
-fn met<R: Threads + Sync>(
+/// What four players come to on a fresh index, beside turns: the core in which they meet, and all their replies.
+fn met<R: Threads + Wait + Sync>(
     rt: &R,
     alloc: Global,
     layout: Layout,
@@ -288,7 +336,8 @@ fn met<R: Threads + Sync>(
     let two = take_last(&shared, &mut callers);
     let one = take_last(&shared, &mut callers);
     let [first, second, third, fourth] = plans;
-    let ((one, two), (three, four)) = all_four(
+    let done = AtomicBool::new(false);
+    let (((one, two), (three, four)), (updater, _)) = all_turning(
         rt,
         &shared,
         alloc,
@@ -296,6 +345,8 @@ fn met<R: Threads + Sync>(
         two.with(second),
         three.with(third),
         four.with(fourth),
+        updater,
+        &done,
     );
     put_back(&shared, &mut callers, one.caller)?;
     put_back(&shared, &mut callers, two.caller)?;

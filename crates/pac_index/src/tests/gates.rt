@@ -7,7 +7,7 @@ ghost use Rattle.pac_index.specs.Callers.{IsCallerOf};
 use super::*;
 use crate::Gate;
 use index_core::CoreCall;
-use std::sync::atomic::{AtomicBool, AtomicU64, Ordering};
+use std::sync::atomic::AtomicU64;
 
 /// For how many turns a gate holds a caller at most.
 const TURNS: u64 = 10_000_000;

@@ -9,7 +9,6 @@ use super::parts::{COUNT, ListedPart, are_of_history};
 use super::*;
 use crate::Gate;
 use crate::gate::OpenGate;
-use std::sync::atomic::{AtomicBool, Ordering};
 
 /// No part here has as many steps.
 const STEPS: u64 = 60;

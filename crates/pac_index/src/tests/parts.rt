@@ -8,7 +8,6 @@ ghost use Rattle.pac_index.specs.Callers.{IsCallerOf};
 use super::*;
 use crate::Ended;
 use node_ops::PartWords;
-use std::sync::Wait;
 
 /// How many names a part lists at most.
 pub(super) const COUNT: u64 = 3;

@@ -11,7 +11,6 @@ use super::*;
 use crate::Scanned;
 use crate::gate::OpenGate;
 use cat_history::{Parts, ScanPart};
-use std::sync::Wait;
 
 /// How many names a scan beside a writer lists at most.
 const COUNT: u64 = 6;
