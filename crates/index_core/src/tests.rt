@@ -22,6 +22,7 @@ mod merges;
 mod model;
 mod parts;
 mod splits;
+mod turns;
 
 /// No call has as many steps.
 const MANY: u64 = 1000;
@@ -123,8 +124,13 @@ fn one_try<L: Ledger>(
     Ok(run(core, 0, MANY, steps)?.ok_or("an answer")?)
 }
 
-/// A whole call of party 0, with no other in flight, which is made again where it split its node. None where it finds
-/// no room.
+/// Whether a try found none of its caller's log lines EMPTY.
+fn lacks_line(answer: &Once<Placed>) -> bool {
+    matches!(answer, Once::Again(Again::LogFull))
+}
+
+/// A whole call of party 0, with no other in flight, which is made again where it split its node, or where it found no
+/// log line, behind a turn that leaves merged nodes GONE. None where it finds no room.
 fn whole<L: Ledger>(
     core: &mut Core,
     call: &CoreCall,
@@ -134,6 +140,11 @@ fn whole<L: Ledger>(
     requires writes { most_writes call.now ≤ 1 }
 {
     let mut answer = one_try(core, call, steps)?;
+    if lacks_line(&answer) {
+        let updater = core.layout().callers();
+        turns::whole_turn(core, updater, 0, steps)?;
+        answer = one_try(core, call, steps)?;
+    }
     if needs_split(&answer) {
         answer = one_try(core, call, steps)?;
     }

@@ -204,8 +204,8 @@ fn calls_beside_a_merge_answer_as_the_plain_map(rt: HostRuntime) -> Result<(), F
 
 #[test]
 fn a_crash_in_a_merge_keeps_the_map(rt: HostRuntime) -> Result<(), Fail> {
-    // The delete walks, locks and looks up with 24 events, as far as the value, sees where its node leads, takes a log line
-    // with 17, and stores its bitmap then.
+    // The delete walks, locks and looks up with 24 events, as far as the value, sees where its node leads, takes its third
+    // log line with 19, since those of two splits are READY, and stores its bitmap then.
     let merge = Case {
         nodes: 3,
         put: false,
@@ -215,6 +215,6 @@ fn a_crash_in_a_merge_keeps_the_map(rt: HostRuntime) -> Result<(), Fail> {
         steps: 220,
     };
     let found = found_by_evictions::<Brand>(rt.alloc(), Blank::new(1), merge)?;
-    assert_eq!(rt; found, [Some(47), Some(43), Some(47), Some(43)]);
+    assert_eq!(rt; found, [Some(49), Some(45), Some(49), Some(45)]);
     Ok(())
 }

@@ -61,7 +61,7 @@ fn is_past(words: &PartWords, name: &Name) -> bool {
 
 /// Whether a part from the name of this number on, of so many names, lists those that the plain map has at the part's
 /// place, up to its high name.
-fn is_listed(
+pub(super) fn is_listed(
     alloc: Global,
     core: &Core,
     low: u64,

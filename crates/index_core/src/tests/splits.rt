@@ -144,7 +144,7 @@ pub(super) fn agrees<L: Ledger>(
 }
 
 /// Whether gets of party 0 tell of each name what the map has.
-fn tells_map<L: Ledger>(
+pub(super) fn tells_map<L: Ledger>(
     core: &mut Core,
     map: &mut PlainMap,
     steps: &mut Steps<L>,
