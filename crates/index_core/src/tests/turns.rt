@@ -116,8 +116,8 @@ fn is_made<L: Ledger>(core: &mut Core, line: Line, steps: &mut Steps<L>) -> Resu
     }
 }
 
-/// The first of the lines, made one after another on four nodes of four slots, that isn't made as it says; and whether a
-/// crash then shows the map of the writes.
+/// The first of the lines, made one after another on four nodes of four slots, that isn't made as it says; and whether
+/// a crash then shows the map of the writes.
 fn first_otherwise<L: Ledger>(
     alloc: Global,
     blank: Blank,
@@ -182,8 +182,8 @@ fn a_turn_alone_empties_each_line_and_frees_merged_nodes(rt: HostRuntime) -> Res
     Ok(())
 }
 
-/// A call of party 0 beside a turn: its kind and the number of its name, what it is answered if it is about one name, how
-/// many READY lines it leaves, and how many GONE nodes.
+/// A call of party 0 beside a turn: its kind and the number of its name, what it is answered if it is about one name,
+/// how many READY lines it leaves, and how many GONE nodes.
 #[derive(Clone, Copy)]
 struct Case {
     kind: u64,
@@ -286,8 +286,8 @@ fn meet<L: Ledger>(
     })
 }
 
-/// The first number of steps of the call after which a turn doesn't leave all as it should, if there is one; and whether
-/// some turn left a line.
+/// The first number of steps of the call after which a turn doesn't leave all as it should, if there is one; and
+/// whether some turn left a line.
 fn first_disagreed<L: Ledger>(
     alloc: Global,
     blank: Blank,
