@@ -109,7 +109,8 @@ fn turns_empty_the_lines_of_puts_that_split(rt: HostRuntime) -> Result<(), Fail>
     assert_eq!(rt; replies.len(), 400);
     let told = are_told(rt.alloc(), core.history(), &mut replies)?;
     assert!(rt; told);
-    // The names rise, so the fifth one splits the last node, which then has three, and so does every second one after it.
+    // The names rise, so the fifth one splits the last node, which then has three, and every second one after it does
+    // so again.
     assert_eq!(rt; emptied, 198);
     Ok(())
 }
