@@ -3,7 +3,7 @@ ghost use Rattle.index_core.specs.CoreCalls.{MayBegin, most_writes};
 ghost use Rattle.index_core.specs.Indexes.{IsInFlight};
 
 use super::*;
-use crate::party::needs_split;
+use crate::party::{lacks_line, lacks_node, needs_split};
 use call_stages::{Once, Placed};
 use cat_key::Name;
 use pm_words::{Again, Layout, Steps};
@@ -124,13 +124,8 @@ fn one_try<L: Ledger>(
     Ok(run(core, 0, MANY, steps)?.ok_or("an answer")?)
 }
 
-/// Whether a try found none of its caller's log lines EMPTY.
-fn lacks_line(answer: &Once<Placed>) -> bool {
-    matches!(answer, Once::Again(Again::LogFull))
-}
-
-/// A whole call of party 0, with no other in flight, which is made again where it split its node, or where it found no
-/// log line, behind a turn that leaves merged nodes GONE. None where it finds no room.
+/// A whole call of party 0, with no other in flight, made again as the core makes one itself: behind a turn of the
+/// updater where it found no log line or no node, and where it split its node. None where it finds no room.
 fn whole<L: Ledger>(
     core: &mut Core,
     call: &CoreCall,
@@ -139,10 +134,14 @@ fn whole<L: Ledger>(
     requires begins { MayBegin call.now }
     requires writes { most_writes call.now ≤ 1 }
 {
+    let updater = core.layout().callers();
     let mut answer = one_try(core, call, steps)?;
     if lacks_line(&answer) {
-        let updater = core.layout().callers();
-        turns::whole_turn(core, updater, 0, steps)?;
+        turns::whole_turn(core, updater, 1, steps)?;
+        answer = one_try(core, call, steps)?;
+    }
+    if lacks_node(&answer) {
+        turns::whole_turn(core, updater, 1, steps)?;
         answer = one_try(core, call, steps)?;
     }
     if needs_split(&answer) {

@@ -8,6 +8,7 @@ use super::crashes::{
 use super::merges::{DEL, GET, LIVE, PUT, nodes_with};
 use super::model::{Model, NAMES, count_of, name_of};
 use super::splits::number_at;
+use super::turns::{begin_turn, has_turn, run_turn};
 use super::{begin_call, call_of, run, whole};
 use crate::{Core, Crashed};
 use call_stages::Once;
@@ -185,8 +186,42 @@ fn evict_drawn(core: &mut Core, draws: &mut Draws) {
     }
 }
 
-/// So many drawn steps of three callers: whether each call that took place was answered with the number that its name
-/// has in the plain map at its place.
+/// A step of a caller's call, or of a drawn one that it begins: whether that was answered, if it took place, with the
+/// number that its name has in the plain map at its place.
+fn call_drawn<L: Ledger>(
+    alloc: Global,
+    core: &mut Core,
+    flights: &mut Flights,
+    party: u64,
+    event: u64,
+    draws: &mut Draws,
+    steps: &mut Steps<L>,
+) -> Result<bool, Fail> {
+    if flights.of(party).is_none() {
+        begin_drawn(core, flights, party, event, draws)?;
+    }
+    let letter = flights.of(party).ok_or("a call in flight")?;
+    let Some(answer) = run(core, party, 1, steps)? else {
+        return Ok(true);
+    };
+    flights.set(party, None);
+    match answer {
+        Once::Done(placed) => Ok(placed.old == number_at(alloc, core, letter, placed.place)?),
+        _ => Ok(true),
+    }
+}
+
+/// A step of the updater's turn, or of another one that it begins.
+fn turn_drawn<L: Ledger>(core: &mut Core, steps: &mut Steps<L>) -> Result<(), Fail> {
+    if !has_turn(core, CALLERS) {
+        begin_turn(core, CALLERS, 1)?;
+    }
+    run_turn(core, CALLERS, 1, steps)?;
+    Ok(())
+}
+
+/// So many drawn steps of three callers and the updater: whether each call that took place was answered with the number
+/// that its name has in the plain map at its place.
 fn run_drawn<L: Ledger>(
     alloc: Global,
     core: &mut Core,
@@ -197,16 +232,11 @@ fn run_drawn<L: Ledger>(
     let mut flights = Flights::none(alloc)?;
     let mut legal = true;
     for event in 0..moment {
-        let party = draws.below(CALLERS);
-        if flights.of(party).is_none() {
-            begin_drawn(core, &mut flights, party, event, draws)?;
-        }
-        let letter = flights.of(party).ok_or("a call in flight")?;
-        if let Some(answer) = run(core, party, 1, steps)? {
-            flights.set(party, None);
-            if let Once::Done(placed) = answer {
-                legal = legal && placed.old == number_at(alloc, core, letter, placed.place)?;
-            }
+        let party = draws.below(CALLERS + 1);
+        if party == CALLERS {
+            turn_drawn(core, steps)?;
+        } else {
+            legal = call_drawn(alloc, core, &mut flights, party, event, draws, steps)? && legal;
         }
         evict_drawn(core, draws);
     }

@@ -24,7 +24,7 @@ use updater::{TurnReply, Turned};
 const TURN_STEPS: u64 = 100_000;
 
 /// Begins a turn of a party that is idle, which gives merged nodes the stamp 1.
-fn begin_turn(core: &mut Core, party: u64, release: u64) -> Result<(), Fail> {
+pub(super) fn begin_turn(core: &mut Core, party: u64, release: u64) -> Result<(), Fail> {
     if party > core.layout().callers() {
         return Err("no such party")?;
     }
@@ -33,14 +33,14 @@ fn begin_turn(core: &mut Core, party: u64, release: u64) -> Result<(), Fail> {
 }
 
 /// Whether the party's turn is in flight.
-fn has_turn(core: &Core, party: u64) -> bool
+pub(super) fn has_turn(core: &Core, party: u64) -> bool
     ensures { IsTrue result → IsTurning core.now party }
 {
     party <= core.layout().callers() && core.states[party as usize].turn.is_some()
 }
 
 /// At most so many steps of a party's turn, and its reply if it is answered.
-fn run_turn<L: Ledger>(
+pub(super) fn run_turn<L: Ledger>(
     core: &mut Core,
     party: u64,
     most: u64,
