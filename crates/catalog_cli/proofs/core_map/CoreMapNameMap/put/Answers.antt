@@ -1,4 +1,5 @@
-use Rattle.std.proofs.Common.{refl, arith}
+use Rattle.std.proofs.Common.{refl, sym, ap, ◌∙◌, arith}
+use Rattle.std.specs.FinMap.{len}
 use Rattle.catalog_cli.proofs.CoreMaps.{few_names, put_counted}
 use Rattle.catalog_cli.proofs.core_map.CoreMapNameMap.put.Goals as goal
 
@@ -14,3 +15,12 @@ pub invariant_of-self-else-is_none : goal.invariant_of-self-else-is_none
 invariant_of-self-else-is_none g c =
     put_counted c.self.inside.core c.call_alone.new.core c.args.name.now c.args.value c.self.inside.names _ c.in_ok-old.old _ c.self.invariant c.call_alone.ensures.index
     c.call_alone.ensures.quiet (c.call_alone.ensures.stamps c.self.invariant.stamps) c.in_ok-old.ensures.old c.in_ok-old.ensures.ok c.if-is_none.ensures refl
+
+-- a put that found no room leaves the map
+pub invariant_of-self : goal.invariant_of-self
+invariant_of-self g c = record {
+  index = c.call_alone.ensures.index;
+  quiet = c.call_alone.ensures.quiet;
+  stamps = c.call_alone.ensures.stamps c.self.invariant.stamps;
+  counted = c.self.invariant.counted ∙ sym (ap len c.in_err-old.ensures.err);
+}
