@@ -159,13 +159,16 @@ module _ (split : Split) (sound : IsSplit split) (words0 words : List ℕ) (read
       )
   claimed_on next line now (Done claimed.NoFree) heeds unmoved has = (
     unmoved,
-    (has, λ m within free. ⊎_elim
-        (λ worn. worn)
-        (λ fresh.
-        let other = other_free m free in
-        let positive : 1 ≤ m = ⊎_elim (λ (zero : m ≡ 0). let live = ap (status_in layout words0) zero ∙ ready.first in let no : 0 ≡ 1 = sym free ∙ live in omega arith) (λ (some : m ≢ 0). omega arith) (cases_eq m 0) in
-        absurd (heeds 0 m positive within (free, λ is worn. fresh (subst (λ v. IsWorn v g) (heard_else m other) worn))))
-        (worn_or_fresh (version_in layout words0 m) g)),
+    (
+      has,
+      λ m within free. ⊎_elim
+          (λ worn. worn)
+          (λ fresh.
+          let other = other_free m free in
+          let positive : 1 ≤ m = ⊎_elim (λ (zero : m ≡ 0). let live = ap (status_in layout words0) zero ∙ ready.first in let no : 0 ≡ 1 = sym free ∙ live in omega arith) (λ (some : m ≢ 0). omega arith) (cases_eq m 0) in
+          absurd (heeds 0 m positive within (free, λ is worn. fresh (subst (λ v. IsWorn v g) (heard_else m other) worn))))
+          (worn_or_fresh (version_in layout words0 m) g),
+    ),
   )
   claimed_on next line now (Done (claimed.Again (again.Locked m word))) heeds unmoved has =
       let first = (heeds 0).0 in
