@@ -1,5 +1,5 @@
 -- The index as a map of names: its names counted, its calls left, and its shape.
-use Rattle.std.proofs.Common.{◌≡◌, ◌≢◌, ℕ, zero, suc, ◌+◌, ◌-◌, ◌*◌, ◌/◌, ◌<◌, ◌≤◌, if◌then◌else◌, Bool, true, false, cond, List, [], ◌∷◌, length, drop, slice_get, ◌⊎◌, ⊎_elim, refl, le_trans, inl, inr, sym, ap, ◌∙◌, subst, arith, length-append, length-drop, zero-add}
+use Rattle.std.proofs.Common.{◌≡◌, ◌≢◌, ℕ, zero, suc, ◌+◌, ◌-◌, ◌*◌, ◌/◌, ◌<◌, ◌≤◌, ◌==◌, if◌then◌else◌, Bool, true, false, cond, List, [], ◌∷◌, length, drop, slice_get, ◌⊎◌, ⊎_elim, refl, le_trans, inl, inr, sym, ap, ◌∙◌, subst, arith, length-append, length-drop, zero-add}
 use Rattle.std.specs.Prelude.{Option, ◌↔◌, ◌^◌}
 use Rattle.std.specs.List.{flat_map, AllByRecursion}
 use Rattle.std.specs.Option.{is_some}
@@ -33,7 +33,7 @@ use Rattle.data_node.proofs.ListLemmas.{chain_closed, target_in}
 use Rattle.index_law.specs.Anchors.{anchors_of, anchors_in}
 use Rattle.index_law.specs.Facts.{Facts, list_in}
 use Rattle.index_law.specs.Laws.{fresh_row}
-use Rattle.index_law.specs.Worlds.{facts}
+use Rattle.index_law.specs.Worlds.{World, facts}
 use Rattle.index_law.proofs.Fresh.{fresh_list, fresh_statuses}
 use Rattle.index_law.proofs.Holding.{idle_has_shape}
 use Rattle.index_law.proofs.Starts.{listed_within}
@@ -48,7 +48,9 @@ use Rattle.index_core.specs.declared.party.Whole.{Whole}
 use Rattle.index_core.specs.declared.party.Whole.TheVariants as whole
 use Rattle.index_core.specs.CoreCalls.{op_of, most_writes}
 use Rattle.index_core.specs.Fulls.{HasLowStamps}
-use Rattle.lone_turn.specs.LoneTurns.{stamp_in}
+use Rattle.lone_turn.specs.LoneTurns.{stamp_in, stamp_then}
+use Rattle.updater.specs.declared.terms.Turned.{Turned}
+use Rattle.index_core.specs.Turns.{TurnsAlone}
 use Rattle.index_core.proofs.Retrying.{stamped_are_gone}
 use Rattle.index_core.proofs.Quiet.{quiet_parties}
 use Rattle.index_core.proofs.Fresh.{fresh_quiet, fresh_locks}
@@ -299,6 +301,32 @@ writes_fall s s' c r caller runs spare =
     let grown = ap length runs.history in
     let both = length-append s.history (alone_writes caller runs.state.index c r) in
     omega (arith, few, grown, both, spare)
+
+-- ---- turns of the updater
+
+stamp_low : (w : World) (n : ℕ) → stamp_in w n ≤ 1 → stamp_then w 1 n ≤ 1
+stamp_low w n low = elim (stamp_in w n == 0) as (λ b. cond b 1 (stamp_in w n) ≤ 1) [ true ↦ omega arith | false ↦ low ]
+
+module _ (s s' : Index) (answer : Turned) (t : TurnsAlone s 1 1 answer s') where
+  -- a turn leaves no stamp above its own
+  turn_low : IsIndex s' → HasLowStamps s → HasLowStamps s'
+  turn_low is low n here = ⊎_elim
+      (λ (none : stamp_in (world s') n ≡ 0). omega arith)
+      (λ (some_stamp : stamp_in (world s') n ≢ 0).
+      let within : n < s.layout.nodes = subst (λ (l : Layout). n < l.nodes) (ap (λ (v : Index). v.layout) t.is) here in
+      let left = t.lone.stamps n within (stamped_are_gone s' is.layered n some_stamp) in
+      let small = stamp_low (world s) n (low n within) in
+      omega arith)
+      (cases_eq (stamp_in (world s') n) 0)
+
+  -- nor does it change the names
+  pub turned_map : (names : ℕ) → IsCoreMap s names → IsIndex s' → IsQuiet s' → IsCoreMap s' names
+  turned_map names was index quiet = record {
+    index = index;
+    quiet = quiet;
+    stamps = turn_low index was.stamps;
+    counted = was.counted ∙ ap (λ (v : Index). len (map_of_index v)) (sym t.is);
+  }
 
 -- ---- parts of scans
 

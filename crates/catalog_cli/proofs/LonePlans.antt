@@ -32,7 +32,7 @@ AreBuilt first (Blank ∷ lines) = AreBuilt first lines
 AreBuilt first (Call caller op ∷ lines) = IsOfFirst first caller × AreBuilt (Some (unwrap_or first caller)) lines
 AreBuilt first (Join ∷ lines) = AreBuilt None lines
 AreBuilt first (Crash plan ∷ lines) = ⊥
-AreBuilt first (Updater turns ∷ lines) = ⊥
+AreBuilt first (Updater turns ∷ lines) = AreBuilt first lines
 AreBuilt first (Limit limit ∷ lines) = AreBuilt first lines
 
 neither : (a b : Option Verb) → first_word a b ≡ None → (a ≡ None) × (b ≡ None)
@@ -60,7 +60,7 @@ lines-built first number (Call caller op ∷ lines) is =
     (call-built first caller op both.0, lines-built (Some (unwrap_or first caller)) (number + 1) lines both.1)
 lines-built first number (Join ∷ lines) is = lines-built None (number + 1) lines is
 lines-built first number (Crash plan ∷ lines) is = absurd (none-some word.Crash (sym is))
-lines-built first number (Updater turns ∷ lines) is = absurd (none-some word.Updater (sym is))
+lines-built first number (Updater turns ∷ lines) is = lines-built first (number + 1) lines is
 lines-built first number (Limit limit ∷ lines) is = lines-built first (number + 1) lines is
 
 -- a call of this caller
@@ -75,7 +75,7 @@ more-calls caller (Blank ∷ lines) rest going built = more-calls caller lines r
 more-calls caller (Call same op ∷ lines) rest going built = let more = more-calls caller lines rest going.1 built.1 in ((built.0, more.0), more.1)
 more-calls caller (Join ∷ lines) rest going built = absurd going.0
 more-calls caller (Crash plan ∷ lines) rest going built = absurd going.0
-more-calls caller (Updater turns ∷ lines) rest going built = absurd built
+more-calls caller (Updater turns ∷ lines) rest going built = more-calls caller lines rest going.1 built
 more-calls caller (Limit limit ∷ lines) rest going built = more-calls caller lines rest going.1 built
 
 -- some caller has all calls of these lines, and those behind them are built
@@ -93,7 +93,7 @@ one-round (Call caller op ∷ lines) rest going built =
     record { caller = caller; calls = (refl, more.0); first = Some caller; behind = more.1 }
 one-round (Join ∷ lines) rest going built = absurd going.0
 one-round (Crash plan ∷ lines) rest going built = absurd going.0
-one-round (Updater turns ∷ lines) rest going built = absurd built
+one-round (Updater turns ∷ lines) rest going built = let more = one-round lines rest going.1 built in record { caller = more.caller; calls = more.calls; first = more.first; behind = more.behind }
 one-round (Limit limit ∷ lines) rest going built = let more = one-round lines rest going.1 built in record { caller = more.caller; calls = more.calls; first = more.first; behind = more.behind }
 
 -- a round's end

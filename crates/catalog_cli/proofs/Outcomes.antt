@@ -272,7 +272,7 @@ of-form : (first : Option ℕ) (f : Form) (w : Verb) → unbuilt_form first f �
 of-form first (form.Call caller verb) w is command = of-call first caller verb w is command
 of-form first form.Join w is command = none-some w is
 of-form first (form.Crash callers) w is command = subst IsCommandWord (sym (same_Some word.Crash w is)) command
-of-form first form.Updater w is command = subst IsCommandWord (sym (same_Some word.Updater w is)) command
+of-form first form.Updater w is command = none-some w is
 of-form first form.Limit w is command = none-some w is
 
 either : (a b : Option Verb) (w : Verb) → first_word a b ≡ Some w → (a ≡ Some w) ⊎ (b ≡ Some w)

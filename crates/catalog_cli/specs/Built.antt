@@ -9,7 +9,7 @@ use Rattle.cat_script.specs.declared.verb.Verb.{Verb as LineVerb}
 use Rattle.cat_script.specs.declared.verb.Verb.TheVariants as line
 use Rattle.catalog_cli.specs.declared.status.Verb.{Verb}
 use Rattle.catalog_cli.specs.declared.status.Verb.TheVariants.{Run, Gen}
-use Rattle.catalog_cli.specs.declared.status.Verb.TheVariants.{Put, Get, Del, Scan, Updater, Crash}
+use Rattle.catalog_cli.specs.declared.status.Verb.TheVariants.{Put, Get, Del, Scan, Crash}
 
 -- The word of a command that isn't built: `run`, and `gen` for several callers.
 abbrev pub unbuilt_command : Command → Option Verb
@@ -41,7 +41,7 @@ abbrev pub unbuilt_form : Option ℕ → Form → Option Verb
 unbuilt_form first (form.Call caller verb) = unbuilt_call first caller verb
 unbuilt_form first form.Join = None
 unbuilt_form first (form.Crash callers) = Some Crash
-unbuilt_form first form.Updater = Some Updater
+unbuilt_form first form.Updater = None
 unbuilt_form first form.Limit = None
 
 -- The caller of the first call of the round that goes on behind a line.
@@ -72,5 +72,4 @@ IsCommandWord Put = ⊥
 IsCommandWord Get = ⊥
 IsCommandWord Del = ⊥
 IsCommandWord Scan = ⊥
-IsCommandWord Updater = ⊥
 IsCommandWord Crash = ⊥

@@ -16,7 +16,7 @@ use Rattle.catalog_cli.specs.declared.status.ImageRefusal.{ImageRefusal}
 use Rattle.catalog_cli.specs.declared.status.ImageRefusal.TheVariants as image
 use Rattle.catalog_cli.specs.declared.status.Verb.{Verb}
 use Rattle.catalog_cli.specs.declared.status.Verb.TheVariants.{Run, Gen}
-use Rattle.catalog_cli.specs.declared.status.Verb.TheVariants.{Put, Get, Del, Scan, Updater, Crash}
+use Rattle.catalog_cli.specs.declared.status.Verb.TheVariants.{Put, Get, Del, Scan, Crash}
 use Rattle.catalog_cli.specs.declared.status.Status.{Status}
 use Rattle.catalog_cli.specs.declared.status.Status.TheVariants.{Done, Usage, Script, Read, Write, Shelf, NoMemory, Image, NotBuilt}
 
@@ -40,7 +40,6 @@ verb_text Put = codes "put"
 verb_text Get = codes "get"
 verb_text Del = codes "del"
 verb_text Scan = codes "scan"
-verb_text Updater = codes "updater"
 verb_text Crash = codes "crash"
 
 -- The forms of the command line.

@@ -40,8 +40,7 @@ fn unbuilt_form(first: Option<u64>, form: Form) -> Option<Verb>
     match form {
         Form::Call { caller, verb } => unbuilt_call(first, caller, verb),
         Form::Crash { .. } => Some(Verb::Crash),
-        Form::Updater => Some(Verb::Updater),
-        Form::Join | Form::Limit => None,
+        Form::Join | Form::Updater | Form::Limit => None,
     }
 }
 

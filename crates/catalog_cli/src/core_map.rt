@@ -18,6 +18,7 @@ ghost use Rattle.shapes.specs.Anchors.{next_of};
 ghost use Rattle.shapes.specs.ShapeRounds.{PutsFull};
 ghost use Rattle.catalog_cli.specs.CoreMaps.{IsUnlimited, anchors_made, calls_left_of, writes_left_of};
 
+use crate::updated_map::UpdatedMap;
 use call_stages::Once;
 use cat_history::{Listed, NoMemory};
 use cat_key::Name;
@@ -154,6 +155,16 @@ impl<L: Ledger> NameMap for CoreMap<L> {
     }
 }
 
+/// The stamp that turns of the updater give to merged nodes, and the greatest that they release.
+const STAMP: u64 = 1;
+
+impl<L: Ledger> UpdatedMap for CoreMap<L> {
+    fn turn(&mut self) {
+        let updater = self.core.layout().callers();
+        self.core.turn_alone(updater, STAMP, STAMP, &mut self.steps);
+    }
+}
+
 /// A whole call on an index that has calls left, with no other in flight. `Full` comes exactly where a put is full in
 /// the shape, and then nothing changes; else the answer is the number that the name had.
 fn call_alone<L: Ledger>(
@@ -211,5 +222,69 @@ fn list_alone<L: Ledger>(core: &mut Core, low: &Name, count: u64, steps: &mut St
         Once::Done(words) => words,
         // There is a lock left.
         Once::Spent { .. } | Once::Worn { .. } | Once::Again(_) => unreachable!(),
+    }
+}
+
+#[cfg(test)]
+mod tests {
+    use super::*;
+    use crate::round::run_lone_round;
+    use cat_history::{CallerOp, Op, RoundPlan};
+    use std::marker::Brand;
+    use std::sync::ledger::Blank;
+    use std::test::Fail;
+
+    /// How many log lines a turn of the updater would empty now.
+    fn lines_left<L: Ledger>(map: &mut CoreMap<L>) -> u64 {
+        let updater = map.core.layout().callers();
+        let turned = map.core.turn_alone(updater, STAMP, STAMP, &mut map.steps);
+        turned.applied
+    }
+
+    /// Puts of the names `a` to `i`, with a turn of the updater behind each so many.
+    fn nine_puts(alloc: Global, turns: u64) -> Result<RoundPlan, Fail>
+        ensures caller { IfOk result (λ plan. AreLoneCalls plan.ops) }
+        ensures told { IfOk result (λ plan. AreReportCalls plan.ops) }
+        ensures few { IfOk result (λ plan. length plan.ops ≤ 9) }
+    {
+        let mut ops = Vec::new(alloc);
+        for number in 0u64..9 {
+            let name = Name::read(&[b'a' + number as u8]).ok().ok_or("a name")?;
+            ops.push(CallerOp {
+                caller: 0,
+                op: Op::Put {
+                    name,
+                    value: number,
+                },
+            })?;
+        }
+        Ok(RoundPlan {
+            ops: Listed::of(ops),
+            updater: turns,
+            limit: LIMIT,
+            crash: None,
+        })
+    }
+
+    /// How many log lines the round of nine puts leaves READY on eight nodes of four slots.
+    fn lines_of_nine_puts<L: Ledger>(alloc: Global, turns: u64, blank: Blank) -> Result<u64, Fail>
+        requires name { blank.name ≡ L.name }
+        requires parts { (blank.parts ≡ L.parts) × (0 < L.parts) }
+    {
+        let (book, share) = blank.open::<L>();
+        let steps = Steps::new(book, share);
+        let mut map = CoreMap::new(alloc, Layout::new(8, 4, 1)?, 9, steps)?;
+        run_lone_round(alloc, &mut map, &nine_puts(alloc, turns)?)?;
+        Ok(lines_left(&mut map))
+    }
+
+    #[test]
+    fn the_updater_makes_a_turn_behind_each_so_many_calls(rt: HostRuntime) -> Result<(), Fail> {
+        // The fifth, the seventh and the ninth put split, and each leaves a line.
+        for (turns, lines) in [(0, 3), (1, 0), (4, 1), (5, 2), (9, 0), (10, 3)] {
+            let found = lines_of_nine_puts::<Brand>(rt.alloc(), turns, Blank::new(1))?;
+            assert_eq!(rt; found, lines, "turns behind each {turns}");
+        }
+        Ok(())
     }
 }

@@ -12,6 +12,7 @@ mod status;
 mod summary;
 #[cfg(test)]
 mod tests;
+mod updated_map;
 
 use cat_text::{FileShelf, ReadSource, WriteSink};
 pub use catalog::catalog;
@@ -27,7 +28,7 @@ const BUILT: &str = "\
     catalog format FILE NODES SLOTS CALLERS, which makes a file of an empty catalogue,\n\
     and catalog words FILE FROM COUNT, which prints COUNT words of one from number FROM on\n\
     lines built so far: CALLER put NAME NUMBER, CALLER get NAME, CALLER del NAME, CALLER scan NAME COUNT, join, \
-    limit WRITES\n\
+    updater CALLS, limit WRITES\n\
     the calls of a round are those of one caller";
 
 const VERSION: &str = "catalog 0.1.0";

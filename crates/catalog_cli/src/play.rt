@@ -11,11 +11,11 @@ ghost use Rattle.catalog_cli.specs.LoneCalls.{AreLoneCalls, AreReportCalls, call
 
 use crate::core_map::CoreMap;
 use crate::round::run_lone_round;
+use crate::updated_map::UpdatedMap;
 use cat_history::{NoMemory, RoundPlan};
 use cat_script::Script;
 use cat_text::Report;
 use pm_words::{Layout, Steps};
-use shapes::NameMap;
 use std::alloc::Global;
 use std::marker::Brand;
 use std::sync::ledger::{Blank, Ledger};
@@ -72,7 +72,7 @@ fn play_on_core<L: Ledger>(
 }
 
 /// Plays the rounds, one after another, on a map that has calls left for all of them.
-fn play_rounds<M: NameMap>(
+fn play_rounds<M: UpdatedMap>(
     alloc: Global,
     map: &mut M,
     plans: &[RoundPlan],

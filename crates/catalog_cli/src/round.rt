@@ -14,6 +14,7 @@ ghost use Rattle.shapes.specs.ShapeRounds.{anchors_after, anchors_end, EndsWithM
 ghost use Rattle.catalog_cli.specs.LoneCalls.{AreLoneCalls, AreReportCalls, IsLeftBy};
 ghost use Rattle.catalog_cli.specs.Rounds.{IsPlayedRound, StopsWithin};
 
+use crate::updated_map::UpdatedMap;
 use cat_history::{CutMark, Listed, NoMemory, Op, Parts, Record, Reply, RoundPlan, ScanPart};
 use cat_key::Name;
 use cat_text::RoundReport;
@@ -21,11 +22,12 @@ use shapes::{Full, MapPart, NameMap};
 use std::alloc::Global;
 
 /// Answers the calls of one caller in their order, each on the map as the earlier ones left it. A put or a delete that
-/// comes when the placed writes reach the plan's limit is told so and changes nothing.
+/// comes when the placed writes reach the plan's limit is told so and changes nothing. Behind each so many calls as the
+/// plan says the updater makes a turn.
 ///
 /// It takes memory for the records, before the first call, and for the parts of scans. Where there is none, the map is
 /// as the calls left it that were made by then.
-pub fn run_lone_round<M: NameMap>(
+pub fn run_lone_round<M: UpdatedMap>(
     alloc: Global,
     map: &mut M,
     plan: &RoundPlan,
@@ -54,11 +56,12 @@ pub fn run_lone_round<M: NameMap>(
     let mut records = Vec::with_capacity(alloc, asked.len())?;
     let mut writes = 0;
     for (index, call) in asked.iter().enumerate() {
+        let is_due = is_turn_due(plan.updater, index as u64);
         let record = Record {
             caller: call.caller,
             index: index as u64,
             op: call.op,
-            reply: answer(alloc, map, &call.op, writes, plan.limit)?,
+            reply: answer(alloc, map, &call.op, writes, plan.limit, is_due)?,
         };
         if is_placed_write(&record) {
             writes += 1;
@@ -74,9 +77,50 @@ pub fn run_lone_round<M: NameMap>(
     })
 }
 
+/// Answers one call at once, on the map as it is, and makes a turn of the updater behind it where one is due. So many
+/// writes have a place by now, and so many may have one before a put or a delete is refused. Where there is no memory for
+/// the parts of a scan, the map is as it was.
+fn answer<M: UpdatedMap>(
+    alloc: Global,
+    map: &mut M,
+    op: &Op,
+    place: u64,
+    limit: u64,
+    is_due: bool,
+) -> Result<Reply, NoMemory>
+    requires calls { M.most map.old ≤ M.calls_left map.old }
+    requires writes { 0 < M.writes_left map.old }
+    ensures answer { IfOk result (IsAnswerNow (M.contents map.old) place op.now) }
+    ensures report { IfOk result (IsReportReply op.now) }
+    ensures spent { IfOk result (λ reply. IsSpent reply ↔ (IsWriter op.now × (limit ≤ place))) }
+    ensures full { IfOk result (λ reply. (reply ≡ Reply.Full) ↔ (((IsWriter op.now × (limit ≤ place)) → ⊥) ×
+        PutsFull (M.slots map.old) (M.most map.old) (M.contents map.old) (M.anchors map.old) op.now)) }
+    ensures bounds { IfOk result (EndsWithMembers (M.anchors map.old)) }
+    ensures left { IfOk result (λ reply. IsLeftBy (M.contents map.old) op.now reply (M.contents map.new)) }
+    ensures anchors { IfOk result (λ reply. M.anchors map.new ≡ anchors_after (M.slots map.old) (M.contents map.old)
+        (M.anchors map.old) op.now reply) }
+    ensures slots { M.slots map.new ≡ M.slots map.old }
+    ensures most { M.most map.new ≡ M.most map.old }
+    ensures calls_left { M.calls_left map.old ≤ M.calls_left map.new + M.most map.old }
+    ensures writes_left { M.writes_left map.old ≤ M.writes_left map.new + 1 }
+    ensures err { OnErr result (M.contents map.new ≡ M.contents map.old) }
+    ensures err_anchors { OnErr result (M.anchors map.new ≡ M.anchors map.old) }
+{
+    let reply = reply_to(alloc, map, op, place, limit)?;
+    if is_due {
+        map.turn();
+    }
+    Ok(reply)
+}
+
+/// Whether a turn of the updater comes behind the call of this index, where one comes behind each so many calls, or none.
+fn is_turn_due(turns: u64, index: u64) -> bool {
+    turns != 0 && index % turns == turns - 1
+}
+
 /// Answers one call at once, on the map as it is. So many writes have a place by now, and so many may have one before a
 /// put or a delete is refused. Where there is no memory for the parts of a scan, the map is as it was.
-fn answer<M: NameMap>(
+fn reply_to<M: NameMap>(
     alloc: Global,
     map: &mut M,
     op: &Op,
@@ -250,6 +294,10 @@ mod tests {
     use cat_key::Name;
     use shapes::PlainMap;
     use std::test::Fail;
+
+    impl UpdatedMap for PlainMap {
+        fn turn(&mut self) {}
+    }
 
     #[test]
     fn answers_in_order(rt: HostRuntime) -> Result<(), Fail> {

@@ -19,7 +19,6 @@ pub enum Verb {
     Get,
     Del,
     Scan,
-    Updater,
     Crash,
 }
 
@@ -34,7 +33,6 @@ impl fmt::Display for Verb {
             Verb::Get => write!(f, "get"),
             Verb::Del => write!(f, "del"),
             Verb::Scan => write!(f, "scan"),
-            Verb::Updater => write!(f, "updater"),
             Verb::Crash => write!(f, "crash"),
         }
     }

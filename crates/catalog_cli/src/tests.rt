@@ -6,6 +6,7 @@ ghost use Rattle.catalog_cli.specs.LoneCalls.{AreLoneCalls, AreReportCalls};
 use super::*;
 use crate::core_map::CoreMap;
 use crate::round::run_lone_round;
+use crate::updated_map::UpdatedMap;
 use cat_history::{CallerOp, Listed, Op, RoundPlan};
 use cat_key::Name;
 use cat_script::{Reason, ScriptFault};
@@ -286,11 +287,7 @@ fn tells_what_is_wrong_with_scripts(rt: HostRuntime) -> Result<(), Fail> {
         ("2 get a\n0 get", at_line(2, Reason::Words)),
         ("updater 1\n2 get a\n0 get", at_line(3, Reason::Words)),
         ("updater 1\n2 get a", at_line(2, Reason::Caller)),
-        (
-            "updater 1\n0 get a\n1 get a",
-            Status::NotBuilt(Verb::Updater),
-        ),
-        ("0 scan a 1\nupdater 1", Status::NotBuilt(Verb::Updater)),
+        ("updater 1\n0 get a\n1 get a", Status::NotBuilt(Verb::Get)),
         ("crash 0 5 5 5", Status::NotBuilt(Verb::Crash)),
         ("0 get a\n1 put a 1", Status::NotBuilt(Verb::Put)),
         ("1 get a\n0 get a", Status::NotBuilt(Verb::Get)),
@@ -594,7 +591,6 @@ fn each_status_has_its_code_and_text(rt: HostRuntime) -> Result<(), Fail> {
         (Status::NotBuilt(Verb::Get), 9, "not built: get"),
         (Status::NotBuilt(Verb::Del), 9, "not built: del"),
         (Status::NotBuilt(Verb::Scan), 9, "not built: scan"),
-        (Status::NotBuilt(Verb::Updater), 9, "not built: updater"),
         (Status::NotBuilt(Verb::Crash), 9, "not built: crash"),
     ];
     for (status, code, text) in &rows {
@@ -654,7 +650,7 @@ fn drawn_plan(alloc: Global, seed: u32, kinds: u32) -> Result<RoundPlan, Fail>
 }
 
 /// The printed report of a round on the map.
-fn report_on<M: NameMap>(
+fn report_on<M: UpdatedMap>(
     alloc: Global,
     map: &mut M,
     plan: &RoundPlan,
@@ -714,6 +710,26 @@ fn a_core_that_splits_answers_as_a_plain_map_with_room(rt: HostRuntime) -> Resul
                 on_core.as_slice(),
                 wanted.as_slice(),
                 "{slots} slots, seed {seed}"
+            );
+        }
+    }
+    Ok(())
+}
+
+/// On 12 nodes of four slots, which drawn calls fill, the updater makes turns seldom or often.
+#[test]
+fn no_report_tells_how_often_the_updater_made_turns(rt: HostRuntime) -> Result<(), Fail> {
+    for seed in 1u32..=10 {
+        let mut plan = drawn_plan(rt.alloc(), seed, ALL_KINDS)?;
+        plan.updater = 0;
+        let wanted = report_on_core::<Brand>(rt.alloc(), &plan, 12, 4, Blank::new(1))?;
+        for turns in [1, 7, 64] {
+            plan.updater = turns;
+            let found = report_on_core::<Brand>(rt.alloc(), &plan, 12, 4, Blank::new(1))?;
+            assert_eq!(rt;
+                found.as_slice(),
+                wanted.as_slice(),
+                "turns behind each {turns}, seed {seed}"
             );
         }
     }
