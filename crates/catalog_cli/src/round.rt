@@ -106,7 +106,11 @@ fn answer<M: UpdatedMap>(
     ensures err { OnErr result (M.contents map.new ≡ M.contents map.old) }
     ensures err_anchors { OnErr result (M.anchors map.new ≡ M.anchors map.old) }
 {
-    let reply = reply_to(alloc, map, op, place, limit)?;
+    let reply = if comes_late(op, place, limit) {
+        Reply::Spent { clock: place }
+    } else {
+        answer_in_time(alloc, map, op, place)?
+    };
     if is_due {
         map.turn();
     }
@@ -116,39 +120,6 @@ fn answer<M: UpdatedMap>(
 /// Whether a turn of the updater comes behind the call of this index, where one comes behind each so many calls, or none.
 fn is_turn_due(turns: u64, index: u64) -> bool {
     turns != 0 && index % turns == turns - 1
-}
-
-/// Answers one call at once, on the map as it is. So many writes have a place by now, and so many may have one before a
-/// put or a delete is refused. Where there is no memory for the parts of a scan, the map is as it was.
-fn reply_to<M: NameMap>(
-    alloc: Global,
-    map: &mut M,
-    op: &Op,
-    place: u64,
-    limit: u64,
-) -> Result<Reply, NoMemory>
-    requires calls { M.most map.old ≤ M.calls_left map.old }
-    requires writes { 0 < M.writes_left map.old }
-    ensures answer { IfOk result (IsAnswerNow (M.contents map.old) place op.now) }
-    ensures report { IfOk result (IsReportReply op.now) }
-    ensures spent { IfOk result (λ reply. IsSpent reply ↔ (IsWriter op.now × (limit ≤ place))) }
-    ensures full { IfOk result (λ reply. (reply ≡ Reply.Full) ↔ (((IsWriter op.now × (limit ≤ place)) → ⊥) ×
-        PutsFull (M.slots map.old) (M.most map.old) (M.contents map.old) (M.anchors map.old) op.now)) }
-    ensures bounds { IfOk result (EndsWithMembers (M.anchors map.old)) }
-    ensures left { IfOk result (λ reply. IsLeftBy (M.contents map.old) op.now reply (M.contents map.new)) }
-    ensures anchors { IfOk result (λ reply. M.anchors map.new ≡ anchors_after (M.slots map.old) (M.contents map.old)
-        (M.anchors map.old) op.now reply) }
-    ensures slots { M.slots map.new ≡ M.slots map.old }
-    ensures most { M.most map.new ≡ M.most map.old }
-    ensures calls_left { M.calls_left map.old ≤ M.calls_left map.new + M.most map.old }
-    ensures writes_left { M.writes_left map.old ≤ M.writes_left map.new + 1 }
-    ensures err { OnErr result (M.contents map.new ≡ M.contents map.old) }
-    ensures err_anchors { OnErr result (M.anchors map.new ≡ M.anchors map.old) }
-{
-    if comes_late(op, place, limit) {
-        return Ok(Reply::Spent { clock: place });
-    }
-    answer_in_time(alloc, map, op, place)
 }
 
 /// Whether a call is a put or a delete that comes when so many placed writes reach the limit.
