@@ -1,14 +1,14 @@
 -- What a schedule answers is one legal history.
-use Rattle.std.proofs.Common.{◌≡◌, true, false, ℕ, suc, ◌+◌, ◌<◌, ◌≤◌, ◌⊎◌, ⊎_elim, List, [], ◌∷◌, ◌++◌, length, set, refl, sym, ap, ◌∙◌, subst, arith}
+use Rattle.std.proofs.Common.{◌≡◌, ◌≢◌, true, false, ℕ, suc, ◌+◌, ◌<◌, ◌≤◌, ◌⊎◌, inl, inr, ⊎_elim, List, [], ◌∷◌, ◌++◌, length, set, refl, sym, ap, ◌∙◌, subst, arith}
 use Rattle.std.specs.Prelude.{Option, Some, None, IfSome, slice_get}
 use Rattle.std.proofs.lemmas.List.{length-append}
-use Rattle.std.proofs.lemmas.Bool.{cases_order}
+use Rattle.std.proofs.lemmas.Bool.{cases_eq, cases_order}
 use Rattle.std.specs.List.Sorted.{IsPermutation}
 use Rattle.std.proofs.lemmas.List.Sorted.{IsPermutation-refl}
 use mathlib.Core.Option.{some, some-injective, some-ne-none}
 use lib.ListN.{get_elem?}
 use Rattle.pm_words.specs.declared.layout.Layout.{Layout}
-use Rattle.pm_words.specs.Rows.{evicted}
+use Rattle.pm_words.specs.Rows.{acted, evicted}
 use Rattle.cat_history.specs.Maps.{Map, map_of}
 use Rattle.cat_history.specs.Records.{interval_at, change_of}
 use Rattle.cat_history.specs.declared.op.Change.{Change}
@@ -31,12 +31,18 @@ use Rattle.index_core.specs.declared.party.PartyState.{PartyState}
 use Rattle.index_core.specs.Answers.{IsAnswerOf}
 use Rattle.index_core.specs.Indexes.{Index, IsIndex, IsInFlight, parties_of, told, world}
 use Rattle.index_core.specs.Lone.{IsQuiet, alone_writes, state_done}
-use Rattle.index_core.specs.Schedules.{BegunCall, AnsweredCall, begun_call, flying_call, once_of, listed_of, CallLists, Runs, begins, starts, goes_on, answers, alone, evicts, reserves, StandsNowhere, StandsAt, WroteNothing, IsLegalAnswer, IsNext, interval_of, AnswersKeepOrder, EachWritesOnce, IsAnsweredWrite, IsWriteInFlight, IsLegalHistory, AreCounted, OneLegalHistory, FreshIndexBegins, flying_in, calls_in_flight}
+use Rattle.index_core.specs.Schedules.{BegunCall, AnsweredCall, begun_call, flying_call, once_of, listed_of, CallLists, Runs, begins, starts, goes_on, answers, alone, evicts, reserves, begins_turn, steps_turn, turns_alone, StandsNowhere, StandsAt, WroteNothing, IsLegalAnswer, IsNext, interval_of, AnswersKeepOrder, EachWritesOnce, IsAnsweredWrite, IsWriteInFlight, IsLegalHistory, AreCounted, OneLegalHistory, FreshIndexBegins, flying_in, calls_in_flight}
 use Rattle.index_core.proofs.Crashing.{placed_later}
 use Rattle.index_core.proofs.Limits.{write_end, places_keep_limit}
 use Rattle.index_core.proofs.Beginning.{kept_start, kept_alone}
-use Rattle.index_core.proofs.Scheduling.{IsEarlier, AnswerHolds, in_flight, Kept, place_le_end, else_there, took_one}
-use Rattle.index_core.specs.PartyStates.{idle_state, next_index, index_after, stepped_of, reply_with, answer_in, listed_by}
+use Rattle.updater.specs.declared.making.MakeTurn.{MakeTurn}
+use Rattle.updater.specs.Makings.{making_from, making_asks, making_turned}
+use Rattle.index_law.proofs.Parties.{at_set, set_here}
+use Rattle.index_core.specs.Turns.{turn_told}
+use Rattle.index_core.proofs.Flights.{each_goes_on}
+use Rattle.index_core.proofs.Indexed.{states_set}
+use Rattle.index_core.proofs.Scheduling.{IsEarlier, AnswerHolds, CountsUpTo, counts_as, in_flight, Kept, place_le_end, else_there, took_one}
+use Rattle.index_core.specs.PartyStates.{idle_state, next_index, index_after, stepped_of, reply_with, answer_in, listed_by, turn_after}
 use Rattle.index_core.proofs.Fresh.{fresh_quiet}
 use Rattle.index_core.proofs.Lists.{some_same, idle-each}
 use Rattle.index_core.proofs.Told.{go_of, done_of, told_lists}
@@ -60,6 +66,70 @@ kept_as first begun calls s words spare k index = record {
   each_call = k.each_call;
   counts = k.counts;
 }
+
+-- a turn leaves its party's calls as they are
+still_earlier : (c : AnsweredCall) (e : PartyState) (t : Option MakeTurn) (m : Option Running) → IsEarlier c e m → IsEarlier c (record e { turn = t }) m
+still_earlier c e t None is = is
+still_earlier c e t (Some machine) is = is
+
+still_flying : (e : PartyState) (t : Option MakeTurn) (m : Option Running) → flying_in (record e { turn = t }) m ≡ flying_in e m
+still_flying e t None = refl
+still_flying e t (Some machine) = refl
+
+-- the same calls and the same history, where the turn of one party is another
+kept_turned : (first : Index) (begun : List BegunCall) (calls : List AnsweredCall) (s : Index) (words : List ℕ) (i : ℕ) (e : PartyState) (t : Option MakeTurn) → Kept first begun calls s → get_elem? s.states i ≡ some e
+    → IsIndex (record s { words = words; states = set s.states i (record e { turn = t }) }) → Kept first begun calls (record s { words = words; states = set s.states i (record e { turn = t }) })
+kept_turned first begun calls s words i e t k there index = record {
+  index = index;
+  layout_is = k.layout_is;
+  base_is = k.base_is;
+  holds = k.holds;
+  order = k.order;
+  earlier = λ j c p state at at_p caller. ⊎_elim
+      (λ (mine : (p ≡ i) × (now ≡ state)). subst (λ (d : PartyState). IsEarlier c d d.machine) mine.1 (still_earlier c e t e.machine (k.earlier j c i e at there (caller ∙ mine.0))))
+      (λ (other : (p ≢ i) × (get_elem? s.states p ≡ some state)). k.earlier j c p state at other.1 caller)
+      (at_set s.states i p now state at_p);
+  writes = λ place write stands. ⊎_elim
+      (λ (w : IsAnsweredWrite calls place write). inl w)
+      (λ (w : IsWriteInFlight s.states place write). inr (⊎_elim
+      (λ (party : w.party ≡ i).
+      let same : w.state ≡ e = some-injective _ _ (sym (subst (λ (j : ℕ). get_elem? s.states j ≡ some w.state) party w.there) ∙ there) in
+      record {
+        party = i;
+        state = now;
+        machine = w.machine;
+        there = set_here s.states i now e there;
+        flies = ap (λ (d : PartyState). d.machine) (sym same) ∙ w.flies;
+        place = w.place;
+        caller = w.caller ∙ ap (λ (d : PartyState). d.caller) same;
+        index = w.index ∙ ap (λ (d : PartyState). d.index) same;
+        change = w.change;
+      })
+      (λ (other : w.party ≢ i). record {
+        party = w.party;
+        state = w.state;
+        machine = w.machine;
+        there = else_there s.states i w.party now w.state other w.there;
+        flies = w.flies;
+        place = w.place;
+        caller = w.caller;
+        index = w.index;
+        change = w.change;
+      })
+      (cases_eq w.party i)))
+      (k.writes place write stands);
+  next = k.next;
+  indexes = k.indexes;
+  states_count = states_set first calls s.states i now (λ p state other at_p. k.states_count p state at_p) (k.states_count i e there);
+  each_call = each_goes_on begun calls s.states k.each_call i e now there (still_flying e t e.machine);
+  counts = λ p state at_p. ⊎_elim
+      (λ (mine : (p ≡ i) × (now ≡ state)). subst (CountsUpTo first begun p) mine.1 (counts_as first begun i p e now mine.0 (omega arith) (k.counts i e there)))
+      (λ (other : (p ≢ i) × (get_elem? s.states p ≡ some state)). k.counts p state other.1)
+      (at_set s.states i p now state at_p);
+}
+  where
+    now : PartyState
+    now = record e { turn = t }
 
 no_flights : (states : List PartyState) → ((i : ℕ) (state : PartyState) → get_elem? states i ≡ some state → state.machine ≡ None) → calls_in_flight states ≡ []
 no_flights [] quiet = refl
@@ -138,6 +208,14 @@ kept first index quiet fresh (evicts {begun = begun} {calls = calls} {old = old}
 kept first index quiet fresh (reserves {begun = begun} {calls = calls} {old = old} {new = new} run e) few =
     let k = kept first index quiet fresh run few in
     subst (Kept first begun calls) (sym e) (kept_as first begun calls old old.words new.spare k (respare old new.spare k.index))
+kept first index quiet fresh (begins_turn {begun = begun} {calls = calls} {old = old} {new = new} {stamp = stamp} {release = release} {party = party} run idle t is) few =
+    subst (Kept first begun calls) (sym t.is)
+    (kept_turned first begun calls old old.words party t.state (Some (making_from old.layout old.generation stamp release)) (kept first index quiet fresh run few) t.there (subst IsIndex t.is is))
+kept first index quiet fresh (steps_turn {begun = begun} {calls = calls} {old = old} {new = new} {party = party} run t is) few =
+    subst (Kept first begun calls) (sym t.is)
+    (kept_turned first begun calls old (acted old.layout old.words (making_asks t.making)) party t.state (turn_after (making_turned t.making (turn_told old t.making))) (kept first index quiet fresh run few) t.there (subst IsIndex t.is is))
+kept first index quiet fresh (turns_alone {begun = begun} {calls = calls} {old = old} {new = new} run still t is) few =
+    subst (Kept first begun calls) (sym t.is) (kept_as first begun calls old new.words old.spare (kept first index quiet fresh run few) (subst IsIndex t.is is))
 
 -- where an interval starts
 start_is : (o : NameOp) (place : ℕ) → (interval_at o place).start ≡ place

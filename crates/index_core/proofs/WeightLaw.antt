@@ -29,15 +29,19 @@ use Rattle.index_core.specs.declared.party.PartyState.{PartyState}
 use Rattle.index_core.specs.declared.party.Whole.{Whole}
 use Rattle.index_core.specs.declared.party.Whole.TheVariants as whole
 use Rattle.index_core.specs.CoreCalls.{op_of, machine_of}
-use Rattle.index_core.specs.PartyStates.{machine_stage, party_of, state_with, state_after, index_after, next_index, answer_in, listed_by}
+use Rattle.index_core.specs.PartyStates.{machine_stage, party_of, state_with, state_after, index_after, next_index, answer_in, listed_by, turn_after}
 use Rattle.index_core.specs.Indexes.{Index, IsIndex, world, view_of, told}
 use Rattle.index_core.specs.Lone.{IsQuiet, state_done}
-use Rattle.index_core.specs.Schedules.{BegunCall, AnsweredCall, begun_call, flying_call, once_of, listed_of, Runs, begins, starts, goes_on, answers, alone, evicts, reserves}
+use Rattle.index_core.specs.Schedules.{BegunCall, AnsweredCall, begun_call, flying_call, once_of, listed_of, Runs, begins, starts, goes_on, answers, alone, evicts, reserves, begins_turn, steps_turn, turns_alone}
 use Rattle.index_core.specs.Weights.{weight_of, put_count, added_if, added_by, added_whole, put_in}
 use Rattle.index_core.specs.WeightBounds.{names_added, puts_in_flight, WeightIsBounded}
 use Rattle.index_core.proofs.Crashing.{crash_light}
 use Rattle.index_core.proofs.Quiet.{quiet_parties}
 use Rattle.index_core.proofs.Told.{go_of, done_of}
+use Rattle.updater.specs.declared.making.MakeTurn.{MakeTurn}
+use Rattle.updater.specs.Makings.{making_from, making_turned}
+use Rattle.index_core.specs.Turns.{turn_told}
+use Rattle.index_core.proofs.Turning.{parties_same, turns_keep}
 use Rattle.index_core.proofs.Lists.{map_there, map_set}
 use Rattle.index_core.proofs.OneHistory.{none_flies}
 use Rattle.index_core.specs.MachineLaws.{shows}
@@ -171,6 +175,12 @@ counts_added asked (whole.Worn node word) = omega arith
 quiet_sum : (s : Index) → IsQuiet s → weight_sum (world s) ≡ weight_of s
 quiet_sum s quiet = idle_weighs (world s) (quiet_parties s quiet)
 
+-- a turn shows no name
+turned_shows : (states : List PartyState) (i : ℕ) (e : PartyState) (t : Option MakeTurn) → get_elem? states i ≡ some e → showing_sum (set states i (record e { turn = t })) ≡ showing_sum states
+turned_shows states i e t there =
+    let sums = sum_set (λ (d : PartyState). showing d.machine) states i e (record e { turn = t }) there in
+    omega arith
+
 quiet_shows : (states : List PartyState) → ((i : ℕ) (state : PartyState) → get_elem? states i ≡ some state → state.machine ≡ None) → showing_sum states ≡ 0
 quiet_shows [] quiet = refl
 quiet_shows (state ∷ states) quiet =
@@ -294,6 +304,30 @@ module _ (first : Index) (quiet : IsQuiet first) (index : IsIndex first) where
         index = subst IsIndex (sym e) (respare old new.spare before.index);
         sum = subst (λ (v : Index). weight_sum (world v) ≤ bound first calls v) (sym e) before.sum;
       }
+  weighs (begins_turn {calls = calls} {old = old} {new = new} {stamp = stamp} {release = release} {party = party} run idle t is) =
+      let before = weighs run in
+      let sum = before.sum in
+      let turn = Some (making_from old.layout old.generation stamp release) in
+      let same : weight_sum (world new) ≡ weight_sum (world old) =
+      ap (λ (v : Index). weight_sum (world v)) t.is ∙ ap (λ (ps : List Party). weight_sum (record (world old) { parties = ps })) (parties_same old party t.state turn t.there) in
+      let shown : showing_sum new.states ≡ showing_sum old.states = ap (λ (v : Index). showing_sum v.states) t.is ∙ turned_shows old.states party t.state turn t.there in
+      record { index = is; sum = omega arith }
+  weighs (steps_turn {calls = calls} {old = old} {new = new} {party = party} run t is) =
+      let before = weighs run in
+      let sum = before.sum in
+      let law = turns_keep old party t.state t.making before.index t.there t.turns in
+      let less : weight_sum (world new) ≤ weight_sum (world old) = subst (λ (v : Index). weight_sum (world v) ≤ weight_sum (world old)) (sym t.is) law.weighs in
+      let shown : showing_sum new.states ≡ showing_sum old.states =
+      ap (λ (v : Index). showing_sum v.states) t.is ∙ turned_shows old.states party t.state (turn_after (making_turned t.making (turn_told old t.making))) t.there in
+      record { index = is; sum = omega arith }
+  weighs (turns_alone {calls = calls} {old = old} {new = new} run still t is) =
+      let before = weighs run in
+      let sum = before.sum in
+      let quiet_new : IsQuiet new = subst IsQuiet (sym t.is) (record { calls = still.calls; turns = still.turns }) in
+      let less : weight_sum (world new) ≤ weight_sum (world old) =
+      subst (λ (q : ℕ × ℕ). q.0 ≤ q.1) (λ k. (sym (quiet_sum new quiet_new) k, sym (quiet_sum old still) k)) t.weighs in
+      let shown : showing_sum new.states ≡ showing_sum old.states = ap (λ (v : Index). showing_sum v.states) t.is in
+      record { index = is; sum = omega arith }
 
 pub weight_is_bounded : WeightIsBounded
 weight_is_bounded first last begun calls index quiet run =

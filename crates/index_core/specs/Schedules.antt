@@ -36,9 +36,12 @@ use Rattle.index_core.specs.Answers.{TookPlace, WasReached, FoundNoRoom}
 use Rattle.index_core.specs.CoreCalls.{op_of, limit_of, count_of}
 use Rattle.index_core.specs.Listings.{ListsRange}
 use Rattle.index_core.specs.PartyStates.{next_index, index_after, answer_in, listed_by}
-use Rattle.index_core.specs.Indexes.{Index, IsIndex, IsInFlight, Starts, StepsTo}
+use Rattle.index_core.specs.Indexes.{Index, IsBusy, IsInFlight, IsIndex, Starts, StepsTo}
 use Rattle.index_core.specs.Crashes.{evicted_index}
 use Rattle.index_core.specs.Fresh.{IsFreshIndex}
+use Rattle.updater.specs.declared.making.TurnReply.{TurnReply}
+use Rattle.updater.specs.declared.terms.Turned.{Turned}
+use Rattle.index_core.specs.Turns.{StartsTurn, TurnSteps, TurnsAlone}
 use Rattle.index_core.specs.Lone.{IsQuiet, RunsAlone}
 
 -- A call that was begun.
@@ -140,6 +143,16 @@ pub data Runs (first : Index) : List BegunCall → List AnsweredCall → Index �
       word < image_words old.layout → new ≡ evicted_index old word → IsIndex new → Runs first begun calls new
   reserves : {begun : List BegunCall} {calls : List AnsweredCall} {old new : Index} → Runs first begun calls old →
       new ≡ record old { spare = new.spare } → Runs first begun calls new
+  -- and turns of the updater, step by step or alone
+  begins_turn : {begun : List BegunCall} {calls : List AnsweredCall} {old new : Index} {party stamp release : ℕ} →
+      Runs first begun calls old → (IsBusy old party → ⊥) → StartsTurn old party stamp release new → IsIndex new →
+      Runs first begun calls new
+  steps_turn : {begun : List BegunCall} {calls : List AnsweredCall} {old new : Index} {party : ℕ}
+      {result : Option TurnReply} → Runs first begun calls old → TurnSteps old party new result → IsIndex new →
+      Runs first begun calls new
+  turns_alone : {begun : List BegunCall} {calls : List AnsweredCall} {old new : Index} {stamp release : ℕ}
+      {answer : Turned} → Runs first begun calls old → IsQuiet old → TurnsAlone old stamp release answer new →
+      IsIndex new → Runs first begun calls new
 
 -- No write of the history is of this caller's call of this index.
 abbrev pub StandsNowhere : List Write → ℕ → ℕ → Type 0
