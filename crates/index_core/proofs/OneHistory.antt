@@ -208,7 +208,7 @@ kept first index quiet fresh (evicts {begun = begun} {calls = calls} {old = old}
 kept first index quiet fresh (reserves {begun = begun} {calls = calls} {old = old} {new = new} run e) few =
     let k = kept first index quiet fresh run few in
     subst (Kept first begun calls) (sym e) (kept_as first begun calls old old.words new.spare k (respare old new.spare k.index))
-kept first index quiet fresh (begins_turn {begun = begun} {calls = calls} {old = old} {new = new} {stamp = stamp} {release = release} {party = party} run idle t is) few =
+kept first index quiet fresh (begins_turn {begun = begun} {calls = calls} {old = old} {new = new} {party = party} {stamp = stamp} {release = release} run idle t is) few =
     subst (Kept first begun calls) (sym t.is)
     (kept_turned first begun calls old old.words party t.state (Some (making_from old.layout old.generation stamp release)) (kept first index quiet fresh run few) t.there (subst IsIndex t.is is))
 kept first index quiet fresh (steps_turn {begun = begun} {calls = calls} {old = old} {new = new} {party = party} run t is) few =

@@ -304,7 +304,7 @@ module _ (first : Index) (quiet : IsQuiet first) (index : IsIndex first) where
         index = subst IsIndex (sym e) (respare old new.spare before.index);
         sum = subst (λ (v : Index). weight_sum (world v) ≤ bound first calls v) (sym e) before.sum;
       }
-  weighs (begins_turn {calls = calls} {old = old} {new = new} {stamp = stamp} {release = release} {party = party} run idle t is) =
+  weighs (begins_turn {calls = calls} {old = old} {new = new} {party = party} {stamp = stamp} {release = release} run idle t is) =
       let before = weighs run in
       let sum = before.sum in
       let turn = Some (making_from old.layout old.generation stamp release) in
