@@ -1,13 +1,16 @@
 -- What a crash leaves of a recovery, at any time.
-use Rattle.std.proofs.Common.{Option, Some, None, ◌≡◌, ◌↔◌, ℕ, suc, ◌⊎◌, List, inr, refl, sym, subst, ◌∙◌}
+use Rattle.std.proofs.Common.{Option, Some, None, ◌≡◌, ◌↔◌, ℕ, suc, ◌+◌, ◌⊎◌, List, [], ◌∷◌, inl, inr, refl, sym, subst, ap, ap₂, ◌∙◌}
 use Rattle.pm_words.specs.declared.layout.Layout.{Layout}
 use Rattle.pm_words.specs.Images.{Row, IsImage}
 use Rattle.pm_words.specs.Locations.{Root, Cached, Durable}
 use Rattle.pm_words.specs.Rows.{IsRow, durable_row}
 use Rattle.pm_words.proofs.Made.{durable_row-at, durable_row-image}
 use Rattle.cat_history.specs.Maps.{Map}
-use Rattle.data_node.specs.Lists.{ListNode}
-use Rattle.sound_image.specs.Nodes.{image_list}
+use Rattle.data_node.specs.Lists.{ListNode, IsMember, IsIn, range_in}
+use Rattle.data_node.specs.Spots.{Spot}
+use Rattle.data_node.specs.Weights.{total, node_weight, list_weight}
+use Rattle.sound_image.specs.Nodes.{image_list, image_spot}
+use Rattle.sound_image.specs.Weights.{image_weight}
 use Rattle.recovery_law.specs.Columns.{Columns, IsSound, IsMapOf, Mends}
 use Rattle.recovery_law.specs.Stages.{Stage}
 use Rattle.recovery_law.specs.RowMoves.{RowSure}
@@ -15,7 +18,8 @@ use Rattle.recovery_law.specs.Rows.{columns_in, image_columns}
 use Rattle.recovery_law.proofs.Mended.{mended_is_sound}
 use Rattle.recovery_law.proofs.Mixes.{crash_mends}
 use Rattle.recovery_law.proofs.RowColumns.{crash_has_columns}
-use Rattle.recovery_law.proofs.SoundColumns.{columns_keep_maps}
+use Rattle.recovery_law.proofs.SoundColumns.{columns_keep_maps, spots_are}
+use Rattle.recovery_law.proofs.Weighs.{mended_weighs}
 use Rattle.recovery.specs.Plans.{columns, list_of}
 use Rattle.recovery.specs.MakingLaw.{HasNoRoot}
 use Rattle.recovery.specs.Recovered.{IsRecoverable, IsLeftOf, CrashLeavesSound, CrashBetweenLeavesSound}
@@ -23,6 +27,11 @@ use Rattle.recovery.specs.declared.making.Making.{Making}
 use Rattle.recovery.specs.Recoveries.{IsRecoveringAt, StopLeavesSound, moves_left}
 use Rattle.recovery.proofs.MakingLemmas.{makings_are_sure}
 use Rattle.recovery.proofs.SoundColumns.{sound_all, list_is}
+
+-- the sum over a list where each part is the same
+total_same : (v w : ℕ → ℕ) (here : ℕ) (list : List ListNode) → ((n : ℕ) → (n ≡ here) ⊎ IsMember list n → w n ≡ v n) → total w here list ≡ total v here list
+total_same v w here [] same = same here (inl refl)
+total_same v w here (m ∷ behind) same = ap₂ (λ a b. a + b) (same here (inl refl)) (total_same v w m.node behind (λ n is. same n (inr is)))
 
 module _ (image : Row) (recoverable : IsRecoverable image) (words : List ℕ) (row : IsRow image.layout words) (root : HasNoRoot image.layout words) (stage : Stage) (sure : RowSure image.layout (list_of image) (columns image) stage words) where
   abbrev l : Layout
@@ -58,6 +67,22 @@ module _ (image : Row) (recoverable : IsRecoverable image) (words : List ℕ) (r
   list_same : image_list l left ≡ list_of image
   list_same = list_is l left (list_of image) both.0
 
+  -- each node weighs what it weighed
+  abbrev weigh : (ℕ → Spot) → ℕ → ℕ
+  weigh now n = node_weight l.slots (range_in (list_of image) n) (now n)
+
+  node_same : (n : ℕ) → IsIn (list_of image) n → weigh (image_spot l left) n ≡ weigh (image_spot l image.words) n
+  node_same n is =
+      ap (λ (now : ℕ → Spot). weigh now n) (sym (spots_are l left))
+      ∙ ap (λ (c : Columns). weigh c.spot n) same
+      ∙ mended_weighs l (list_of image) (columns image) safe n recoverable.sound mends is
+      ∙ ap (λ (now : ℕ → Spot). weigh now n) (spots_are l image.words)
+
+  weight_same : image_weight l left ≡ image_weight l image.words
+  weight_same =
+      ap (list_weight l.slots (image_spot l left)) list_same
+      ∙ total_same (weigh (image_spot l image.words)) (weigh (image_spot l left)) 0 (list_of image) node_same
+
   pub leaves : IsLeftOf image left
   leaves = record {
     is_image = is_image;
@@ -68,6 +93,7 @@ module _ (image : Row) (recoverable : IsRecoverable image) (words : List ℕ) (r
         let here = (columns_keep_maps l left m) in
         let listed = subst (λ (list : List ListNode). IsMapOf l (list_of image) (columns image) m ↔ IsMapOf l list (image_columns l left) m) (sym list_same) (both.1 m) in
         (λ is. here.0 (listed.0 (there.1 is)), λ is. there.0 (listed.1 (here.1 is)));
+    same_weight = weight_same;
     generation = subst (λ (c : Columns). (c.generation ≡ (columns image).generation) ⊎ (c.generation ≡ suc (columns image).generation)) (sym same) mends.nodes.generation;
   }
 

@@ -8,6 +8,7 @@ use Rattle.version_lock.specs.Versions.{IsGeneration}
 use Rattle.sound_image.specs.Nodes.{image_list}
 use Rattle.sound_image.specs.Rules.{header_generation}
 use Rattle.sound_image.specs.Sound.{IsMapOf}
+use Rattle.sound_image.specs.Weights.{image_weight}
 use Rattle.sound_layer.specs.Sound.{IsSoundByAll, IsFirstOfAll}
 use Rattle.recovery_law.specs.Columns.{IsSound}
 use Rattle.recovery_law.specs.Rest.{Rests}
@@ -43,13 +44,14 @@ pub record MayEnd (row : Row) (rest : List law.Move) : Type 0 where
   pub recoverable : IsRecoverable image
   pub under_way : IsUnderWay image row rest
 
--- What a recovery leaves of the image, whole or broken: an image that is sound by all rules, with the same list
--- and the same map, in the generation that it had or in the next one.
+-- What a recovery leaves of the image, whole or broken: an image that is sound by all rules, with the same list, the
+-- same map and the same weight, in the generation that it had or in the next one.
 pub record IsLeftOf (image : Row) (left : List ℕ) : Type 0 where
   pub is_image : IsImage image.layout left
   pub sound : IsSoundByAll image.layout left
   pub same_list : image_list image.layout left ≡ list_of image
   pub same_map : (m : Map) → IsMapOf image.layout image.words m ↔ IsMapOf image.layout left m
+  pub same_weight : image_weight image.layout left ≡ image_weight image.layout image.words
   pub generation : (header_generation image.layout left ≡ header_generation image.layout image.words) ⊎
       (header_generation image.layout left ≡ suc (header_generation image.layout image.words))
 

@@ -14,7 +14,7 @@ pub fn making_law()
 {}
 
 /// Wherever a recovery is broken, during a move or between two: what is durable is an image that is sound by all rules,
-/// with the same list and the same map, at most one generation later. So it may be recovered again.
+/// with the same list, map and weight, at most one generation later. So it may be recovered again.
 pub fn crash_law()
     ensures during { CrashLeavesSound }
     ensures between { CrashBetweenLeavesSound }
