@@ -4,7 +4,7 @@ use Rattle.pm_words.specs.declared.layout.Layout.{Layout}
 use Rattle.pm_words.specs.declared.action.Action.{Action}
 use Rattle.pm_words.specs.declared.machine.Turn.{Turn}
 use Rattle.pm_words.specs.declared.machine.Turn.TheVariants.{Go, Done}
-use Rattle.pm_words.specs.Locations.{Root, Cached, Durable}
+use Rattle.pm_words.specs.Locations.{Root, Cached, Durable, IsVolatile}
 use Rattle.pm_words.specs.Rows.{IsRow, CanAct, acted, got}
 use Rattle.pm_words.proofs.Kept.{acted_row}
 use Rattle.data_node.specs.Lists.{ListNode}
@@ -26,7 +26,7 @@ use Rattle.recovery_law.specs.Moves as law
 use Rattle.recovery_law.proofs.RowChanges.{unset_goes, set_goes}
 use Rattle.recovery_law.proofs.Steps.{steps_keep}
 use Rattle.recovery.specs.Makings.{of_change}
-use Rattle.recovery.specs.MakingLaw.{HasNoRoot, sure_unsets, sure_sets, IsAfterTurn}
+use Rattle.recovery.specs.MakingLaw.{IsClearBeside, sure_unsets, sure_sets, IsAfterTurn}
 use Rattle.recovery.proofs.StoringLaw.{given_word}
 
 -- the aim at a line is the same on the columns of the first image and on those that mend it
@@ -36,7 +36,7 @@ aim_same l list o now line word mends = λ i. record {
   word = word;
 }
 
-module _ (l : Layout) (list : List ListNode) (o : Columns) (rest : List law.Move) (words : List ℕ) (change : Change) (sound : IsSound l list o) (row : IsRow l words) (root : HasNoRoot l words) (fits : IsChange change) (layout : change.layout ≡ l) where
+module _ (l : Layout) (list : List ListNode) (o : Columns) (rest : List law.Move) (words : List ℕ) (change : Change) (sound : IsSound l list o) (row : IsRow l words) (clear : IsClearBeside l words) (fits : IsChange change) (layout : change.layout ≡ l) where
   abbrev now : Columns
   now = columns_in l words Cached
 
@@ -63,28 +63,35 @@ module _ (l : Layout) (list : List ListNode) (o : Columns) (rest : List law.Move
   next_row : IsRow l (acted l words action)
   next_row = acted_row l words action row acts
 
-  -- a change leaves the root word
-  no_root : (aim : Aim) (before : Layer) → aim_of change ≡ aim → aim.word ≤ l.nodes → HasFew l.nodes before → ChangesTo l aim before (stage_of change) (leaves_in l words Cached) (leaves_in l words Durable)
-      → HasNoRoot l (acted l words action)
-  no_root aim before is word few known =
+  -- a change leaves the words that no column tells
+  clear_beside : (aim : Aim) (before : Layer) → aim_of change ≡ aim → aim.word ≤ l.nodes → HasFew l.nodes before → ChangesTo l aim before (stage_of change) (leaves_in l words Cached) (leaves_in l words Durable)
+      → IsClearBeside l (acted l words action)
+  clear_beside aim before is word few known =
       let others = (change_step_keeps l aim before words (stage_of change) action (stage_after (change_turned change x)) row.whole known.row word (λ some. few) known.sure known.at (step aim is)).others in
       let eight : 0 < 8 = omega arith in
-      (others (Cached (Root 0)) eight (λ leaf offset. ((λ e. cc), (λ e. cc))) ∙ root.0, others (Durable (Root 0)) eight (λ leaf offset. ((λ e. cc), (λ e. cc))) ∙ root.1)
+      record {
+        cached_root = others (Cached (Root 0)) eight (λ leaf offset. ((λ e. cc), (λ e. cc))) ∙ clear.cached_root;
+        durable_root = others (Durable (Root 0)) eight (λ leaf offset. ((λ e. cc), (λ e. cc))) ∙ clear.durable_root;
+        volatile = λ p has volatile. others p has (λ leaf offset. (
+          (λ e. let three : 3 < 3 = subst IsVolatile e volatile in omega arith),
+          (λ e. let four : 4 < 3 = subst IsVolatile e volatile in omega arith),
+        )) ∙ clear.volatile p has volatile;
+      }
 
   -- what a turn leaves
-  after_unset : (line : ℕ) → aim_of change ≡ aim_at o line 0 → law.Plan l list o (Unsets (suc line)) rest → HasNoRoot l (acted l words action) → (turn : Turn Change (Unit {0})) → SoundAfter change.layout (aim_of change) turn
+  after_unset : (line : ℕ) → aim_of change ≡ aim_at o line 0 → law.Plan l list o (Unsets (suc line)) rest → IsClearBeside l (acted l words action) → (turn : Turn Change (Unit {0})) → SoundAfter change.layout (aim_of change) turn
       → RowSure l list o (Unsetting line (stage_after turn)) (acted l words action) → IsAfterTurn l list o rest (acted l words action) (of_change turn)
-  after_unset line aim plan root' (Go next) stays sure = record {
+  after_unset line aim plan clear' (Go next) stays sure = record {
     row = next_row;
-    root = root';
+    clear = clear';
     fits = stays.0;
     sure = sure_unsets next line (stays.2 ∙ layout) (stays.1 ∙ aim) sure plan;
   }
-  after_unset line aim plan root' (Done answer) stays sure =
+  after_unset line aim plan clear' (Done answer) stays sure =
       let later = acted l words action in
       record {
         row = next_row;
-        root = root';
+        clear = clear';
         stage = Unsets (suc line);
         sure = steps_keep l list o (columns_in l later Cached) (columns_in l later Durable) (columns_in l later Cached) (columns_in l later Durable) (Unsetting line Changed) (Unsets (suc line)) sound sure (unset line);
         plan = plan;
@@ -94,24 +101,24 @@ module _ (l : Layout) (list : List ListNode) (o : Columns) (rest : List law.Move
       → CanAct l words action × IsAfterTurn l list o rest (acted l words action) (of_change (change_turned change x))
   unset_turn line aim sure plan = (
     acts,
-    after_unset line aim plan (no_root (aim_at now line 0) sure.0.before (aim ∙ aim_same l list o now line 0 sure.0.nodes) sure.0.word sure.0.first.few sure.0.leaves) (change_turned change x) (changes_stay_sound change x fits told)
+    after_unset line aim plan (clear_beside (aim_at now line 0) sure.0.before (aim ∙ aim_same l list o now line 0 sure.0.nodes) sure.0.word sure.0.first.few sure.0.leaves) (change_turned change x) (changes_stay_sound change x fits told)
         (unset_goes l list o words line (stage_of change) (stage_after (change_turned change x)) action row.whole sound sure
         (step (aim_at now line 0) (aim ∙ aim_same l list o now line 0 sure.0.nodes))),
   )
 
-  after_set : (line n : ℕ) → aim_of change ≡ aim_at o line (suc n) → law.Plan l list o (Sets (suc line)) rest → HasNoRoot l (acted l words action) → (turn : Turn Change (Unit {0})) → SoundAfter change.layout (aim_of change) turn
+  after_set : (line n : ℕ) → aim_of change ≡ aim_at o line (suc n) → law.Plan l list o (Sets (suc line)) rest → IsClearBeside l (acted l words action) → (turn : Turn Change (Unit {0})) → SoundAfter change.layout (aim_of change) turn
       → RowSure l list o (Setting line n (stage_after turn)) (acted l words action) → IsAfterTurn l list o rest (acted l words action) (of_change turn)
-  after_set line n aim plan root' (Go next) stays sure = record {
+  after_set line n aim plan clear' (Go next) stays sure = record {
     row = next_row;
-    root = root';
+    clear = clear';
     fits = stays.0;
     sure = sure_sets next line n (stays.2 ∙ layout) (stays.1 ∙ aim) sure plan;
   }
-  after_set line n aim plan root' (Done answer) stays sure =
+  after_set line n aim plan clear' (Done answer) stays sure =
       let later = acted l words action in
       record {
         row = next_row;
-        root = root';
+        clear = clear';
         stage = Sets (suc line);
         sure = steps_keep l list o (columns_in l later Cached) (columns_in l later Durable) (columns_in l later Cached) (columns_in l later Durable) (Setting line n Changed) (Sets (suc line)) sound sure (set line n);
         plan = plan;
@@ -121,7 +128,7 @@ module _ (l : Layout) (list : List ListNode) (o : Columns) (rest : List law.Move
       → CanAct l words action × IsAfterTurn l list o rest (acted l words action) (of_change (change_turned change x))
   set_turn line n aim sure plan = (
     acts,
-    after_set line n aim plan (no_root (aim_at now line (suc n)) sure.0.before (aim ∙ aim_same l list o now line (suc n) sure.0.nodes) sure.0.word sure.0.first.few sure.0.leaves) (change_turned change x) (changes_stay_sound change x fits told)
+    after_set line n aim plan (clear_beside (aim_at now line (suc n)) sure.0.before (aim ∙ aim_same l list o now line (suc n) sure.0.nodes) sure.0.word sure.0.first.few sure.0.leaves) (change_turned change x) (changes_stay_sound change x fits told)
         (set_goes l list o words line n (stage_of change) (stage_after (change_turned change x)) action row.whole sound sure
         (step (aim_at now line (suc n)) (aim ∙ aim_same l list o now line (suc n) sure.0.nodes))),
   )

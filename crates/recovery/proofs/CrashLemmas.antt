@@ -21,7 +21,7 @@ use Rattle.recovery_law.proofs.RowColumns.{crash_has_columns}
 use Rattle.recovery_law.proofs.SoundColumns.{columns_keep_maps, spots_are}
 use Rattle.recovery_law.proofs.Weighs.{mended_weighs}
 use Rattle.recovery.specs.Plans.{columns, list_of}
-use Rattle.recovery.specs.MakingLaw.{HasNoRoot}
+use Rattle.recovery.specs.MakingLaw.{IsClearBeside}
 use Rattle.recovery.specs.Recovered.{IsRecoverable, IsLeftOf, CrashLeavesSound, CrashBetweenLeavesSound}
 use Rattle.recovery.specs.declared.making.Making.{Making}
 use Rattle.recovery.specs.Recoveries.{IsRecoveringAt, StopLeavesSound, moves_left}
@@ -33,7 +33,7 @@ total_same : (v w : ℕ → ℕ) (here : ℕ) (list : List ListNode) → ((n : �
 total_same v w here [] same = same here (inl refl)
 total_same v w here (m ∷ behind) same = ap₂ (λ a b. a + b) (same here (inl refl)) (total_same v w m.node behind (λ n is. same n (inr is)))
 
-module _ (image : Row) (recoverable : IsRecoverable image) (words : List ℕ) (row : IsRow image.layout words) (root : HasNoRoot image.layout words) (stage : Stage) (sure : RowSure image.layout (list_of image) (columns image) stage words) where
+module _ (image : Row) (recoverable : IsRecoverable image) (words : List ℕ) (row : IsRow image.layout words) (clear : IsClearBeside image.layout words) (stage : Stage) (sure : RowSure image.layout (list_of image) (columns image) stage words) where
   abbrev l : Layout
   l = image.layout
 
@@ -86,7 +86,7 @@ module _ (image : Row) (recoverable : IsRecoverable image) (words : List ℕ) (r
   pub leaves : IsLeftOf image left
   leaves = record {
     is_image = is_image;
-    sound = sound_all l left is_image (durable_row-at l words (Root 0) ∙ root.1) (subst (λ (list : List ListNode). IsSound l list (image_columns l left)) (sym list_same) both.0);
+    sound = sound_all l left is_image (durable_row-at l words (Root 0) ∙ clear.durable_root) (subst (λ (list : List ListNode). IsSound l list (image_columns l left)) (sym list_same) both.0);
     same_list = list_same;
     same_map = λ m.
         let there = (columns_keep_maps l image.words m) in
@@ -100,10 +100,10 @@ module _ (image : Row) (recoverable : IsRecoverable image) (words : List ℕ) (r
 pub crash_leaves_sound : CrashLeavesSound
 crash_leaves_sound image rest words making recoverable here =
     let known = makings_are_sure image.layout (list_of image) (columns image) rest words making here in
-    leaves image recoverable words here.row here.root known.0 known.1
+    leaves image recoverable words here.row here.clear known.0 known.1
 
 pub crash_between_leaves_sound : CrashBetweenLeavesSound
-crash_between_leaves_sound image rest words recoverable between = leaves image recoverable words between.row between.root between.stage between.sure
+crash_between_leaves_sound image rest words recoverable between = leaves image recoverable words between.row between.clear between.stage between.sure
 
 pub stop_leaves_sound : StopLeavesSound
 stop_leaves_sound image recovery row recoverable here = at recovery.making here

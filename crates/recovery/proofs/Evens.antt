@@ -5,11 +5,12 @@ use Rattle.std.proofs.lemmas.List.{set-get_or}
 use Rattle.pm_words.specs.declared.layout.Layout.{Layout}
 use Rattle.pm_words.specs.declared.fence.FenceAt.{FenceAt}
 use Rattle.pm_words.specs.declared.fence.FenceAt.TheVariants as fence
-use Rattle.pm_words.specs.Locations.{Word, Root, Cached, Durable, HasWord, address_of, image_words, row_words, cached_address, durable_address}
+use Rattle.pm_words.specs.Locations.{Word, Location, Root, Cached, Durable, HasWord, HasLocation, IsVolatile, address_of, part_of_address, behind_start, row_parts, image_words, row_words, volatile_words, cached_address, durable_address}
 use Rattle.pm_words.specs.declared.action.Action.TheVariants.{Store}
 use Rattle.pm_words.specs.Rows.{acted, evicted}
-use Rattle.pm_words.proofs.Apart.{at-set_other}
-use Rattle.recovery.specs.MakingLaw.{IsEvenAt, HasInHand, HasNoRoot}
+use Rattle.pm_words.proofs.Apart.{address_fits, at-set_other}
+use Rattle.pm_words.proofs.Parts.{earlier}
+use Rattle.recovery.specs.MakingLaw.{IsEvenAt, HasInHand, IsClearBeside}
 
 module _ (l : Layout) (words : List ℕ) (word : ℕ) (whole : length words ≡ row_words l) (within : word < image_words l) where
   -- the cached words stay
@@ -45,16 +46,32 @@ zero_evicts l words word whole within k small cached durable =
     let even = even_still l words word whole within k small (durable ∙ sym cached) in
     (still, even ∙ still)
 
-pub root_evicts : (l : Layout) (words : List ℕ) (word : ℕ) → length words ≡ row_words l → word < image_words l → HasNoRoot l words → HasNoRoot l (evicted l words word)
-root_evicts l words word whole within root = zero_evicts l words word whole within 8 (omega arith) root.0 root.1
+-- a volatile word stands in front of all twins,
+volatile_before : (l : Layout) (p : Location) → HasLocation l p → IsVolatile p → address_of l p < volatile_words l
+volatile_before l p has volatile = let before = earlier (row_parts l) (part_of_address p) 3 (behind_start l p) 0 (address_fits l p has) volatile in omega arith
+
+pub clear_evicts : (l : Layout) (words : List ℕ) (word : ℕ) → length words ≡ row_words l → word < image_words l → IsClearBeside l words → IsClearBeside l (evicted l words word)
+clear_evicts l words word whole within clear =
+    let roots = zero_evicts l words word whole within 8 (omega arith) clear.cached_root clear.durable_root in
+    record {
+      cached_root = roots.0;
+      durable_root = roots.1;
+      volatile = λ p has volatile.
+          let before = volatile_before l p has volatile in
+          let apart : address_of l p ≢ durable_address l word = omega arith in
+          get_or-set_other words (durable_address l word) (address_of l p) (slice_index words (cached_address l word)) 0 apart ∙ clear.volatile p has volatile;
+    }
 
 -- and under a store into another word of the image
-pub root_stored : (l : Layout) (words : List ℕ) (place : Word) (value : ℕ) → HasWord l place → place ≢ Root 0 → HasNoRoot l words → HasNoRoot l (acted l words (Store (address_of l (Cached place)) value))
-root_stored l words place value has other root =
-    let eight : 0 < 8 = omega arith in (
-      at-set_other l words (Cached place) (Cached (Root 0)) value has eight (λ e. other (let same : place ≡ Root 0 = cc in same)) ∙ root.0,
-      at-set_other l words (Cached place) (Durable (Root 0)) value has eight (λ e. cc) ∙ root.1,
-    )
+pub clear_stored : (l : Layout) (words : List ℕ) (place : Word) (value : ℕ) → HasWord l place → place ≢ Root 0 → IsClearBeside l words → IsClearBeside l (acted l words (Store (address_of l (Cached place)) value))
+clear_stored l words place value has other clear =
+    let eight : 0 < 8 = omega arith in
+    record {
+      cached_root = at-set_other l words (Cached place) (Cached (Root 0)) value has eight (λ e. other (let same : place ≡ Root 0 = cc in same)) ∙ clear.cached_root;
+      durable_root = at-set_other l words (Cached place) (Durable (Root 0)) value has eight (λ e. cc) ∙ clear.durable_root;
+      volatile = λ p is volatile.
+          at-set_other l words (Cached place) p value has is (λ e. let three : 3 < 3 = subst IsVolatile e volatile in absurd (omega arith)) ∙ clear.volatile p is volatile;
+    }
 
 -- a load leaves the words
 pub load_leaves : (words : List ℕ) (address : ℕ) → slice_set words address (slice_index words address) ≡ words

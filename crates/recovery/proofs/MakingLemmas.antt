@@ -31,30 +31,30 @@ use Rattle.recovery.specs.declared.storing.StoringAt.TheVariants as at
 use Rattle.recovery.specs.Plans.{move_of}
 use Rattle.recovery.specs.Storings.{fenced_word, IsStoring, IsStoringAt, stores, storing_asks, storing_turned}
 use Rattle.recovery.specs.Makings.{IsMaking, MayMake, making_of, making_asks, making_turned, anchor_at, generation_at, of_storing}
-use Rattle.recovery.specs.MakingLaw.{HasNoRoot, SureMaking, sure_stores, sure_unsets, sure_sets, IsStoreOf, SureStoringAt, IsAtMove, IsAfterTurn, MakingsBegin, MakingsGo, MakingsEvict, MakingsAreSure}
-use Rattle.recovery.proofs.Evens.{even_still, hand_stays, root_evicts}
+use Rattle.recovery.specs.MakingLaw.{IsClearBeside, SureMaking, sure_stores, sure_unsets, sure_sets, IsStoreOf, SureStoringAt, IsAtMove, IsAfterTurn, MakingsBegin, MakingsGo, MakingsEvict, MakingsAreSure}
+use Rattle.recovery.proofs.Evens.{even_still, hand_stays, clear_evicts}
 use Rattle.recovery.proofs.StoringLaw.{storing_goes}
 use Rattle.recovery.proofs.ChangingLaw.{unset_turn, set_turn}
 
 -- Turns.
-storing_turns : (l : Layout) (list : List ListNode) (o : Columns) (rest : List law.Move) (words : List ℕ) (storing : Storing) (before after end : Stage) → storing.layout ≡ l → IsSound l list o → IsRow l words → HasNoRoot l words → IsStoring storing
+storing_turns : (l : Layout) (list : List ListNode) (o : Columns) (rest : List law.Move) (words : List ℕ) (storing : Storing) (before after end : Stage) → storing.layout ≡ l → IsSound l list o → IsRow l words → IsClearBeside l words → IsStoring storing
     → IsStoreOf l list o rest storing before after end → SureStoringAt l list o storing before after words storing.at
     → CanAct l words (storing_asks storing) × IsAfterTurn l list o rest (acted l words (storing_asks storing)) (of_storing (storing_turned storing (got l words (storing_asks storing))))
 storing_turns l list o rest words storing before after end layout =
-    subst (λ (m : Layout). IsSound m list o → IsRow m words → HasNoRoot m words → IsStoring storing → IsStoreOf m list o rest storing before after end → SureStoringAt m list o storing before after words storing.at
+    subst (λ (m : Layout). IsSound m list o → IsRow m words → IsClearBeside m words → IsStoring storing → IsStoreOf m list o rest storing before after end → SureStoringAt m list o storing before after words storing.at
     → CanAct m words (storing_asks storing) × IsAfterTurn m list o rest (acted m words (storing_asks storing)) (of_storing (storing_turned storing (got m words (storing_asks storing))))) layout
-    (λ sound row root fits is sure. storing_goes list o rest words storing before after end sound row root fits is storing.at fits.here sure)
+    (λ sound row clear fits is sure. storing_goes list o rest words storing before after end sound row clear fits is storing.at fits.here sure)
 
 pub makings_go : MakingsGo
 makings_go l list o rest words making sound here = turns making here.fits here.sure
   where
     turns : (m : Making) → IsMaking m → SureMaking l list o rest words m → CanAct l words (making_asks m) × IsAfterTurn l list o rest (acted l words (making_asks m)) (making_turned m (got l words (making_asks m)))
-    turns m fine (sure_stores storing before after end layout is known) = storing_turns l list o rest words storing before after end layout sound here.row here.root fine is known
-    turns m fine (sure_unsets change line layout aim known plan) = unset_turn l list o rest words change sound here.row here.root fine layout line aim known plan
-    turns m fine (sure_sets change line n layout aim known plan) = set_turn l list o rest words change sound here.row here.root fine layout line n aim known plan
+    turns m fine (sure_stores storing before after end layout is known) = storing_turns l list o rest words storing before after end layout sound here.row here.clear fine is known
+    turns m fine (sure_unsets change line layout aim known plan) = unset_turn l list o rest words change sound here.row here.clear fine layout line aim known plan
+    turns m fine (sure_sets change line n layout aim known plan) = set_turn l list o rest words change sound here.row here.clear fine layout line n aim known plan
 
 -- How a move begins.
-module _ (l : Layout) (list : List ListNode) (o : Columns) (rest : List law.Move) (words : List ℕ) (sound : IsSound l list o) (row : IsRow l words) (root : HasNoRoot l words) where
+module _ (l : Layout) (list : List ListNode) (o : Columns) (rest : List law.Move) (words : List ℕ) (sound : IsSound l list o) (row : IsRow l words) (clear : IsClearBeside l words) where
   abbrev now : Columns
   now = columns_in l words Cached
 
@@ -74,7 +74,7 @@ module _ (l : Layout) (list : List ListNode) (o : Columns) (rest : List law.Move
         omega arith,
         λ fits. record {
           row = row;
-          root = root;
+          clear = clear;
           fits = fits;
           sure = sure_stores (stores l (word_number l (Header 5)) (generation_at here + 1)) Begins Raised (Trims (nodes_of list)) refl
               (record { place = Header 5; value = suc o.generation; move = of_generation; word = refl; stored = omega arith; plan = plan }) sure;
@@ -87,7 +87,7 @@ module _ (l : Layout) (list : List ListNode) (o : Columns) (rest : List law.Move
         within,
         λ fits. record {
           row = row;
-          root = root;
+          clear = clear;
           fits = fits;
           sure = sure_stores (stores l (word_number l (Node n 1)) bits) (Trims (n ∷ left)) (Trimmed n left) (Trims left) refl
               (record { place = Node n 1; value = bits; move = of_bits n bits left within is trims; word = refl; stored = refl; plan = plan }) sure;
@@ -100,7 +100,7 @@ module _ (l : Layout) (list : List ListNode) (o : Columns) (rest : List law.Move
         within,
         λ fits. record {
           row = row;
-          root = root;
+          clear = clear;
           fits = fits;
           sure = sure_stores (stores l (word_number l (line_word 0 j)) 0) (Empties j) (Emptied j) (Empties (suc j)) refl
               (record { place = line_word 0 j; value = 0; move = of_empty j within; word = refl; stored = refl; plan = plan }) sure;
@@ -126,7 +126,7 @@ module _ (l : Layout) (list : List ListNode) (o : Columns) (rest : List law.Move
         within,
         λ fits. record {
           row = row;
-          root = root;
+          clear = clear;
           fits = fits;
           sure = sure_unsets (change_starts l (anchor_at here j) 0) j refl (aims j 0 within mends)
               (steps_keep l list o now safe now safe (Unsets j) (Unsetting j (Looks start_sight)) sound sure (unsets j (λ e. busy (sym (sure.1 j) ∙ e)) lacks_now)) plan;
@@ -143,7 +143,7 @@ module _ (l : Layout) (list : List ListNode) (o : Columns) (rest : List law.Move
         (within, node),
         λ fits. record {
           row = row;
-          root = root;
+          clear = clear;
           fits = fits;
           sure = sure_sets (change_starts l (anchor_at here j) (n + 1)) j n refl (aims j (n + 1) within mends ∙ ap (aim_at o j) one)
               (steps_keep l list o now safe now safe (Sets j) (Setting j n (Looks start_sight)) sound sure (sets j n (λ e. busy (sym (sure.1 j) ∙ e)) is has_now)) plan;
@@ -160,7 +160,7 @@ module _ (l : Layout) (list : List ListNode) (o : Columns) (rest : List law.Move
 pub makings_begin : MakingsBegin
 makings_begin l list o next rest words sound generation between =
     let ready = plan_reaches l list o (columns_in l words Cached) (columns_in l words Durable) between.stage (move_of next) rest sound between.sure between.plan in
-    starts_move l list o rest words sound between.row between.root generation next ready.stage ready.takes ready.sure
+    starts_move l list o rest words sound between.row between.clear generation next ready.stage ready.takes ready.sure
 
 -- Words that become durable.
 module _ (l : Layout) (list : List ListNode) (o : Columns) (rest : List law.Move) (words : List ℕ) (word : ℕ) (sound : IsSound l list o) (within : word < image_words l) (row : IsRow l words) where
@@ -183,7 +183,7 @@ module _ (l : Layout) (list : List ListNode) (o : Columns) (rest : List law.Move
 pub makings_evict : MakingsEvict
 makings_evict l list o rest words making word sound within here = record {
   row = evicted_row l words word here.row within;
-  root = root_evicts l words word here.row.whole within here.root;
+  clear = clear_evicts l words word here.row.whole within here.clear;
   fits = here.fits;
   sure = making_evicts l list o rest words word sound within here.row making here.fits here.sure;
 }

@@ -7,7 +7,7 @@ use Rattle.pm_words.specs.declared.machine.Turn.{Turn}
 use Rattle.pm_words.specs.Images.{Row, IsImage}
 use Rattle.pm_words.specs.Locations.{Root, Cached, Durable}
 use Rattle.pm_words.specs.Rows.{CanAct, acted, got, row_of}
-use Rattle.pm_words.proofs.Made.{row_of-row, row_of-at}
+use Rattle.pm_words.proofs.Made.{row_of-row, row_of-at, row_of-at_volatile}
 use Rattle.version_lock.specs.Versions.{IsGeneration}
 use Rattle.sound_layer.specs.Sound.{IsSoundByAll}
 use Rattle.sound_layer.proofs.LayerLaws.{sound_keeps_layer}
@@ -90,7 +90,11 @@ module _ (image : Row) (recoverable : IsRecoverable image) where
         layout = refl;
         between = record {
           row = row_of-row image.layout image.words is;
-          root = (twins.0 ∙ recoverable.root, twins.1 ∙ recoverable.root);
+          clear = record {
+            cached_root = twins.0 ∙ recoverable.root;
+            durable_root = twins.1 ∙ recoverable.root;
+            volatile = row_of-at_volatile image.layout image.words;
+          };
           stage = Begins;
           sure = subst (λ (c : Columns). Sure image.layout (list_of image) o Begins (columns_in image.layout (row_of image.layout image.words) Cached) c) (sym same.1)
               (subst (λ (c : Columns). Sure image.layout (list_of image) o Begins c o) (sym same.0) sure);
@@ -113,6 +117,7 @@ module _ (image : Row) (recoverable : IsRecoverable image) where
         layout = under.layout;
         rests = ends_at_rest image.layout (list_of image) o now safe recoverable.sound recoverable.next
             (plan_ends image.layout (list_of image) o now safe under.between.stage recoverable.sound under.between.sure under.between.plan);
+        volatile = under.between.clear.volatile;
         left = crash_between_leaves_sound image [] row.words recoverable under.between;
       }
 

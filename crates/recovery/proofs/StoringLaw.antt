@@ -26,8 +26,8 @@ use Rattle.recovery.specs.declared.storing.StoringAt.{StoringAt}
 use Rattle.recovery.specs.declared.storing.StoringAt.TheVariants as at
 use Rattle.recovery.specs.Storings.{IsStoring, IsStoringAt, fenced_word, storing_at_asks, storing_at_turned, storing_fenced}
 use Rattle.recovery.specs.Makings.{of_storing}
-use Rattle.recovery.specs.MakingLaw.{HasNoRoot, IsEvenAt, IsStoreOf, SureStoringAt, sure_stores, IsAtMove, IsBetweenMoves, IsAfterTurn}
-use Rattle.recovery.proofs.Evens.{even_now, even_still, root_evicts, root_stored, load_leaves}
+use Rattle.recovery.specs.MakingLaw.{IsClearBeside, IsEvenAt, IsStoreOf, SureStoringAt, sure_stores, IsAtMove, IsBetweenMoves, IsAfterTurn}
+use Rattle.recovery.proofs.Evens.{even_now, even_still, clear_evicts, clear_stored, load_leaves}
 
 given_fits : (a : Action) (word : ℕ) → word < 2 ^ 64 → given a word < 2 ^ 64
 given_fits (Load address) word small = small
@@ -52,7 +52,7 @@ store_has l list o s t u w value of_generation = omega arith
 store_has l list o s t u w value (of_bits n bits left within is fits) = (within, omega arith)
 store_has l list o s t u w value (of_empty j within) = (omega arith, omega arith, omega arith)
 
-module _ (list : List ListNode) (o : Columns) (rest : List law.Move) (words : List ℕ) (storing : Storing) (before after end : Stage) (sound : IsSound storing.layout list o) (row : IsRow storing.layout words) (root : HasNoRoot storing.layout words) (fits : IsStoring storing)
+module _ (list : List ListNode) (o : Columns) (rest : List law.Move) (words : List ℕ) (storing : Storing) (before after end : Stage) (sound : IsSound storing.layout list o) (row : IsRow storing.layout words) (clear : IsClearBeside storing.layout words) (fits : IsStoring storing)
     (is : IsStoreOf storing.layout list o rest storing before after end) where
   abbrev l : Layout
   l = storing.layout
@@ -80,7 +80,7 @@ module _ (list : List ListNode) (o : Columns) (rest : List law.Move) (words : Li
       (λ i. acted l words (Store (cached_address l (sym is.word i)) (sym is.stored i))) in
       record {
         row = acted_row l words (Store (cached_address l storing.word) storing.value) row store_acts;
-        root = subst (HasNoRoot l) there (root_stored l words is.place is.value (store_has l list o before after end is.place is.value is.move) (store_no_root l list o before after end is.place is.value is.move) root);
+        clear = subst (IsClearBeside l) there (clear_stored l words is.place is.value (store_has l list o before after end is.place is.value is.move) (store_no_root l list o before after end is.place is.value is.move) clear);
         fits = record { layout = fits.layout; word = fits.word; value = fits.value; here = record { word = omega arith; value = tt } };
         sure = sure_stores (At (at.Line fence_start)) before after end refl (record { place = is.place; value = is.value; move = is.move; word = is.word; stored = is.stored; plan = is.plan })
             (subst (λ (ws : List ℕ). RowSure l list o after ws) there (move_stores l list o words before after end is.place is.value row.whole sound sure is.move), tt, λ past. absurd (omega arith));
@@ -94,11 +94,11 @@ module _ (list : List ListNode) (o : Columns) (rest : List law.Move) (words : Li
   place_within = let word = fits.word in omega arith
 
   -- the fence as it is at a word, with this in hand
-  fencing : (fence : Fence) → IsFence fence → (words' : List ℕ) → IsRow l words' → HasNoRoot l words' → SureStoringAt l list o storing before after words' (at.Line fence)
+  fencing : (fence : Fence) → IsFence fence → (words' : List ℕ) → IsRow l words' → IsClearBeside l words' → SureStoringAt l list o storing before after words' (at.Line fence)
       → IsAtMove l list o rest words' (Stores (At (at.Line fence)))
-  fencing fence fine words' row' root' sure = record {
+  fencing fence fine words' row' clear' sure = record {
     row = row';
-    root = root';
+    clear = clear';
     fits = record { layout = fits.layout; word = fits.word; value = fits.value; here = fine };
     sure = sure_stores (At (at.Line fence)) before after end refl (record { place = is.place; value = is.value; move = is.move; word = is.word; stored = is.stored; plan = is.plan }) sure;
   }
@@ -123,7 +123,7 @@ module _ (list : List ListNode) (o : Columns) (rest : List law.Move) (words : Li
       let same : acted l words (Load (cached_address l k)) ≡ words = load_leaves words (cached_address l k) in (
         (omega arith, tt),
         subst (λ (ws : List ℕ). IsAtMove l list o rest ws (Stores (At (at.Line (record { word = word; at = hand.Drain x }))))) (sym same)
-            (fencing (record { word = word; at = hand.Drain x }) stays words row root (sure.0, sym is_got, sure.2)),
+            (fencing (record { word = word; at = hand.Drain x }) stays words row clear (sure.0, sym is_got, sure.2)),
       )
   fence_goes fence fine sure x action next (drains {word} {value} more small) is_got stays =
       let k = fenced_word storing.word fence in
@@ -131,7 +131,7 @@ module _ (list : List ListNode) (o : Columns) (rest : List law.Move) (words : Li
       let same = drained k value within small sure.1 in (
         drain_acts k value within small sure.1,
         subst (λ (ws : List ℕ). IsAtMove l list o rest ws (Stores (At (at.Line (record { word = word + 1; at = hand.Load }))))) (sym same)
-            (fencing (record { word = word + 1; at = hand.Load }) stays (evicted l words k) (drained_row k value within small sure.1) (root_evicts l words k row.whole within root) (
+            (fencing (record { word = word + 1; at = hand.Load }) stays (evicted l words k) (drained_row k value within small sure.1) (clear_evicts l words k row.whole within clear) (
               row_evicts l list o words after k row.whole within sound sure.0,
               tt,
               λ past. elim (cases_lt storing.word k) as (λ _. IsEvenAt l (evicted l words k) storing.word) [
@@ -151,7 +151,7 @@ module _ (list : List ListNode) (o : Columns) (rest : List law.Move) (words : Li
         drain_acts k value within small sure.1,
         subst (λ (ws : List ℕ). IsBetweenMoves l list o rest ws) (sym same) (record {
           row = drained_row k value within small sure.1;
-          root = root_evicts l words k row.whole within root;
+          clear = clear_evicts l words k row.whole within clear;
           stage = end;
           sure = move_ends l list o (evicted l words k) before after end is.place is.value sound (row_evicts l list o words after k row.whole within sound sure.0) is.move
               (subst (λ w. IsEvenAt l (evicted l words k) w) is.word even);

@@ -5,7 +5,7 @@ use Rattle.pm_words.specs.declared.machine.Turn.{Turn}
 use Rattle.pm_words.specs.declared.machine.Turn.TheVariants.{Go, Done}
 use Rattle.pm_words.specs.declared.fence.FenceAt.{FenceAt}
 use Rattle.pm_words.specs.declared.fence.FenceAt.TheVariants as fence
-use Rattle.pm_words.specs.Locations.{Word, Root, Cached, Durable, at}
+use Rattle.pm_words.specs.Locations.{Word, Location, Root, Cached, Durable, HasLocation, IsVolatile, at}
 use Rattle.pm_words.specs.Locations.{word_number, image_words, cached_address, durable_address}
 use Rattle.pm_words.specs.Rows.{IsRow, CanAct, acted, got, evicted}
 use Rattle.version_lock.specs.Versions.{IsGeneration}
@@ -64,15 +64,21 @@ pub data SureMaking (l : Layout) (list : List ListNode) (o : Columns) (rest : Li
       RowSure l list o (Setting line n (stage_of change)) words → law.Plan l list o (Sets (suc line)) rest →
       SureMaking l list o rest words (Changes change)
 
--- The root word is 0, cached and durable. No column tells it.
-abbrev pub HasNoRoot : Layout → List ℕ → Type 0
-HasNoRoot l words = (at l words (Cached (Root 0)) ≡ 0) × (at l words (Durable (Root 0)) ≡ 0)
+-- Each volatile word is 0.
+abbrev pub HasNoVolatile : Layout → List ℕ → Type 0
+HasNoVolatile l words = (p : Location) → HasLocation l p → IsVolatile p → at l words p ≡ 0
+
+-- The words that no column tells are 0: the root word, cached and durable, and the volatile ones.
+pub record IsClearBeside (l : Layout) (words : List ℕ) : Type 0 where
+  pub cached_root : at l words (Cached (Root 0)) ≡ 0
+  pub durable_root : at l words (Durable (Root 0)) ≡ 0
+  pub volatile : HasNoVolatile l words
 
 -- A recovery of o is at this move, and these are planned behind it.
 pub record IsAtMove (l : Layout) (list : List ListNode) (o : Columns) (rest : List law.Move) (words : List ℕ)
     (making : Making) : Type 0 where
   pub row : IsRow l words
-  pub root : HasNoRoot l words
+  pub clear : IsClearBeside l words
   pub fits : IsMaking making
   pub sure : SureMaking l list o rest words making
 
@@ -80,7 +86,7 @@ pub record IsAtMove (l : Layout) (list : List ListNode) (o : Columns) (rest : Li
 pub record IsBetweenMoves (l : Layout) (list : List ListNode) (o : Columns) (rest : List law.Move) (words : List ℕ) :
     Type 0 where
   pub row : IsRow l words
-  pub root : HasNoRoot l words
+  pub clear : IsClearBeside l words
   pub stage : Stage
   pub sure : RowSure l list o stage words
   pub plan : law.Plan l list o stage rest

@@ -18,7 +18,7 @@ use Rattle.recovery.specs.declared.making.Making.{Making}
 use Rattle.recovery.specs.declared.recovering.Refused.{Refused}
 use Rattle.recovery.specs.declared.recovering.Refused.TheVariants.{Unsound, LastGeneration, NoMemory}
 use Rattle.recovery.specs.Plans.{columns, list_of}
-use Rattle.recovery.specs.MakingLaw.{IsAtMove, IsBetweenMoves}
+use Rattle.recovery.specs.MakingLaw.{HasNoVolatile, IsAtMove, IsBetweenMoves}
 
 -- The image is sound, its root word is 0, and there is a next generation.
 pub record IsRecoverable (image : Row) : Type 0 where
@@ -56,11 +56,12 @@ pub record IsLeftOf (image : Row) (left : List ℕ) : Type 0 where
       (header_generation image.layout left ≡ suc (header_generation image.layout image.words))
 
 -- The rows are those of the image once it is recovered: by its columns, cached and durable, and as the image that is
--- durable then.
+-- durable then; and each volatile word is 0.
 pub record IsRecoveredTo (image row : Row) : Type 0 where
   pub layout : row.layout ≡ image.layout
   pub rests : Rests image.layout (list_of image) (columns image) (columns_in image.layout row.words Cached)
       (columns_in image.layout row.words Durable)
+  pub volatile : HasNoVolatile image.layout row.words
   pub left : IsLeftOf image (durable_row image.layout row.words)
 
 -- Why the image is refused: by the first of all rules that it breaks; or it is sound, and of the last generation; or

@@ -96,9 +96,9 @@ pub(crate) fn refusal(image: &Image) -> Option<Refused>
 }
 
 /// Recovers an image: the memory then has the same list, the same map and the same weight, in the next generation, with
-/// an empty log, a search layer that is exactly the list's, and no live slot out of its node's range; and all of it is
-/// durable. An image that isn't sound is refused, by the first of all rules that it breaks, and so is one of the last
-/// generation.
+/// an empty log, a search layer that is exactly the list's, and no live slot out of its node's range; all of it is
+/// durable, and its volatile words are 0. An image that isn't sound is refused, by the first of all rules that it
+/// breaks, and so is one of the last generation.
 pub fn recover<L: Ledger>(
     alloc: Global,
     image: Image,
