@@ -715,23 +715,3 @@ fn a_core_that_splits_answers_as_a_plain_map_with_room(rt: HostRuntime) -> Resul
     }
     Ok(())
 }
-
-/// On 12 nodes of four slots, which drawn calls fill, the updater makes turns seldom or often.
-#[test]
-fn no_report_tells_how_often_the_updater_made_turns(rt: HostRuntime) -> Result<(), Fail> {
-    for seed in 1u32..=10 {
-        let mut plan = drawn_plan(rt.alloc(), seed, ALL_KINDS)?;
-        plan.updater = 0;
-        let wanted = report_on_core::<Brand>(rt.alloc(), &plan, 12, 4, Blank::new(1))?;
-        for turns in [1, 7, 64] {
-            plan.updater = turns;
-            let found = report_on_core::<Brand>(rt.alloc(), &plan, 12, 4, Blank::new(1))?;
-            assert_eq!(rt;
-                found.as_slice(),
-                wanted.as_slice(),
-                "turns behind each {turns}, seed {seed}"
-            );
-        }
-    }
-    Ok(())
-}
