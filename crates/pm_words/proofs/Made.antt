@@ -1,14 +1,14 @@
 -- The fresh image, the row that is made of an image, and the image that a crash leaves.
-use Rattle.std.proofs.Common.{◌≡◌, ◌≢◌, ℕ, zero, suc, ◌+◌, ◌-◌, ◌^◌, ◌<◌, ◌≤◌, ⊎_elim, List, [], ◌∷◌, ◌++◌, length, replicate, slice_index, slice_set, refl, sym, ap, ◌∙◌, subst, arith, length-set, length-append, length-drop, lit<}
+use Rattle.std.proofs.Common.{◌≡◌, ◌≢◌, ℕ, zero, suc, ◌+◌, ◌-◌, ◌^◌, ◌<◌, ◌≤◌, ⊎_elim, List, [], ◌∷◌, ◌++◌, length, replicate, slice_index, slice_set, drop, refl, sym, ap, ◌∙◌, subst, arith, length-set, length-append, length-drop, lit<}
 use Rattle.std.proofs.lemmas.Bool.{cases_eq, cases_lt}
-use Rattle.std.proofs.lemmas.List.{length-replicate, get_or-set_same, get_or-set_other, get_or-drop, get_or-replicate, get_or_past, get_or_append_left, get_or-append-add, replicate-append-replicate}
+use Rattle.std.proofs.lemmas.List.{length-replicate, get_or-set_same, get_or-set_other, get_or-drop, get_or-take, length-take-le, get_or-replicate, get_or_past, get_or_append_left, get_or-append-add, replicate-append-replicate}
 use Rattle.std.specs.Int.{w64, from_le_bytes}
 use Rattle.std.specs.Prelude.{codes}
 use Rattle.pm_words.specs.declared.layout.Layout.{Layout}
 use Rattle.pm_words.specs.Layouts.{IsLayout}
 use Rattle.pm_words.specs.Locations.{Location, HasLocation, IsVolatile, address_of, row_parts, part_of_address, behind_start, Word, Header, Root, Node, Line, Leaf, Cell, Cached, Durable, HasWord, image_parts, part_of_word, behind_part, image_words, row_words, volatile_words, word_number, word_at, cached_address, durable_address, at}
 use Rattle.pm_words.specs.Images.{IsImage, header, fresh_words, fresh_word}
-use Rattle.pm_words.specs.Rows.{IsRow, durable_row, row_of}
+use Rattle.pm_words.specs.Rows.{IsRow, cached_row, durable_row, row_of}
 use Rattle.pm_words.proofs.Parts.{earlier}
 use Rattle.pm_words.proofs.Apart.{address_fits, words_within, word_at-set_other, word_at-set_same}
 
@@ -202,6 +202,35 @@ durable_row-image l words row = record {
   whole = let size = length-drop (durable_address l 0) words in let whole = row.whole in omega arith;
   header_stands = λ k lt. durable_row-at l words (Header k) ∙ row.durable k lt;
   fits = λ k. let word = get_or-drop (durable_address l 0) words k 0 in let small = row.fits (durable_address l 0 + k) in omega arith;
+}
+
+-- the cached twins are one, word by word
+cached_row-at_number : (l : Layout) (words : List ℕ) (k : ℕ) → k < image_words l → slice_index (cached_row l words) k ≡ slice_index words (cached_address l k)
+cached_row-at_number l words k within = get_or-take (image_words l) (drop (volatile_words l) words) k 0 within ∙ get_or-drop (volatile_words l) words k 0
+
+pub cached_row-at : (l : Layout) (words : List ℕ) (w : Word) → HasWord l w → word_at l (cached_row l words) w ≡ at l words (Cached w)
+cached_row-at l words w has = cached_row-at_number l words (word_number l w) (words_within l w has)
+
+cached_row-size : (l : Layout) (words : List ℕ) → IsRow l words → length (cached_row l words) ≡ image_words l
+cached_row-size l words row =
+    let whole = row.whole in
+    let behind = length-drop (volatile_words l) words in
+    length-take-le (image_words l) (drop (volatile_words l) words) (omega arith)
+
+pub cached_row-image : (l : Layout) (words : List ℕ) → IsRow l words → IsImage l (cached_row l words)
+cached_row-image l words row = record {
+  layout = row.layout;
+  whole = cached_row-size l words row;
+  header_stands = λ k lt. cached_row-at l words (Header k) (omega arith) ∙ row.cached k lt;
+  fits = λ k. ⊎_elim
+      (λ (within : k < image_words l).
+      let word = cached_row-at_number l words k within in
+      let small = row.fits (cached_address l k) in
+      omega arith)
+      (λ (past : image_words l ≤ k).
+      let none = get_or_past (cached_row l words) k 0 (let size = cached_row-size l words row in omega arith) in
+      omega arith)
+      (cases_lt k (image_words l));
 }
 
 pub row_of-row_by : (l m : Layout) (image words zeros front : List ℕ) (volatile : ℕ) → IsImage l image → m ≡ l →

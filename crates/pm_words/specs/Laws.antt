@@ -10,7 +10,7 @@ use Rattle.pm_words.specs.Locations.{word_number, HasWord, word_at, row_words, a
 use Rattle.pm_words.specs.Images.{IsImage, fresh_words, fresh_word}
 use Rattle.pm_words.specs.Fences.{IsFence, fence_asks, fence_next, FenceTurn}
 use Rattle.pm_words.specs.Rows.{IsRow, IsOutsideHeader, KeepsHeader, IsCached, CanAct, action_address, acted, evicted}
-use Rattle.pm_words.specs.Rows.{durable_row, row_of}
+use Rattle.pm_words.specs.Rows.{durable_row, cached_row, row_of}
 
 -- a word that an image has is one of its words
 abbrev pub WordsWithin : Type 0
@@ -78,6 +78,14 @@ CrashLeavesImage = (l : Layout) (words : List ℕ) → IsRow l words → IsImage
 abbrev pub CrashLeavesDurable : Type 0
 CrashLeavesDurable = (l : Layout) (words : List ℕ) (w : Word) →
     word_at l (durable_row l words) w ≡ at l words (Durable w)
+
+-- the cached twins are one, too
+abbrev pub CachedIsImage : Type 0
+CachedIsImage = (l : Layout) (words : List ℕ) → IsRow l words → IsImage l (cached_row l words)
+
+abbrev pub CachedByWord : Type 0
+CachedByWord = (l : Layout) (words : List ℕ) (w : Word) → HasWord l w →
+    word_at l (cached_row l words) w ≡ at l words (Cached w)
 
 -- an image makes a row: both twins are the image's word, and the volatile words are 0
 abbrev pub ImageMakesRow : Type 0

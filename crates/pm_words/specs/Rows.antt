@@ -1,5 +1,5 @@
 -- Rows of volatile words, cached twins and durable twins, and what is done to them.
-use Rattle.std.specs.Prelude.{◌≡◌, ◌≢◌, ℕ, ◌+◌, ◌^◌, ◌<◌, ◌≤◌, ◌==◌, if◌then◌else◌, List, ◌++◌, length, drop, replicate}
+use Rattle.std.specs.Prelude.{◌≡◌, ◌≢◌, ℕ, ◌+◌, ◌^◌, ◌<◌, ◌≤◌, ◌==◌, if◌then◌else◌, List, ◌++◌, length, drop, take, replicate}
 use Rattle.std.specs.Prelude.{slice_index, slice_set}
 use Rattle.pm_words.specs.declared.layout.Layout.{Layout}
 use Rattle.pm_words.specs.declared.action.Action.{Action}
@@ -90,6 +90,10 @@ evicted l words word = slice_set words (durable_address l word) (slice_index wor
 -- what a crash leaves
 abbrev pub durable_row : Layout → List ℕ → List ℕ
 durable_row l words = drop (durable_address l 0) words
+
+-- the cached twins, as an image
+abbrev pub cached_row : Layout → List ℕ → List ℕ
+cached_row l words = take (image_words l) (drop (volatile_words l) words)
 
 -- both twins are an image, and every volatile word is 0
 abbrev pub row_of : Layout → List ℕ → List ℕ

@@ -4,7 +4,7 @@ ghost use Rattle.pm_words.specs.Laws.{WordsWithin, WordsApart, AddressesWithin, 
 ghost use Rattle.pm_words.specs.Laws.{SlotsApart, StoreStands, StoreLeaves, DrainsTwin, NamesCached, OutsideHeader};
 ghost use Rattle.pm_words.specs.Laws.{DrainsFreely, ActKeepsRow, EvictionKeepsRow, CrashLeavesImage};
 ghost use Rattle.pm_words.specs.Laws.{CrashLeavesDurable, ImageMakesRow, TwinsAreImage, VolatileIsZero, FreshIsImage};
-ghost use Rattle.pm_words.specs.Laws.{FreshByName, FencesTurn, FencesStay};
+ghost use Rattle.pm_words.specs.Laws.{FreshByName, CachedIsImage, CachedByWord, FencesTurn, FencesStay};
 
 /// Named words are within an image, and no two have one number.
 pub fn words_apart()
@@ -48,6 +48,12 @@ pub fn rows_kept()
     ensures evictions { EvictionKeepsRow }
     ensures crashes { CrashLeavesImage }
     ensures durable { CrashLeavesDurable }
+{}
+
+/// The cached twins of a row are an image, word by word.
+pub fn cached_image()
+    ensures image { CachedIsImage }
+    ensures words { CachedByWord }
 {}
 
 /// A row that is made of an image has it in both twins, and zeros in front.

@@ -1,7 +1,7 @@
 ghost use Rattle.std.specs.Prelude.{◌≡◌, ◌+◌, ◌<◌, IfOk};
 ghost use Rattle.pm_words.specs.Layouts.{IsLayout};
 ghost use Rattle.pm_words.specs.Locations.{image_words, row_words};
-ghost use Rattle.pm_words.specs.Rows.{IsRow, MayName, CanAct, action_address, acted, got, evicted, durable_row, row_of};
+ghost use Rattle.pm_words.specs.Rows.{IsRow, MayName, CanAct, action_address, acted, got, evicted, cached_row, durable_row, row_of};
 ghost use Rattle.pm_words.specs.declared.action.Action.TheVariants.{Store};
 
 use crate::NoMemory;
@@ -98,6 +98,16 @@ impl Memory {
     {
         let durable = self.layout.durable(word) as usize;
         self.words[durable] = self.words[self.layout.cached(word) as usize];
+    }
+
+    /// The image of the cached twins as they are, whichever of them are durable.
+    pub fn image(&self, alloc: Global) -> Result<Image, NoMemory>
+        ensures { IfOk result (λ image.
+            image ≡ record { layout = self.now.layout; words = cached_row self.now.layout self.now.words }) }
+    {
+        let (cached, durable) = (self.layout.cached(0), self.layout.durable(0));
+        let words = self.words[cached as usize..durable as usize].to_vec(alloc)?;
+        Ok(Image::of_words(self.layout, words))
     }
 
     /// What a crash leaves: the durable twins.
