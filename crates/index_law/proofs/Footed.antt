@@ -161,7 +161,7 @@ no_line_held : (e : HeldLine) → Some e ≡ None → ⊥
 no_line_held e is = cc
 
 -- an index of parties that have nothing, whose log lines need no party
-free_footed : (z : Whole) → AreFree z.world.parties z.lines z.debts → Lawful z.world → AreFit z.world.layout z.world.words
+pub free_footed : (z : Whole) → AreFree z.world.parties z.lines z.debts → Lawful z.world → AreFit z.world.layout z.world.words
     → ((c j : ℕ) → c < z.world.layout.callers → j < 8 → NeedsNoParty (line_in z.world.layout z.world.words c j 0))
     → ((n : ℕ) → IsListed (facts z.world) n → (facts z.world).now n next_offset ≢ 0 → prev_in z.world.layout z.world.words ((facts z.world).now n next_offset) ≡ n)
     → AreInOrder z.world.layout.nodes (IsGone (facts z.world)) (prev_in z.world.layout z.world.words) → ((n : ℕ) → prev_in z.world.layout z.world.words n < z.world.layout.nodes) → IsFooted z

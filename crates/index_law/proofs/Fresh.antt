@@ -14,7 +14,6 @@ use Rattle.pm_words.proofs.Apart.{addresses_within, at-set_other}
 use Rattle.pm_words.proofs.Kept.{acted_row}
 use Rattle.pm_words.proofs.Made.{fresh_at, fresh_image, row_of-at, row_of-at_volatile, row_of-row}
 use Rattle.version_lock.specs.Versions.{generation_of, IsFree}
-use Rattle.sound_image.specs.Rules.{IsSpare}
 use Rattle.data_node.proofs.SpotLemmas.{means_empty}
 use Rattle.call_stages.specs.Kinds.{gone_status, HasWordAt, word_address, status_address, live_status}
 use Rattle.data_node.specs.Spots.{Finds}
@@ -22,7 +21,7 @@ use Rattle.data_node.specs.Lists.{next_offset, anchor_in}
 use Rattle.index_law.specs.Facts.{Facts, facts_of, version_in, status_in, spot_in, list_in, durable_spot, range_of, IsListed}
 use Rattle.index_law.specs.Worlds.{Party, facts}
 use Rattle.index_law.specs.Lawful.{IsList, AreLive, IsSettled, AreKnown}
-use Rattle.index_law.specs.Twins.{IsFront}
+use Rattle.index_law.specs.Twins.{IsBlank, IsFront}
 use Rattle.data_node.proofs.ListLemmas.{chain_is}
 use Rattle.index_law.proofs.Actions.{status_outside}
 use Rattle.index_law.proofs.Twins.{IsNearer, nearer, store_closer, closer_spot, closer_versions, closer_front, cached_front}
@@ -56,20 +55,20 @@ fresh_twins l n offset layout =
       | false ↦ λ is. refl
     ] refl
 
--- a spare word is 0
-spare_zero : (l : Layout) (w : Word) → IsSpare w → HasWord l w × (fresh_word l w ≡ 0)
-spare_zero l (Header o) is = (
+-- a blank word is 0
+blank_zero : (l : Layout) (w : Word) → IsBlank w → HasWord l w × (fresh_word l w ≡ 0)
+blank_zero l (Header o) is = (
   is.1,
   elim (cases_eq o 6) [
     | inl six ↦ subst (λ (i : ℕ). fresh_word l (Header i) ≡ 0) (sym six) refl
     | inr other ↦ subst (λ (i : ℕ). fresh_word l (Header i) ≡ 0) (let seven : 7 ≡ o = omega (arith, other) in seven) refl
   ],
 )
-spare_zero l (Root o) is = (is.1, refl)
-spare_zero l (Node n o) is = absurd is
-spare_zero l (Line c j o) is = absurd is
-spare_zero l (Leaf k o) is = absurd is
-spare_zero l (Cell kind k o) is = absurd is
+blank_zero l (Root o) is = (is, refl)
+blank_zero l (Node n o) is = absurd is
+blank_zero l (Line c j o) is = absurd is
+blank_zero l (Leaf k o) is = absurd is
+blank_zero l (Cell kind k o) is = absurd is
 
 -- each status is 0
 fresh_status : (l : Layout) (n : ℕ) → IsLayout l → n < l.nodes → status_in l (row_of l (fresh_words l)) n ≡ 0
@@ -162,7 +161,7 @@ fresh_law l parties layout idle begun =
     let known : AreKnown l 1 (facts_of l row empty []) = λ n below. subst (λ (v : ℕ). generation_of v ≤ 1) (sym (fresh_version l n layout below)) (omega arith) in
     let front : IsFront l 1 row Cached = record {
       generation = fresh_cached l (Header 5) layout (omega arith);
-      spare = λ v spare. let zero = spare_zero l v spare in fresh_cached l v layout zero.0 ∙ zero.1;
+      blank = λ v blank. let zero = blank_zero l v blank in fresh_cached l v layout zero.0 ∙ zero.1;
     } in
     record {
       named = λ name value has. absurd (let none : None ≡ Some value = sym (get-empty name_cmp name) ∙ has in cc);
@@ -184,7 +183,7 @@ fresh_law l parties layout idle begun =
       front = cached_front l 1 row w.words (λ v has other. at-set_other l row (Volatile 0 0) (Cached v) live_status (here, omega arith) has (λ e. cc)) front;
       durable_front = closer_front l 1 row w.words near front (record {
         generation = fresh_durable l (Header 5) layout (omega arith);
-        spare = λ v spare. let zero = spare_zero l v spare in fresh_durable l v layout zero.0 ∙ zero.1;
+        blank = λ v blank. let zero = blank_zero l v blank in fresh_durable l v layout zero.0 ∙ zero.1;
       });
       idle = idle;
       begun = begun;

@@ -2,7 +2,7 @@
 use Rattle.std.proofs.Common.{◌≡◌, ℕ, ◌*◌, ◌/◌, ◌%◌, ◌<◌, ◌≤◌, ◌⊎◌, inl, inr, cond, List, [], ◌∷◌, refl, ap, ◌∙◌, sym, subst, arith}
 use Rattle.std.proofs.lemmas.Bool.{lt-ltb}
 use Rattle.pm_words.specs.declared.layout.Layout.{Layout}
-use Rattle.pm_words.specs.Locations.{Header, Node, Line, word_at}
+use Rattle.pm_words.specs.Locations.{Word, Header, Root, Node, Line, Leaf, Cell, word_at}
 use Rattle.pm_words.specs.Rows.{durable_row}
 use Rattle.pm_words.proofs.Made.{durable_row-at, durable_row-image}
 use Rattle.version_lock.specs.Versions.{generation_of, IsGeneration}
@@ -13,9 +13,10 @@ use Rattle.data_node.specs.Weights.{list_weight}
 use Rattle.sound_image.specs.Nodes.{image_spot}
 use Rattle.sound_image.specs.Sound.{image_map}
 use Rattle.sound_image.specs.Laws.{KeepsRules}
-use Rattle.sound_image.specs.Rules.{line_spot}
+use Rattle.sound_image.specs.Rules.{IsSpare, line_spot}
 use Rattle.sound_image.proofs.TidyLemmas.{keeps_sound}
 use Rattle.sound_image.proofs.MapLemmas.{sound_has_map}
+use Rattle.index_law.specs.Twins.{IsBlank}
 use Rattle.index_law.specs.Facts.{durable_spot}
 use Rattle.index_law.specs.Worlds.{World}
 use Rattle.index_law.specs.Lawful.{Lawful}
@@ -67,6 +68,15 @@ lines_fit l words fit line here =
           zero = sym (same 7 (omega arith)) ∙ is.zero;
         })
 
+-- words that have no use are blank
+spare_blank : (w : Word) → IsSpare w → IsBlank w
+spare_blank (Header o) is = is
+spare_blank (Root o) is = is.1
+spare_blank (Node n o) is = is
+spare_blank (Line c j o) is = is
+spare_blank (Leaf k o) is = is
+spare_blank (Cell kind k o) is = is
+
 rules : (w : World) → Lawful w → AreFit w.layout w.words → KeepsRules w.layout (durable_row w.layout w.words)
 rules w lawful fit =
     let l = w.layout in
@@ -75,7 +85,7 @@ rules w lawful fit =
     let generation : word_at l image (Header 5) ≡ w.generation = durable_row-at l w.words (Header 5) ∙ lawful.durable_front.generation in
     record {
       generation = subst IsGeneration (sym generation) lawful.run;
-      spare = λ v spare. durable_row-at l w.words v ∙ lawful.durable_front.spare v spare;
+      spare = λ v spare. durable_row-at l w.words v ∙ lawful.durable_front.blank v (spare_blank v spare);
       versions = λ n here. subst (λ (v : ℕ). generation_of v ≤ word_at l image (Header 5)) (sym (durable_row-at l w.words (Node n 0)))
           (let known = lawful.durable_versions n here in omega (arith, generation));
       list = in_image l w.words (λ now. MakeList l.nodes now (members_from now l.nodes 0)) durable.list;

@@ -23,7 +23,7 @@ use Rattle.index_law.specs.Twins.{IsMix, AreDurable}
 use Rattle.index_law.specs.Lines.{line_in, safe_line, AreFit, IsGiven, WaitsOrIsEmpty, IsWaiting, SureLine, NoteLaw, NotesKeep, NodesLeaveLines, EvictFits}
 use Rattle.index_law.proofs.Backing.{known_mix, before_store, before_mix, after_mix, without_mix}
 use Rattle.index_law.proofs.Rows.{facts-elsewhere}
-use Rattle.index_law.proofs.Twins.{spare_word, aside_spare, IsCloser, IsNearer, IsAside, nearer, evict_closer, evict_cached, store_closer, closer_stage, closer_durable, closer_versions, closer_front}
+use Rattle.index_law.proofs.Twins.{blank_word, aside_blank, IsCloser, IsNearer, IsAside, nearer, evict_closer, evict_cached, store_closer, closer_stage, closer_durable, closer_versions, closer_front}
 
 -- the words that belong to a line
 abbrev in_line : Layout → ℕ → ℕ → ℕ → Bool
@@ -147,7 +147,7 @@ beside_law w words lawful row same closer clock cached =
       durable_versions = closer_versions l w.words words w.base w.history closer g lawful.versions lawful.durable_versions;
       front = record {
         generation = cached (Header 5) (omega arith) (λ aside. aside) ∙ lawful.front.generation;
-        spare = λ v spare. cached v (spare_word l v spare).0 (aside_spare l v spare) ∙ lawful.front.spare v spare;
+        blank = λ v blank. cached v (blank_word l v blank).0 (aside_blank l v blank) ∙ lawful.front.blank v blank;
       };
       durable_front = closer_front l g w.words words closer lawful.front lawful.durable_front;
     }

@@ -12,13 +12,12 @@ use Rattle.version_lock.specs.Versions.{generation_of}
 use Rattle.cat_history.specs.Maps.{Map}
 use Rattle.cat_history.specs.declared.op.Write.{Write}
 use Rattle.data_node.specs.Spots.{Spot}
-use Rattle.sound_image.specs.Rules.{IsSpare}
 use Rattle.data_node.specs.Lists.{next_offset}
 use Rattle.call_stages.specs.Stages.{Held, Grip, Phase, Filling, Linked, Parted, Pace, Gathered, Joined, Gone, Stage, Idle, Saw, Wears, Holds, Eyes, Splits, Leaves, Meets, Joins}
 use Rattle.call_stages.specs.Kinds.{HasWordAt, word_address}
 use Rattle.index_law.specs.Facts.{Facts, facts_of, spot_in, durable_spot}
 use Rattle.index_law.specs.Lawful.{AreKnown}
-use Rattle.index_law.specs.Twins.{IsBacked, IsBackedLeft, IsBackedFresh, IsBackedJoin, BacksStage, AreDurable, AreDurablyKnown, IsFront}
+use Rattle.index_law.specs.Twins.{IsBlank, IsBacked, IsBackedLeft, IsBackedFresh, IsBackedJoin, BacksStage, AreDurable, AreDurablyKnown, IsFront}
 use Rattle.index_law.proofs.Rows.{in_spot, in_spot-true, version_in-here}
 
 -- the durable words of another row are those of this one, or its cached ones
@@ -157,34 +156,34 @@ module _ (l : Layout) (words words' : List ℕ) (base : Map) (history : List Wri
       subst (λ (v : ℕ). generation_of v ≤ g) (version_in-here l words n here ∙ sym is) (known n here))
       (closer (Node n 0) has (λ line. line))
 
--- spare words are words, and no node's
-pub spare_word : (l : Layout) (w : Word) → IsSpare w → HasWord l w × ((n offset : ℕ) → w ≡ Node n offset → ⊥)
-spare_word l (Header o) is = (is.1, λ n offset e. cc)
-spare_word l (Root o) is = (is.1, λ n offset e. cc)
-spare_word l (Node n o) is = absurd is
-spare_word l (Line c j o) is = absurd is
-spare_word l (Leaf k o) is = absurd is
-spare_word l (Cell kind k o) is = absurd is
+-- blank words are words, and no node's
+pub blank_word : (l : Layout) (w : Word) → IsBlank w → HasWord l w × ((n offset : ℕ) → w ≡ Node n offset → ⊥)
+blank_word l (Header o) is = (is.1, λ n offset e. cc)
+blank_word l (Root o) is = (is, λ n offset e. cc)
+blank_word l (Node n o) is = absurd is
+blank_word l (Line c j o) is = absurd is
+blank_word l (Leaf k o) is = absurd is
+blank_word l (Cell kind k o) is = absurd is
 
 -- nor a line's
-pub aside_spare : (l : Layout) (w : Word) → IsSpare w → IsAside w → ⊥
-aside_spare l (Line c j o) is line = is
-aside_spare l (Header o) is line = line
-aside_spare l (Root o) is line = line
-aside_spare l (Node n o) is line = line
-aside_spare l (Leaf k o) is line = is
-aside_spare l (Cell kind k o) is line = is
+pub aside_blank : (l : Layout) (w : Word) → IsBlank w → IsAside w → ⊥
+aside_blank l (Line c j o) is line = is
+aside_blank l (Header o) is line = line
+aside_blank l (Root o) is line = line
+aside_blank l (Node n o) is line = line
+aside_blank l (Leaf k o) is line = is
+aside_blank l (Cell kind k o) is line = is
 
 -- and the words in front of the nodes stay
 pub closer_front : (l : Layout) (g : ℕ) (words words' : List ℕ) → IsNearer l words words' → IsFront l g words Cached → IsFront l g words Durable → IsFront l g words' Durable
 closer_front l g words words' closer cached durable = record {
   generation = ⊎_elim (λ stays. stays ∙ durable.generation) (λ is. is ∙ cached.generation) (closer (Header 5) (omega arith) (λ line. line));
-  spare = λ w spare. ⊎_elim (λ stays. stays ∙ durable.spare w spare) (λ is. is ∙ cached.spare w spare) (closer w (spare_word l w spare).0 (aside_spare l w spare));
+  blank = λ w blank. ⊎_elim (λ stays. stays ∙ durable.blank w blank) (λ is. is ∙ cached.blank w blank) (closer w (blank_word l w blank).0 (aside_blank l w blank));
 }
 
 pub cached_front : (l : Layout) (g : ℕ) (words words' : List ℕ) → ((w : Word) → HasWord l w → ((n offset : ℕ) → w ≡ Node n offset → ⊥) → at l words' (Cached w) ≡ at l words (Cached w))
     → IsFront l g words Cached → IsFront l g words' Cached
 cached_front l g words words' same front = record {
   generation = same (Header 5) (omega arith) (λ n offset e. cc) ∙ front.generation;
-  spare = λ w spare. same w (spare_word l w spare).0 (spare_word l w spare).1 ∙ front.spare w spare;
+  blank = λ w blank. same w (blank_word l w blank).0 (blank_word l w blank).1 ∙ front.blank w blank;
 }

@@ -13,6 +13,7 @@ use Rattle.shapes.specs.Members.{with_name, without_name}
 use Rattle.shapes.specs.Weights.{IsShape, weight}
 use Rattle.data_node.specs.Spots.{Means}
 use Rattle.data_node.specs.Lists.{ListNode}
+use Rattle.sound_image.specs.Nodes.{image_list}
 use Rattle.call_stages.specs.declared.once.Once.{Once}
 use Rattle.call_stages.specs.declared.once.Placed.{Placed}
 use Rattle.call_stages.specs.Stages.{Stage, Idle}
@@ -88,6 +89,10 @@ gone_nodes (suc n) f = (if f.status n == gone_status then 1 else 0) + gone_nodes
 -- The anchors of an index.
 abbrev pub anchors_in : World → Anchors
 anchors_in w = anchors_of (facts w).list
+
+-- and of an image.
+abbrev pub image_anchors : Layout → List ℕ → Anchors
+image_anchors l image = anchors_of (image_list l image)
 
 -- How many members there can be before a turn of the updater frees merged nodes.
 abbrev pub members_most : World → ℕ
