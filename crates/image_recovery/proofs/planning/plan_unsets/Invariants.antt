@@ -1,0 +1,7 @@
+use Rattle.recovery_law.specs.Stages.{Unsets}
+use Rattle.image_recovery.specs.Plans.{PlansTo}
+use Rattle.image_recovery.proofs.planning.plan_unsets.Given as goal
+
+-- the moves up to this line
+abbrev pub invariant-loop-line : goal.invariant-loop-line
+invariant-loop-line l = PlansTo l.image (Unsets l.line) l.moves.items

@@ -1,0 +1,4 @@
+use Rattle.image_recovery.proofs.tests.refusals.Given as goal
+
+abbrev pub ghosts-recovered : goal.ghosts-recovered
+ghosts-recovered g a = record { name = a.blank.name; parts = a.blank.parts }

@@ -1,0 +1,86 @@
+-- A recovery on its way, and what it leaves at its end.
+use Rattle.std.specs.Prelude.{◌≡◌, ◌⊎◌, ◌↔◌, ℕ, suc, List, ◌∷◌}
+use Rattle.pm_words.specs.Images.{Row, IsImage}
+use Rattle.pm_words.specs.Locations.{Root, Cached, Durable, word_at}
+use Rattle.pm_words.specs.Rows.{IsRow, durable_row}
+use Rattle.cat_history.specs.Maps.{Map}
+use Rattle.version_lock.specs.Versions.{IsGeneration}
+use Rattle.sound_image.specs.Nodes.{image_list}
+use Rattle.sound_image.specs.Rules.{header_generation}
+use Rattle.sound_image.specs.Sound.{IsMapOf}
+use Rattle.sound_image.specs.Weights.{image_weight}
+use Rattle.sound_layer.specs.Sound.{IsSoundByAll, IsFirstOfAll}
+use Rattle.recovery_law.specs.Columns.{IsSound}
+use Rattle.recovery_law.specs.Rest.{Rests}
+use Rattle.recovery_law.specs.Rows.{columns_in}
+use Rattle.recovery_law.specs.Moves as law
+use Rattle.image_recovery.specs.declared.making.Making.{Making}
+use Rattle.image_recovery.specs.declared.recovering.Refused.{Refused}
+use Rattle.image_recovery.specs.declared.recovering.Refused.TheVariants.{Unsound, LastGeneration, NoMemory}
+use Rattle.image_recovery.specs.Plans.{columns, list_of}
+use Rattle.image_recovery.specs.MakingLaw.{IsClearBeside, IsAtMove, IsBetweenMoves}
+
+-- The image is sound, its root word is 0, and there is a next generation.
+pub record IsRecoverable (image : Row) : Type 0 where
+  pub sound : IsSound image.layout (list_of image) (columns image)
+  pub root : word_at image.layout image.words (Root 0) ≡ 0
+  pub next : IsGeneration (suc (columns image).generation)
+
+-- The rows are those of a recovery of the image between two moves, and these moves are left.
+pub record IsUnderWay (image row : Row) (rest : List law.Move) : Type 0 where
+  pub layout : row.layout ≡ image.layout
+  pub between : IsBetweenMoves image.layout (list_of image) (columns image) rest row.words
+
+-- They are those of some recovery, whose next move is this,
+pub record MayGoOn (row : Row) (next : law.Move) : Type 0 where
+  pub image : Row
+  pub rest : List law.Move
+  pub recoverable : IsRecoverable image
+  pub under_way : IsUnderWay image row (next ∷ rest)
+
+-- or to which all these moves are left.
+pub record MayEnd (row : Row) (rest : List law.Move) : Type 0 where
+  pub image : Row
+  pub recoverable : IsRecoverable image
+  pub under_way : IsUnderWay image row rest
+
+-- What a recovery leaves of the image, whole or broken: an image that is sound by all rules, with the same list, the
+-- same map and the same weight, in the generation that it had or in the next one.
+pub record IsLeftOf (image : Row) (left : List ℕ) : Type 0 where
+  pub is_image : IsImage image.layout left
+  pub sound : IsSoundByAll image.layout left
+  pub same_list : image_list image.layout left ≡ list_of image
+  pub same_map : (m : Map) → IsMapOf image.layout image.words m ↔ IsMapOf image.layout left m
+  pub same_weight : image_weight image.layout left ≡ image_weight image.layout image.words
+  pub generation : (header_generation image.layout left ≡ header_generation image.layout image.words) ⊎
+      (header_generation image.layout left ≡ suc (header_generation image.layout image.words))
+
+-- The rows are those of the image once it is recovered: by its columns, cached and durable, and as the image that is
+-- durable then; and the root word and each volatile word are 0.
+pub record IsRecoveredTo (image row : Row) : Type 0 where
+  pub layout : row.layout ≡ image.layout
+  pub is_row : IsRow image.layout row.words
+  pub rests : Rests image.layout (list_of image) (columns image) (columns_in image.layout row.words Cached)
+      (columns_in image.layout row.words Durable)
+  pub clear : IsClearBeside image.layout row.words
+  pub left : IsLeftOf image (durable_row image.layout row.words)
+
+-- Why the image is refused: by the first of all rules that it breaks; or it is sound, and of the last generation; or
+-- neither, and there was no memory.
+abbrev pub IsRefusedFor : Row → Refused → Type 0
+IsRefusedFor image (Unsound broken) = IsFirstOfAll image.layout image.words broken
+IsRefusedFor image LastGeneration =
+    IsSoundByAll image.layout image.words × ¬ IsGeneration (suc (columns image).generation)
+IsRefusedFor image NoMemory =
+    IsSoundByAll image.layout image.words × IsGeneration (suc (columns image).generation)
+
+-- So does each crash leave it, during a move and between two.
+abbrev pub CrashLeavesSound : Type 0
+CrashLeavesSound = (image : Row) (rest : List law.Move) (words : List ℕ) (making : Making) → IsRecoverable image →
+    IsAtMove image.layout (list_of image) (columns image) rest words making →
+    IsLeftOf image (durable_row image.layout words)
+
+abbrev pub CrashBetweenLeavesSound : Type 0
+CrashBetweenLeavesSound = (image : Row) (rest : List law.Move) (words : List ℕ) → IsRecoverable image →
+    IsBetweenMoves image.layout (list_of image) (columns image) rest words →
+    IsLeftOf image (durable_row image.layout words)

@@ -1,0 +1,117 @@
+//! A recovery that may be stopped after each action.
+
+ghost use Rattle.std.specs.Prelude.{suc, IfOk, MatchResult};
+ghost use Rattle.version_lock.specs.Versions.{IsGeneration};
+ghost use Rattle.sound_layer.specs.Sound.{IsSoundByAll};
+ghost use Rattle.image_recovery.specs.Plans.{columns};
+ghost use Rattle.image_recovery.specs.Recovered.{IsRefusedFor};
+ghost use Rattle.image_recovery.specs.Recoveries.{IsBegun};
+
+use crate::making::Making;
+use crate::moves::Move;
+use crate::planning::plan;
+use crate::recovering::{Refused, refusal};
+use pm_words::{Image, Machine, Memory, NoMemory, Steps, Turn};
+use std::alloc::Global;
+use std::sync::ledger::Ledger;
+
+/// A recovery by its plan, with which one action at a time is made.
+#[derive(Drop)]
+pub struct Recovery {
+    moves: Vec<Move>,
+    /// How many of the moves have begun.
+    begun: usize,
+    /// The move that is made.
+    making: Option<Making>,
+}
+
+/// A recovery that has begun, and the memory on which it is made.
+pub struct Begun {
+    pub recovery: Recovery,
+    pub memory: Memory,
+}
+
+/// The recovery of an image that is sound by all rules, and the memory with it.
+fn begin_sound(alloc: Global, image: Image) -> Result<Begun, NoMemory>
+    requires sound { IsSoundByAll image.layout image.words }
+    requires next { IsGeneration (suc (columns image).generation) }
+    ensures { IfOk result (IsBegun image) }
+{
+    let moves = plan(alloc, &image)?;
+    let memory = Memory::of(alloc, image)?;
+    let recovery = Recovery::new(moves);
+    Ok(Begun { recovery, memory })
+}
+
+/// Begins to recover an image; it refuses what `recover` does.
+pub fn begin(alloc: Global, image: Image) -> Result<Begun, Refused>
+    ensures { MatchResult result
+        (λ begun. IsSoundByAll image.layout image.words × IsBegun image begun) (IsRefusedFor image) }
+{
+    if let Some(refused) = refusal(&image) {
+        return Err(refused);
+    }
+    match begin_sound(alloc, image) {
+        Ok(begun) => Ok(begun),
+        Err(_) => Err(Refused::NoMemory),
+    }
+}
+
+impl Recovery {
+    ghost use Rattle.std.specs.Prelude.{◌≡◌, ◌+◌, List, map, true, false, if◌then◌else◌, IfSome, MatchOption};
+    ghost use Rattle.pm_words.specs.Images.{Row};
+    ghost use Rattle.image_recovery.specs.Plans.{move_of};
+    ghost use Rattle.image_recovery.specs.Recovered.{IsRecoverable, IsUnderWay, IsRecoveredTo};
+    ghost use Rattle.image_recovery.specs.Recoveries.{IsRecovering, MayStep, IsMakingOne, moves_left, IsTaken, IsNearer};
+
+    /// The recovery that makes these moves.
+    pub fn new(moves: Vec<Move>) -> Recovery
+        ensures { (image row : Row) → IsUnderWay image row (map move_of moves.items) → IsRecovering image result row }
+    {
+        Recovery {
+            moves,
+            begun: 0,
+            making: None,
+        }
+    }
+
+    /// The move that is made, or else the next one; None where all are made.
+    fn current(&mut self, memory: &Memory) -> Option<Making>
+        requires { MayStep self.old memory.now }
+        ensures taken { IfSome result (IsTaken self.old self.new) }
+        ensures at { (image : Row) → IsRecoverable image → IsRecovering image self.old memory.now →
+            MatchOption result (IsRecoveredTo image memory.now × IsRecovering image self.new memory.now)
+            (IsMakingOne image memory.now (moves_left self.new)) }
+    {
+        if let Some(making) = self.making {
+            return Some(making);
+        }
+        if self.moves.len() <= self.begun {
+            return None;
+        }
+        let next = self.moves[self.begun];
+        self.begun += 1;
+        Some(Making::of(memory, next))
+    }
+
+    /// Makes one action, with nobody else at the memory. False where all are made, and the image is recovered.
+    pub fn step<L: Ledger>(&mut self, memory: &mut Memory, steps: &mut Steps<L>) -> bool
+        requires { MayStep self.old memory.old }
+        ensures goes { (image : Row) → IsRecoverable image → IsRecovering image self.old memory.old →
+            IsRecovering image self.new memory.new }
+        ensures ends { (image : Row) → IsRecoverable image → IsRecovering image self.old memory.old →
+            result ≡ false → IsRecoveredTo image memory.new }
+        ensures nearer { result ≡ true → IsNearer self.old self.new }
+        ensures counts { steps.new ≡ (if result then steps.old + 1 else steps.old) }
+    {
+        let Some(making) = self.current(memory) else {
+            return false;
+        };
+        let got = memory.act(making.action(), steps);
+        self.making = match making.resume(got) {
+            Turn::Go(next) => Some(next),
+            Turn::Done(()) => None,
+        };
+        true
+    }
+}

@@ -1,7 +1,0 @@
-use Rattle.recovery_law.specs.Stages.{Sets}
-use Rattle.recovery.specs.Plans.{PlansTo}
-use Rattle.recovery.proofs.planning.plan_sets.Given as goal
-
--- the moves up to this line
-abbrev pub invariant-loop-line : goal.invariant-loop-line
-invariant-loop-line l = PlansTo l.image (Sets l.line) l.moves.items

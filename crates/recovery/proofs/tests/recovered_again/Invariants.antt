@@ -1,6 +1,0 @@
-use Rattle.recovery.specs.Recoveries.{MayStep}
-use Rattle.recovery.proofs.tests.recovered_again.Given as goal
-
--- it may go on
-abbrev pub invariant-loop-action : goal.invariant-loop-action
-invariant-loop-action g l = MayStep l.recovery l.memory
