@@ -1,0 +1,4 @@
+pub mod CachedWords
+pub mod RestRules
+pub mod RestLayer
+pub mod RestLaw
