@@ -1,6 +1,6 @@
 -- What keeps an index with its search layer and its turns.
 use Rattle.std.proofs.Common.{◌≡◌, ◌≢◌, ℕ, ◌<◌, ◌^◌, ◌⊎◌, inl, inr, ⊎_elim, List, set, map, slice_set, slice_index, refl, sym, ap, ◌∙◌, subst, arith}
-use Rattle.std.specs.Prelude.{Option, Some, None, true, length}
+use Rattle.std.specs.Prelude.{Option, Some, None, length}
 use Rattle.std.proofs.lemmas.List.{set-get_or}
 use mathlib.Core.Option.{some}
 use lib.ListN.{get_elem?}
@@ -191,7 +191,7 @@ rest_turns states none j u at =
 pub at_rest : (u : Turning) → u ≡ resting → IsAtRest u
 at_rest u is = subst IsAtRest (sym is) (record { stage = refl; stamp = λ no. omega arith; watch = refl })
 
-first_turn : (states : List PartyState) → 0 < length states → (u : Turning) × (get_elem? (map turn_of states) 0 ≡ some u)
+pub first_turn : (states : List PartyState) → 0 < length states → (u : Turning) × (get_elem? (map turn_of states) 0 ≡ some u)
 first_turn states some_party = let there = there_is states 0 some_party in (turn_of there.0, map_there turn_of states 0 there.0 there.1)
 
 -- An index in which nothing is in flight, with other idle parties, another base, history and clock.

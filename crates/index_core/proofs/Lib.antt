@@ -36,3 +36,5 @@ pub mod Busy
 pub mod Turning
 pub mod TurnReading
 pub mod LoneTurning
+pub mod Opening
+pub mod RestImages

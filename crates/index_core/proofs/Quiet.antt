@@ -1,7 +1,6 @@
 -- An index with no call in flight.
-use Rattle.std.proofs.Common.{◌≡◌, ℕ, true, false, ⊎_elim, refl, sym, ap, ◌∙◌, subst, arith}
-use Rattle.std.proofs.lemmas.Bool.{cases_lt, le-ltb}
-use Rattle.std.specs.Prelude.{Option, Some, None}
+use Rattle.std.proofs.Common.{◌≡◌, ℕ, sym, ap, ◌∙◌, subst}
+use Rattle.std.specs.Prelude.{Option, None}
 use mathlib.Core.Option.{some}
 use lib.ListN.{get_elem?}
 use Rattle.call_stages.specs.Lines.{HeldLine}
@@ -10,10 +9,7 @@ use Rattle.node_ops.specs.declared.running.Running.{Running}
 use Rattle.index_law.specs.Worlds.{Party}
 use Rattle.index_law.specs.Lawful.{Each}
 use Rattle.index_law.specs.Laws.{IsAtRest}
-use Rattle.index_law.specs.Lines.{line_in}
-use Rattle.index_law.specs.Footings.{NeedsNoParty, IsInHand}
 use Rattle.index_law.proofs.Starts.{idle_law}
-use Rattle.lone_law.specs.Splitting.{LacksLine}
 use Rattle.index_core.specs.declared.party.PartyState.{PartyState}
 use Rattle.index_core.specs.PartyStates.{machine_footing, machine_stage, party_of}
 use Rattle.index_core.specs.Indexes.{Index, world, footed, IsIndex}

@@ -1,16 +1,14 @@
 -- A lone call that was turned back, and is tried again behind a turn of the updater.
-use Rattle.std.proofs.Common.{◌≡◌, ◌≢◌, ℕ, suc, ◌+◌, ◌*◌, ◌/◌, ◌%◌, ◌<◌, ◌≤◌, ◌==◌, ◌⊎◌, inl, inr, ⊎_elim, cond, List, ◌++◌, length, set, slice_set, nat_le, not, refl, sym, ap, ◌∙◌, subst, arith}
-use Rattle.std.specs.Prelude.{Option, Some, None, IsTrue, IsSomeAnd, Bool, true, false, ◌&&◌}
+use Rattle.std.proofs.Common.{◌≡◌, ◌≢◌, ℕ, ◌+◌, ◌*◌, ◌/◌, ◌%◌, ◌<◌, ◌≤◌, ◌==◌, ◌⊎◌, inl, inr, ⊎_elim, cond, List, ◌++◌, length, slice_set, nat_le, not, refl, sym, ap, ◌∙◌, subst, arith}
+use Rattle.std.specs.Prelude.{None, IsSomeAnd, Bool, true, false, ◌&&◌}
 use Rattle.std.specs.FinMap.{keys}
 use Rattle.std.specs.List.{filter}
 use Rattle.std.proofs.lemmas.Bool.{cases_eq, eq-eqb, ne_eqb, eqb-true, leb-true, le-leb}
 use mathlib.Core.Option.{some, some-injective}
 use lib.ListN.{get_elem?}
-use Rattle.pm_words.specs.declared.again.Again.{Again}
 use Rattle.pm_words.specs.declared.again.Again.TheVariants as again
 use Rattle.pm_words.specs.declared.layout.Layout.{Layout}
 use Rattle.pm_words.specs.Locations.{Cached}
-use Rattle.cat_key.specs.Names.{IsName}
 use Rattle.cat_history.specs.Maps.{Map, at, map_of}
 use Rattle.cat_history.specs.Writes.{after_all}
 use Rattle.version_lock.specs.Versions.{IsWorn, is_worn_word}
@@ -27,15 +25,13 @@ use Rattle.shapes.proofs.Agreements.{and-first, and-second}
 use Rattle.index_law.specs.Facts.{Facts, status_in, version_in, spot_in}
 use Rattle.index_law.specs.Lines.{line_in}
 use Rattle.index_law.specs.Worlds.{Party, World, facts}
-use Rattle.index_law.specs.Laws.{IsAtRest}
 use Rattle.index_law.specs.Anchors.{anchors_of, anchors_in}
 use Rattle.index_law.proofs.Noting.{line-here}
 use Rattle.index_law.proofs.Parties.{set_here}
 use Rattle.index_law.proofs.Starts.{listed_within}
 use Rattle.lone_law.specs.LoneCalls.{FindsFull, FindsWorn, IsLate, IsAnswered}
 use Rattle.lone_law.specs.Locks.{locks_in}
-use Rattle.lone_law.specs.Merging.{NextIsWorn, TriesMerge, next_node}
-use Rattle.lone_law.specs.Rooms.{target_node}
+use Rattle.lone_law.specs.Merging.{NextIsWorn, next_node}
 use Rattle.lone_law.specs.Splitting.{LacksLine}
 use Rattle.lone_law.specs.There.{IsUnmoved}
 use Rattle.lone_law.proofs.Locks.{worn_has_none}
@@ -44,21 +40,20 @@ use Rattle.turn_row.specs.Columns.{line_count, line_word}
 use Rattle.turn_row.proofs.RowColumns.{column-here}
 use Rattle.layer_law.specs.Layers.{IsLayered}
 use Rattle.layer_law.proofs.FactTies.{facts_tie}
-use Rattle.lone_turn.specs.LoneTurns.{line_state, stamp_in, stamp_then, is_worn, frees_node, status_then}
+use Rattle.lone_turn.specs.LoneTurns.{line_state, stamp_in, stamp_then, is_worn, frees_node}
 use Rattle.lone_turn.proofs.Ending.{gone_are_held_back}
 use Rattle.updater.specs.declared.terms.Turned.{Turned}
 use Rattle.index_core.specs.declared.party.PartyState.{PartyState}
 use Rattle.index_core.specs.declared.party.CoreCall.{CoreCall}
 use Rattle.index_core.specs.declared.party.CoreCall.TheVariants as call
-use Rattle.index_core.specs.declared.party.Whole.TheVariants as whole
 use Rattle.index_core.specs.CoreCalls.{op_of, limit_of, count_of}
 use Rattle.index_core.specs.PartyStates.{party_of}
 use Rattle.index_core.specs.Indexes.{Index, IsIndex, layered, map_of_index, world}
-use Rattle.index_core.specs.Lone.{IsQuiet, ComesFree, LacksNode, FindsFullNode, FindsNoRoom, FindsWornNode, HasSameList, IsMadeAgain, IsOver, IsWholeAnswer, KeepsStamps, LeavesList, LoseAtMost, MergesFor, MergesNothing, SplitsFor, SplitsNothing, TriesAlone, TriesBehindTurn, alone_writes, lacks_line, lacks_node, locks_left, most_tries, names_beside, needs_split, node_for, state_tried, whole_of}
+use Rattle.index_core.specs.Lone.{IsQuiet, ComesFree, LacksNode, FindsFullNode, FindsNoRoom, FindsWornNode, HasSameList, IsMadeAgain, IsOver, IsWholeAnswer, KeepsStamps, LeavesList, LoseAtMost, MergesFor, MergesNothing, SplitsFor, SplitsNothing, TriesAlone, TriesBehindTurn, alone_writes, lacks_line, lacks_node, locks_left, most_tries, needs_split, node_for, state_tried, whole_of}
 use Rattle.index_core.specs.Turns.{TurnsAlone}
 use Rattle.index_core.specs.Weights.{weight_of, added_by}
 use Rattle.cat_history.specs.declared.op.NameOp.{NameOp}
-use Rattle.index_core.proofs.Alone.{IsSwept, Ran, full_again_if, late_was, on_name, one_try, target_has, two_tries}
+use Rattle.index_core.proofs.Alone.{IsSwept, Ran, full_again_if, late_was, on_name, one_try, two_tries}
 use Rattle.index_core.proofs.Lists.{set_twice}
 use Rattle.index_core.proofs.Quiet.{rests}
 

@@ -1,5 +1,5 @@
 -- Which steps leave the stamps of nodes: those of calls.
-use Rattle.std.proofs.Common.{◌≡◌, ℕ, ◌<◌, inl, inr, List, slice_set, sym, ap, ◌∙◌, subst, arith}
+use Rattle.std.proofs.Common.{◌≡◌, ℕ, ◌<◌, inl, inr, List, slice_set, sym, ap, subst, arith}
 use Rattle.std.specs.Prelude.{Option, IfSome, Some}
 use Rattle.std.proofs.lemmas.List.{set-get_or}
 use mathlib.Core.Option.{some}

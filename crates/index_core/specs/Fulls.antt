@@ -1,5 +1,5 @@
 -- Which lone puts find no room, in the words of the shape.
-use Rattle.std.specs.Prelude.{◌≡◌, ℕ, ◌<◌, ◌≤◌, ◌↔◌, List}
+use Rattle.std.specs.Prelude.{ℕ, ◌<◌, ◌≤◌, ◌↔◌, List}
 use Rattle.cat_key.specs.Names.{IsName}
 use Rattle.shapes.specs.Anchors.{IsFullPut}
 use Rattle.index_law.specs.Facts.{IsListed}

@@ -1,5 +1,5 @@
 -- The index as contracts see it.
-use Rattle.std.specs.Prelude.{◌≡◌, ◌≢◌, ℕ, ◌+◌, ◌<◌, ◌≤◌, ◌^◌, ◌⊎◌, List, ◌++◌, length, map, slice_get, slice_set, Some, true}
+use Rattle.std.specs.Prelude.{◌≡◌, ◌≢◌, ℕ, ◌+◌, ◌<◌, ◌≤◌, ◌^◌, ◌⊎◌, List, ◌++◌, length, map, slice_get, slice_set, Some}
 use Rattle.std.specs.Prelude.{IfSome, IsSomeAnd, Option}
 use Rattle.cat_history.specs.Records.{change_of}
 use mathlib.Core.Option.{some}

@@ -17,3 +17,4 @@ pub mod PartsOf
 pub mod MachineLaws
 pub mod Fulls
 pub mod Rounds
+pub mod Opened

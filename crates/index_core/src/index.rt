@@ -5,6 +5,7 @@ ghost use Rattle.index_law.specs.Worlds.{written};
 ghost use Rattle.index_core.specs.CoreCalls.{MayBegin, most_writes};
 ghost use Rattle.index_core.specs.Indexes.{IsBusy, IsInFlight, IsIndex, KeepsRoom, Starts, StepsTo, TurnsTo};
 ghost use Rattle.index_core.specs.Fresh.{IsFreshIndex};
+ghost use Rattle.index_core.specs.Opened.{opened_index};
 ghost use Rattle.pm_words.specs.Locations.{image_words};
 ghost use Rattle.index_core.specs.Crashes.{IsCrash, evicted_index};
 ghost use Rattle.index_core.specs.PartsOf.{index_in};
@@ -18,7 +19,7 @@ use call_stages::{Once, Placed, View};
 use cat_history::{Change, Listed, Write, replay};
 use cat_key::Pair;
 use node_ops::PartWords;
-use pm_words::offsets::volatile;
+use pm_words::offsets::{header, volatile};
 use pm_words::{Image, Layout, Machine, Memory, NoMemory, Steps};
 use std::alloc::Global;
 use std::marker::Model;
@@ -124,6 +125,29 @@ impl Core {
             states: idle_states(alloc, layout.callers() + 1)?,
             base: Listed::of(Vec::new(alloc)),
             history: Vec::new(alloc),
+        })
+    }
+
+    /// An index of these words, in the run that their header tells, with this base and this history. No call is in
+    /// flight, and each party's calls are counted from 0. `spare` is what room the history has.
+    pub fn opened(
+        alloc: Global,
+        memory: Memory,
+        base: Listed<Pair>,
+        history: Vec<Write>,
+    ) -> Result<Core, NoMemory>
+        requires index { IsIndex (opened_index memory base history.items) }
+        ensures same { IfOk result (λ core.
+            core ≡ record (opened_index memory base history.items) { spare = core.spare }) }
+        ensures index { IfOk result IsIndex }
+    {
+        let layout = memory.layout();
+        Ok(Core {
+            generation: memory.words()[layout.cached(header::GENERATION) as usize],
+            states: idle_states(alloc, layout.callers() + 1)?,
+            memory,
+            base,
+            history,
         })
     }
 

@@ -94,3 +94,11 @@ pub fn turn_law()
     ensures keeps { TurnKeeps }
     ensures begins { TurnBegins }
 {}
+
+ghost use Rattle.index_core.specs.Opened.{OpeningIsIndex, OpeningIsUnused};
+
+/// The words of a recovered image, whose volatile ones tell its list, are an index, in whose run no node was locked yet.
+pub fn opening_law()
+    ensures index { OpeningIsIndex }
+    ensures unused { OpeningIsUnused }
+{}

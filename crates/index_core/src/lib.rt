@@ -7,6 +7,7 @@
 mod call;
 mod crash;
 mod flight;
+mod image;
 mod index;
 pub mod laws;
 mod listing;

@@ -16,6 +16,7 @@ use std::test::Fail;
 mod crashes;
 mod drawn;
 mod events;
+mod images;
 mod indexes;
 mod lone_parts;
 mod merges;

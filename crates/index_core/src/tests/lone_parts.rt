@@ -33,7 +33,7 @@ struct Told {
 }
 
 /// The letter of a name, by its first word.
-fn letter_in(word: u64) -> u64 {
+pub(super) fn letter_in(word: u64) -> u64 {
     word >> 56
 }
 
@@ -63,7 +63,7 @@ fn name_of(letter: u8) -> Result<Name, Fail> {
 }
 
 /// A whole call about the name of one letter.
-fn make<L: Ledger>(
+pub(super) fn make<L: Ledger>(
     core: &mut Core,
     kind: u64,
     letter: u8,
