@@ -1,10 +1,2 @@
-pub mod Trimming
-pub mod Walking
-pub mod PlanLemmas
-pub mod Evens
-pub mod StoringLaw
-pub mod ChangingLaw
-pub mod MakingLemmas
-pub mod SoundColumns
-pub mod CrashLemmas
-pub mod RecoveringLemmas
+pub mod NodeMarks
+pub mod Opened

@@ -1,6 +1,2 @@
-pub mod Plans
-pub mod Storings
-pub mod Makings
-pub mod MakingLaw
-pub mod Recovered
-pub mod Recoveries
+pub mod Tellings
+pub mod Opened

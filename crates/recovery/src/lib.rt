@@ -1,28 +1,13 @@
-//! The recovery of a catalogue's image, as code.
+//! Opens the image of a catalogue as an index.
 //!
-//! `recovery_law` says which moves a recovery makes, and what they leave whenever it is broken. Here they are planned
-//! on the image (`plan`), and made on the memory, an action at a time (`Making`): to the end at once (`recover`), or
-//! by someone who may stop it after each action (`begin`, `Recovery`). An image that isn't sound by all rules is
-//! refused.
+//! An image that is sound by all rules, and of which there is a next generation, is recovered (`image_recovery`). Then
+//! its volatile words are made to tell its list, and it is an index of which nobody has made a call yet.
 #![tactic(auto)]
 
-mod anchored;
-pub mod laws;
-mod making;
-mod moves;
-mod planning;
-mod recovering;
-mod stepping;
-mod storing;
-mod trim;
-mod words;
+mod opening;
+mod telling;
 
-pub use making::Making;
-pub use moves::Move;
-pub use planning::plan;
-pub use recovering::{Refused, make, make_all, recover};
-pub use stepping::{Begun, Recovery, begin};
-pub use storing::{Storing, StoringAt};
+pub use opening::{OpenFault, recover};
 
 #[cfg(test)]
 mod tests;

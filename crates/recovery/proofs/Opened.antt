@@ -1,0 +1,174 @@
+-- A recovered image, whose list its volatile words tell, is opened as an index.
+use Rattle.std.proofs.Common.{◌≡◌, ℕ, zero, suc, ◌+◌, ◌/◌, ◌<◌, cond, List, [], refl, sym, ap, ◌∙◌, subst, arith}
+use Rattle.std.proofs.lemmas.Bool.{ne_eqb}
+use Rattle.cat_key.specs.declared.Pair.{Pair}
+use Rattle.cat_history.specs.Maps.{map_of}
+use Rattle.cat_history.specs.Replays.{pairs_of}
+use Rattle.pm_words.specs.declared.layout.Layout.{Layout}
+use Rattle.pm_words.specs.Images.{Row}
+use Rattle.pm_words.specs.Locations.{Word, Location, Root, Leaf, Cached, Durable, HasWord, at}
+use Rattle.pm_words.specs.Rows.{IsRow, durable_row}
+use Rattle.version_lock.specs.Versions.{IsGeneration}
+use Rattle.data_node.specs.Lists.{ListNode, MakeList, Rise, range_in}
+use Rattle.data_node.specs.Spots.{Spot}
+use Rattle.data_node.specs.Weights.{node_weight, total}
+use Rattle.data_node.proofs.ListLemmas.{chain_is, members_few}
+use Rattle.call_stages.specs.Kinds.{gone_status}
+use Rattle.sound_image.specs.Nodes.{image_spot, image_list}
+use Rattle.sound_image.specs.Sound as image
+use Rattle.sound_image.specs.Sound.{image_map}
+use Rattle.sound_image.specs.Weights.{image_weight}
+use Rattle.sound_layer.specs.Sound.{IsSoundByAll}
+use Rattle.search_layer.specs.Leaves.{leaves_in}
+use Rattle.search_layer.proofs.LeafRows.{leaves_in-alike}
+use Rattle.index_law.specs.Facts.{Facts, list_in, spot_in}
+use Rattle.index_law.specs.Weights.{gone_weight, index_weight}
+use Rattle.index_law.specs.Worlds.{facts}
+use Rattle.recovery_law.specs.Columns.{Columns, IsMapOf}
+use Rattle.recovery_law.specs.Rest.{Rests}
+use Rattle.recovery_law.specs.Rows.{columns_in}
+use Rattle.recovery_law.proofs.RowColumns.{columns_alike, crash_has_columns}
+use Rattle.recovery_law.proofs.SoundColumns.{spots_are, columns_keep_maps}
+use Rattle.opening_law.specs.Openings.{IsOpening, IsUnlocked, TellsList}
+use Rattle.opening_law.proofs.Opened.{spot_is, opening_has_list, opening_is_unlocked}
+use Rattle.index_core.specs.Indexes.{Index, world}
+use Rattle.index_core.specs.Opened.{opened_index, row_with}
+use Rattle.index_core.proofs.Stepping.{respare}
+use Rattle.index_core.proofs.Opening.{opening_is_index, opening_is_unused}
+use Rattle.image_recovery.specs.Plans.{columns, list_of}
+use Rattle.image_recovery.specs.Recovered.{IsRecoveredTo}
+use Rattle.recovery.specs.Opened.{IsOpenedFrom}
+use Rattle.recovery.specs.Tellings.{IsUntold, KeepsBeside}
+
+-- what a list of nodes makes is the list that is read off the words
+read_list : (l : Layout) (words : List ℕ) (list : List ListNode) → MakeList l.nodes (spot_in l words) list → list_in l words ≡ list
+read_list l words list makes =
+    chain_is (spot_in l words) l.nodes 0 list makes.chain (members_few (spot_in l words) 0 l.nodes list makes.chain (subst (λ a. Rise a list) (sym makes.lowest) makes.rise) makes.within)
+
+-- without GONE nodes none weighs
+none_weigh : (half : ℕ) (status : ℕ → ℕ) (n : ℕ) → ((k : ℕ) → k < n → status k ≡ gone_status → ⊥) → gone_weight half status n ≡ 0
+none_weigh half status zero none = refl
+none_weigh half status (suc n) none =
+    let rest : 0 + gone_weight half status n ≡ 0 = (let before = none_weigh half status n (λ k low. none k (omega arith)) in omega arith) in
+    ap (λ b. cond {A = ℕ} b half 0 + gone_weight half status n) (ne_eqb (status n) gone_status (none n (omega arith))) ∙ rest
+
+module _ (from row : Row) (recovered : IsRecoveredTo from row) where
+  abbrev l : Layout
+  l = from.layout
+
+  abbrev list : List ListNode
+  list = list_of from
+
+  -- the nodes of the recovered rows make the image's list
+  made : MakeList l.nodes (spot_in l row.words) list
+  made = subst (λ (s : ℕ → Spot). MakeList l.nodes s list) (spot_is l row.words) recovered.rests.sound.nodes.makes
+
+  pub untold : IsUntold row.layout row.words
+  untold = subst (λ (m : Layout). IsUntold m row.words) (sym recovered.layout) (record {
+    some = recovered.rests.sound.nodes.some;
+    makes = subst (MakeList l.nodes (spot_in l row.words)) (sym (read_list l row.words list made)) made;
+    zero = recovered.clear.volatile;
+  })
+
+  -- Once the volatile words tell the list, they are those of an index.
+  module _ (words : List ℕ) (tells : TellsList row.layout (list_in row.layout row.words) words) (beside : KeepsBeside row.layout row.words words) (is_row : IsRow row.layout words)
+      (base : List Pair) (pairs : base ≡ pairs_of (image_map from.layout from.words)) (keeps : image.IsMapOf from.layout from.words (map_of base)) where
+    beside_here : KeepsBeside l row.words words
+    beside_here = subst (λ (m : Layout). KeepsBeside m row.words words) recovered.layout beside
+
+    columns_kept : (twin : Word → Location) → ((w : Word) → HasWord l w → at l words (twin w) ≡ at l row.words (twin w)) → columns_in l words twin ≡ columns_in l row.words twin
+    columns_kept twin same =
+        columns_alike l (λ w. at l row.words (twin w)) (λ w. at l words (twin w)) (leaves_in l row.words twin) (leaves_in l words twin) (λ w rest. same w rest.0)
+        (λ leaf o. leaves_in-alike l row.words words twin leaf o (λ here low. same (Leaf leaf o) (here, low)))
+
+    cached_kept : columns_in l words Cached ≡ columns_in l row.words Cached
+    cached_kept = columns_kept Cached (λ w has. beside_here (Cached w) has (λ mark. mark))
+
+    durable_kept : columns_in l words Durable ≡ columns_in l row.words Durable
+    durable_kept = columns_kept Durable (λ w has. beside_here (Durable w) has (λ mark. mark))
+
+    kept_map : IsMapOf l list (columns_in l row.words Cached) (map_of base)
+    kept_map = (recovered.rests.same_map (map_of base)).0 ((columns_keep_maps l from.words (map_of base)).1 keeps)
+
+    pub is_opening : IsOpening l list (columns from) words (map_of base)
+    is_opening = record {
+      row = subst (λ (m : Layout). IsRow m words) recovered.layout is_row;
+      rests = subst (λ (c : Columns). Rests l list (columns from) c (columns_in l words Durable)) (sym cached_kept)
+          (subst (λ (c : Columns). Rests l list (columns from) (columns_in l row.words Cached) c) (sym durable_kept) recovered.rests);
+      root = beside_here (Cached (Root 0)) (omega arith) (λ mark. mark) ∙ recovered.clear.cached_root;
+      safe_root = beside_here (Durable (Root 0)) (omega arith) (λ mark. mark) ∙ recovered.clear.durable_root;
+      keeps = subst (λ (c : Columns). IsMapOf l list c (map_of base)) (sym cached_kept) kept_map;
+      tells = subst (λ (ms : List ListNode). TellsList l ms words) (read_list l row.words list made) (subst (λ (m : Layout). TellsList m (list_in m row.words) words) recovered.layout tells);
+    }
+
+    abbrev s : Index
+    s = opened_index (row_with l words) base []
+
+    abbrev f : Facts
+    f = facts (world s)
+
+    abbrev left : List ℕ
+    left = durable_row l row.words
+
+    -- it has the list and the words of the image that was durable then, and so its weight
+    list_left : f.list ≡ image_list l left
+    list_left = opening_has_list l list (columns from) words (map_of base) is_opening ∙ sym recovered.left.same_list
+
+    spot_left : f.now ≡ image_spot l left
+    spot_left =
+        sym (spot_is l words)
+        ∙ (λ k. (cached_kept k).spot)
+        ∙ (λ k. (sym recovered.rests.durable k).spot)
+        ∙ (λ k. (sym (crash_has_columns l row.words) k).spot)
+        ∙ spots_are l left
+
+    unlocked : IsUnlocked (world s)
+    unlocked = opening_is_unlocked l list (columns from) words (map_of base) _ is_opening
+
+    weighs : index_weight l f ≡ image_weight l from.words
+    weighs =
+        let none = none_weigh (l.slots / 2) f.status l.nodes unlocked.not_gone in
+        let listed : total (λ n. node_weight l.slots (range_in f.list n) (f.now n)) 0 f.list ≡ image_weight l from.words =
+        (λ k. total (λ n. node_weight l.slots (range_in (list_left k) n) (spot_left k n)) 0 (list_left k)) ∙ recovered.left.same_weight in
+        omega arith
+
+    pub opens : IsSoundByAll l from.words → IsGeneration (suc (columns from).generation) → IsOpenedFrom from s
+    opens sound next =
+        let unused = opening_is_unused l list (columns from) words base is_opening in
+        record {
+          sound = sound;
+          next = next;
+          index = opening_is_index l list (columns from) words base is_opening;
+          quiet = unused.quiet;
+          layout = refl;
+          generation = is_opening.rests.generation;
+          states = refl;
+          base = pairs;
+          keeps = keeps;
+          history = refl;
+          anchors = unused.anchors;
+          weighs = weighs;
+          gone = unused.gone;
+          stamps = unused.stamps;
+          locks = unused.locks;
+        }
+
+-- with whatever room
+pub with_room : (from : Row) (s : Index) (room : ℕ) → IsOpenedFrom from s → IsOpenedFrom from (record s { spare = room })
+with_room from s room is = record {
+  sound = is.sound;
+  next = is.next;
+  index = respare s room is.index;
+  quiet = record { calls = is.quiet.calls; turns = is.quiet.turns };
+  layout = is.layout;
+  generation = is.generation;
+  states = is.states;
+  base = is.base;
+  keeps = is.keeps;
+  history = is.history;
+  anchors = is.anchors;
+  weighs = is.weighs;
+  gone = is.gone;
+  stamps = is.stamps;
+  locks = is.locks;
+}

@@ -1,0 +1,56 @@
+-- What an image is as it is opened as an index, and why it isn't opened.
+use Rattle.std.specs.Prelude.{◌≡◌, suc, []}
+use Rattle.pm_words.specs.Images.{Row}
+use Rattle.cat_history.specs.Maps.{map_of}
+use Rattle.cat_history.specs.Replays.{pairs_of}
+use Rattle.version_lock.specs.Versions.{IsGeneration}
+use Rattle.version_lock.specs.declared.TheConstants.{LAST_COUNT}
+use Rattle.sound_image.specs.Rules.{header_generation}
+use Rattle.sound_image.specs.Sound.{IsMapOf, image_map}
+use Rattle.sound_image.specs.Weights.{image_weight}
+use Rattle.sound_layer.specs.Sound.{IsFirstOfAll, IsSoundByAll}
+use Rattle.index_law.specs.Anchors.{anchors_in, gone_nodes, image_anchors}
+use Rattle.index_law.specs.Weights.{index_weight}
+use Rattle.index_law.specs.Worlds.{facts}
+use Rattle.index_core.specs.Indexes.{Index, IsIndex, parties_of, world}
+use Rattle.index_core.specs.Fulls.{HasLowStamps}
+use Rattle.index_core.specs.Lone.{IsQuiet, locks_left}
+use Rattle.index_core.specs.PartyStates.{idle_states}
+use Rattle.image_recovery.specs.declared.recovering.Refused.{Refused}
+use Rattle.image_recovery.specs.declared.recovering.Refused.TheVariants as refused
+use Rattle.recovery.specs.declared.opening.OpenFault.{OpenFault}
+use Rattle.recovery.specs.declared.opening.OpenFault.TheVariants.{Damaged, Generations, NoMemory}
+
+-- The index is that of the image. Its base is the image's map, in rising order of names, and nothing is written yet. It
+-- has the image's shape and weight, in the next generation. No call is in flight, no node was locked in its run, and
+-- none is GONE or has a stamp.
+pub record IsOpenedFrom (image : Row) (s : Index) : Type 0 where
+  pub sound : IsSoundByAll image.layout image.words
+  pub next : IsGeneration (suc (header_generation image.layout image.words))
+  pub index : IsIndex s
+  pub quiet : IsQuiet s
+  pub layout : s.layout ≡ image.layout
+  pub generation : s.generation ≡ suc (header_generation image.layout image.words)
+  pub states : s.states ≡ idle_states (parties_of image.layout)
+  pub base : s.base ≡ pairs_of (image_map image.layout image.words)
+  pub keeps : IsMapOf image.layout image.words (map_of s.base)
+  pub history : s.history ≡ []
+  pub anchors : anchors_in (world s) ≡ image_anchors image.layout image.words
+  pub weighs : index_weight s.layout (facts (world s)) ≡ image_weight image.layout image.words
+  pub gone : gone_nodes s.layout.nodes (facts (world s)) ≡ 0
+  pub stamps : HasLowStamps s
+  pub locks : locks_left s ≡ LAST_COUNT
+
+-- Why an image isn't opened: it isn't sound, and this is the first rule that it breaks and the first word at which it
+-- does; or it is sound, and of the last generation; or neither, and there was no memory.
+abbrev pub IsOpenFault : Row → OpenFault → Type 0
+IsOpenFault image (Damaged rule word) = IsFirstOfAll image.layout image.words (record { rule = rule; word = word })
+IsOpenFault image Generations = IsSoundByAll image.layout image.words ×
+    ¬ IsGeneration (suc (header_generation image.layout image.words))
+IsOpenFault image NoMemory = IsSoundByAll image.layout image.words ×
+    IsGeneration (suc (header_generation image.layout image.words))
+
+abbrev pub fault_of : Refused → OpenFault
+fault_of (refused.Unsound broken) = Damaged broken.rule broken.word
+fault_of refused.LastGeneration = Generations
+fault_of refused.NoMemory = NoMemory

@@ -1,0 +1,55 @@
+//! The volatile words of a recovered image: they tell its list.
+
+ghost use Rattle.std.specs.Prelude.{◌≡◌, ◌<◌};
+ghost use Rattle.pm_words.specs.Rows.{IsRow};
+ghost use Rattle.data_node.specs.Lists.{next_offset};
+ghost use Rattle.index_law.specs.Facts.{list_in, spot_in};
+ghost use Rattle.opening_law.specs.Openings.{TellsList};
+ghost use Rattle.recovery.specs.Tellings.{IsUntold, KeepsBeside, told_node};
+
+use pm_words::Memory;
+use pm_words::offsets::{node, volatile};
+
+/// The status of a listed node.
+const LIVE: u64 = 1;
+
+/// Makes the volatile words tell the list that the nodes make: its nodes are LIVE, and the prev of each is the node
+/// before it. No other word changes.
+pub(crate) fn tell_list(memory: &mut Memory)
+    requires untold { IsUntold memory.old.layout memory.old.words }
+    ensures layout { memory.new.layout ≡ memory.old.layout }
+    ensures tells { TellsList memory.old.layout (list_in memory.old.layout memory.old.words) memory.new.words }
+    ensures beside { KeepsBeside memory.old.layout memory.old.words memory.new.words }
+    ensures row { IsRow memory.old.layout memory.new.words }
+{
+    let nodes = memory.layout().nodes();
+    let mut node = 0;
+    tell_node(memory, node, 0);
+    for _position in 0..nodes {
+        let next = next_of(memory, node);
+        if next == 0 {
+            return;
+        }
+        tell_node(memory, next, node);
+        node = next;
+    }
+}
+
+/// Makes the node LIVE, with this prev.
+fn tell_node(memory: &mut Memory, node: u64, prev: u64)
+    requires node { node < memory.old.layout.nodes }
+    ensures { memory.new ≡ told_node memory.old node prev }
+{
+    let layout = memory.layout();
+    memory.store(layout.node_volatile(node, volatile::STATUS), LIVE);
+    memory.store(layout.node_volatile(node, volatile::PREV), prev);
+}
+
+/// The node to which a node leads; 0 is none.
+fn next_of(memory: &Memory, node: u64) -> u64
+    requires node { node < memory.now.layout.nodes }
+    ensures { result ≡ spot_in memory.now.layout memory.now.words node next_offset }
+{
+    let layout = memory.layout();
+    memory.words()[layout.cached(layout.node_word(node, node::NEXT)) as usize]
+}
