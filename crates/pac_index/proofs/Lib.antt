@@ -2,6 +2,7 @@ pub mod Lists
 pub mod PartRuns
 pub mod Allowed
 pub mod TurnSteps
+pub mod Statuses
 pub mod TurnRunning
 pub mod Running
 pub mod Repeating
@@ -10,4 +11,5 @@ pub mod Seats
 pub mod Handing
 pub mod Gathered
 pub mod Closing
+pub mod Writing
 mod Settling

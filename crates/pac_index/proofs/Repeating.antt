@@ -12,6 +12,7 @@ use Rattle.index_core.specs.declared.party.CoreCall.TheVariants as call
 use Rattle.index_core.specs.PartyStates.{next_index}
 use Rattle.pac_index.specs.declared.tried.Tried.{Tried}
 use Rattle.pac_index.specs.declared.tried.Tried.TheVariants as tried
+use Rattle.updater.specs.declared.making.TurnReply.{TurnReply}
 use Rattle.updater.specs.declared.making.TurnReply.TheVariants as reply
 use Rattle.updater.specs.declared.terms.Turned.{Turned}
 use Rattle.index_core.specs.declared.party.PartyState.{PartyState}
@@ -39,9 +40,9 @@ back_trans u v w p q = record {
   own = subst (λ (c : ℕ). placed_by c w.seen ≡ placed_by c v.seen) p.caller q.own ∙ p.own;
 }
 
--- a get or a part that is turned back
+-- a call that is turned back
 module _ (c : CoreCall) (n : ℕ) (v w : Member) where
-  back_by : (answer : Once Placed) → ended_of answer ≡ None → Answers c n v answer w → HasOnlyRead v w
+  pub back_by : (answer : Once Placed) → ended_of answer ≡ None → Answers c n v answer w → HasOnlyRead v w
   back_by (once.Done placed) none is = absurd (cc)
   back_by (once.Spent clock) none is = absurd (cc)
   back_by (once.Worn node word) none is = record {
@@ -67,7 +68,7 @@ none_of (once.Spent clock) none = absurd (cc)
 none_of (once.Worn node word) none = refl
 none_of (once.Again why) none = refl
 
-same_index : {T : Type 0} (n : ℕ) (answer : Once T) → ended_of answer ≡ None → counted_index n answer ≡ n
+pub same_index : {T : Type 0} (n : ℕ) (answer : Once T) → ended_of answer ≡ None → counted_index n answer ≡ n
 same_index n (once.Done value) none = absurd (cc)
 same_index n (once.Spent clock) none = absurd (cc)
 same_index n (once.Worn node word) none = refl
@@ -131,17 +132,21 @@ part_ends_so low count n i j old v w (tried.Answered (once.Worn node word)) end 
 part_ends_so low count n i j old v w (tried.Answered (once.Again why)) end tries ends index is = absurd (cc)
 part_ends_so low count n i j old v w tried.Cut end tries ends index is = absurd is
 
--- a turn that finds the updater lock taken, and the last one
-pub turn_again : (old v w : Member) (t : TriedTurn) → HasOnlyRead old v → turn_ended_by t ≡ None → IsTold t (λ answer. TurnAnswers v answer w) → HasOnlyRead old w
-turn_again old v w (turn.Turned turned) back none is = absurd (cc)
-turn_again old v w (turn.Held word) back none is = back_trans old v w back (record {
+-- what a turn leaves
+pub turn_reads : (v w : Member) (answer : TurnReply) → TurnAnswers v answer w → HasOnlyRead v w
+turn_reads v w answer is = record {
   about = is.about;
   caller = ap (λ (e : PartyState). e.caller) is.state;
   taken = let t = is.taken in omega arith;
   added = is.added;
   seen = is.seen;
   own = is.own;
-})
+}
+
+-- a turn that finds the updater lock taken, and the last one
+pub turn_again : (old v w : Member) (t : TriedTurn) → HasOnlyRead old v → turn_ended_by t ≡ None → IsTold t (λ answer. TurnAnswers v answer w) → HasOnlyRead old w
+turn_again old v w (turn.Turned turned) back none is = absurd (cc)
+turn_again old v w (turn.Held word) back none is = back_trans old v w back (turn_reads v w (reply.Held word) is)
 turn_again old v w turn.Cut back none is = absurd is
 
 pub turn_ends_so : (old v w : Member) (t : TriedTurn) (end : Ended Turned) → HasOnlyRead old v → turn_ended_by t ≡ Some end → IsTold t (λ answer. TurnAnswers v answer w)

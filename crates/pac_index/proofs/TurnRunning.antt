@@ -26,6 +26,7 @@ use Rattle.pac_index.specs.Calls.{run_of}
 use Rattle.pac_index.specs.Turns.{turn_in, turning, TurnReady, TurnGoes, TurnRuns, HasLock, TurnAnswers, TurnStepsOn, actions_left}
 use Rattle.pac_index.proofs.Lists.{begins_trans}
 use Rattle.pac_index.proofs.PartRuns.{run_more}
+use Rattle.pac_index.proofs.Statuses.{turn_tells}
 
 -- by the first number it has the lock, or is refused
 lock_first : (terms : Terms) (x : ℕ) → HasLock (x ∷ []) (making_turned (Taking terms) x)
@@ -101,12 +102,13 @@ turn_lessens making (Go next) less = omega arith
 turn_lessens making (Done answer) less = omega arith
 
 -- the answer that it ends with
-pub turn_ends : (old v : Member) (turn : Turn MakeTurn TurnReply) (answer : TurnReply) → TurnRuns old turn v → turn ≡ Done answer → TurnAnswers old answer v
-turn_ends old v turn answer runs is = record {
+pub turn_ends : (old v : Member) (turn : Turn MakeTurn TurnReply) (answer : TurnReply) → TurnRuns old turn v → turn ≡ Done answer → 0 < old.about.layout.nodes → TurnAnswers old answer v
+turn_ends old v turn answer runs is some = record {
   about = runs.about;
   state = runs.state ∙ ap (state_turned old.state) is;
   ran = runs.ran ∙ is;
   lock = subst (HasLock v.told) is runs.lock;
+  free = turn_tells old v.told answer some (subst (HasLock v.told) is runs.lock) (runs.ran ∙ is);
   taken = runs.taken;
   added = runs.added;
   seen = runs.seen;

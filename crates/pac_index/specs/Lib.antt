@@ -5,3 +5,4 @@ pub mod Stamps
 pub mod Ends
 pub mod Scanned
 pub mod Turns
+pub mod Writes

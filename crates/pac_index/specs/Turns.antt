@@ -1,10 +1,12 @@
 -- Turns of the updater by a seat's party: what each step tells, and what a turn is answered.
 use Rattle.std.specs.Prelude.{◌≡◌, ◌≢◌, ℕ, ◌+◌, ◌<◌, List, [], ◌∷◌, ◌++◌, length, Option, Some, None}
+use Rattle.std.specs.Prelude.{◌↔◌, Bool, true, All}
 use Rattle.pm_words.specs.declared.layout.Layout.{Layout}
 use Rattle.pm_words.specs.declared.machine.Turn.{Turn}
 use Rattle.pm_words.specs.declared.machine.Turn.TheVariants.{Go, Done}
 use Rattle.pm_words.specs.Locations.{row_words}
 use Rattle.pm_words.specs.Rows.{given, action_address}
+use Rattle.call_stages.specs.Kinds.{free_status}
 use Rattle.updater.specs.declared.making.MakeTurn.{MakeTurn}
 use Rattle.updater.specs.declared.making.MakeTurn.TheVariants.{Taking, Working}
 use Rattle.updater.specs.declared.making.TurnReply.{TurnReply}
@@ -82,6 +84,21 @@ pub record TurnRuns (old : Member) (turn : Turn MakeTurn TurnReply) (new : Membe
   pub own : placed_by old.state.caller new.seen ≡ placed_by old.state.caller old.seen
   pub ready : TurnReady old.about.layout turn
 
+-- Among the numbers that a turn was told stand the statuses of all nodes, from the first to the last, and it answers that
+-- it found none FREE exactly where none of them is.
+pub record FoundStatuses (l : Layout) (none_free : Bool) (told : List ℕ) : Type 0 where
+  pub before : List ℕ
+  pub statuses : List ℕ
+  pub rest : List ℕ
+  pub is : told ≡ before ++ statuses ++ rest
+  pub all : length statuses ≡ l.nodes
+  pub none : (none_free ≡ true) ↔ All (λ status. status ≢ free_status) statuses
+
+-- What an answer says of the statuses that the turn was told. A turn that was refused was told none.
+abbrev pub TellsOfFree : Layout → List ℕ → TurnReply → Type 0
+TellsOfFree l told (reply.Turned turned) = FoundStatuses l turned.none_free told
+TellsOfFree l told (reply.Held word) = Unit {0}
+
 -- What a turn is answered: what its machine ends with on the numbers that its steps on the table gave, of which the
 -- caller's count of steps tells how many there were. The caller has seen a longer history, with no more writes of its
 -- own, and has counted no call.
@@ -90,6 +107,7 @@ pub record TurnAnswers (old : Member) (answer : TurnReply) (new : Member) : Type
   pub state : new.state ≡ record old.state { turn = None }
   pub ran : run_of making_turned (Go (turn_in old)) new.told ≡ Done answer
   pub lock : FoundLock new.told answer
+  pub free : TellsOfFree old.about.layout new.told answer
   pub taken : new.taken ≡ old.taken + length new.told
   pub added : new.added ≡ old.added
   pub seen : Begins old.seen new.seen

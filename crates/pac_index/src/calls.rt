@@ -8,7 +8,7 @@ ghost use Rattle.pac_index.specs.Calls.{Answers, PartAnswers, IsAnswered, own_at
 ghost use Rattle.pac_index.specs.Callers.{IsCallerOf, spare_of, seen_by, pairs};
 
 use crate::caller::{Caller, PlacedWrite};
-use crate::gate::{Gate, OpenGate};
+use crate::gate::{Gate, OpenGate, Pace};
 use crate::shared::Shared;
 use crate::tried::Tried;
 use call_stages::{Once, Placed};
@@ -114,13 +114,36 @@ impl Shared {
         ensures spare { IsAnswered result (λ answer. spare_of caller.old ≤ spare_of caller.new + length
             (own_of caller.old call answer)) }
     {
+        let mut pace = Pace::begin(gate, caller.number, caller.index);
+        self.try_at_pace(caller, call, &mut pace)
+    }
+
+    /// One try of a call on one name, of a whole call that goes at this pace.
+    pub(crate) fn try_at_pace<G: Gate>(
+        &self,
+        caller: &mut Caller,
+        call: CoreCall,
+        pace: &mut Pace<'_, G>,
+    ) -> Tried<Placed>
+        requires caller { IsCallerOf self.now caller.old }
+        requires worker { caller.old.number < self.now.about.layout.callers }
+        requires begins { MayBegin call }
+        requires spare { most_writes call ≤ spare_of caller.old }
+        ensures caller { IsCallerOf self.now caller.new }
+        ensures number { caller.new.number ≡ caller.old.number }
+        ensures index { IsAnswered result (λ answer. caller.new.index ≡ counted_index caller.old.index answer) }
+        ensures answered { IsAnswered result (λ answer. Answers call caller.old.index (seen_by caller.old) answer
+            (seen_by caller.new)) }
+        ensures spare { IsAnswered result (λ answer. spare_of caller.old ≤ spare_of caller.new + length
+            (own_of caller.old call answer)) }
+    {
         let change = change_of(&call);
         let answer = self.run::<Brand, G>(
             &mut caller.seat,
             caller.number,
             caller.index,
             call,
-            gate,
+            pace,
         );
         caller.keep(change, answer);
         Tried::Answered(answer)
@@ -143,13 +166,14 @@ impl Shared {
             answer (seen_by caller.new)) }
         ensures spare { spare_of caller.old ≤ spare_of caller.new }
     {
+        let mut pace = Pace::begin(gate, caller.number, caller.index);
         let answer = self.run_part::<Brand, G>(
             &mut caller.seat,
             caller.number,
             caller.index,
             low,
             count,
-            gate,
+            &mut pace,
         );
         caller.index = index_after(caller.index, &answer);
         Tried::Answered(answer)

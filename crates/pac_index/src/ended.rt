@@ -8,9 +8,9 @@ use updater::Turned;
 #[derive(Clone, Copy, PartialEq, Eq, Debug)]
 pub enum Ended<T> {
     Done(T),
-    /// A put found no room. No call that is there yet ends so.
+    /// A put found no room.
     Full,
-    /// The clock had reached the call's limit. No call that is there yet has one.
+    /// The clock had reached the limit of a put or a delete.
     Spent { clock: u64 },
     /// The caller had no step left. No caller has a bound on its steps yet, so no call ends so.
     Cut,

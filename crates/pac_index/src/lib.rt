@@ -1,5 +1,5 @@
-//! An index whose words threads share: callers make calls on it, each in a thread of its own, and none of them waits
-//! for another.
+//! An index whose words threads share: callers make calls on it, each in a thread of its own. A single try waits for
+//! no other caller; a whole call is tried again until it takes place.
 //!
 //! `Shared::new` takes a core apart into the table of its words and a caller for each party, and `Shared::close` puts
 //! them together again. Between the two each step of a call is one atomic action on one word, and the table keeps the
@@ -20,6 +20,7 @@ mod shared;
 mod stamps;
 mod tried;
 mod turns;
+mod writes;
 
 pub use caller::{Caller, PlacedWrite};
 pub use ended::Ended;

@@ -12,6 +12,7 @@ ghost use Rattle.pac_index.specs.Turns.{TurnAnswers};
 
 use crate::caller::Caller;
 use crate::ended::Ended;
+use crate::gate::{Gate, OpenGate, Pace};
 use crate::shared::Shared;
 use call_stages::Placed;
 use cat_key::Name;
@@ -79,8 +80,26 @@ impl Shared {
         ensures done { IsDone result (λ turned. AtLast (λ before after. TurnAnswers before (reply.Turned turned) after)
             (seen_by caller.old) (seen_by caller.new)) }
     {
+        let mut pace = Pace::begin(&OpenGate, caller.number, caller.index);
+        self.turn_at_pace(rt, caller, &mut pace)
+    }
+
+    /// A turn of the updater by any of the callers, of a whole call that goes at this pace.
+    pub(crate) fn turn_at_pace<R: Wait, G: Gate>(
+        &self,
+        rt: &R,
+        caller: &mut Caller,
+        pace: &mut Pace<'_, G>,
+    ) -> Ended<Turned>
+        requires caller { IsCallerOf self.now caller.old }
+        ensures caller { IsCallerOf self.now caller.new }
+        ensures same { (caller.new.number ≡ caller.old.number) × (caller.new.index ≡ caller.old.index) ×
+            (caller.new.kept ≡ caller.old.kept) }
+        ensures done { IsDone result (λ turned. AtLast (λ before after. TurnAnswers before (reply.Turned turned) after)
+            (seen_by caller.old) (seen_by caller.new)) }
+    {
         for _ in rt.forever() {
-            if let Some(ended) = self.turn_once(caller).ended() {
+            if let Some(ended) = self.try_turn(caller, pace).ended() {
                 return ended;
             }
             yield_now();

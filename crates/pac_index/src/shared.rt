@@ -12,7 +12,7 @@ ghost use Rattle.index_core.specs.MachineLaws.{IsReady};
 ghost use Rattle.pac_index.specs.Kept.{May, WasTold, IsLone, party, machine_in};
 ghost use Rattle.pac_index.specs.Calls.{Answers, PartAnswers, Runs, FirstTurn, StepsOn};
 
-use crate::gate::Gate;
+use crate::gate::{Gate, Pace};
 use crate::rule::{About, BeginsCall, ByOutcome, FirstStep, Members, NextStep, Outcome, Ruled};
 use atomic_table::{Seat, Table};
 use call_stages::{Once, Placed, View};
@@ -78,7 +78,7 @@ impl Shared {
         number: u64,
         index: u64,
         call: CoreCall,
-        gate: &G,
+        pace: &mut Pace<'_, G>,
     ) -> Once<Placed>
         requires table { seat.old.table_id ≡ self.now.table.shared.table_id }
         requires chosen { (call ≡ C.call) × (index ≡ C.index) }
@@ -92,14 +92,12 @@ impl Shared {
         ensures answered { Answers call index (party seat.old.me) result (party seat.new.me) }
     {
         let mut machine = call.machine(self.view(number));
-        let mut answer = self.begin::<C, G>(seat, &mut machine, number, index, gate);
-        let mut step = 0u64;
+        let mut answer = self.begin::<C, G>(seat, &mut machine, pace);
         'steps: loop {
             if let Some(answer) = answer {
                 return answer;
             }
-            step = step.saturating_add(1);
-            answer = self.go_on(seat, &mut machine, number, step, gate);
+            answer = self.go_on(seat, &mut machine, pace);
         }
     }
 
@@ -112,7 +110,7 @@ impl Shared {
         index: u64,
         low: Name,
         count: u64,
-        gate: &G,
+        pace: &mut Pace<'_, G>,
     ) -> Once<PartWords>
         requires table { seat.old.table_id ≡ self.now.table.shared.table_id }
         requires chosen { (call.Part low count ≡ C.call) × (index ≡ C.index) }
@@ -126,19 +124,17 @@ impl Shared {
     {
         let call = CoreCall::Part { low, count };
         let mut machine = call.machine(self.view(number));
-        let mut answer = self.begin::<C, G>(seat, &mut machine, number, index, gate);
-        let mut step = 0u64;
+        let mut answer = self.begin::<C, G>(seat, &mut machine, pace);
         'steps: loop {
             if let Some(answer) = answer {
                 return Part::early(answer);
             }
-            step = step.saturating_add(1);
             if machine.has_listed() {
                 let words = listing(&machine);
-                self.go_on(seat, &mut machine, number, step, gate);
+                self.go_on(seat, &mut machine, pace);
                 return Once::Done(words);
             }
-            answer = self.go_on(seat, &mut machine, number, step, gate);
+            answer = self.go_on(seat, &mut machine, pace);
         }
     }
 
@@ -164,9 +160,7 @@ impl Shared {
         &self,
         seat: &mut Seat<(), Members>,
         machine: &mut Running,
-        number: u64,
-        index: u64,
-        gate: &G,
+        pace: &mut Pace<'_, G>,
     ) -> Option<Once<Placed>>
         requires table { seat.old.table_id ≡ self.now.table.shared.table_id }
         requires lone { IsLone seat.old.me }
@@ -180,8 +174,7 @@ impl Shared {
         ensures runs { Runs C.call C.index (party seat.old.me) (turn_of machine.new result) (party seat.new.me) }
         ensures turned { FirstTurn machine.old machine.new result }
     {
-        gate.before(number, index);
-        gate.within(number, 0);
+        pace.step();
         let got = self.act::<FirstStep<C>>(seat, machine.action());
         machine.advance(got)
     }
@@ -191,9 +184,7 @@ impl Shared {
         &self,
         seat: &mut Seat<(), Members>,
         machine: &mut Running,
-        number: u64,
-        step: u64,
-        gate: &G,
+        pace: &mut Pace<'_, G>,
     ) -> Option<Once<Placed>>
         requires table { seat.old.table_id ≡ self.now.table.shared.table_id }
         requires lone { IsLone seat.old.me }
@@ -203,7 +194,7 @@ impl Shared {
         ensures lone { IsLone seat.new.me }
         ensures steps { StepsOn machine.old (party seat.old.me) (party seat.new.me) machine.new result }
     {
-        gate.within(number, step);
+        pace.step();
         let got = self.act::<NextStep>(seat, machine.action());
         machine.advance(got)
     }

@@ -26,6 +26,7 @@ mod held;
 mod parts;
 mod scans;
 mod turns;
+mod writes;
 
 /// No history here is as long.
 const LIMIT: u64 = 1 << 62;
@@ -47,6 +48,8 @@ enum Habit {
     Puts,
     Gets,
     PutsAndDels,
+    /// Puts of all names, then deletes of all, and so on.
+    FillsAndEmpties,
 }
 
 /// So many calls of names with this first letter, of which there are so many.
@@ -100,6 +103,9 @@ impl Plan {
             Habit::Gets => Asks::Get,
             Habit::PutsAndDels if number % 3 == 2 => Asks::Del,
             Habit::PutsAndDels => Asks::Put(number),
+            Habit::FillsAndEmpties if number.checked_div(self.names).is_some_and(|k| k % 2 == 1) =>
+                Asks::Del,
+            Habit::FillsAndEmpties => Asks::Put(number),
         }
     }
 

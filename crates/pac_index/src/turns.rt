@@ -9,7 +9,7 @@ ghost use Rattle.pac_index.specs.Callers.{IsCallerOf, seen_by};
 ghost use Rattle.pac_index.specs.Turns.{IsTold, TurnAnswers, TurnReady, TurnRuns, TurnStepsOn, turn_in};
 
 use crate::caller::Caller;
-use crate::gate::{Gate, OpenGate};
+use crate::gate::{Gate, OpenGate, Pace};
 use crate::rule::{FirstTurnStep, Members, NextTurnStep};
 use crate::shared::Shared;
 use crate::tried::TriedTurn;
@@ -29,31 +29,26 @@ impl Shared {
             (caller.new.kept ≡ caller.old.kept) }
         ensures told { IsTold result (λ answer. TurnAnswers (seen_by caller.old) answer (seen_by caller.new)) }
     {
-        self.try_turn(caller, &OpenGate)
+        let mut pace = Pace::begin(&OpenGate, caller.number, caller.index);
+        self.try_turn(caller, &mut pace)
     }
 
-    /// One try of a turn, with the gate before its first step and between its steps.
-    pub(crate) fn try_turn<G: Gate>(&self, caller: &mut Caller, gate: &G) -> TriedTurn
+    /// One try of a turn by any of the callers, in a call that goes at this pace.
+    pub(crate) fn try_turn<G: Gate>(&self, caller: &mut Caller, pace: &mut Pace<'_, G>) -> TriedTurn
         requires caller { IsCallerOf self.now caller.old }
         ensures caller { IsCallerOf self.now caller.new }
         ensures same { (caller.new.number ≡ caller.old.number) × (caller.new.index ≡ caller.old.index) ×
             (caller.new.kept ≡ caller.old.kept) }
         ensures told { IsTold result (λ answer. TurnAnswers (seen_by caller.old) answer (seen_by caller.new)) }
     {
-        match self.run_turn(&mut caller.seat, caller.number, caller.index, gate) {
+        match self.run_turn(&mut caller.seat, pace) {
             TurnReply::Turned(turned) => TriedTurn::Turned { turned },
             TurnReply::Held { word } => TriedTurn::Held { word },
         }
     }
 
     /// A turn by the seat's party, from its first step to its answer, with the gate before each step.
-    fn run_turn<G: Gate>(
-        &self,
-        seat: &mut Seat<(), Members>,
-        number: u64,
-        index: u64,
-        gate: &G,
-    ) -> TurnReply
+    fn run_turn<G: Gate>(&self, seat: &mut Seat<(), Members>, pace: &mut Pace<'_, G>) -> TurnReply
         requires table { seat.old.table_id ≡ self.now.table.shared.table_id }
         requires lone { IsLone seat.old.me }
         requires about { (party seat.old.me).about ≡ self.now.about }
@@ -63,14 +58,12 @@ impl Shared {
         ensures answered { TurnAnswers (party seat.old.me) result (party seat.new.me) }
     {
         let mut making = MakeTurn::new(self.about.layout, self.about.generation, 1, 1);
-        let mut reply = self.begin_turn(seat, &mut making, number, index, gate);
-        let mut step = 0u64;
+        let mut reply = self.begin_turn(seat, &mut making, pace);
         'steps: loop {
             if let Some(reply) = reply {
                 return reply;
             }
-            step = step.saturating_add(1);
-            reply = self.go_on_turn(seat, &mut making, number, step, gate);
+            reply = self.go_on_turn(seat, &mut making, pace);
         }
     }
 
@@ -79,9 +72,7 @@ impl Shared {
         &self,
         seat: &mut Seat<(), Members>,
         making: &mut MakeTurn,
-        number: u64,
-        index: u64,
-        gate: &G,
+        pace: &mut Pace<'_, G>,
     ) -> Option<TurnReply>
         requires table { seat.old.table_id ≡ self.now.table.shared.table_id }
         requires lone { IsLone seat.old.me }
@@ -93,8 +84,7 @@ impl Shared {
         ensures lone { IsLone seat.new.me }
         ensures runs { TurnRuns (party seat.old.me) (turn_of making.new result) (party seat.new.me) }
     {
-        gate.before(number, index);
-        gate.within(number, 0);
+        pace.step();
         let got = self.act::<FirstTurnStep>(seat, making.action());
         making.advance(got)
     }
@@ -104,9 +94,7 @@ impl Shared {
         &self,
         seat: &mut Seat<(), Members>,
         making: &mut MakeTurn,
-        number: u64,
-        step: u64,
-        gate: &G,
+        pace: &mut Pace<'_, G>,
     ) -> Option<TurnReply>
         requires table { seat.old.table_id ≡ self.now.table.shared.table_id }
         requires lone { IsLone seat.old.me }
@@ -116,7 +104,7 @@ impl Shared {
         ensures lone { IsLone seat.new.me }
         ensures steps { TurnStepsOn making.old (party seat.old.me) (party seat.new.me) making.new result }
     {
-        gate.within(number, step);
+        pace.step();
         let got = self.act::<NextTurnStep>(seat, making.action());
         making.advance(got)
     }

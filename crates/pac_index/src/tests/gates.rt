@@ -45,10 +45,21 @@ impl Gate for Rendezvous {
 
 /// Counts what is called of it, and whether steps come one after another from 0 behind the start of their call.
 #[derive(Drop)]
-struct Counts {
+pub(super) struct Counts {
     starts: AtomicU64,
-    next: AtomicU64,
-    astray: AtomicBool,
+    pub(super) next: AtomicU64,
+    pub(super) astray: AtomicBool,
+}
+
+impl Counts {
+    /// The next call is to have this index.
+    pub(super) fn from(index: u64) -> Counts {
+        Counts {
+            starts: AtomicU64::new(index),
+            next: AtomicU64::new(0),
+            astray: AtomicBool::new(false),
+        }
+    }
 }
 
 impl Gate for Counts {
@@ -171,11 +182,7 @@ fn callers_wait_for_each_other_within_their_calls(rt: HostRuntime) -> Result<(),
 #[test]
 fn a_gate_sees_each_step(rt: HostRuntime) -> Result<(), Fail> {
     let name = Name::read(b"a").ok().ok_or("a")?;
-    let gate = Counts {
-        starts: AtomicU64::new(0),
-        next: AtomicU64::new(0),
-        astray: AtomicBool::new(false),
-    };
+    let gate = Counts::from(0);
     put_twice(rt.alloc(), Layout::new(1, 4, 1)?, name, &gate)?;
     assert!(rt; !gate.astray.load(Ordering::SeqCst));
     assert_eq!(rt; gate.starts.load(Ordering::SeqCst), 2);

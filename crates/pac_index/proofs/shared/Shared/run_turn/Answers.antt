@@ -1,7 +1,16 @@
-use Rattle.std.proofs.Common.{◌∙◌}
+use Rattle.std.proofs.Common.{◌<◌, ap, sym, ◌∙◌, subst}
+use Rattle.split_merge.specs.Advances.{turn_of}
+use Rattle.pac_index.specs.declared.rule.About.{About}
 use Rattle.pac_index.specs.Kept.{party}
-use Rattle.pac_index.proofs.TurnRunning.{turn_going, turn_stepped}
+use Rattle.pac_index.proofs.TurnRunning.{turn_ends, turn_going, turn_stepped}
 use Rattle.pac_index.proofs.shared.Shared.run_turn.Goals as goal
+
+pub returns-in-Some-clause-answered : goal.returns-in-Some-clause-answered
+returns-in-Some-clause-answered g c =
+    let s = c.args.self.now in
+    let old = party c.args.seat.now.me in
+    let some : 0 < s.about.layout.nodes = s.layout.nodes.0 in
+    turn_ends old (party c.steps.seat.me) (turn_of c.steps.making c.steps.reply) c.in-Some.reply c.steps.invariant.2 (ap (turn_of c.steps.making) c.in-Some.is) (subst (λ (b : About). 0 < b.layout.nodes) (sym c.requires.about) some)
 
 pub steps-preserved : goal.steps-preserved
 steps-preserved g c =

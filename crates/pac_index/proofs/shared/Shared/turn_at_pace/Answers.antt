@@ -1,15 +1,15 @@
 use Rattle.std.proofs.Common.{sym, ◌∙◌}
 use Rattle.pac_index.specs.Callers.{seen_by}
 use Rattle.pac_index.proofs.Repeating.{turn_again, none_else}
-use Rattle.pac_index.proofs.shared.Shared.turn.Goals as goal
+use Rattle.pac_index.proofs.shared.Shared.turn_at_pace.Goals as goal
 
 pub loop-preserved : goal.loop-preserved
 loop-preserved g c =
     let before = c.loop.caller in
-    let after = c.turn_once.new.caller in
-    let on = c.turn_once.ensures in
+    let after = c.try_turn.new.caller in
+    let on = c.try_turn.ensures in
     let same = c.loop.invariant.1 in (
       on.caller,
       (on.same.0 ∙ same.0, on.same.1 ∙ same.1, on.same.2 ∙ same.2),
-      turn_again (seen_by c.args.caller.now) (seen_by before) (seen_by after) c.turn_once.result c.loop.invariant.2 (sym c.ended.ensures ∙ none_else c.ended.result c.in_default.not-Some) on.told,
+      turn_again (seen_by c.args.caller.now) (seen_by before) (seen_by after) c.try_turn.result c.loop.invariant.2 (sym c.ended.ensures ∙ none_else c.ended.result c.in_default.not-Some) on.told,
     )

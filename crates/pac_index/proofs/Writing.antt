@@ -1,0 +1,192 @@
+-- Tries of a put or a delete, the turns between them, and how they end.
+use Rattle.std.proofs.Common.{◌≡◌, ℕ, zero, suc, ◌+◌, ◌≤◌, Bool, true, length, refl, sym, ap, ◌∙◌, subst, arith}
+use Rattle.std.specs.Prelude.{Some, None, List}
+use Rattle.std.specs.FinMap.{len}
+use Rattle.cat_history.specs.Maps.{Map, map_of, at}
+use Rattle.cat_history.specs.Writes.{after}
+use Rattle.cat_history.specs.Records.{change_of}
+use Rattle.cat_history.specs.declared.op.Write.{Write}
+use Rattle.pm_words.specs.declared.again.Again.TheVariants as again
+use Rattle.call_stages.specs.declared.once.Once.{Once}
+use Rattle.call_stages.specs.declared.once.Once.TheVariants as once
+use Rattle.call_stages.specs.declared.once.Placed.{Placed}
+use Rattle.node_ops.specs.Asked.{name_asked}
+use Rattle.updater.specs.declared.making.TurnReply.TheVariants as reply
+use Rattle.updater.specs.declared.terms.Turned.{Turned}
+use Rattle.index_law.proofs.Maps.{after-longer}
+use Rattle.index_core.specs.declared.party.CoreCall.{CoreCall}
+use Rattle.index_core.specs.declared.party.CoreCall.TheVariants as call
+use Rattle.index_core.specs.Answers.{FoundNoRoom}
+use Rattle.index_core.specs.CoreCalls.{op_of}
+use Rattle.index_core.specs.MachineLaws.{place_told}
+use Rattle.pac_index.specs.declared.tried.Tried.{Tried}
+use Rattle.pac_index.specs.declared.tried.Tried.TheVariants as tried
+use Rattle.pac_index.specs.declared.ended.Ended.{Ended}
+use Rattle.pac_index.specs.declared.ended.Ended.TheVariants as ended
+use Rattle.pac_index.specs.declared.caller.Caller.{Caller}
+use Rattle.pac_index.specs.declared.rule.About.{About}
+use Rattle.pac_index.specs.declared.rule.Member.{Member}
+use Rattle.pac_index.specs.Kept.{Begins}
+use Rattle.pac_index.specs.Calls.{Answers, IsAnswered, counted_index, own_at, own_of}
+use Rattle.pac_index.specs.Callers.{spare_of}
+use Rattle.pac_index.specs.Ends.{ended_by, HasOnlyRead, AtLast}
+use Rattle.pac_index.specs.Turns.{TurnAnswers}
+use Rattle.pac_index.specs.Writes.{lacks_node, EndsSo, TurnedForRoom, HaveTurned, FoundFull}
+use Rattle.pac_index.proofs.Lists.{begins_le}
+use Rattle.pac_index.proofs.Repeating.{back_by, back_self, back_trans, same_index, turn_reads}
+
+-- a try that is turned back
+pub tried_back : (c : CoreCall) (n : ℕ) (v w : Member) (t : Tried Placed) → ended_by t ≡ None → IsAnswered t (λ answer. Answers c n v answer w) → HasOnlyRead v w
+tried_back c n v w (tried.Answered answer) none is = back_by c n v w answer none is
+tried_back c n v w tried.Cut none is = absurd is
+
+pub index_kept : (n j : ℕ) (t : Tried Placed) → ended_by t ≡ None → IsAnswered t (λ answer. j ≡ counted_index n answer) → j ≡ n
+index_kept n j (tried.Answered answer) none is = is ∙ same_index n answer none
+index_kept n j tried.Cut none is = absurd is
+
+pub spare_kept : (caller : Caller) (c : CoreCall) (a b : ℕ) (t : Tried Placed) → ended_by t ≡ None → IsAnswered t (λ answer. a ≤ b + length (own_of caller c answer)) → a ≤ b
+spare_kept caller c a b (tried.Answered (once.Done placed)) none is = absurd (cc)
+spare_kept caller c a b (tried.Answered (once.Spent clock)) none is = absurd (cc)
+spare_kept caller c a b (tried.Answered (once.Worn node word)) none is = omega arith
+spare_kept caller c a b (tried.Answered (once.Again why)) none is = omega arith
+spare_kept caller c a b tried.Cut none is = absurd is
+
+-- one that found no node
+pub lacked : (P : Once Placed → Type 0) (t : Tried Placed) → lacks_node t ≡ true → IsAnswered t P → P (once.Again again.NoFree)
+lacked P (tried.Answered (once.Done placed)) lacks is = absurd (cc)
+lacked P (tried.Answered (once.Spent clock)) lacks is = absurd (cc)
+lacked P (tried.Answered (once.Worn node word)) lacks is = absurd (cc)
+lacked P (tried.Answered (once.Again (again.Locked node word))) lacks is = absurd (cc)
+lacked P (tried.Answered (once.Again (again.Moved node first second))) lacks is = absurd (cc)
+lacked P (tried.Answered (once.Again (again.Hops count))) lacks is = absurd (cc)
+lacked P (tried.Answered (once.Again again.LogFull)) lacks is = absurd (cc)
+lacked P (tried.Answered (once.Again again.NoFree)) lacks is = is
+lacked P (tried.Answered (once.Again (again.NeedsSplit node))) lacks is = absurd (cc)
+lacked P (tried.Answered (once.Again (again.Held word))) lacks is = absurd (cc)
+lacked P (tried.Answered (once.Again (again.Epoch first second))) lacks is = absurd (cc)
+lacked P tried.Cut lacks is = absurd is
+
+-- one that ends the call
+pub tried_ends : (P : Once Placed → Type 0) (t : Tried Placed) (end : Ended Placed) → ended_by t ≡ Some end → IsAnswered t P → EndsSo end P ⊥
+tried_ends P (tried.Answered (once.Done placed)) end ends is = let gives : ended.Done placed ≡ end = cc in subst (λ (e : Ended Placed). EndsSo e P ⊥) gives is
+tried_ends P (tried.Answered (once.Spent clock)) end ends is = let gives : ended.Spent clock ≡ end = cc in subst (λ (e : Ended Placed). EndsSo e P ⊥) gives is
+tried_ends P (tried.Answered (once.Worn node word)) end ends is = absurd (cc)
+tried_ends P (tried.Answered (once.Again why)) end ends is = absurd (cc)
+tried_ends P tried.Cut end ends is = absurd is
+
+-- what holds of an answer that ends a call, holds so too
+pub ends_by : (P Q : Once Placed → Type 0) (full full' : Type 0) (end : Ended Placed) → ((placed : Placed) → P (once.Done placed) → Q (once.Done placed)) → ((clock : ℕ) → P (once.Spent clock) → Q (once.Spent clock)) → (full → full')
+    → EndsSo end P full → EndsSo end Q full'
+ends_by P Q full full' (ended.Done placed) done spent so is = done placed is
+ends_by P Q full full' (ended.Spent clock) done spent so is = spent clock is
+ends_by P Q full full' ended.Full done spent so is = so is
+ends_by P Q full full' ended.Cut done spent so is = absurd is
+
+pub turned_reads : (turned : Turned) (v w : Member) → AtLast (λ before after. TurnAnswers before (reply.Turned turned) after) v w → HasOnlyRead v w
+turned_reads turned v w is = back_trans v is.before w is.back (turn_reads is.before w (reply.Turned turned) is.last)
+
+room_reads : (c : CoreCall) (n : ℕ) (b : Bool) (v w : Member) → TurnedForRoom c n b v w → HasOnlyRead v w
+room_reads c n b v w is = back_trans v is.tried w (back_by c n v is.tried (once.Again again.NoFree) refl is.refused) (turned_reads is.turned is.tried w is.turn)
+
+all_read : (c : CoreCall) (n turns : ℕ) (old w : Member) → HaveTurned c n turns old w → HasOnlyRead old w
+all_read c n zero old w is = is
+all_read c n (suc turns) old w is =
+    let last = is.3 in
+    back_trans old is.0 w (all_read c n turns old is.0 is.2) (back_trans is.0 last.before w last.back (room_reads c n is.1 last.before w last.last))
+
+-- What the tries so far have left: the index, and at least so many found no node and have a turn behind each.
+pub record Writing (c : CoreCall) (n turns : ℕ) (old : Member) (now_index : ℕ) (now : Member) : Type 0 where
+  pub index : now_index ≡ n
+  pub rounds : ℕ
+  pub most : turns ≤ rounds
+  pub mid : Member
+  pub earlier : HaveTurned c n rounds old mid
+  pub back : HasOnlyRead mid now
+
+module _ (c : CoreCall) (n : ℕ) (old : Member) where
+  pub writing_begins : Writing c n 0 old n old
+  writing_begins = record { index = refl; rounds = 0; most = omega arith; mid = old; earlier = back_self old; back = back_self old }
+
+  pub writing_back : (turns i j : ℕ) (v w : Member) → Writing c n turns old i v → j ≡ i → HasOnlyRead v w → Writing c n turns old j w
+  writing_back turns i j v w so same back = record {
+    index = same ∙ so.index;
+    rounds = so.rounds;
+    most = so.most;
+    mid = so.mid;
+    earlier = so.earlier;
+    back = back_trans so.mid v w so.back back;
+  }
+
+  pub writing_turned : (turns more i j : ℕ) (b : Bool) (v w : Member) → Writing c n turns old i v → j ≡ i → TurnedForRoom c i b v w → more ≤ turns + 1 → Writing c n more old j w
+  writing_turned turns more i j b v w so same room le = record {
+    index = same ∙ so.index;
+    rounds = suc so.rounds;
+    most = let most = so.most in omega arith;
+    mid = w;
+    earlier = (so.mid, b, so.earlier, record { before = v; back = so.back; last = subst (λ (k : ℕ). TurnedForRoom c k b v w) so.index room });
+    back = back_self w;
+  }
+
+  writing_reads : (turns i : ℕ) (v : Member) → Writing c n turns old i v → HasOnlyRead old v
+  writing_reads turns i v so = back_trans old so.mid v (all_read c n so.rounds old so.mid so.earlier) so.back
+
+  pub writing_ends : (turns i : ℕ) (v w : Member) (end : Ended Placed) → Writing c n turns old i v → EndsSo end (λ answer. Answers c i v answer w) ⊥
+      → EndsSo end (λ answer. AtLast (λ before after. Answers c n before answer after) old w) (FoundFull c n old w)
+  writing_ends turns i v w end so is =
+      let at_last : (answer : Once Placed) → Answers c i v answer w → AtLast (λ before after. Answers c n before answer after) old w = λ answer last. record {
+        before = v;
+        back = writing_reads turns i v so;
+        last = subst (λ (k : ℕ). Answers c k v answer w) so.index last;
+      } in
+      ends_by (λ answer. Answers c i v answer w) (λ answer. AtLast (λ before after. Answers c n before answer after) old w) ⊥ (FoundFull c n old w) end (λ placed last. at_last (once.Done placed) last) (λ clock last. at_last (once.Spent clock) last) (λ no. absurd no) is
+
+-- what a call found of the history stays so
+room_stays : (slots slots' : ℕ) (base base' : Map) (h h' : List Write) (since until since' until' : ℕ) (name : List ℕ) → slots ≡ slots' → base ≡ base' → Begins h h' → until ≤ length h → since' ≤ since → until ≤ until'
+    → FoundNoRoom slots base h since until name → FoundNoRoom slots' base' h' since' until' name
+room_stays slots slots' base base' h h' since until since' until' name slots_are base_is begins ended earlier later is =
+    let within = is.within in
+    let from = is.later in
+    let same : after base' h' is.clock ≡ after base h is.clock =
+    sym (ap (λ (m : Map). after m h' is.clock) base_is) ∙ sym (ap (λ (l : List Write). after base l is.clock) begins.1) ∙ after-longer base h begins.0 is.clock (omega arith) in
+    record {
+      clock = is.clock;
+      later = omega arith;
+      within = omega arith;
+      lacked = ap (λ (m : Map). at m name) same ∙ is.lacked;
+      many = subst (λ (m : Map). slots' ≤ len m) (sym same) (subst (λ (k : ℕ). k ≤ len (after base h is.clock)) slots_are is.many);
+    }
+
+pub found_full : (c : CoreCall) (n turns i : ℕ) (old v w : Member) → Writing c n turns old i v → 3 ≤ turns → TurnedForRoom c i true v w → FoundFull c n old w
+found_full c n turns i old v w so enough last =
+    let back = writing_reads c n old turns i v so in
+    let reads = room_reads c i true v w last in
+    let seen = begins_le old.seen v.seen back.seen in
+    let turn = turned_reads last.turned last.tried w last.turn in
+    let ends = begins_le last.tried.seen w.seen turn.seen in
+    record {
+      reads = back_trans old v w back reads;
+      earlier = so.rounds;
+      enough = let most = so.most in omega arith;
+      before = so.mid;
+      turned = so.earlier;
+      last = record { before = v; back = so.back; last = subst (λ (k : ℕ). TurnedForRoom c k true v w) so.index last };
+      room = room_stays v.about.layout.slots old.about.layout.slots (map_of v.about.base) (map_of old.about.base) last.tried.seen w.seen (length v.seen) (length last.tried.seen) (length old.seen) (length w.seen) (name_asked (op_of c)) (ap (λ (a : About). a.layout.slots) back.about) (ap (λ (a : About). map_of a.base) back.about) turn.seen (omega arith) seen ends (last.refused.says refl).1;
+    }
+
+-- a delete is never turned back for want of a node
+pub never_full : (name : List ℕ) (limit n : ℕ) (old w : Member) → FoundFull (call.Del name limit) n old w → ⊥
+never_full name limit n old w full = (full.last.last.refused.says refl).0
+
+-- for how many more writes there is room
+own_same : (old now : Caller) (c : CoreCall) (answer : Once Placed) → now.number ≡ old.number → now.index ≡ old.index → length (own_of now c answer) ≡ length (own_of old c answer)
+own_same old now c answer number index =
+    let change = change_of (op_of c) in
+    ap (λ (k : ℕ). length (own_at k now.index change (place_told change answer))) number ∙ ap (λ (k : ℕ). length (own_at old.number k change (place_told change answer))) index
+
+pub spare_ends : (end : Ended Placed) (c : CoreCall) (old now : Caller) (left : ℕ) → now.number ≡ old.number → now.index ≡ old.index → spare_of old ≤ spare_of now → EndsSo end (λ answer. spare_of now ≤ left + length (own_of now c answer)) ⊥
+    → EndsSo end (λ answer. spare_of old ≤ left + length (own_of old c answer)) (spare_of old ≤ left)
+spare_ends end c old now left number index most is =
+    ends_by (λ answer. spare_of now ≤ left + length (own_of now c answer)) (λ answer. spare_of old ≤ left + length (own_of old c answer)) ⊥ (spare_of old ≤ left) end
+    (λ placed fits. let same = own_same old now c (once.Done placed) number index in omega arith)
+    (λ clock fits. let same = own_same old now c (once.Spent clock) number index in omega arith)
+    (λ no. absurd no) is

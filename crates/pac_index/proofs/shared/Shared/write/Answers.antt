@@ -1,0 +1,47 @@
+use Rattle.std.proofs.Common.{◌≤◌, ◌∙◌, sym, ℕ, Bool, subst, arith}
+use Rattle.pac_index.specs.Callers.{seen_by}
+use Rattle.pac_index.specs.Writes.{TurnedForRoom}
+use Rattle.pac_index.proofs.Writing.{Writing, writing_ends, writing_back, writing_turned, found_full}
+use Rattle.pac_index.proofs.shared.Shared.write.Goals as goal
+use Rattle.pac_index.proofs.shared.Shared.write.Goals.{in-Back, in-NoRoom+else-none_free}
+
+pub returns-in-Ended-clause-ends : goal.returns-in-Ended-clause-ends
+returns-in-Ended-clause-ends g c =
+    let old = c.args.caller.now in
+    writing_ends c.args.call old.index (seen_by old) c.loop.turns c.loop.caller.index (seen_by c.loop.caller) (seen_by c.try_to_write.new.caller) c.in-Ended.ended c.loop.invariant.3 c.in-Ended.ensures.tried
+
+pub returns-then-turns-ge-TURNS_FOR_ROOM-clause-ends : goal.returns-then-turns-ge-TURNS_FOR_ROOM-clause-ends
+returns-then-turns-ge-TURNS_FOR_ROOM-clause-ends g c =
+    let old = c.args.caller.now in
+    let v = seen_by c.loop.caller in
+    let w = seen_by c.try_to_write.new.caller in
+    let turns = c.loop.turns in
+    let more = c.saturating_add-turns.ensures in
+    let reached = c.if-turns-ge-TURNS_FOR_ROOM.true in
+    let enough : 3 ≤ turns = omega arith in
+    let last = subst (λ (b : Bool). TurnedForRoom c.args.call c.loop.caller.index b v w) c.if-none_free.true c.in-NoRoom.ensures.tried in
+    found_full c.args.call old.index turns c.loop.caller.index (seen_by old) v w c.loop.invariant.3 enough last
+
+pub loop-preserved : goal.loop-preserved
+loop-preserved g c =
+    let old = c.args.caller.now in
+    let before = c.loop.caller in
+    let now = c.try_to_write.new.caller in
+    let so = c.loop.invariant.3 in
+    let on = c.try_to_write.ensures in
+    elim c.match-try_to_write.branch [
+      | in-Back w ↦ (
+        on.caller,
+        on.number ∙ c.loop.invariant.1,
+        (let was = c.loop.invariant.2 in let more = w.in-Back.ensures.spare in omega arith),
+        subst (λ (t : ℕ). Writing c.args.call old.index t (seen_by old) now.index (seen_by now)) (sym w.turns-is) (writing_back c.args.call old.index (seen_by old) c.loop.turns before.index now.index (seen_by before) (seen_by now) so w.in-Back.ensures.index w.in-Back.ensures.tried),
+      )
+      | in-NoRoom+else-none_free w ↦ (
+        on.caller,
+        on.number ∙ c.loop.invariant.1,
+        (let was = c.loop.invariant.2 in let more = w.in-NoRoom.ensures.spare in omega arith),
+        (let more = w.saturating_add-turns.ensures in
+            let is = w.turns-is in
+            writing_turned c.args.call old.index (seen_by old) c.loop.turns c.match-try_to_write.turns before.index now.index w.in-NoRoom.none_free (seen_by before) (seen_by now) so w.in-NoRoom.ensures.index w.in-NoRoom.ensures.tried (omega arith)),
+      )
+    ]

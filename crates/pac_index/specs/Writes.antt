@@ -1,0 +1,75 @@
+-- What a put or a delete comes to that is made again until it takes place, with turns of the updater between its tries.
+use Rattle.std.specs.Prelude.{◌≡◌, ℕ, zero, suc, ◌≤◌, Bool, true, false, length}
+use Rattle.cat_history.specs.Maps.{map_of}
+use Rattle.pm_words.specs.declared.again.Again.TheVariants.{LogFull, NoFree}
+use Rattle.call_stages.specs.declared.once.Once.{Once}
+use Rattle.call_stages.specs.declared.once.Once.TheVariants as once
+use Rattle.call_stages.specs.declared.once.Placed.{Placed}
+use Rattle.node_ops.specs.Asked.{name_asked}
+use Rattle.updater.specs.declared.making.TurnReply.TheVariants as reply
+use Rattle.updater.specs.declared.terms.Turned.{Turned}
+use Rattle.index_core.specs.declared.party.CoreCall.{CoreCall}
+use Rattle.index_core.specs.Answers.{FoundNoRoom}
+use Rattle.index_core.specs.CoreCalls.{op_of}
+use Rattle.pac_index.specs.declared.tried.Tried.{Tried}
+use Rattle.pac_index.specs.declared.tried.Tried.TheVariants as tried
+use Rattle.pac_index.specs.declared.ended.Ended.{Ended}
+use Rattle.pac_index.specs.declared.ended.Ended.TheVariants as ended
+use Rattle.pac_index.specs.declared.writes.WriteTry.{WriteTry}
+use Rattle.pac_index.specs.declared.writes.WriteTry.TheVariants as write
+use Rattle.pac_index.specs.declared.rule.Member.{Member}
+use Rattle.pac_index.specs.Calls.{Answers}
+use Rattle.pac_index.specs.Ends.{HasOnlyRead, AtLast}
+use Rattle.pac_index.specs.Turns.{TurnAnswers}
+
+-- The try was turned back, since none of its caller's log lines is EMPTY; or since there is no node to split its own
+-- with.
+abbrev pub lacks_line : Tried Placed → Bool
+lacks_line (tried.Answered (once.Again LogFull)) = true
+lacks_line _ = false
+
+abbrev pub lacks_node : Tried Placed → Bool
+lacks_node (tried.Answered (once.Again NoFree)) = true
+lacks_node _ = false
+
+-- How such a call ends: the first holds of the answer of its last try, or the second where it is full.
+abbrev pub EndsSo : Ended Placed → (Once Placed → Type 0) → Type 0 → Type 0
+EndsSo (ended.Done placed) answered full = answered (once.Done placed)
+EndsSo (ended.Spent clock) answered full = answered (once.Spent clock)
+EndsSo ended.Full answered full = full
+EndsSo ended.Cut answered full = ⊥
+
+-- A try found no node to split its own with, and behind it its caller made a turn of the updater, which told whether it
+-- found none FREE.
+pub record TurnedForRoom (call : CoreCall) (index : ℕ) (none_free : Bool) (old new : Member) : Type 0 where
+  pub tried : Member
+  pub refused : Answers call index old (once.Again NoFree) tried
+  pub turned : Turned
+  pub turn : AtLast (λ before after. TurnAnswers before (reply.Turned turned) after) tried new
+  pub told : turned.none_free ≡ none_free
+
+-- So many tries found no node and have a turn behind each. The tries between them were turned back for other causes.
+abbrev pub HaveTurned : CoreCall → ℕ → ℕ → Member → Member → Type 0
+HaveTurned call index zero old new = HasOnlyRead old new
+HaveTurned call index (suc turns) old new = (before : Member) × (none_free : Bool) ×
+    HaveTurned call index turns old before × AtLast (TurnedForRoom call index none_free) before new
+
+-- A put found no room. It placed nothing. At least four of its tries found no node to split their own with, and the turn
+-- behind the last of them found none FREE. After as many writes as a clock of the put's time says, the map lacked its
+-- name and had at least as many names as a node has slots.
+pub record FoundFull (call : CoreCall) (index : ℕ) (old new : Member) : Type 0 where
+  pub reads : HasOnlyRead old new
+  pub earlier : ℕ
+  pub enough : 3 ≤ earlier
+  pub before : Member
+  pub turned : HaveTurned call index earlier old before
+  pub last : AtLast (TurnedForRoom call index true) before new
+  pub room : FoundNoRoom old.about.layout.slots (map_of old.about.base) new.seen (length old.seen) (length new.seen)
+      (name_asked (op_of call))
+
+-- What a try comes to, with the turn behind it: the first holds of an answer that ends the call, the second where it was
+-- turned back, the third of what the turn told where it found no node.
+abbrev pub TriedSo : WriteTry → (Once Placed → Type 0) → Type 0 → (Bool → Type 0) → Type 0
+TriedSo (write.Ended ended) answered back no_room = EndsSo ended answered ⊥
+TriedSo write.Back answered back no_room = back
+TriedSo (write.NoRoom none_free) answered back no_room = no_room none_free
