@@ -1,10 +1,10 @@
 -- The index as a map of names: its names counted, its calls left, and its shape.
-use Rattle.std.proofs.Common.{◌≡◌, ◌≢◌, ℕ, zero, suc, ◌+◌, ◌-◌, ◌*◌, ◌/◌, ◌<◌, ◌≤◌, ◌==◌, if◌then◌else◌, Bool, true, false, cond, List, [], ◌∷◌, length, drop, slice_get, ◌⊎◌, ⊎_elim, refl, le_trans, inl, inr, sym, ap, ◌∙◌, subst, arith, length-append, length-drop, zero-add}
+use Rattle.std.proofs.Common.{◌≡◌, ◌≢◌, ℕ, ◌+◌, ◌-◌, ◌*◌, ◌/◌, ◌<◌, ◌≤◌, ◌==◌, Bool, true, false, cond, List, [], ◌∷◌, length, ◌⊎◌, ⊎_elim, refl, le_trans, inl, inr, sym, ap, ◌∙◌, subst, arith, length-append}
 use Rattle.std.specs.Prelude.{Option, ◌↔◌, ◌^◌}
 use Rattle.std.specs.List.{flat_map, AllByRecursion}
 use Rattle.std.specs.Option.{is_some}
 use Rattle.std.specs.FinMap.{insert, remove, len, len-insert, len-remove, len-empty, empty_of_len, get-empty}
-use Rattle.std.proofs.lemmas.Bool.{cases_eq, ne_eqb, false≢true}
+use Rattle.std.proofs.lemmas.Bool.{cases_eq, false≢true}
 use Rattle.std.proofs.Math.Nat.{le-min, min-le_right}
 use Rattle.std.proofs.lemmas.Cmp.{nat_list_cmp_total}
 use Rattle.cat_key.specs.Names.{IsName, name_cmp}
@@ -17,11 +17,10 @@ use Rattle.shapes.specs.Members.{Member, members}
 use Rattle.shapes.specs.ShapeRounds.{PutsFull}
 use Rattle.shapes.specs.Weights.{IsShape}
 use Rattle.cat_history.specs.Records.{as_op}
-use Rattle.shapes.specs.Anchors.{next_of, put_anchors, merges, del_anchors}
+use Rattle.shapes.specs.Anchors.{merges}
 use Rattle.shapes.proofs.Agreements.{length-members, put-stays}
 use Rattle.shapes.proofs.Shapes.{len-keys, del-stays}
 use Rattle.shapes.proofs.Targets.{members_part_names}
-use Rattle.call_stages.specs.Kinds.{gone_status}
 use Rattle.call_stages.specs.declared.once.Once.{Once}
 use Rattle.call_stages.specs.declared.once.Once.TheVariants as once
 use Rattle.call_stages.specs.declared.once.Placed.{Placed}
@@ -31,7 +30,7 @@ use Rattle.node_ops.specs.Asked.{name_asked}
 use Rattle.data_node.specs.Lists.{key_of}
 use Rattle.data_node.proofs.ListLemmas.{chain_closed, target_in}
 use Rattle.index_law.specs.Anchors.{anchors_of, anchors_in}
-use Rattle.index_law.specs.Facts.{Facts, list_in}
+use Rattle.index_law.specs.Facts.{list_in}
 use Rattle.index_law.specs.Laws.{fresh_row}
 use Rattle.index_law.specs.Worlds.{World, facts}
 use Rattle.index_law.proofs.Fresh.{fresh_list, fresh_statuses}
@@ -56,7 +55,18 @@ use Rattle.index_core.proofs.Quiet.{quiet_parties}
 use Rattle.index_core.proofs.Fresh.{fresh_quiet, fresh_locks}
 use Rattle.index_core.proofs.Fulls.{no_room_is_full_put}
 use Rattle.index_core.proofs.Stepping.{respare}
-use Rattle.catalog_cli.specs.CoreMaps.{calls_left_of, writes_left_of, IsUnlimited, IsCoreMap, anchors_made}
+use Rattle.std.proofs.lemmas.List.{length-map}
+use Rattle.std.specs.FinMap.{entries, len-entries}
+use Rattle.cat_history.proofs.ReplayLemmas.{map_of-pairs_of}
+use Rattle.pm_words.specs.Images.{Row}
+use Rattle.sound_image.specs.Sound.{IsMapOf, image_map}
+use Rattle.sound_image.specs.Weights.{image_weight}
+use Rattle.shapes.specs.Anchors.{Anchors}
+use Rattle.shapes.specs.ShapeRounds.{IsShapeWithin}
+use Rattle.index_law.specs.Anchors.{image_anchors}
+use Rattle.catalog_cli.specs.CoreMaps.{calls_left_of, writes_left_of, IsUnlimited, IsCoreMap, IsNextRun, IsOfRun, IsOpenedMap, anchors_made}
+use Rattle.recovery.specs.Opened.{IsOpenedFrom}
+use Rattle.recovery.proofs.Opened.{with_room}
 
 -- a put of a name that the map lacks adds one, and of one that it has adds none
 pub put_counted : (s s' : Index) (name : List ℕ) (value names names' : ℕ) (old : Option ℕ) (b : Bool) → IsCoreMap s names → IsIndex s' → IsQuiet s' → HasLowStamps s' →
@@ -147,6 +157,17 @@ fresh_map l s s' layout fresh kept = record {
   stamps = fresh_low l s s' layout fresh kept;
   counted = sym (ap (λ (v : Index). len (map_of_index v)) kept ∙ (λ k. len (after_all (map_of (fresh.base k)) (fresh.history k))) ∙ len-empty name_cmp ℕ);
 }
+
+-- it is that of the first run
+pub fresh_run : (l : Layout) (s s' : Index) {run_l : Layout} {number : ℕ} → (run_l ≡ l) × (number ≡ 1) → IsFreshIndex l s → s' ≡ record s { spare = s'.spare } → IsOfRun run_l number s'
+fresh_run l s s' run fresh kept = record {
+  layout = ap (λ (v : Index). v.layout) kept ∙ fresh.layout ∙ sym run.0;
+  generation = ap (λ (v : Index). v.generation) kept ∙ fresh.generation ∙ sym run.1;
+}
+
+-- calls and turns leave it that of its run
+pub same_run : (s s' : Index) {l : Layout} {number : ℕ} → IsOfRun l number s → s'.layout ≡ s.layout → s'.generation ≡ s.generation → IsOfRun l number s'
+same_run s s' was layout generation = record { layout = layout ∙ was.layout; generation = generation ∙ was.generation }
 
 -- its one member has no names, and each node may be one
 pub fresh_anchors : (l : Layout) (s s' : Index) → IsLayout l → IsFreshIndex l s → s' ≡ record s { spare = s'.spare } → anchors_in (world s') ≡ [] ∷ []
@@ -328,6 +349,9 @@ module _ (s s' : Index) (answer : Turned) (t : TurnsAlone s 1 1 answer s') where
     counted = was.counted ∙ ap (λ (v : Index). len (map_of_index v)) (sym t.is);
   }
 
+  pub turned_run : {l : Layout} {number : ℕ} → IsOfRun l number s → IsOfRun l number s'
+  turned_run was = record { layout = ap (λ (v : Index). v.layout) t.is ∙ was.layout; generation = ap (λ (v : Index). v.generation) t.is ∙ was.generation }
+
 -- ---- parts of scans
 
 -- where calls are left a part is done
@@ -346,3 +370,63 @@ part_goes_through s i low count new r is left answer = ⊎_elim
     is_worn : (node word : ℕ) → IsWornNode 1 s i (call.Part low count) new node word → ⊥
     is_worn node word (inl first) = unworn s (call.Part low count) is left first.0
     is_worn node word (inr again) = again.0
+
+-- ---- images
+
+-- an index that an image is opened as, once room for writes is made
+opened_core : (image : Row) (s s' : Index) → IsOpenedFrom image s → s' ≡ record s { spare = s'.spare } → IsOpenedFrom image s'
+opened_core image s s' is kept = subst (IsOpenedFrom image) (sym kept) (with_room image s s'.spare is)
+
+-- it has the map of the image, each of whose names is counted once
+opened_contents : (image : Row) (s : Index) → IsOpenedFrom image s → map_of_index s ≡ image_map image.layout image.words
+opened_contents image s is = (λ k. after_all (map_of (is.base k)) (is.history k)) ∙ map_of-pairs_of (image_map image.layout image.words)
+
+opened_counted : (image : Row) (s : Index) (names : ℕ) → IsOpenedFrom image s → names ≡ length s.base → names ≡ len (map_of_index s)
+opened_counted image s names is counts =
+    counts ∙ ap length is.base ∙ length-map (entries (image_map image.layout image.words)) (λ (e : List ℕ × ℕ). record { name = e.0; value = e.1 })
+    ∙ sym (len-entries (image_map image.layout image.words)) ∙ sym (ap len (opened_contents image s is))
+
+pub opened_map : (image : Row) (s s' : Index) (names : ℕ) → IsOpenedFrom image s → s' ≡ record s { spare = s'.spare } → names ≡ length s'.base → IsCoreMap s' names
+opened_map image s s' names from kept counts =
+    let is = opened_core image s s' from kept in
+    record { index = is.index; quiet = is.quiet; stamps = is.stamps; counted = opened_counted image s' names is counts }
+
+pub opened_run : (image : Row) (s s' : Index) {l : Layout} {number : ℕ} → IsNextRun image l number → IsOpenedFrom image s → s' ≡ record s { spare = s'.spare } → IsOfRun l number s'
+opened_run image s s' run from kept =
+    let is = opened_core image s s' from kept in
+    record { layout = is.layout ∙ sym run.layout; generation = is.generation ∙ sym run.generation }
+
+-- its shape weighs what the image does
+opened_within : (image : Row) (s : Index) → IsOpenedFrom image s →
+    IsShapeWithin s.layout.slots s.layout.nodes (image_weight image.layout image.words) (len (map_of_index s)) (map_of_index s) (anchors_in (world s))
+opened_within image s is =
+    let w = world s in
+    let both = idle_has_shape w is.index.lawful (quiet_parties s is.quiet) in
+    let few = both.0.few in
+    let light = both.1 in
+    let weighs = is.weighs in
+    record {
+      shape = record { ordered = both.0.ordered; few = omega arith; fits = both.0.fits };
+      light = omega (arith, light, weighs);
+      few = omega arith;
+    }
+
+pub opened_so : (image : Row) (writes : ℕ) (s s' : Index) → IsOpenedFrom image s → s' ≡ record s { spare = s'.spare } → writes ≤ s'.spare → writes ≤ 2 ^ 62 → IsOpenedMap image writes s'
+opened_so image writes s s' from kept spare few =
+    let is = opened_core image s s' from kept in
+    let contents = opened_contents image s' is in
+    let weighs = image_weight image.layout image.words in
+    let empty_history : length s'.history ≡ 0 = ap length is.history in
+    record {
+      sound = is.sound;
+      next = is.next;
+      layout = is.layout;
+      keeps = subst (IsMapOf image.layout image.words) (ap map_of is.base ∙ map_of-pairs_of (image_map image.layout image.words)) is.keeps;
+      contents = contents;
+      anchors = is.anchors;
+      within = subst (λ (l : Layout). IsShapeWithin l.slots l.nodes weighs (len (image_map image.layout image.words)) (image_map image.layout image.words) (image_anchors image.layout image.words)) is.layout
+          (subst (λ (a : Anchors). IsShapeWithin s'.layout.slots s'.layout.nodes weighs (len (image_map image.layout image.words)) (image_map image.layout image.words) a) is.anchors
+          (subst (λ (m : Map). IsShapeWithin s'.layout.slots s'.layout.nodes weighs (len m) m (anchors_in (world s'))) contents (opened_within image s' is)));
+      calls_left = ap (λ (n : ℕ). n / 4) is.locks;
+      writes_left = le-min spare (omega (arith, empty_history, few));
+    }

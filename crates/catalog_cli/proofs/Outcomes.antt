@@ -1,6 +1,6 @@
 -- How a run ended, by its causes: of the causes no two are given together.
 use Rattle.std.proofs.Common.{◌≡◌, ℕ, ◌==◌, ◌<◌, ◌⊎◌, ◌↔◌, Bool, true, false, cond, T, List, [], ◌∷◌, ◌++◌, length, get_or, refl, sym, ap, subst, ◌∙◌, arith, inl, inr}
-use Rattle.std.specs.Prelude.{Option, Some, None, All, IfSome, IsSome, is_some}
+use Rattle.std.specs.Prelude.{Option, Some, None, All, IfSome}
 use Rattle.std.specs.Io.KnownBytes.{Appends, Keeps}
 use Rattle.std.specs.List.{AllByRecursion}
 use Rattle.std.specs.Str.Parse.{digits_value}
@@ -25,15 +25,16 @@ use Rattle.cat_script.specs.declared.verb.Verb.TheVariants as line
 use Rattle.pm_words.specs.declared.layout.Layout.{Layout}
 use Rattle.cat_text.specs.Outside.{AppendsPart}
 use Rattle.catalog_cli.specs.Built.{unbuilt_command, unbuilt_call, unbuilt_form, is_of_other, first_behind, first_word, first_unbuilt, IsCommandWord}
-use Rattle.catalog_cli.specs.Files.{CanBeDone, FormatsSome, HasBytes, HasFile, HasNoFile, IsFileCause, IsListRefused, ListsSome, ListsWords, NamesFile, file_of}
-use Rattle.catalog_cli.specs.Headline.{ReadsScript, NamesCommand, IsAccepted, HasFault, IsRefusedBy, AreBytesLeft, LeavesShelf, LeavesSink, IsBuilt, IsRefusalOf, IsScriptCause, IsCauseOf, HasNoReport, HasNoText, IsOfWords, Seen, TellsFile, TellsRefusal, FinishesAccepted, FinishesGenerated, FinishesOnFile, ReadsSome, Generates, GeneratesSome, PlaysSome, Prints, PrintsAll, PrintsPart}
-use Rattle.catalog_cli.specs.Headline.Prints.{reports, sums_up, makes_file, lists_words}
+use Rattle.catalog_cli.specs.Headline.{IsFileCause}
+use Rattle.catalog_cli.specs.Files.{FormatsSome, ListsSome, NamesFile, RunsScript, file_of}
+use Rattle.catalog_cli.specs.Headline.{ReadsScript, NamesCommand, LeavesShelf, LeavesSink, IsBuilt, IsRefusalOf, IsScriptCause, IsCauseOf, HasNoReport, HasNoText, IsOfWords, Seen, TellsRefusal, FinishesAccepted, FinishesGenerated, PlaysScript, ReadsSome, Generates, GeneratesSome, PlaysSome, Prints, PrintsAll, PrintsPart, ReachesFile, ReadsFile, IsFileCause}
+use Rattle.catalog_cli.specs.Reports.{IsAccepted, HasFault, IsRefusedBy}
+use Rattle.catalog_cli.specs.Runs.{AreBytesLeft, IsRunRefusal}
+use Rattle.catalog_cli.specs.Headline.Prints.{reports, runs, sums_up, makes_file, lists_words}
 use Rattle.catalog_cli.specs.declared.status.ImageRefusal.{ImageRefusal}
 use Rattle.catalog_cli.specs.declared.status.ImageRefusal.TheVariants as image
-use Rattle.catalog_cli.proofs.ImageFaults.{one-image-fault}
 use Rattle.cat_text.specs.Shelves.{FileMap, KeepsFiles}
-use Rattle.pm_words.specs.Bytes.{IsFault}
-use Rattle.catalog_cli.specs.Refused.{IsOfNoCommand, IsRefusedText}
+use Rattle.catalog_cli.specs.Refused.{IsOfNoCommand}
 use Rattle.catalog_cli.specs.Statuses.{status_of_script}
 use Rattle.catalog_cli.specs.declared.status.Verb.{Verb}
 use Rattle.catalog_cli.specs.declared.status.Verb.TheVariants as word
@@ -61,7 +62,7 @@ letter-is words (Gen seed count callers) is = ap first_letter is.7
 letter-is words (Words from count) is = ap first_letter is.6
 
 abbrev word_by : ℕ → ℕ → Option Verb
-word_by n callers = cond (n == 114) (Some word.Run) (cond (n == 103) (cond (callers == 1) None (Some word.Gen)) None)
+word_by n callers = cond (n == 103) (cond (callers == 1) None (Some word.Gen)) None
 
 -- the number of callers of a command that tells it in its fourth word
 abbrev callers_told : List (List ℕ) → ℕ
@@ -83,42 +84,67 @@ built-command : (words : List (List ℕ)) → IsBuilt words → (command : Comma
 built-command words (inl (inl reads)) = (Play reads.0, reads.1, refl)
 built-command words (inl (inr makes)) = (Gen makes.0 makes.1 1, makes.2, refl)
 built-command words (inr (inl formats)) = (Format formats.0, formats.1, refl)
-built-command words (inr (inr lists)) = (Words lists.0 lists.1, lists.2, refl)
+built-command words (inr (inr (inl lists))) = (Words lists.0 lists.1, lists.2, refl)
+built-command words (inr (inr (inr ran))) = (Run, ran, refl)
 
-no-name : (words : List (List ℕ)) (verb : Verb) → IsBuilt words → NamesCommand words verb → ⊥
+pub no-name : (words : List (List ℕ)) (verb : Verb) → IsBuilt words → NamesCommand words verb → ⊥
 no-name words verb built names =
     let is = built-command words built in
     none-some verb (sym is.2 ∙ one-word words is.0 names.0 is.1 names.1 ∙ names.2)
 
-no-form : (words : List (List ℕ)) → IsBuilt words → ((command : Command) → ¬ IsCommand words command) → ⊥
+pub no-form : (words : List (List ℕ)) → IsBuilt words → ((command : Command) → ¬ IsCommand words command) → ⊥
 no-form words built none = let is = built-command words built in none is.0 is.1
 
--- a command that reads a script makes no calls from a seed
-pub not-both : (words : List (List ℕ)) → ReadsSome words → GeneratesSome words → ⊥
-not-both words reads makes =
-    subst (λ (n : ℕ). T (n == 112)) (sym (letter-is words (Play reads.0) reads.1) ∙ letter-is words (Gen makes.0 makes.1 1) makes.2) tt
+-- two commands of the same words begin with one letter
+letters : (words : List (List ℕ)) (a b : Command) → IsCommand words a → IsCommand words b → letter a ≡ letter b
+letters words a b is is' = sym (letter-is words a is) ∙ letter-is words b is'
+
+-- a command that plays a script makes no calls from a seed
+pub not-both : (words : List (List ℕ)) → PlaysScript words → GeneratesSome words → ⊥
+not-both words reads makes = subst (λ (n : ℕ). T (n == 112)) (letters words (Play reads.0) (Gen makes.0 makes.1 1) reads.1 makes.2) tt
 
 -- neither is a command on a file
-pub no-file-read : (words : List (List ℕ)) → ReadsSome words → NamesFile words → ⊥
-no-file-read words reads (inl formats) =
-    subst (λ (n : ℕ). T (n == 112)) (sym (letter-is words (Play reads.0) reads.1) ∙ letter-is words (Format formats.0) formats.1) tt
-no-file-read words reads (inr lists) =
-    subst (λ (n : ℕ). T (n == 112)) (sym (letter-is words (Play reads.0) reads.1) ∙ letter-is words (Words lists.0 lists.1) lists.2) tt
+pub no-file-read : (words : List (List ℕ)) → PlaysScript words → NamesFile words → ⊥
+no-file-read words reads (inl formats) = subst (λ (n : ℕ). T (n == 112)) (letters words (Play reads.0) (Format formats.0) reads.1 formats.1) tt
+no-file-read words reads (inr (inl lists)) = subst (λ (n : ℕ). T (n == 112)) (letters words (Play reads.0) (Words lists.0 lists.1) reads.1 lists.2) tt
+no-file-read words reads (inr (inr ran)) = subst (λ (n : ℕ). T (n == 112)) (letters words (Play reads.0) Run reads.1 ran) tt
 
 pub no-file-made : (words : List (List ℕ)) → GeneratesSome words → NamesFile words → ⊥
-no-file-made words makes (inl formats) =
-    subst (λ (n : ℕ). T (n == 103)) (sym (letter-is words (Gen makes.0 makes.1 1) makes.2) ∙ letter-is words (Format formats.0) formats.1) tt
-no-file-made words makes (inr lists) =
-    subst (λ (n : ℕ). T (n == 103)) (sym (letter-is words (Gen makes.0 makes.1 1) makes.2) ∙ letter-is words (Words lists.0 lists.1) lists.2) tt
+no-file-made words makes (inl formats) = subst (λ (n : ℕ). T (n == 103)) (letters words (Gen makes.0 makes.1 1) (Format formats.0) makes.2 formats.1) tt
+no-file-made words makes (inr (inl lists)) = subst (λ (n : ℕ). T (n == 103)) (letters words (Gen makes.0 makes.1 1) (Words lists.0 lists.1) makes.2 lists.2) tt
+no-file-made words makes (inr (inr ran)) = subst (λ (n : ℕ). T (n == 103)) (letters words (Gen makes.0 makes.1 1) Run makes.2 ran) tt
 
 pub not-played : (words : List (List ℕ)) → PlaysSome words → NamesFile words → ⊥
 not-played words (inl reads) names = no-file-read words reads names
 not-played words (inr makes) names = no-file-made words makes names
 
--- a command that saves a file tells no words of one
+-- a command that reads a script makes none from a seed
+pub not-read-made : (words : List (List ℕ)) → ReadsSome words → GeneratesSome words → ⊥
+not-read-made words (inl plays) makes = not-both words plays makes
+not-read-made words (inr ran) makes = no-file-made words makes (inr (inr ran))
+
+-- of the commands on a file no two have the same words
 pub not-listed : (words : List (List ℕ)) → FormatsSome words → ListsSome words → ⊥
-not-listed words formats lists =
-    subst (λ (n : ℕ). T (n == 102)) (sym (letter-is words (Format formats.0) formats.1) ∙ letter-is words (Words lists.0 lists.1) lists.2) tt
+not-listed words formats lists = subst (λ (n : ℕ). T (n == 102)) (letters words (Format formats.0) (Words lists.0 lists.1) formats.1 lists.2) tt
+
+pub not-formatted : (words : List (List ℕ)) → RunsScript words → FormatsSome words → ⊥
+not-formatted words ran formats = subst (λ (n : ℕ). T (n == 114)) (letters words Run (Format formats.0) ran formats.1) tt
+
+pub not-listed-run : (words : List (List ℕ)) → RunsScript words → ListsSome words → ⊥
+not-listed-run words ran lists = subst (λ (n : ℕ). T (n == 114)) (letters words Run (Words lists.0 lists.1) ran lists.2) tt
+
+-- a file is read for one of them
+pub reads-names : (words : List (List ℕ)) (left : Option (List ℕ)) → ReadsFile words left → NamesFile words
+reads-names words left (inl lists) = inr (inl lists)
+reads-names words left (inr ran) = inr (inr ran.0)
+
+pub reaches-names : (words : List (List ℕ)) (left : Option (List ℕ)) → ReachesFile words left → NamesFile words
+reaches-names words left (inl formats) = inl formats
+reaches-names words left (inr reads) = reads-names words left reads
+
+pub not-formatted-read : (words : List (List ℕ)) (left : Option (List ℕ)) → FormatsSome words → ReadsFile words left → ⊥
+not-formatted-read words left formats (inl lists) = not-listed words formats lists
+not-formatted-read words left formats (inr ran) = not-formatted words ran.0 formats
 
 -- of a command that makes calls from a seed and is built the callers are one
 one-caller : (callers : ℕ) → cond (callers == 1) None (Some word.Gen) ≡ None → callers ≡ 1
@@ -190,7 +216,7 @@ faultless callers bytes script what is fits (inr (inl first)) = fault_is_no_scri
 faultless callers bytes script what is fits (inr (inr unfit)) =
     fits-all callers script.lines what (subst (λ (s : Script). IsUnfitBy callers s.lines what) (one_script bytes unfit.0 script unfit.1 is) unfit.2) fits
 
-one-fault : (callers : ℕ) (bytes : List ℕ) (a b : ScriptFault) → HasFault callers bytes a → HasFault callers bytes b → a ≡ b
+pub one-fault : (callers : ℕ) (bytes : List ℕ) (a b : ScriptFault) → HasFault callers bytes a → HasFault callers bytes b → a ≡ b
 one-fault callers bytes a b (inl long) (inl long') = long.0 ∙ sym long'.0
 one-fault callers bytes a b (inl long) (inr (inl first)) = let short = first.short in absurd (omega (arith, short, long.1))
 one-fault callers bytes a b (inl long) (inr (inr unfit)) = let short = unfit.1.short in absurd (omega (arith, short, long.1))
@@ -203,7 +229,7 @@ one-fault callers bytes a b (inr (inr unfit)) (inr (inr unfit')) =
     one-unfit callers unfit'.0.lines a b (subst (λ (s : Script). IsUnfitBy callers s.lines a) (one_script bytes unfit.0 unfit'.0 unfit.1 unfit'.1) unfit.2) unfit'.2
 
 -- a script that is accepted isn't refused
-unrefused : (callers : ℕ) (bytes : List ℕ) (script : Script) (answer : Status) → IsAccepted callers bytes script → IsRefusedBy callers bytes answer → ⊥
+pub unrefused : (callers : ℕ) (bytes : List ℕ) (script : Script) (answer : Status) → IsAccepted callers bytes script → IsRefusedBy callers bytes answer → ⊥
 unrefused callers bytes script status.Done is refused = refused
 unrefused callers bytes script status.Usage is refused = refused
 unrefused callers bytes script (status.Script what) is refused = faultless callers bytes script what is.is_script is.fits refused
@@ -216,7 +242,7 @@ unrefused callers bytes script (status.NotBuilt verb) is refused =
     none-some verb (sym is.built ∙ ap (λ (s : Script). first_unbuilt None s.lines) (one_script bytes script refused.0 is.is_script refused.1) ∙ refused.3)
 
 -- bytes are refused in one way
-one-refusal : (callers : ℕ) (bytes : List ℕ) (a b : Status) → IsRefusedBy callers bytes a → IsRefusedBy callers bytes b → a ≡ b
+pub one-refusal : (callers : ℕ) (bytes : List ℕ) (a b : Status) → IsRefusedBy callers bytes a → IsRefusedBy callers bytes b → a ≡ b
 one-refusal callers bytes status.Done b is is' = absurd is
 one-refusal callers bytes status.Usage b is is' = absurd is
 one-refusal callers bytes status.Read b is is' = absurd is
@@ -292,6 +318,23 @@ pub of-script : (callers : ℕ) (left : Option (List ℕ)) (w : Verb) → IsRefu
 of-script callers left w (inl long) command = let is : status.NotBuilt w ≡ status.Script fault.Bytes = long.0 in cc
 of-script callers left w (inr refused) command = of-lines None refused.2.0.lines w refused.2.3 command
 
+pub of-run : (left : Option (List ℕ)) (files : Option FileMap) (name : List ℕ) (w : Verb) → IsRunRefusal left files name (status.NotBuilt w) → IsCommandWord w → ⊥
+of-run left files name w (inl none) command = let is : status.NotBuilt w ≡ status.Script none.0 = none.2 in cc
+of-run left files name w (inr refused) command = of-lines None refused.refused.0.lines w refused.refused.3 command
+
+pub of-cause : (words : List (List ℕ)) (told : Seen) (w : Verb) → IsScriptCause words told (status.NotBuilt w) → IsCommandWord w → ⊥
+of-cause words told w (inl plays) command = of-script plays.0.callers told.left w plays.2 command
+of-cause words told w (inr run) command = of-run told.left told.files (file_of words) w run.1 command
+
+-- such a cause is that of a command that reads a script
+pub cause-reads : (words : List (List ℕ)) (told : Seen) (answer : Status) → IsScriptCause words told answer → ReadsSome words
+cause-reads words told answer (inl plays) = inl (plays.0, plays.1)
+cause-reads words told answer (inr run) = inr run.0
+
+pub reads-built : (words : List (List ℕ)) → ReadsSome words → IsBuilt words
+reads-built words (inl plays) = inl (inl plays)
+reads-built words (inr ran) = inr (inr (inr ran))
+
 -- and so none is refused as words alone are
 pub not-of-words : (callers : ℕ) (left : Option (List ℕ)) (reads reads' : ℕ) (answer : Status) → HasNoReport callers left reads reads' answer → IsOfWords answer → ⊥
 not-of-words callers left reads reads' status.Done cause of_words = of_words
@@ -309,13 +352,13 @@ pub no-report : (words : List (List ℕ)) (layout : Layout) (told : Seen) (answe
     HasNoReport layout.callers told.left told.reads told.reads' answer → HasNoText words told answer
 no-report words layout told status.Done is cause = cause
 no-report words layout told status.Usage is cause = absurd cause
-no-report words layout told (status.Script what) is cause = (layout, is, cause)
-no-report words layout told status.Read is cause = ((layout, is), cause)
+no-report words layout told (status.Script what) is cause = inl (layout, is, cause)
+no-report words layout told status.Read is cause = (inl (layout, is), cause)
 no-report words layout told status.Write is cause = cause
 no-report words layout told status.Shelf is cause = absurd cause
 no-report words layout told status.NoMemory is cause = inl (inl (layout, is))
 no-report words layout told (status.Image refusal) is cause = absurd cause
-no-report words layout told (status.NotBuilt verb) is cause = inr (layout, is, cause)
+no-report words layout told (status.NotBuilt verb) is cause = inr (inl (layout, is, cause))
 
 -- neither do words that name no command that is built
 pub no-command : (words : List (List ℕ)) (told : Seen) (answer : Status) → IsOfNoCommand words answer → HasNoText words told answer
@@ -330,29 +373,29 @@ no-command words told (status.Image refusal) cause = absurd cause
 no-command words told (status.NotBuilt verb) cause = inl cause
 
 -- they leave the files as they were
-pub no-command-keeps : (words : List (List ℕ)) (files files' : Option FileMap) (answer : Status) → IsOfNoCommand words answer → KeepsFiles files files' → LeavesShelf words answer files files'
-no-command-keeps words files files' status.Done cause keeps = absurd cause
-no-command-keeps words files files' status.Usage cause keeps = keeps
-no-command-keeps words files files' (status.Script what) cause keeps = keeps
-no-command-keeps words files files' status.Read cause keeps = keeps
-no-command-keeps words files files' status.Write cause keeps = absurd cause
-no-command-keeps words files files' status.Shelf cause keeps = absurd cause
-no-command-keeps words files files' status.NoMemory cause keeps = absurd cause
-no-command-keeps words files files' (status.Image refusal) cause keeps = keeps
-no-command-keeps words files files' (status.NotBuilt verb) cause keeps = keeps
+pub no-command-keeps : (words : List (List ℕ)) (told : Seen) (answer : Status) → IsOfNoCommand words answer → KeepsFiles told.files told.files' → LeavesShelf words told answer
+no-command-keeps words told status.Done cause keeps = absurd cause
+no-command-keeps words told status.Usage cause keeps = keeps
+no-command-keeps words told (status.Script what) cause keeps = keeps
+no-command-keeps words told status.Read cause keeps = keeps
+no-command-keeps words told status.Write cause keeps = absurd cause
+no-command-keeps words told status.Shelf cause keeps = absurd cause
+no-command-keeps words told status.NoMemory cause keeps = absurd cause
+no-command-keeps words told (status.Image refusal) cause keeps = keeps
+no-command-keeps words told (status.NotBuilt verb) cause keeps = keeps
 
 -- so does a script for which there is no report
-pub no-report-keeps : (words : List (List ℕ)) (callers : ℕ) (left : Option (List ℕ)) (reads reads' : ℕ) (files files' : Option FileMap) (answer : Status) → HasNoReport callers left reads reads' answer →
-    KeepsFiles files files' → LeavesShelf words answer files files'
-no-report-keeps words callers left reads reads' files files' status.Done cause keeps = absurd cause
-no-report-keeps words callers left reads reads' files files' status.Usage cause keeps = keeps
-no-report-keeps words callers left reads reads' files files' (status.Script what) cause keeps = keeps
-no-report-keeps words callers left reads reads' files files' status.Read cause keeps = keeps
-no-report-keeps words callers left reads reads' files files' status.Write cause keeps = absurd cause
-no-report-keeps words callers left reads reads' files files' status.Shelf cause keeps = absurd cause
-no-report-keeps words callers left reads reads' files files' status.NoMemory cause keeps = inl keeps
-no-report-keeps words callers left reads reads' files files' (status.Image refusal) cause keeps = keeps
-no-report-keeps words callers left reads reads' files files' (status.NotBuilt verb) cause keeps = keeps
+pub no-report-keeps : (words : List (List ℕ)) (callers : ℕ) (told : Seen) (answer : Status) → HasNoReport callers told.left told.reads told.reads' answer → KeepsFiles told.files told.files' →
+    LeavesShelf words told answer
+no-report-keeps words callers told status.Done cause keeps = absurd cause
+no-report-keeps words callers told status.Usage cause keeps = keeps
+no-report-keeps words callers told (status.Script what) cause keeps = keeps
+no-report-keeps words callers told status.Read cause keeps = keeps
+no-report-keeps words callers told status.Write cause keeps = absurd cause
+no-report-keeps words callers told status.Shelf cause keeps = absurd cause
+no-report-keeps words callers told status.NoMemory cause keeps = inl keeps
+no-report-keeps words callers told (status.Image refusal) cause keeps = keeps
+no-report-keeps words callers told (status.NotBuilt verb) cause keeps = keeps
 
 -- a run that has nothing to print ends so
 pub ends-so : (words : List (List ℕ)) (told : Seen) (writes : ℕ) (answer : Status) → HasNoText words told answer → IsCauseOf words told writes writes answer
@@ -381,17 +424,18 @@ writes-none words told written (status.NotBuilt verb) cause keeps = keeps
 -- what is printed is that of a command that is built
 pub printed-built : (words : List (List ℕ)) (told : Seen) (text : List ℕ) → Prints words told text → IsBuilt words
 printed-built words told text (reports layout bytes reads source report) = inl (inl (layout, reads))
+printed-built words told text (runs is run) = inr (inr (inr is))
 printed-built words told text (sums_up seed count makes sum) = inl (inr (seed, count, makes))
 printed-built words told text (makes_file layout is none line) = inr (inl (layout, is))
-printed-built words told text (lists_words from count bytes is has image lines) = inr (inr (from, count, is))
+printed-built words told text (lists_words from count bytes is has image lines) = inr (inr (inl (from, count, is)))
 
 -- a script that doesn't fit is refused for its fault
-pub unfit-refused : (callers : ℕ) (bytes : List ℕ) (script : Script) (what : ScriptFault) → IsScript bytes script → IsUnfitBy callers script.lines what → IsRefusedText callers bytes (status_of_script what)
+pub unfit-refused : (callers : ℕ) (bytes : List ℕ) (script : Script) (what : ScriptFault) → IsScript bytes script → IsUnfitBy callers script.lines what → IsRefusedBy callers bytes (status_of_script what)
 unfit-refused callers bytes script fault.Bytes is unfit = absurd unfit
 unfit-refused callers bytes script (fault.Rounds number) is unfit = absurd unfit
 unfit-refused callers bytes script (fault.Calls number) is unfit = absurd unfit
 unfit-refused callers bytes script (fault.Scans number) is unfit = absurd unfit
-unfit-refused callers bytes script (fault.Line number why) is unfit = inr (inr (inr (script, is, unfit)))
+unfit-refused callers bytes script (fault.Line number why) is unfit = inr (inr (script, is, unfit))
 unfit-refused callers bytes script fault.NoMemory is unfit = absurd unfit
 
 -- ---- each status, exactly
@@ -415,15 +459,24 @@ printed-unrefused : (words : List (List ℕ)) (layout : Layout) (bytes text : Li
     Prints words told text → IsRefusedBy layout.callers bytes wanted → ⊥
 printed-unrefused words layout bytes text told wanted is same (reports other read reads source report) refused =
     unrefused layout.callers bytes report.script wanted (report-is words layout other bytes read report.script told.left is reads same source report.accepted) refused
+printed-unrefused words layout bytes text told wanted is same (runs run_is run) refused = no-file-read words (layout, is) (inr (inr run_is))
 printed-unrefused words layout bytes text told wanted is same (sums_up seed count makes sum) refused = not-both words (layout, is) (seed, count, makes)
 printed-unrefused words layout bytes text told wanted is same (makes_file other formatted none line) refused = no-file-read words (layout, is) (inl (other, formatted))
-printed-unrefused words layout bytes text told wanted is same (lists_words from count read listed has image lines) refused = no-file-read words (layout, is) (inr (from, count, listed))
+printed-unrefused words layout bytes text told wanted is same (lists_words from count read listed has image lines) refused = no-file-read words (layout, is) (inr (inl (from, count, listed)))
 
 -- a file is refused for a command on it
-file-cause-names : (words : List (List ℕ)) (files : Option FileMap) (refusal : ImageRefusal) → IsFileCause words files refusal → NamesFile words
-file-cause-names words files image.Missing cause = inr cause.0
-file-cause-names words files image.Exists cause = inl cause.0
-file-cause-names words files (image.Bytes fault) cause = inr cause.0
+pub file-cause-names : (words : List (List ℕ)) (left : Option (List ℕ)) (files : Option FileMap) (refusal : ImageRefusal) → IsFileCause words left files refusal → NamesFile words
+file-cause-names words left files image.Missing cause = reads-names words left cause.0
+file-cause-names words left files image.Exists cause = inl cause.0
+file-cause-names words left files (image.Bytes fault) cause = reads-names words left cause.0
+file-cause-names words left files (image.Damaged rule word) cause = inr (inr cause.0.0)
+file-cause-names words left files image.Generations cause = inr (inr cause.0.0)
+
+-- what a script is refused for that is played on an empty catalogue
+plays-cause : (words : List (List ℕ)) (told : Seen) (layout : Layout) (bytes : List ℕ) (answer : Status) → ReadsScript words layout → told.left ≡ Some bytes → IsScriptCause words told answer →
+    IsRefusedBy layout.callers bytes answer
+plays-cause words told layout bytes answer is same (inl cause) = refusal-is words layout cause.0 bytes told.left answer is cause.1 same cause.2
+plays-cause words told layout bytes answer is same (inr run) = absurd (no-file-read words (layout, is) (inr (inr run.0)))
 
 pub tells : (words : List (List ℕ)) (told : Seen) (written written' : Option (List ℕ)) (writes writes' : ℕ) (answer : Status) → LeavesSink words told answer written written' →
     IsCauseOf words told writes writes' answer → TellsRefusal words told answer
@@ -431,157 +484,59 @@ tells words told written written' writes writes' status.Done sink cause layout b
     absurd (printed-unrefused words layout bytes sink.text told wanted is left sink.prints refused)
 tells words told written written' writes writes' status.Usage sink cause layout bytes wanted is left same refused = absurd (cause (Play layout) is)
 tells words told written written' writes writes' (status.Script what) sink cause layout bytes wanted is left same refused =
-    inl (one-refusal layout.callers bytes (status.Script what) wanted (refusal-is words layout cause.0 bytes told.left (status.Script what) is cause.1 left cause.2) refused)
+    inl (one-refusal layout.callers bytes (status.Script what) wanted (plays-cause words told layout bytes (status.Script what) is left cause) refused)
 tells words told written written' writes writes' status.Read sink cause layout bytes wanted is left same refused = absurd (omega (arith, cause.1, same))
 tells words told written written' writes writes' status.Write sink cause layout bytes wanted is left same refused =
     absurd (printed-unrefused words layout bytes sink.text told wanted is left sink.prints refused)
-tells words told written written' writes writes' status.Shelf sink cause layout bytes wanted is left same refused = absurd (no-file-read words (layout, is) cause.0)
+tells words told written written' writes writes' status.Shelf sink cause layout bytes wanted is left same refused = absurd (no-file-read words (layout, is) (reaches-names words told.left cause.0))
 tells words told written written' writes writes' status.NoMemory sink cause layout bytes wanted is left same refused = inr refl
 tells words told written written' writes writes' (status.Image refusal) sink cause layout bytes wanted is left same refused =
-    absurd (no-file-read words (layout, is) (file-cause-names words told.files refusal cause))
+    absurd (no-file-read words (layout, is) (file-cause-names words told.left told.files refusal cause))
 tells words told written written' writes writes' (status.NotBuilt verb) sink (inl names) layout bytes wanted is left same refused = absurd (no-name words verb (inl (inl (layout, is))) names)
 tells words told written written' writes writes' (status.NotBuilt verb) sink (inr cause) layout bytes wanted is left same refused =
-    inl (one-refusal layout.callers bytes (status.NotBuilt verb) wanted (refusal-is words layout cause.0 bytes told.left (status.NotBuilt verb) is cause.1 left cause.2) refused)
+    inl (one-refusal layout.callers bytes (status.NotBuilt verb) wanted (plays-cause words told layout bytes (status.NotBuilt verb) is left cause) refused)
 
 pub finishes : (words : List (List ℕ)) (told : Seen) (writes writes' : ℕ) (answer : Status) → IsCauseOf words told writes writes' answer → FinishesAccepted words told writes writes' answer
 finishes words told writes writes' status.Done cause layout bytes script is left same same' accepted = inl refl
 finishes words told writes writes' status.Usage cause layout bytes script is left same same' accepted = absurd (cause (Play layout) is)
 finishes words told writes writes' (status.Script what) cause layout bytes script is left same same' accepted =
-    absurd (unrefused layout.callers bytes script (status.Script what) accepted (refusal-is words layout cause.0 bytes told.left (status.Script what) is cause.1 left cause.2))
+    absurd (unrefused layout.callers bytes script (status.Script what) accepted (plays-cause words told layout bytes (status.Script what) is left cause))
 finishes words told writes writes' status.Read cause layout bytes script is left same same' accepted = absurd (omega (arith, cause.1, same))
 finishes words told writes writes' status.Write cause layout bytes script is left same same' accepted = absurd (omega (arith, cause.1, same'))
-finishes words told writes writes' status.Shelf cause layout bytes script is left same same' accepted = absurd (no-file-read words (layout, is) cause.0)
+finishes words told writes writes' status.Shelf cause layout bytes script is left same same' accepted = absurd (no-file-read words (layout, is) (reaches-names words told.left cause.0))
 finishes words told writes writes' status.NoMemory cause layout bytes script is left same same' accepted = inr refl
 finishes words told writes writes' (status.Image refusal) cause layout bytes script is left same same' accepted =
-    absurd (no-file-read words (layout, is) (file-cause-names words told.files refusal cause))
+    absurd (no-file-read words (layout, is) (file-cause-names words told.left told.files refusal cause))
 finishes words told writes writes' (status.NotBuilt verb) (inl names) layout bytes script is left same same' accepted = absurd (no-name words verb (inl (inl (layout, is))) names)
 finishes words told writes writes' (status.NotBuilt verb) (inr cause) layout bytes script is left same same' accepted =
-    absurd (unrefused layout.callers bytes script (status.NotBuilt verb) accepted (refusal-is words layout cause.0 bytes told.left (status.NotBuilt verb) is cause.1 left cause.2))
+    absurd (unrefused layout.callers bytes script (status.NotBuilt verb) accepted (plays-cause words told layout bytes (status.NotBuilt verb) is left cause))
 
 -- a generated round is played to its end
 pub finishes-generated : (words : List (List ℕ)) (told : Seen) (writes writes' : ℕ) (answer : Status) → IsCauseOf words told writes writes' answer → FinishesGenerated words writes writes' answer
 finishes-generated words told writes writes' status.Done cause makes same = inl refl
 finishes-generated words told writes writes' status.Usage cause makes same = absurd (no-form words (inl (inr makes)) cause)
-finishes-generated words told writes writes' (status.Script what) cause makes same = absurd (not-both words (cause.0, cause.1) makes)
-finishes-generated words told writes writes' status.Read cause makes same = absurd (not-both words cause.0 makes)
+finishes-generated words told writes writes' (status.Script what) cause makes same = absurd (not-read-made words (cause-reads words told (status.Script what) cause) makes)
+finishes-generated words told writes writes' status.Read cause makes same = absurd (not-read-made words cause.0 makes)
 finishes-generated words told writes writes' status.Write cause makes same = absurd (omega (arith, cause.1, same))
-finishes-generated words told writes writes' status.Shelf cause makes same = absurd (no-file-made words makes cause.0)
+finishes-generated words told writes writes' status.Shelf cause makes same = absurd (no-file-made words makes (reaches-names words told.left cause.0))
 finishes-generated words told writes writes' status.NoMemory cause makes same = inr refl
-finishes-generated words told writes writes' (status.Image refusal) cause makes same = absurd (no-file-made words makes (file-cause-names words told.files refusal cause))
+finishes-generated words told writes writes' (status.Image refusal) cause makes same = absurd (no-file-made words makes (file-cause-names words told.left told.files refusal cause))
 finishes-generated words told writes writes' (status.NotBuilt verb) (inl names) makes same = absurd (no-name words verb (inl (inr makes)) names)
-finishes-generated words told writes writes' (status.NotBuilt verb) (inr cause) makes same = absurd (not-both words (cause.0, cause.1) makes)
-
--- ---- files
-
--- bytes have one first fault
-one-bytes : (words : List (List ℕ)) (files : FileMap) (name a b : List ℕ) → HasBytes (Some files) name a → HasBytes (Some files) name b → a ≡ b
-one-bytes words files name a b has has' = same_Some a b (sym has ∙ has')
-
-some-none : (files : FileMap) (name : List ℕ) → HasFile (Some files) name → HasNoFile (Some files) name → ⊥
-some-none files name some none = let clash : is_some {T = List ℕ} None ≡ true = subst (λ (o : Option (List ℕ)). is_some o ≡ true) none some in cc
-
-has-some : (files : FileMap) (name bytes : List ℕ) → HasBytes (Some files) name bytes → HasFile (Some files) name
-has-some files name bytes has = subst IsSome (sym has) refl
-
--- a file is refused in one way
-one-file-cause : (words : List (List ℕ)) (files : FileMap) (a b : ImageRefusal) → IsFileCause words (Some files) a → IsFileCause words (Some files) b → a ≡ b
-one-file-cause words files image.Missing image.Missing is is' = refl
-one-file-cause words files image.Missing image.Exists is is' = absurd (not-listed words is'.0 is.0)
-one-file-cause words files image.Missing (image.Bytes fault) is is' = absurd (some-none files (file_of words) (has-some files (file_of words) is'.1.0 is'.1.1) is.1)
-one-file-cause words files image.Exists image.Missing is is' = absurd (not-listed words is.0 is'.0)
-one-file-cause words files image.Exists image.Exists is is' = refl
-one-file-cause words files image.Exists (image.Bytes fault) is is' = absurd (not-listed words is.0 is'.0)
-one-file-cause words files (image.Bytes fault) image.Missing is is' = absurd (some-none files (file_of words) (has-some files (file_of words) is.1.0 is.1.1) is'.1)
-one-file-cause words files (image.Bytes fault) image.Exists is is' = absurd (not-listed words is'.0 is.0)
-one-file-cause words files (image.Bytes fault) (image.Bytes other) is is' =
-    ap image.Bytes (one-image-fault is.1.0 fault other is.1.2
-    (subst (λ (bs : List ℕ). IsFault bs other) (one-bytes words files (file_of words) is'.1.0 is.1.0 is'.1.1 is.1.1) is'.1.2))
-
--- a file on which the command can be done isn't refused
-not-refused : (words : List (List ℕ)) (files : FileMap) (refusal : ImageRefusal) → CanBeDone words (Some files) → IsFileCause words (Some files) refusal → ⊥
-not-refused words files image.Missing (inl can) cause = not-listed words can.0 cause.0
-not-refused words files image.Exists (inl can) cause = some-none files (file_of words) cause.1 can.1
-not-refused words files (image.Bytes fault) (inl can) cause = not-listed words can.0 cause.0
-not-refused words files image.Missing (inr can) cause = some-none files (file_of words) (has-some files (file_of words) can.1.0 can.1.1) cause.1
-not-refused words files image.Exists (inr can) cause = not-listed words cause.0 can.0
-not-refused words files (image.Bytes fault) (inr can) cause =
-    can.1.2 fault (subst (λ (bs : List ℕ). IsFault bs fault) (one-bytes words files (file_of words) cause.1.0 can.1.0 cause.1.1 can.1.1) cause.1.2)
-
-can-names : (words : List (List ℕ)) (files : Option FileMap) → CanBeDone words files → NamesFile words
-can-names words files (inl can) = inl can.0
-can-names words files (inr can) = inr can.0
-
--- what was printed is of a file on which the command can be done
-printed-on-file : (words : List (List ℕ)) (told : Seen) (text : List ℕ) (files : FileMap) → told.files ≡ Some files → Prints words told text → NamesFile words → CanBeDone words (Some files)
-printed-on-file words told text files same (reports layout bytes reads source report) names = absurd (no-file-read words (layout, reads) names)
-printed-on-file words told text files same (sums_up seed count makes sum) names = absurd (no-file-made words (seed, count, makes) names)
-printed-on-file words told text files same (makes_file layout is none line) names = inl ((layout, is), subst (λ (fs : Option FileMap). HasNoFile fs (file_of words)) same none)
-printed-on-file words told text files same (lists_words from count bytes is has sound lines) names =
-    inr ((from, count, is), (bytes, subst (λ (fs : Option FileMap). HasBytes fs (file_of words) bytes) same has, sound))
-
-pub tells-file : (words : List (List ℕ)) (told : Seen) (written written' : Option (List ℕ)) (writes writes' : ℕ) (answer : Status) → LeavesSink words told answer written written' →
-    IsCauseOf words told writes writes' answer → TellsFile words told answer
-tells-file words told written written' writes writes' status.Done sink cause files refusal is same refused =
-    absurd (not-refused words files refusal (printed-on-file words told sink.text files is sink.prints (file-cause-names words (Some files) refusal refused)) refused)
-tells-file words told written written' writes writes' status.Usage sink cause files refusal is same refused =
-    absurd (no-form words (inr (file-cause-names words (Some files) refusal refused)) cause)
-tells-file words told written written' writes writes' (status.Script what) sink cause files refusal is same refused =
-    absurd (no-file-read words (cause.0, cause.1) (file-cause-names words (Some files) refusal refused))
-tells-file words told written written' writes writes' status.Read sink cause files refusal is same refused =
-    absurd (no-file-read words cause.0 (file-cause-names words (Some files) refusal refused))
-tells-file words told written written' writes writes' status.Write sink cause files refusal is same refused =
-    absurd (not-refused words files refusal (printed-on-file words told sink.text files is sink.prints (file-cause-names words (Some files) refusal refused)) refused)
-tells-file words told written written' writes writes' status.Shelf sink cause files refusal is same refused = absurd (omega (arith, cause.1, same))
-tells-file words told written written' writes writes' status.NoMemory sink cause files refusal is same refused = inr refl
-tells-file words told written written' writes writes' (status.Image other) sink cause files refusal is same refused =
-    inl (ap status.Image (one-file-cause words files other refusal (subst (λ (fs : Option FileMap). IsFileCause words fs other) is cause) refused))
-tells-file words told written written' writes writes' (status.NotBuilt verb) sink (inl names) files refusal is same refused =
-    absurd (no-name words verb (inr (file-cause-names words (Some files) refusal refused)) names)
-tells-file words told written written' writes writes' (status.NotBuilt verb) sink (inr cause) files refusal is same refused =
-    absurd (no-file-read words (cause.0, cause.1) (file-cause-names words (Some files) refusal refused))
-
-pub finishes-on-file : (words : List (List ℕ)) (told : Seen) (writes writes' : ℕ) (answer : Status) → IsCauseOf words told writes writes' answer → FinishesOnFile words told writes writes' answer
-finishes-on-file words told writes writes' status.Done cause files is same same' can = inl refl
-finishes-on-file words told writes writes' status.Usage cause files is same same' can = absurd (no-form words (inr (can-names words (Some files) can)) cause)
-finishes-on-file words told writes writes' (status.Script what) cause files is same same' can = absurd (no-file-read words (cause.0, cause.1) (can-names words (Some files) can))
-finishes-on-file words told writes writes' status.Read cause files is same same' can = absurd (no-file-read words cause.0 (can-names words (Some files) can))
-finishes-on-file words told writes writes' status.Write cause files is same same' can = absurd (omega (arith, cause.1, same'))
-finishes-on-file words told writes writes' status.Shelf cause files is same same' can = absurd (omega (arith, cause.1, same))
-finishes-on-file words told writes writes' status.NoMemory cause files is same same' can = inr refl
-finishes-on-file words told writes writes' (status.Image refusal) cause files is same same' can =
-    absurd (not-refused words files refusal can (subst (λ (fs : Option FileMap). IsFileCause words fs refusal) is cause))
-finishes-on-file words told writes writes' (status.NotBuilt verb) (inl names) files is same same' can = absurd (no-name words verb (inr (can-names words (Some files) can)) names)
-finishes-on-file words told writes writes' (status.NotBuilt verb) (inr cause) files is same same' can = absurd (no-file-read words (cause.0, cause.1) (can-names words (Some files) can))
-
--- words of a file that can't be told
-pub not-told : (words : List (List ℕ)) (told : Seen) (from count : ℕ) (name : List ℕ) (answer : Status) → ListsWords words from count → name ≡ file_of words →
-    IsListRefused told.files told.shelves told.shelves' name answer → HasNoText words told answer
-not-told words told from count name status.Done is same refused = absurd refused
-not-told words told from count name status.Usage is same refused = absurd refused
-not-told words told from count name (status.Script what) is same refused = absurd refused
-not-told words told from count name status.Read is same refused = absurd refused
-not-told words told from count name status.Write is same refused = absurd refused
-not-told words told from count name status.Shelf is same refused = (inr (from, count, is), refused)
-not-told words told from count name status.NoMemory is same refused = inr (inr (from, count, is))
-not-told words told from count name (status.Image image.Missing) is same refused = ((from, count, is), subst (HasNoFile told.files) same refused)
-not-told words told from count name (status.Image image.Exists) is same refused = absurd refused
-not-told words told from count name (status.Image (image.Bytes fault)) is same refused =
-    ((from, count, is), (refused.0, subst (λ (n : List ℕ). HasBytes told.files n refused.0) same refused.1, refused.2))
-not-told words told from count name (status.NotBuilt verb) is same refused = absurd refused
+finishes-generated words told writes writes' (status.NotBuilt verb) (inr cause) makes same = absurd (not-read-made words (cause-reads words told (status.NotBuilt verb) cause) makes)
 
 -- words of no form come to their status
 of-no-form : (words : List (List ℕ)) (told : Seen) (writes writes' : ℕ) (answer : Status) → IsCauseOf words told writes writes' answer →
     ((command : Command) → ¬ IsCommand words command) → answer ≡ status.Usage
 of-no-form words told writes writes' status.Done cause none = absurd (no-form words cause none)
 of-no-form words told writes writes' status.Usage cause none = refl
-of-no-form words told writes writes' (status.Script what) cause none = absurd (none (Play cause.0) cause.1)
-of-no-form words told writes writes' status.Read cause none = absurd (none (Play cause.0.0) cause.0.1)
+of-no-form words told writes writes' (status.Script what) cause none = absurd (no-form words (reads-built words (cause-reads words told (status.Script what) cause)) none)
+of-no-form words told writes writes' status.Read cause none = absurd (no-form words (reads-built words cause.0) none)
 of-no-form words told writes writes' status.Write cause none = absurd (no-form words cause.0 none)
-of-no-form words told writes writes' status.Shelf cause none = absurd (no-form words (inr cause.0) none)
+of-no-form words told writes writes' status.Shelf cause none = absurd (no-form words (inr (reaches-names words told.left cause.0)) none)
 of-no-form words told writes writes' status.NoMemory cause none = absurd (no-form words cause none)
-of-no-form words told writes writes' (status.Image refusal) cause none = absurd (no-form words (inr (file-cause-names words told.files refusal cause)) none)
+of-no-form words told writes writes' (status.Image refusal) cause none = absurd (no-form words (inr (file-cause-names words told.left told.files refusal cause)) none)
 of-no-form words told writes writes' (status.NotBuilt verb) (inl names) none = absurd (none names.0 names.1)
-of-no-form words told writes writes' (status.NotBuilt verb) (inr cause) none = absurd (none (Play cause.0) cause.1)
+of-no-form words told writes writes' (status.NotBuilt verb) (inr cause) none = absurd (no-form words (reads-built words (cause-reads words told (status.NotBuilt verb) cause)) none)
 
 pub usage-exactly : (words : List (List ℕ)) (told : Seen) (writes writes' : ℕ) (answer : Status) → IsCauseOf words told writes writes' answer →
     (answer ≡ status.Usage) ↔ ((command : Command) → ¬ IsCommand words command)
@@ -593,24 +548,24 @@ of-name : (words : List (List ℕ)) (told : Seen) (writes writes' : ℕ) (verb :
     NamesCommand words verb → answer ≡ status.NotBuilt verb
 of-name words told writes writes' verb status.Done cause names = absurd (no-name words verb cause names)
 of-name words told writes writes' verb status.Usage cause names = absurd (cause names.0 names.1)
-of-name words told writes writes' verb (status.Script what) cause names = absurd (no-name words verb (inl (inl (cause.0, cause.1))) names)
-of-name words told writes writes' verb status.Read cause names = absurd (no-name words verb (inl (inl cause.0)) names)
+of-name words told writes writes' verb (status.Script what) cause names = absurd (no-name words verb (reads-built words (cause-reads words told (status.Script what) cause)) names)
+of-name words told writes writes' verb status.Read cause names = absurd (no-name words verb (reads-built words cause.0) names)
 of-name words told writes writes' verb status.Write cause names = absurd (no-name words verb cause.0 names)
-of-name words told writes writes' verb status.Shelf cause names = absurd (no-name words verb (inr cause.0) names)
+of-name words told writes writes' verb status.Shelf cause names = absurd (no-name words verb (inr (reaches-names words told.left cause.0)) names)
 of-name words told writes writes' verb status.NoMemory cause names = absurd (no-name words verb cause names)
-of-name words told writes writes' verb (status.Image refusal) cause names = absurd (no-name words verb (inr (file-cause-names words told.files refusal cause)) names)
+of-name words told writes writes' verb (status.Image refusal) cause names = absurd (no-name words verb (inr (file-cause-names words told.left told.files refusal cause)) names)
 of-name words told writes writes' verb (status.NotBuilt other) (inl named) names =
     ap status.NotBuilt (same_Some other verb (sym named.2 ∙ one-word words named.0 names.0 named.1 names.1 ∙ names.2))
-of-name words told writes writes' verb (status.NotBuilt other) (inr cause) names = absurd (no-name words verb (inl (inl (cause.0, cause.1))) names)
+of-name words told writes writes' verb (status.NotBuilt other) (inr cause) names = absurd (no-name words verb (reads-built words (cause-reads words told (status.NotBuilt other) cause)) names)
 
-names-it : (words : List (List ℕ)) (left : Option (List ℕ)) (verb : Verb) → IsCommandWord verb → NamesCommand words verb ⊎ IsScriptCause words left (status.NotBuilt verb) → NamesCommand words verb
-names-it words left verb command (inl names) = names
-names-it words left verb command (inr cause) = absurd (of-script cause.0.callers left verb cause.2 command)
+names-it : (words : List (List ℕ)) (told : Seen) (verb : Verb) → IsCommandWord verb → NamesCommand words verb ⊎ IsScriptCause words told (status.NotBuilt verb) → NamesCommand words verb
+names-it words told verb command (inl names) = names
+names-it words told verb command (inr cause) = absurd (of-cause words told verb cause command)
 
 pub command-exactly : (words : List (List ℕ)) (told : Seen) (writes writes' : ℕ) (answer : Status) → IsCauseOf words told writes writes' answer →
     (verb : Verb) → IsCommandWord verb → (answer ≡ status.NotBuilt verb) ↔ NamesCommand words verb
 command-exactly words told writes writes' answer cause verb command =
-    (λ is. names-it words told.left verb command (subst (IsCauseOf words told writes writes') is cause), of-name words told writes writes' verb answer cause)
+    (λ is. names-it words told verb command (subst (IsCauseOf words told writes writes') is cause), of-name words told writes writes' verb answer cause)
 
 -- ---- what is printed
 

@@ -19,13 +19,27 @@ use Rattle.pm_words.specs.Layouts.{IsLayout}
 use Rattle.pm_words.specs.declared.layout.Layout.{Layout}
 use Rattle.std.specs.FinMap.{empty, len, len-empty}
 use Rattle.cat_key.specs.Names.{name_cmp}
-use Rattle.catalog_cli.specs.Headline.{ArePaidFromEmpty, ArePaidRounds, ArePlayedRounds}
+use Rattle.catalog_cli.specs.Reports.{ArePaidFromEmpty, ArePaidRounds, ArePlayedRounds, map_end, shape_end}
 use Rattle.catalog_cli.specs.LoneCalls.{AreLoneCalls, AreReportCalls}
 use Rattle.catalog_cli.specs.Rounds.{IsPlayedRound}
 
--- Whatever is played of the rest from this map and shape is, behind what was played so far, played of all of them.
+-- one round more goes on from the map and the shape that those before it leave
+map_end-push : (base : Map) (reports : List RoundReport) (report : RoundReport) → map_end base (reports ++ report ∷ []) ≡ after_all (map_end base reports) (writes_of report.records)
+map_end-push base [] report = refl
+map_end-push base (first ∷ reports) report = map_end-push (after_all base (writes_of first.records)) reports report
+
+shape_end-push : (slots : ℕ) (base : Map) (anchors : Anchors) (reports : List RoundReport) (report : RoundReport) →
+    shape_end slots base anchors (reports ++ report ∷ []) ≡ anchors_end slots (map_end base reports) (shape_end slots base anchors reports) report.records
+shape_end-push slots base anchors [] report = refl
+shape_end-push slots base anchors (first ∷ reports) report =
+    shape_end-push slots (after_all base (writes_of first.records)) (anchors_end slots base anchors first.records) reports report
+
+-- Whatever is played of the rest from this map and shape is, behind what was played so far, played of all of them. They are
+-- those that what was played so far leaves.
 pub record GoOn (slots nodes : ℕ) (base : Map) (anchors : Anchors) (plans : List RoundPlan) (reports : List RoundReport) (end : Map) (shape : Anchors) : Type 0 where
   pub goes : (rest : List RoundPlan) (more : List RoundReport) → ArePlayedRounds slots nodes end shape rest more → ArePlayedRounds slots nodes base anchors (plans ++ rest) (reports ++ more)
+  pub map_is : end ≡ map_end base reports
+  pub shape_is : shape ≡ shape_end slots base anchors reports
 
 one-more : (slots nodes : ℕ) (base end : Map) (anchors shape : Anchors) (plans : List RoundPlan) (reports : List RoundReport) (plan : RoundPlan) (report : RoundReport) →
     GoOn slots nodes base anchors plans reports end shape → IsPlayedRound slots nodes end shape plan report (writes_of report.records) →
@@ -35,11 +49,13 @@ one-more slots nodes base end anchors shape plans reports plan report on round =
       subst (λ (ps : List RoundPlan). ArePlayedRounds slots nodes base anchors ps ((reports ++ report ∷ []) ++ more)) (sym (append_assoc plans (plan ∷ []) rest))
       (subst (λ (rs : List RoundReport). ArePlayedRounds slots nodes base anchors (plans ++ plan ∷ rest) rs) (sym (append_assoc reports (report ∷ []) more))
       (on.goes (plan ∷ rest) (report ∷ more) (round, played)));
+  map_is = ap (λ (m : Map). after_all m (writes_of report.records)) on.map_is ∙ sym (map_end-push base reports report);
+  shape_is = (λ k. anchors_end slots (on.map_is k) (on.shape_is k) report.records) ∙ sym (shape_end-push slots base anchors reports report);
 }
 
 pub none-played-at : (slots nodes : ℕ) (base : Map) (anchors : Anchors) (reports : List RoundReport) → reports ≡ [] → GoOn slots nodes base anchors [] reports base anchors
 none-played-at slots nodes base anchors reports none =
-    subst (λ (rs : List RoundReport). GoOn slots nodes base anchors [] rs base anchors) (sym none) (record { goes = λ rest more played. played })
+    subst (λ (rs : List RoundReport). GoOn slots nodes base anchors [] rs base anchors) (sym none) (record { goes = λ rest more played. played; map_is = refl; shape_is = refl })
 
 -- one more of a list of plans
 pub one-more-at : (slots nodes : ℕ) (base end end' : Map) (anchors shape shape' : Anchors) (all : List RoundPlan) (i : ℕ) (plan : RoundPlan) (reports reports' : List RoundReport)

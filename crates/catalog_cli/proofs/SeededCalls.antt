@@ -29,7 +29,8 @@ use Rattle.cat_text.specs.Summaries.{summary_line}
 use Rattle.cat_text.specs.declared.report.RoundReport.{RoundReport}
 use Rattle.cat_text.specs.declared.summary.Summary.{Summary}
 use Rattle.cat_history.specs.declared.plan.RoundPlan.{RoundPlan}
-use Rattle.catalog_cli.specs.Headline.{done, all_done, ArePlayedRounds, IsSummaryOf}
+use Rattle.catalog_cli.specs.Headline.{done, all_done, IsSummaryOf}
+use Rattle.catalog_cli.specs.Reports.{ArePlayedRounds}
 use Rattle.catalog_cli.specs.Rounds.{IsPlayedRound}
 use Rattle.catalog_cli.proofs.Played.{only-round, paid-round}
 use Rattle.catalog_cli.specs.LoneCalls.{AreLoneCalls, AreReportCalls, IsReportCall, calls_in}

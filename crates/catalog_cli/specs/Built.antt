@@ -8,13 +8,13 @@ use Rattle.cat_script.specs.declared.script.ScriptLine.{ScriptLine}
 use Rattle.cat_script.specs.declared.verb.Verb.{Verb as LineVerb}
 use Rattle.cat_script.specs.declared.verb.Verb.TheVariants as line
 use Rattle.catalog_cli.specs.declared.status.Verb.{Verb}
-use Rattle.catalog_cli.specs.declared.status.Verb.TheVariants.{Run, Gen}
+use Rattle.catalog_cli.specs.declared.status.Verb.TheVariants.{Gen}
 use Rattle.catalog_cli.specs.declared.status.Verb.TheVariants.{Put, Get, Del, Scan, Crash}
 
--- The word of a command that isn't built: `run`, and `gen` for several callers.
+-- The word of a command that isn't built: `gen` for several callers.
 abbrev pub unbuilt_command : Command → Option Verb
 unbuilt_command (command.Format layout) = None
-unbuilt_command command.Run = Some Run
+unbuilt_command command.Run = None
 unbuilt_command (command.Play layout) = None
 unbuilt_command (command.Gen seed count callers) = if callers == 1 then None else Some Gen
 unbuilt_command (command.Words from count) = None
@@ -66,7 +66,6 @@ first_unbuilt first (line ∷ lines) =
 
 -- The words of commands, and those of lines.
 abbrev pub IsCommandWord : Verb → Type 0
-IsCommandWord Run = Unit {0}
 IsCommandWord Gen = Unit {0}
 IsCommandWord Put = ⊥
 IsCommandWord Get = ⊥

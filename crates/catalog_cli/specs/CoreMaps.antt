@@ -1,8 +1,21 @@
 -- The index, called by one caller with no other call in flight, as a map of names.
-use Rattle.std.specs.Prelude.{◌≡◌, ℕ, ◌-◌, ◌/◌, ◌^◌, min, length}
+use Rattle.std.specs.Prelude.{◌≡◌, ℕ, suc, ◌-◌, ◌/◌, ◌^◌, ◌<◌, ◌≤◌, min, length}
 use Rattle.std.specs.FinMap.{len}
+use Rattle.pm_words.specs.Images.{Row}
+use Rattle.pm_words.specs.Locations.{Line, word_at}
+use Rattle.pm_words.specs.Rows.{cached_row}
+use Rattle.pm_words.specs.declared.layout.Layout.{Layout}
 use Rattle.shapes.specs.Anchors.{Anchors, put_anchors, del_anchors}
-use Rattle.index_law.specs.Anchors.{anchors_in}
+use Rattle.shapes.specs.ShapeRounds.{IsShapeWithin}
+use Rattle.sound_image.specs.Rules.{header_generation}
+use Rattle.sound_image.specs.Sound.{IsMapOf, image_map}
+use Rattle.sound_image.specs.Weights.{image_weight}
+use Rattle.sound_layer.specs.Sound.{IsSoundByAll}
+use Rattle.version_lock.specs.Versions.{IsGeneration}
+use Rattle.version_lock.specs.declared.TheConstants.{LAST_COUNT}
+use Rattle.index_law.specs.Anchors.{anchors_in, image_anchors}
+use Rattle.lone_turn.specs.LoneTurns.{line_state}
+use Rattle.turn_law.specs.Covers.{empty_state}
 use Rattle.index_core.specs.declared.party.CoreCall.{CoreCall}
 use Rattle.index_core.specs.declared.party.CoreCall.TheVariants as call
 use Rattle.index_core.specs.Indexes.{Index, IsIndex, map_of_index, world}
@@ -39,3 +52,47 @@ pub record IsCoreMap (s : Index) (names : ℕ) : Type 0 where
   pub quiet : IsQuiet s
   pub stamps : HasLowStamps s
   pub counted : names ≡ len (map_of_index s)
+
+-- It is the index of a run of this layout and this generation. No call changes either.
+pub record IsOfRun (l : Layout) (number : ℕ) (s : Index) : Type 0 where
+  pub layout : s.layout ≡ l
+  pub generation : s.generation ≡ number
+
+-- The numbers of the run that opens this image: its layout, and its next generation.
+pub record IsNextRun (image : Row) (l : Layout) (number : ℕ) : Type 0 where
+  pub layout : l ≡ image.layout
+  pub generation : number ≡ suc (header_generation image.layout image.words)
+
+-- The map that a sound image opens as which has a next generation: with the names, the shape and the weight of the
+-- image, all its calls left, and room for so many writes.
+pub record IsOpenedMap (image : Row) (writes : ℕ) (s : Index) : Type 0 where
+  pub sound : IsSoundByAll image.layout image.words
+  pub next : IsGeneration (suc (header_generation image.layout image.words))
+  pub layout : s.layout ≡ image.layout
+  pub keeps : IsMapOf image.layout image.words (image_map image.layout image.words)
+  pub contents : map_of_index s ≡ image_map image.layout image.words
+  pub anchors : anchors_in (world s) ≡ image_anchors image.layout image.words
+  pub within : IsShapeWithin image.layout.slots image.layout.nodes (image_weight image.layout image.words)
+      (len (image_map image.layout image.words)) (image_map image.layout image.words)
+      (image_anchors image.layout image.words)
+  pub calls_left : calls_left_of s ≡ LAST_COUNT / 4
+  pub writes_left : writes ≤ writes_left_of s
+
+-- Each of its log lines is EMPTY, and so none waits for a turn.
+abbrev pub HasNoLines : Index → Type 0
+HasNoLines s = (j : ℕ) → line_state (world s) j ≡ empty_state
+
+-- So it is of the image.
+abbrev pub ImageHasNoLines : Row → Type 0
+ImageHasNoLines image = (c j : ℕ) → c < image.layout.callers → j < 8 →
+    word_at image.layout image.words (Line c j 0) ≡ empty_state
+
+-- The image keeps the index: its cached words, which are sound by all rules, with its map, its shape and its generation.
+pub record IsImageOf (s : Index) (image : Row) : Type 0 where
+  pub layout : image.layout ≡ s.layout
+  pub words : image.words ≡ cached_row s.layout s.words
+  pub sound : IsSoundByAll image.layout image.words
+  pub generation : header_generation image.layout image.words ≡ s.generation
+  pub keeps : IsMapOf image.layout image.words (map_of_index s)
+  pub anchors : image_anchors image.layout image.words ≡ anchors_in (world s)
+  pub lines : HasNoLines s → ImageHasNoLines image

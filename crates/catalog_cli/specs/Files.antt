@@ -3,14 +3,13 @@ use Rattle.std.specs.Prelude.{◌≡◌, ℕ, ◌+◌, ◌<◌, ◌⊎◌, List,
 use Rattle.std.specs.Prelude.{decimal, drop, get_or, take}
 use Rattle.std.specs.FinMap.{get}
 use Rattle.cat_command.specs.Commands.{IsCommand}
-use Rattle.cat_command.specs.declared.command.Command.TheVariants.{Format, Words}
+use Rattle.cat_command.specs.declared.command.Command.TheVariants.{Format, Run, Words}
 use Rattle.cat_text.specs.Shelves.{FileMap, KeepsFiles, SavesFile}
 use Rattle.cat_text.specs.WordLines.{word_line}
-use Rattle.pm_words.specs.Bytes.{bytes_of, HasNoFault, IsFault}
-use Rattle.pm_words.specs.Images.{fresh_words}
+use Rattle.pm_words.specs.Bytes.{HasNoFault, IsFault, bytes_of, image_in}
+use Rattle.pm_words.specs.Images.{Row, fresh_words}
 use Rattle.pm_words.specs.Locations.{image_words}
 use Rattle.pm_words.specs.declared.layout.Layout.{Layout}
-use Rattle.catalog_cli.specs.declared.status.ImageRefusal.{ImageRefusal}
 use Rattle.catalog_cli.specs.declared.status.ImageRefusal.TheVariants as image
 use Rattle.catalog_cli.specs.declared.status.Status.{Status}
 use Rattle.catalog_cli.specs.declared.status.Status.TheVariants as status
@@ -31,9 +30,13 @@ FormatsSome words = (layout : Layout) × Formats words layout
 abbrev pub ListsSome : List (List ℕ) → Type 0
 ListsSome words = (from count : ℕ) × ListsWords words from count
 
--- Some command on a file that is built has these words.
+-- The words of a command that reads a script, to play it on the catalogue in a file.
+abbrev pub RunsScript : List (List ℕ) → Type 0
+RunsScript words = IsCommand words Run
+
+-- Some command on a file has these words.
 abbrev pub NamesFile : List (List ℕ) → Type 0
-NamesFile words = FormatsSome words ⊎ ListsSome words
+NamesFile words = FormatsSome words ⊎ ListsSome words ⊎ RunsScript words
 
 -- The name of its file: its second word.
 abbrev pub file_of : List (List ℕ) → List ℕ
@@ -69,32 +72,21 @@ HasFile files name = IfSome files (λ told. IsSome (get told name))
 abbrev pub HasNoFile : Option FileMap → List ℕ → Type 0
 HasNoFile files name = IfSome files (λ told. get told name ≡ None)
 
--- The file of this name is the image that a command with these words saves, and no other file changed.
-abbrev pub SavesFresh : List (List ℕ) → Option FileMap → Option FileMap → Type 0
-SavesFresh words files files' = (layout : Layout) × Formats words layout ×
-    SavesFile files files' (file_of words) (bytes_of (fresh_words layout))
+-- The file of this name has the bytes of this image, as far as the shelf tells its files.
+pub record HasImage (files : Option FileMap) (name : List ℕ) (image : Row) : Type 0 where
+  pub bytes : List ℕ
+  pub had : HasBytes files name bytes
+  pub sound : HasNoFault bytes
+  pub is : image ≡ image_in bytes
 
--- What a command leaves that was done or whose line could not be written: a new file, or each file as it was.
-abbrev pub LeavesFiles : List (List ℕ) → Option FileMap → Option FileMap → Type 0
-LeavesFiles words files files' = SavesFresh words files files' ⊎ ((¬ FormatsSome words) × KeepsFiles files files')
-
--- What one leaves that was ended on its way: each file as it was, or a new file, whole.
-abbrev pub LeavesOldOrNew : List (List ℕ) → Option FileMap → Option FileMap → Type 0
-LeavesOldOrNew words files files' = KeepsFiles files files' ⊎ SavesFresh words files files'
+-- The file of this name has this image now, and no other file changed.
+pub record SavesImage (files files' : Option FileMap) (name : List ℕ) (image : Row) : Type 0 where
+  pub bytes : List ℕ
+  pub saves : SavesFile files files' name bytes
+  pub sound : HasNoFault bytes
+  pub is : image ≡ image_in bytes
 
 -- ---- refusals
-
--- Why a file is refused: one to be made is there, one to be read isn't, or its bytes are no image, with this fault.
-abbrev pub IsFileCause : List (List ℕ) → Option FileMap → ImageRefusal → Type 0
-IsFileCause words files image.Missing = ListsSome words × HasNoFile files (file_of words)
-IsFileCause words files image.Exists = FormatsSome words × HasFile files (file_of words)
-IsFileCause words files (image.Bytes fault) =
-    ListsSome words × ((bytes : List ℕ) × HasBytes files (file_of words) bytes × IsFault bytes fault)
-
--- The file is one that the command can be done on: there is none yet, or it has the bytes of an image.
-abbrev pub CanBeDone : List (List ℕ) → Option FileMap → Type 0
-CanBeDone words files = (FormatsSome words × HasNoFile files (file_of words)) ⊎
-    (ListsSome words × ((bytes : List ℕ) × HasBytes files (file_of words) bytes × HasNoFault bytes))
 
 -- Why a fresh image wasn't saved under this name, and what the shelf has then: as many of its calls had failed before
 -- as the first number says, and now as the second.
@@ -107,11 +99,18 @@ IsFormatRefused files files' shelves shelves' name layout (status.Image image.Ex
     HasFile files name × KeepsFiles files files'
 IsFormatRefused files files' shelves shelves' name layout other = ⊥
 
--- Why there are no words to tell of the file of this name.
-abbrev pub IsListRefused : Option FileMap → (shelves shelves' : ℕ) → List ℕ → Status → Type 0
-IsListRefused files shelves shelves' name status.Shelf = shelves < shelves'
-IsListRefused files shelves shelves' name status.NoMemory = Unit {0}
-IsListRefused files shelves shelves' name (status.Image image.Missing) = HasNoFile files name
-IsListRefused files shelves shelves' name (status.Image (image.Bytes fault)) =
+-- Why no image is loaded from the file of this name.
+abbrev pub IsLoadRefused : Option FileMap → (shelves shelves' : ℕ) → List ℕ → Status → Type 0
+IsLoadRefused files shelves shelves' name status.Shelf = shelves < shelves'
+IsLoadRefused files shelves shelves' name status.NoMemory = Unit {0}
+IsLoadRefused files shelves shelves' name (status.Image image.Missing) = HasNoFile files name
+IsLoadRefused files shelves shelves' name (status.Image (image.Bytes fault)) =
     (bytes : List ℕ) × HasBytes files name bytes × IsFault bytes fault
-IsListRefused files shelves shelves' name other = ⊥
+IsLoadRefused files shelves shelves' name other = ⊥
+
+-- Why the file of this name didn't get this image, and what the shelf has then.
+abbrev pub IsSaveRefused : Option FileMap → Option FileMap → (shelves shelves' : ℕ) → List ℕ → Row → Status → Type 0
+IsSaveRefused files files' shelves shelves' name image status.Shelf = (shelves < shelves') ×
+    (KeepsFiles files files' ⊎ SavesImage files files' name image)
+IsSaveRefused files files' shelves shelves' name image status.NoMemory = KeepsFiles files files'
+IsSaveRefused files files' shelves shelves' name image other = ⊥

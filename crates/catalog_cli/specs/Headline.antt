@@ -1,6 +1,5 @@
--- What the program owes: what a script plays, what is reported of it, and what each status says of source and sink.
-use Rattle.std.specs.Prelude.{◌≡◌, ℕ, ◌+◌, ◌/◌, ◌<◌, ◌⊎◌, List, [], ◌∷◌, Option, IfSome, Some, None, All, length}
-use Rattle.std.specs.Prelude.{take, fold}
+-- What the program owes: what each command prints, and what each status says of source, sink and shelf.
+use Rattle.std.specs.Prelude.{◌≡◌, ℕ, ◌<◌, ◌⊎◌, List, [], ◌∷◌, Option, IfSome, Some, length, take, fold}
 use Rattle.std.specs.FinMap.{empty, insert, remove}
 use Rattle.std.specs.Io.KnownBytes.{Appends, Keeps}
 use Rattle.cat_command.specs.Commands.{IsCommand}
@@ -12,35 +11,35 @@ use Rattle.cat_history.specs.LoneRounds.{writes_of}
 use Rattle.cat_history.specs.declared.op.CallerOp.{CallerOp}
 use Rattle.cat_history.specs.declared.op.Op.{Op}
 use Rattle.cat_history.specs.declared.op.Op.TheVariants.{Put, Get, Del, Scan}
-use Rattle.cat_history.specs.declared.plan.RoundPlan.{RoundPlan}
-use Rattle.cat_script.specs.Fits.{FitsCallers, IsUnfitBy}
 use Rattle.cat_script.specs.Generators.{generated_plan, generated_calls}
-use Rattle.cat_script.specs.Scripts.{IsScript, IsFirstFault}
 use Rattle.cat_script.specs.declared.fault.ScriptFault.{ScriptFault}
 use Rattle.cat_script.specs.declared.fault.ScriptFault.TheVariants.{Bytes}
 use Rattle.cat_script.specs.declared.fault.TheConstants.{MOST_BYTES}
 use Rattle.cat_script.specs.declared.script.Script.{Script}
-use Rattle.cat_text.specs.ReportGrammar.{IsReportText}
 use Rattle.cat_text.specs.Summaries.{summary_line}
 use Rattle.cat_text.specs.declared.report.RoundReport.{RoundReport}
-use Rattle.cat_text.specs.Shelves.{FileMap, KeepsFiles}
-use Rattle.pm_words.specs.Bytes.{HasNoFault, words_in}
+use Rattle.cat_text.specs.Shelves.{FileMap, KeepsFiles, SavesFile}
+use Rattle.pm_words.specs.Bytes.{HasNoFault, IsFault, bytes_of, words_in}
+use Rattle.pm_words.specs.Images.{Row, fresh_words}
 use Rattle.pm_words.specs.declared.layout.Layout.{Layout}
-use Rattle.shapes.specs.Anchors.{Anchors}
-use Rattle.shapes.specs.ShapeRounds.{anchors_end, puts_added, FullIsPaid}
-use Rattle.catalog_cli.specs.Built.{unbuilt_command, first_unbuilt, IsCommandWord}
-use Rattle.catalog_cli.specs.Files.{CanBeDone, Formats, HasBytes, HasNoFile, IsFileCause, LeavesFiles, LeavesOldOrNew}
-use Rattle.catalog_cli.specs.Files.{ListsWords, NamesFile, file_of, formatted_line, lines_told}
+use Rattle.catalog_cli.specs.Built.{unbuilt_command, IsCommandWord}
+use Rattle.catalog_cli.specs.Files.{Formats, FormatsSome, HasBytes, HasFile, HasImage, HasNoFile, ListsSome}
+use Rattle.catalog_cli.specs.Files.{ListsWords, NamesFile, RunsScript, file_of, formatted_line, lines_told}
+use Rattle.catalog_cli.specs.Reports.{ArePaidFromEmpty, IsAccepted, IsRefusedBy, IsReportOf, empty_opening}
 use Rattle.catalog_cli.specs.Rounds.{IsPlayedRound}
+use Rattle.catalog_cli.specs.Runs.{AreBytesLeft, HasScript, IsFileAfterRun, IsNoScript, IsOpenable}
+use Rattle.catalog_cli.specs.Runs.{IsRefusedOnFile, IsRunFileCause, IsRunOnFile, IsRunRefusal}
 use Rattle.catalog_cli.specs.Summaries.{full_in, summary_of}
 use Rattle.catalog_cli.specs.declared.status.ImageRefusal.{ImageRefusal}
+use Rattle.catalog_cli.specs.declared.status.ImageRefusal.TheVariants as image
 use Rattle.catalog_cli.specs.declared.status.Verb.{Verb}
 use Rattle.catalog_cli.specs.declared.status.Status.{Status}
 use Rattle.catalog_cli.specs.declared.status.Status.TheVariants as status
 
 -- ---- commands and scripts
 
--- The words of a command that reads a script, to play it on an empty catalogue of this layout.
+-- The words of a command that reads a script, to play it on an empty catalogue of this layout. (A run on a file has those
+-- of `RunsScript`.)
 abbrev pub ReadsScript : List (List ℕ) → Layout → Type 0
 ReadsScript words layout = IsCommand words (Play layout)
 
@@ -51,73 +50,6 @@ Generates words seed count = IsCommand words (Gen seed count 1)
 -- The words of a command that isn't built, whose word is this one.
 abbrev pub NamesCommand : List (List ℕ) → Verb → Type 0
 NamesCommand words verb = (command : Command) × IsCommand words command × (unbuilt_command command ≡ Some verb)
-
--- The bytes are this script, it fits so many callers, and each of its lines is built.
-pub record IsAccepted (callers : ℕ) (bytes : List ℕ) (script : Script) : Type 0 where
-  pub is_script : IsScript bytes script
-  pub fits : All (FitsCallers callers) script.lines
-  pub built : first_unbuilt None script.lines ≡ None
-
--- The bytes are a script that doesn't fit so many callers, for this fault.
-abbrev pub IsUnfitScript : ℕ → List ℕ → ScriptFault → Type 0
-IsUnfitScript callers bytes fault = (script : Script) × IsScript bytes script × IsUnfitBy callers script.lines fault
-
--- The bytes are too many, or no script with this first fault, or a script that doesn't fit for this fault.
-abbrev pub HasFault : ℕ → List ℕ → ScriptFault → Type 0
-HasFault callers bytes fault =
-    ((fault ≡ Bytes) × (MOST_BYTES < length bytes)) ⊎ IsFirstFault bytes fault ⊎ IsUnfitScript callers bytes fault
-
--- The bytes are a script that fits so many callers, and the first of its lines that isn't built has this word.
-abbrev pub IsUnbuiltScript : ℕ → List ℕ → Verb → Type 0
-IsUnbuiltScript callers bytes verb = (script : Script) × IsScript bytes script ×
-    All (FitsCallers callers) script.lines × (first_unbuilt None script.lines ≡ Some verb)
-
--- The bytes are refused so: in this order for their fault, or for a line that isn't built.
-abbrev pub IsRefusedBy : ℕ → List ℕ → Status → Type 0
-IsRefusedBy callers bytes status.Done = ⊥
-IsRefusedBy callers bytes status.Usage = ⊥
-IsRefusedBy callers bytes (status.Script fault) = HasFault callers bytes fault
-IsRefusedBy callers bytes status.Read = ⊥
-IsRefusedBy callers bytes status.Write = ⊥
-IsRefusedBy callers bytes status.Shelf = ⊥
-IsRefusedBy callers bytes status.NoMemory = ⊥
-IsRefusedBy callers bytes (status.Image refusal) = ⊥
-IsRefusedBy callers bytes (status.NotBuilt verb) = IsUnbuiltScript callers bytes verb
-
--- ---- reports
-
--- Each round of the plan is played and reported, the first on the base and its shape, and each later one on the map and
--- the shape that the calls of the one before it made of them. In each there can be as many members as nodes.
-abbrev pub ArePlayedRounds : ℕ → ℕ → Map → Anchors → List RoundPlan → List RoundReport → Type 0
-ArePlayedRounds slots nodes base anchors [] [] = Unit {0}
-ArePlayedRounds slots nodes base anchors [] (report ∷ reports) = ⊥
-ArePlayedRounds slots nodes base anchors (plan ∷ plans) [] = ⊥
-ArePlayedRounds slots nodes base anchors (plan ∷ plans) (report ∷ reports) =
-    IsPlayedRound slots nodes base anchors plan report (writes_of report.records) ×
-    ArePlayedRounds slots nodes (after_all base (writes_of report.records))
-    (anchors_end slots base anchors report.records) plans reports
-
--- In each round a call is answered full only where all nodes are paid for by the weight at the opening, and the slots
--- of one by the names then, together with the puts since then, up to the end of that round, that added a name.
-abbrev pub ArePaidRounds : ℕ → ℕ → ℕ → ℕ → List RoundReport → Type 0
-ArePaidRounds slots nodes weighs names [] = Unit {0}
-ArePaidRounds slots nodes weighs names (report ∷ reports) =
-    All (FullIsPaid slots nodes (weighs + puts_added report.records) (names + puts_added report.records)) report.records
-    × ArePaidRounds slots nodes (weighs + puts_added report.records) (names + puts_added report.records) reports
-
--- The same from an empty catalogue: its one member weighs half as many as a node has slots.
-abbrev pub ArePaidFromEmpty : ℕ → ℕ → List RoundReport → Type 0
-ArePaidFromEmpty slots nodes reports = ArePaidRounds slots nodes (slots / 2) 0 reports
-
--- The text is that of a report of legal rounds that the bytes, read as a script, ask for, from an empty catalogue of
--- this layout: its one member has no names. The report is one of the grammar, so that its text tells it alone.
-pub record IsReportOf (layout : Layout) (bytes text : List ℕ) : Type 0 where
-  pub script : Script
-  pub reports : List RoundReport
-  pub accepted : IsAccepted layout.callers bytes script
-  pub played : ArePlayedRounds layout.slots layout.nodes empty ([] ∷ []) script.rounds reports
-  pub paid : ArePaidFromEmpty layout.slots layout.nodes reports
-  pub told : IsReportText text reports
 
 -- ---- generated rounds
 
@@ -146,35 +78,35 @@ pub record IsSummaryOf (seed count : ℕ) (text : List ℕ) : Type 0 where
 
 -- ---- source and sink
 
--- These are the bytes that the source has left, where it tells them.
-abbrev pub AreBytesLeft : Option (List ℕ) → List ℕ → Type 0
-AreBytesLeft left bytes = IfSome left (λ told. told ≡ bytes)
-
--- What is told of source and shelf: the bytes that the source had left, the files that there were, and how many calls
--- of each had failed before the run and after it.
+-- What is told of source and shelf: the bytes that the source had left, the files that there were and those that there
+-- are now, and how many calls of each had failed before the run and after it.
 pub record Seen : Type 0 where
   pub left : Option (List ℕ)
   pub files : Option FileMap
+  pub files' : Option FileMap
   pub reads : ℕ
   pub reads' : ℕ
   pub shelves : ℕ
   pub shelves' : ℕ
 
-abbrev pub seen : Option (List ℕ) → Option FileMap → (reads reads' shelves shelves' : ℕ) → Seen
-seen left files reads reads' shelves shelves' = record {
+abbrev pub seen : Option (List ℕ) → (files files' : Option FileMap) → (reads reads' shelves shelves' : ℕ) → Seen
+seen left files files' reads reads' shelves shelves' = record {
   left = left;
   files = files;
+  files' = files';
   reads = reads;
   reads' = reads';
   shelves = shelves;
   shelves' = shelves';
 }
 
--- The text that a command prints: the report of the script that the source had left, the summary of a generated round,
--- the line of a fresh image, or those of words of the file that there was.
+-- The text that a command prints: the report of the script that the source had left, played on an empty catalogue or on
+-- a file, which then has what those very rounds leave; the summary of a generated round; the line of a fresh image; or
+-- those of words of the file that there was.
 pub data Prints (words : List (List ℕ)) (told : Seen) (text : List ℕ) : Type 0 where
   reports : (layout : Layout) (bytes : List ℕ) → ReadsScript words layout → AreBytesLeft told.left bytes →
-      IsReportOf layout bytes text → Prints words told text
+      IsReportOf (empty_opening layout) bytes text → Prints words told text
+  runs : RunsScript words → IsRunOnFile told.left told.files told.files' (file_of words) text → Prints words told text
   sums_up : (seed count : ℕ) → Generates words seed count → IsSummaryOf seed count text → Prints words told text
   makes_file : (layout : Layout) → Formats words layout → HasNoFile told.files (file_of words) →
       text ≡ formatted_line layout → Prints words told text
@@ -210,18 +142,38 @@ LeavesSink words told status.NoMemory written written' =
 LeavesSink words told (status.Image refusal) written written' = Keeps written written'
 LeavesSink words told (status.NotBuilt verb) written written' = Keeps written written'
 
--- What the shelf has at each status: the file that the command makes where it is done or only its line could not be
--- written; where the shelf failed or memory ran out, that or what it had; and else what it had.
-abbrev pub LeavesShelf : List (List ℕ) → Status → Option FileMap → Option FileMap → Type 0
-LeavesShelf words status.Done files files' = LeavesFiles words files files'
-LeavesShelf words status.Usage files files' = KeepsFiles files files'
-LeavesShelf words (status.Script fault) files files' = KeepsFiles files files'
-LeavesShelf words status.Read files files' = KeepsFiles files files'
-LeavesShelf words status.Write files files' = LeavesFiles words files files'
-LeavesShelf words status.Shelf files files' = LeavesOldOrNew words files files'
-LeavesShelf words status.NoMemory files files' = LeavesOldOrNew words files files'
-LeavesShelf words (status.Image refusal) files files' = KeepsFiles files files'
-LeavesShelf words (status.NotBuilt verb) files files' = KeepsFiles files files'
+-- The file of this name is the image that a command with these words saves, and no other file changed.
+abbrev pub SavesFresh : List (List ℕ) → Option FileMap → Option FileMap → Type 0
+SavesFresh words files files' = (layout : Layout) × Formats words layout ×
+    SavesFile files files' (file_of words) (bytes_of (fresh_words layout))
+
+-- The file that the command names has what a run of the script leaves in it, and no other file changed.
+abbrev pub SavesRun : List (List ℕ) → Seen → Type 0
+SavesRun words told = RunsScript words × IsFileAfterRun told.left told.files told.files' (file_of words)
+
+-- What a command leaves that was done or whose text could not be written whole: a new file, the file of its run, or each
+-- file as it was.
+abbrev pub LeavesFiles : List (List ℕ) → Seen → Type 0
+LeavesFiles words told = SavesFresh words told.files told.files' ⊎ SavesRun words told ⊎
+    ((¬ FormatsSome words) × (¬ RunsScript words) × KeepsFiles told.files told.files')
+
+-- What one leaves that was ended on its way: each file as it was, or a new one or that of its run, whole.
+abbrev pub LeavesOldOrNew : List (List ℕ) → Seen → Type 0
+LeavesOldOrNew words told =
+    KeepsFiles told.files told.files' ⊎ SavesFresh words told.files told.files' ⊎ SavesRun words told
+
+-- What the shelf has at each status: the file that the command makes or changes where it is done or its text could not
+-- be written; where the shelf failed or memory ran out, that or what it had; and else what it had.
+abbrev pub LeavesShelf : List (List ℕ) → Seen → Status → Type 0
+LeavesShelf words told status.Done = LeavesFiles words told
+LeavesShelf words told status.Usage = KeepsFiles told.files told.files'
+LeavesShelf words told (status.Script fault) = KeepsFiles told.files told.files'
+LeavesShelf words told status.Read = KeepsFiles told.files told.files'
+LeavesShelf words told status.Write = LeavesFiles words told
+LeavesShelf words told status.Shelf = LeavesOldOrNew words told
+LeavesShelf words told status.NoMemory = LeavesOldOrNew words told
+LeavesShelf words told (status.Image refusal) = KeepsFiles told.files told.files'
+LeavesShelf words told (status.NotBuilt verb) = KeepsFiles told.files told.files'
 
 -- The status is that of a run that wrote nothing.
 abbrev pub WritesNothing : Status → Type 0
@@ -247,31 +199,35 @@ IsOfWords status.NoMemory = ⊥
 IsOfWords (status.Image refusal) = ⊥
 IsOfWords (status.NotBuilt verb) = IsCommandWord verb
 
--- The status comes only when the source was read to its end.
+-- The status comes only when the source was read to its end, where a script is read.
 abbrev pub IsAfterReading : Status → Type 0
 IsAfterReading status.Done = Unit {0}
 IsAfterReading status.Usage = ⊥
 IsAfterReading (status.Script fault) = fault ≡ Bytes → ⊥
 IsAfterReading status.Read = ⊥
 IsAfterReading status.Write = Unit {0}
-IsAfterReading status.Shelf = ⊥
+IsAfterReading status.Shelf = Unit {0}
 IsAfterReading status.NoMemory = ⊥
-IsAfterReading (status.Image refusal) = ⊥
+IsAfterReading (status.Image refusal) = Unit {0}
 IsAfterReading (status.NotBuilt verb) = IsCommandWord verb → ⊥
 
 -- ---- causes
 
--- Some command that reads a script has these words.
+-- Some command that plays a script on an empty catalogue has these words,
+abbrev pub PlaysScript : List (List ℕ) → Type 0
+PlaysScript words = (layout : Layout) × ReadsScript words layout
+
+-- or some command that reads a script.
 abbrev pub ReadsSome : List (List ℕ) → Type 0
-ReadsSome words = (layout : Layout) × ReadsScript words layout
+ReadsSome words = PlaysScript words ⊎ RunsScript words
 
 -- Some command that plays a generated round has these words.
 abbrev pub GeneratesSome : List (List ℕ) → Type 0
 GeneratesSome words = (seed count : ℕ) × Generates words seed count
 
--- Some command that plays rounds has these words.
+-- Some command that plays rounds in memory alone has these words.
 abbrev pub PlaysSome : List (List ℕ) → Type 0
-PlaysSome words = ReadsSome words ⊎ GeneratesSome words
+PlaysSome words = PlaysScript words ⊎ GeneratesSome words
 
 -- Some command that is built has these words.
 abbrev pub IsBuilt : List (List ℕ) → Type 0
@@ -285,34 +241,76 @@ IsRefusalOf callers left answer =
     ((bytes : List ℕ) × AreBytesLeft left bytes × IsRefusedBy callers bytes answer)
 
 -- A command that reads a script has these words, and the bytes that the source had left are refused so.
-abbrev pub IsScriptCause : List (List ℕ) → Option (List ℕ) → Status → Type 0
-IsScriptCause words left answer = (layout : Layout) × ReadsScript words layout × IsRefusalOf layout.callers left answer
+abbrev pub IsScriptCause : List (List ℕ) → Seen → Status → Type 0
+IsScriptCause words told answer =
+    ((layout : Layout) × ReadsScript words layout × IsRefusalOf layout.callers told.left answer) ⊎
+    (RunsScript words × IsRunRefusal told.left told.files (file_of words) answer)
+
+-- The words are those of a command that reads a file; of a run, the source had left a script.
+abbrev pub ReadsFile : List (List ℕ) → Option (List ℕ) → Type 0
+ReadsFile words left = ListsSome words ⊎ (RunsScript words × HasScript left)
+
+-- The words are those of a command on a file; a run comes to its file only with a script.
+abbrev pub ReachesFile : List (List ℕ) → Option (List ℕ) → Type 0
+ReachesFile words left = FormatsSome words ⊎ ReadsFile words left
+
+-- Why a file is refused: one to be made is there, one to be read isn't, its bytes are no image, with this fault, or one
+-- on which a script is to be run has a rule broken, this one first, or the last generation.
+abbrev pub IsFileCause : List (List ℕ) → Option (List ℕ) → Option FileMap → ImageRefusal → Type 0
+IsFileCause words left files image.Missing = ReadsFile words left × HasNoFile files (file_of words)
+IsFileCause words left files image.Exists = FormatsSome words × HasFile files (file_of words)
+IsFileCause words left files (image.Bytes fault) =
+    ReadsFile words left × ((bytes : List ℕ) × HasBytes files (file_of words) bytes × IsFault bytes fault)
+IsFileCause words left files (image.Damaged rule word) = (RunsScript words × HasScript left) ×
+    IsRunFileCause files (file_of words) (image.Damaged rule word)
+IsFileCause words left files image.Generations = (RunsScript words × HasScript left) ×
+    IsRunFileCause files (file_of words) image.Generations
+
+-- A run can be done on the file of this name with what the source had left: there is an image on which rounds can be
+-- played, and a script that fits its layout and is built.
+pub record CanBeRun (left : Option (List ℕ)) (files : Option FileMap) (name : List ℕ) : Type 0 where
+  pub bytes : List ℕ
+  pub source : AreBytesLeft left bytes
+  pub old : Row
+  pub had : HasImage files name old
+  pub openable : IsOpenable old
+  pub script : Script
+  pub accepted : IsAccepted old.layout.callers bytes script
+
+-- The file is one that the command can be done on: there is none yet, or it has the bytes of an image, or a run can be
+-- done on it.
+abbrev pub CanBeDone : List (List ℕ) → Option (List ℕ) → Option FileMap → Type 0
+CanBeDone words left files = (FormatsSome words × HasNoFile files (file_of words)) ⊎
+    (ListsSome words × ((bytes : List ℕ) × HasBytes files (file_of words) bytes × HasNoFault bytes)) ⊎
+    (RunsScript words × CanBeRun left files (file_of words))
 
 -- Why a run ended so. Of the sink it is told how many of its calls failed before it and after it.
 abbrev pub IsCauseOf : List (List ℕ) → Seen → (writes writes' : ℕ) → Status → Type 0
 IsCauseOf words told writes writes' status.Done = IsBuilt words
 IsCauseOf words told writes writes' status.Usage = (command : Command) → ¬ IsCommand words command
-IsCauseOf words told writes writes' (status.Script fault) = IsScriptCause words told.left (status.Script fault)
+IsCauseOf words told writes writes' (status.Script fault) = IsScriptCause words told (status.Script fault)
 IsCauseOf words told writes writes' status.Read = ReadsSome words × (told.reads < told.reads')
 IsCauseOf words told writes writes' status.Write = IsBuilt words × (writes < writes')
-IsCauseOf words told writes writes' status.Shelf = NamesFile words × (told.shelves < told.shelves')
+IsCauseOf words told writes writes' status.Shelf =
+    ReachesFile words told.left × (told.shelves < told.shelves')
 IsCauseOf words told writes writes' status.NoMemory = IsBuilt words
-IsCauseOf words told writes writes' (status.Image refusal) = IsFileCause words told.files refusal
+IsCauseOf words told writes writes' (status.Image refusal) = IsFileCause words told.left told.files refusal
 IsCauseOf words told writes writes' (status.NotBuilt verb) =
-    NamesCommand words verb ⊎ IsScriptCause words told.left (status.NotBuilt verb)
+    NamesCommand words verb ⊎ IsScriptCause words told (status.NotBuilt verb)
 
 -- Why a command has nothing to print.
 abbrev pub HasNoText : List (List ℕ) → Seen → Status → Type 0
 HasNoText words told status.Done = ⊥
 HasNoText words told status.Usage = (command : Command) → ¬ IsCommand words command
-HasNoText words told (status.Script fault) = IsScriptCause words told.left (status.Script fault)
+HasNoText words told (status.Script fault) = IsScriptCause words told (status.Script fault)
 HasNoText words told status.Read = ReadsSome words × (told.reads < told.reads')
 HasNoText words told status.Write = ⊥
-HasNoText words told status.Shelf = NamesFile words × (told.shelves < told.shelves')
+HasNoText words told status.Shelf =
+    ReachesFile words told.left × (told.shelves < told.shelves')
 HasNoText words told status.NoMemory = IsBuilt words
-HasNoText words told (status.Image refusal) = IsFileCause words told.files refusal
+HasNoText words told (status.Image refusal) = IsFileCause words told.left told.files refusal
 HasNoText words told (status.NotBuilt verb) =
-    NamesCommand words verb ⊎ IsScriptCause words told.left (status.NotBuilt verb)
+    NamesCommand words verb ⊎ IsScriptCause words told (status.NotBuilt verb)
 
 -- Why no report was made of what a source had left, on a layout of so many callers.
 abbrev pub HasNoReport : ℕ → Option (List ℕ) → (reads reads' : ℕ) → Status → Type 0
@@ -349,12 +347,30 @@ abbrev pub FinishesGenerated : List (List ℕ) → (writes writes' : ℕ) → St
 FinishesGenerated words writes writes' answer =
     GeneratesSome words → writes' ≡ writes → Comes answer status.Done
 
--- Where the shelf tells its files and no call of it fails, a file that is refused is told so.
+-- Where the source tells its bytes and no read of it fails, a run on a file answers as they are refused; and where they
+-- are refused for the file's layout, that is where the shelf tells its files and no call of it fails.
+pub record TellsRunRefusal (words : List (List ℕ)) (told : Seen) (answer : Status) : Type 0 where
+  pub no_script : (bytes : List ℕ) (fault : ScriptFault) → RunsScript words → told.left ≡ Some bytes →
+      told.reads' ≡ told.reads → IsNoScript (Some bytes) fault → Comes answer (status.Script fault)
+  pub on_file : (bytes : List ℕ) (files : FileMap) (wanted : Status) → RunsScript words → told.left ≡ Some bytes →
+      told.reads' ≡ told.reads → told.files ≡ Some files → told.shelves' ≡ told.shelves →
+      IsRefusedOnFile (Some bytes) (Some files) (file_of words) wanted → Comes answer wanted
+
+-- The source tells its bytes, and no read of it fails.
+pub record TellsSource (told : Seen) : Type 0 where
+  pub bytes : List ℕ
+  pub left : told.left ≡ Some bytes
+  pub reads : told.reads' ≡ told.reads
+
+-- Where the shelf tells its files and no call of it fails, and for a run so does the source, a file that is refused is
+-- told so.
 abbrev pub TellsFile : List (List ℕ) → Seen → Status → Type 0
 TellsFile words told answer = (files : FileMap) (refusal : ImageRefusal) → told.files ≡ Some files →
-    told.shelves' ≡ told.shelves → IsFileCause words (Some files) refusal → Comes answer (status.Image refusal)
+    told.shelves' ≡ told.shelves → (RunsScript words → TellsSource told) →
+    IsFileCause words told.left (Some files) refusal → Comes answer (status.Image refusal)
 
 -- Where besides no write fails, a command on a file on which it can be done is done.
 abbrev pub FinishesOnFile : List (List ℕ) → Seen → (writes writes' : ℕ) → Status → Type 0
 FinishesOnFile words told writes writes' answer = (files : FileMap) → told.files ≡ Some files →
-    told.shelves' ≡ told.shelves → writes' ≡ writes → CanBeDone words (Some files) → Comes answer status.Done
+    told.shelves' ≡ told.shelves → (RunsScript words → TellsSource told) → writes' ≡ writes →
+    CanBeDone words told.left (Some files) → Comes answer status.Done

@@ -3,6 +3,8 @@ pub mod Summaries
 pub mod Built
 pub mod Files
 pub mod Rounds
+pub mod Reports
+pub mod Runs
 pub mod Headline
 pub mod LoneCalls
 pub mod CoreMaps

@@ -1,5 +1,5 @@
 -- What a round of one caller comes to.
-use Rattle.std.specs.Prelude.{◌≡◌, ℕ, false, List, length, map, take}
+use Rattle.std.specs.Prelude.{◌≡◌, ℕ, ◌%◌, ◌<◌, false, List, [], ◌∷◌, length, map, take}
 use Rattle.std.specs.FinMap.{len}
 use Rattle.cat_history.specs.Maps.{Map}
 use Rattle.cat_history.specs.Writes.{after_all}
@@ -48,3 +48,17 @@ pub record IsPlayedSoFar (slots nodes : ℕ) (base : Map) (anchors : Anchors) (p
 abbrev pub StopsWithin : ℕ → ℕ → Map → Anchors → RoundPlan → Map → Anchors → Type 0
 StopsWithin slots nodes base anchors plan end shape =
     (count : ℕ) × (records : List Record) × IsPlayedSoFar slots nodes base anchors plan count records end shape
+
+-- Where the updater makes a turn behind each so many calls of a round, it makes one behind this many; none where 0.
+abbrev pub IsTurnDue : ℕ → ℕ → Type 0
+IsTurnDue turns calls = (0 < turns) × (calls % turns ≡ 0)
+
+-- A round with calls has a turn behind the last of them.
+abbrev pub EndsWithTurn : RoundPlan → Type 0
+EndsWithTurn plan = (0 < length plan.ops) × IsTurnDue plan.updater (length plan.ops)
+
+-- So has the last of these rounds.
+abbrev pub RoundsEndWithTurn : List RoundPlan → Type 0
+RoundsEndWithTurn [] = ⊥
+RoundsEndWithTurn (plan ∷ []) = EndsWithTurn plan
+RoundsEndWithTurn (plan ∷ next ∷ plans) = RoundsEndWithTurn (next ∷ plans)

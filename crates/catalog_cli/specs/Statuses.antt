@@ -12,10 +12,12 @@ use Rattle.cat_text.specs.declared.outside.shelf.SaveFault.TheVariants as save
 use Rattle.pm_words.specs.declared.bytes.ImageFault.{ImageFault}
 use Rattle.pm_words.specs.declared.bytes.ImageFault.TheVariants as fault
 use Rattle.pm_words.specs.declared.layout.Field.TheVariants as field
+use Rattle.recovery.specs.declared.opening.OpenFault.{OpenFault}
+use Rattle.recovery.specs.declared.opening.OpenFault.TheVariants as opening
 use Rattle.catalog_cli.specs.declared.status.ImageRefusal.{ImageRefusal}
 use Rattle.catalog_cli.specs.declared.status.ImageRefusal.TheVariants as image
 use Rattle.catalog_cli.specs.declared.status.Verb.{Verb}
-use Rattle.catalog_cli.specs.declared.status.Verb.TheVariants.{Run, Gen}
+use Rattle.catalog_cli.specs.declared.status.Verb.TheVariants.{Gen}
 use Rattle.catalog_cli.specs.declared.status.Verb.TheVariants.{Put, Get, Del, Scan, Crash}
 use Rattle.catalog_cli.specs.declared.status.Status.{Status}
 use Rattle.catalog_cli.specs.declared.status.Status.TheVariants.{Done, Usage, Script, Read, Write, Shelf, NoMemory, Image, NotBuilt}
@@ -34,7 +36,6 @@ code_of (NotBuilt verb) = 9
 
 -- The word of a command or a line that isn't built yet.
 abbrev pub verb_text : Verb → List ℕ
-verb_text Run = codes "run"
 verb_text Gen = codes "gen"
 verb_text Put = codes "put"
 verb_text Get = codes "get"
@@ -62,6 +63,8 @@ abbrev pub refusal_text : ImageRefusal → List ℕ
 refusal_text image.Missing = codes "missing"
 refusal_text image.Exists = codes "exists"
 refusal_text (image.Bytes fault) = image_fault_text fault
+refusal_text (image.Damaged rule word) = codes "rule " ++ decimal rule ++ codes " at word " ++ decimal word
+refusal_text image.Generations = codes "generations"
 
 -- What is told of a status.
 abbrev pub status_text : Status → List ℕ
@@ -98,6 +101,12 @@ status_of_load load.NoMemory = NoMemory
 abbrev pub status_of_save : SaveFault → Status
 status_of_save save.Failed = Shelf
 status_of_save save.NoMemory = NoMemory
+
+-- What an image comes to that isn't opened.
+abbrev pub status_of_open : OpenFault → Status
+status_of_open (opening.Damaged rule word) = Image (image.Damaged rule word)
+status_of_open opening.Generations = Image image.Generations
+status_of_open opening.NoMemory = NoMemory
 
 -- What bytes come to that are no image.
 abbrev pub status_of_bytes : ImageFault → Status

@@ -13,9 +13,9 @@ pub(crate) fn unbuilt_command(command: &Command) -> Option<Verb>
     ensures { result ≡ unbuilt_command command.now }
 {
     match command {
-        Command::Run => Some(Verb::Run),
         Command::Gen { callers, .. } => (*callers != 1).then_some(Verb::Gen),
-        Command::Format { .. } | Command::Play { .. } | Command::Words { .. } => None,
+        Command::Format { .. } | Command::Run | Command::Play { .. } | Command::Words { .. } =>
+            None,
     }
 }
 

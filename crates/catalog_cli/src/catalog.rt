@@ -1,30 +1,31 @@
 //! The top call: from the words of a command and the bytes of a script to the bytes of a report.
 
-ghost use Rattle.std.specs.Prelude.{◌≡◌, ◌+◌, ◌≤◌, ◌↔◌, ℕ, List, [], Some, None, Err};
-ghost use Rattle.std.specs.Prelude.{IfOk, IfErr, OnOk, IfSome, length, map};
-ghost use Rattle.std.specs.Io.KnownBytes.{Keeps};
+ghost use Rattle.std.specs.Prelude.{◌≡◌, ◌+◌, ◌≤◌, ◌↔◌, ℕ, List, [], Some, None, IfErr, IfOk, IfSome, OnOk, map};
 ghost use Rattle.std.specs.String.{string_bytes};
 ghost use Rattle.cat_command.specs.Commands.{IsCommand};
 ghost use Rattle.cat_command.specs.declared.command.Command.{Command};
 ghost use Rattle.cat_text.specs.Outside.{ConsumesAtMost};
-ghost use Rattle.catalog_cli.specs.Files.{LeavesFiles};
-ghost use Rattle.catalog_cli.specs.Headline.{AreBytesLeft, FinishesAccepted, FinishesGenerated, FinishesOnFile};
-ghost use Rattle.catalog_cli.specs.Headline.{HasNoReport, HasNoText, IsAccepted, IsAfterReading, IsCauseOf, IsOfWords};
-ghost use Rattle.catalog_cli.specs.Headline.{IsReportOf, LeavesShelf, LeavesSink, NamesCommand, PlaysSome, Prints};
-ghost use Rattle.catalog_cli.specs.Headline.{ReadsSome, TellsFile, TellsRefusal, WritesNothing, seen};
 ghost use Rattle.catalog_cli.specs.Built.{IsCommandWord, unbuilt_command};
-ghost use Rattle.catalog_cli.specs.Refused.{IsOfNoCommand, IsRefusedText};
-ghost use Rattle.pm_words.specs.Layouts.{IsLayout};
+ghost use Rattle.catalog_cli.specs.Headline.{FinishesAccepted, FinishesGenerated, FinishesOnFile, HasNoReport};
+ghost use Rattle.catalog_cli.specs.Headline.{HasNoText, IsAfterReading, IsCauseOf, IsOfWords, LeavesFiles, LeavesShelf};
+ghost use Rattle.catalog_cli.specs.Headline.{LeavesSink, NamesCommand, PlaysSome, Prints, ReadsSome, TellsFile};
+ghost use Rattle.catalog_cli.specs.Headline.{TellsRefusal, TellsRunRefusal, WritesNothing, seen};
+ghost use Rattle.catalog_cli.specs.Refused.{IsOfNoCommand};
+ghost use Rattle.catalog_cli.specs.Reports.{IsReportOf, empty_opening};
+ghost use Rattle.catalog_cli.specs.Runs.{AreBytesLeft};
 ghost use Rattle.catalog_cli.specs.declared.status.Status.{Status};
 ghost use Rattle.catalog_cli.specs.declared.status.Verb.{Verb};
+ghost use Rattle.pm_words.specs.Layouts.{IsLayout};
 
-use crate::built::{first_unbuilt, unbuilt_command};
+use crate::built::unbuilt_command;
 use crate::files::{file_of, format_file, list_words};
 use crate::generated::play_generated;
 use crate::play::play;
+use crate::reading::read_accepted;
+use crate::run_file::run_file;
 use crate::status::Status;
 use cat_command::{Command, read_command};
-use cat_script::{MOST_BYTES, Script, fits, read_script};
+use cat_script::MOST_BYTES;
 use cat_text::{Shelf, Sink, Source, WriteFault, print_report, read_whole, write_whole};
 use pm_words::Layout;
 use std::alloc::Global;
@@ -33,12 +34,16 @@ use std::alloc::Global;
 ///
 /// - `play NODES SLOTS CALLERS` plays the script that the source gives, from an empty catalogue of that layout, and
 ///   writes its report. The script is read to its end and looked through before anything is played.
+/// - `run FILE` plays the script that the source gives on the catalogue in a file of the shelf. The image that its rounds
+///   leave is saved under the same name, once and whole, and then the report is written. The script is read to its end
+///   before the file is loaded, and it is looked through once the file is known to be a sound image.
 /// - `gen SEED COUNT 1` plays calls that the seed makes, and writes a line that sums them up.
 /// - `format FILE NODES SLOTS CALLERS` saves the image of an empty catalogue of that layout on the shelf, under a name
 ///   that has no file yet, and writes a line that tells of it.
 /// - `words FILE FROM COUNT` writes the words of an image on the shelf that have these numbers, a line each.
 ///
-/// Only `play` reads. What is written is made whole before its first byte is written, and a file is saved before that.
+/// Only `play` and `run` read. What is written is made whole before its first byte is written, and a file is saved before
+/// that.
 pub fn catalog<S: Source, K: Sink, H: Shelf>(
     alloc: Global,
     words: &[String],
@@ -46,39 +51,45 @@ pub fn catalog<S: Source, K: Sink, H: Shelf>(
     out: &mut K,
     shelf: &mut H,
 ) -> Status
-    // What was written: the text of a report of the grammar, that of the script, each of whose rounds is legal; or the
-    // summary of a legal round of the generated calls; or the line of a fresh image; or the words of a file; or a
-    // beginning of one of these; or nothing.
+    // What was written: the text of a report of the grammar, that of the script, each of whose rounds is legal, and for
+    // a run on a file the very rounds that the file has now; or the summary of a legal round of the generated calls; or
+    // the line of a fresh image; or the words of a file; or a beginning of one of these; or nothing.
     ensures sink { LeavesSink (map string_bytes words.now)
-        (seen (S.left script.old) (H.files shelf.old) (S.faults script.old) (S.faults script.new) (H.faults shelf.old)
-        (H.faults shelf.new)) result (K.written out.old) (K.written out.new) }
+        (seen (S.left script.old) (H.files shelf.old) (H.files shelf.new) (S.faults script.old) (S.faults script.new)
+        (H.faults shelf.old) (H.faults shelf.new)) result (K.written out.old) (K.written out.new) }
     ensures nothing_written { WritesNothing result → out.new ≡ out.old }
 
-    // What the shelf has then: a new file of a fresh image, or what it had. No other file ever changes.
-    ensures files { LeavesShelf (map string_bytes words.now) result (H.files shelf.old) (H.files shelf.new) }
+    // What the shelf has then: a new file of a fresh image, a file with the image that a run on it left, or what it had.
+    // No other file ever changes.
+    ensures files { LeavesShelf (map string_bytes words.now)
+        (seen (S.left script.old) (H.files shelf.old) (H.files shelf.new) (S.faults script.old) (S.faults script.new)
+        (H.faults shelf.old) (H.faults shelf.new)) result }
     ensures no_file { PlaysSome (map string_bytes words.now) → shelf.new ≡ shelf.old }
 
     // Each status has its cause, and comes where that is given, unless memory runs out.
     ensures cause { IsCauseOf (map string_bytes words.now)
-        (seen (S.left script.old) (H.files shelf.old) (S.faults script.old) (S.faults script.new) (H.faults shelf.old)
-        (H.faults shelf.new)) (K.faults out.old) (K.faults out.new) result }
+        (seen (S.left script.old) (H.files shelf.old) (H.files shelf.new) (S.faults script.old) (S.faults script.new)
+        (H.faults shelf.old) (H.faults shelf.new)) (K.faults out.old) (K.faults out.new) result }
     ensures usage { result ≡ Status.Usage ↔
         ((command : Command) → ¬ IsCommand (map string_bytes words.now) command) }
     ensures unbuilt_command { (verb : Verb) → IsCommandWord verb →
         (result ≡ Status.NotBuilt verb) ↔ NamesCommand (map string_bytes words.now) verb }
     ensures refused { TellsRefusal (map string_bytes words.now)
-        (seen (S.left script.old) (H.files shelf.old) (S.faults script.old) (S.faults script.new) (H.faults shelf.old)
-        (H.faults shelf.new)) result }
+        (seen (S.left script.old) (H.files shelf.old) (H.files shelf.new) (S.faults script.old) (S.faults script.new)
+        (H.faults shelf.old) (H.faults shelf.new)) result }
     ensures accepted { FinishesAccepted (map string_bytes words.now)
-        (seen (S.left script.old) (H.files shelf.old) (S.faults script.old) (S.faults script.new) (H.faults shelf.old)
-        (H.faults shelf.new)) (K.faults out.old) (K.faults out.new) result }
+        (seen (S.left script.old) (H.files shelf.old) (H.files shelf.new) (S.faults script.old) (S.faults script.new)
+        (H.faults shelf.old) (H.faults shelf.new)) (K.faults out.old) (K.faults out.new) result }
+    ensures run_refused { TellsRunRefusal (map string_bytes words.now)
+        (seen (S.left script.old) (H.files shelf.old) (H.files shelf.new) (S.faults script.old) (S.faults script.new)
+        (H.faults shelf.old) (H.faults shelf.new)) result }
     ensures generated { FinishesGenerated (map string_bytes words.now) (K.faults out.old) (K.faults out.new) result }
     ensures file_refused { TellsFile (map string_bytes words.now)
-        (seen (S.left script.old) (H.files shelf.old) (S.faults script.old) (S.faults script.new) (H.faults shelf.old)
-        (H.faults shelf.new)) result }
+        (seen (S.left script.old) (H.files shelf.old) (H.files shelf.new) (S.faults script.old) (S.faults script.new)
+        (H.faults shelf.old) (H.faults shelf.new)) result }
     ensures file_done { FinishesOnFile (map string_bytes words.now)
-        (seen (S.left script.old) (H.files shelf.old) (S.faults script.old) (S.faults script.new) (H.faults shelf.old)
-        (H.faults shelf.new)) (K.faults out.old) (K.faults out.new) result }
+        (seen (S.left script.old) (H.files shelf.old) (H.files shelf.new) (S.faults script.old) (S.faults script.new)
+        (H.faults shelf.old) (H.faults shelf.new)) (K.faults out.old) (K.faults out.new) result }
 
     // What was read: all of a script, and never more than tells that it is too long; nothing for words alone and for
     // other commands.
@@ -103,14 +114,16 @@ fn run_command<S: Source, K: Sink, H: Shelf>(
     shelf: &mut H,
 ) -> Status
     ensures sink { LeavesSink (map string_bytes words.now)
-        (seen (S.left script.old) (H.files shelf.old) (S.faults script.old) (S.faults script.new) (H.faults shelf.old)
-        (H.faults shelf.new)) result (K.written out.old) (K.written out.new) }
+        (seen (S.left script.old) (H.files shelf.old) (H.files shelf.new) (S.faults script.old) (S.faults script.new)
+        (H.faults shelf.old) (H.faults shelf.new)) result (K.written out.old) (K.written out.new) }
     ensures nothing_written { WritesNothing result → out.new ≡ out.old }
-    ensures files { LeavesShelf (map string_bytes words.now) result (H.files shelf.old) (H.files shelf.new) }
+    ensures files { LeavesShelf (map string_bytes words.now)
+        (seen (S.left script.old) (H.files shelf.old) (H.files shelf.new) (S.faults script.old) (S.faults script.new)
+        (H.faults shelf.old) (H.faults shelf.new)) result }
     ensures no_file { PlaysSome (map string_bytes words.now) → shelf.new ≡ shelf.old }
     ensures cause { IsCauseOf (map string_bytes words.now)
-        (seen (S.left script.old) (H.files shelf.old) (S.faults script.old) (S.faults script.new) (H.faults shelf.old)
-        (H.faults shelf.new)) (K.faults out.old) (K.faults out.new) result }
+        (seen (S.left script.old) (H.files shelf.old) (H.files shelf.new) (S.faults script.old) (S.faults script.new)
+        (H.faults shelf.old) (H.faults shelf.new)) (K.faults out.old) (K.faults out.new) result }
     ensures nothing_read { IsOfWords result → script.new ≡ script.old }
     ensures reads_no_script { (¬ ReadsSome (map string_bytes words.now)) → script.new ≡ script.old }
     ensures read_to_end { ReadsSome (map string_bytes words.now) → IsAfterReading result →
@@ -138,14 +151,17 @@ fn text_of<S: Source, H: Shelf>(
     shelf: &mut H,
 ) -> Result<Vec<u8>, Status>
     ensures prints { IfOk result (λ text. Prints (map string_bytes words.now)
-        (seen (S.left script.old) (H.files shelf.old) (S.faults script.old) (S.faults script.new) (H.faults shelf.old)
-        (H.faults shelf.new)) text.items) }
+        (seen (S.left script.old) (H.files shelf.old) (H.files shelf.new) (S.faults script.old) (S.faults script.new)
+        (H.faults shelf.old) (H.faults shelf.new)) text.items) }
     ensures cause { IfErr result (HasNoText (map string_bytes words.now)
-        (seen (S.left script.old) (H.files shelf.old) (S.faults script.old) (S.faults script.new) (H.faults shelf.old)
-        (H.faults shelf.new))) }
-    ensures files { OnOk result (LeavesFiles (map string_bytes words.now) (H.files shelf.old) (H.files shelf.new)) }
-    ensures files_then { IfErr result (λ status. LeavesShelf (map string_bytes words.now) status (H.files shelf.old)
-        (H.files shelf.new)) }
+        (seen (S.left script.old) (H.files shelf.old) (H.files shelf.new) (S.faults script.old) (S.faults script.new)
+        (H.faults shelf.old) (H.faults shelf.new))) }
+    ensures files { OnOk result (LeavesFiles (map string_bytes words.now)
+        (seen (S.left script.old) (H.files shelf.old) (H.files shelf.new) (S.faults script.old) (S.faults script.new)
+        (H.faults shelf.old) (H.faults shelf.new))) }
+    ensures files_then { IfErr result (LeavesShelf (map string_bytes words.now)
+        (seen (S.left script.old) (H.files shelf.old) (H.files shelf.new) (S.faults script.old) (S.faults script.new)
+        (H.faults shelf.old) (H.faults shelf.new))) }
     ensures no_file { PlaysSome (map string_bytes words.now) → shelf.new ≡ shelf.old }
     ensures nothing_read { IfErr result (λ status. IsOfWords status → script.new ≡ script.old) }
     ensures reads_no_script { (¬ ReadsSome (map string_bytes words.now)) → script.new ≡ script.old }
@@ -165,7 +181,7 @@ fn text_of<S: Source, H: Shelf>(
         }
         Command::Format { layout } => format_file(alloc, shelf, file_of(words), layout),
         Command::Words { from, count } => list_words(alloc, shelf, file_of(words), from, count),
-        Command::Run => unreachable!(),
+        Command::Run => run_file(alloc, script, shelf, file_of(words)),
     }
 }
 
@@ -186,7 +202,7 @@ fn asked_command(words: &[String]) -> Result<Command, Status>
 fn report_of<S: Source>(alloc: Global, layout: Layout, script: &mut S) -> Result<Vec<u8>, Status>
     requires layout { IsLayout layout }
     ensures report { IfOk result (λ text. (bytes : List ℕ) × AreBytesLeft (S.left script.old) bytes ×
-        IsReportOf layout bytes text.items) }
+        IsReportOf (empty_opening layout) bytes text.items) }
     ensures read_to_end { OnOk result (IfSome (S.left script.old) (λ _. S.left script.new ≡ Some [])) }
     ensures read_before_refusal { IfErr result (λ status. IsAfterReading status →
         IfSome (S.left script.old) (λ _. S.left script.new ≡ Some [])) }
@@ -200,17 +216,4 @@ fn report_of<S: Source>(alloc: Global, layout: Layout, script: &mut S) -> Result
     let report = play(alloc, &layout, &script)?;
     let text = print_report(alloc, &report)?;
     Ok(text)
-}
-
-/// Reads a text as a script that fits a layout and of which each line is built.
-fn read_accepted(alloc: Global, layout: Layout, bytes: &[u8]) -> Result<Script, Status>
-    ensures accepted { IfOk result (IsAccepted layout.callers bytes.now) }
-    ensures refused { IfErr result (IsRefusedText layout.callers bytes.now) }
-{
-    let script = read_script(alloc, bytes)?;
-    fits(&script, layout)?;
-    match first_unbuilt(script.lines.as_slice()) {
-        Some(verb) => Err(Status::NotBuilt(verb)),
-        None => Ok(script),
-    }
 }

@@ -1,6 +1,7 @@
 //! The core of the index as a map of names: each call is a whole call of one caller, with no other in flight.
 
 ghost use Rattle.std.specs.Prelude.{◌≡◌, ◌+◌, ◌/◌, ◌^◌, ◌<◌, ◌≤◌, ◌↔◌, [], ◌∷◌, IfOk, OnOk, OnErr, IsErr};
+ghost use Rattle.std.specs.Prelude.{MatchResult};
 ghost use Rattle.std.specs.FinMap.{empty};
 ghost use Rattle.cat_history.specs.Maps.{at};
 ghost use Rattle.cat_history.specs.Records.{as_op, change_of};
@@ -16,7 +17,9 @@ ghost use Rattle.index_core.specs.Lone.{IsQuiet};
 ghost use Rattle.index_law.specs.Anchors.{anchors_in};
 ghost use Rattle.shapes.specs.Anchors.{next_of};
 ghost use Rattle.shapes.specs.ShapeRounds.{PutsFull};
-ghost use Rattle.catalog_cli.specs.CoreMaps.{IsUnlimited, anchors_made, calls_left_of, writes_left_of};
+ghost use Rattle.recovery.specs.Opened.{IsOpenFault};
+ghost use Rattle.catalog_cli.specs.CoreMaps.{IsImageOf, IsNextRun, IsOfRun, IsOpenedMap, IsUnlimited};
+ghost use Rattle.catalog_cli.specs.CoreMaps.{anchors_made, calls_left_of, writes_left_of};
 
 use crate::updated_map::UpdatedMap;
 use call_stages::Once;
@@ -24,10 +27,11 @@ use cat_history::{Listed, NoMemory};
 use cat_key::Name;
 use index_core::{Core, CoreCall, listed_pairs};
 use node_ops::PartWords;
-use pm_words::{Layout, Steps};
+use pm_words::{Image, Layout, Steps};
+use recovery::{OpenFault, recover};
 use shapes::{Full, MapPart, NameMap};
 use std::alloc::Global;
-use std::marker::Model;
+use std::marker::{Brand, Model, PhantomData};
 use std::sync::ledger::Ledger;
 
 /// The caller that makes the calls.
@@ -36,36 +40,54 @@ const CALLER: u64 = 0;
 /// The clock at which writes are refused. No run comes as far.
 const LIMIT: u64 = 1 << 62;
 
+/// The layout and the generation of a run of the index, for proofs alone: no call changes them.
+pub trait RunOf {
+    ghost use Rattle.std.specs.Prelude.{ℕ};
+    ghost use Rattle.pm_words.specs.declared.layout.Layout.{Layout};
+
+    ghost layout: { Layout };
+
+    ghost generation: { ℕ };
+}
+
+impl RunOf for Brand {
+    ghost layout = { record { nodes = 1; slots = 4; callers = 1 } };
+
+    ghost generation = { 1 };
+}
+
 /// The index as a map of names. Contracts see it as its index.
 #[derive(Drop)]
-pub struct CoreMap<L: Ledger> {
+pub struct CoreMap<L: Ledger, K: RunOf> {
     core: Core,
     /// How many names the map has.
     names: u64,
     steps: Steps<L>,
+    run: PhantomData<K>,
 }
 
-impl<L: Ledger> Model for CoreMap<L> {
+impl<L: Ledger, K: RunOf> Model for CoreMap<L, K> {
     ghost use Rattle.index_core.specs.Indexes.{Index};
-    ghost use Rattle.catalog_cli.specs.CoreMaps.{IsCoreMap};
+    ghost use Rattle.catalog_cli.specs.CoreMaps.{IsCoreMap, IsOfRun};
 
     ghost Value = { Index };
 
     ghost view = { λ m. m.core };
 
-    ghost invariant = { λ m. IsCoreMap m.core m.names };
+    ghost invariant = { λ m. IsCoreMap m.core m.names × IsOfRun K.layout K.generation m.core };
 }
 
-impl<L: Ledger> CoreMap<L> {
+impl<L: Ledger, K: RunOf> CoreMap<L, K> {
     /// A map without names, that can have so many puts and removals.
     pub fn new(
         alloc: Global,
         layout: Layout,
         writes: u64,
         steps: Steps<L>,
-    ) -> Result<CoreMap<L>, NoMemory>
+    ) -> Result<CoreMap<L, K>, NoMemory>
         requires layout { IsLayout layout }
         requires writes { writes ≤ 2 ^ 62 }
+        requires run { (K.layout ≡ layout) × (K.generation ≡ 1) }
         ensures empty { IfOk result (λ map. map_of_index map ≡ empty) }
         ensures anchors { IfOk result (λ map. anchors_in (world map) ≡ [] ∷ []) }
         ensures slots { IfOk result (λ map. map.layout.slots ≡ layout.slots) }
@@ -79,11 +101,42 @@ impl<L: Ledger> CoreMap<L> {
             core,
             names: 0,
             steps,
+            run: PhantomData,
         })
+    }
+
+    /// The map that an image keeps, that can have so many puts and removals. It is that of the image's next generation.
+    pub fn opened(
+        alloc: Global,
+        image: Image,
+        writes: u64,
+        steps: Steps<L>,
+    ) -> Result<CoreMap<L, K>, OpenFault>
+        requires writes { writes ≤ 2 ^ 62 }
+        requires run { IsNextRun image K.layout K.generation }
+        ensures opened { MatchResult result (IsOpenedMap image writes) (IsOpenFault image) }
+    {
+        let mut core = recover(alloc, image)?;
+        core.reserve(writes)?;
+        let names = core.base().as_slice().len() as u64;
+        Ok(CoreMap {
+            core,
+            names,
+            steps,
+            run: PhantomData,
+        })
+    }
+
+    /// The image of the index as it is.
+    pub fn image(&self, alloc: Global) -> Result<Image, NoMemory>
+        ensures image { IfOk result (IsImageOf self.now) }
+        ensures run { IsOfRun K.layout K.generation self.now }
+    {
+        self.core.image(alloc)
     }
 }
 
-impl<L: Ledger> NameMap for CoreMap<L> {
+impl<L: Ledger, K: RunOf> NameMap for CoreMap<L, K> {
     ghost use Rattle.index_core.specs.Indexes.{map_of_index, world};
     ghost use Rattle.index_law.specs.Anchors.{anchors_in};
     ghost use Rattle.catalog_cli.specs.CoreMaps.{calls_left_of, writes_left_of};
@@ -158,7 +211,11 @@ impl<L: Ledger> NameMap for CoreMap<L> {
 /// The stamp that turns of the updater give to merged nodes, and the greatest that they release.
 const STAMP: u64 = 1;
 
-impl<L: Ledger> UpdatedMap for CoreMap<L> {
+impl<L: Ledger, K: RunOf> UpdatedMap for CoreMap<L, K> {
+    ghost use Rattle.catalog_cli.specs.CoreMaps.{HasNoLines};
+
+    ghost is_settled = { HasNoLines };
+
     fn turn(&mut self) {
         let updater = self.core.layout().callers();
         self.core.turn_alone(updater, STAMP, STAMP, &mut self.steps);
@@ -186,6 +243,7 @@ fn call_alone<L: Ledger>(
     ensures err { OnErr result (map_of_index core.new ≡ map_of_index core.old) }
     ensures err_anchors { OnErr result (anchors_in (world core.new) ≡ anchors_in (world core.old)) }
     ensures layout { core.new.layout ≡ core.old.layout }
+    ensures generation { core.new.generation ≡ core.old.generation }
     ensures calls_left { calls_left_of core.old ≤ calls_left_of core.new + 1 }
     ensures writes_left { writes_left_of core.old ≤ writes_left_of core.new + most_writes call }
     ensures quiet { IsQuiet core.new }
@@ -212,6 +270,7 @@ fn list_alone<L: Ledger>(core: &mut Core, low: &Name, count: u64, steps: &mut St
     ensures map { map_of_index core.new ≡ map_of_index core.old }
     ensures anchors { anchors_in (world core.new) ≡ anchors_in (world core.old) }
     ensures layout { core.new.layout ≡ core.old.layout }
+    ensures generation { core.new.generation ≡ core.old.generation }
     ensures calls_left { calls_left_of core.old ≤ calls_left_of core.new + 1 }
     ensures writes_left { writes_left_of core.old ≤ writes_left_of core.new }
     ensures quiet { IsQuiet core.new }

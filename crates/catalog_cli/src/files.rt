@@ -1,13 +1,13 @@
 //! The commands on files: a fresh image, and the words of one.
 
-ghost use Rattle.std.specs.Prelude.{◌≡◌, ◌≤◌, ℕ, List, IfErr, IfOk, map};
+ghost use Rattle.std.specs.Prelude.{◌≡◌, ◌≤◌, ℕ, List, IfErr, IfOk, OnOk, map};
 ghost use Rattle.std.specs.String.{string_bytes};
 ghost use Rattle.cat_text.specs.Shelves.{KeepsFiles, SavesFile};
 ghost use Rattle.pm_words.specs.Bytes.{bytes_of, words_in, HasNoFault};
 ghost use Rattle.pm_words.specs.Images.{fresh_words};
 ghost use Rattle.pm_words.specs.Layouts.{IsLayout};
-ghost use Rattle.catalog_cli.specs.Files.{HasBytes, HasNoFile, IsFormatRefused, IsListRefused};
-ghost use Rattle.catalog_cli.specs.Files.{file_of, formatted_line, lines_told};
+ghost use Rattle.catalog_cli.specs.Files.{HasBytes, HasNoFile, IsFormatRefused, IsLoadRefused};
+ghost use Rattle.catalog_cli.specs.Files.{HasImage, IsSaveRefused, SavesImage, file_of, formatted_line, lines_told};
 
 use crate::status::{ImageRefusal, Status};
 use cat_text::{Shelf, add_word};
@@ -59,7 +59,24 @@ pub(crate) fn list_words<H: Shelf>(
 ) -> Result<Vec<u8>, Status>
     ensures lines { IfOk result (λ text. (bytes : List ℕ) × HasBytes (H.files shelf.old) name.now bytes ×
         HasNoFault bytes × (text.items ≡ lines_told from count (words_in bytes))) }
-    ensures refused { IfErr result (IsListRefused (H.files shelf.old) (H.faults shelf.old) (H.faults shelf.new)
+    ensures refused { IfErr result (IsLoadRefused (H.files shelf.old) (H.faults shelf.old) (H.faults shelf.new)
+        name.now) }
+    ensures keeps { KeepsFiles (H.files shelf.old) (H.files shelf.new) }
+    ensures never_falls { H.faults shelf.old ≤ H.faults shelf.new }
+{
+    let image = load_image(alloc, shelf, name)?;
+    let text = print_words(alloc, &image, from, count)?;
+    Ok(text)
+}
+
+/// The image in the file of this name.
+pub(crate) fn load_image<H: Shelf>(
+    alloc: Global,
+    shelf: &mut H,
+    name: &str,
+) -> Result<Image, Status>
+    ensures image { IfOk result (HasImage (H.files shelf.old) name.now) }
+    ensures refused { IfErr result (IsLoadRefused (H.files shelf.old) (H.faults shelf.old) (H.faults shelf.new)
         name.now) }
     ensures keeps { KeepsFiles (H.files shelf.old) (H.files shelf.new) }
     ensures never_falls { H.faults shelf.old ≤ H.faults shelf.new }
@@ -68,8 +85,24 @@ pub(crate) fn list_words<H: Shelf>(
         return Err(Status::Image(ImageRefusal::Missing));
     };
     let image = Image::read(alloc, &bytes)?;
-    let text = print_words(alloc, &image, from, count)?;
-    Ok(text)
+    Ok(image)
+}
+
+/// Makes this image the file of this name. The error is a shelf fault, or that there is no memory.
+pub(crate) fn save_image<H: Shelf>(
+    alloc: Global,
+    shelf: &mut H,
+    name: &str,
+    image: &Image,
+) -> Result<(), Status>
+    ensures saved { OnOk result (SavesImage (H.files shelf.old) (H.files shelf.new) name.now image.now) }
+    ensures refused { IfErr result (IsSaveRefused (H.files shelf.old) (H.files shelf.new) (H.faults shelf.old)
+        (H.faults shelf.new) name.now image.now) }
+    ensures never_falls { H.faults shelf.old ≤ H.faults shelf.new }
+{
+    let bytes = image.write(alloc)?;
+    shelf.save(name, &bytes)?;
+    Ok(())
 }
 
 /// The line that tells of a fresh image.

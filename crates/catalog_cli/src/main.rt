@@ -7,7 +7,9 @@ mod core_map;
 mod files;
 mod generated;
 mod play;
+mod reading;
 mod round;
+mod run_file;
 mod status;
 mod summary;
 #[cfg(test)]
@@ -24,6 +26,7 @@ use std::{env, io};
 /// What is built of the forms of the command line.
 const BUILT: &str = "\
     built so far: catalog play NODES SLOTS CALLERS, which reads a script on standard input,\n\
+    catalog run FILE, which plays one on a file and saves it,\n\
     catalog gen SEED COUNT 1, which plays COUNT calls that are made from SEED and sums them up,\n\
     catalog format FILE NODES SLOTS CALLERS, which makes a file of an empty catalogue,\n\
     and catalog words FILE FROM COUNT, which prints COUNT words of one from number FROM on\n\

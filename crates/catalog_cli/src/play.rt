@@ -6,10 +6,11 @@ ghost use Rattle.cat_script.specs.Scripts.{IsScript};
 ghost use Rattle.pm_words.specs.Layouts.{IsLayout};
 ghost use Rattle.cat_text.specs.ReportGrammar.{IsReport, IsReportRound};
 ghost use Rattle.catalog_cli.specs.Built.{first_unbuilt};
-ghost use Rattle.catalog_cli.specs.Headline.{ArePaidFromEmpty, ArePlayedRounds};
+ghost use Rattle.catalog_cli.specs.Reports.{ArePaidFromEmpty, ArePlayedRounds, map_end, shape_end};
+ghost use Rattle.catalog_cli.specs.Rounds.{RoundsEndWithTurn};
 ghost use Rattle.catalog_cli.specs.LoneCalls.{AreLoneCalls, AreReportCalls, calls_in};
 
-use crate::core_map::CoreMap;
+use crate::core_map::{CoreMap, RunOf};
 use crate::round::run_lone_round;
 use crate::updated_map::UpdatedMap;
 use cat_history::{NoMemory, RoundPlan};
@@ -46,11 +47,11 @@ pub(crate) fn play_plans(
     ensures paid { IfOk result (ArePaidFromEmpty layout.now.slots layout.now.nodes) }
     ensures report { IfOk result (All IsReportRound) }
 {
-    play_on_core::<Brand>(alloc, layout, plans, Blank::new(1))
+    play_on_core::<Brand, Brand>(alloc, layout, plans, Blank::new(1))
 }
 
 /// The same, with a ledger for the steps of the calls, which nobody reads.
-fn play_on_core<L: Ledger>(
+fn play_on_core<L: Ledger, K: RunOf>(
     alloc: Global,
     layout: &Layout,
     plans: &[RoundPlan],
@@ -62,17 +63,18 @@ fn play_on_core<L: Ledger>(
     requires calls { calls_in plans.now ≤ 100000 }
     requires name { blank.name ≡ L.name }
     requires parts { (blank.parts ≡ L.parts) × (0 < L.parts) }
+    requires run { (K.layout ≡ layout.now) × (K.generation ≡ 1) }
     ensures played { IfOk result (ArePlayedRounds layout.now.slots layout.now.nodes empty ([] ∷ []) plans.now) }
     ensures report { IfOk result (All IsReportRound) }
 {
     let (book, share) = blank.open::<L>();
     let steps = Steps::new(book, share);
-    let mut map = CoreMap::new(alloc, *layout, calls_in(plans), steps)?;
+    let mut map = CoreMap::<L, K>::new(alloc, *layout, calls_in(plans), steps)?;
     play_rounds(alloc, &mut map, plans)
 }
 
 /// Plays the rounds, one after another, on a map that has calls left for all of them.
-fn play_rounds<M: UpdatedMap>(
+pub(crate) fn play_rounds<M: UpdatedMap>(
     alloc: Global,
     map: &mut M,
     plans: &[RoundPlan],
@@ -83,6 +85,10 @@ fn play_rounds<M: UpdatedMap>(
     requires writes { calls_in plans.now ≤ M.writes_left map.old }
     ensures played { IfOk result (ArePlayedRounds (M.slots map.old) (M.most map.old) (M.contents map.old)
         (M.anchors map.old) plans.now) }
+    ensures contents { IfOk result (λ reports. M.contents map.new ≡ map_end (M.contents map.old) reports) }
+    ensures anchors { IfOk result (λ reports. M.anchors map.new ≡ shape_end (M.slots map.old) (M.contents map.old)
+        (M.anchors map.old) reports) }
+    ensures settled { IfOk result (λ _. RoundsEndWithTurn plans.now → M.is_settled map.new) }
     ensures report { IfOk result (All IsReportRound) }
 {
     let mut rounds = Vec::with_capacity(alloc, plans.len())?;
@@ -93,7 +99,7 @@ fn play_rounds<M: UpdatedMap>(
 }
 
 /// How many calls the rounds have in all.
-fn calls_in(plans: &[RoundPlan]) -> u64
+pub(crate) fn calls_in(plans: &[RoundPlan]) -> u64
     requires { calls_in plans.now ≤ 100000 }
     ensures { result ≡ calls_in plans.now }
 {

@@ -12,7 +12,7 @@ ghost use Rattle.shapes.specs.Anchors.{next_of, past};
 ghost use Rattle.shapes.specs.Laws.{IsScanByShape};
 ghost use Rattle.shapes.specs.ShapeRounds.{anchors_after, anchors_end, EndsWithMembers, PutsFull};
 ghost use Rattle.catalog_cli.specs.LoneCalls.{AreLoneCalls, AreReportCalls, IsLeftBy};
-ghost use Rattle.catalog_cli.specs.Rounds.{IsPlayedRound, StopsWithin};
+ghost use Rattle.catalog_cli.specs.Rounds.{EndsWithTurn, IsPlayedRound, IsTurnDue, StopsWithin};
 
 use crate::updated_map::UpdatedMap;
 use cat_history::{CutMark, Listed, NoMemory, Op, Parts, Record, Reply, RoundPlan, ScanPart};
@@ -49,6 +49,8 @@ pub fn run_lone_round<M: UpdatedMap>(
     ensures most { M.most map.new ≡ M.most map.old }
     ensures calls_left { M.calls_left map.old ≤ M.calls_left map.new + length plan.now.ops * M.most map.old }
     ensures writes_left { M.writes_left map.old ≤ M.writes_left map.new + length plan.now.ops }
+    // Where it ends with a turn, that has done all that its calls left to the updater.
+    ensures settled { IfOk result (λ _. EndsWithTurn plan.now → M.is_settled map.new) }
     ensures err { OnErr result (StopsWithin (M.slots map.old) (M.most map.old) (M.contents map.old) (M.anchors map.old)
         plan.now (M.contents map.new) (M.anchors map.new)) }
 {
@@ -56,7 +58,7 @@ pub fn run_lone_round<M: UpdatedMap>(
     let mut records = Vec::with_capacity(alloc, asked.len())?;
     let mut writes = 0;
     for (index, call) in asked.iter().enumerate() {
-        let is_due = is_turn_due(plan.updater, index as u64);
+        let is_due = is_turn_due(plan.updater, index as u64 + 1);
         let record = Record {
             caller: call.caller,
             index: index as u64,
@@ -103,6 +105,7 @@ fn answer<M: UpdatedMap>(
     ensures most { M.most map.new ≡ M.most map.old }
     ensures calls_left { M.calls_left map.old ≤ M.calls_left map.new + M.most map.old }
     ensures writes_left { M.writes_left map.old ≤ M.writes_left map.new + 1 }
+    ensures settled { IfOk result (λ _. IsTrue is_due → M.is_settled map.new) }
     ensures err { OnErr result (M.contents map.new ≡ M.contents map.old) }
     ensures err_anchors { OnErr result (M.anchors map.new ≡ M.anchors map.old) }
 {
@@ -117,9 +120,12 @@ fn answer<M: UpdatedMap>(
     Ok(reply)
 }
 
-/// Whether a turn of the updater comes behind the call of this index, where one comes behind each so many calls, or none.
-fn is_turn_due(turns: u64, index: u64) -> bool {
-    turns != 0 && index % turns == turns - 1
+/// Whether the updater makes a turn behind so many calls of a round, where it makes one behind each `turns` of them, or
+/// none where that is 0.
+fn is_turn_due(turns: u64, calls: u64) -> bool
+    ensures { IsTrue result ↔ IsTurnDue turns calls }
+{
+    turns != 0 && calls % turns == 0
 }
 
 /// Whether a call is a put or a delete that comes when so many placed writes reach the limit.
@@ -267,6 +273,8 @@ mod tests {
     use std::test::Fail;
 
     impl UpdatedMap for PlainMap {
+        ghost is_settled = { λ _. Unit {0} };
+
         fn turn(&mut self) {}
     }
 

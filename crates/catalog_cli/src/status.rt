@@ -7,12 +7,12 @@ use cat_history::NoMemory;
 use cat_script::ScriptFault;
 use cat_text::{LoadFault, ReadFault, SaveFault};
 use pm_words::{Field, ImageFault};
+use recovery::OpenFault;
 use std::fmt;
 
 /// The word of a command or of a script's line that isn't built yet.
 #[derive(Clone, Copy, Debug, PartialEq, Eq)]
 pub enum Verb {
-    Run,
     Gen,
     /// A put of another caller than that of its round's first call. So are a get, a delete and a scan.
     Put,
@@ -27,7 +27,6 @@ impl fmt::Display for Verb {
 
     fn fmt<W: fmt::Write>(&self, f: &mut fmt::Formatter<W>) -> fmt::Result {
         match self {
-            Verb::Run => write!(f, "run"),
             Verb::Gen => write!(f, "gen"),
             Verb::Put => write!(f, "put"),
             Verb::Get => write!(f, "get"),
@@ -47,6 +46,10 @@ pub enum ImageRefusal {
     Exists,
     /// Its bytes are no image, for this first fault.
     Bytes(ImageFault),
+    /// Its image breaks this rule first, at this word.
+    Damaged { rule: u64, word: u64 },
+    /// Its image has the last generation that there is.
+    Generations,
 }
 
 impl fmt::Display for ImageRefusal {
@@ -65,6 +68,8 @@ impl fmt::Display for ImageRefusal {
                 Field::Callers => write!(f, "callers"),
             },
             ImageRefusal::Bytes(ImageFault::NoMemory) => write!(f, "out of memory"),
+            ImageRefusal::Damaged { rule, word } => write!(f, "rule {rule} at word {word}"),
+            ImageRefusal::Generations => write!(f, "generations"),
         }
     }
 }
@@ -194,6 +199,23 @@ impl From<ImageFault> for Status {
             ImageFault::Layout { field } => Status::Image(ImageRefusal::Bytes(ImageFault::Layout {
                 field,
             })),
+        }
+    }
+}
+
+impl From<OpenFault> for Status {
+    ghost use Rattle.std.specs.Prelude.{◌≡◌};
+    ghost use Rattle.catalog_cli.specs.Statuses.{status_of_open};
+
+    ghost from_gives = { λ fault status. status ≡ status_of_open fault };
+
+    fn from(fault: OpenFault) -> Status {
+        match fault {
+            OpenFault::Damaged { rule, word } => {
+                Status::Image(ImageRefusal::Damaged { rule, word })
+            }
+            OpenFault::Generations => Status::Image(ImageRefusal::Generations),
+            OpenFault::NoMemory => Status::NoMemory,
         }
     }
 }

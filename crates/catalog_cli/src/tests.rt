@@ -2,9 +2,10 @@
 ghost use Rattle.std.specs.Prelude.{◌≡◌, ◌*◌, ◌<◌, ◌≤◌, IfOk, length};
 ghost use Rattle.cat_text.specs.ReportGrammar.{IsReportOp};
 ghost use Rattle.catalog_cli.specs.LoneCalls.{AreLoneCalls, AreReportCalls};
+ghost use Rattle.pm_words.specs.Layouts.{IsLayout};
 
 use super::*;
-use crate::core_map::CoreMap;
+use crate::core_map::{CoreMap, RunOf};
 use crate::round::run_lone_round;
 use crate::updated_map::UpdatedMap;
 use cat_history::{CallerOp, Listed, Op, RoundPlan};
@@ -44,6 +45,18 @@ struct Ran {
 }
 
 fn run(rt: &HostRuntime, words: &str, script: &[u8], outside: &Outside) -> Result<Ran, AllocError> {
+    let mut shelf = MemoryShelf::new(rt.alloc(), FaultPlan::new(rt.alloc()));
+    run_script(rt, &mut shelf, words, script, outside)
+}
+
+/// The same on the files of a shelf.
+fn run_script(
+    rt: &HostRuntime,
+    shelf: &mut MemoryShelf,
+    words: &str,
+    script: &[u8],
+    outside: &Outside,
+) -> Result<Ran, AllocError> {
     let alloc = rt.alloc();
     let mut command = Vec::new(alloc);
     for word in words.split_whitespace() {
@@ -54,8 +67,7 @@ fn run(rt: &HostRuntime, words: &str, script: &[u8], outside: &Outside) -> Resul
     let writes = FaultPlan::failing_at(outside.failing_writes.to_vec(alloc)?);
     let mut source = MemorySource::new(script.to_vec(alloc)?, largest, reads);
     let mut sink = MemorySink::new(alloc, largest, writes);
-    let mut shelf = MemoryShelf::new(alloc, FaultPlan::new(alloc));
-    let status = catalog(alloc, &command, &mut source, &mut sink, &mut shelf);
+    let status = catalog(alloc, &command, &mut source, &mut sink, shelf);
     Ok(Ran {
         status,
         written: sink.written().to_vec(alloc)?,
@@ -71,6 +83,11 @@ fn at_line(line: u64, reason: Reason) -> Status {
 /// The status of a file whose bytes have this fault.
 fn of_bytes(fault: ImageFault) -> Status {
     Status::Image(ImageRefusal::Bytes(fault))
+}
+
+/// The status of a file whose image breaks this rule first, at this word.
+fn damaged(rule: u64, word: u64) -> Status {
+    Status::Image(ImageRefusal::Damaged { rule, word })
 }
 
 fn out_of_range(field: Field) -> ImageFault {
@@ -469,7 +486,6 @@ fn sums_up_generated_rounds(rt: HostRuntime) -> Result<(), Fail> {
 #[test]
 fn refuses_other_words_unread(rt: HostRuntime) -> Result<(), Fail> {
     let rows = [
-        ("run c", Status::NotBuilt(Verb::Run)),
         ("gen 1 1 2", Status::NotBuilt(Verb::Gen)),
         ("gen 1 1 16", Status::NotBuilt(Verb::Gen)),
         ("", Status::Usage),
@@ -563,6 +579,12 @@ fn each_status_has_its_code_and_text(rt: HostRuntime) -> Result<(), Fail> {
         (of_bytes(out_of_range(Field::Nodes)), 8, "image: nodes"),
         (of_bytes(out_of_range(Field::Slots)), 8, "image: slots"),
         (of_bytes(out_of_range(Field::Callers)), 8, "image: callers"),
+        (damaged(4, 50), 8, "image: rule 4 at word 50"),
+        (
+            Status::Image(ImageRefusal::Generations),
+            8,
+            "image: generations",
+        ),
         (
             Status::Usage,
             2,
@@ -585,7 +607,6 @@ fn each_status_has_its_code_and_text(rt: HostRuntime) -> Result<(), Fail> {
             3,
             "script: line 7: more than 1000000 names",
         ),
-        (Status::NotBuilt(Verb::Run), 9, "not built: run"),
         (Status::NotBuilt(Verb::Gen), 9, "not built: gen"),
         (Status::NotBuilt(Verb::Put), 9, "not built: put"),
         (Status::NotBuilt(Verb::Get), 9, "not built: get"),
@@ -666,11 +687,10 @@ fn report_on<M: UpdatedMap>(
 }
 
 /// The printed report of a round on a core of so many nodes and slots.
-fn report_on_core<L: Ledger>(
+fn report_on_core<L: Ledger, K: RunOf>(
     alloc: Global,
     plan: &RoundPlan,
-    nodes: u64,
-    slots: u64,
+    layout: Layout,
     blank: Blank,
 ) -> Result<Vec<u8>, Fail>
     requires caller { AreLoneCalls plan.now.ops }
@@ -678,10 +698,12 @@ fn report_on_core<L: Ledger>(
     requires calls { length plan.now.ops ≤ 300 }
     requires name { blank.name ≡ L.name }
     requires parts { (blank.parts ≡ L.parts) × (0 < L.parts) }
+    requires layout { IsLayout layout }
+    requires run { (K.layout ≡ layout) × (K.generation ≡ 1) }
 {
     let (book, share) = blank.open::<L>();
     let steps = Steps::new(book, share);
-    let mut map = CoreMap::new(alloc, Layout::new(nodes, slots, 1)?, 300, steps)?;
+    let mut map = CoreMap::<L, K>::new(alloc, layout, 300, steps)?;
     Ok(report_on(alloc, &mut map, plan)?)
 }
 
@@ -691,7 +713,12 @@ fn the_core_answers_as_the_plain_map(rt: HostRuntime) -> Result<(), Fail> {
         let plan = drawn_plan(rt.alloc(), seed, ALL_KINDS)?;
         let mut plain = PlainMap::new(rt.alloc(), 64)?;
         let wanted = report_on(rt.alloc(), &mut plain, &plan)?;
-        let on_core = report_on_core::<Brand>(rt.alloc(), &plan, 1, 64, Blank::new(1))?;
+        let on_core = report_on_core::<Brand, Brand>(
+            rt.alloc(),
+            &plan,
+            Layout::new(1, 64, 1)?,
+            Blank::new(1),
+        )?;
         assert_eq!(rt; on_core.as_slice(), wanted.as_slice(), "core, seed {seed}");
     }
     Ok(())
@@ -705,7 +732,8 @@ fn a_core_that_splits_answers_as_a_plain_map_with_room(rt: HostRuntime) -> Resul
         let mut plain = PlainMap::new(rt.alloc(), 300)?;
         let wanted = report_on(rt.alloc(), &mut plain, &plan)?;
         for slots in [4, 6, 64] {
-            let on_core = report_on_core::<Brand>(rt.alloc(), &plan, 301, slots, Blank::new(1))?;
+            let layout = Layout::new(301, slots, 1)?;
+            let on_core = report_on_core::<Brand, Brand>(rt.alloc(), &plan, layout, Blank::new(1))?;
             assert_eq!(rt;
                 on_core.as_slice(),
                 wanted.as_slice(),

@@ -6,8 +6,13 @@ use shapes::NameMap;
 pub trait UpdatedMap: NameMap {
     ghost use Rattle.std.specs.Prelude.{◌≡◌, ◌≤◌};
 
-    /// A turn of the updater. It changes how the map is kept, not what it holds, and uses up no call.
+    /// Whether no call has left anything for the updater to do.
+    ghost is_settled: { Self → Type 0 };
+
+    /// A turn of the updater, which does all that calls have left to it. It changes how the map is kept, not what it
+    /// holds, and uses up no call.
     fn turn(&mut self)
+        ensures settled { Self.is_settled self.new }
         ensures contents { Self.contents self.new ≡ Self.contents self.old }
         ensures anchors { Self.anchors self.new ≡ Self.anchors self.old }
         ensures slots { Self.slots self.new ≡ Self.slots self.old }

@@ -1,4 +1,6 @@
+use Rattle.catalog_cli.proofs.FileOutcomes.{left-then}
 use Rattle.catalog_cli.proofs.Outcomes.{printed, printed-part, printed-built}
+use Rattle.catalog_cli.specs.Headline.{seen}
 use Rattle.std.proofs.Common.{inr, ap}
 use Rattle.std.specs.Prelude.{Err}
 use Rattle.catalog_cli.proofs.catalog.run_command.Goals as goal
@@ -20,3 +22,12 @@ returns-clause-sink g c = inr (printed-part _ _ _ _ _ _ c.in-Ok.ensures.prints c
 
 pub returns-clause-cause : goal.returns-clause-cause
 returns-clause-cause g c = printed-built _ _ _ c.in-Ok.ensures.prints
+
+pub returns-in-Err-Failed-clause-read_to_end : goal.returns-in-Err-Failed-clause-read_to_end
+returns-in-Err-Failed-clause-read_to_end g c reads after = c.in-Ok.ensures.read_to_end reads
+
+pub returns-clause-files : goal.returns-clause-files
+returns-clause-files g c =
+    let made = c.text_of.new in
+    left-then _ (seen (g.S.Source.left c.args.script.now) (g.H.Shelf.files c.args.shelf.now) (g.H.Shelf.files made.shelf) (g.S.Source.faults c.args.script.now) (g.S.Source.faults made.script)
+    (g.H.Shelf.faults c.args.shelf.now) (g.H.Shelf.faults made.shelf)) c.in-Ok.ensures.files

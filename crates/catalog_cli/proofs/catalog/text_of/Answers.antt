@@ -1,9 +1,11 @@
 use Rattle.std.proofs.Common.{ℕ, List, inl, inr, subst}
 use Rattle.catalog_cli.specs.Files.{HasBytes, HasNoFile}
 use Rattle.std.proofs.lemmas.Result.{err_from_is_err_and, IfOk-weaker, IfErr-weaker}
+use Rattle.catalog_cli.specs.Headline.{seen}
 use Rattle.catalog_cli.specs.Headline.Prints.{reports, sums_up, makes_file, lists_words}
 use Rattle.cat_command.specs.Commands.{IsCommand}
-use Rattle.catalog_cli.proofs.Outcomes.{not-of-words, not-told, makes-one}
+use Rattle.catalog_cli.proofs.FileOutcomes.{not-run, not-told, run-not-of-words}
+use Rattle.catalog_cli.proofs.Outcomes.{not-of-words, makes-one}
 use Rattle.catalog_cli.proofs.catalog.text_of.Goals as goal
 
 pub returns-in_err-text-in-Gen-clause-cause : goal.returns-in_err-text-in-Gen-clause-cause
@@ -39,4 +41,13 @@ returns-in-Words-clause-prints g c =
 pub returns-in-Words-clause-cause : goal.returns-in-Words-clause-cause
 returns-in-Words-clause-cause g c =
     IfErr-weaker c.list_words.result _ _ (λ status refused.
-    not-told _ _ c.in-Words.from c.in-Words.count _ status (subst (IsCommand _) c.in-Words.is c.in_ok-layout.ensures.command) c.file_of-in-Words.ensures refused) c.list_words.ensures.refused
+    not-told _ (seen _ _ (g.H.Shelf.files c.list_words.new.shelf) _ _ _ _) c.in-Words.from c.in-Words.count _ status (subst (IsCommand _) c.in-Words.is c.in_ok-layout.ensures.command) c.file_of-in-Words.ensures refused) c.list_words.ensures.refused
+
+pub returns-in-Run-clause-cause : goal.returns-in-Run-clause-cause
+returns-in-Run-clause-cause g c =
+    IfErr-weaker c.run_file.result _ _ (λ status refused.
+    not-run _ (seen _ _ (g.H.Shelf.files c.run_file.new.shelf) _ _ _ _) _ status (subst (IsCommand _) c.in-Run.is c.in_ok-layout.ensures.command) c.file_of-in-Run.ensures refused) c.run_file.ensures.refused
+
+pub returns-in-Run-clause-nothing_read : goal.returns-in-Run-clause-nothing_read
+returns-in-Run-clause-nothing_read g c =
+    IfErr-weaker c.run_file.result _ _ (λ status refused of_words. absurd (run-not-of-words _ _ _ _ _ _ _ status refused of_words)) c.run_file.ensures.refused

@@ -1,12 +1,15 @@
 use Rattle.std.proofs.Common.{ℕ, ◌+◌, ◌*◌, ◌≤◌, ◌∙◌, length, drop, ap, sym, subst, refl, arith}
+use Rattle.std.proofs.lemmas.List.{take_all}
 use Rattle.std.proofs.lemmas.List.Elements.{All-push}
 use Rattle.cat_history.specs.LoneRounds.{writes_of}
 use Rattle.cat_text.specs.ReportGrammar.{IsReportRound}
 use Rattle.shapes.specs.ShapeRounds.{anchors_end}
-use Rattle.catalog_cli.specs.Rounds.{IsPlayedRound}
+use Rattle.catalog_cli.specs.Reports.{map_end, shape_end}
+use Rattle.catalog_cli.specs.Rounds.{IsPlayedRound, RoundsEndWithTurn}
 use Rattle.catalog_cli.proofs.Played.{none-played-at, one-more-at, all-played, caller-of-plan, told-of-plan}
 use Rattle.catalog_cli.specs.LoneCalls.{calls_in}
 use Rattle.catalog_cli.proofs.ScriptCalls.{calls-to-come, calls-of-one, calls-of-rest}
+use Rattle.catalog_cli.proofs.RoundTurns.{last-ends}
 use Rattle.catalog_cli.proofs.play.play_rounds.Goals as goal
 
 pub loop-plan-init : goal.loop-plan-init
@@ -16,6 +19,7 @@ loop-plan-init g c =
       most_stays = refl;
       played = none-played-at _ _ _ _ _ c.in_ok-rounds.ensures.items;
       told = rw c.in_ok-rounds.ensures.items (λ k d within. absurd (omega (arith, within)));
+      settled = λ none. absurd none;
       calls = c.requires.calls;
       writes = c.requires.writes;
     }
@@ -55,6 +59,7 @@ loop-plan-preserved g c =
       played = one-more-at _ _ _ _ _ _ _ _ _ _ _ _ _ _ was.played c.loop-plan-test.true c.plan-item.is round told.after
           (told.anchors ∙ ap (λ (k : ℕ). anchors_end k now shape report.records) was.slots_stay) c.in_ok-push.ensures.items;
       told = rw c.in_ok-push.ensures.items (All-push IsReportRound c.loop-plan.rounds.items report was.told told.report);
+      settled = λ ends. told.settled (last-ends plans c.loop-plan.plan-index c.plan-item.result c.loop-plan-test.true c.plan-item.is ends);
       calls = calls-of-rest (length c.plan-item.result.ops) (calls_in (drop (c.loop-plan.plan-index + 1) plans)) most _ _
           (subst (λ n. n * most ≤ g.M.NameMap.calls_left c.loop-plan.map) come was.calls) taken;
       writes = omega (arith, was.writes, c.run_lone_round.ensures.writes_left, come);
@@ -65,3 +70,15 @@ returns-clause-played g c = all-played _ _ _ _ _ _ _ _ _ _ _ c.loop-plan.invaria
 
 pub returns-clause-report : goal.returns-clause-report
 returns-clause-report g c = rw c.of.ensures c.loop-plan.invariant.told
+
+pub returns-clause-contents : goal.returns-clause-contents
+returns-clause-contents g c = c.loop-plan.invariant.played.map_is ∙ ap (map_end (g.M.NameMap.contents c.args.map.now)) (sym c.of.ensures)
+
+pub returns-clause-anchors : goal.returns-clause-anchors
+returns-clause-anchors g c =
+    c.loop-plan.invariant.played.shape_is
+    ∙ ap (shape_end (g.M.NameMap.slots c.args.map.now) (g.M.NameMap.contents c.args.map.now) (g.M.NameMap.anchors c.args.map.now)) (sym c.of.ensures)
+
+pub returns-clause-settled : goal.returns-clause-settled
+returns-clause-settled g c ends =
+    c.loop-plan.invariant.settled (subst RoundsEndWithTurn (sym (take_all c.loop-plan.plan-index c.args.plans.now (omega (arith, c.loop-plan-test.false)))) ends)

@@ -1,6 +1,7 @@
 use Rattle.std.proofs.Common.{◌≡◌, ◌*◌, ◌≤◌, take, drop, All}
 use Rattle.cat_text.specs.ReportGrammar.{IsReportRound}
 use Rattle.catalog_cli.specs.LoneCalls.{calls_in}
+use Rattle.catalog_cli.specs.Rounds.{RoundsEndWithTurn}
 use Rattle.catalog_cli.proofs.Played.{GoOn}
 use Rattle.catalog_cli.proofs.play.play_rounds.Given as goal
 
@@ -16,6 +17,7 @@ invariant-loop-plan g l =
       most_stays : most l.map ≡ most l.fn.map;
       played : GoOn (slots l.fn.map) (most l.fn.map) (contents l.fn.map) (anchors l.fn.map) (take l.plan-index l.plans) l.rounds.items (contents l.map) (anchors l.map);
       told : All IsReportRound l.rounds.items;
+      settled : RoundsEndWithTurn (take l.plan-index l.plans) → g.M.UpdatedMap.is_settled l.map;
       calls : calls_in (drop l.plan-index l.plans) * most l.fn.map ≤ g.M.NameMap.calls_left l.map;
       writes : calls_in (drop l.plan-index l.plans) ≤ g.M.NameMap.writes_left l.map;
     }

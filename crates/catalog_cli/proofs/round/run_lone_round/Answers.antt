@@ -1,4 +1,4 @@
-use Rattle.std.proofs.Common.{◌≡◌, ℕ, ◌+◌, ◌≤◌, ◌↔◌, cond, List, [], ◌∷◌, ◌++◌, length, take, map, All, rules, refl, ap, subst, ◌∙◌, sym, arith, length-append}
+use Rattle.std.proofs.Common.{◌≡◌, ℕ, ◌+◌, ◌<◌, ◌≤◌, ◌↔◌, cond, List, [], ◌∷◌, ◌++◌, length, take, map, All, rules, refl, ap, subst, ◌∙◌, sym, arith, length-append}
 use Rattle.std.specs.FinMap.{len}
 use Rattle.cat_history.specs.LoneRounds.{write_of, writes_of, IsAnswerNow, IsSpent}
 use Rattle.cat_history.specs.Records.{call_of, numbered}
@@ -7,6 +7,7 @@ use Rattle.catalog_cli.specs.LoneCalls.{AreReportCalls}
 use Rattle.cat_history.specs.declared.op.CallerOp.{CallerOp}
 use Rattle.cat_history.specs.declared.record.Record.{Record}
 use Rattle.cat_history.specs.declared.record.Reply.TheVariants.{Full}
+use Rattle.catalog_cli.specs.Rounds.{IsTurnDue}
 use Rattle.cat_history.proofs.LoneRoundLemmas.{lone_rounds_are_legal}
 use Rattle.cat_text.proofs.LoneReports.{lone_stand}
 use Rattle.shapes.specs.Runs.{Standing, opening}
@@ -77,6 +78,7 @@ loop-index-preserved g c =
       writes_left = omega (arith, was.writes_left, c.answer.ensures.writes_left);
       made = c.push_reserved.ensures.len ∙ omega (arith, was.made);
       reserved = omega (arith, was.reserved, c.push_reserved.ensures.capacity);
+      settled = λ some due. answer.settled (c.is_turn_due-is_due.ensures.1 due);
     }
 
 pub returns-clause-played : goal.returns-clause-played
@@ -109,3 +111,9 @@ returns-clause-report g c =
       writes = search arith;
       names = search arith;
     }
+
+pub returns-clause-settled : goal.returns-clause-settled
+returns-clause-settled g c ends =
+    let same = ap length c.as_slice-asked.ensures in
+    let all : length c.args.plan.now.ops ≡ c.loop-index.index = omega (arith, same, c.loop-index-test.false) in
+    c.loop-index.invariant.settled (subst (λ n. 0 < n) all ends.0) (subst (IsTurnDue c.args.plan.now.updater) all ends.1)

@@ -1,9 +1,9 @@
-use Rattle.std.proofs.Common.{◌≡◌, ◌+◌, ◌*◌, ◌≤◌, length, fold, vec_len, All}
+use Rattle.std.proofs.Common.{◌≡◌, ◌+◌, ◌*◌, ◌<◌, ◌≤◌, length, fold, vec_len, All}
 use Rattle.std.specs.Vec.{vec_capacity}
 use Rattle.cat_history.specs.LoneRounds.{writes_of}
 use Rattle.cat_text.specs.ReportGrammar.{IsReportRecord}
 use Rattle.shapes.specs.Runs.{opening, stands_after}
-use Rattle.catalog_cli.specs.Rounds.{IsPlayedSoFar}
+use Rattle.catalog_cli.specs.Rounds.{IsPlayedSoFar, IsTurnDue}
 use Rattle.catalog_cli.proofs.round.run_lone_round.Given as goal
 
 -- the records so far are those of a round of the calls so far
@@ -27,4 +27,5 @@ invariant-loop-index g l =
       writes_left : g.M.NameMap.writes_left l.fn.map ≤ g.M.NameMap.writes_left l.map + l.index;
       made : vec_len l.records ≡ l.index;
       reserved : length l.asked ≤ vec_capacity l.records;
+      settled : 0 < l.index → IsTurnDue l.plan.updater l.index → g.M.UpdatedMap.is_settled l.map;
     }

@@ -1,8 +1,11 @@
-use Rattle.catalog_cli.proofs.CoreMaps.{fresh_map, fresh_anchors, fresh_most, fresh_calls, fresh_writes}
+use Rattle.catalog_cli.proofs.CoreMaps.{fresh_map, fresh_run, fresh_anchors, fresh_most, fresh_calls, fresh_writes}
 use Rattle.catalog_cli.proofs.core_map.CoreMap.new.Goals as goal
 
 pub invariant_of-result : goal.invariant_of-result
-invariant_of-result g c = fresh_map c.args.layout c.in_ok-core.core c.reserve.new.self c.requires.layout c.in_ok-core.ensures c.reserve.ensures.kept
+invariant_of-result g c = (
+  fresh_map c.args.layout c.in_ok-core.core c.reserve.new.self c.requires.layout c.in_ok-core.ensures c.reserve.ensures.kept,
+  fresh_run c.args.layout c.in_ok-core.core c.reserve.new.self c.requires.run c.in_ok-core.ensures c.reserve.ensures.kept,
+)
 
 pub returns-clause-anchors : goal.returns-clause-anchors
 returns-clause-anchors g c = fresh_anchors c.args.layout c.in_ok-core.core c.reserve.new.self c.requires.layout c.in_ok-core.ensures c.reserve.ensures.kept

@@ -8,4 +8,4 @@ use Rattle.catalog_cli.proofs.core_map.CoreMapNameMap.has_shape.Goals as goal
 pub returns : goal.returns
 returns g c =
     subst (λ s. IsShape s.layout.slots s.layout.nodes (map_of_index s) (anchors_in (world s))) c.self.view_is
-    (core_shape c.self.inside.core c.self.inside.names c.self.invariant)
+    (core_shape c.self.inside.core c.self.inside.names c.self.invariant.0)

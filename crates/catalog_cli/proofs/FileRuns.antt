@@ -1,0 +1,64 @@
+-- A run on a file, from what it read, what it played, and what it saved.
+use Rattle.std.proofs.Common.{ℕ, List, subst, inl, inr}
+use Rattle.std.specs.Prelude.{Option, Some, None}
+use Rattle.cat_script.specs.Scripts.{IsScript}
+use Rattle.cat_script.specs.declared.script.Script.{Script}
+use Rattle.cat_text.specs.Shelves.{FileMap, KeepsFiles, SavesFile}
+use Rattle.pm_words.specs.Images.{Row}
+use Rattle.catalog_cli.specs.Files.{HasImage, IsSaveRefused, SavesImage}
+use Rattle.catalog_cli.specs.Runs.{AreBytesLeft, IsPlayRefused, IsRunLeft, IsRunOn, IsRunOnFile, IsRunRefused}
+use Rattle.catalog_cli.specs.declared.status.ImageRefusal.TheVariants as image
+use Rattle.catalog_cli.specs.declared.status.Status.{Status}
+use Rattle.catalog_cli.specs.declared.status.Status.TheVariants as status
+
+-- a load leaves the files for the save
+keeps-after : (files between files' : Option FileMap) → KeepsFiles files between → KeepsFiles between files' → KeepsFiles files files'
+keeps-after None between files' kept then = tt
+keeps-after (Some told) between files' kept then = subst (λ (fs : Option FileMap). KeepsFiles fs files') kept then
+
+saves-after : (files between files' : Option FileMap) (name bytes : List ℕ) → KeepsFiles files between → SavesFile between files' name bytes → SavesFile files files' name bytes
+saves-after None between files' name bytes kept saves = tt
+saves-after (Some told) between files' name bytes kept saves = subst (λ (fs : Option FileMap). SavesFile fs files' name bytes) kept saves
+
+image-after : (files between files' : Option FileMap) (name : List ℕ) (new : Row) → KeepsFiles files between → SavesImage between files' name new → SavesImage files files' name new
+image-after files between files' name new kept saves = record { bytes = saves.bytes; saves = saves-after files between files' name saves.bytes kept saves.saves; sound = saves.sound; is = saves.is }
+
+-- a script that isn't played to its end on the image of a file
+pub not-played-on : (left : Option (List ℕ)) (files : Option FileMap) (name bytes : List ℕ) (script : Script) (old : Row) (reads reads' shelves shelves' : ℕ) (answer : Status) → AreBytesLeft left bytes → IsScript bytes script →
+    HasImage files name old → IsPlayRefused old bytes answer → IsRunRefused left files name reads reads' shelves shelves' answer
+not-played-on left files name bytes script old reads reads' shelves shelves' status.Done source is had refused = absurd refused
+not-played-on left files name bytes script old reads reads' shelves shelves' status.Usage source is had refused = absurd refused
+not-played-on left files name bytes script old reads reads' shelves shelves' (status.Script what) source is had refused =
+    inr (record { bytes = bytes; source = source; script = script; is_script = is; old = old; had = had; openable = refused.0; refused = refused.1 })
+not-played-on left files name bytes script old reads reads' shelves shelves' status.Read source is had refused = absurd refused
+not-played-on left files name bytes script old reads reads' shelves shelves' status.Write source is had refused = absurd refused
+not-played-on left files name bytes script old reads reads' shelves shelves' status.Shelf source is had refused = absurd refused
+not-played-on left files name bytes script old reads reads' shelves shelves' status.NoMemory source is had refused = tt
+not-played-on left files name bytes script old reads reads' shelves shelves' (status.Image image.Missing) source is had refused = absurd refused
+not-played-on left files name bytes script old reads reads' shelves shelves' (status.Image image.Exists) source is had refused = absurd refused
+not-played-on left files name bytes script old reads reads' shelves shelves' (status.Image (image.Bytes fault)) source is had refused = absurd refused
+not-played-on left files name bytes script old reads reads' shelves shelves' (status.Image (image.Damaged rule word)) source is had refused = ((bytes, script, source, is), (old, had, refused))
+not-played-on left files name bytes script old reads reads' shelves shelves' (status.Image image.Generations) source is had refused = ((bytes, script, source, is), (old, had, refused))
+not-played-on left files name bytes script old reads reads' shelves shelves' (status.NotBuilt verb) source is had refused =
+    inr (record { bytes = bytes; source = source; script = script; is_script = is; old = old; had = had; openable = refused.0; refused = refused.1 })
+
+-- one that is, and whose image is saved
+pub ran-on-file : (left : Option (List ℕ)) (files between files' : Option FileMap) (name bytes text : List ℕ) (old new : Row) → AreBytesLeft left bytes → HasImage files name old → IsRunOn old bytes text new →
+    KeepsFiles files between → SavesImage between files' name new → IsRunOnFile left files files' name text
+ran-on-file left files between files' name bytes text old new source had run kept saves =
+    record { bytes = bytes; source = source; old = old; had = had; new = new; run = run; saves = image-after files between files' name new kept saves }
+
+-- or isn't
+pub not-saved : (left : Option (List ℕ)) (files between files' : Option FileMap) (name bytes text : List ℕ) (old new : Row) (shelves shelves' : ℕ) (answer : Status) → AreBytesLeft left bytes → HasImage files name old →
+    IsRunOn old bytes text new → KeepsFiles files between → IsSaveRefused between files' shelves shelves' name new answer → IsRunLeft left files files' name answer
+not-saved left files between files' name bytes text old new shelves shelves' status.Done source had run kept refused = absurd refused
+not-saved left files between files' name bytes text old new shelves shelves' status.Usage source had run kept refused = absurd refused
+not-saved left files between files' name bytes text old new shelves shelves' (status.Script what) source had run kept refused = absurd refused
+not-saved left files between files' name bytes text old new shelves shelves' status.Read source had run kept refused = absurd refused
+not-saved left files between files' name bytes text old new shelves shelves' status.Write source had run kept refused = absurd refused
+not-saved left files between files' name bytes text old new shelves shelves' status.Shelf source had run kept (rose, inl same) = inl (keeps-after files between files' kept same)
+not-saved left files between files' name bytes text old new shelves shelves' status.Shelf source had run kept (rose, inr saves) =
+    inr (text, ran-on-file left files between files' name bytes text old new source had run kept saves)
+not-saved left files between files' name bytes text old new shelves shelves' status.NoMemory source had run kept refused = keeps-after files between files' kept refused
+not-saved left files between files' name bytes text old new shelves shelves' (status.Image refusal) source had run kept refused = absurd refused
+not-saved left files between files' name bytes text old new shelves shelves' (status.NotBuilt verb) source had run kept refused = absurd refused

@@ -1,0 +1,140 @@
+-- What a script plays, and what is reported of it: from what its rounds begin, how they go on, and where they end.
+use Rattle.std.specs.Prelude.{◌≡◌, ℕ, ◌+◌, ◌/◌, ◌<◌, ◌⊎◌, List, [], ◌∷◌, Some, None, All, length}
+use Rattle.std.specs.FinMap.{empty, len}
+use Rattle.cat_history.specs.Maps.{Map}
+use Rattle.cat_history.specs.Writes.{after_all}
+use Rattle.cat_history.specs.LoneRounds.{writes_of}
+use Rattle.cat_history.specs.declared.plan.RoundPlan.{RoundPlan}
+use Rattle.cat_script.specs.Fits.{FitsCallers, IsUnfitBy}
+use Rattle.cat_script.specs.Scripts.{IsScript, IsFirstFault}
+use Rattle.cat_script.specs.declared.fault.ScriptFault.{ScriptFault}
+use Rattle.cat_script.specs.declared.fault.ScriptFault.TheVariants.{Bytes}
+use Rattle.cat_script.specs.declared.fault.TheConstants.{MOST_BYTES}
+use Rattle.cat_script.specs.declared.script.Script.{Script}
+use Rattle.cat_text.specs.ReportGrammar.{IsReportText}
+use Rattle.cat_text.specs.declared.report.RoundReport.{RoundReport}
+use Rattle.pm_words.specs.Images.{Row}
+use Rattle.pm_words.specs.declared.layout.Layout.{Layout}
+use Rattle.sound_image.specs.Sound.{image_map}
+use Rattle.sound_image.specs.Weights.{image_weight}
+use Rattle.shapes.specs.Anchors.{Anchors}
+use Rattle.shapes.specs.ShapeRounds.{anchors_end, puts_added, FullIsPaid}
+use Rattle.index_law.specs.Anchors.{image_anchors}
+use Rattle.catalog_cli.specs.Built.{first_unbuilt}
+use Rattle.catalog_cli.specs.Rounds.{IsPlayedRound}
+use Rattle.catalog_cli.specs.declared.status.Verb.{Verb}
+use Rattle.catalog_cli.specs.declared.status.Status.{Status}
+use Rattle.catalog_cli.specs.declared.status.Status.TheVariants as status
+
+-- ---- scripts
+
+-- The bytes are this script, it fits so many callers, and each of its lines is built.
+pub record IsAccepted (callers : ℕ) (bytes : List ℕ) (script : Script) : Type 0 where
+  pub is_script : IsScript bytes script
+  pub fits : All (FitsCallers callers) script.lines
+  pub built : first_unbuilt None script.lines ≡ None
+
+-- The bytes are a script that doesn't fit so many callers, for this fault.
+abbrev pub IsUnfitScript : ℕ → List ℕ → ScriptFault → Type 0
+IsUnfitScript callers bytes fault = (script : Script) × IsScript bytes script × IsUnfitBy callers script.lines fault
+
+-- The bytes are too many, or no script with this first fault, or a script that doesn't fit for this fault.
+abbrev pub HasFault : ℕ → List ℕ → ScriptFault → Type 0
+HasFault callers bytes fault =
+    ((fault ≡ Bytes) × (MOST_BYTES < length bytes)) ⊎ IsFirstFault bytes fault ⊎ IsUnfitScript callers bytes fault
+
+-- The bytes are a script that fits so many callers, and the first of its lines that isn't built has this word.
+abbrev pub IsUnbuiltScript : ℕ → List ℕ → Verb → Type 0
+IsUnbuiltScript callers bytes verb = (script : Script) × IsScript bytes script ×
+    All (FitsCallers callers) script.lines × (first_unbuilt None script.lines ≡ Some verb)
+
+-- The bytes are refused so: in this order for their fault, or for a line that isn't built.
+abbrev pub IsRefusedBy : ℕ → List ℕ → Status → Type 0
+IsRefusedBy callers bytes status.Done = ⊥
+IsRefusedBy callers bytes status.Usage = ⊥
+IsRefusedBy callers bytes (status.Script fault) = HasFault callers bytes fault
+IsRefusedBy callers bytes status.Read = ⊥
+IsRefusedBy callers bytes status.Write = ⊥
+IsRefusedBy callers bytes status.Shelf = ⊥
+IsRefusedBy callers bytes status.NoMemory = ⊥
+IsRefusedBy callers bytes (status.Image refusal) = ⊥
+IsRefusedBy callers bytes (status.NotBuilt verb) = IsUnbuiltScript callers bytes verb
+
+-- ---- rounds
+
+-- Each round of the plan is played and reported, the first on the base and its shape, and each later one on the map and
+-- the shape that the calls of the one before it made of them. In each there can be as many members as nodes.
+abbrev pub ArePlayedRounds : ℕ → ℕ → Map → Anchors → List RoundPlan → List RoundReport → Type 0
+ArePlayedRounds slots nodes base anchors [] [] = Unit {0}
+ArePlayedRounds slots nodes base anchors [] (report ∷ reports) = ⊥
+ArePlayedRounds slots nodes base anchors (plan ∷ plans) [] = ⊥
+ArePlayedRounds slots nodes base anchors (plan ∷ plans) (report ∷ reports) =
+    IsPlayedRound slots nodes base anchors plan report (writes_of report.records) ×
+    ArePlayedRounds slots nodes (after_all base (writes_of report.records))
+    (anchors_end slots base anchors report.records) plans reports
+
+-- The map once the writes of all these rounds are done on the base, in their order,
+abbrev pub map_end : Map → List RoundReport → Map
+map_end base [] = base
+map_end base (report ∷ reports) = map_end (after_all base (writes_of report.records)) reports
+
+-- and the shape that follows the last one.
+abbrev pub shape_end : ℕ → Map → Anchors → List RoundReport → Anchors
+shape_end slots base anchors [] = anchors
+shape_end slots base anchors (report ∷ reports) =
+    shape_end slots (after_all base (writes_of report.records)) (anchors_end slots base anchors report.records) reports
+
+-- In each round a call is answered full only where all nodes are paid for by the weight at the opening, and the slots
+-- of one by the names then, together with the puts since then, up to the end of that round, that added a name.
+abbrev pub ArePaidRounds : ℕ → ℕ → ℕ → ℕ → List RoundReport → Type 0
+ArePaidRounds slots nodes weighs names [] = Unit {0}
+ArePaidRounds slots nodes weighs names (report ∷ reports) =
+    All (FullIsPaid slots nodes (weighs + puts_added report.records) (names + puts_added report.records)) report.records
+    × ArePaidRounds slots nodes (weighs + puts_added report.records) (names + puts_added report.records) reports
+
+-- The same from an empty catalogue: its one member weighs half as many as a node has slots.
+abbrev pub ArePaidFromEmpty : ℕ → ℕ → List RoundReport → Type 0
+ArePaidFromEmpty slots nodes reports = ArePaidRounds slots nodes (slots / 2) 0 reports
+
+-- ---- reports
+
+-- What the rounds of a script begin from: a catalogue of this layout, with this map in this shape; what that weighs, and
+-- how many names the map has.
+pub record Opening : Type 0 where
+  pub layout : Layout
+  pub map : Map
+  pub anchors : Anchors
+  pub weighs : ℕ
+  pub names : ℕ
+
+-- An empty catalogue: its one member has no names, and weighs half as many as a node has slots.
+abbrev pub empty_opening : Layout → Opening
+empty_opening layout = record {
+  layout = layout;
+  map = empty;
+  anchors = [] ∷ [];
+  weighs = layout.slots / 2;
+  names = 0;
+}
+
+-- The catalogue that an image keeps.
+abbrev pub image_opening : Row → Opening
+image_opening image = record {
+  layout = image.layout;
+  map = image_map image.layout image.words;
+  anchors = image_anchors image.layout image.words;
+  weighs = image_weight image.layout image.words;
+  names = len (image_map image.layout image.words);
+}
+
+-- The text is that of a report of legal rounds that the bytes, read as a script, ask for, from this opening. Each full
+-- answer is paid for by its weight and its names and the puts since then. The report is one of the grammar, so that its
+-- text tells it alone.
+pub record IsReportOf (opening : Opening) (bytes text : List ℕ) : Type 0 where
+  pub script : Script
+  pub reports : List RoundReport
+  pub accepted : IsAccepted opening.layout.callers bytes script
+  pub played : ArePlayedRounds opening.layout.slots opening.layout.nodes opening.map opening.anchors script.rounds
+      reports
+  pub paid : ArePaidRounds opening.layout.slots opening.layout.nodes opening.weighs opening.names reports
+  pub told : IsReportText text reports

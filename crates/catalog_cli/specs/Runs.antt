@@ -1,0 +1,149 @@
+-- A run on a file: what it reports, what it makes of the file, and why it is refused.
+use Rattle.std.specs.Prelude.{◌≡◌, ℕ, suc, ◌<◌, ◌⊎◌, List, Option, IfSome, length}
+use Rattle.cat_script.specs.Scripts.{IsScript, IsFirstFault}
+use Rattle.cat_script.specs.declared.fault.ScriptFault.{ScriptFault}
+use Rattle.cat_script.specs.declared.fault.ScriptFault.TheVariants.{Bytes}
+use Rattle.cat_script.specs.declared.fault.TheConstants.{MOST_BYTES}
+use Rattle.cat_script.specs.declared.script.Script.{Script}
+use Rattle.cat_text.specs.Shelves.{FileMap, KeepsFiles}
+use Rattle.cat_text.specs.declared.report.RoundReport.{RoundReport}
+use Rattle.index_law.specs.Anchors.{image_anchors}
+use Rattle.pm_words.specs.Bytes.{IsFault}
+use Rattle.pm_words.specs.Images.{Row}
+use Rattle.sound_image.specs.Rules.{header_generation}
+use Rattle.sound_image.specs.Sound.{IsMapOf, image_map}
+use Rattle.sound_layer.specs.Sound.{IsFirstOfAll, IsSoundByAll}
+use Rattle.version_lock.specs.Versions.{IsGeneration}
+use Rattle.catalog_cli.specs.CoreMaps.{ImageHasNoLines}
+use Rattle.catalog_cli.specs.Files.{HasBytes, HasImage, HasNoFile, SavesImage}
+use Rattle.catalog_cli.specs.Reports.{IsRefusedBy, IsReportOf, image_opening, map_end, shape_end}
+use Rattle.catalog_cli.specs.Rounds.{RoundsEndWithTurn}
+use Rattle.catalog_cli.specs.declared.status.ImageRefusal.{ImageRefusal}
+use Rattle.catalog_cli.specs.declared.status.ImageRefusal.TheVariants as image
+use Rattle.catalog_cli.specs.declared.status.Status.{Status}
+use Rattle.catalog_cli.specs.declared.status.Status.TheVariants as status
+
+-- These are the bytes that the source has left, where it tells them.
+abbrev pub AreBytesLeft : Option (List ℕ) → List ℕ → Type 0
+AreBytesLeft left bytes = IfSome left (λ told. told ≡ bytes)
+
+-- ---- files
+
+-- Rounds can be played on this image: it is sound by all rules, keeps the map that its nodes have, and there is a next
+-- generation.
+pub record IsOpenable (image : Row) : Type 0 where
+  pub sound : IsSoundByAll image.layout image.words
+  pub keeps : IsMapOf image.layout image.words (image_map image.layout image.words)
+  pub next : IsGeneration (suc (header_generation image.layout image.words))
+
+-- The new image is what these rounds leave that were played on the old one: it is of the same layout, sound by all
+-- rules, and of the next generation; its map is the old one's after the writes of all rounds, and its shape the one that
+-- follows the last round.
+pub record IsImageAfter (old : Row) (reports : List RoundReport) (new : Row) : Type 0 where
+  pub layout : new.layout ≡ old.layout
+  pub sound : IsSoundByAll new.layout new.words
+  pub generation : header_generation new.layout new.words ≡ suc (header_generation old.layout old.words)
+  pub keeps : IsMapOf new.layout new.words (map_end (image_map old.layout old.words) reports)
+  pub anchors : image_anchors new.layout new.words ≡
+      shape_end old.layout.slots (image_map old.layout old.words) (image_anchors old.layout old.words) reports
+
+-- The bytes, read as a script, are played on the old image: the text is that of the report, and the new image is what
+-- those very rounds leave. Where the last round has a turn of the updater behind its last call, no log line waits there.
+pub record IsRunOn (old : Row) (bytes text : List ℕ) (new : Row) : Type 0 where
+  pub openable : IsOpenable old
+  pub report : IsReportOf (image_opening old) bytes text
+  pub after : IsImageAfter old report.reports new
+  pub turned : RoundsEndWithTurn report.script.rounds → ImageHasNoLines new
+
+-- The script that the source had left is played on the image that the file of this name had: the text is that of the
+-- report, the file has now the image that those very rounds leave, and no other file changed.
+pub record IsRunOnFile (left : Option (List ℕ)) (files files' : Option FileMap) (name text : List ℕ) : Type 0 where
+  pub bytes : List ℕ
+  pub source : AreBytesLeft left bytes
+  pub old : Row
+  pub had : HasImage files name old
+  pub new : Row
+  pub run : IsRunOn old bytes text new
+  pub saves : SavesImage files files' name new
+
+-- The files are as some such run leaves them.
+abbrev pub IsFileAfterRun : Option (List ℕ) → Option FileMap → Option FileMap → List ℕ → Type 0
+IsFileAfterRun left files files' name = (text : List ℕ) × IsRunOnFile left files files' name text
+
+-- ---- refusals
+
+-- The source had left a script.
+abbrev pub HasScript : Option (List ℕ) → Type 0
+HasScript left = (bytes : List ℕ) × (script : Script) × AreBytesLeft left bytes × IsScript bytes script
+
+-- What the source had left is no script, whatever it is played on: it is too much, or has this first fault. Where it is
+-- too much, that is all that is known of what a source had that doesn't tell it.
+abbrev pub IsNoScript : Option (List ℕ) → ScriptFault → Type 0
+IsNoScript left fault = ((fault ≡ Bytes) × IfSome left (λ bytes. MOST_BYTES < length bytes)) ⊎
+    ((bytes : List ℕ) × AreBytesLeft left bytes × IsFirstFault bytes fault)
+
+-- A script is refused so on a file: the file is one on which rounds can be played, and the script doesn't fit its layout,
+-- or has a line that isn't built.
+pub record IsRefusedOnFile (left : Option (List ℕ)) (files : Option FileMap) (name : List ℕ) (answer : Status) : Type 0
+  where
+    pub bytes : List ℕ
+    pub source : AreBytesLeft left bytes
+    pub script : Script
+    pub is_script : IsScript bytes script
+    pub old : Row
+    pub had : HasImage files name old
+    pub openable : IsOpenable old
+    pub refused : IsRefusedBy old.layout.callers bytes answer
+
+-- A run is refused so for what the source had left: that comes before all that concerns the file where it is no script,
+-- and after that where it is one.
+abbrev pub IsRunRefusal : Option (List ℕ) → Option FileMap → List ℕ → Status → Type 0
+IsRunRefusal left files name answer =
+    ((fault : ScriptFault) × IsNoScript left fault × (answer ≡ status.Script fault)) ⊎
+    IsRefusedOnFile left files name answer
+
+-- The image is sound, and of the last generation.
+abbrev pub IsLastGeneration : Row → Type 0
+IsLastGeneration image = IsSoundByAll image.layout image.words ×
+    ¬ IsGeneration (suc (header_generation image.layout image.words))
+
+-- Why rounds can't be played on what the file of this name has: there is no such file, its bytes are no image, with this
+-- first fault, or they are one that breaks this rule first, at this word, or has the last generation.
+abbrev pub IsRunFileCause : Option FileMap → List ℕ → ImageRefusal → Type 0
+IsRunFileCause files name image.Missing = HasNoFile files name
+IsRunFileCause files name image.Exists = ⊥
+IsRunFileCause files name (image.Bytes fault) = (bytes : List ℕ) × HasBytes files name bytes × IsFault bytes fault
+IsRunFileCause files name (image.Damaged rule word) = (old : Row) × HasImage files name old ×
+    IsFirstOfAll old.layout old.words (record { rule = rule; word = word })
+IsRunFileCause files name image.Generations = (old : Row) × HasImage files name old × IsLastGeneration old
+
+-- Why a script isn't played on an image to its end, and its report made.
+abbrev pub IsPlayRefused : Row → List ℕ → Status → Type 0
+IsPlayRefused old bytes (status.Script fault) = IsOpenable old × IsRefusedBy old.layout.callers bytes (status.Script fault)
+IsPlayRefused old bytes status.NoMemory = Unit {0}
+IsPlayRefused old bytes (status.Image (image.Damaged rule word)) =
+    IsFirstOfAll old.layout old.words (record { rule = rule; word = word })
+IsPlayRefused old bytes (status.Image image.Generations) = IsLastGeneration old
+IsPlayRefused old bytes (status.NotBuilt verb) =
+    IsOpenable old × IsRefusedBy old.layout.callers bytes (status.NotBuilt verb)
+IsPlayRefused old bytes other = ⊥
+
+-- Why a run on a file came to no report. As many calls of the source and of the shelf had failed before as the first
+-- number says, and now as the second.
+abbrev pub IsRunRefused : Option (List ℕ) → Option FileMap → List ℕ → (reads reads' shelves shelves' : ℕ) → Status →
+    Type 0
+IsRunRefused left files name reads reads' shelves shelves' (status.Script fault) =
+    IsRunRefusal left files name (status.Script fault)
+IsRunRefused left files name reads reads' shelves shelves' status.Read = reads < reads'
+IsRunRefused left files name reads reads' shelves shelves' status.Shelf = HasScript left × (shelves < shelves')
+IsRunRefused left files name reads reads' shelves shelves' status.NoMemory = Unit {0}
+IsRunRefused left files name reads reads' shelves shelves' (status.Image refusal) =
+    HasScript left × IsRunFileCause files name refusal
+IsRunRefused left files name reads reads' shelves shelves' (status.NotBuilt verb) =
+    IsRunRefusal left files name (status.NotBuilt verb)
+IsRunRefused left files name reads reads' shelves shelves' other = ⊥
+
+-- What it leaves of the files then: each as it was, or, where the shelf failed, as a run leaves them.
+abbrev pub IsRunLeft : Option (List ℕ) → Option FileMap → Option FileMap → List ℕ → Status → Type 0
+IsRunLeft left files files' name status.Shelf = KeepsFiles files files' ⊎ IsFileAfterRun left files files' name
+IsRunLeft left files files' name other = KeepsFiles files files'
