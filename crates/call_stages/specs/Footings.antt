@@ -8,7 +8,7 @@ use Rattle.data_node.specs.Lists.{anchor_in}
 use Rattle.call_stages.specs.declared.once.Once.{Once}
 use Rattle.call_stages.specs.declared.once.Placed.{Placed}
 use Rattle.call_stages.specs.Stages.{Held, Grip, Filling, Linked, Gathered, Joined, Gone, Stage, Holds, Splits, Joins}
-use Rattle.call_stages.specs.Stages.{Tells, counted}
+use Rattle.call_stages.specs.Stages.{IsSwitched, Tells, counted}
 use Rattle.call_stages.specs.Kinds.{Step}
 use Rattle.call_stages.specs.Lines.{HeldLine, Notes}
 use Rattle.call_stages.specs.AnySteps.{IsBeside}
@@ -62,11 +62,11 @@ abbrev pub IsRetired : Stage → HeldLine → Type 0
 IsRetired (Joins h left right Gone) e = IsOfMerge e right
 IsRetired _ e = ⊥
 
--- What a step on the line asks of the stage: a line of a merge becomes READY once the right node is GONE, and while
--- both nodes are held.
+-- What a step on the line asks of the stage: a line becomes READY only once the switch is durable, and one of a merge
+-- once the right node is GONE, while both nodes are held.
 abbrev pub Waits : Stage → Option HeldLine → Option HeldLine → Type 0
 Waits stage (Some e) (Some after) = e.ready ≡ false → after.ready ≡ true →
-    ((s : Spot) → Tells e.seen s → s 1 ≢ 2) ⊎ IsRetired stage e
+    ((n : ℕ) → IsSwitched stage n → ⊥) × (((s : Spot) → Tells e.seen s → s 1 ≢ 2) ⊎ IsRetired stage e)
 Waits stage _ _ = Unit {0}
 
 -- The line is known to be EMPTY.

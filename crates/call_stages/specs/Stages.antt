@@ -249,3 +249,9 @@ HoldsNode (Leaves left) n = left.node ≡ n
 HoldsNode (Wears m v) n = ⊥
 HoldsNode (Meets m w h right) n = (m ≡ n) ⊎ (right.node ≡ n)
 HoldsNode (Joins h left right pace) n = (left.node ≡ n) ⊎ (right.node ≡ n)
+
+-- The party has put this node into the list, or left it out, by a switch that may not be durable yet.
+abbrev pub IsSwitched : Stage → ℕ → Type 0
+IsSwitched (Splits left fresh Linked) n = fresh.node ≡ n
+IsSwitched (Joins h left right Joined) n = right.node ≡ n
+IsSwitched _ n = ⊥

@@ -141,7 +141,7 @@ module _ (z : Layered) (i : ℕ) (p : Party) (is : IsLayered z) (there : get_ele
     own_ready seen ready after marks same waits is_ready kind = ⊎_elim
         (λ (split : (s : Spot) → Tells e.seen s → s 1 ≢ 2). absurd (split (line_in l words e.caller e.number) sure.seen (sym (line_tie l words e sure.here 1 (omega arith)) ∙ kind)))
         (λ (retired : IsRetired p.stage e). retired_is p.stage e retired)
-        (waits (marks_unready e offset y seen ready marks) (same ∙ is_ready))
+        (waits (marks_unready e offset y seen ready marks) (same ∙ is_ready)).1
 
     marks_beside : (seen : List (ℕ × ℕ)) (ready : Bool) (after : HeldLine) → Marks e offset y seen ready → after.ready ≡ ready → Waits p.stage (Some e) (Some after) → Besides w is.holder (stored l words law.row e sure offset y small)
     marks_beside seen ready after marks same waits = record {

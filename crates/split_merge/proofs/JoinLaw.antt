@@ -549,7 +549,7 @@ module _ (join : Join) (sound : IsJoin join) (g : ℕ) (h : Held) (answer : Once
       noted at note = subst (λ k. Notes k (Some (ready_held (entry_in union) ready)) (ready_asks ready) x at) layout note
 
       waits : (number : ℕ) → number ≡ union.line → (next : HeldLine) (k : ReadyAt) → Waits (join_at_stage h union (at.Ready ready)) (Some (ready_at_held number (entry_in union) k)) (Some next)
-      waits number same next k = ready_waits (join_at_stage h union (at.Ready ready)) number (entry_in union) k next (inr (subst (λ n. IsOfMerge (open_line n (entry_in union)) (right_of union (head_seen union) (all_copied union))) (sym same) of_merge))
+      waits number same next k = ready_waits (join_at_stage h union (at.Ready ready)) number (entry_in union) k next (λ n none. none, inr (subst (λ n. IsOfMerge (open_line n (entry_in union)) (right_of union (head_seen union) (all_copied union))) (sym same) of_merge))
 
       after : (turn : Turn Ready (Unit {0})) → ReadyNotes ready.layout ready.line (entry_in union) (ready_held (entry_in union) ready) (ready_asks ready) x turn → Leads_to (footing (at.Ready ready)) (ready_asks ready) x (readied join turn)
       after (Go next) note = on (footing (at.Ready ready)) (ready_asks ready) x (at.Ready next)

@@ -14,7 +14,7 @@ use Rattle.data_node.proofs.SpotLemmas.{updated-same, updated-other}
 use Rattle.call_stages.specs.Stages.{Tells, Grip, Phase, Filling, Linked, Parted, Stage, Idle, Splits, Leaves, Joins, Gathered, Joined, Gone}
 use Rattle.call_stages.specs.Kinds.{HasWordAt, Soils, Cleans, word_address, Step, splits, publishes, leaves, fills as fills_word, lights, switches, glances_left, glances_fresh, drains_left, drains_fresh, trims}
 use Rattle.call_stages.specs.Lines.{HeldLine, Notes}
-use Rattle.call_stages.specs.Stages.{HoldsNode, counted}
+use Rattle.call_stages.specs.Stages.{HoldsNode, IsSwitched, counted}
 use Rattle.call_stages.specs.AnySteps.{stores_prev}
 use Rattle.call_stages.specs.Prevs.{IsSwitch, IsJoin}
 use Rattle.call_stages.specs.Prevs.{Debt, no_debt, IsRetire, Deals, keeps, ends, switches as deals_switch, names, pays}
@@ -125,7 +125,8 @@ pub no_ready : {b : Bool} → b ≡ false → b ≡ true → ⊥
 no_ready unready ready = let no : false ≡ true = sym unready ∙ ready in cc
 
 -- by the store of READY the stage asks what it asks of the OPEN line
-pub ready_waits : (stage : Stage) (line : ℕ) (entry : Entry) (at : ReadyAt) (after : HeldLine) → ((s : Spot) → Tells (open_line line entry).seen s → s 1 ≢ 2) ⊎ IsRetired stage (open_line line entry)
+pub ready_waits : (stage : Stage) (line : ℕ) (entry : Entry) (at : ReadyAt) (after : HeldLine)
+    → ((n : ℕ) → IsSwitched stage n → ⊥) × (((s : Spot) → Tells (open_line line entry).seen s → s 1 ≢ 2) ⊎ IsRetired stage (open_line line entry))
     → Waits stage (Some (ready_at_held line entry at)) (Some after)
 ready_waits stage line entry ready_at.State after what = λ unready ready. what
 ready_waits stage line entry (ready_at.Fence fence) after what = λ unready ready. absurd (no_ready unready refl)
@@ -484,10 +485,10 @@ module _ (move : Move) (sound : IsMove move) (g : ℕ) (known : Known) (cuts : C
       noted : (at : Option HeldLine) → Notes ready.layout (Some (ready_held (entry_in plan) ready)) (ready_asks ready) x at → Notes l (Some (ready_held (entry_in plan) ready)) (ready_asks ready) x at
       noted at note = subst (λ k. Notes k (Some (ready_held (entry_in plan) ready)) (ready_asks ready) x at) layout note
 
-      -- it is the line of a split
+      -- the switch is durable, and it is the line of a split
       waits : (next : HeldLine) → Waits (linked plan known [] [] None Parted) (Some (ready_held (entry_in plan) ready)) (Some next)
       waits next = ready_waits (linked plan known [] [] None Parted) ready.line (entry_in plan) ready.at next
-          (inl (λ s told two. let one : s 1 ≡ 1 = told.1.1.1.1.1.1.1.0 in omega arith))
+          (λ n none. none, inl (λ s told two. let one : s 1 ≡ 1 = told.1.1.1.1.1.1.1.0 in omega arith))
 
       after : (turn : Turn Ready (Unit {0})) → ReadyNotes ready.layout ready.line (entry_in plan) (ready_held (entry_in plan) ready) (ready_asks ready) x turn → Leads_to (footing (at.Ready ready)) (ready_asks ready) x (readied move turn)
       after (Go next) note = on (footing (at.Ready ready)) (ready_asks ready) x (at.Ready next)
