@@ -1,9 +1,10 @@
--- All steps of a party: those on nodes, and those beside them, on words of log lines and on prevs, which say nothing of
--- nodes.
+-- All steps of a party: those on nodes, and those beside them, on words of log lines, on prevs and of the search layer,
+-- which say nothing of nodes.
 use Rattle.std.specs.Prelude.{◌≡◌, ℕ, ◌<◌, ◌^◌, Option, None}
 use Rattle.pm_words.specs.declared.layout.Layout.{Layout}
 use Rattle.pm_words.specs.declared.action.Action.{Action}
 use Rattle.pm_words.specs.declared.action.Action.TheVariants.{Load, Store, Drain}
+use Rattle.pm_words.specs.Locations.{Leaf, Cached, leaf_count, address_of}
 use Rattle.call_stages.specs.declared.once.Once.{Once}
 use Rattle.call_stages.specs.declared.once.Placed.{Placed}
 use Rattle.call_stages.specs.Stages.{Stage, counted}
@@ -14,7 +15,15 @@ use Rattle.call_stages.specs.Lines.{line_address}
 abbrev pub HasLineWord : Layout → ℕ → ℕ → ℕ → Type 0
 HasLineWord l c j offset = (c < l.callers) × (j < 8) × (offset < 8)
 
--- An action on a word of a log line, or the store of a prev.
+-- The leaf and the offset are of this layout.
+abbrev pub HasLeafWord : Layout → ℕ → ℕ → Type 0
+HasLeafWord l leaf offset = (leaf < leaf_count l) × (offset < 8)
+
+abbrev pub leaf_address : Layout → ℕ → ℕ → ℕ
+leaf_address l leaf offset = address_of l (Cached (Leaf leaf offset))
+
+-- An action on a word of a log line, the store of a prev, or the load of a word of the search layer, which says nothing
+-- that a call could rely on.
 pub data IsBeside (l : Layout) : Action → Type 0 where
   loads_line : {c j offset : ℕ} → HasLineWord l c j offset → IsBeside l (Load (line_address l c j offset))
   stores_line : {c j offset y : ℕ} → HasLineWord l c j offset → y < 2 ^ 64 →
@@ -22,6 +31,7 @@ pub data IsBeside (l : Layout) : Action → Type 0 where
   drains_line : {c j offset y : ℕ} → HasLineWord l c j offset → y < 2 ^ 64 →
       IsBeside l (Drain (line_address l c j offset) y)
   stores_prev : {n y : ℕ} → n < l.nodes → y < 2 ^ 64 → IsBeside l (Store (prev_address l n) y)
+  loads_leaf : {leaf offset : ℕ} → HasLeafWord l leaf offset → IsBeside l (Load (leaf_address l leaf offset))
 
 -- A step on nodes, or one beside them of a party that isn't about to count a change. That one leaves its stage.
 pub data AnyStep (l : Layout) (g : ℕ) : Stage → Action → ℕ → Stage → Option (Once Placed) → Type 0 where

@@ -1,7 +1,9 @@
--- All that a party has at a moment, and the steps that it makes: on nodes, on its log line, and the stores of prevs.
+-- All that a party has at a moment, and the steps that it makes: on nodes, on its log line, the stores of prevs, and the
+-- loads of words of the search layer.
 use Rattle.std.specs.Prelude.{◌≡◌, ◌≢◌, ℕ, ◌⊎◌, true, false, [], ◌∷◌, Option, Some, None, IfSome}
 use Rattle.pm_words.specs.declared.layout.Layout.{Layout}
 use Rattle.pm_words.specs.declared.action.Action.{Action}
+use Rattle.pm_words.specs.declared.action.Action.TheVariants.{Load}
 use Rattle.cat_key.specs.Names.{AreNameWords}
 use Rattle.data_node.specs.Spots.{Spot}
 use Rattle.data_node.specs.Lists.{anchor_in}
@@ -11,7 +13,7 @@ use Rattle.call_stages.specs.Stages.{Held, Grip, Filling, Linked, Gathered, Join
 use Rattle.call_stages.specs.Stages.{IsSwitched, Tells, counted}
 use Rattle.call_stages.specs.Kinds.{Step}
 use Rattle.call_stages.specs.Lines.{HeldLine, Notes}
-use Rattle.call_stages.specs.AnySteps.{IsBeside}
+use Rattle.call_stages.specs.AnySteps.{HasLeafWord, leaf_address, IsBeside}
 use Rattle.call_stages.specs.Prevs.{Debt, Deals, Prevs}
 
 -- The stage of its call, its log line, and what it knows and owes of prevs.
@@ -109,4 +111,11 @@ pub data FootStep (l : Layout) (g c : ℕ) : Footing → Action → ℕ → Foot
         stage = stage;
         line = line;
         debt = debt';
+      }) None
+  on_layer : {stage : Stage} {line : Option HeldLine} {debt : Debt} {leaf offset x : ℕ} →
+      counted stage ≡ None → HasLeafWord l leaf offset →
+      FootStep l g c (record { stage = stage; line = line; debt = debt }) (Load (leaf_address l leaf offset)) x (record {
+        stage = stage;
+        line = line;
+        debt = debt;
       }) None

@@ -7,7 +7,7 @@ use lib.ListN.{get_elem?}
 use Rattle.pm_words.specs.declared.layout.Layout.{Layout}
 use Rattle.pm_words.specs.declared.action.Action.{Action}
 use Rattle.pm_words.specs.declared.action.Action.TheVariants.{Load, Add}
-use Rattle.pm_words.specs.Locations.{Word, Node, Line, Location, Volatile, Cached, Durable, Clock, HasLocation, address_of}
+use Rattle.pm_words.specs.Locations.{Word, Node, Line, Leaf, Location, Volatile, Cached, Durable, Clock, HasLocation, address_of}
 use Rattle.pm_words.specs.Rows.{IsRow, CanAct, acted, got}
 use Rattle.pm_words.proofs.Apart.{addresses_within, addresses_apart, at-set_other}
 use Rattle.pm_words.proofs.Kept.{action_address-drain, acted_row, outside_header, names_cached, keeps_header}
@@ -15,7 +15,7 @@ use Rattle.cat_history.specs.declared.op.Change.{Change}
 use Rattle.call_stages.specs.Stages.{Stage, HoldsNode, counted}
 use Rattle.call_stages.specs.Kinds.{HasWordAt, word_address, status_address, clock_address}
 use Rattle.call_stages.specs.Lines.{line_address}
-use Rattle.call_stages.specs.AnySteps.{IsBeside, loads_line, stores_line, drains_line, stores_prev, on_nodes, beside}
+use Rattle.call_stages.specs.AnySteps.{leaf_address, IsBeside, loads_line, stores_line, drains_line, stores_prev, loads_leaf, on_nodes, beside}
 use Rattle.index_law.specs.Facts.{Facts, range_of}
 use Rattle.index_law.specs.Worlds.{Party, World, facts, stepped, written}
 use Rattle.index_law.specs.Lawful.{Lawful}
@@ -81,6 +81,7 @@ module _ (w : World) (lawful : Lawful w) where
       ((names_cached l (Line c j offset) has, keeps_header l (Line c j offset) y has (λ k lt e. cc)), fits)
   beside_can a (stores_prev {n = n} here fits) =
       ((addresses_within l (Volatile n 1) (here, omega arith), outside_header l (Volatile n 1) (here, omega arith) (λ k lt. (λ e. cc, λ e. cc))), fits)
+  beside_can a (loads_leaf {leaf = leaf} {offset = offset} has) = (addresses_within l (Cached (Leaf leaf offset)) has, tt)
 
   beside_lawful : (a : Action) → IsBeside l a → Lawful (record w { words = acted l w.words a })
   beside_lawful a (loads_line {c = c} {j = j} {offset = offset} has) =
@@ -93,6 +94,8 @@ module _ (w : World) (lawful : Lawful w) where
       (stored (Durable (Line c j offset)) y has (λ e. cc) (λ v e. cc) (λ v e. subst IsAside (ap line_of e) tt) (λ n e. cc) a (beside_can a (drains_line has fits)) is)
   beside_lawful a (stores_prev {n = n} {y = y} here fits) =
       stored (Volatile n 1) y (here, omega arith) (λ e. cc) (λ v e. cc) (λ v e. cc) (λ m e. let no : 1 ≡ 0 = ap offset_in e in omega arith) a (beside_can a (stores_prev here fits)) refl
+  beside_lawful a (loads_leaf {leaf = leaf} {offset = offset} has) =
+      subst (λ v. Lawful (record w { words = v })) (sym (set-get_or w.words (leaf_address l leaf offset) 0)) lawful
 
   beside_facts : (a : Action) → IsBeside l a → facts (record w { words = acted l w.words a }) ≡ facts w
   beside_facts a (loads_line {c = c} {j = j} {offset = offset} has) = ap (λ v. facts (record w { words = v })) (set-get_or w.words (line_address l c j offset) 0)
@@ -103,9 +106,10 @@ module _ (w : World) (lawful : Lawful w) where
       ∙ same_facts (Durable (Line c j offset)) y has (λ e. cc) (λ v e. cc) (λ v e. subst IsAside (ap line_of e) tt) (λ n e. cc)
   beside_facts a (stores_prev {n = n} {y = y} here fits) =
       same_facts (Volatile n 1) y (here, omega arith) (λ e. cc) (λ v e. cc) (λ v e. cc) (λ m e. let no : 1 ≡ 0 = ap offset_in e in omega arith)
+  beside_facts a (loads_leaf {leaf = leaf} {offset = offset} has) = ap (λ v. facts (record w { words = v })) (set-get_or w.words (leaf_address l leaf offset) 0)
 
 -- the world that such a step leaves
-beside_world : (w : World) (i : ℕ) (p : Party) (a : Action) → get_elem? w.parties i ≡ some p → counted p.stage ≡ None
+pub beside_world : (w : World) (i : ℕ) (p : Party) (a : Action) → get_elem? w.parties i ≡ some p → counted p.stage ≡ None
     → stepped w i p a p.stage ≡ record w { words = acted w.layout w.words a }
 beside_world w i p a there none =
     let history : w.history ++ written p.caller p.index (counted p.stage) ≡ w.history =
@@ -137,6 +141,9 @@ beside_loads l n offset a here (loads_line {c = c} {j = j} {offset = o} has) is 
 beside_loads l n offset a here (stores_line has fits) is = cc
 beside_loads l n offset a here (drains_line has fits) is = cc
 beside_loads l n offset a here (stores_prev low fits) is = cc
+beside_loads l n offset a here (loads_leaf {leaf = leaf} {offset = o} has) is =
+    let same : Cached (Leaf leaf o) ≡ Cached (Node n offset) = addresses_apart l (Cached (Leaf leaf o)) (Cached (Node n offset)) has here (ap loaded_from is) in
+    subst IsAside (ap line_of same) tt
 
 beside_status : (l : Layout) (n : ℕ) (a : Action) → HasLocation l (Volatile n 0) → IsBeside l a → a ≡ Load (status_address l n) → ⊥
 beside_status l n a here (loads_line {c = c} {j = j} {offset = o} has) is =
@@ -145,6 +152,9 @@ beside_status l n a here (loads_line {c = c} {j = j} {offset = o} has) is =
 beside_status l n a here (stores_line has fits) is = cc
 beside_status l n a here (drains_line has fits) is = cc
 beside_status l n a here (stores_prev low fits) is = cc
+beside_status l n a here (loads_leaf {leaf = leaf} {offset = o} has) is =
+    let same : Cached (Leaf leaf o) ≡ Volatile n 0 = addresses_apart l (Cached (Leaf leaf o)) (Volatile n 0) has here (ap loaded_from is) in
+    absurd (cc)
 
 -- what it gives is a word
 beside_fits : (w : World) → Lawful w → (a : Action) → IsBeside w.layout a → got w.layout w.words a < 2 ^ 64
@@ -152,6 +162,7 @@ beside_fits w lawful a (loads_line {c = c} {j = j} {offset = offset} has) = lawf
 beside_fits w lawful a (stores_line has fits) = omega arith
 beside_fits w lawful a (drains_line has fits) = omega arith
 beside_fits w lawful a (stores_prev here fits) = omega arith
+beside_fits w lawful a (loads_leaf {leaf = leaf} {offset = offset} has) = lawful.row.fits (leaf_address w.layout leaf offset)
 
 pub any_can : AnyCanAct
 any_can w i p a lawful there (inl allowed) room = action_law w i p a lawful there allowed room
@@ -184,6 +195,7 @@ beside_counts l a x count change is none = subst (Counts l count a x) (sym none)
     never (stores_line has fits) e = cc
     never (drains_line has fits) e = cc
     never (stores_prev here fits) e = cc
+    never (loads_leaf has) e = cc
 
 pub any_keeps : AnyStepKeeps
 any_keeps w i p a x t r lawful there (on_nodes k) told room = step_law w i p a x t r lawful there k told room

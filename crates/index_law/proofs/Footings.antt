@@ -7,6 +7,7 @@ use mathlib.Core.Option.{some, some-injective}
 use lib.ListN.{get_elem?}
 use Rattle.pm_words.specs.declared.layout.Layout.{Layout}
 use Rattle.pm_words.specs.declared.action.Action.{Action}
+use Rattle.pm_words.specs.declared.action.Action.TheVariants.{Load}
 use Rattle.pm_words.specs.Locations.{Location, Line, Cached, Durable, at}
 use Rattle.pm_words.proofs.Apart.{at-set_other}
 use Rattle.pm_words.specs.Rows.{acted}
@@ -14,7 +15,7 @@ use Rattle.pm_words.proofs.Kept.{action_address-drain}
 use Rattle.call_stages.specs.Stages.{Stage, counted}
 use Rattle.call_stages.specs.Kinds.{Step}
 use Rattle.call_stages.specs.Lines.{HeldLine, line_address, Notes, passes_line, takes, looks_up, notes, keeps_safe}
-use Rattle.call_stages.specs.AnySteps.{IsBeside, on_nodes, beside}
+use Rattle.call_stages.specs.AnySteps.{leaf_address, IsBeside, loads_leaf, on_nodes, beside}
 use Rattle.index_law.specs.Worlds.{Party, World, facts, stepped}
 use Rattle.index_law.specs.Laws.{Allowed}
 use Rattle.index_law.specs.Lines.{line_in, SureLine}
@@ -23,7 +24,7 @@ use Rattle.index_law.specs.Whole.{Whole, IsWhole}
 use Rattle.index_law.specs.Footings.{FootStepIsAny, IsInHand, NeedsNoParty, AreTended, stepped_whole, FootStepKeeps}
 use Rattle.call_stages.specs.Footings.{Footing, IsKnownEmpty, IsLeftToTurn, KeepsOrLetsGo, FootStep}
 use Rattle.call_stages.specs.Footings as foot
-use Rattle.index_law.proofs.AnySteps.{set_own, beside_keeps}
+use Rattle.index_law.proofs.AnySteps.{set_own, beside_world, beside_keeps}
 use Rattle.index_law.proofs.Noting.{line-alike, nodes_leave_lines}
 use Rattle.index_law.proofs.Own.{allow_law, sure_within}
 use Rattle.index_law.proofs.Parties.{set_here, set_else}
@@ -33,6 +34,7 @@ pub foot_any : FootStepIsAny
 foot_any l g c f t a x r (foot.on_nodes minds kept k deals) = on_nodes k
 foot_any l g c f t a x r (foot.on_line waits none is k own) = beside none is
 foot_any l g c f t a x r (foot.on_prev none is k) = beside none is
+foot_any l g c f t a x r (foot.on_layer none has) = beside none (loads_leaf has)
 
 -- a step on a line leaves the words of every other line
 abbrev caller_in : Location → ℕ
@@ -125,6 +127,19 @@ beside_parties : (z : Whole) (i : ℕ) (p : Party) (a : Action) → IsWhole z �
     → stepped z.world i p a p.stage ≡ record (z.world) { words = acted z.world.layout z.world.words a }
 beside_parties z i p a whole there none is = (beside_keeps z.world i p a whole.joint.lawful there none is).world
 
+-- the load of a word of the search layer leaves all as it is
+pub layer_load_stays : (z : Whole) (i : ℕ) (p : Party) (foot : Footing) (leaf offset : ℕ) → get_elem? z.world.parties i ≡ some p → get_elem? z.lines i ≡ some foot.line → get_elem? z.debts i ≡ some foot.debt
+    → p.stage ≡ foot.stage → counted foot.stage ≡ None → stepped_whole z i p (Load (leaf_address z.world.layout leaf offset)) foot ≡ z
+layer_load_stays z i p foot leaf offset there at owing stage none =
+    let w = z.world in
+    let a : Action = Load (leaf_address w.layout leaf offset) in
+    let words : acted w.layout w.words a ≡ w.words = set-get_or w.words (leaf_address w.layout leaf offset) 0 in
+    let world : stepped w i p a foot.stage ≡ w =
+    ap (stepped w i p a) (sym stage) ∙ beside_world w i p a there (ap counted stage ∙ none) ∙ ap (λ (v : List ℕ). record w { words = v }) words in
+    let lines : slice_set z.lines i foot.line ≡ z.lines = set_own z.lines i foot.line at in
+    let debts : slice_set z.debts i foot.debt ≡ z.debts = set_own z.debts i foot.debt owing in
+    λ k. record { world = world k; lines = lines k; debts = debts k }
+
 pub foot_keeps : FootStepKeeps
 foot_keeps z i p f t a x r whole tended there at owing stage (foot.on_nodes {stage = s} {next = next} {line = line} {after = after} {debt = d} {debt' = d'} minds kept k deals) told room =
     let w = z.world in
@@ -176,3 +191,6 @@ foot_keeps z i p f t a x r whole tended there at owing stage (foot.on_prev {stag
       subst IsWhole same (whole_prev z i p a d d' whole there owing k'),
       tended_same z i p whole tended there s line line (stepped w i p a s) (slice_set z.debts i d') refl at (inl refl) (λ c j. (stays c j 0).0),
     )
+foot_keeps z i p f t a x r whole tended there at owing stage (foot.on_layer {stage = s} {line = line} {debt = d} {leaf = leaf} {offset = offset} none has) told room =
+    let stays = layer_load_stays z i p (record { stage = s; line = line; debt = d }) leaf offset there at owing stage none in
+    (subst IsWhole (sym stays) whole, subst AreTended (sym stays) tended)

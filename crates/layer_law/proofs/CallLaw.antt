@@ -20,10 +20,10 @@ use Rattle.call_stages.specs.Footings as foot
 use Rattle.call_stages.specs.Prevs.{Debt, Prevs}
 use Rattle.index_law.specs.Worlds.{Party, World, facts, stepped, moved_on}
 use Rattle.index_law.specs.Lines.{line_in, SureLine}
-use Rattle.index_law.specs.Whole.{IsWhole}
+use Rattle.index_law.specs.Whole.{Whole, IsWhole}
 use Rattle.index_law.specs.Footings.{AreTended, stepped_whole}
 use Rattle.index_law.proofs.AnySteps.{beside_keeps}
-use Rattle.index_law.proofs.Footings.{foot_keeps}
+use Rattle.index_law.proofs.Footings.{layer_load_stays, foot_keeps}
 use Rattle.index_law.proofs.Noting.{marks_unready}
 use Rattle.index_law.proofs.Parties.{at_set}
 use Rattle.turn_law.specs.Covers.{Lines}
@@ -280,3 +280,6 @@ call_step_keeps z i p f next a x r is there at owing stage (foot.on_prev {stage 
     let besides = both.0 in
     subst goal stage (beside_layered z i p is there a line line d' none' is_beside whole' besides
     (same_retiring z i p is there a line line d' none' is_beside whole' besides both.1 at (λ right f was. was)))
+call_step_keeps z i p f next a x r is there at owing stage (foot.on_layer {stage = s} {line = line} {debt = d} {leaf = leaf} {offset = offset} none has) told room =
+    let stays = layer_load_stays z.whole i p (record { stage = s; line = line; debt = d }) leaf offset there at owing stage none in
+    subst (λ (whole : Whole). IsLayered (record { whole = whole; turns = z.turns })) (sym stays) is
