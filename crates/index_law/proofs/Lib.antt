@@ -51,3 +51,4 @@ pub mod Claims
 pub mod AnySteps
 pub mod Footings
 pub mod Footed
+pub mod InUse

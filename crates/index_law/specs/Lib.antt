@@ -18,3 +18,4 @@ pub mod Claims
 pub mod AnySteps
 pub mod Footings
 pub mod Footed
+pub mod InUse

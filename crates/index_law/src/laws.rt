@@ -15,6 +15,7 @@ ghost use Rattle.index_law.specs.Joint.{NodeStepKeeps, LineStepKeeps};
 ghost use Rattle.index_law.specs.Lines.{NotesKeep, NodesLeaveLines, EvictFits};
 ghost use Rattle.index_law.specs.Shapes.{StepShapes};
 ghost use Rattle.index_law.specs.Weights.{StepWeighs, StartWeighs, JoinWeighs, EvictWeighs, IdleWeighs, CrashWeighs};
+ghost use Rattle.index_law.specs.InUse.{UseWeighs};
 ghost use Rattle.index_law.specs.Images.{CrashLeavesSound};
 ghost use Rattle.index_law.specs.Laws.{StepIsAllowed, AllowedMayName, AllowedCanAct, StepKeeps, StartKeeps, JoinKeeps};
 ghost use Rattle.index_law.specs.Laws.{EvictKeeps, DurablesAreAList, CrashLeavesEnd, RestIsLawful, IdleIsAtRest};
@@ -97,6 +98,12 @@ pub fn start_weighs()
 /// Where all parties are idle the sum is the weight.
 pub fn idle_weighs()
     ensures { IdleWeighs }
+{}
+
+/// Where no node is FREE, and each that is about to be split has a name in each slot, the sum is at least half of all
+/// slots.
+pub fn use_weighs()
+    ensures { UseWeighs }
 {}
 
 /// A step leaves the list as it is, or it is the switch of a split, which cuts one full member in two, or that of a
