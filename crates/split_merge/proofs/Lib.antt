@@ -22,3 +22,4 @@ pub mod JoinStaying
 pub mod MergeStaying
 pub mod MergeLaw
 pub mod MergeHeeding
+pub mod FullSplits

@@ -1,11 +1,12 @@
 -- What every turn of a split is.
-use Rattle.std.specs.Prelude.{◌≡◌, ℕ, ◌<◌, List, slice_index, Some, None}
+use Rattle.std.specs.Prelude.{◌≡◌, ℕ, ◌<◌, ◌≤◌, List, slice_index, Some, None}
 use Rattle.pm_words.specs.declared.again.Again.TheVariants as again
 use Rattle.pm_words.specs.declared.machine.Turn.{Turn}
 use Rattle.pm_words.specs.declared.machine.Turn.TheVariants.{Go, Done}
 use Rattle.data_node.specs.Slots.{AreAllLive}
+use Rattle.data_node.specs.Spots.{Spot, bitmap_offset}
 use Rattle.call_stages.specs.declared.once.Once.TheVariants as once
-use Rattle.call_stages.specs.Stages.{Held}
+use Rattle.call_stages.specs.Stages.{Held, Tells, Filling, Stage, Splits}
 use Rattle.call_stages.specs.Kinds.{Told, LeadsWithin}
 use Rattle.pm_alloc.specs.Laws.{MayClaim}
 use Rattle.split_merge.specs.declared.splitting.Share.{Share}
@@ -16,6 +17,8 @@ use Rattle.call_stages.specs.Footings.{FootStep}
 use Rattle.split_merge.specs.Plans.{IsPlan}
 use Rattle.split_merge.specs.Splits.{AreWords, IsShare, IsSplit, plan_of, split_asks, split_turned, split_takes}
 use Rattle.split_merge.specs.SplitStages.{bitmap_in, known_by, split_footing, done_footing}
+use Rattle.split_merge.specs.declared.merging.Merge.{Merge}
+use Rattle.split_merge.specs.MergeStages.{merge_footing}
 use Rattle.split_merge.specs.Laws.{Cuts}
 
 -- The party holds a node of which it knows that all slots are live, with all durable; it has loaded the clock, and its
@@ -67,3 +70,18 @@ SplitStays split (Done answer) = Unit {0}
 
 abbrev pub SplitsStay : Type 0
 SplitsStay = (split : Split) (x : ℕ) → split_takes split x → SplitStays split (split_turned split x)
+
+-- A stage that splits a node, which doesn't lead to the fresh one yet, knows that it has a name in each slot.
+abbrev pub IsSplitOfFull : ℕ → Stage → Type 0
+IsSplitOfFull slots (Splits left fresh (Filling lit)) =
+    (s : Spot) → Tells left.seen s → AreAllLive (s bitmap_offset) slots
+IsSplitOfFull slots _ = Unit {0}
+
+-- So does a split of a full node, and a merge splits none.
+abbrev pub SplitsAreOfFull : Type 0
+SplitsAreOfFull = (split : Split) (h : Held) → 1 ≤ split.view.layout.slots →
+    AreAllLive (bitmap_in h.known.seen) split.view.layout.slots →
+    IsSplitOfFull split.view.layout.slots (split_footing h split).stage
+
+abbrev pub MergesSplitNone : Type 0
+MergesSplitNone = (slots : ℕ) (merge : Merge) (h : Held) → IsSplitOfFull slots (merge_footing h merge).stage

@@ -70,3 +70,11 @@ ghost use Rattle.split_merge.specs.MergeEvents.{MergesHeed};
 pub fn merges_heed()
     ensures { MergesHeed }
 {}
+
+ghost use Rattle.split_merge.specs.SplitLaws.{SplitsAreOfFull, MergesSplitNone};
+
+/// A split knows, until its node leads to the fresh one, that the node has a name in each slot; a merge splits none.
+pub fn splits_are_of_full_nodes()
+    ensures splits { SplitsAreOfFull }
+    ensures merges { MergesSplitNone }
+{}
