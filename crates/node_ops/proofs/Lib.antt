@@ -21,3 +21,4 @@ pub mod PartNames
 pub mod PartTelling
 pub mod PartBounds
 pub mod PartListing
+pub mod FullSplits

@@ -8,7 +8,8 @@ use Rattle.call_stages.specs.Kinds.{Told, LeadsWithin}
 use Rattle.call_stages.specs.AnySteps.{AnyStep}
 use Rattle.call_stages.specs.Footings.{FootStep}
 use Rattle.node_ops.specs.declared.running.Running.{Running}
-use Rattle.node_ops.specs.RunningSteps.{running_call, running_asks, running_turned, running_leads, Sound}
+use Rattle.split_merge.specs.SplitLaws.{IsSplitOfFull}
+use Rattle.node_ops.specs.RunningSteps.{running_call, running_asks, running_turned, running_leads, IsRunning, Sound}
 use Rattle.cat_history.specs.Records.{change_of}
 use Rattle.node_ops.specs.Asked.{IsOf, IsOfAfter, IsAbout, op_in, name_asked}
 use Rattle.node_ops.specs.CallStages.{stage_of, stage_after, footing_of, footing_after, reply_of, SoundAfter}
@@ -61,3 +62,8 @@ PendingIsOwnChange = (op : NameOp) (running : Running) (change : Change) → IsO
 -- a call is of no other op than the one that its machine tells
 abbrev pub OpIsTold : Type 0
 OpIsTold = (op : NameOp) (running : Running) → IsOf op running → op_in running ≡ op
+
+-- a call that splits a node, which doesn't lead to the fresh one yet, knows that the node has a name in each slot
+abbrev pub SplitsAreOfFullNodes : Type 0
+SplitsAreOfFullNodes = (running : Running) → IsRunning running →
+    IsSplitOfFull (running_call running).view.layout.slots (stage_of running)

@@ -2,7 +2,7 @@
 
 ghost use Rattle.node_ops.specs.Laws.{TurnsAreFootSteps, TurnsAreSteps, LeadsAreTaken, TurnsStaySound, TurnsKeepOp};
 ghost use Rattle.node_ops.specs.Laws.{CountsOwnChange, HoldsOwnName};
-ghost use Rattle.node_ops.specs.Laws.{PendingIsOwnChange, OpIsTold};
+ghost use Rattle.node_ops.specs.Laws.{PendingIsOwnChange, OpIsTold, SplitsAreOfFullNodes};
 
 /// Each turn of a sound call, whatever number it is told, is a step of one of the kinds, with the answer of the turn:
 /// on nodes, on a log line of its caller, or the store of a prev. Where a node that it holds leads to one of the
@@ -37,6 +37,11 @@ pub fn pending_law()
 /// A call is of no other op than the one that its machine tells.
 pub fn op_law()
     ensures { OpIsTold }
+{}
+
+/// A call that splits a node knows, until that leads to the fresh one, that it has a name in each slot.
+pub fn full_split_law()
+    ensures { SplitsAreOfFullNodes }
 {}
 
 ghost use Rattle.node_ops.specs.Endings.{DoneIsCounted, SpentIsLate, NoFreeIsOfPuts, RefusedIsUncounted};
