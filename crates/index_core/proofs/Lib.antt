@@ -38,3 +38,4 @@ pub mod TurnReading
 pub mod LoneTurning
 pub mod Opening
 pub mod RestImages
+pub mod InUse

@@ -129,6 +129,7 @@ machine_law s i e m is there flies =
       keeps_call = step.keeps_call;
       ready = after new (step.kept s.spare) turn (set_here s.states i (state_after e turn) e there);
       weighs = weight_on s.layout m (running_asks m) turn (weight_sum (world s)) (weight_sum (world new)) (step.keeps_op (op_in m) of) (step_shows step.is_step) (step.weighs s.spare);
+      shows_on = fades (op_in m) (shows (stage_of m)) turn (step.keeps_op (op_in m) of) (step_shows step.is_step);
     }
   where
     after : (t : Index) → IsIndex t → (turn : Turn Running (Once Placed)) → get_elem? t.states i ≡ some (state_after e turn) → ReadyAfter t.layout t.generation turn

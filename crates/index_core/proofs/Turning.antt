@@ -1,5 +1,5 @@
 -- Each step of a turn of the updater keeps the index.
-use Rattle.std.proofs.Common.{◌≡◌, ◌≢◌, ℕ, ◌+◌, ◌/◌, ◌<◌, ◌≤◌, ◌^◌, inl, inr, ⊎_elim, List, [], ◌∷◌, set, map, refl, sym, ap, ◌∙◌, subst, arith}
+use Rattle.std.proofs.Common.{◌≡◌, ◌≢◌, ℕ, ◌+◌, ◌/◌, ◌<◌, ◌≤◌, ◌^◌, inl, inr, ⊎_elim, true, List, [], ◌∷◌, set, map, refl, sym, ap, ◌∙◌, subst, arith}
 use Rattle.std.specs.Prelude.{Option, Some, IfSome}
 use Rattle.std.proofs.lemmas.Option.{IfSome_then}
 use mathlib.Core.Option.{some}
@@ -15,11 +15,12 @@ use Rattle.call_stages.specs.Watches.{Nothing}
 use Rattle.node_ops.specs.declared.running.Running.{Running}
 use Rattle.index_law.specs.Facts.{Facts}
 use Rattle.index_law.specs.Worlds.{Party, World, facts}
+use Rattle.index_law.specs.InUse.{AreInUse}
 use Rattle.index_law.specs.Weights.{gone_weight, index_weight, lowered_in, lowered_sum, weight_sum}
 use Rattle.index_law.proofs.Weights.{gone_less}
 use Rattle.index_law.proofs.Parties.{at_set, set_here}
 use Rattle.turn_row.specs.Columns.{RowTerms}
-use Rattle.turn_row.specs.RowStages.{Resting}
+use Rattle.turn_row.specs.RowStages.{Resting, Counts}
 use Rattle.turn_row.specs.Turnings.{Turning, TurnFoot}
 use Rattle.updater.specs.declared.making.MakeTurn.{MakeTurn}
 use Rattle.updater.specs.declared.making.MakeTurn.TheVariants.{Taking, Working}
@@ -40,8 +41,9 @@ use Rattle.layer_law.proofs.TurnRests.{turn_start_keeps}
 use Rattle.index_core.specs.declared.party.PartyState.{PartyState}
 use Rattle.index_core.specs.PartyStates.{party_of, resting, turning_of, turn_after, IsTurnOf}
 use Rattle.index_core.specs.Indexes.{Index, IsIndex, RunningEnds, world, footed, layered}
-use Rattle.index_core.specs.Turns.{turn_told, turned_index, TurnLaw, TurnKeeps, TurnBegins}
+use Rattle.index_core.specs.Turns.{turn_told, turned_index, FindsNoneFree, TurnLaw, TurnKeeps, TurnBegins}
 use Rattle.index_core.proofs.Footings.{line_of, debt_of}
+use Rattle.index_core.proofs.InUse.{ends_counting, counted_none, in_use_weighs}
 use Rattle.index_core.proofs.Layering.{turn_of, map_own}
 use Rattle.index_core.proofs.Lists.{map_there, map_set, set_twice}
 use Rattle.index_core.proofs.PartFacts.{running_listed}
@@ -224,6 +226,12 @@ module _ (s : Index) (i : ℕ) (state : PartyState) (making : MakeTurn) (is : Is
   }
   own_after (Done reply) stays = tt
 
+  -- as it gives back the lock, no node is FREE where it answers so
+  none_free : FindsNoneFree turn → AreInUse (world s)
+  none_free finds =
+      let ends = ends_counting making x finds in
+      counted_none s layer i (making_turning making) at_turn (ends ∙ ap (λ (l : Layout). Counts l.nodes true) own.layout)
+
   pub turn_law : TurnLaw s i state making
   turn_law =
       let words = acted s.layout s.words action in
@@ -236,6 +244,7 @@ module _ (s : Index) (i : ℕ) (state : PartyState) (making : MakeTurn) (is : Is
         kept = kept;
         keeps = keeps;
         weighs = weighs_no_more (world s) (world (turned_index s i state making)) refl same keeps;
+        in_use = λ none. in_use_weighs s is (none_free none);
       }
 
 pub turns_keep : TurnKeeps

@@ -101,6 +101,8 @@ pub record MachineLaw (s : Index) (party : ℕ) (state : PartyState) (machine : 
   -- the weight rises by one at most, and only where a put begins to show its new name
   pub weighs : weight_sum (world (stepped_index s party state machine s.spare)) + showing (Some machine) ≤
       weight_sum (world s) + showing_after (op_in machine) (running_turned machine (told s machine))
+  -- a put that shows its new name goes on to, until it is answered so
+  pub shows_on : showing (Some machine) ≤ showing_after (op_in machine) (running_turned machine (told s machine))
 
 abbrev pub MachineKeeps : Type 0
 MachineKeeps = (s : Index) (party : ℕ) (state : PartyState) (machine : Running) → IsIndex s →

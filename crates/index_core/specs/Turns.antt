@@ -1,7 +1,9 @@
 -- Turns of the updater in the core: how one begins, what each step of it changes, and how it is answered.
-use Rattle.std.specs.Prelude.{◌≡◌, ℕ, ◌<◌, ◌≤◌, ◌^◌, slice_set, Option, Some, None}
+use Rattle.std.specs.Prelude.{◌≡◌, ℕ, ◌*◌, ◌/◌, ◌<◌, ◌≤◌, ◌^◌, true, slice_set, Option, Some, None}
 use mathlib.Core.Option.{some}
 use lib.ListN.{get_elem?}
+use Rattle.pm_words.specs.declared.machine.Turn.{Turn}
+use Rattle.pm_words.specs.declared.machine.Turn.TheVariants.{Go, Done}
 use Rattle.pm_words.specs.Rows.{CanAct, acted, got}
 use Rattle.pm_words.specs.Turns.{GoesBelow}
 use Rattle.index_law.specs.Worlds.{facts}
@@ -10,6 +12,7 @@ use Rattle.layer_law.specs.Laws.{LeavesNodes}
 use Rattle.lone_turn.specs.LoneTurns.{IsLoneTurn}
 use Rattle.updater.specs.declared.making.MakeTurn.{MakeTurn}
 use Rattle.updater.specs.declared.making.TurnReply.{TurnReply}
+use Rattle.updater.specs.declared.making.TurnReply.TheVariants as reply
 use Rattle.updater.specs.declared.terms.Turned.{Turned}
 use Rattle.updater.specs.Makings.{making_from, making_asks, making_turned, making_takes, making_left}
 use Rattle.index_core.specs.declared.party.PartyState.{PartyState}
@@ -57,6 +60,12 @@ pub record TurnSteps (old : Index) (party : ℕ) (new : Index) (result : Option 
   -- it has fewer actions left
   pub fewer : GoesBelow making_left (making_left making) (making_turned making (turn_told old making))
 
+-- The turn ends here, and answers that no node is FREE.
+abbrev pub FindsNoneFree : Turn MakeTurn TurnReply → Type 0
+FindsNoneFree (Go making) = ⊥
+FindsNoneFree (Done (reply.Turned turned)) = turned.none_free ≡ true
+FindsNoneFree (Done (reply.Held word)) = ⊥
+
 -- What a step of a party's turn needs and leaves: whoever keeps the words rests on this.
 pub record TurnLaw (s : Index) (party : ℕ) (state : PartyState) (making : MakeTurn) : Type 0 where
   pub can : CanAct s.layout s.words (making_asks making)
@@ -64,6 +73,9 @@ pub record TurnLaw (s : Index) (party : ℕ) (state : PartyState) (making : Make
   pub kept : IsIndex (turned_index s party state making)
   pub keeps : KeepsNodes s (turned_index s party state making)
   pub weighs : weight_sum (world (turned_index s party state making)) ≤ weight_sum (world s)
+  -- where it ends and found no node FREE, the weight is at least half of all slots
+  pub in_use : FindsNoneFree (making_turned making (turn_told s making)) →
+      s.layout.nodes * (s.layout.slots / 2) ≤ weight_sum (world s)
 
 abbrev pub TurnKeeps : Type 0
 TurnKeeps = (s : Index) (party : ℕ) (state : PartyState) (making : MakeTurn) → IsIndex s →

@@ -61,7 +61,7 @@ pub version_tie : (l : Layout) (words : List ℕ) (n : ℕ) → node_field l wor
 unfolding column version_in
 version_tie l words n = refl
 
-status_tie : (l : Layout) (words : List ℕ) (n : ℕ) → volatile_field l words 0 n ≡ status_in l words n
+pub status_tie : (l : Layout) (words : List ℕ) (n : ℕ) → volatile_field l words 0 n ≡ status_in l words n
 unfolding column status_in
 status_tie l words n = refl
 
