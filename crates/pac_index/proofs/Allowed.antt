@@ -1,5 +1,5 @@
 -- Each step of a machine keeps the table's rule, by the core's law on a step of a party's machine.
-use Rattle.std.proofs.Common.{◌≡◌, ◌≢◌, ℕ, zero, suc, ◌+◌, ◌<◌, ◌≤◌, ◌%◌, ◌^◌, ⊎_elim, List, [], ◌∷◌, ◌++◌, length, set, refl, sym, ap, ◌∙◌, subst, arith}
+use Rattle.std.proofs.Common.{◌≡◌, ◌≢◌, ℕ, zero, suc, ◌+◌, ◌*◌, ◌/◌, ◌<◌, ◌≤◌, ◌%◌, ◌^◌, ◌⊎◌, inl, ⊎_elim, true, List, [], ◌∷◌, ◌++◌, length, set, refl, sym, ap, ◌∙◌, subst, arith}
 use Rattle.std.specs.Prelude.{Option, Some, None, IfSome, slice_index}
 use mathlib.Core.Option.{some, some-injective, some-ne-none}
 use lib.ListN.{get_elem?}
@@ -37,7 +37,7 @@ use Rattle.index_core.proofs.MachineLaw.{machine_law, begin_law}
 use Rattle.atomic_table.specs.Table.{State, Me, keeps}
 use Rattle.pac_index.specs.declared.rule.About.{About}
 use Rattle.pac_index.specs.declared.rule.Member.{Member}
-use Rattle.pac_index.specs.Kept.{index_of, placed_by, noted, Fits, AllFit, times_in, times_in_all, Kept, added_now, Goes, ListsNow, Tells, Starts, May, party, IsLone, machine_in, calling}
+use Rattle.pac_index.specs.Kept.{index_of, placed_by, noted, Fits, AllFit, times_in, times_in_all, IsHalfPaid, AllPaid, Kept, added_now, Goes, ListsNow, Tells, Starts, May, party, IsLone, machine_in, calling}
 use Rattle.pac_index.proofs.PartRuns.{lists_now}
 use Rattle.pac_index.proofs.Lists.{begins_more, begins_self, begins_le, placed_append, own_placed, others_keep, times_there, times_two, times_set, added_set}
 
@@ -94,9 +94,12 @@ pub moved : (about : About) (id : ℕ) (v w : Member) (words : List ℕ) (histor
     → IsIndex (index_of about words (set kept.states v.state.caller w.state) history) → Fits about (set kept.states v.state.caller w.state) history w
     → ((u : Member) → v.state.caller ≢ u.state.caller → Fits about kept.states kept.history u → Fits about (set kept.states v.state.caller w.state) history u)
     → weight_sum (world (index_of about words (set kept.states v.state.caller w.state) history)) + (v.added + showing v.state.machine) ≤ weight_sum (world (index_of about s.words kept.states kept.history)) + (w.added + showing w.state.machine)
+    → v.added + showing v.state.machine ≤ w.added + showing w.state.machine → (w.none_free ≡ true → (v.none_free ≡ true) ⊎ IsHalfPaid about s.views)
     → Kept about (record { words = words; homes = s.homes; views = set s.views id (w ∷ []) })
-moved about id v w words history s kept at caller index fit others weighs =
+moved about id v w words history s kept at caller index fit others weighs more paid =
     let states = set kept.states v.state.caller w.state in
+    let views : List (List Member) = set s.views id (w ∷ []) in
+    let still : IsHalfPaid about s.views → IsHalfPaid about views = (λ was. let after = added_set s.views id (v ∷ []) (w ∷ []) at in omega arith) in
     record {
       states = states;
       history = history;
@@ -107,6 +110,11 @@ moved about id v w words history s kept at caller index fit others weighs =
           (at_set s.views id j (w ∷ []) view there);
       once = λ number. let moved = times_set number s.views id (v ∷ []) (w ∷ []) at in let before = kept.once number in let alike = ap (λ (k : ℕ). times_in number (record w { state = record w.state { caller = k } } ∷ [])) caller in omega arith;
       weight = let after = added_set s.views id (v ∷ []) (w ∷ []) at in let before = kept.weight in omega arith;
+      full = λ j view there. ⊎_elim
+          (λ (t : (j ≡ id) × (w ∷ [] ≡ view)). subst (AllPaid about views) t.1 (alone (λ (m : Member). m.none_free ≡ true → IsHalfPaid about views) w
+          (λ noted. ⊎_elim (λ was. still (kept.full id (v ∷ []) at 0 v refl was)) (λ now. still now) (paid noted))))
+          (λ (t : (j ≢ id) × (get_elem? s.views j ≡ some view)) k u here noted. still (kept.full j view t.1 k u here noted))
+          (at_set s.views id j (w ∷ []) view there);
     }
 
 -- What a seat's step with this action leaves of the table's rule: the party that the seat has then, and what that shows.
@@ -172,7 +180,7 @@ module _ (about : About) (id : ℕ) (v : Member) (m : Running) (f : ℕ → ℕ)
       let turn = running_turned m x in
       let now = state_after v.state turn in
       let more = written c v.state.index (counted (stage_of m)) in
-      let w : Member = record { about = v.about; state = now; seen = h ++ more; told = v.told ++ x ∷ []; taken = v.taken + 1; added = v.added + added_now (op_in m) turn } in
+      let w : Member = record { about = v.about; state = now; seen = h ++ more; told = v.told ++ x ∷ []; taken = v.taken + 1; added = v.added + added_now (op_in m) turn; none_free = v.none_free } in
       let words' = set s.words place (f n) in
       let states' = set kept.states c now in
       let change = same n fits step.can.1 in
@@ -190,7 +198,8 @@ module _ (about : About) (id : ℕ) (v : Member) (m : Running) (f : ℕ → ℕ)
       let shows_now = showing_is v.state (op_in m) turn in
       record {
         now = w;
-        kept = moved about id v w words' (h ++ more) s kept at caller (subst IsIndex path step.kept) fit (λ u apart f. grown about kept.states h v.state now (counted (stage_of m)) u apart f) (omega arith);
+        kept = moved about id v w words' (h ++ more) s kept at caller (subst IsIndex path step.kept) fit (λ u apart f. grown about kept.states h v.state now (counted (stage_of m)) u apart f) (omega arith)
+            (let shows = step.shows_on in omega arith) (λ noted. inl noted);
         goes = record {
           takes = step.takes;
           about = refl;
@@ -198,6 +207,7 @@ module _ (about : About) (id : ℕ) (v : Member) (m : Running) (f : ℕ → ℕ)
           told = refl;
           taken = refl;
           added = refl;
+          none_free = refl;
           seen = begins_more v.seen h more own.seen;
           own = placed ∙ ap (λ (l : List (ℕ × Write)). l ++ noted x more) own.own;
           says = subst (λ (b : About). SaysOf b.layout.slots (map_of b.base) (h ++ more) v.state (op_in m) (running_call m).limit (reply_of turn)) (sym own.same) step.says;
@@ -245,7 +255,7 @@ begun about id v c index s kept at idle here =
     let as_before = begins.weighs in
     let was = ap showing idle in
     let now = ap (λ (q : Running). showing (Some q)) (sym machine) ∙ begins.shows_none in
-    moved about id v u s.words h s kept at refl (subst IsIndex path begins.kept) fit (λ d other f. stayed about kept.states h v.state.caller u.state d other f) (omega arith)
+    moved about id v u s.words h s kept at refl (subst IsIndex path begins.kept) fit (λ d other f. stayed about kept.states h v.state.caller u.state d other f) (omega arith) (omega arith) (λ noted. inl noted)
 
 -- what the first step of a call shows
 record BeginsWith (c : CoreCall) (index : ℕ) (v : Member) (x : ℕ) (w : Member) : Type 0 where

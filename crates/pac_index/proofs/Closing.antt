@@ -1,5 +1,5 @@
 -- The one index in which all callers have met.
-use Rattle.std.proofs.Common.{suc, ◌≡◌, ℕ, ◌<◌, List, map, length, get_or, refl, sym, ap, ◌∙◌, subst, arith, ◌≢◌, ◌+◌, ◌≤◌, [], ◌∷◌}
+use Rattle.std.proofs.Common.{suc, ◌≡◌, ℕ, ◌*◌, ◌/◌, ◌<◌, true, List, map, length, get_or, refl, sym, ap, ◌∙◌, subst, arith, ◌≢◌, ◌+◌, ◌≤◌, [], ◌∷◌}
 use Rattle.std.specs.Prelude.{Some, slice_get, slice_index, None}
 use mathlib.Core.Option.{some, some-injective}
 use lib.ListN.{get_elem?}
@@ -15,7 +15,7 @@ use Rattle.pac_index.specs.declared.caller.Caller.{Caller}
 use Rattle.pac_index.specs.declared.shared.Shared.{Shared}
 use Rattle.pm_words.specs.declared.layout.Layout.{Layout}
 use Rattle.pac_index.specs.Stamps.{stamp_in, SettlesTo}
-use Rattle.pac_index.specs.Kept.{index_of, placed_by, Begins, Fits, added_in, opening_weight, Kept}
+use Rattle.pac_index.specs.Kept.{index_of, placed_by, Begins, Fits, added_in, added_in_all, opening_weight, Kept}
 use Rattle.pac_index.proofs.Lists.{times_there, times_two, added_only}
 use Rattle.index_core.specs.Weights.{weight_of}
 use Rattle.pac_index.specs.declared.rule.Member.{Member}
@@ -35,6 +35,7 @@ pub record IsClosed (s : Shared) (callers : List Caller) (words : List ℕ) : Ty
   pub own_seen : (i : ℕ) (c : Caller) → get_elem? callers i ≡ some c → placed_by i history ≡ placed_by i (seen_by c).seen
   pub writers : (place : ℕ) (w : Write) → slice_get history place ≡ Some w → w.caller < length callers
   pub weight : weight_of (index_of s.about words [] history) ≤ opening_weight s.about + added_by_all callers
+  pub full : (i : ℕ) (c : Caller) → get_elem? callers i ≡ some c → (seen_by c).none_free ≡ true → s.about.layout.nodes * (s.about.layout.slots / 2) ≤ opening_weight s.about + added_by_all callers
 
 -- what callers show who are idle
 added_idle : (callers : List Caller) → ((i : ℕ) (c : Caller) → get_elem? callers i ≡ some c → (seen_by c).state.machine ≡ None) → added_in (map seen_by callers) ≡ added_by_all callers
@@ -63,6 +64,19 @@ closes s callers id words slots has final =
       calls = λ i e at. let c = state_of i e at in ap (λ (d : PartyState). d.machine) c.2 ∙ c.1.idle;
       turns = λ i e at. let c = state_of i e at in ap (λ (d : PartyState). d.turn) c.2 ∙ c.1.resting;
     } in
+    -- each party stands in the one view, so the others are empty
+    let others : (j : ℕ) (u : List Member) → j ≢ id → get_elem? st.views j ≡ some u → u ≡ [] = (λ j u away at. empty u (λ m first.
+    let mine = kept.fits j u at 0 m first in
+    let less = within kept.states m.state.caller m.state mine.there in
+    let many = kept.index.parties in
+    let here = there_is callers m.state.caller (omega arith) in
+    let one = times_there m.state.caller (map seen_by callers) m.state.caller (seen_by here.0) (map_there seen_by callers m.state.caller here.0 here.1) (number m.state.caller here.0 here.1) in
+    let two = times_there m.state.caller u 0 m first refl in
+    let both = times_two m.state.caller st.views id j (map seen_by callers) u (λ e. away (sym e)) final.1.1 at in
+    let once = kept.once m.state.caller in
+    omega arith)) in
+    let added : added_in_all st.views ≡ added_by_all callers =
+    added_only st.views id (map seen_by callers) final.1.1 others ∙ added_idle callers (λ i c at. (has.each i c at).idle) in
     record {
       history = h;
       index = λ states idle. subst IsIndex (λ k. index_of (same k) (final.2 k) states h) (with_idle old states kept.index quiet (subst (λ (n : ℕ). AreIdle states n) (ap (λ (b : About). parties_of b.layout) (sym same)) idle));
@@ -72,23 +86,13 @@ closes s callers id words slots has final =
       own_seen = λ i c at. subst (λ (n : ℕ). placed_by n h ≡ placed_by n (seen_by c).seen) (number i c at) (fit i c at).own;
       writers = λ place w at. let less = kept.index.bounded.writers place w at in omega arith;
       weight =
-          -- each party stands in the one view, so the others are empty
-          let others : (j : ℕ) (u : List Member) → j ≢ id → get_elem? st.views j ≡ some u → u ≡ [] = (λ j u away at. empty u (λ m first.
-          let mine = kept.fits j u at 0 m first in
-          let less = within kept.states m.state.caller m.state mine.there in
-          let many = kept.index.parties in
-          let here = there_is callers m.state.caller (omega arith) in
-          let one = times_there m.state.caller (map seen_by callers) m.state.caller (seen_by here.0) (map_there seen_by callers m.state.caller here.0 here.1) (number m.state.caller here.0 here.1) in
-          let two = times_there m.state.caller u 0 m first refl in
-          let both = times_two m.state.caller st.views id j (map seen_by callers) u (λ e. away (sym e)) final.1.1 at in
-          let once = kept.once m.state.caller in
-          omega arith)) in
-          let all = added_only st.views id (map seen_by callers) final.1.1 others in
-          let added = added_idle callers (λ i c at. (has.each i c at).idle) in
           let sum = kept.weight in
           let as_weight = idle_weigh old quiet in
           let weighs : weight_of old ≤ opening_weight key + added_by_all callers = omega arith in
           subst (λ (q : About × List ℕ). weight_of (index_of q.0 q.1 [] h) ≤ opening_weight q.0 + added_by_all callers) (λ k. (same k, final.2 k)) weighs;
+      full = λ i c at noted.
+          let half = kept.full id (map seen_by callers) final.1.1 i (seen_by c) (map_there seen_by callers i c at) noted in
+          subst (λ (q : About × ℕ). q.0.layout.nodes * (q.0.layout.slots / 2) ≤ opening_weight q.0 + q.1) (λ k. (same k, added k)) half;
     }
   where
     empty : (u : List Member) → ((m : Member) → get_elem? u 0 ≡ some m → ⊥) → u ≡ []
@@ -119,6 +123,7 @@ meeting_in s callers words settled z states core idle settles is index =
       layout = ap (λ (i : Index). i.layout) is;
       generation = ap (λ (i : Index). i.generation) is;
       base = ap (λ (i : Index). i.base) is;
+      full = z.full;
       weight = subst (λ (n : ℕ). n ≤ opening_weight s.about + added_by_all callers) (sym (ap weight_of is ∙ settles.weighs (index_of s.about settled states z.history))) z.weight;
       index = index;
       quiet = record {

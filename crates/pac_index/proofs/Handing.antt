@@ -63,6 +63,7 @@ handed s i callers c less has fresh table me number index kept =
             ap (λ (x : Caller). x.index) (sym last.1) ∙ index,
             ap (λ (x : Caller). (seen_by x).taken) (sym last.1) ∙ ap (λ (x : Member). x.taken) who,
             ap (λ (x : Caller). (seen_by x).added) (sym last.1) ∙ ap (λ (x : Member). x.added) who,
+            ap (λ (x : Caller). (seen_by x).none_free) (sym last.1) ∙ ap (λ (x : Member). x.none_free) who,
           ))
           (at_end callers c d j at)),
     )

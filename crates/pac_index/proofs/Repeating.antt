@@ -1,5 +1,5 @@
 -- Tries that are turned back, and the last one, which takes place.
-use Rattle.std.proofs.Common.{◌≡◌, ℕ, List, refl, ap, ◌∙◌, subst, arith}
+use Rattle.std.proofs.Common.{◌≡◌, ℕ, ◌||◌, Bool, true, List, refl, ap, ◌∙◌, subst, arith}
 use Rattle.std.proofs.lemmas.List.{append-nil}
 use Rattle.std.specs.Prelude.{Option, Some, None}
 use Rattle.call_stages.specs.declared.once.Once.{Once}
@@ -24,11 +24,11 @@ use Rattle.pac_index.specs.declared.rule.Member.{Member}
 use Rattle.pac_index.specs.Kept.{placed_by}
 use Rattle.pac_index.specs.Calls.{Answers, PartAnswers, IsAnswered, counted_index}
 use Rattle.pac_index.specs.Ends.{ended_of, ended_by, turn_ended_by, IsDone, HasOnlyRead, AtLast}
-use Rattle.pac_index.specs.Turns.{IsTold, TurnAnswers}
+use Rattle.pac_index.specs.Turns.{noted_in, IsTold, TurnAnswers}
 use Rattle.pac_index.proofs.Lists.{begins_self, begins_trans}
 
 pub back_self : (v : Member) → HasOnlyRead v v
-back_self v = record { about = refl; caller = refl; taken = omega arith; added = refl; seen = begins_self v.seen; own = refl }
+back_self v = record { about = refl; caller = refl; taken = omega arith; added = refl; none_free = λ noted. noted; seen = begins_self v.seen; own = refl }
 
 pub back_trans : (u v w : Member) → HasOnlyRead u v → HasOnlyRead v w → HasOnlyRead u w
 back_trans u v w p q = record {
@@ -36,6 +36,7 @@ back_trans u v w p q = record {
   caller = q.caller ∙ p.caller;
   taken = let a = p.taken in let b = q.taken in omega arith;
   added = q.added ∙ p.added;
+  none_free = λ noted. q.none_free (p.none_free noted);
   seen = begins_trans u.seen v.seen w.seen p.seen q.seen;
   own = subst (λ (c : ℕ). placed_by c w.seen ≡ placed_by c v.seen) p.caller q.own ∙ p.own;
 }
@@ -50,6 +51,7 @@ module _ (c : CoreCall) (n : ℕ) (v w : Member) where
     caller = is.caller;
     taken = let t = is.taken in omega arith;
     added = let a = is.added in omega arith;
+    none_free = λ noted. is.none_free ∙ noted;
     seen = is.seen;
     own = is.own ∙ append-nil (placed_by v.state.caller v.seen);
   }
@@ -58,6 +60,7 @@ module _ (c : CoreCall) (n : ℕ) (v w : Member) where
     caller = is.caller;
     taken = let t = is.taken in omega arith;
     added = let a = is.added in omega arith;
+    none_free = λ noted. is.none_free ∙ noted;
     seen = is.seen;
     own = is.own ∙ append-nil (placed_by v.state.caller v.seen);
   }
@@ -132,6 +135,11 @@ part_ends_so low count n i j old v w (tried.Answered (once.Worn node word)) end 
 part_ends_so low count n i j old v w (tried.Answered (once.Again why)) end tries ends index is = absurd (cc)
 part_ends_so low count n i j old v w tried.Cut end tries ends index is = absurd is
 
+-- what is noted stays so
+stays_noted : (noted : Bool) (answer : TurnReply) → noted ≡ true → noted_in noted answer ≡ true
+stays_noted noted (reply.Turned turned) is = ap (λ (b : Bool). b || turned.none_free) is
+stays_noted noted (reply.Held word) is = is
+
 -- what a turn leaves
 pub turn_reads : (v w : Member) (answer : TurnReply) → TurnAnswers v answer w → HasOnlyRead v w
 turn_reads v w answer is = record {
@@ -139,6 +147,7 @@ turn_reads v w answer is = record {
   caller = ap (λ (e : PartyState). e.caller) is.state;
   taken = let t = is.taken in omega arith;
   added = is.added;
+  none_free = λ noted. is.none_free ∙ stays_noted v.none_free answer noted;
   seen = is.seen;
   own = is.own;
 }

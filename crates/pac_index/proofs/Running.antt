@@ -117,6 +117,7 @@ runs_first c n old since later here of = record {
   ran = refl;
   taken = omega arith;
   added = omega arith;
+  none_free = refl;
   op = of;
   call_is = refl;
   seen = begins_self old.seen;
@@ -157,6 +158,7 @@ runs_on c n old v w turn m x runs is goes =
       ran = ap (run_of running_turned (Go (machine_in old c))) goes.told ∙ run_more running_turned (Go (machine_in old c)) v.told m x (runs.ran ∙ is);
       taken = let was = runs.taken in let one = goes.taken in let long = ap length goes.told ∙ length-append v.told (x ∷ []) in omega arith;
       added = let was = runs.added ∙ ap (λ (t : Turn Running (Once Placed)). old.added + added_now op t) is in let now = goes.added ∙ ap (λ (o : NameOp). v.added + added_now o turn') same in omega arith;
+      none_free = goes.none_free ∙ runs.none_free;
       op = subst (λ (o : NameOp). IsOfAfter o turn') same (goes.op_on);
       call_is = same_on (running_call (machine_in old c)) (running_call m) turn' call_is goes.call_on;
       seen = begins_trans old.seen v.seen w.seen runs.seen goes.seen;
@@ -180,6 +182,7 @@ ends_so c n old v turn answer runs is =
       ran = runs.ran ∙ is;
       taken = runs.taken;
       added = runs.added ∙ ap (λ (t : Turn Running (Once Placed)). old.added + added_now (op_of c) t) is;
+      none_free = runs.none_free;
       seen = runs.seen;
       own = runs.own ∙ ap (λ (t : Turn Running (Once Placed)). placed_by i old.seen ++ own_at i n (change_of (op_of c)) (place_now (change_of (op_of c)) t)) is;
       says = answer_by old.about.layout.slots (map_of old.about.base) v.seen (began c n old runs.since) (record old.state { index = n; since = length old.seen }) (op_of c) (limit_of c) answer refl refl runs.later

@@ -41,6 +41,7 @@ done_reads low count n v w words is = record {
   caller = is.looks.caller;
   taken = let t = is.looks.taken in omega arith;
   added = let a = is.looks.added in added_none words.old a;
+  none_free = λ noted. is.looks.none_free ∙ noted;
   seen = is.looks.seen;
   own = is.looks.own ∙ append-nil (placed_by v.state.caller v.seen);
 }

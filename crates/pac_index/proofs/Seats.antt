@@ -1,5 +1,5 @@
 -- How the rule begins, and how seats part and meet.
-use Rattle.std.proofs.Common.{◌≡◌, ◌≢◌, ℕ, zero, suc, ◌+◌, ◌<◌, ◌≤◌, ⊎_elim, eq-eqb, ne_eqb, List, [], ◌∷◌, ◌++◌, map, drop, set, refl, sym, ap, ◌∙◌, subst, arith}
+use Rattle.std.proofs.Common.{◌≡◌, ◌≢◌, ℕ, zero, suc, ◌+◌, ◌*◌, ◌/◌, ◌<◌, ◌≤◌, ⊎_elim, true, false, eq-eqb, ne_eqb, List, [], ◌∷◌, ◌++◌, map, drop, set, refl, sym, ap, ◌∙◌, subst, arith}
 use Rattle.std.proofs.lemmas.Bool.{cases_eq}
 use Rattle.std.specs.Prelude.{◌==◌}
 use mathlib.Core.Option.{some, some-injective, some-ne-none}
@@ -20,7 +20,7 @@ use Rattle.pac_index.specs.declared.rule.Member.{Member}
 use Rattle.pac_index.specs.Callers.{about_in}
 use Rattle.index_core.specs.MachineLaws.{AreIdle}
 use Rattle.index_core.proofs.MachineLaw.{with_idle, idle_weigh}
-use Rattle.pac_index.specs.Kept.{index_of, Fits, AllFit, one_if, times_in, added_in, opening_weight, Kept, member_of, first_view, first_of, rest_of}
+use Rattle.pac_index.specs.Kept.{index_of, Fits, AllFit, one_if, times_in, added_in, opening_weight, IsHalfPaid, AllPaid, Kept, member_of, first_view, first_of, rest_of}
 use Rattle.pac_index.proofs.Lists.{times_append, times_set, times_snoc, added_append, added_set, added_snoc}
 
 pub none_idle : (n : ℕ) → AreIdle (idle_states n) n
@@ -89,7 +89,14 @@ opens s is quiet none =
           let o : Index = index_of about s.words states [] in
           let as_weight : weight_sum (world o) ≡ opening_weight about = idle_weigh o (record { calls = (none_idle n).idle; turns = (none_idle n).resting }) in
           omega arith;
+      full = sole_view (AllPaid about (first_view about ∷ [])) (first_view about) (λ k m at noted.
+          let from = map_from (member_of about) states k m at in
+          absurd (let no : false ≡ true = ap (λ (u : Member). u.none_free) from.2 ∙ noted in cc));
     }
+
+both_added : (v : List Member) → added_in (rest_of v) + added_in (first_of v) ≡ added_in v
+both_added [] = omega arith
+both_added (x ∷ xs) = omega arith
 
 -- a view is cut in two
 pub divides : (about : About) (id : ℕ) (v : List Member) → Splits (Kept about) id v (rest_of v) (first_of v)
@@ -112,8 +119,30 @@ divides about id v s kept at = record {
       let parts = both_added v in
       let before = kept.weight in
       omega arith;
+  full = each_snoc (AllPaid about views) (set s.views id (rest_of v)) (first_of v)
+      (each_set (AllPaid about views) s.views id (rest_of v) (λ j u other there k m at' noted. still (kept.full j u there k m at' noted)) (paid_behind v (λ k m at' noted. still (kept.full id v at k m at' noted))))
+      (paid_front v (λ k m at' noted. still (kept.full id v at k m at' noted)));
 }
   where
+    views : List (List Member)
+    views = set s.views id (rest_of v) ++ first_of v ∷ []
+
+    still : IsHalfPaid about s.views → IsHalfPaid about views
+    still was =
+        let set_is = added_set s.views id v (rest_of v) at in
+        let snoc_is = added_snoc (set s.views id (rest_of v)) (first_of v) in
+        let parts = both_added v in
+        omega arith
+
+    paid_behind : (v : List Member) → AllPaid about views v → AllPaid about views (rest_of v)
+    paid_behind [] all k m at = absurd (some-ne-none m (sym at))
+    paid_behind (x ∷ xs) all k m at = all (suc k) m at
+
+    paid_front : (v : List Member) → AllPaid about views v → AllPaid about views (first_of v)
+    paid_front [] all k m at = absurd (some-ne-none m (sym at))
+    paid_front (x ∷ xs) all zero m at = all 0 m at
+    paid_front (x ∷ xs) all (suc k) m at = absurd (some-ne-none m (sym at))
+
     behind : (v : List Member) → AllFit about kept.states kept.history v → AllFit about kept.states kept.history (rest_of v)
     behind [] all k m at = absurd (some-ne-none m (sym at))
     behind (x ∷ xs) all k m at = all (suc k) m at
@@ -127,14 +156,15 @@ divides about id v s kept at = record {
     both_of n [] = omega arith
     both_of n (x ∷ xs) = omega arith
 
-    both_added : (v : List Member) → added_in (rest_of v) + added_in (first_of v) ≡ added_in v
-    both_added [] = omega arith
-    both_added (x ∷ xs) = omega arith
-
 all_append : (about : About) (states : List PartyState) (h : List Write) (v w : List Member) → AllFit about states h v → AllFit about states h w → AllFit about states h (v ++ w)
 all_append about states h [] w left right k m at = right k m at
 all_append about states h (x ∷ xs) w left right zero m at = left 0 m at
 all_append about states h (x ∷ xs) w left right (suc k) m at = all_append about states h xs w (λ j. left (suc j)) right k m at
+
+paid_append : (about : About) (views : List (List Member)) (v w : List Member) → AllPaid about views v → AllPaid about views w → AllPaid about views (v ++ w)
+paid_append about views [] w left right k m at = right k m at
+paid_append about views (x ∷ xs) w left right zero m at = left 0 m at
+paid_append about views (x ∷ xs) w left right (suc k) m at = paid_append about views xs w (λ j. left (suc j)) right k m at
 
 -- two views are made one
 pub meets : (about : About) (id : ℕ) (v : List Member) (other : ℕ) (w : List Member) → Joins (Kept about) id v other w (v ++ w) []
@@ -159,6 +189,17 @@ meets about id v other w s kept at apart there =
           let sum = added_append v w in
           let before = kept.weight in
           omega arith;
+      full =
+          let views = set (set s.views id (v ++ w)) other [] in
+          let still : IsHalfPaid about s.views → IsHalfPaid about views = (λ was.
+          let one = added_set s.views id v (v ++ w) at in
+          let two = added_set (set s.views id (v ++ w)) other w [] there in
+          let sum = added_append v w in
+          omega arith) in
+          each_set (AllPaid about views) (set s.views id (v ++ w)) other []
+          (λ j u away at'. each_set (AllPaid about views) s.views id (v ++ w) (λ i d off at'' k m here noted. still (kept.full i d at'' k m here noted))
+          (paid_append about views v w (λ k m here noted. still (kept.full id v at k m here noted)) (λ k m here noted. still (kept.full other w found k m here noted))) j u at')
+          (λ k m at'. absurd (some-ne-none m (sym at')));
     }
 
 -- the next of the first parties
@@ -178,6 +219,7 @@ enters about slots i s kept count fits = (
     fits = each_snoc (AllFit about kept.states kept.history) s.views [] (λ j v at. kept.fits j v at) (λ k m at. absurd (some-ne-none m (sym at)));
     once = λ n. let snoc = times_snoc n s.views [] in let before = kept.once n in omega arith;
     weight = let snoc = added_snoc s.views [] in let before = kept.weight in omega arith;
+    full = each_snoc (AllPaid about (s.views ++ [] ∷ [])) s.views [] (λ j v at k m here noted. let snoc = added_snoc s.views [] in let was = kept.full j v at k m here noted in omega arith) (λ k m at. absurd (some-ne-none m (sym at)));
   },
   refl,
 )

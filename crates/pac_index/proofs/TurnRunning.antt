@@ -1,5 +1,5 @@
 -- How a turn goes on by one step, and what it is answered at its end.
-use Rattle.std.proofs.Common.{◌≡◌, ℕ, ◌+◌, ◌<◌, ◌==◌, cond, true, false, List, [], ◌∷◌, ◌++◌, length, refl, sym, ap, ◌∙◌, subst, arith}
+use Rattle.std.proofs.Common.{◌≡◌, ℕ, ◌+◌, ◌<◌, ◌==◌, Bool, cond, true, false, List, [], ◌∷◌, ◌++◌, length, refl, sym, ap, ◌∙◌, subst, arith}
 use Rattle.std.proofs.lemmas.Bool.{eqb-true, eqb-false}
 use Rattle.std.proofs.lemmas.List.{length-append}
 use Rattle.std.specs.Prelude.{Option, Some, None}
@@ -23,7 +23,7 @@ use Rattle.pac_index.specs.declared.rule.About.{About}
 use Rattle.pac_index.specs.declared.rule.Member.{Member}
 use Rattle.pac_index.specs.Kept.{placed_by}
 use Rattle.pac_index.specs.Calls.{run_of}
-use Rattle.pac_index.specs.Turns.{turn_in, turning, TurnReady, TurnGoes, TurnRuns, HasLock, TurnAnswers, TurnStepsOn, actions_left}
+use Rattle.pac_index.specs.Turns.{turn_in, turning, TurnReady, TurnGoes, TurnRuns, HasLock, noted_by, TurnAnswers, TurnStepsOn, actions_left}
 use Rattle.pac_index.proofs.Lists.{begins_trans}
 use Rattle.pac_index.proofs.PartRuns.{run_more}
 use Rattle.pac_index.proofs.Statuses.{turn_tells}
@@ -59,6 +59,7 @@ turn_first old w x goes =
       lock = subst (λ (l : List ℕ). HasLock l (making_turned (turn_in old) x)) (sym goes.told) (lock_first terms x);
       taken = goes.taken ∙ ap (λ (l : List ℕ). old.taken + length l) (sym goes.told);
       added = goes.added;
+      none_free = goes.none_free;
       seen = goes.seen;
       own = goes.own;
       ready = goes.ready;
@@ -76,6 +77,7 @@ turn_on old v w turn making x runs is goes =
       lock = subst (λ (l : List ℕ). HasLock l turn') (sym goes.told) (lock_on v.told making x (subst (HasLock v.told) is runs.lock));
       taken = let was = runs.taken in let one = goes.taken in let long = ap length goes.told ∙ length-append v.told (x ∷ []) in omega arith;
       added = goes.added ∙ runs.added;
+      none_free = goes.none_free ∙ ap (λ (b : Bool). noted_by b turn') (runs.none_free ∙ ap (noted_by old.none_free) is);
       seen = begins_trans old.seen v.seen w.seen runs.seen goes.seen;
       own = subst (λ (c : ℕ). placed_by c w.seen ≡ placed_by c v.seen) caller goes.own ∙ runs.own;
       ready = subst (λ (b : About). TurnReady b.layout turn') runs.about goes.ready;
@@ -111,6 +113,7 @@ turn_ends old v turn answer runs is some = record {
   free = turn_tells old v.told answer some (subst (HasLock v.told) is runs.lock) (runs.ran ∙ is);
   taken = runs.taken;
   added = runs.added;
+  none_free = runs.none_free ∙ ap (noted_by old.none_free) is;
   seen = runs.seen;
   own = runs.own;
 }

@@ -1,5 +1,5 @@
 -- Each step of a turn keeps the table's rule, by the core's law on a step of a party's turn.
-use Rattle.std.proofs.Common.{◌≡◌, ℕ, ◌+◌, ◌<◌, ◌^◌, List, [], ◌∷◌, ◌++◌, set, refl, sym, ap, ◌∙◌, subst, arith}
+use Rattle.std.proofs.Common.{◌≡◌, ℕ, ◌+◌, ◌*◌, ◌/◌, ◌<◌, ◌≤◌, ◌^◌, ◌⊎◌, inl, inr, ⊎_elim, Bool, true, false, List, [], ◌∷◌, ◌++◌, set, refl, sym, ap, ◌∙◌, subst, arith}
 use Rattle.std.specs.Prelude.{Option, Some, None, IfSome, slice_index}
 use mathlib.Core.Option.{some}
 use lib.ListN.{get_elem?}
@@ -9,6 +9,7 @@ use Rattle.pm_words.specs.declared.machine.Turn.TheVariants.{Go, Done}
 use Rattle.pm_words.specs.Rows.{given, action_address, word_after, CanChange}
 use Rattle.updater.specs.declared.making.MakeTurn.{MakeTurn}
 use Rattle.updater.specs.declared.making.TurnReply.{TurnReply}
+use Rattle.updater.specs.declared.making.TurnReply.TheVariants as reply
 use Rattle.updater.specs.Makings.{making_from, making_asks, making_turned}
 use Rattle.index_law.specs.Worlds.{Party}
 use Rattle.index_law.specs.Weights.{weight_sum}
@@ -16,14 +17,14 @@ use Rattle.index_law.proofs.Parties.{set_here}
 use Rattle.index_core.specs.declared.party.PartyState.{PartyState}
 use Rattle.index_core.specs.PartyStates.{state_turned, turn_after, IsTurnOf}
 use Rattle.index_core.specs.Indexes.{Index, IsIndex, world}
-use Rattle.index_core.specs.Turns.{turn_begun, turned_index}
+use Rattle.index_core.specs.Turns.{turn_begun, turned_index, FindsNoneFree}
 use Rattle.index_core.proofs.Lists.{some_same}
 use Rattle.index_core.proofs.Turning.{parties_same, turns_keep, turn_begins}
 use Rattle.atomic_table.specs.Table.{State, Me}
 use Rattle.pac_index.specs.declared.rule.About.{About}
 use Rattle.pac_index.specs.declared.rule.Member.{Member}
 use Rattle.pac_index.specs.Kept.{index_of, Fits, Kept, May, party, IsLone}
-use Rattle.pac_index.specs.Turns.{turn_in, turning, TurnReady, TurnGoes, TellsTurn, StartsTurn}
+use Rattle.pac_index.specs.Turns.{turn_in, turning, TurnReady, noted_by, TurnGoes, TellsTurn, StartsTurn}
 use Rattle.pac_index.proofs.Allowed.{Leaves, may, leaves_first, moved, stayed, place_inside}
 use Rattle.pac_index.proofs.Lists.{begins_self}
 
@@ -34,6 +35,13 @@ ready_after about words states history c e (Go next) index there is = (
   place_inside about.layout (making_asks next) (turns_keep (index_of about words states history) c e next index there is).can.0,
 )
 ready_after about words states history c e (Done reply) index there is = tt
+
+-- A party has noted that no node was FREE, or its turn is answered so now.
+noted_so : (noted : Bool) (turn : Turn MakeTurn TurnReply) → noted_by noted turn ≡ true → (noted ≡ true) ⊎ FindsNoneFree turn
+noted_so noted (Go making) is = inl is
+noted_so noted (Done (reply.Held word)) is = inl is
+noted_so true (Done (reply.Turned turned)) is = inl refl
+noted_so false (Done (reply.Turned turned)) is = inr is
 
 module _ (about : About) (id : ℕ) (v : Member) (making : MakeTurn) (f : ℕ → ℕ) (is : v.state.turn ≡ Some making) (same : (n : ℕ) → n < 2 ^ 64 → CanChange (making_asks making) n → f n ≡ word_after (making_asks making) n) where
   done : (s : State (Unit {0}) (List Member)) → Kept about s → get_elem? s.views id ≡ some (v ∷ []) → slice_index s.words (action_address about.layout (making_asks making)) < 2 ^ 64
@@ -49,7 +57,7 @@ module _ (about : About) (id : ℕ) (v : Member) (making : MakeTurn) (f : ℕ �
       let x = given (making_asks making) n in
       let turn = making_turned making x in
       let now = state_turned v.state turn in
-      let w : Member = record { about = v.about; state = now; seen = h; told = v.told ++ x ∷ []; taken = v.taken + 1; added = v.added } in
+      let w : Member = record { about = v.about; state = now; seen = h; told = v.told ++ x ∷ []; taken = v.taken + 1; added = v.added; none_free = noted_by v.none_free turn } in
       let words' = set s.words place (f n) in
       let states' = set kept.states c now in
       let change = same n fits step.can.1 in
@@ -62,7 +70,8 @@ module _ (about : About) (id : ℕ) (v : Member) (making : MakeTurn) (f : ℕ �
       let same_weight = ap (λ (s' : Index). weight_sum (world s')) path in
       record {
         now = w;
-        kept = moved about id v w words' h s kept at refl index' fit (λ u other. stayed about kept.states h c now u other) (omega arith);
+        kept = moved about id v w words' h s kept at refl index' fit (λ u other. stayed about kept.states h c now u other) (omega arith) (omega arith)
+            (λ noted. ⊎_elim (λ was. inl was) (λ none. inr (let half = step.in_use none in let most = kept.weight in omega arith)) (noted_so v.none_free turn noted));
         goes = record {
           takes = step.takes;
           about = refl;
@@ -70,6 +79,7 @@ module _ (about : About) (id : ℕ) (v : Member) (making : MakeTurn) (f : ℕ �
           told = refl;
           taken = refl;
           added = refl;
+          none_free = refl;
           seen = own.seen;
           own = own.own;
           ready = subst (λ (b : About). TurnReady b.layout turn) (sym own.same) (ready_after about words' states' h c now turn index' there' refl);
@@ -102,7 +112,7 @@ begun about id v s kept at rests =
     let fit : Fits about (set kept.states c u.state) h u = record { same = own.same; there = set_here kept.states c u.state v.state own.there; seen = own.seen; own = own.own } in
     let weight = ap (λ (ps : List Party). weight_sum (record (world old) { parties = ps })) (parties_same old c v.state (Some (turn_in v)) own.there) in
     let same_weight : weight_sum (world (index_of about s.words (set kept.states c u.state) h)) ≡ weight_sum (world old) = weight in
-    moved about id v u s.words h s kept at refl (subst IsIndex path index) fit (λ d other. stayed about kept.states h c u.state d other) (omega arith)
+    moved about id v u s.words h s kept at refl (subst IsIndex path index) fit (λ d other. stayed about kept.states h c u.state d other) (omega arith) (omega arith) (λ noted. inl noted)
 
 -- the same where the step begins the turn
 pub turn_allows_first : (about : About) (words slots id : ℕ) (me : Me (Unit {0}) (List Member)) → IsLone me → (party me).state.turn ≡ None → action_address about.layout (making_asks (turn_in (party me))) < words

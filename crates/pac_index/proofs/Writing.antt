@@ -1,5 +1,5 @@
 -- Tries of a put or a delete, the turns between them, and how they end.
-use Rattle.std.proofs.Common.{◌≡◌, ℕ, zero, suc, ◌+◌, ◌≤◌, Bool, true, length, refl, sym, ap, ◌∙◌, subst, arith}
+use Rattle.std.proofs.Common.{◌≡◌, ℕ, zero, suc, ◌+◌, ◌≤◌, Bool, true, false, ◌||◌, length, refl, sym, ap, ◌∙◌, subst, arith}
 use Rattle.std.specs.Prelude.{Some, None, List}
 use Rattle.std.specs.FinMap.{len}
 use Rattle.cat_history.specs.Maps.{Map, map_of, at}
@@ -156,6 +156,10 @@ room_stays slots slots' base base' h h' since until since' until' name slots_are
       many = subst (λ (m : Map). slots' ≤ len m) (sym same) (subst (λ (k : ℕ). k ≤ len (after base h is.clock)) slots_are is.many);
     }
 
+noted_now : (b : Bool) → (b || true) ≡ true
+noted_now true = refl
+noted_now false = refl
+
 pub found_full : (c : CoreCall) (n turns i : ℕ) (old v w : Member) → Writing c n turns old i v → 3 ≤ turns → TurnedForRoom c i true v w → FoundFull c n old w
 found_full c n turns i old v w so enough last =
     let back = writing_reads c n old turns i v so in
@@ -170,6 +174,7 @@ found_full c n turns i old v w so enough last =
       before = so.mid;
       turned = so.earlier;
       last = record { before = v; back = so.back; last = subst (λ (k : ℕ). TurnedForRoom c k true v w) so.index last };
+      none_free = last.turn.last.none_free ∙ ap (λ (b : Bool). last.turn.before.none_free || b) last.told ∙ noted_now last.turn.before.none_free;
       room = room_stays v.about.layout.slots old.about.layout.slots (map_of v.about.base) (map_of old.about.base) last.tried.seen w.seen (length v.seen) (length last.tried.seen) (length old.seen) (length w.seen) (name_asked (op_of c)) (ap (λ (a : About). a.layout.slots) back.about) (ap (λ (a : About). map_of a.base) back.about) turn.seen (omega arith) seen ends (last.refused.says refl).1;
     }
 

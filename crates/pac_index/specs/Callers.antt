@@ -1,5 +1,5 @@
 -- A caller of a shared index.
-use Rattle.std.specs.Prelude.{◌≡◌, ℕ, ◌+◌, ◌-◌, ◌<◌, ◌≤◌, List, [], ◌∷◌, ◌++◌, length, map, slice_get, None, Some}
+use Rattle.std.specs.Prelude.{◌≡◌, ℕ, ◌+◌, ◌-◌, ◌*◌, ◌/◌, ◌<◌, ◌≤◌, true, false, List, [], ◌∷◌, ◌++◌, length, map, slice_get, None, Some}
 use Rattle.std.specs.Prelude.{vec_len, vec_capacity}
 use mathlib.Core.Option.{some}
 use lib.ListN.{get_elem?}
@@ -51,7 +51,7 @@ pub record HasCallers (s : Shared) (n : ℕ) (callers : List Caller) : Type 0 wh
 -- They have made no call yet.
 abbrev pub AreNew : List Caller → Type 0
 AreNew callers = (i : ℕ) (c : Caller) → get_elem? callers i ≡ some c → ((seen_by c).seen ≡ []) × (c.index ≡ 0) ×
-    ((seen_by c).taken ≡ 0) × ((seen_by c).added ≡ 0)
+    ((seen_by c).taken ≡ 0) × ((seen_by c).added ≡ 0) × ((seen_by c).none_free ≡ false)
 
 abbrev pub about_in : Index → About
 about_in core = record {
@@ -92,6 +92,9 @@ pub record Meeting (s : Shared) (callers : List Caller) (core : Index) : Type 0 
   pub base : core.base ≡ s.about.base
   -- it weighs no more than as it was opened and the puts that added a name
   pub weight : weight_of core ≤ opening_weight s.about + added_by_all callers
+  -- and where a caller has found no node FREE, that is at least half of all slots
+  pub full : (i : ℕ) (c : Caller) → get_elem? callers i ≡ some c → (seen_by c).none_free ≡ true →
+      s.about.layout.nodes * (s.about.layout.slots / 2) ≤ opening_weight s.about + added_by_all callers
   pub index : IsIndex core
   pub quiet : IsQuiet core
   pub seen : (i : ℕ) (c : Caller) → get_elem? callers i ≡ some c → Begins (seen_by c).seen core.history

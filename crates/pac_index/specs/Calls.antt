@@ -77,6 +77,7 @@ pub record Answers (call : CoreCall) (index : ℕ) (old : Member) (answer : Once
   pub ran : run_of running_turned (Go (machine_in old call)) new.told ≡ Done answer
   pub taken : new.taken ≡ old.taken + length new.told
   pub added : new.added ≡ old.added + added_by (op_of call) answer
+  pub none_free : new.none_free ≡ old.none_free
   pub seen : Begins old.seen new.seen
   pub own : placed_by old.state.caller new.seen ≡ placed_by old.state.caller old.seen ++ own_at old.state.caller index
       (change_of (op_of call)) (place_told (change_of (op_of call)) answer)
@@ -112,6 +113,7 @@ pub record Runs (call : CoreCall) (index : ℕ) (old : Member) (turn : Turn Runn
   pub ran : run_of running_turned (Go (machine_in old call)) new.told ≡ turn
   pub taken : new.taken ≡ old.taken + length new.told
   pub added : new.added ≡ old.added + added_now (op_of call) turn
+  pub none_free : new.none_free ≡ old.none_free
   pub op : IsOfAfter (op_of call) turn
   pub call_is : MakesCall (running_call (machine_in old call)) turn
   pub seen : Begins old.seen new.seen

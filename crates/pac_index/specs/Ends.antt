@@ -1,5 +1,5 @@
 -- What a call comes to that is made again until it takes place.
-use Rattle.std.specs.Prelude.{◌≡◌, ◌≤◌, Option, Some, None}
+use Rattle.std.specs.Prelude.{◌≡◌, ◌≤◌, true, Option, Some, None}
 use Rattle.call_stages.specs.declared.once.Once.{Once}
 use Rattle.call_stages.specs.declared.once.Once.TheVariants as once
 use Rattle.pac_index.specs.declared.tried.Tried.{Tried}
@@ -42,6 +42,7 @@ pub record HasOnlyRead (old new : Member) : Type 0 where
   pub caller : new.state.caller ≡ old.state.caller
   pub taken : old.taken ≤ new.taken
   pub added : new.added ≡ old.added
+  pub none_free : old.none_free ≡ true → new.none_free ≡ true
   pub seen : Begins old.seen new.seen
   pub own : placed_by old.state.caller new.seen ≡ placed_by old.state.caller old.seen
 

@@ -1,5 +1,5 @@
 -- What the table keeps, and what one step tells.
-use Rattle.std.specs.Prelude.{◌≡◌, ℕ, ◌+◌, ◌<◌, ◌≤◌, ◌^◌, ◌==◌, Bool, true, false, if◌then◌else◌, List, [], ◌∷◌, ◌++◌}
+use Rattle.std.specs.Prelude.{◌*◌, ◌/◌, ◌≡◌, ℕ, ◌+◌, ◌<◌, ◌≤◌, ◌^◌, ◌==◌, Bool, true, false, if◌then◌else◌, List, [], ◌∷◌, ◌++◌}
 use Rattle.std.specs.Prelude.{length, map, Some, None, IfSome}
 use mathlib.Core.Option.{some}
 use lib.ListN.{get_elem?}
@@ -103,6 +103,14 @@ added_in_all (v ∷ vs) = added_in v + added_in_all vs
 abbrev pub opening_weight : About → ℕ
 opening_weight about = index_weight about.layout (facts_of about.layout about.opened.words (map_of about.base) [])
 
+-- What the index weighed as the run began, and the puts that the views count, are together at least half of all slots.
+abbrev pub IsHalfPaid : About → List (List Member) → Type 0
+IsHalfPaid about views = about.layout.nodes * (about.layout.slots / 2) ≤ opening_weight about + added_in_all views
+
+-- So it is where a party of this view has found no node FREE.
+abbrev pub AllPaid : About → List (List Member) → List Member → Type 0
+AllPaid about views view = (k : ℕ) (m : Member) → get_elem? view k ≡ some m → m.none_free ≡ true → IsHalfPaid about views
+
 -- There are parties and a history with which the words are an index, as the core has it, and each view fits them. No
 -- party stands in two views, nor twice in one.
 pub record Kept (about : About) (s : State (Unit {0}) (List Member)) : Type 0 where
@@ -113,10 +121,13 @@ pub record Kept (about : About) (s : State (Unit {0}) (List Member)) : Type 0 wh
   pub once : (n : ℕ) → times_in_all n s.views ≤ 1
   -- it weighs no more than as it was opened and the puts that the views count as having added a name
   pub weight : weight_sum (world (index_of about s.words states history)) ≤ opening_weight about + added_in_all s.views
+  -- and where a party has found no node FREE, that is at least half of all slots
+  pub full : (i : ℕ) (view : List Member) → get_elem? s.views i ≡ some view → AllPaid about s.views view
 
 -- The first view has all parties, which are idle.
 abbrev pub member_of : About → PartyState → Member
-member_of about state = record { about = about; state = state; seen = []; told = []; taken = 0; added = 0 }
+member_of about state =
+    record { about = about; state = state; seen = []; told = []; taken = 0; added = 0; none_free = false }
 
 abbrev pub first_view : About → List Member
 first_view about = map (member_of about) (idle_states (parties_of about.layout))
@@ -136,6 +147,7 @@ nobody = record {
   told = [];
   taken = 0;
   added = 0;
+  none_free = false;
 }
 
 abbrev pub head_of : List Member → Member
@@ -176,6 +188,7 @@ pub record Goes (m : Running) (v : Member) (x : ℕ) (w : Member) : Type 0 where
   pub told : w.told ≡ v.told ++ x ∷ []
   pub taken : w.taken ≡ v.taken + 1
   pub added : w.added ≡ v.added + added_now (op_in m) (running_turned m x)
+  pub none_free : w.none_free ≡ v.none_free
   pub seen : Begins v.seen w.seen
   -- of its writes just the one that the step counts is added, if it counts one, and at the place that it was told
   pub own : placed_by v.state.caller w.seen ≡ placed_by v.state.caller v.seen ++ noted x

@@ -1,6 +1,6 @@
 -- Turns of the updater by a seat's party: what each step tells, and what a turn is answered.
 use Rattle.std.specs.Prelude.{◌≡◌, ◌≢◌, ℕ, ◌+◌, ◌<◌, List, [], ◌∷◌, ◌++◌, length, Option, Some, None}
-use Rattle.std.specs.Prelude.{◌↔◌, Bool, true, All}
+use Rattle.std.specs.Prelude.{◌↔◌, ◌||◌, Bool, true, All}
 use Rattle.pm_words.specs.declared.layout.Layout.{Layout}
 use Rattle.pm_words.specs.declared.machine.Turn.{Turn}
 use Rattle.pm_words.specs.declared.machine.Turn.TheVariants.{Go, Done}
@@ -35,6 +35,15 @@ abbrev pub TurnReady : Layout → Turn MakeTurn TurnReply → Type 0
 TurnReady l (Go making) = IsMaking making × (action_address l (making_asks making) < row_words l)
 TurnReady l (Done answer) = Unit {0}
 
+-- Whether a party has found no node FREE, once its turn is answered so, and once it has made a step.
+abbrev pub noted_in : Bool → TurnReply → Bool
+noted_in noted (reply.Turned turned) = noted || turned.none_free
+noted_in noted (reply.Held word) = noted
+
+abbrev pub noted_by : Bool → Turn MakeTurn TurnReply → Bool
+noted_by noted (Go making) = noted
+noted_by noted (Done answer) = noted_in noted answer
+
 -- What a step of a party's turn, which is told this number, leaves and shows.
 pub record TurnGoes (making : MakeTurn) (v : Member) (x : ℕ) (w : Member) : Type 0 where
   pub takes : making_takes making x
@@ -43,6 +52,7 @@ pub record TurnGoes (making : MakeTurn) (v : Member) (x : ℕ) (w : Member) : Ty
   pub told : w.told ≡ v.told ++ x ∷ []
   pub taken : w.taken ≡ v.taken + 1
   pub added : w.added ≡ v.added
+  pub none_free : w.none_free ≡ noted_by v.none_free (making_turned making x)
   pub seen : Begins v.seen w.seen
   pub own : placed_by v.state.caller w.seen ≡ placed_by v.state.caller v.seen
   pub ready : TurnReady v.about.layout (making_turned making x)
@@ -80,6 +90,7 @@ pub record TurnRuns (old : Member) (turn : Turn MakeTurn TurnReply) (new : Membe
   pub lock : HasLock new.told turn
   pub taken : new.taken ≡ old.taken + length new.told
   pub added : new.added ≡ old.added
+  pub none_free : new.none_free ≡ noted_by old.none_free turn
   pub seen : Begins old.seen new.seen
   pub own : placed_by old.state.caller new.seen ≡ placed_by old.state.caller old.seen
   pub ready : TurnReady old.about.layout turn
@@ -110,6 +121,7 @@ pub record TurnAnswers (old : Member) (answer : TurnReply) (new : Member) : Type
   pub free : TellsOfFree old.about.layout new.told answer
   pub taken : new.taken ≡ old.taken + length new.told
   pub added : new.added ≡ old.added
+  pub none_free : new.none_free ≡ noted_in old.none_free answer
   pub seen : Begins old.seen new.seen
   pub own : placed_by old.state.caller new.seen ≡ placed_by old.state.caller old.seen
 

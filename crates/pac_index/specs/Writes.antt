@@ -55,8 +55,8 @@ HaveTurned call index (suc turns) old new = (before : Member) × (none_free : Bo
     HaveTurned call index turns old before × AtLast (TurnedForRoom call index none_free) before new
 
 -- A put found no room. It placed nothing. At least four of its tries found no node to split their own with, and the turn
--- behind the last of them found none FREE. After as many writes as a clock of the put's time says, the map lacked its
--- name and had at least as many names as a node has slots.
+-- behind the last of them found none FREE, which the caller's view notes. After as many writes as a clock of the put's
+-- time says, the map lacked its name and had at least as many names as a node has slots.
 pub record FoundFull (call : CoreCall) (index : ℕ) (old new : Member) : Type 0 where
   pub reads : HasOnlyRead old new
   pub earlier : ℕ
@@ -64,6 +64,7 @@ pub record FoundFull (call : CoreCall) (index : ℕ) (old new : Member) : Type 0
   pub before : Member
   pub turned : HaveTurned call index earlier old before
   pub last : AtLast (TurnedForRoom call index true) before new
+  pub none_free : new.none_free ≡ true
   pub room : FoundNoRoom old.about.layout.slots (map_of old.about.base) new.seen (length old.seen) (length new.seen)
       (name_asked (op_of call))
 

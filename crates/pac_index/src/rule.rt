@@ -19,8 +19,8 @@ pub struct About {
 }
 
 /// What a seat knows of one of its parties: its call, the writes that it has seen, the numbers that the call in flight,
-/// or else the last one, was told, how many steps it has made in all, and how many of its puts that were answered had
-/// added a name. No value of it is made.
+/// or else the last one, was told, how many steps it has made in all, how many of its puts that were answered had added
+/// a name, and whether a turn of it has found no node FREE. No value of it is made.
 pub struct Member {
     pub about: About,
     pub state: PartyState,
@@ -28,6 +28,7 @@ pub struct Member {
     pub told: Listed<u64>,
     pub taken: u64,
     pub added: u64,
+    pub none_free: bool,
 }
 
 /// What a seat knows: its parties.
