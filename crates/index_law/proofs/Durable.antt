@@ -20,8 +20,8 @@ use Rattle.index_law.specs.Twins.{BacksStage}
 use Rattle.index_law.specs.Worlds.{Party, World, facts}
 use Rattle.index_law.specs.Lawful.{IsHeld, Sure, Lawful}
 use Rattle.call_stages.specs.Stages.{HoldsNode}
-use Rattle.index_law.specs.Laws.{HasJoined, MeansDurably, durable_list, DurablesAreAList}
-use Rattle.data_node.proofs.ListLemmas.{target_in, chain_is, members_few}
+use Rattle.index_law.specs.Laws.{HasLinked, HasJoined, MeansDurably, durable_list, DurablesAreAList}
+use Rattle.data_node.proofs.ListLemmas.{target_in, rise_at, between_target, chain_is, members_few}
 use Rattle.index_law.proofs.Rows.{anchor-alike}
 use Rattle.index_law.proofs.Starts.{listed_within}
 use Rattle.data_node.specs.Weights.{total}
@@ -215,12 +215,15 @@ pub record IsSkip (w : World) (n : ℕ) : Type 0 where
   pub means : Means w.layout.slots (λ name. range_of w.layout (facts w) n name || range_of w.layout (facts w) ((facts w).now n next_offset) name)
       (durable_spot w.layout w.words n) (map_now (facts w))
   pub beyond : Means w.layout.slots (range_of w.layout (facts w) ((facts w).now n next_offset)) (durable_spot w.layout w.words ((facts w).now n next_offset)) (map_now (facts w))
+  pub linked : HasLinked w.parties ((facts w).now n next_offset)
 
 -- The durable link of a merge isn't there yet: the right node means the map from its anchor on.
 pub record IsBack (w : World) (n r : ℕ) : Type 0 where
   pub listed : IsListed (facts w) n
   pub out : IsListed (facts w) r → ⊥
   pub leads : durable_spot w.layout w.words n next_offset ≡ r
+  pub anchor : anchor_in (durable_spot w.layout w.words r) ≡ anchor_in ((facts w).now r)
+  pub up : anchor_in ((facts w).now n) < anchor_in (durable_spot w.layout w.words r)
   pub means : Means w.layout.slots (from_key (range_of w.layout (facts w) n) (anchor_in (durable_spot w.layout w.words r))) (durable_spot w.layout w.words r) (map_now (facts w))
   pub here : r < w.layout.nodes
   pub named : (name : List ℕ) × IsName name × (anchor_in (durable_spot w.layout w.words r) ≡ key_of name)
@@ -318,6 +321,7 @@ module _ (w : World) (lawful : Lawful w) where
               means = subst (λ k. Means w.layout.slots (λ name. range_of w.layout f left.node name || range_of w.layout f k name) (safe left.node) (map_now f)) (sym sure.at.leads) wide;
               beyond = subst (λ k. Means w.layout.slots (range_of w.layout f k) (safe k) (map_now f)) (sym sure.at.leads)
                   (subst (λ (s : Spot). Means w.layout.slots (range_of w.layout f fresh.node) s (map_now f)) (sym (all_same (safe fresh.node) (f.now fresh.node) backed.fresh_backed)) sure.at.settled.means);
+              linked = record { number = i; party = p; there = there; left = left; fresh = fresh; stage = is; is = sym sure.at.leads };
             },
             ne,
             to,
@@ -354,6 +358,8 @@ module _ (w : World) (lawful : Lawful w) where
               listed = sure.at.listed;
               out = sure.at.unlisted;
               leads = was;
+              anchor = anchor;
+              up = let up = sure.at.up in omega (arith, anchor);
               means = part;
               here = sure.other.here;
               named = (sure.at.anchor, sure.at.named, anchor ∙ sure.at.anchored);
@@ -448,6 +454,44 @@ module _ (w : World) (lawful : Lawful w) where
   among n (inl e) = inl (inl e)
   among n (inr later) = ⊎_elim (λ was. inl (inr was)) (λ back. inr back) (thinned.listed n later)
 
+  -- the anchors of a listed node and of the next rise
+  rises_on : (here : ℕ) (list : List ListNode) → IsChain f.now here list → Rise (anchor_in (f.now here)) list → (n : ℕ) → (n ≡ here) ⊎ IsMember list n → f.now n next_offset ≢ 0
+      → anchor_in (f.now n) < anchor_in (f.now (f.now n next_offset))
+  rises_on here [] chain rise n (inl e) ne = absurd (ne (ap (λ k. f.now k next_offset) e ∙ chain))
+  rises_on here [] chain rise n (inr among) ne = absurd among
+  rises_on here (m ∷ behind) chain rise n (inl e) ne =
+      let next : anchor_in (f.now (f.now n next_offset)) ≡ m.anchor = ap (λ k. anchor_in (f.now (f.now k next_offset))) e ∙ ap (λ k. anchor_in (f.now k)) chain.0 ∙ chain.2 in
+      let own : anchor_in (f.now n) ≡ anchor_in (f.now here) = ap (λ k. anchor_in (f.now k)) e in
+      let up = rise.0 in omega arith
+  rises_on here (m ∷ behind) chain rise n (inr among) ne = rises_on m.node behind chain.3 (rise_at f.now m behind chain.2 rise.1) n among ne
+
+  -- so a listed node is the target of its own anchor
+  own_target : (n : ℕ) → IsListed f n → target_from 0 f.list (anchor_in (f.now n)) ≡ n
+  own_target n listed = between_target f.now 0 f.list lawful.list.chain rise_from n (anchor_in (f.now n)) listed (record { low = omega arith; high = rises_on 0 f.list lawful.list.chain rise_from n listed })
+    where
+      rise_from : Rise (anchor_in (f.now 0)) f.list
+      rise_from = subst (λ least. Rise least f.list) (sym lawful.list.lowest) lawful.list.rise
+
+  -- a listed node is there, or a link to it isn't durable yet
+  hides : (n : ℕ) → IsListed f n → IsIn thinned.to n ⊎ HasLinked w.parties n
+  hides n listed =
+      let key : ℕ = anchor_in (f.now n) in
+      let own = own_target n listed in
+      ⊎_elim
+      (λ alike. inl (subst (IsIn thinned.to) (alike ∙ own) (target_in 0 thinned.to key)))
+      (λ other. ⊎_elim
+      (λ skip. inr (subst (HasLinked w.parties) (skip.1 ∙ own) skip.0.linked))
+      (λ back. absurd (let up = back.0.up in let same = ap (λ k. anchor_in (f.now k)) own in let low = back.1 in omega arith))
+      other)
+      (thinned.target key)
+
+  -- of all these the durable anchor is the cached one
+  anchors : (n : ℕ) → IsListed f n ⊎ IsIn thinned.to n → anchor_in (safe n) ≡ anchor_in (f.now n)
+  anchors n is = ⊎_elim
+      (λ listed. (saved n listed).twin.anchor)
+      (λ there. ⊎_elim (λ listed. (saved n listed).twin.anchor) (λ back. back.2.anchor) (among n there))
+      is
+
   abbrev safe_range : ℕ → List ℕ → Bool
   safe_range n name = target_from 0 thinned.to (key_of name) == n
 
@@ -537,6 +581,12 @@ module _ (w : World) (lawful : Lawful w) where
       ))
       (among n is)
 
+  hides_there : (n : ℕ) → IsListed f n → IsIn (durable_list w) n ⊎ HasLinked w.parties n
+  hides_there n listed = subst (λ (to : List ListNode). IsIn to n ⊎ HasLinked w.parties n) (sym same_list) (hides n listed)
+
+  anchors_there : (n : ℕ) → IsListed f n ⊎ IsIn (durable_list w) n → anchor_in (safe n) ≡ anchor_in (f.now n)
+  anchors_there n is = anchors n (subst (λ (to : List ListNode). IsListed f n ⊎ IsIn to n) same_list is)
+
   is_list : (to : List ListNode) → to ≡ thinned.to → (IsChain safe 0 to) × (Rise 0 to) × (AllByRecursion Proper to)
       × ((n : ℕ) → IsIn to n → (IsListed f n ⊎ HasJoined w.parties n) × MeansDurably w (λ name. target_from 0 to (key_of name) == n) (safe n))
   is_list to same = subst (λ (to : List ListNode). (IsChain safe 0 to) × (Rise 0 to) × (AllByRecursion Proper to)
@@ -555,5 +605,7 @@ durable_law w lawful =
         named = seconds w lawful (durable_list w) all.2;
       };
       listed = λ n is. (all.3 n is).0;
+      hides = hides_there w lawful;
+      anchors = anchors_there w lawful;
       means = λ n is. (all.3 n is).1;
     }

@@ -21,12 +21,12 @@ use Rattle.cat_history.specs.CrashEnds.{IsCrashEnd}
 use Rattle.cat_history.specs.declared.op.Change.{Change}
 use Rattle.data_node.specs.Slots.{AreAllLive}
 use Rattle.data_node.specs.Spots.{Spot, Means, bitmap_offset}
-use Rattle.data_node.specs.Lists.{ListNode, members_from, IsIn, MakeList}
+use Rattle.data_node.specs.Lists.{ListNode, anchor_in, members_from, IsIn, MakeList}
 use Rattle.data_node.specs.Lists.{range_in}
 use Rattle.call_stages.specs.declared.once.Once.{Once}
 use Rattle.call_stages.specs.declared.once.Once.TheVariants as once
 use Rattle.call_stages.specs.declared.once.Placed.{Placed}
-use Rattle.call_stages.specs.Stages.{Held, Sight, Grip, Phase, Pace, Joined, Stage, Idle, Saw, Wears, Holds, Eyes}
+use Rattle.call_stages.specs.Stages.{Held, Sight, Grip, Phase, Linked, Pace, Joined, Stage, Idle, Saw, Wears, Holds, Eyes}
 use Rattle.call_stages.specs.Stages.{Splits, Leaves, Meets, Joins, counted, pending_in, pended}
 use Rattle.call_stages.specs.Kinds.{IsRefusal, Step, Told, LeadsWithin, HasWordAt, clock_address, word_address}
 use Rattle.call_stages.specs.Kinds.{version_address, status_address, prev_address, live_status}
@@ -205,6 +205,16 @@ pub record HasPending (parties : List Party) (change : Change) : Type 0 where
   pub there : get_elem? parties number ≡ some party
   pub pending : pending_in party.stage ≡ Some change
 
+-- Some party splits a node, which leads to this one already.
+pub record HasLinked (parties : List Party) (n : ℕ) : Type 0 where
+  pub number : ℕ
+  pub party : Party
+  pub there : get_elem? parties number ≡ some party
+  pub left : Grip
+  pub fresh : Grip
+  pub stage : party.stage ≡ Splits left fresh Linked
+  pub is : fresh.node ≡ n
+
 -- Some party merges this node into another one, which leads past it already.
 pub record HasJoined (parties : List Party) (n : ℕ) : Type 0 where
   pub number : ℕ
@@ -230,7 +240,11 @@ durable_list w = members_from (durable_spot w.layout w.words) w.layout.nodes 0
 -- map, or the map with a change that some call has pending.
 pub record IsDurableList (w : World) : Type 0 where
   pub list : MakeList w.layout.nodes (durable_spot w.layout w.words) (durable_list w)
+  -- it differs from the index's list by nodes of switches alone that aren't durable yet
   pub listed : (n : ℕ) → IsIn (durable_list w) n → IsListed (facts w) n ⊎ HasJoined w.parties n
+  pub hides : (n : ℕ) → IsListed (facts w) n → IsIn (durable_list w) n ⊎ HasLinked w.parties n
+  pub anchors : (n : ℕ) → IsListed (facts w) n ⊎ IsIn (durable_list w) n →
+      anchor_in (durable_spot w.layout w.words n) ≡ anchor_in ((facts w).now n)
   pub means : (n : ℕ) → IsIn (durable_list w) n →
       MeansDurably w (range_in (durable_list w) n) (durable_spot w.layout w.words n)
 

@@ -7,7 +7,8 @@ use Rattle.pm_words.specs.Locations.{Clock, Updater, Volatile, Cached, Durable, 
 use Rattle.pm_words.proofs.Apart.{at-set_other}
 use Rattle.cat_history.specs.Maps.{Map}
 use Rattle.cat_history.specs.declared.op.Write.{Write}
-use Rattle.call_stages.specs.Stages.{Sight, Stage, Gone, Idle, Joins, HoldsNode}
+use Rattle.data_node.specs.Lists.{anchor_in}
+use Rattle.call_stages.specs.Stages.{Sight, Stage, Gone, Idle, Joins, HoldsNode, IsSwitched}
 use Rattle.call_stages.specs.Kinds.{clock_address}
 use Rattle.call_stages.specs.Lines.{HeldLine}
 use Rattle.call_stages.specs.Prevs.{Debt}
@@ -17,17 +18,19 @@ use Rattle.index_law.specs.Worlds.{Party, World, facts}
 use Rattle.index_law.specs.Whole.{IsWhole}
 use Rattle.index_law.specs.Footings.{AreTended}
 use Rattle.index_law.proofs.Rows.{facts-elsewhere}
+use Rattle.turn_law.specs.Covers.{IsCover}
 use Rattle.turn_law.specs.Facts.{TurnFacts}
-use Rattle.turn_row.specs.Columns.{line_field, line_count, line_word}
+use Rattle.turn_row.specs.Columns.{line_field, line_count, line_word, lines_in}
 use Rattle.turn_row.proofs.RowColumns.{column-alike}
 use Rattle.turn_row.specs.RowStages.{RowTarget, Resting, HasTarget}
 use Rattle.turn_row.specs.RowLaw.{RowLawful}
 use Rattle.turn_row.specs.Turnings.{Turning}
-use Rattle.layer_law.specs.Turnings.{terms_of, ghosts_of, SureWatch, SureWatches, IsShown}
-use Rattle.layer_law.specs.Layers.{Layered, turn_facts, IsLayered}
+use Rattle.layer_law.specs.Turnings.{terms_of, ghosts_of, line_number, SureWatch, SureWatches, IsShown}
+use Rattle.layer_law.specs.Layers.{Layered, CoversNode, turn_facts, IsLayered}
 use Rattle.layer_law.specs.Beginnings.{begun_anew, IsIdleOrKept, BeginningKeepsLayer, OtherTurnsMayRest}
 use Rattle.layer_law.proofs.FactTies.{Rest, known, rest_in, facts_tie, rest_same}
 use Rattle.layer_law.proofs.Retired.{retiring_lines}
+use Rattle.layer_law.proofs.Switched.{unready_by, cover_same}
 use Rattle.layer_law.proofs.CallRows.{row_after}
 use Rattle.layer_law.proofs.TurnRests.{rests_for}
 use Rattle.layer_law.proofs.TurnWalks.{found_target}
@@ -104,8 +107,20 @@ module _ (z : Layered) (clock : ℕ) (parties : List Party) (base : Map) (histor
       | inr was ↦ retiring_lines (turn_facts w is.holder u) (turn_facts w' is.holder u) own right (ap (λ (f : TurnFacts). f.line) (same_turn u))
           (is.retiring i was.0 own u h left right was.1 (sym was.3 ∙ at_own) (was.2 ∙ stage))
     ];
+    switched = λ i p n at_p is_switched. elim (kept i p at_p) [
+      | inl idle ↦ absurd (subst (λ (s : Stage). IsSwitched s n) idle is_switched)
+      | inr was ↦
+          let covering = is.switched i was.0 n was.1 (subst (λ (s : Stage). IsSwitched s n) (sym was.2) is_switched) in
+          (covering.0, was.3 ∙ covering.1, covers covering.0 n covering.2)
+    ];
   }
     where
+      covers : (own : Option HeldLine) (n : ℕ) → CoversNode w own n → CoversNode w' own n
+      covers own n = unready_by (IsCover (lines_in l w.words Cached) (lines_in l w.words Durable) (anchor_in ((facts w).now n))) (IsCover (lines_in l words' Cached) (lines_in l words' Durable) (anchor_in ((facts w').now n))) own
+          (λ e is_own unready.
+          cover_same (lines_in l w.words Cached) (lines_in l words' Cached) (lines_in l w.words Durable) (lines_in l words' Durable) (anchor_in ((facts w).now n)) (anchor_in ((facts w').now n)) (line_number e)
+          (ap (λ (r : Rest). r.line) same_rest) (ap (λ (r : Rest). r.safe_line) same_rest) (ap (λ (f : Facts). anchor_in (f.now n)) same_facts))
+
       at_line : (o : ℕ) → o < 8 → (j : ℕ) → line_field l words' Cached o j ≡ line_field l w.words Cached o j
       at_line o small j = column-alike l w.words words' (line_count l) (λ m. Cached (line_word o m)) j
           (λ here. at-set_other l w.words Clock (Cached (line_word o j)) clock tt (omega arith, omega arith, small) (λ e. cc))
@@ -136,4 +151,5 @@ other_turns_may_rest z turns i t is rested rest there =
       watches = λ j u at_u. subst (SureWatch w.layout w.generation (facts w)) (sym (rest j u at_u).watch) tt;
       shown = λ j u e target at_u stage. absurd (let no : Resting ≡ HasTarget e target = sym (rest j u at_u).stage ∙ stage in cc);
       retiring = is.retiring;
+      switched = is.switched;
     }

@@ -11,7 +11,8 @@ use Rattle.pm_words.specs.Locations.{Line, Cached, Durable, HasLocation, address
 use Rattle.pm_words.specs.Rows.{IsRow, acted}
 use Rattle.pm_words.proofs.Apart.{at-set_other}
 use Rattle.pm_words.proofs.Kept.{action_address-drain}
-use Rattle.call_stages.specs.Stages.{Stage, Held, Grip, Gone, Joins, HoldsNode, counted}
+use Rattle.data_node.specs.Lists.{anchor_in}
+use Rattle.call_stages.specs.Stages.{Stage, Held, Grip, Gone, Joins, HoldsNode, IsSwitched, counted}
 use Rattle.call_stages.specs.Kinds.{Step}
 use Rattle.call_stages.specs.Lines.{HeldLine, line_address, Marks, Notes, passes_line, takes, looks_up, notes, keeps_safe}
 use Rattle.call_stages.specs.AnySteps.{IsBeside}
@@ -25,8 +26,8 @@ use Rattle.index_law.specs.Footings.{AreTended, stepped_whole}
 use Rattle.index_law.proofs.AnySteps.{beside_keeps}
 use Rattle.index_law.proofs.Footings.{layer_load_stays, foot_keeps}
 use Rattle.index_law.proofs.Noting.{marks_unready}
-use Rattle.index_law.proofs.Parties.{at_set}
-use Rattle.turn_law.specs.Covers.{Lines}
+use Rattle.index_law.proofs.Parties.{at_set, set_here, set_else}
+use Rattle.turn_law.specs.Covers.{Lines, IsCover}
 use Rattle.turn_law.specs.Facts.{TurnFacts}
 use Rattle.turn_law.proofs.Columns as columns
 use Rattle.turn_row.specs.Columns.{line_field, line_count, line_word, lines_in}
@@ -34,10 +35,11 @@ use Rattle.turn_row.specs.RowStages.{RowTarget}
 use Rattle.turn_row.proofs.RowColumns.{column-same}
 use Rattle.turn_row.specs.Turnings.{Turning}
 use Rattle.layer_law.specs.Turnings.{terms_of, ghosts_of, line_number, SureWatch, IsShown}
-use Rattle.layer_law.specs.Layers.{Layered, SaysMerge, IsRetiring, turn_facts, IsLayered}
+use Rattle.layer_law.specs.Layers.{Layered, SaysMerge, IsRetiring, CoversNode, turn_facts, IsLayered}
 use Rattle.layer_law.specs.Laws.{CallStepKeeps}
 use Rattle.layer_law.proofs.FactTies.{known, rest_in, facts_tie, lines_same}
 use Rattle.layer_law.proofs.Retired.{retiring_lines}
+use Rattle.layer_law.proofs.Switched.{HasUnready, unready_by, moved_covers, switched_busy, line_stays}
 use Rattle.layer_law.proofs.CallMoves.{now_known}
 use Rattle.layer_law.proofs.CallLines.{line_tie}
 use Rattle.layer_law.proofs.CallNotes.{stored, field_else, field_other, state_lines}
@@ -76,9 +78,17 @@ module _ (z : Layered) (i : ℕ) (p : Party) (is : IsLayered z) (there : get_ele
   shown' : (key : List ℕ) (target : RowTarget) → IsShown l w.generation (facts w) key target → IsShown l w.generation (facts w') key target
   shown' key target shown = subst (λ φ. IsShown l w.generation φ key target) (sym same_facts) shown
 
-  pub beside_layered : ((j : ℕ) (q : Party) (own : Option HeldLine) (u : Turning) (h : Held) (left right : Grip) → get_elem? w.parties j ≡ some q → get_elem? (slice_set z.whole.lines i after) j ≡ some own → q.stage ≡ Joins h left right Gone
+  -- switches that may not be durable yet
+  covers_after : (own : Option HeldLine) (n : ℕ) → (facts w).status n ≢ 0 → CoversNode w own n → CoversNode w' own n
+  covers_after own n busy = unready_by (IsCover (lines_in l w.words Cached) (lines_in l w.words Durable) (anchor_in ((facts w).now n)))
+      (IsCover (lines_in l words' Cached) (lines_in l words' Durable) (anchor_in ((facts w').now n))) own
+      (λ e is_own unready cover.
+      subst (λ φ. IsCover (lines_in l words' Cached) (lines_in l words' Durable) (anchor_in (φ.now n)) (line_number e)) (sym same_facts)
+      (moved_covers (now_known l w.generation (facts w) (rest_in l w.words) is.holder) (known l w.generation (facts w) is.holder (rest_in l words')) besides.moved n (line_number e) busy cover))
+
+  pub beside_layered : get_elem? z.whole.lines i ≡ some line → ((n : ℕ) → IsSwitched p.stage n → (P : ℕ → Type 0) → HasUnready P line → HasUnready P after) → ((j : ℕ) (q : Party) (own : Option HeldLine) (u : Turning) (h : Held) (left right : Grip) → get_elem? w.parties j ≡ some q → get_elem? (slice_set z.whole.lines i after) j ≡ some own → q.stage ≡ Joins h left right Gone
       → IsRetiring (turn_facts w' is.holder u) own right) → IsLayered (record { whole = stepped_whole z.whole i p a (record { stage = p.stage; line = after; debt = debt }); turns = z.turns })
-  beside_layered retiring = record {
+  beside_layered at_line keeps retiring = record {
     whole = whole.0;
     tended = whole.1;
     holder = is.holder;
@@ -96,6 +106,22 @@ module _ (z : Layered) (i : ℕ) (p : Party) (is : IsLayered z) (there : get_ele
     watches = λ j u at. subst (λ φ. SureWatch l w.generation φ u.watch) (sym same_facts) (is.watches j u at);
     shown = λ j u e target at has. shown' e.anchor target (is.shown j u e target at has);
     retiring = λ j q own u h left right at_q at_own stage. retiring j q own u h left right (was_party j q at_q) at_own stage;
+    switched = λ j q n at_q is_switched.
+        let was = was_party j q at_q in
+        let covering = is.switched j q n was is_switched in
+        let busy = switched_busy l w.generation (facts w) q.caller q.index q.since q.stage is.whole.joint.lawful.live (is.whole.joint.lawful.sure j q was) n is_switched in
+        ⊎_elim
+        (λ (mine : j ≡ i).
+        let same : q ≡ p = some-injective _ _ (sym was ∙ ap (get_elem? w.parties) mine ∙ there) in
+        let own : covering.0 ≡ line = some-injective _ _ (sym covering.1 ∙ ap (get_elem? z.whole.lines) mine ∙ at_line) in (
+          after,
+          ap (get_elem? (slice_set z.whole.lines i after)) mine ∙ set_here z.whole.lines i after line at_line,
+          covers_after after n busy
+              (keeps n (subst (λ (d : Party). IsSwitched d.stage n) same is_switched) (IsCover (lines_in l w.words Cached) (lines_in l w.words Durable) (anchor_in ((facts w).now n)))
+              (subst (λ o. CoversNode w o n) own covering.2)),
+        ))
+        (λ (other : j ≢ i). (covering.0, set_else z.whole.lines i j after other ∙ covering.1, covers_after covering.0 n busy covering.2))
+        (cases_eq j i);
   }
 
   -- where the cached lines stay, so does what is retired, as long as the party's line is the same, but for what is known of it
@@ -269,7 +295,8 @@ call_step_keeps z i p f next a x r is there at owing stage (foot.on_line {stage 
     let none' : counted p.stage ≡ None = ap counted stage ∙ none in
     let whole' = subst (λ (u : Stage). IsWhole (stepped_whole z.whole i p a (record { stage = u; line = after; debt = d })) × AreTended (stepped_whole z.whole i p a (record { stage = u; line = after; debt = d }))) (sym stage) whole in
     let besides = line_beside z i p is there line after a x at k waits' in
-    subst goal stage (beside_layered z i p is there a line after d none' is_beside whole' besides (line_retiring z i p is there a x line after d none' is_beside whole' besides at k waits'))
+    subst goal stage (beside_layered z i p is there a line after d none' is_beside whole' besides at (λ n is_switched P. line_stays l p.stage n P line after a x is_switched k waits')
+    (line_retiring z i p is there a x line after d none' is_beside whole' besides at k waits'))
 call_step_keeps z i p f next a x r is there at owing stage (foot.on_prev {stage = s} {line = line} {debt = d} {debt' = d'} none is_beside k) told room =
     let l = z.whole.world.layout in
     let whole = foot_keeps z.whole i p f next a x r is.whole is.tended there at owing stage (foot.on_prev none is_beside k) told room in
@@ -278,7 +305,7 @@ call_step_keeps z i p f next a x r is there at owing stage (foot.on_prev {stage 
     let whole' = subst (λ (u : Stage). IsWhole (stepped_whole z.whole i p a (record { stage = u; line = line; debt = d' })) × AreTended (stepped_whole z.whole i p a (record { stage = u; line = line; debt = d' }))) (sym stage) whole in
     let both = prev_beside z i p is there d d' a owing (subst (λ (u : Stage). Prevs l u d a d') (sym stage) k) in
     let besides = both.0 in
-    subst goal stage (beside_layered z i p is there a line line d' none' is_beside whole' besides
+    subst goal stage (beside_layered z i p is there a line line d' none' is_beside whole' besides at (λ n is_switched P has. has)
     (same_retiring z i p is there a line line d' none' is_beside whole' besides both.1 at (λ right f was. was)))
 call_step_keeps z i p f next a x r is there at owing stage (foot.on_layer {stage = s} {line = line} {debt = d} {leaf = leaf} {offset = offset} none has) told room =
     let stays = layer_load_stays z.whole i p (record { stage = s; line = line; debt = d }) leaf offset there at owing stage none in

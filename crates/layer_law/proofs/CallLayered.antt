@@ -5,13 +5,14 @@ use mathlib.Core.Option.{some, some-injective}
 use lib.ListN.{get_elem?}
 use Rattle.pm_words.specs.declared.layout.Layout.{Layout}
 use Rattle.pm_words.specs.declared.action.Action.{Action}
-use Rattle.pm_words.specs.Locations.{Updater, Cached, at}
+use Rattle.pm_words.specs.Locations.{Updater, Cached, Durable, at}
 use Rattle.pm_words.specs.Rows.{acted, got}
 use Rattle.data_node.specs.Spots.{Spot, updated}
+use Rattle.data_node.specs.Lists.{anchor_in}
 use Rattle.data_node.proofs.SpotLemmas.{updated-same}
 use Rattle.call_stages.specs.declared.once.Once.{Once}
 use Rattle.call_stages.specs.declared.once.Placed.{Placed}
-use Rattle.call_stages.specs.Stages.{Stage, Held, Grip, Gone, Joins, HoldsNode, Tells}
+use Rattle.call_stages.specs.Stages.{Stage, Held, Grip, Gone, Joins, HoldsNode, IsSwitched, Tells}
 use Rattle.call_stages.specs.Kinds.{Step}
 use Rattle.call_stages.specs.Lines.{HeldLine}
 use Rattle.call_stages.specs.Footings.{Minds, IsKnownEmpty, IsLeftToTurn, KeepsOrLetsGo, HasLine, IsOfMerge}
@@ -30,6 +31,7 @@ use Rattle.index_law.proofs.Moves.{fact_after, Gives, gives, facts_step}
 use Rattle.index_law.proofs.Own.{allow_law, sure_within, mine}
 use Rattle.index_law.proofs.Parties.{at_set, set_here, set_else}
 use Rattle.index_law.proofs.Versions.{unfree}
+use Rattle.turn_law.specs.Covers.{IsCover}
 use Rattle.turn_law.specs.Facts.{HasReadyMerge}
 use Rattle.turn_law.proofs.Columns.{other}
 use Rattle.turn_row.specs.Columns.{line_field, line_count, line_word, lines_in}
@@ -37,9 +39,10 @@ use Rattle.turn_row.specs.RowStages.{RowTarget}
 use Rattle.turn_row.proofs.RowColumns.{column-alike}
 use Rattle.turn_row.specs.Turnings.{Turning}
 use Rattle.layer_law.specs.Turnings.{terms_of, ghosts_of, line_number, SureWatch, IsShown}
-use Rattle.layer_law.specs.Layers.{Layered, SaysMerge, IsRetiring, turn_facts, IsLayered}
+use Rattle.layer_law.specs.Layers.{Layered, SaysMerge, IsRetiring, CoversNode, turn_facts, IsLayered}
 use Rattle.layer_law.proofs.FactTies.{Rest, known, rest_in, facts_tie, node_rest}
 use Rattle.layer_law.proofs.Retired.{retiring_lines}
+use Rattle.layer_law.proofs.Switched.{unready_by, moved_covers, cover_same, switched_busy, arrives, held_on}
 use Rattle.layer_law.proofs.CallMoves.{Moved, now_known}
 use Rattle.layer_law.proofs.CallLines.{line_tie}
 use Rattle.layer_law.proofs.CallSteps.{holder_after, Context, GivesReady, moved}
@@ -194,6 +197,26 @@ module _ (z : Layered) (i : ℕ) (p : Party) (is : IsLayered z) (there : get_ele
           let sure = subst (λ (s : Stage). Sure l g f p.caller p.index p.since s) was (law.sure i p there) in
           of_line how (fresh line unready other same sure.at.bright)
 
+  -- switches that may not be durable yet
+  covers_after : (own : Option HeldLine) (n : ℕ) → f.status n ≢ 0 → CoversNode w own n → CoversNode w' own n
+  covers_after own n busy = unready_by (IsCover (lines_in l words Cached) (lines_in l words Durable) (anchor_in (f.now n))) (IsCover (lines_in l words' Cached) (lines_in l words' Durable) (anchor_in ((facts w').now n))) own
+      (λ e is_own unready cover.
+      cover_same (lines_in l words Cached) (lines_in l words' Cached) (lines_in l words Durable) (lines_in l words' Durable) (anchor_in (f'.now n)) (anchor_in ((facts w').now n)) (line_number e)
+      (ap (λ (rest : Rest). rest.line) same_rest) (ap (λ (rest : Rest). rest.safe_line) same_rest) (ap (λ (φ : Facts). anchor_in (φ.now n)) same_facts)
+      (moved_covers (now_known l g f (rest_in l words) is.holder) (known l g f' holder' (rest_in l words)) moves n (line_number e) busy cover))
+
+  own_switched : (n : ℕ) → IsSwitched t n → CoversNode w' after n
+  own_switched n is_switched = ⊎_elim
+      (λ (was : IsSwitched p.stage n). kept_on (switched_busy l g f p.caller p.index p.since p.stage law.live (law.sure i p there) n was) (was_covered n was))
+      (λ (comes_so : (f.status n ≢ 0) × CoversNode w line n). kept_on comes_so.0 comes_so.1)
+      (arrives l g words w.base w.history law.row p.caller p.index p.since i is.holder k before line sure_line minds n is_switched)
+    where
+      was_covered : (m : ℕ) → IsSwitched p.stage m → CoversNode w line m
+      was_covered m was = let covering = is.switched i p m there was in subst (λ o. CoversNode w o m) (some-injective _ _ (sym covering.1 ∙ at_line)) covering.2
+
+      kept_on : f.status n ≢ 0 → CoversNode w line n → CoversNode w' after n
+      kept_on busy covers = covers_after after n busy (held_on l g words w.base w.history law.row p.caller p.index p.since i is.holder t line after (anchor_in (f.now n)) sure_line kept covers)
+
   lines_path : (u : Turning) → (turn_facts w' holder' u).line ≡ (turn_facts w is.holder u).line
   lines_path u = ap (λ (rest : Rest). rest.line) same_rest
 
@@ -221,4 +244,17 @@ module _ (z : Layered) (i : ℕ) (p : Party) (is : IsLayered z) (there : get_ele
         subst (λ o. IsRetiring (turn_facts w is.holder u) o right) its (own_retiring u h left right next))
         (λ (other : (j ≢ i) × (get_elem? w.parties j ≡ some q)). is.retiring j q own u h left right other.1 (sym (set_else z.whole.lines i j after other.0) ∙ at_own) stage)
         (at_set w.parties i j (moved_on p t) q at_q));
+    switched = λ j q n at_q is_switched. ⊎_elim
+        (λ (mine_ : (j ≡ i) × (moved_on p t ≡ q)). (
+          after,
+          ap (get_elem? (slice_set z.whole.lines i after)) mine_.0 ∙ set_here z.whole.lines i after line at_line,
+          own_switched n (subst (λ (d : Party). IsSwitched d.stage n) (sym mine_.1) is_switched),
+        ))
+        (λ (other : (j ≢ i) × (get_elem? w.parties j ≡ some q)).
+        let covering = is.switched j q n other.1 is_switched in (
+          covering.0,
+          set_else z.whole.lines i j after other.0 ∙ covering.1,
+          covers_after covering.0 n (switched_busy l g f q.caller q.index q.since q.stage law.live (law.sure j q other.1) n is_switched) covering.2,
+        ))
+        (at_set w.parties i j (moved_on p t) q at_q);
   }

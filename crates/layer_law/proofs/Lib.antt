@@ -4,6 +4,7 @@ pub mod Targets
 pub mod CallMoves
 pub mod CallLines
 pub mod CallSteps
+pub mod Switched
 pub mod CallRows
 pub mod CallNotes
 pub mod CallDrains
@@ -22,6 +23,7 @@ pub mod TurnRests
 pub mod TurnLocks
 pub mod TurnSteps
 pub mod LayerCover
+pub mod CrashCover
 pub mod LayerStays
 pub mod Beginnings
 pub mod FreshLayer

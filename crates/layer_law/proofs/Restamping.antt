@@ -1,14 +1,17 @@
 -- A stamp that becomes another leaves the search layer where no turn is in flight: only whether a node has one matters.
-use Rattle.std.proofs.Common.{◌≡◌, ◌≢◌, ℕ, ◌<◌, inl, inr, List, slice_set, sym, ap, ◌∙◌, subst, arith}
+use Rattle.std.proofs.Common.{◌≡◌, ◌≢◌, ℕ, ◌<◌, inl, inr, List, slice_set, Option, sym, ap, ◌∙◌, subst, arith}
 use Rattle.std.proofs.lemmas.Bool.{cases_eq}
 use Rattle.pm_words.specs.declared.layout.Layout.{Layout}
 use Rattle.pm_words.specs.Locations.{Word, Location, Updater, Volatile, Cached, Durable, Leaf, HasLocation, leaf_count, address_of, at}
 use Rattle.pm_words.proofs.Apart.{at-set_other, at-set_same}
+use Rattle.data_node.specs.Lists.{anchor_in}
+use Rattle.call_stages.specs.Lines.{HeldLine}
 use Rattle.index_law.specs.Facts.{Facts}
 use Rattle.index_law.specs.Worlds.{World, facts}
 use Rattle.index_law.proofs.Rows.{facts-elsewhere}
 use Rattle.search_layer.specs.Leaves.{LayerWords, IsLayerRow, leaves_in}
 use Rattle.search_layer.proofs.LeafRows.{leaves_in-alike}
+use Rattle.turn_law.specs.Covers.{IsCover}
 use Rattle.turn_law.specs.Facts.{TurnTerms, TurnFacts}
 use Rattle.turn_law.specs.Lawful.{TurnLawful}
 use Rattle.turn_law.specs.TurnStages as turns
@@ -18,11 +21,12 @@ use Rattle.turn_row.specs.RowStages.{Resting, HasTarget}
 use Rattle.turn_row.specs.RowLaw.{RowLawful}
 use Rattle.turn_row.specs.Turnings.{Turning}
 use Rattle.turn_row.proofs.RowColumns.{column-here, column-alike, column-same}
-use Rattle.layer_law.specs.Turnings.{terms_of, ghosts_of, SureWatch}
-use Rattle.layer_law.specs.Layers.{Layered, turn_facts, IsLayered}
+use Rattle.layer_law.specs.Turnings.{terms_of, ghosts_of, line_number, SureWatch}
+use Rattle.layer_law.specs.Layers.{Layered, CoversNode, turn_facts, IsLayered}
 use Rattle.layer_law.specs.Beginnings.{restamped, StampKeepsLayer}
 use Rattle.layer_law.proofs.FactTies.{known, facts_tie, lines_same}
 use Rattle.layer_law.proofs.Retired.{retiring_lines}
+use Rattle.layer_law.proofs.Switched.{unready_by, cover_same}
 
 -- for a turn that rests, stamps of which the same are 0
 with_stamps : (c : TurnTerms) (f : TurnFacts) (stamp : ℕ → ℕ) → ((n : ℕ) → f.stamp n ≡ 0 → stamp n ≡ 0) → ((n : ℕ) → stamp n ≡ 0 → f.stamp n ≡ 0) → TurnLawful c f turns.Resting → TurnLawful c (record f { stamp = stamp }) turns.Resting
@@ -88,6 +92,13 @@ module _ (z : Layered) (n y : ℕ) (is : IsLayered z) (here : n < z.whole.world.
   safe_leaves_are : leaves_in l words' Durable ≡ leaves_in l w.words Durable
   safe_leaves_are = λ k leaf o. leaves_in-alike l w.words words' Durable leaf o (λ there small. elsewhere (Durable (Leaf leaf o)) (there, small) (λ e. cc)) k
 
+  covers_same : (own : Option HeldLine) (m : ℕ) → CoversNode w own m → CoversNode w' own m
+  covers_same own m = unready_by (IsCover (columns.lines_in l w.words Cached) (columns.lines_in l w.words Durable) (anchor_in ((facts w).now m)))
+      (IsCover (columns.lines_in l words' Cached) (columns.lines_in l words' Durable) (anchor_in ((facts w').now m))) own
+      (λ e is_own unready.
+      cover_same (columns.lines_in l w.words Cached) (columns.lines_in l words' Cached) (columns.lines_in l w.words Durable) (columns.lines_in l words' Durable) (anchor_in ((facts w).now m)) (anchor_in ((facts w').now m))
+      (line_number e) lines_are safe_lines_are (ap (λ (f : Facts). anchor_in (f.now m)) same_facts))
+
   -- but for the stamps the law of turns knows the same
   same_turn : (u : Turning) → turn_facts w' is.holder u ≡ record (turn_facts w is.holder u) { stamp = volatile_field l words' 2 }
   same_turn u =
@@ -139,4 +150,5 @@ stamp_keeps_layer z n y is rests here has_some still whole tended =
       shown = λ i u e target at_u has_target. absurd (let no : Resting ≡ HasTarget e target = sym (rests i u at_u) ∙ has_target in cc);
       retiring = λ i p own u h left right at_p at_own stage. retiring_lines (turn_facts w is.holder u) (turn_facts w2 is.holder u) own right (ap (λ (f : TurnFacts). f.line) (same_turn z n y is here u))
           (is.retiring i p own u h left right at_p at_own stage);
+      switched = λ i p m at_p is_switched. let covering = is.switched i p m at_p is_switched in (covering.0, covering.1, covers_same z n y is here covering.0 m covering.2);
     }

@@ -5,18 +5,21 @@ use Rattle.std.proofs.lemmas.Bool.{cases_eq, eq-eqb, ne_eqb}
 use mathlib.Core.Option.{some}
 use lib.ListN.{get_elem?}
 use Rattle.pm_words.specs.declared.layout.Layout.{Layout}
-use Rattle.pm_words.specs.Locations.{Location, Line, Volatile, Cached}
+use Rattle.pm_words.specs.Locations.{Location, Line, Volatile, Cached, Durable}
 use Rattle.pm_words.specs.Rows.{IsRow}
 use Rattle.pm_words.proofs.Apart.{at-set_other}
 use Rattle.version_lock.specs.Versions.{IsFree, is_free_word}
 use Rattle.version_lock.proofs.WordTests.{free_word}
+use Rattle.data_node.specs.Spots.{Spot}
+use Rattle.data_node.specs.Lists.{anchor_in}
 use Rattle.call_stages.specs.Kinds.{free_status, gone_status}
-use Rattle.call_stages.specs.Stages.{Held, Grip, Gone, Stage, Joins}
+use Rattle.call_stages.specs.Stages.{Held, Grip, Gone, Stage, Joins, IsSwitched}
 use Rattle.call_stages.specs.Lines.{HeldLine}
-use Rattle.turn_law.specs.Covers.{set_at, ready_state}
+use Rattle.turn_law.specs.Covers.{set_at, ready_state, IsCover}
+use Rattle.turn_law.proofs.Covers.{cover_apart}
 use Rattle.turn_law.specs.Lawful.{IsCarried, IsFreeing}
 use Rattle.turn_law.proofs.Columns as columns
-use Rattle.turn_row.specs.Columns.{Ghosts, RowTerms, line_count, line_word, line_field, node_field, facts_in}
+use Rattle.turn_row.specs.Columns.{Ghosts, RowTerms, line_count, line_word, line_field, lines_in, node_field, facts_in}
 use Rattle.turn_row.specs.Columns as rows
 use Rattle.turn_row.specs.RowSteps.{line_at, volatile_at}
 use Rattle.turn_row.proofs.RowColumns.{column-here, column-same}
@@ -33,9 +36,11 @@ use Rattle.index_law.proofs.Rows.{facts-elsewhere, facts-status, status_in-here}
 use Rattle.index_law.proofs.Versions.{unfree}
 use Rattle.turn_row.specs.Turnings.{Turning}
 use Rattle.layer_law.specs.Turnings.{terms_of, ghosts_of, line_number}
-use Rattle.layer_law.specs.Layers.{IsRetiring, turn_facts}
+use Rattle.layer_law.specs.Layers.{IsRetiring, CoversNode, turn_facts}
 use Rattle.layer_law.proofs.FactTies.{version_tie, lines_same}
 use Rattle.layer_law.proofs.Retired.{retiring_lines}
+use Rattle.layer_law.proofs.CallLines.{line_tie}
+use Rattle.layer_law.proofs.Switched.{unready_by, cover_same}
 use Rattle.layer_law.proofs.TurnAside.{KeepsRest, facts_kept, lines_kept, aside_whole, still_tended}
 use Rattle.layer_law.proofs.TurnFrees.{freed_whole}
 use Rattle.layer_law.proofs.TurnLines.{line_either, emptied_whole}
@@ -68,6 +73,8 @@ pub record Keeps (z : Whole) (holder : ℕ → ℕ) (after : List ℕ) : Type 0 
   pub statuses : (n : ℕ) → (status_in z.world.layout after n ≡ status_in z.world.layout z.world.words n) ⊎ (status_in z.world.layout after n ≡ free_status)
   pub retiring : (i : ℕ) (p : Party) (line : Option HeldLine) (u : Turning) (h : Held) (left right : Grip) → get_elem? z.world.parties i ≡ some p → get_elem? z.lines i ≡ some line
       → p.stage ≡ Joins h left right Gone → IsRetiring (turn_facts z.world holder u) line right → IsRetiring (turn_facts (record (z.world) { words = after }) holder u) line right
+  pub switched : (i : ℕ) (p : Party) (line : Option HeldLine) (n : ℕ) → get_elem? z.world.parties i ≡ some p → get_elem? z.lines i ≡ some line
+      → IsSwitched p.stage n → CoversNode z.world line n → CoversNode (record (z.world) { words = after }) line n
 
 module _ (z : Whole) (holder : ℕ → ℕ) (t : Turning) (whole : IsWhole z) (tended : AreTended z) where
   abbrev l : Layout
@@ -91,12 +98,24 @@ module _ (z : Whole) (holder : ℕ → ℕ) (t : Turning) (whole : IsWhole z) (t
   row : IsRow z.world.layout z.world.words
   row = whole.joint.lawful.row
 
+  -- where lines and anchors stay, so does what covers a node
+  covers_kept : (after : List ℕ) → lines_in l after Cached ≡ lines_in l words Cached → lines_in l after Durable ≡ lines_in l words Durable → spot_in l after ≡ spot_in l words
+      → (line : Option HeldLine) (n : ℕ) → CoversNode z.world line n → CoversNode (record (z.world) { words = after }) line n
+  covers_kept after lines safe_lines now line n = unready_by (IsCover (lines_in l words Cached) (lines_in l words Durable) (anchor_in (spot_in l words n)))
+      (IsCover (lines_in l after Cached) (lines_in l after Durable) (anchor_in (spot_in l after n))) line
+      (λ e is_own unready.
+      cover_same (lines_in l words Cached) (lines_in l after Cached) (lines_in l words Durable) (lines_in l after Durable) (anchor_in (spot_in l words n)) (anchor_in (spot_in l after n)) (line_number e)
+      lines safe_lines (ap (λ (now : ℕ → Spot). anchor_in (now n)) now))
+
   keeps_aside : (after : List ℕ) → IsRow l after → KeepsRest l words after → Keeps z holder after
   keeps_aside after row' same =
       let facts_same = facts_kept l words after same z.world.base z.world.history in
       let lines : (offset : ℕ) → offset < 8 → line_field l after Cached offset ≡ line_field l words Cached offset =
       λ offset small. column-same l words after (line_count l) (λ j. Cached (line_word offset j))
       (λ j lt. same (Cached (line_word offset j)) (omega arith, omega arith, small) (record { lock = λ e. cc; stamp = λ n e. cc; leaf = λ leaf o. (λ e. cc, λ e. cc) })) in
+      let safe_lines : (offset : ℕ) → offset < 8 → line_field l after Durable offset ≡ line_field l words Durable offset =
+      λ offset small. column-same l words after (line_count l) (λ j. Durable (line_word offset j))
+      (λ j lt. same (Durable (line_word offset j)) (omega arith, omega arith, small) (record { lock = λ e. cc; stamp = λ n e. cc; leaf = λ leaf o. (λ e. cc, λ e. cc) })) in
       record {
         whole = aside_whole z after same row' whole;
         tended = still_tended z after (λ c j. inr (lines_kept l words after same c j 0).0) tended;
@@ -105,6 +124,7 @@ module _ (z : Whole) (holder : ℕ → ℕ) (t : Turning) (whole : IsWhole z) (t
         list = ap (λ (φ : Facts). φ.list) facts_same;
         statuses = λ n. inl (ap (λ (φ : Facts). φ.status n) facts_same);
         retiring = λ i p line u h left right at_p at_line stage. retiring_lines (turn_facts z.world holder u) (turn_facts (record (z.world) { words = after }) holder u) line right (lines_same l words after Cached lines);
+        switched = λ i p line m at_p at_line is_switched. covers_kept after (lines_same l words after Cached lines) (lines_same l words after Durable safe_lines) (ap (λ (φ : Facts). φ.now) facts_same) line m;
       }
 
   keeps_freed : (n : ℕ) → n < l.nodes → IsFreeing (facts_in r ghosts words) n → IsRow l (slice_set words (volatile_at l n 0) 0) → Keeps z holder (slice_set words (volatile_at l n 0) 0)
@@ -115,6 +135,9 @@ module _ (z : Whole) (holder : ℕ → ℕ) (t : Turning) (whole : IsWhole z) (t
       let lines : (offset : ℕ) → offset < 8 → line_field l after Cached offset ≡ line_field l words Cached offset =
       λ offset small. column-same l words after (line_count l) (λ j. Cached (line_word offset j))
       (λ j lt. at-set_other l words (Volatile n 0) (Cached (line_word offset j)) 0 (here, omega arith) (omega arith, omega arith, small) (λ e. cc)) in
+      let safe_lines : (offset : ℕ) → offset < 8 → line_field l after Durable offset ≡ line_field l words Durable offset =
+      λ offset small. column-same l words after (line_count l) (λ j. Durable (line_word offset j))
+      (λ j lt. at-set_other l words (Volatile n 0) (Durable (line_word offset j)) 0 (here, omega arith) (omega arith, omega arith, small) (λ e. cc)) in
       record {
         whole = freed_whole z n here gone (told_free l g words n freeing.free) row row' whole;
         tended = still_tended z after (λ c j. inr (store_leaves l words (Volatile n 0) 0 (here, omega arith) (λ d k o. (λ e. cc, λ e. cc)) c j 0).0) tended;
@@ -126,6 +149,7 @@ module _ (z : Whole) (holder : ℕ → ℕ) (t : Turning) (whole : IsWhole z) (t
           | inr other ↦ inl (ap (λ (φ : Facts). φ.status m) facts_same ∙ ap (λ b. cond b 0 (f.status m)) (ne_eqb m n other))
         ];
         retiring = λ i p line u h left right at_p at_line stage. retiring_lines (turn_facts z.world holder u) (turn_facts (record (z.world) { words = after }) holder u) line right (lines_same l words after Cached lines);
+        switched = λ i p line m at_p at_line is_switched. covers_kept after (lines_same l words after Cached lines) (lines_same l words after Durable safe_lines) (ap (λ (φ : Facts). φ.now) facts_same) line m;
       }
 
   module _ (j : ℕ) (here : j < line_count z.world.layout) (carried : IsCarried (rows.terms_of (terms_of z.world t)) (facts_in (terms_of z.world t) (ghosts_of z.world holder) z.world.words) j) where
@@ -166,8 +190,21 @@ module _ (z : Whole) (holder : ℕ → ℕ) (t : Turning) (whole : IsWhole z) (t
             alone = λ k state merge. was.alone k (state_was k state) (said k right.node merge);
             waits = still_waits i p line h left right at_p stage was.waits;
           };
+          switched = λ i p line n at_p at_line is_switched. unready_by (IsCover (lines_in l words Cached) (lines_in l words Durable) (anchor_in (spot_in l words n)))
+              (IsCover (lines_in l emptied Cached) (lines_in l emptied Durable) (anchor_in (spot_in l emptied n))) line
+              (λ e is_own unready cover.
+              cover_same (record (lines_in l words Cached) { state = set_at (line_field l words Cached 0) j 0 }) (lines_in l emptied Cached) (lines_in l words Durable) (lines_in l emptied Durable)
+              (anchor_in (spot_in l words n)) (anchor_in (spot_in l emptied n)) (line_number e)
+              (ap (λ φ. φ.line) (line_emptied r ghosts words j row.whole here).facts) (ap (λ φ. φ.safe_line) (line_emptied r ghosts words j row.whole here).facts) (ap (λ (φ : Facts). anchor_in (φ.now n)) facts_same)
+              (cover_apart (lines_in l words Cached) (lines_in l words Durable) (anchor_in (spot_in l words n)) (line_number e) j 0 (not_ready i line at_line e is_own unready) cover));
         }
       where
+        -- it isn't one that was made READY by nobody
+        not_ready : (i : ℕ) (line : Option HeldLine) → get_elem? z.lines i ≡ some line → (e : HeldLine) → line ≡ Some e → e.ready ≡ false → line_number e ≢ j
+        not_ready i line at_line e is_own unready same =
+            let sure = whole.joint.sure i e (at_line ∙ ap some is_own) in
+            sure.unready unready (sym (line_tie l words e sure.here 0 (omega arith)) ∙ ap (line_field l words Cached 0) (same ∙ sym carried.line) ∙ carried.decided.at_hand.state)
+
         others : (offset : ℕ) → 0 < offset → offset < 8 → line_field l emptied Cached offset ≡ line_field l words Cached offset
         others offset positive small = column-same l words emptied (line_count l) (λ k. Cached (line_word offset k))
             (λ k lt. at-set_other l words (Cached (line_word 0 j)) (Cached (line_word offset k)) 0 (omega arith, omega arith, omega arith) (omega arith, omega arith, small)

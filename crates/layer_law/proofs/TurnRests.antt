@@ -5,7 +5,7 @@ use Rattle.std.proofs.lemmas.Bool.{cases_eq}
 use mathlib.Core.Option.{some, some-injective}
 use lib.ListN.{get_elem?}
 use Rattle.pm_words.specs.declared.layout.Layout.{Layout}
-use Rattle.call_stages.specs.Stages.{Stage, Gone, Idle, Joins, HoldsNode}
+use Rattle.call_stages.specs.Stages.{Stage, Gone, Idle, Joins, HoldsNode, IsSwitched}
 use Rattle.call_stages.specs.Watches.{Nothing}
 use Rattle.turn_row.specs.Columns.{Ghosts}
 use Rattle.turn_row.specs.RowStages.{RowLine, RowTarget, Resting, HasTarget}
@@ -111,6 +111,7 @@ module _ (z : Layered) (i : ℕ) (t next : Turning) (is : IsLayered z) (there : 
     shown = λ j u e target at_u has. each z.turns i next (λ k v. v.stage ≡ HasTarget e target → IsShown l w.generation f e.anchor target)
         (not_target e target) (λ k v other at_v has_v. is.shown k v e target at_v has_v) j u at_u has;
     retiring = is.retiring;
+    switched = is.switched;
   }
 
 pub turn_start_keeps : TurnStartKeeps
@@ -133,4 +134,5 @@ rest_is_layered z i t whole tended idle rest there unlocked row = record {
   watches = λ j u at_u. subst (SureWatch z.whole.world.layout z.whole.world.generation (facts z.whole.world)) (sym (rest j u at_u).watch) tt;
   shown = λ j u e target at_u stage. absurd (let no : Resting ≡ HasTarget e target = sym (rest j u at_u).stage ∙ stage in cc);
   retiring = λ j p line u h left right at_p at_line stage. absurd (let no : Idle ≡ Joins h left right Gone = sym (idle j p at_p) ∙ stage in cc);
+  switched = λ j p n at_p is_switched. absurd (subst (λ (s : Stage). IsSwitched s n) (idle j p at_p) is_switched);
 }

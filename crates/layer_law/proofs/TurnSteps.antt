@@ -179,6 +179,7 @@ module _ (z : Layered) (i : ℕ) (t next : Turning) (a : Action) (x : ℕ) (is :
           (each z.turns i next (λ k v. v.stage ≡ HasTarget e target → IsShown l w.generation f e.anchor target)
           (shown_after e target) (λ k v other at_v has_v. is.shown k v e target at_v has_v) j u at_u has);
       retiring = λ j p line u h left right at_p at_line stage. keeps.retiring j p line u h left right at_p at_line stage (is.retiring j p line u h left right at_p at_line stage);
+      switched = λ j p n at_p is_switched. let covering = is.switched j p n at_p is_switched in (covering.0, covering.1, keeps.switched j p covering.0 n at_p covering.1 is_switched covering.2);
     }
 
   step_keeps : CanAct l words a × IsLayered (turned z i a next)

@@ -5,14 +5,15 @@ use lib.ListN.{get_elem?}
 use Rattle.pm_words.specs.declared.action.Action.{Action}
 use Rattle.pm_words.specs.Locations.{Updater, Cached, Durable, leaf_count, image_words, at}
 use Rattle.pm_words.specs.Rows.{CanAct, acted, got}
-use Rattle.data_node.specs.Lists.{anchor_in}
+use Rattle.data_node.specs.Lists.{anchor_in, IsIn}
 use Rattle.call_stages.specs.declared.once.Once.{Once}
 use Rattle.call_stages.specs.declared.once.Placed.{Placed}
 use Rattle.call_stages.specs.Stages.{Idle}
 use Rattle.call_stages.specs.Kinds.{free_status}
 use Rattle.call_stages.specs.Footings.{Footing, FootStep}
 use Rattle.call_stages.specs.Watches.{Nothing}
-use Rattle.index_law.specs.Facts.{Facts, IsListed}
+use Rattle.index_law.specs.Facts.{Facts, durable_spot, IsListed}
+use Rattle.index_law.specs.Laws.{durable_list}
 use Rattle.index_law.specs.Worlds.{Party, facts}
 use Rattle.index_law.specs.Lawful.{Each}
 use Rattle.index_law.specs.Whole.{IsWhole}
@@ -117,3 +118,11 @@ pub record LeadsAsListed (z : Layered) : Type 0 where
 
 abbrev pub LayerIsCovered : Type 0
 LayerIsCovered = (z : Layered) → IsLayered z → LeadsAsListed z
+
+-- So does the durable layer by the durable list: it leads each key that no durable line has which isn't EMPTY to the node
+-- of that list with this anchor, and nowhere where there is none.
+abbrev pub CrashLeadsAsListed : Type 0
+CrashLeadsAsListed = (z : Layered) → IsLayered z → IsCovered (IsIn (durable_list z.whole.world))
+    (λ n. anchor_in (durable_spot z.whole.world.layout z.whole.world.words n))
+    (layer_in (leaves_in z.whole.world.layout z.whole.world.words Durable) (leaf_count z.whole.world.layout))
+    (IsOpenFor (lines_in z.whole.world.layout z.whole.world.words Durable))

@@ -1,17 +1,18 @@
 -- What holds of an index with its search layer and a turn between any two steps.
-use Rattle.std.specs.Prelude.{◌≡◌, ◌≢◌, ℕ, true, List, Option, IfSome}
+use Rattle.std.specs.Prelude.{◌≡◌, ◌≢◌, ℕ, true, false, List, Option, IfSome}
 use mathlib.Core.Option.{some}
 use lib.ListN.{get_elem?}
-use Rattle.pm_words.specs.Locations.{Updater, at}
-use Rattle.call_stages.specs.Stages.{Held, Grip, Gone, Joins, HoldsNode}
+use Rattle.pm_words.specs.Locations.{Updater, Cached, Durable, at}
+use Rattle.data_node.specs.Lists.{anchor_in}
+use Rattle.call_stages.specs.Stages.{Held, Grip, Gone, Joins, HoldsNode, IsSwitched}
 use Rattle.call_stages.specs.Lines.{HeldLine}
 use Rattle.call_stages.specs.Footings.{HasLine}
 use Rattle.index_law.specs.Worlds.{Party, World, facts}
 use Rattle.index_law.specs.Whole.{Whole, IsWhole}
 use Rattle.index_law.specs.Footings.{AreTended}
-use Rattle.turn_law.specs.Covers.{ready_state, merge_kind}
+use Rattle.turn_law.specs.Covers.{ready_state, merge_kind, IsCover}
 use Rattle.turn_law.specs.Facts.{TurnFacts}
-use Rattle.turn_row.specs.Columns.{facts_in}
+use Rattle.turn_row.specs.Columns.{lines_in, facts_in}
 use Rattle.turn_row.specs.RowStages.{RowLine, RowTarget, Resting, HasTarget}
 use Rattle.turn_row.specs.RowLaw.{RowLawful}
 use Rattle.turn_row.specs.Turnings.{Turning}
@@ -34,6 +35,12 @@ pub record IsRetiring (f : TurnFacts) (line : Option HeldLine) (right : Grip) : 
       HasLine line (λ e. (e.ready ≡ true) × (j ≡ line_number e))
   pub waits : IfSome line (λ e. e.ready ≡ true → SaysMerge f (line_number e) right.node →
       f.line.state (line_number e) ≡ ready_state)
+
+-- A party's line isn't READY, and has the node's anchor, durably too.
+abbrev pub CoversNode : World → Option HeldLine → ℕ → Type 0
+CoversNode w line n = HasLine line (λ e. (e.ready ≡ false) ×
+    IsCover (lines_in w.layout w.words Cached) (lines_in w.layout w.words Durable) (anchor_in ((facts w).now n))
+    (line_number e))
 
 -- What the law of turns knows of the index, as the turn t has it.
 abbrev pub turn_facts : World → (ℕ → ℕ) → Turning → TurnFacts
@@ -65,3 +72,6 @@ pub record IsLayered (z : Layered) : Type 0 where
   pub retiring : (i : ℕ) (p : Party) (line : Option HeldLine) (t : Turning) (h : Held) (left right : Grip) →
       get_elem? z.whole.world.parties i ≡ some p → get_elem? z.whole.lines i ≡ some line → p.stage ≡ Joins h left right Gone →
       IsRetiring (turn_facts z.whole.world holder t) line right
+  -- switches of the list that may not be durable yet
+  pub switched : (i : ℕ) (p : Party) (n : ℕ) → get_elem? z.whole.world.parties i ≡ some p → IsSwitched p.stage n →
+      (line : Option HeldLine) × (get_elem? z.whole.lines i ≡ some line) × CoversNode z.whole.world line n

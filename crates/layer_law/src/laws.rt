@@ -2,7 +2,7 @@
 
 ghost use Rattle.layer_law.specs.Laws.{CallStepKeeps, TurnStepKeeps, TurnStepLeavesNodes, TurnStartKeeps};
 ghost use Rattle.layer_law.specs.Laws.{EvictionKeepsLayer};
-ghost use Rattle.layer_law.specs.Laws.{RestIsLayered, TargetsStand, LayerIsCovered};
+ghost use Rattle.layer_law.specs.Laws.{RestIsLayered, TargetsStand, LayerIsCovered, CrashLeadsAsListed};
 ghost use Rattle.layer_law.specs.Beginnings.{BeginningKeepsLayer, OtherTurnsMayRest, StampKeepsLayer, FreshIsLayered};
 
 /// A step of a call keeps an index with its search layer and the turn beside it.
@@ -38,9 +38,10 @@ pub fn target_law()
 {}
 
 /// At any moment the search layer leads exactly the anchors of the listed nodes, each to its node, but for keys that
-/// log lines have which aren't EMPTY; and so does the durable one, by the durable lines.
+/// log lines have which aren't EMPTY; and so does the durable one, by the durable lines, and by the durable list.
 pub fn covered_law()
-    ensures { LayerIsCovered }
+    ensures now { LayerIsCovered }
+    ensures crash { CrashLeadsAsListed }
 {}
 
 /// Where parties begin anew while the others stay, and with them the base, the history and the clock, the index keeps its

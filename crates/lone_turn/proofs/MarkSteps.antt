@@ -246,7 +246,7 @@ module _ (before : World) (stamp release : ℕ) (l : Layout) (g : ℕ) (some : s
     change_leaves : (e : RowLine) (word : ℕ) (s t : Changing) (a : Action) → RowLawful r ghosts words (Changes e word s) → ChangeStep l (aim_of e word) s a (got l words a) t
         → HasEmptied before stamp m e.line → HasEmptied before stamp (row_marks l (acted l words a)) e.line
     change_leaves e word s t a is step done =
-        let keeps = change_step_keeps l (aim_of e word) is.sure.before words s a t row.whole is.leaves (word_within r ghosts words e word is.law.sure) is.sure.few is.sure.sure is.sure.layer step in
+        let keeps = change_step_keeps l (aim_of e word) is.sure.before words s a t row.whole is.leaves (word_within r ghosts words e word is.law.sure) (λ some_word. is.sure.few) is.sure.sure is.sure.layer step in
         stores (λ k. HasEmptied before stamp k e.line) (acted l words a) _ (leaf_facts r ghosts words (acted l words a) keeps.others) done
 
     -- of a GONE node that it has come to

@@ -1,5 +1,5 @@
 -- What an image keeps that doesn't break the rules on its layer, and the other way round.
-use Rattle.std.proofs.Common.{◌≡◌, ◌≢◌, ℕ, zero, suc, ◌-◌, ◌^◌, ◌<◌, ◌≤◌, ◌⊎◌, List, [], ◌∷◌, Option, Some, None, slice_index, inl, inr, sym, ap, ◌∙◌, subst, arith}
+use Rattle.std.proofs.Common.{◌≡◌, ◌≢◌, ℕ, zero, suc, ◌-◌, ◌*◌, ◌^◌, ◌<◌, ◌≤◌, ◌⊎◌, List, [], ◌∷◌, Option, Some, None, slice_index, inl, inr, sym, ap, ◌∙◌, subst, arith}
 use Rattle.std.proofs.lemmas.Bool.{cases_eq, cases_lt}
 use Rattle.pm_words.specs.declared.layout.Layout.{Layout}
 use Rattle.pm_words.specs.Locations.{Root, leaf_count, word_at}
@@ -11,6 +11,7 @@ use Rattle.data_node.proofs.KeyLemmas.{key-number, anchor-number, named_anchor, 
 use Rattle.data_node.proofs.ListLemmas.{all_member, member_or}
 use Rattle.data_node.proofs.PositionLemmas.{in_position, chain_member}
 use Rattle.sound_image.specs.Nodes.{image_spot, image_list, IsListedNode}
+use Rattle.sound_image.specs.Rules.{line_spot}
 use Rattle.sound_image.specs.Sound.{IsSound}
 use Rattle.sound_image.proofs.NameCases.{name_words_or_not}
 use Rattle.sound_image.proofs.TidyLemmas.{sound_keeps}
@@ -18,10 +19,10 @@ use Rattle.search_layer.specs.Keys.{key_number}
 use Rattle.search_layer.specs.Layers.{HasFew}
 use Rattle.search_layer.specs.Leaves.{key_in, IsLayerRow}
 use Rattle.search_layer.proofs.LayerLemmas.{has_parts, layer_leaf}
-use Rattle.sound_layer.specs.Leaves.{image_leaves, image_layer, image_anchor, key_words, AreKeyWords, IsKeyNumber}
+use Rattle.sound_layer.specs.Leaves.{image_leaves, image_layer, image_anchor, image_lines, key_words, line_word, AreKeyWords, IsKeyNumber}
 use Rattle.sound_layer.specs.Rules.{LeadsNowhere, HasNoKey, ShareAKey, BreaksLayer, has_root, leads_nowhere, has_no_key, share_a_key, has_many, uncovered}
-use Rattle.sound_layer.specs.Laws.{IsCoveredImage}
-use Rattle.sound_layer.proofs.LeafLemmas.{image_leaves-fits}
+use Rattle.sound_layer.specs.Laws.{IsCoveredImage, CoverTellsKeys}
+use Rattle.sound_layer.proofs.LeafLemmas.{image_leaves-fits, line_word-here, line_word-outside}
 
 -- words are those of a key or not
 key_or_not : (words : List ℕ) → AreKeyWords words ⊎ ¬ AreKeyWords words
@@ -160,3 +161,29 @@ leaves_of l image (share_a_key leaf other is) = inr (inr (leaf, other, is))
 pub wrong_breaks : (l : Layout) (image : List ℕ) (leaf : ℕ) → LeadsNowhere l image leaf ⊎ HasNoKey l image leaf → BreaksLayer l image 10
 wrong_breaks l image leaf (inl is) = leads_nowhere leaf is
 wrong_breaks l image leaf (inr is) = has_no_key leaf is
+
+-- an anchor of a line that isn't EMPTY is a key
+open_key : (l : Layout) (image : List ℕ) → IsSound l image → (line : ℕ) → (image_lines l image).state line ≢ 0 → IsKeyNumber ((image_lines l image).anchor line)
+open_key l image sound line some = elim (cases_lt line (8 * l.callers)) as (λ _. IsKeyNumber ((image_lines l image).anchor line)) [
+  | inl here ↦ elim ((sound_keeps l image sound).lines line here) as (λ _. IsKeyNumber ((image_lines l image).anchor line)) [
+    | inl empty ↦ absurd (some (line_word-here l image line 0 here (omega arith) ∙ empty))
+    | inr is ↦
+        let words : line_word l image line 3 ∷ line_word l image line 4 ∷ line_word l image line 5 ∷ [] ≡ line_spot l image line 3 ∷ line_spot l image line 4 ∷ line_spot l image line 5 ∷ [] =
+        λ k. line_word-here l image line 3 here (omega arith) k ∷ line_word-here l image line 4 here (omega arith) k ∷ line_word-here l image line 5 here (omega arith) k ∷ [] in
+        inr (is.name, is.is_name, ap key_number (words ∙ is.anchor) ∙ sym (key-number is.name))
+  ]
+  | inr out ↦ absurd (some (line_word-outside l image line 0 out))
+]
+
+-- So are the keys of a covered layer: each is the anchor of a listed node, or one of a line.
+pub cover_tells_keys : CoverTellsKeys
+cover_tells_keys l image is sound covered key node leads =
+    let found = layer_leaf (image_leaves l image) (leaf_count l) key node leads in
+    let own = (has_parts (image_leaves l image) found.leaf key found.has).1 in
+    elim (key_or_not (key_words (image_leaves l image) found.leaf)) as (λ _. IsKeyNumber key) [
+      | inl words ↦ subst IsKeyNumber own (key_is (key_words (image_leaves l image) found.leaf) words)
+      | inr none ↦
+          let wrong : ¬ IsKeyNumber key = λ is_key. none (words_are l image found.leaf is.fits (subst IsKeyNumber (sym own) is_key)) in
+          let has = (covered key node (λ line. wrong (subst IsKeyNumber line.anchor (open_key l image sound line.line line.state)))).0 leads in
+          absurd (wrong (subst IsKeyNumber has.1 (anchor_is_key l image sound node has.0)))
+    ]

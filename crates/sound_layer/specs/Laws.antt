@@ -46,6 +46,11 @@ abbrev pub RuleOnCover : Type 0
 RuleOnCover = (l : Layout) (image : List ℕ) → IsSound l image → ¬ BreaksLayer l image 10 →
     (¬ BreaksLayer l image 12) ↔ IsCoveredImage l image
 
+-- So rule 12 leaves little of rule 10: where the layer is covered, its keys are keys.
+abbrev pub CoverTellsKeys : Type 0
+CoverTellsKeys = (l : Layout) (image : List ℕ) → IsImage l image → IsSound l image → IsCoveredImage l image →
+    (key node : ℕ) → image_layer l image key ≡ Some node → IsKeyNumber key
+
 -- A fresh image is sound by all rules.
 abbrev pub FreshIsSoundByAll : Type 0
 FreshIsSoundByAll = (l : Layout) → IsLayout l → IsSoundByAll l (fresh_words l)

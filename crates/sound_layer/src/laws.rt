@@ -1,8 +1,8 @@
 //! The laws of images that are sound by all rules, each named by the contract of a function.
 
 ghost use Rattle.sound_layer.specs.Laws.{SoundKeepsLayer, LayerMakesSound, RuleOnCount, RuleOnCover};
-ghost use Rattle.sound_layer.specs.Laws.{FreshIsSoundByAll, CrashKeepsLeaves, StartCachesLeaves, CrashKeepsLines};
-ghost use Rattle.sound_layer.specs.Laws.{StartCachesLines};
+ghost use Rattle.sound_layer.specs.Laws.{CoverTellsKeys, FreshIsSoundByAll, CrashKeepsLeaves, StartCachesLeaves};
+ghost use Rattle.sound_layer.specs.Laws.{CrashKeepsLines, StartCachesLines};
 
 /// An image is sound by all rules exactly where it is by those on its header, list, nodes and log, its leaves are in
 /// order, there are few keys, and the layer is covered.
@@ -11,10 +11,11 @@ pub fn rules_law()
     ensures sound { LayerMakesSound }
 {}
 
-/// Rule 11 says that the layer has few keys, and rule 12 that it is covered.
+/// Rule 11 says that the layer has few keys, and rule 12 that it is covered. Where it is, each key is zero or a name.
 pub fn layer_law()
     ensures count { RuleOnCount }
     ensures cover { RuleOnCover }
+    ensures keys { CoverTellsKeys }
 {}
 
 /// A fresh image is sound by all rules.

@@ -4,3 +4,4 @@ pub mod RowChanges
 pub mod RowTurns
 pub mod RowActions
 pub mod RowEvicts
+pub mod RowCrash

@@ -86,7 +86,7 @@ module _ (r : RowTerms) (ghosts : Ghosts) (words : List ℕ) (word : ℕ) (whole
   anchor_either : (o j : ℕ) → o < 8 → line_field l words Durable o j ≡ line_field l words Cached o j → line_field l after Durable o j ≡ line_field l words Cached o j
   anchor_either o j small same = elim (line_either l words word whole within o j small) [ inl old ↦ old ∙ same | inr new ↦ new ]
 
-  lines_evict : LinesEvict f.line f.safe_line lines
+  pub lines_evict : LinesEvict f.line f.safe_line lines
   lines_evict = record {
     state = λ j now safe none. elim (line_either l words word whole within 0 j (omega arith)) [ inl old ↦ safe (sym old ∙ none) | inr new ↦ now (sym new ∙ none) ];
     anchor = λ j same.

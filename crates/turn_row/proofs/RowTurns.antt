@@ -220,7 +220,7 @@ known r ghosts words row e target is version =
     let layer : Layer = layer_of l words in
     look r ghosts words (HasTarget e target) (Changes e word (Looks start_sight)) is (record {
       before = layer;
-      few = λ some_word. few_apart l.nodes layer (layer_leads_to_nodes (leaf_count l) l.nodes (leaves_in l words Cached) is.leaves) (keys_lead_apart (terms_of r) f (turns.Lands (entry_of e)) is.law);
+      few = few_apart l.nodes layer (layer_leads_to_nodes (leaf_count l) l.nodes (leaves_in l words Cached) is.leaves) (keys_lead_apart (terms_of r) f (turns.Lands (entry_of e)) is.law);
       sure = (record { none_below = λ i lt. absurd (omega arith); unused = tt; used = λ none i lt. absurd (omega arith); seen = tt }, even);
       layer = λ k. refl;
     }) step
@@ -241,7 +241,7 @@ module _ (r : RowTerms) (ghosts : Ghosts) (words : List ℕ) (row : IsRow r.layo
   change_goes =
       let f : TurnFacts = facts_in r ghosts words in
       let fits = word_within r ghosts words e word is.law.sure in
-      let keeps = change_step_keeps r.layout (aim_of e word) is.sure.before words s a t row.whole is.leaves fits is.sure.few is.sure.sure is.sure.layer step in
+      let keeps = change_step_keeps r.layout (aim_of e word) is.sure.before words s a t row.whole is.leaves fits (λ some_word. is.sure.few) is.sure.sure is.sure.layer step in
       let changed = changed_row r words e word s t a is.sure fits keeps in
       record {
         leaves = keeps.row;
@@ -263,7 +263,7 @@ module _ (r : RowTerms) (ghosts : Ghosts) (words : List ℕ) (row : IsRow r.layo
       let layer : Layer = layer_of r.layout ended in
       let safe : Layer = layer_in (leaves_in r.layout ended Durable) (leaf_count r.layout) in
       let fits = word_within r ghosts words e word is.law.sure in
-      let keeps = change_step_keeps r.layout (aim_of e word) is.sure.before words s a Changed row.whole is.leaves fits is.sure.few is.sure.sure is.sure.layer step in
+      let keeps = change_step_keeps r.layout (aim_of e word) is.sure.before words s a Changed row.whole is.leaves fits (λ some_word. is.sure.few) is.sure.sure is.sure.layer step in
       let changed = changed_row r words e word s Changed a is.sure fits keeps in
       let leads : layer (key_number e.anchor) ≡ node_of word = keeps.layer (key_number e.anchor) ∙ made_here is.sure.before (key_number e.anchor) (node_of word) in
       let equal : leaves_in r.layout ended Cached ≡ leaves_in r.layout ended Durable = λ k i o. sym (keeps.sure i o) k in

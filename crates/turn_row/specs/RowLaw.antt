@@ -6,7 +6,7 @@ use Rattle.pm_words.specs.Rows.{IsRow, CanAct, acted, got, evicted}
 use Rattle.version_lock.specs.Versions.{is_free_word}
 use Rattle.search_layer.specs.Layers.{Layer, HasFew}
 use Rattle.search_layer.specs.Keys.{IsKey, key_number}
-use Rattle.search_layer.specs.Leaves.{leaves_in, layer_of, IsInOrder, AreEven}
+use Rattle.search_layer.specs.Leaves.{leaves_in, layer_in, layer_of, IsLayerRow, IsInOrder, AreEven}
 use Rattle.search_layer.specs.ChangeStages.{Changing, SureChanging, LayerAt}
 use Rattle.turn_law.specs.Covered.{IsTarget}
 use Rattle.turn_law.specs.Facts.{IsListed}
@@ -42,7 +42,7 @@ pub record IsSighted (r : RowTerms) (target : RowTarget) : Type 0 where
 -- what a change of the layer knows, which began on the layer `before`
 pub record IsChanging (r : RowTerms) (words : List ℕ) (e : RowLine) (word : ℕ) (s : Changing) : Type 0 where
   pub before : Layer
-  pub few : word ≢ 0 → HasFew r.layout.nodes before
+  pub few : HasFew r.layout.nodes before
   pub sure : SureChanging (leaf_count r.layout) r.layout.nodes (aim_of e word) before s
       (leaves_in r.layout words Cached) (leaves_in r.layout words Durable)
   pub layer : LayerAt (aim_of e word) before s (layer_of r.layout words)
@@ -81,3 +81,12 @@ abbrev pub EvictionKeepsTurn : Type 0
 EvictionKeepsTurn = (r : RowTerms) (ghosts : Ghosts) (words : List ℕ) (s : RowStage) (word : ℕ) →
     IsRow r.layout words → word < image_words r.layout → RowLawful r ghosts words s →
     RowLawful r ghosts (evicted r.layout words word) s
+
+-- The durable leaves are in order at every moment, and their keys are at most as many as there are nodes.
+pub record AreSafeLeaves (r : RowTerms) (words : List ℕ) : Type 0 where
+  pub order : IsLayerRow (leaf_count r.layout) r.layout.nodes (leaves_in r.layout words Durable)
+  pub few : HasFew r.layout.nodes (layer_in (leaves_in r.layout words Durable) (leaf_count r.layout))
+
+abbrev pub CrashLeavesLeaves : Type 0
+CrashLeavesLeaves = (r : RowTerms) (ghosts : Ghosts) (words : List ℕ) (s : RowStage) → RowLawful r ghosts words s →
+    AreSafeLeaves r words

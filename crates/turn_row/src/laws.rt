@@ -1,6 +1,6 @@
 //! The laws. The functions do nothing: each names what is proved.
 
-ghost use Rattle.turn_row.specs.RowLaw.{RowStepKeeps, RowStepCanAct, EvictionKeepsTurn};
+ghost use Rattle.turn_row.specs.RowLaw.{RowStepKeeps, RowStepCanAct, EvictionKeepsTurn, CrashLeavesLeaves};
 
 /// A step of a turn, by the action that it makes on a row of words, may be done and keeps the row lawful. That a walk
 /// which has come to a target keeps its promise is a premise of the step by which it comes there.
@@ -12,4 +12,9 @@ pub fn row_law()
 /// A word of the image that becomes durable keeps the row lawful.
 pub fn evict_law()
     ensures { EvictionKeepsTurn }
+{}
+
+/// At every moment the durable leaves are in order, and have few keys.
+pub fn crash_law()
+    ensures { CrashLeavesLeaves }
 {}

@@ -1,4 +1,5 @@
 use Rattle.sound_layer.proofs.LayerLaws.{rule_on_count, rule_on_cover}
+use Rattle.sound_layer.proofs.RuleLemmas.{cover_tells_keys}
 use Rattle.sound_layer.proofs.laws.layer_law.Goals as goal
 
 pub returns-clause-count : goal.returns-clause-count
@@ -6,3 +7,6 @@ returns-clause-count c = rule_on_count
 
 pub returns-clause-cover : goal.returns-clause-cover
 returns-clause-cover c = rule_on_cover
+
+pub returns-clause-keys : goal.returns-clause-keys
+returns-clause-keys c = cover_tells_keys

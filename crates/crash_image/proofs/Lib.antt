@@ -1,0 +1,2 @@
+pub mod DurableWords
+pub mod CrashLaw
