@@ -5,7 +5,6 @@ use Rattle.pm_words.specs.Images.{IsImage}
 use Rattle.pm_words.specs.Locations.{Root, Durable, leaf_count}
 use Rattle.pm_words.specs.Rows.{durable_row}
 use Rattle.pm_words.proofs.Made.{durable_row-at, durable_row-image}
-use Rattle.data_node.specs.Spots.{Spot}
 use Rattle.data_node.specs.Lists.{anchor_in, members_from, IsIn}
 use Rattle.sound_image.specs.Sound.{IsSound}
 use Rattle.index_law.specs.Worlds.{World}
@@ -17,18 +16,18 @@ use Rattle.turn_law.specs.Covered.{IsCovered}
 use Rattle.turn_law.specs.Covers.{Lines, IsOpenFor}
 use Rattle.turn_row.specs.Columns.{lines_in}
 use Rattle.turn_row.specs.RowLaw.{AreSafeLeaves}
-use Rattle.turn_row.specs.Turnings.{Turning}
 use Rattle.turn_row.proofs.RowCrash.{crash_leaves_leaves}
 use Rattle.layer_law.specs.Layers.{Layered, IsLayered}
 use Rattle.layer_law.specs.Turnings.{terms_of, ghosts_of}
 use Rattle.layer_law.proofs.CrashCover.{crash_leads_as_listed}
 use Rattle.sound_layer.specs.Laws.{KeepsLayerRules, IsCoveredImage}
 use Rattle.sound_image.specs.Nodes.{image_list}
-use Rattle.sound_layer.specs.Leaves.{image_anchor, image_lines}
+use Rattle.sound_layer.specs.Leaves.{image_leaves, image_anchor, image_lines}
 use Rattle.sound_layer.proofs.LayerLaws.{layer_makes_sound}
 use Rattle.sound_layer.proofs.RuleLemmas.{cover_tells_keys}
 use Rattle.crash_image.specs.Crash.{CrashLeavesSoundByAll}
-use Rattle.crash_image.proofs.DurableWords.{leaves_are, lines_are}
+use Rattle.crash_image.proofs.TwinWords.{AreTwinWords}
+use Rattle.crash_image.proofs.TwinWords as twin
 
 module _ (z : Layered) (is : IsLayered z) where
   abbrev w : World
@@ -49,9 +48,19 @@ module _ (z : Layered) (is : IsLayered z) where
   sound : IsSound l image
   sound = (image_law w lawful is.whole.joint.fit).sound
 
+  -- the words of the image are the durable ones
+  durable : AreTwinWords l w.words Durable image
+  durable v has = durable_row-at l w.words v
+
+  leaves_are : leaves_in l w.words Durable ≡ image_leaves l image
+  leaves_are = twin.leaves_are l w.words image Durable durable
+
+  lines_are : lines_in l w.words Durable ≡ image_lines l image
+  lines_are = twin.lines_are l w.words image Durable durable
+
   covered : IsCoveredImage l image
-  covered = subst (λ (v : LayerWords). IsCovered (λ n. IsIn (image_list l image) n) (image_anchor l image) (layer_in v (leaf_count l)) (IsOpenFor (image_lines l image))) (leaves_are l w.words)
-      (subst (λ (lines : Lines). IsCovered (λ n. IsIn (image_list l image) n) (image_anchor l image) (layer_in (leaves_in l w.words Durable) (leaf_count l)) (IsOpenFor lines)) (lines_are l w.words)
+  covered = subst (λ (v : LayerWords). IsCovered (λ n. IsIn (image_list l image) n) (image_anchor l image) (layer_in v (leaf_count l)) (IsOpenFor (image_lines l image))) leaves_are
+      (subst (λ (lines : Lines). IsCovered (λ n. IsIn (image_list l image) n) (image_anchor l image) (layer_in (leaves_in l w.words Durable) (leaf_count l)) (IsOpenFor lines)) lines_are
       (in_image l w.words
       (λ now. IsCovered (λ n. IsIn (members_from now l.nodes 0) n) (λ n. anchor_in (now n)) (layer_in (leaves_in l w.words Durable) (leaf_count l)) (IsOpenFor (lines_in l w.words Durable)))
       (crash_leads_as_listed z is)))
@@ -62,9 +71,9 @@ module _ (z : Layered) (is : IsLayered z) where
   keeps : KeepsLayerRules l image
   keeps = record {
     root = durable_row-at l w.words (Root 0) ∙ lawful.durable_front.blank (Root 0) (omega arith);
-    row = subst (IsLayerRow (leaf_count l) l.nodes) (leaves_are l w.words) safe.order;
+    row = subst (IsLayerRow (leaf_count l) l.nodes) leaves_are safe.order;
     keys = cover_tells_keys l image is_image sound covered;
-    few = subst (λ (v : LayerWords). HasFew l.nodes (layer_in v (leaf_count l))) (leaves_are l w.words) safe.few;
+    few = subst (λ (v : LayerWords). HasFew l.nodes (layer_in v (leaf_count l))) leaves_are safe.few;
     covered = covered;
   }
 

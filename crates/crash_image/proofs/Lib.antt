@@ -1,2 +1,2 @@
-pub mod DurableWords
+pub mod TwinWords
 pub mod CrashLaw

@@ -1,8 +1,7 @@
 -- What the durable words of an index's search layer lead to.
-use Rattle.std.proofs.Common.{◌≡◌, ℕ, true, Bool, inl, inr, ⊎_elim, ◌⊎◌, Option, Some, None, refl, sym, ap, subst}
+use Rattle.std.proofs.Common.{◌≡◌, ℕ, true, inl, inr, ⊎_elim, Option, Some, None, sym, subst}
 use mathlib.Core.Option.{some}
 use lib.ListN.{get_elem?}
-use Rattle.pm_words.specs.Locations.{Durable}
 use Rattle.data_node.specs.Lists.{anchor_in, IsIn}
 use Rattle.call_stages.specs.Stages.{Stage, IsSwitched}
 use Rattle.call_stages.specs.Lines.{HeldLine}
@@ -15,14 +14,13 @@ use Rattle.turn_law.specs.Covers.{IsOpenFor}
 use Rattle.turn_law.specs.Facts.{TurnTerms, TurnFacts}
 use Rattle.turn_law.specs.Lawful.{TurnLawful}
 use Rattle.turn_law.specs.Laws.{IsPending}
-use Rattle.turn_law.specs.TurnStages.{TurnStage}
 use Rattle.turn_law.proofs.Crash.{crash_is_covered}
 use Rattle.turn_row.specs.Columns.{lines_in}
 use Rattle.turn_row.specs.Columns as rows
 use Rattle.turn_row.specs.RowStages.{turn_stage}
 use Rattle.turn_row.specs.Turnings.{Turning}
 use Rattle.layer_law.specs.Turnings.{is_listed, line_number, terms_of}
-use Rattle.layer_law.specs.Layers.{Layered, CoversNode, turn_facts, IsLayered}
+use Rattle.layer_law.specs.Layers.{Layered, CoversNode, IsLayered}
 use Rattle.layer_law.specs.Laws.{CrashLeadsAsListed}
 use Rattle.layer_law.proofs.FactTies.{rest_in, known, facts_tie, listed_told, listed_tells}
 

@@ -1,5 +1,5 @@
 -- Until a switch of the list is durable, its party's line covers the node that it put in or left out.
-use Rattle.std.proofs.Common.{◌≡◌, ◌≢◌, ℕ, inl, inr, ⊎_elim, ◌⊎◌, Bool, true, false, List, Option, Some, None, refl, sym, ap, ◌∙◌, subst, arith}
+use Rattle.std.proofs.Common.{◌≡◌, ◌≢◌, ℕ, inl, inr, ◌⊎◌, true, false, List, Option, Some, None, refl, sym, ap, ◌∙◌, subst, arith}
 use Rattle.std.specs.Prelude.{IfSome}
 use Rattle.pm_words.specs.declared.layout.Layout.{Layout}
 use Rattle.pm_words.specs.declared.action.Action.{Action}
@@ -10,12 +10,12 @@ use Rattle.cat_key.specs.Names.{IsName}
 use Rattle.data_node.specs.Lists.{next_offset, anchor_in, key_of}
 use Rattle.call_stages.specs.declared.once.Once.{Once}
 use Rattle.call_stages.specs.declared.once.Placed.{Placed}
-use Rattle.call_stages.specs.Stages.{Stage, Held, Grip, Phase, Filling, Linked, Parted, Pace, Gathered, Joined, Gone, Idle, Saw, Wears, Holds, Eyes, Splits, Leaves, Meets, Joins, IsSwitched, HoldsNode}
+use Rattle.call_stages.specs.Stages.{Stage, Held, Grip, Phase, Filling, Linked, Parted, Pace, Gathered, Joined, Gone, Idle, Saw, Wears, Holds, Eyes, Splits, Leaves, Meets, Joins, IsSwitched}
 use Rattle.call_stages.specs.Kinds.{Look, turns_back, wears, roams, roams_status, is_worn, sees, finds_live, watches, watches_next, turns_away, steps_back, wanders, peeks, peeks_status, eyes, eyes_free, passes, loses, misses, times, learns, decides, glances, Step, looks, locks, stores, commits, drains, counts, unlocks, splits, merges, claims, publishes, leaves, Split, fills, lights, switches, glances_left, glances_fresh, drains_left, drains_fresh, trims, Merge, meets, knows_own, knows_right, copies, takes_up, puts_down, parts, gathers, joins, glances_joined, drains_joined, retires, yields}
 use Rattle.call_stages.specs.Lines.{HeldLine, Notes, passes_line, takes, looks_up, notes, keeps_safe}
 use Rattle.call_stages.specs.Footings.{Minds, Waits, HasLine, IsOpenOf, IsOfMerge, IsKnownEmpty, IsLeftToTurn, KeepsOrLetsGo}
 use Rattle.index_law.specs.Facts.{Facts, facts_of, map_now, range_of}
-use Rattle.index_law.specs.Lawful.{Sure, IsList, AreLive}
+use Rattle.index_law.specs.Lawful.{Sure, AreLive}
 use Rattle.index_law.specs.Lines.{SureLine, line_in}
 use Rattle.index_law.proofs.Past.{right_listed, right_anchor}
 use Rattle.turn_law.specs.Covers.{set_at, Lines, IsCover}
@@ -24,13 +24,11 @@ use Rattle.turn_law.specs.OtherSteps.{OtherStep}
 use Rattle.turn_law.specs.OtherSteps as others
 use Rattle.turn_law.proofs.Columns.{other}
 use Rattle.turn_law.proofs.Covers.{cover_evicts, cover_noted, cover_stays}
-use Rattle.turn_row.specs.Columns.{lines_in}
 use Rattle.layer_law.specs.Turnings.{line_number}
 use Rattle.layer_law.proofs.FactTies.{rest_in}
 use Rattle.layer_law.proofs.CallMoves.{Moved, now_known}
 use Rattle.layer_law.proofs.CallLines.{line_tie, named_words, open_covers}
 use Rattle.layer_law.proofs.CallSteps.{Context}
-use Rattle.pm_words.specs.Locations.{Cached}
 use Rattle.call_stages.specs.Stages.{Tells}
 
 -- A party has a line that isn't READY, of whose number this holds.

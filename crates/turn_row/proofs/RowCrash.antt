@@ -1,5 +1,5 @@
 -- What is durable of the leaves at each moment of a turn.
-use Rattle.std.proofs.Common.{◌≡◌, ◌≢◌, ℕ, zero, suc, List, Option, None, inl, inr, refl, sym, ◌∙◌, subst}
+use Rattle.std.proofs.Common.{◌≡◌, ℕ, List, inl, inr, refl, sym, ◌∙◌, subst}
 use Rattle.pm_words.specs.Locations.{Cached, Durable, leaf_count}
 use Rattle.search_layer.specs.Layers.{Layer, AreSame, HasFew}
 use Rattle.search_layer.specs.Leaves.{LayerWords, leaves_in, layer_in, layer_of, IsLayerRow}
@@ -9,7 +9,7 @@ use Rattle.search_layer.proofs.CountLemmas.{few_apart, layer_leads_to_nodes}
 use Rattle.turn_law.proofs.Crash.{keys_lead_apart}
 use Rattle.turn_row.specs.Columns.{RowTerms, Ghosts, terms_of, facts_in}
 use Rattle.turn_row.specs.RowStages.{RowLine, aim_of, RowStage, Resting, Between, Reads, Lands, HasTarget, Changes, Stamps, Clears, Sweeps, Gone, HasStamp, IsUnworn, Frees, Counts, turn_stage}
-use Rattle.turn_row.specs.RowLaw.{AreDurable, IsChanging, RowLawful, AreSafeLeaves, CrashLeavesLeaves}
+use Rattle.turn_row.specs.RowLaw.{AreDurable, RowLawful, AreSafeLeaves, CrashLeavesLeaves}
 use Rattle.turn_row.proofs.RowChanges.{word_within}
 
 -- a layer with the same keys as one that has few has few

@@ -1,5 +1,5 @@
 -- What holds of a row of words and of a turn between its steps, and that its steps keep it.
-use Rattle.std.specs.Prelude.{◌≡◌, ◌≢◌, ℕ, ◌+◌, ◌^◌, ◌<◌, true, List, length, slice_index}
+use Rattle.std.specs.Prelude.{◌≡◌, ℕ, ◌+◌, ◌^◌, ◌<◌, true, List, length, slice_index}
 use Rattle.pm_words.specs.declared.action.Action.{Action}
 use Rattle.pm_words.specs.Locations.{Cached, Durable, leaf_count, image_words}
 use Rattle.pm_words.specs.Rows.{IsRow, CanAct, acted, got, evicted}
