@@ -16,7 +16,7 @@ use Rattle.turn_law.specs.Covered.{IsCovered}
 use Rattle.turn_law.specs.Covers.{Lines, IsOpenFor}
 use Rattle.turn_row.specs.Columns.{lines_in}
 use Rattle.turn_row.specs.RowLaw.{AreSafeLeaves}
-use Rattle.turn_row.proofs.RowCrash.{crash_leaves_leaves}
+use Rattle.turn_row.proofs.RowCrash.{leaves_are_safe}
 use Rattle.layer_law.specs.Layers.{Layered, IsLayered}
 use Rattle.layer_law.specs.Turnings.{terms_of, ghosts_of}
 use Rattle.layer_law.proofs.CrashCover.{crash_leads_as_listed}
@@ -66,7 +66,7 @@ module _ (z : Layered) (is : IsLayered z) where
       (crash_leads_as_listed z is)))
 
   safe : AreSafeLeaves (terms_of w is.active.1) w.words
-  safe = crash_leaves_leaves (terms_of w is.active.1) (ghosts_of w is.holder) w.words is.active.1.stage (is.rows is.active.0 is.active.1 is.active.2 is.active.3)
+  safe = leaves_are_safe (terms_of w is.active.1) (ghosts_of w is.holder) w.words is.active.1.stage (is.rows is.active.0 is.active.1 is.active.2 is.active.3)
 
   keeps : KeepsLayerRules l image
   keeps = record {

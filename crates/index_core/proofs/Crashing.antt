@@ -26,11 +26,12 @@ use Rattle.index_law.specs.Weights.{weight_sum}
 use Rattle.index_law.proofs.Images.{image_law, in_image}
 use Rattle.index_law.proofs.Evictions.{evict_facts, evict_law}
 use Rattle.index_law.proofs.Weights.{crash_weighs}
+use Rattle.crash_image.proofs.CrashLaw.{crash_leaves_sound_by_all}
 use Rattle.index_core.specs.declared.party.PartyState.{PartyState}
 use Rattle.index_core.specs.Crashes.{IsCrash, AreRunning, evicted_index, unplaced, cut_change, cut_changes}
 use Rattle.index_core.specs.PartyStates.{machine_stage, party_of}
 use Rattle.index_core.specs.Weights.{crash_weight}
-use Rattle.index_core.specs.Indexes.{Index, IsIndex, IsOwnWrite, footed, world}
+use Rattle.index_core.specs.Indexes.{Index, IsIndex, IsOwnWrite, footed, layered, world}
 use Rattle.index_law.proofs.Footed.{evict_footed}
 use Rattle.index_core.proofs.Layering.{evict_layered}
 use Rattle.index_core.proofs.Lists.{map_there, map_from}
@@ -128,7 +129,7 @@ crash_is s image cuts is leaves cut_off =
     record {
       leaves = leaves;
       cut_off = cut_off;
-      sound = law.sound;
+      sound = crash_leaves_sound_by_all (layered s) is.layered;
       weighs = crash_light s is;
       end = image_map s.layout (durable_row s.layout s.words);
       keeps = law.keeps;

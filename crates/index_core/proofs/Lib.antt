@@ -39,3 +39,4 @@ pub mod LoneTurning
 pub mod Opening
 pub mod RestImages
 pub mod InUse
+pub mod ScheduleCrashes

@@ -1,6 +1,6 @@
 -- The words of a recovered image are an index, of which no party has made a call yet.
 use Rattle.std.proofs.Common.{◌≡◌, ℕ, zero, suc, ◌+◌, ◌<◌, ◌≤◌, cond, List, [], map, refl, sym, ap, ◌∙◌, subst, arith}
-use Rattle.std.specs.Prelude.{Option, Some, None, IfSome}
+use Rattle.std.specs.Prelude.{Some, None, IfSome}
 use Rattle.std.proofs.lemmas.Bool.{ne_eqb}
 use Rattle.std.proofs.lemmas.List.{take_all}
 use mathlib.Core.Option.{some}
@@ -12,7 +12,6 @@ use Rattle.pm_words.specs.declared.layout.Layout.{Layout}
 use Rattle.pm_words.specs.Locations.{Header, Volatile, Cached, at}
 use Rattle.version_lock.specs.declared.TheConstants.{LAST_COUNT}
 use Rattle.data_node.specs.Lists.{ListNode}
-use Rattle.call_stages.specs.Stages.{Idle}
 use Rattle.call_stages.specs.Kinds.{gone_status}
 use Rattle.index_law.specs.Anchors.{anchors_of, gone_nodes}
 use Rattle.index_law.specs.Facts.{Facts}
@@ -28,10 +27,9 @@ use Rattle.opening_law.proofs.Footing.{opening_is_footed}
 use Rattle.opening_law.proofs.Layering.{opening_is_layered}
 use Rattle.lone_law.specs.Locks.{fewest_locks}
 use Rattle.lone_turn.specs.LoneTurns.{stamp_in}
-use Rattle.index_core.specs.PartyStates.{idle_state, idle_states, party_of, IsPartyState}
+use Rattle.index_core.specs.PartyStates.{idle_states, party_of, IsPartyState}
 use Rattle.index_core.specs.declared.party.PartyState.{PartyState}
 use Rattle.index_core.specs.Indexes.{IsIndex, RunningEnds, parties_of, world}
-use Rattle.index_core.specs.Lone.{IsQuiet, locks_left}
 use Rattle.index_core.specs.Opened.{IsUnused, OpeningIsIndex, OpeningIsUnused, opened_index, row_with}
 use Rattle.index_core.proofs.Footings.{line_of, debt_of, free_states}
 use Rattle.index_core.proofs.Layering.{turn_of, first_turn, rest_turns, at_rest}

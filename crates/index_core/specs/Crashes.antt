@@ -10,7 +10,8 @@ use Rattle.cat_history.specs.CrashEnds.{IsCrashEnd}
 use Rattle.cat_history.specs.declared.op.Change.{Change}
 use Rattle.cat_history.specs.declared.op.NameOp.{NameOp}
 use Rattle.cat_history.specs.declared.op.NameOp.TheVariants as op
-use Rattle.sound_image.specs.Sound.{IsSound, IsMapOf}
+use Rattle.sound_image.specs.Sound.{IsMapOf}
+use Rattle.sound_layer.specs.Sound.{IsSoundByAll}
 use Rattle.call_stages.specs.Stages.{placed_in}
 use Rattle.node_ops.specs.declared.running.Running.{Running}
 use Rattle.cat_history.specs.Records.{change_of}
@@ -82,11 +83,11 @@ abbrev pub cut_changes : List PartyState → List Change
 cut_changes [] = []
 cut_changes (state ∷ states) = cut_change state.machine ++ cut_changes states
 
--- What a crash leaves: the durable words, which are a sound image, and the calls in flight.
+-- What a crash leaves: the durable words, which are an image that is sound by all rules, and the calls in flight.
 pub record IsCrash (s : Index) (image : Row) (cuts : List PartyState) : Type 0 where
   pub leaves : image ≡ record { layout = s.layout; words = durable_row s.layout s.words }
   pub cut_off : cuts ≡ s.states
-  pub sound : IsSound s.layout (durable_row s.layout s.words)
+  pub sound : IsSoundByAll s.layout (durable_row s.layout s.words)
   -- it weighs no more than the index, with what deletes that aren't counted yet have lowered it by
   pub weighs : crash_weight s ≤ weight_sum (world s)
   -- the map that the image keeps is the one after the whole history and after those of the unplaced writes that are

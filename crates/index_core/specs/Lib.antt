@@ -18,3 +18,4 @@ pub mod MachineLaws
 pub mod Fulls
 pub mod Rounds
 pub mod Opened
+pub mod ScheduleCrashes

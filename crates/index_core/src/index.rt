@@ -237,8 +237,8 @@ impl Core {
         self.memory.evict(word);
     }
 
-    /// Power fails now. Returns the durable words, which are a sound image, and the calls that were cut off. Its map is
-    /// that of the whole history and of the unplaced writes that the image shows.
+    /// Power fails now. Returns the durable words, which are an image that is sound by all rules, and the calls that were
+    /// cut off. Its map is that of the whole history and of the unplaced writes that the image shows.
     pub fn crash(self) -> Crashed
         ensures { IsCrash self result.image result.cuts }
     {

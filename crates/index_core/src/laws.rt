@@ -7,6 +7,7 @@ ghost use Rattle.index_core.specs.Fulls.{NoRoomIsFullPut, NoRoomListsEach};
 ghost use Rattle.index_core.specs.WeightBounds.{WeightIsBounded};
 ghost use Rattle.index_core.specs.Rounds.{RoundBegins};
 ghost use Rattle.index_core.specs.Schedules.{OneLegalHistory, FreshIndexBegins};
+ghost use Rattle.index_core.specs.ScheduleCrashes.{CrashLeavesSound};
 
 /// All that a schedule answers is one legal history.
 ///
@@ -50,6 +51,12 @@ pub fn history_round_law()
 /// more either.
 pub fn weight_law()
     ensures { WeightIsBounded }
+{}
+
+/// Wherever such a schedule stands, with calls in flight and a turn of the updater beside them, a crash leaves an image
+/// that is sound by all rules.
+pub fn crash_law()
+    ensures { CrashLeavesSound }
 {}
 
 /// A step of a party's call keeps the index.

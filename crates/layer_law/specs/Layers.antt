@@ -36,7 +36,7 @@ pub record IsRetiring (f : TurnFacts) (line : Option HeldLine) (right : Grip) : 
   pub waits : IfSome line (λ e. e.ready ≡ true → SaysMerge f (line_number e) right.node →
       f.line.state (line_number e) ≡ ready_state)
 
--- A party's line isn't READY, and has the node's anchor, durably too.
+-- A party's line, which isn't READY, covers the node: in both rows it isn't EMPTY, and has the node's anchor.
 abbrev pub CoversNode : World → Option HeldLine → ℕ → Type 0
 CoversNode w line n = HasLine line (λ e. (e.ready ≡ false) ×
     IsCover (lines_in w.layout w.words Cached) (lines_in w.layout w.words Durable) (anchor_in ((facts w).now n))
@@ -72,6 +72,6 @@ pub record IsLayered (z : Layered) : Type 0 where
   pub retiring : (i : ℕ) (p : Party) (line : Option HeldLine) (t : Turning) (h : Held) (left right : Grip) →
       get_elem? z.whole.world.parties i ≡ some p → get_elem? z.whole.lines i ≡ some line → p.stage ≡ Joins h left right Gone →
       IsRetiring (turn_facts z.whole.world holder t) line right
-  -- switches of the list that may not be durable yet
+  -- a party whose switch may not be durable yet has a line that covers the node which it put in or left out
   pub switched : (i : ℕ) (p : Party) (n : ℕ) → get_elem? z.whole.world.parties i ≡ some p → IsSwitched p.stage n →
       (line : Option HeldLine) × (get_elem? z.whole.lines i ≡ some line) × CoversNode z.whole.world line n

@@ -1,2 +1,3 @@
 pub mod NodeMarks
 pub mod Opened
+pub mod Crashed

@@ -1,2 +1,3 @@
 pub mod Tellings
 pub mod Opened
+pub mod Crashed

@@ -4,6 +4,7 @@
 //! its volatile words are made to tell its list, and it is an index of which nobody has made a call yet.
 #![tactic(auto)]
 
+pub mod laws;
 mod opening;
 mod telling;
 

@@ -46,7 +46,7 @@ abbrev pub RuleOnCover : Type 0
 RuleOnCover = (l : Layout) (image : List ℕ) → IsSound l image → ¬ BreaksLayer l image 10 →
     (¬ BreaksLayer l image 12) ↔ IsCoveredImage l image
 
--- So rule 12 leaves little of rule 10: where the layer is covered, its keys are keys.
+-- Where the layer is covered each of its keys is zero or a name, whatever rule 10 says of that.
 abbrev pub CoverTellsKeys : Type 0
 CoverTellsKeys = (l : Layout) (image : List ℕ) → IsImage l image → IsSound l image → IsCoveredImage l image →
     (key node : ℕ) → image_layer l image key ≡ Some node → IsKeyNumber key

@@ -9,7 +9,7 @@ use Rattle.search_layer.proofs.CountLemmas.{few_apart, layer_leads_to_nodes}
 use Rattle.turn_law.proofs.Crash.{keys_lead_apart}
 use Rattle.turn_row.specs.Columns.{RowTerms, Ghosts, terms_of, facts_in}
 use Rattle.turn_row.specs.RowStages.{RowLine, aim_of, RowStage, Resting, Between, Reads, Lands, HasTarget, Changes, Stamps, Clears, Sweeps, Gone, HasStamp, IsUnworn, Frees, Counts, turn_stage}
-use Rattle.turn_row.specs.RowLaw.{AreDurable, RowLawful, AreSafeLeaves, CrashLeavesLeaves}
+use Rattle.turn_row.specs.RowLaw.{AreDurable, RowLawful, AreSafeLeaves, LeavesAreSafe}
 use Rattle.turn_row.proofs.RowChanges.{word_within}
 
 -- a layer with the same keys as one that has few has few
@@ -55,18 +55,18 @@ module _ (r : RowTerms) (ghosts : Ghosts) (words : List ℕ) where
         few = mix_few r.layout.nodes (aim_of e word) is.sure.before s (layer_of r.layout words) (layer_in d (leaf_count r.layout)) is.sure.few (cached_few (Changes e word s) is) is.sure.layer (backs.layer d (λ i o. inr refl));
       }
 
-pub crash_leaves_leaves : CrashLeavesLeaves
-crash_leaves_leaves r ghosts words Resting is = even r ghosts words Resting is is.sure
-crash_leaves_leaves r ghosts words (Between j) is = even r ghosts words (Between j) is is.sure
-crash_leaves_leaves r ghosts words (Reads j offset seen) is = even r ghosts words (Reads j offset seen) is is.sure.1
-crash_leaves_leaves r ghosts words (Lands e) is = even r ghosts words (Lands e) is is.sure.1
-crash_leaves_leaves r ghosts words (HasTarget e target) is = even r ghosts words (HasTarget e target) is is.sure.3
-crash_leaves_leaves r ghosts words (Changes e word s) is = changing r ghosts words e word s is
-crash_leaves_leaves r ghosts words (Stamps e) is = even r ghosts words (Stamps e) is is.sure
-crash_leaves_leaves r ghosts words (Clears j) is = even r ghosts words (Clears j) is is.sure
-crash_leaves_leaves r ghosts words (Sweeps n) is = even r ghosts words (Sweeps n) is is.sure
-crash_leaves_leaves r ghosts words (Gone n) is = even r ghosts words (Gone n) is is.sure
-crash_leaves_leaves r ghosts words (HasStamp n) is = even r ghosts words (HasStamp n) is is.sure
-crash_leaves_leaves r ghosts words (IsUnworn n) is = even r ghosts words (IsUnworn n) is is.sure
-crash_leaves_leaves r ghosts words (Frees n) is = even r ghosts words (Frees n) is is.sure
-crash_leaves_leaves r ghosts words (Counts n none) is = even r ghosts words (Counts n none) is is.sure
+pub leaves_are_safe : LeavesAreSafe
+leaves_are_safe r ghosts words Resting is = even r ghosts words Resting is is.sure
+leaves_are_safe r ghosts words (Between j) is = even r ghosts words (Between j) is is.sure
+leaves_are_safe r ghosts words (Reads j offset seen) is = even r ghosts words (Reads j offset seen) is is.sure.1
+leaves_are_safe r ghosts words (Lands e) is = even r ghosts words (Lands e) is is.sure.1
+leaves_are_safe r ghosts words (HasTarget e target) is = even r ghosts words (HasTarget e target) is is.sure.3
+leaves_are_safe r ghosts words (Changes e word s) is = changing r ghosts words e word s is
+leaves_are_safe r ghosts words (Stamps e) is = even r ghosts words (Stamps e) is is.sure
+leaves_are_safe r ghosts words (Clears j) is = even r ghosts words (Clears j) is is.sure
+leaves_are_safe r ghosts words (Sweeps n) is = even r ghosts words (Sweeps n) is is.sure
+leaves_are_safe r ghosts words (Gone n) is = even r ghosts words (Gone n) is is.sure
+leaves_are_safe r ghosts words (HasStamp n) is = even r ghosts words (HasStamp n) is is.sure
+leaves_are_safe r ghosts words (IsUnworn n) is = even r ghosts words (IsUnworn n) is is.sure
+leaves_are_safe r ghosts words (Frees n) is = even r ghosts words (Frees n) is is.sure
+leaves_are_safe r ghosts words (Counts n none) is = even r ghosts words (Counts n none) is is.sure

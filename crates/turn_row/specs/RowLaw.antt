@@ -82,11 +82,12 @@ EvictionKeepsTurn = (r : RowTerms) (ghosts : Ghosts) (words : List ℕ) (s : Row
     IsRow r.layout words → word < image_words r.layout → RowLawful r ghosts words s →
     RowLawful r ghosts (evicted r.layout words word) s
 
--- The durable leaves are in order at every moment, and their keys are at most as many as there are nodes.
+-- The durable leaves are in order, and their keys are at most as many as there are nodes.
 pub record AreSafeLeaves (r : RowTerms) (words : List ℕ) : Type 0 where
   pub order : IsLayerRow (leaf_count r.layout) r.layout.nodes (leaves_in r.layout words Durable)
   pub few : HasFew r.layout.nodes (layer_in (leaves_in r.layout words Durable) (leaf_count r.layout))
 
-abbrev pub CrashLeavesLeaves : Type 0
-CrashLeavesLeaves = (r : RowTerms) (ghosts : Ghosts) (words : List ℕ) (s : RowStage) → RowLawful r ghosts words s →
+-- So they are at every moment of a turn.
+abbrev pub LeavesAreSafe : Type 0
+LeavesAreSafe = (r : RowTerms) (ghosts : Ghosts) (words : List ℕ) (s : RowStage) → RowLawful r ghosts words s →
     AreSafeLeaves r words

@@ -1,6 +1,6 @@
 //! The laws. The functions do nothing: each names what is proved.
 
-ghost use Rattle.turn_row.specs.RowLaw.{RowStepKeeps, RowStepCanAct, EvictionKeepsTurn, CrashLeavesLeaves};
+ghost use Rattle.turn_row.specs.RowLaw.{RowStepKeeps, RowStepCanAct, EvictionKeepsTurn, LeavesAreSafe};
 
 /// A step of a turn, by the action that it makes on a row of words, may be done and keeps the row lawful. That a walk
 /// which has come to a target keeps its promise is a premise of the step by which it comes there.
@@ -16,5 +16,5 @@ pub fn evict_law()
 
 /// At every moment the durable leaves are in order, and have few keys.
 pub fn crash_law()
-    ensures { CrashLeavesLeaves }
+    ensures { LeavesAreSafe }
 {}

@@ -1,5 +1,5 @@
-use Rattle.turn_row.proofs.RowCrash.{crash_leaves_leaves}
+use Rattle.turn_row.proofs.RowCrash.{leaves_are_safe}
 use Rattle.turn_row.proofs.laws.crash_law.Goals as goal
 
 pub returns : goal.returns
-returns c = crash_leaves_leaves
+returns c = leaves_are_safe
