@@ -795,7 +795,7 @@ module _ (w0 : World) (i : ℕ) (asked : NameOp) (limit : Option ℕ) (w : World
   after_turn (Done answer) turn k sound of keeps begun foreseen locks been =
       let end = tries_end (name_asked asked) own w0 i w p a x Idle answer o.trying is_for about k told room in
       let legal = (any_keeps w i p a x Idle (Some answer) o.trying.lawful o.trying.there k told room).legal in
-      (end.0, answered answer turn end.0 end.1 end.2 legal been, subst (λ (n : ℕ). (m : ℕ) → locks_of n ((facts w0).version m) ≤ locks_of n ((facts w').version m) + 1) o.trying.generation locks)
+      (end.0, answered answer turn end.0 end.1 end.2 legal been, subst (λ (n : ℕ). (m : ℕ) → locks_of n ((facts w0).version m) ≤ locks_of n ((facts w').version m) + 1) o.trying.generation locks, end.1)
 
 pub lone_calls_go : LoneCallsGo
 lone_calls_go w0 i asked limit w p machine x o rest told room =

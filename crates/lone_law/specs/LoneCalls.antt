@@ -50,7 +50,7 @@ use Rattle.lone_law.specs.There.{IsAtNode, IsUnmoved, LookupStands}
 use Rattle.lone_law.specs.Locks.{locks_of, HasLocked}
 use Rattle.lone_law.specs.Merging.{KeepsFew, TriesMerge, HasKeptList, LeavesShape}
 use Rattle.lone_law.specs.MergeStands.{merge_leaves, MergeForesees}
-use Rattle.lone_law.specs.Tries.{Trying, IsHalvedSince}
+use Rattle.lone_law.specs.Tries.{Trying, Says, IsHalvedSince}
 use Rattle.split_merge.specs.declared.splitting.SplitAt.{SplitAt}
 use Rattle.split_merge.specs.declared.splitting.SplitAt.TheVariants as split_at
 use Rattle.lone_law.specs.Splitting.{HasLine, LacksLine, HasFree, LacksFree, SplitStands}
@@ -221,7 +221,8 @@ AfterCall w0 i asked limit w p machine (Go next) =
 AfterCall w0 i asked limit w p machine (Done answer) =
     IsAtRest (stepped w i p (running_asks machine) Idle) ×
     IsAnswered w0 asked limit (stepped w i p (running_asks machine) Idle) p answer ×
-    LosesLocks w0 (stepped w i p (running_asks machine) Idle)
+    LosesLocks w0 (stepped w i p (running_asks machine) Idle) ×
+    Says w0 (stepped w i p (running_asks machine) Idle) (name_asked asked) (change_of asked) p.stage answer
 
 abbrev pub LoneCallsGo : Type 0
 LoneCallsGo = (w0 : World) (i : ℕ) (asked : NameOp) (limit : Option ℕ) (w : World) (p : Party) (machine : Running)

@@ -7,3 +7,6 @@ pub mod TurnSteps
 pub mod Going
 pub mod Begins
 pub mod Ending
+pub mod Switching
+pub mod InStep
+pub mod CallLogs

@@ -1,3 +1,4 @@
 pub mod LoneTurns
+pub mod CallLogs
 pub mod Marks
 pub mod Laws

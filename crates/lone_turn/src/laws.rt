@@ -21,3 +21,13 @@ pub fn lone_turns()
     ensures goes { TurnsGo }
     ensures gone { GoneAreHeldBack }
 {}
+
+ghost use Rattle.lone_turn.specs.CallLogs.{CallsAreInStep, LogEnds, LogGoes};
+
+/// A try of a call with nothing else in flight leaves the search layer, and makes one of its caller's log lines READY if
+/// it makes the switch of a split or of a merge; it leaves all other lines in their states.
+pub fn call_logs()
+    ensures in_step { CallsAreInStep }
+    ensures goes { LogGoes }
+    ensures ends { LogEnds }
+{}

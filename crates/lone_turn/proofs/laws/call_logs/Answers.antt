@@ -1,0 +1,12 @@
+use Rattle.lone_turn.proofs.CallLogs.{log_goes, log_ends}
+use Rattle.lone_turn.proofs.InStep.{calls_are_in_step}
+use Rattle.lone_turn.proofs.laws.call_logs.Goals as goal
+
+pub returns-clause-in_step : goal.returns-clause-in_step
+returns-clause-in_step c = calls_are_in_step
+
+pub returns-clause-goes : goal.returns-clause-goes
+returns-clause-goes c = log_goes
+
+pub returns-clause-ends : goal.returns-clause-ends
+returns-clause-ends c = log_ends
