@@ -48,10 +48,12 @@ use Rattle.index_core.specs.declared.party.Whole.TheVariants as whole
 use Rattle.index_core.specs.CoreCalls.{op_of, limit_of, count_of}
 use Rattle.index_core.specs.PartyStates.{party_of, state_counted}
 use Rattle.index_core.specs.Indexes.{Index, world, map_of_index, IsIndex}
-use Rattle.index_core.specs.Lone.{IsQuiet, FindsNoRoom, HasSameList, SplitsFor, SplitsNothing, MergesFor, MergesNothing, LeavesList, TakesLocks, LoseAtMost, TakesEachLock, names_beside, locks_left, IsWholeAnswer, TriesAlone, RunsAlone, CountsCall, ComesFree, KeepsStamps, IsMadeAgain, most_tries, alone_writes, lacks_line, lacks_node, needs_split, node_for, part_whole, whole_of, state_tried, state_done}
+use Rattle.index_core.specs.Lone.{IsQuiet, FindsNoRoom, HasSameList, SplitsFor, SplitsNothing, MergesFor, MergesNothing, LeavesList, TakesLocks, LoseAtMost, TakesEachLock, names_beside, locks_left, IsWholeAnswer, TriesAlone, RunsAlone, CountsCall, ComesFree, KeepsStamps, IsMadeAgain, NeedsNoTurn, LeavesLog, most_tries, alone_writes, lacks_line, lacks_node, needs_split, node_for, part_whole, whole_of, state_tried, state_done}
 use Rattle.index_core.specs.Weights.{weight_of, added_by, added_if, added_whole}
 use Rattle.index_core.specs.Listings.{IsPartAt}
+use Rattle.lone_turn.specs.CallLogs.{KeepsLines, MakesReady, LeavesLines}
 use Rattle.index_core.proofs.Lists.{set_twice}
+use Rattle.index_core.proofs.Tries.{ready_with_parties}
 use Rattle.index_core.proofs.PartsAlone.{whole_part}
 use Rattle.index_core.proofs.Quiet.{rests}
 
@@ -121,6 +123,7 @@ pub record Ran (s0 s : Index) (i : ℕ) (c : CoreCall) (answer : Once Placed) (t
   pub base : s.base ≡ s0.base
   pub list : LeavesList c (whole_of answer) s0 s
   pub stamps : KeepsStamps s0 s
+  pub log : NeedsNoTurn i c s0 → LeavesLog i c s0 s
   pub again : (tries ≤ 1) ⊎ IsMadeAgain i c s0
   pub each_lock : LoseAtMost tries s0 s
   pub locks : locks_left s0 ≤ locks_left s + tries
@@ -141,6 +144,7 @@ counted_runs s0 s i c answer tries ran few states are = record {
   base = ran.base;
   list = same_list answer ran.list;
   stamps = ran.stamps;
+  log = λ none. let left = ran.log none in record { layer = left.layer; lines = same_lines left.lines };
   weighs = ran.weighs;
 }
   where
@@ -151,6 +155,13 @@ counted_runs s0 s i c answer tries ran few states are = record {
     same_merge : (c : CoreCall) → MergesFor c s0 s → MergesFor c s0 (record s { states = states })
     same_merge (call.Del name limit) merge = merge
     same_merge c merge = absurd merge
+
+    same_lines : (HasSameList s0 s × KeepsLines (world s0) (world s)) ⊎ ((SplitsFor c s0 s ⊎ MergesFor c s0 s) × MakesReady i (world s0) (world s))
+        → (HasSameList s0 (record s { states = states }) × KeepsLines (world s0) (world (record s { states = states }))) ⊎ ((SplitsFor c s0 (record s { states = states }) ⊎ MergesFor c s0 (record s { states = states })) × MakesReady i (world s0) (world (record s { states = states })))
+    same_lines = ⊎_elim
+        (λ (kept : HasSameList s0 s × KeepsLines (world s0) (world s)). inl kept)
+        (λ (made : (SplitsFor c s0 s ⊎ MergesFor c s0 s) × MakesReady i (world s0) (world s)).
+        inr (⊎_elim (λ (cut : SplitsFor c s0 s). inl (same_split c cut)) (λ (merge : MergesFor c s0 s). inr (same_merge c merge)) made.0, ready_with_parties made.1))
 
     same_cause : (r : Once Placed) → IsWholeAnswer tries s0 i c s (whole_of r) → IsWholeAnswer (most_tries c) s0 i c (record s { states = states }) (whole_of r)
     same_cause (once.Worn node word) cause = ⊎_elim (λ first. inl first) (λ (later : IsMadeAgain i c s0 × (locks_left s0 < tries) × (HasSameList s0 s ⊎ SplitsFor c s0 s) × (node ≡ target_node (world s) (name_asked (op_of c))) × IsWorn word s0.generation).
@@ -335,6 +346,36 @@ module _ (s0 s : Index) (i : ℕ) (c : CoreCall) (is0 : IsIndex s0) (quiet0 : Is
         list = left.list;
       }
 
+  merges_for : (c : CoreCall) → FindsMerge (world s0) (op_of c) → IsMergedSince (name_asked (op_of c)) (world s0) (world s) → MergesFor c s0 s
+  merges_for (call.Del name limit) finds since = (finds, since.anchors)
+  merges_for c finds since = absurd finds
+
+  own_caller : t.state.caller ≡ i
+  own_caller = (is0.states i t.state t.there).caller
+
+  -- what it leaves of the log lines
+  lines_of : (r : Once Placed) → needs_split r ≡ false → lacks_line r ≡ false → IsAnswered (world s0) (op_of c) (limit_of c) (world s) (party_of t.state) r → LeavesLines (name_asked (op_of c)) t.state.caller (world s0) (world s) r
+      → (HasSameList s0 s × KeepsLines (world s0) (world s)) ⊎ ((SplitsFor c s0 s ⊎ MergesFor c s0 s) × MakesReady i (world s0) (world s))
+  lines_of (once.Worn node word) one lined (worn, node_is, word_is, same, kept) lines = inl (kept.0, lines)
+  lines_of (once.Spent clock) one lined (unworn, late, clock_is, same, kept) lines = inl (kept.0, lines)
+  lines_of (once.Again again.NoFree) one lined (unworn, below, full, has, lacks, same, kept, unmoved) lines = inl (kept.0, lines)
+  lines_of (once.Again (again.NeedsSplit n)) one lined end lines = absurd (cc)
+  lines_of (once.Again (again.Locked n word)) one lined end lines = absurd end
+  lines_of (once.Again (again.Moved n first second)) one lined end lines = absurd end
+  lines_of (once.Again (again.Hops count)) one lined end lines = absurd end
+  lines_of (once.Again again.LogFull) one lined end lines = absurd (cc)
+  lines_of (once.Again (again.Held word)) one lined end lines = absurd end
+  lines_of (once.Again (again.Epoch first second)) one lined end lines = absurd end
+  lines_of (once.Done placed) one lined (causes, old, place, hops, write, shape) lines = ⊎_elim
+      (λ (kept : HasKeptList (world s0) (world s) × KeepsLines (world s0) (world s)). inl (kept.0.0, kept.1))
+      (λ (made : IsMergedSince (name_asked (op_of c)) (world s0) (world s) × MakesReady t.state.caller (world s0) (world s)).
+      ⊎_elim
+      (λ (none : (FindsMerge (world s0) (op_of c) → ⊥) × HasKeptList (world s0) (world s)). let most = made.0.most in let same = none.1.1 in absurd (omega arith))
+      (λ (since : FindsMerge (world s0) (op_of c) × IsMergedSince (name_asked (op_of c)) (world s0) (world s)).
+      inr (inr (merges_for c since.0 since.1), subst (λ (caller : ℕ). MakesReady caller (world s0) (world s)) own_caller made.1))
+      shape)
+      lines
+
   pub one_try : needs_split answer ≡ false → lacks_line answer ≡ false → (lacks_node answer ≡ true → IsSwept s0) → IsOnName c answer → Ran s0 s i c answer 1
   one_try one lined swept on_name =
       let end = ends answer one lined swept on_name t.answered in
@@ -352,6 +393,7 @@ module _ (s0 s : Index) (i : ℕ) (c : CoreCall) (is0 : IsIndex s0) (quiet0 : Is
         base = t.base;
         list = end.list;
         stamps = λ n here. inl (ap (λ (stamp : ℕ → ℕ). stamp n) t.stamps);
+        log = λ _. record { layer = t.layer; lines = lines_of answer one lined t.answered t.lines };
         again = inl (omega arith);
         each_lock = each;
         locks = locks;
@@ -509,6 +551,39 @@ module _ (s0 s1 s : Index) (i : ℕ) (c : CoreCall) (is0 : IsIndex s0) (quiet0 :
   adds_nothing (once.Done placed) again = absurd (cc)
   adds_nothing (once.Again why) again = refl
 
+  -- the first made a line READY, and the other left the lines
+  made_first : (r : Once Placed) → needs_split r ≡ true → LeavesLines (name_asked (op_of c)) t.state.caller (world s0) (world s1) r → MakesReady t.state.caller (world s0) (world s1)
+  made_first (once.Worn node word) again lines = absurd (cc)
+  made_first (once.Spent clock) again lines = absurd (cc)
+  made_first (once.Done placed) again lines = absurd (cc)
+  made_first (once.Again again.NoFree) again lines = absurd (cc)
+  made_first (once.Again (again.NeedsSplit n)) again lines = lines
+  made_first (once.Again (again.Locked n word)) again lines = absurd (cc)
+  made_first (once.Again (again.Moved n one two)) again lines = absurd (cc)
+  made_first (once.Again (again.Hops count)) again lines = absurd (cc)
+  made_first (once.Again again.LogFull) again lines = absurd (cc)
+  made_first (once.Again (again.Held word)) again lines = absurd (cc)
+  made_first (once.Again (again.Epoch one two)) again lines = absurd (cc)
+
+  kept_then : Split s0 s1 c → (r : Once Placed) → IsAnswered (world s1) (op_of c) (limit_of c) (world s) (party_of u.state) r → LeavesLines (name_asked (op_of c)) u.state.caller (world s1) (world s) r → KeepsLines (world s1) (world s)
+  kept_then cut (once.Worn node word) end lines = lines
+  kept_then cut (once.Spent clock) end lines = lines
+  kept_then cut (once.Again again.NoFree) end lines = lines
+  kept_then cut (once.Again (again.NeedsSplit n)) (unworn, below, full, has, free, same, halved, most) lines = absurd (not_full cut full)
+  kept_then cut (once.Again (again.Locked n word)) end lines = lines
+  kept_then cut (once.Again (again.Moved n one two)) end lines = lines
+  kept_then cut (once.Again (again.Hops count)) end lines = lines
+  kept_then cut (once.Again again.LogFull) end lines = lines
+  kept_then cut (once.Again (again.Held word)) end lines = lines
+  kept_then cut (once.Again (again.Epoch one two)) end lines = lines
+  kept_then cut (once.Done placed) (causes, old, place, hops, write, shape) lines = ⊎_elim
+      (λ (kept : HasKeptList (world s1) (world s) × KeepsLines (world s1) (world s)). kept.1)
+      (λ (made : IsMergedSince (name_asked (op_of c)) (world s1) (world s) × MakesReady u.state.caller (world s1) (world s)).
+      let kept = (put_keeps c (world s0) (world s1) (world s) cut.full shape).1 in
+      let most = made.0.most in
+      absurd (omega arith))
+      lines
+
   -- both tries take two locks of a node at most
   each_two : LoseAtMost 2 s0 s
   each_two n =
@@ -542,6 +617,12 @@ module _ (s0 s1 s : Index) (i : ℕ) (c : CoreCall) (is0 : IsIndex s0) (quiet0 :
         base = u.base ∙ t.base;
         list = end.0.list;
         stamps = λ n here. inl (ap (λ (stamp : ℕ → ℕ). stamp n) (u.stamps ∙ t.stamps));
+        log = λ _.
+            let made = subst (λ (caller : ℕ). MakesReady caller (world s0) (world s1)) (is0.states i t.state t.there).caller (made_first first again t.lines) in
+            record {
+              layer = u.layer ∙ t.layer;
+              lines = inr (inl end.1, record { line = made.line; within = made.within; own = made.own; was_empty = made.was_empty; is = kept_then cut answer u.answered u.lines ∙ made.is });
+            };
         again = inr (full_again_if s0 i c rest_before cut.full);
         each_lock = each_two;
         locks = omega arith;
@@ -580,6 +661,10 @@ module _ (s0 s : Index) (i : ℕ) (low : List ℕ) (count : ℕ) (is0 : IsIndex 
       (λ (same : ¬ ⊥ × HasKeptList (world s0) (world s)). same.1)
       (λ (merge : ⊥ × IsMergedSince low (world s0) (world s)). absurd merge.0)
       t.answered.5 in
+      let lines : KeepsLines (world s0) (world s) = ⊎_elim
+      (λ (same : HasKeptList (world s0) (world s) × KeepsLines (world s0) (world s)). same.1)
+      (λ (made : IsMergedSince low (world s0) (world s) × MakesReady t.state.caller (world s0) (world s)). let most = made.0.most in let same = kept.1 in absurd (omega arith))
+      t.lines in
       let history : s.history ≡ s0.history = t.answered.4 ∙ append-nil s0.history in
       let added = gets_add_nothing low words.old in
       let before = t.weighs in
@@ -595,5 +680,6 @@ module _ (s0 s : Index) (i : ℕ) (low : List ℕ) (count : ℕ) (is0 : IsIndex 
         base = t.base;
         list = kept.0;
         stamps = λ n here. inl (ap (λ (stamp : ℕ → ℕ). stamp n) t.stamps);
+        log = λ _. record { layer = t.layer; lines = inl (kept.0, lines) };
         weighs = omega arith;
       }

@@ -32,7 +32,7 @@ use Rattle.index_law.proofs.Starts.{listed_within}
 use Rattle.lone_law.specs.LoneCalls.{FindsFull, FindsWorn, IsLate, IsAnswered}
 use Rattle.lone_law.specs.Locks.{locks_in}
 use Rattle.lone_law.specs.Merging.{NextIsWorn, next_node}
-use Rattle.lone_law.specs.Splitting.{LacksLine}
+use Rattle.lone_law.specs.Splitting.{LacksFree, LacksLine}
 use Rattle.lone_law.specs.There.{IsUnmoved}
 use Rattle.lone_law.proofs.Locks.{worn_has_none}
 use Rattle.turn_law.specs.Facts.{TurnFacts}
@@ -49,7 +49,7 @@ use Rattle.index_core.specs.declared.party.CoreCall.TheVariants as call
 use Rattle.index_core.specs.CoreCalls.{op_of, limit_of, count_of}
 use Rattle.index_core.specs.PartyStates.{party_of}
 use Rattle.index_core.specs.Indexes.{Index, IsIndex, layered, map_of_index, world}
-use Rattle.index_core.specs.Lone.{IsQuiet, ComesFree, LacksNode, FindsFullNode, FindsNoRoom, FindsWornNode, HasSameList, IsMadeAgain, IsOver, IsWholeAnswer, KeepsStamps, LeavesList, LoseAtMost, MergesFor, MergesNothing, SplitsFor, SplitsNothing, TriesAlone, TriesBehindTurn, alone_writes, lacks_line, lacks_node, locks_left, most_tries, needs_split, node_for, state_tried, whole_of}
+use Rattle.index_core.specs.Lone.{IsQuiet, ComesFree, LacksNode, FindsFullNode, FindsNoRoom, FindsWornNode, HasSameList, IsMadeAgain, NeedsNoTurn, IsOver, IsWholeAnswer, KeepsStamps, LeavesList, LoseAtMost, MergesFor, MergesNothing, SplitsFor, SplitsNothing, TriesAlone, TriesBehindTurn, alone_writes, lacks_line, lacks_node, locks_left, most_tries, needs_split, node_for, state_tried, whole_of}
 use Rattle.index_core.specs.Turns.{TurnsAlone}
 use Rattle.index_core.specs.Weights.{weight_of, added_by}
 use Rattle.cat_history.specs.declared.op.NameOp.{NameOp}
@@ -91,6 +91,7 @@ pub record TurnedBack (s s1 : Index) (i : ℕ) (c : CoreCall) : Type 0 where
   unworn : FindsWornNode c s → ⊥
   below : IsOver c s → ⊥
   again : IsMadeAgain i c s
+  turned : NeedsNoTurn i c s → ⊥
   history : s1.history ≡ s.history
   list : HasSameList s s1
   unmoved : IsUnmoved s.layout s.words s1.words (node_for s (name_asked (op_of c)))
@@ -103,11 +104,27 @@ module _ (s s1 : Index) (i : ℕ) (c : CoreCall) (is : IsIndex s) (quiet : IsQui
   needs_line (call.Part low count) needs lacks = absurd needs
   needs_line (call.Recheck node version) needs lacks = absurd needs
 
+  -- a call that needs no turn has a line, and a put a node
+  lined : (c : CoreCall) → Rattle.lone_law.specs.LoneCalls.NeedsLine (world s) (op_of c) → NeedsNoTurn i c s → LacksLine s.layout s.words i → ⊥
+  lined (call.Put name value limit) needs has lacks = lacks has.0.number has.0.within has.0.empty
+  lined (call.Del name limit) needs has lacks = lacks has.number has.within has.empty
+  lined (call.Get name) needs has lacks = needs
+  lined (call.Part low count) needs has lacks = needs
+  lined (call.Recheck node version) needs has lacks = needs
+
+  noded : (c : CoreCall) → FindsFull (world s) (op_of c) → NeedsNoTurn i c s → LacksFree s.layout s.generation s.words → ⊥
+  noded (call.Put name value limit) full has lacks = has.1.unworn (lacks has.1.node has.1.within has.1.free)
+  noded (call.Del name limit) full has lacks = full
+  noded (call.Get name) full has lacks = full
+  noded (call.Part low count) full has lacks = full
+  noded (call.Recheck node version) full has lacks = full
+
   turned_back : (r : Once Placed) → (lacks_line r ≡ true) ⊎ (lacks_node r ≡ true) → IsAnswered (world s) (op_of c) (limit_of c) (world s1) (party_of state) r → TurnedBack s s1 i c
   turned_back (once.Again again.LogFull) lacks (unworn, below, needs, lacks_lines, same, kept, unmoved) = record {
     unworn = unworn;
     below = λ over. below (late_was (limit_of c) (length s.history) over);
     again = needs_line c needs (subst (LacksLine s.layout s.words) caller lacks_lines);
+    turned = λ none. lined c needs none (subst (LacksLine s.layout s.words) caller lacks_lines);
     history = same;
     list = kept.0;
     unmoved = unmoved;
@@ -116,6 +133,7 @@ module _ (s s1 : Index) (i : ℕ) (c : CoreCall) (is : IsIndex s) (quiet : IsQui
     unworn = unworn;
     below = λ over. below (late_was (limit_of c) (length s.history) over);
     again = full_again_if s i c (rests s is quiet) full;
+    turned = λ has_both. noded c full has_both none;
     history = same;
     list = kept.0;
     unmoved = unmoved;
@@ -138,6 +156,7 @@ pub record Later (s0 s : Index) (i : ℕ) (c : CoreCall) (tries : ℕ) : Type 0 
   unworn : FindsWornNode c s0 → ⊥
   below : IsOver c s0 → ⊥
   again : IsMadeAgain i c s0
+  turned : NeedsNoTurn i c s0 → ⊥
   layout : s.layout ≡ s0.layout
   generation : s.generation ≡ s0.generation
   base : s.base ≡ s0.base
@@ -335,6 +354,7 @@ module _ (s s1 s2 : Index) (i : ℕ) (c : CoreCall) (answer : Once Placed) (turn
     unworn = b.unworn;
     below = b.below;
     again = b.again;
+    turned = b.turned;
     layout = layout2;
     generation = generation2;
     base = ap (λ (v : Index). v.base) u.is ∙ t.base;
@@ -366,6 +386,7 @@ later_then s0 s s2 i c tries first then =
       unworn = first.unworn;
       below = first.below;
       again = first.again;
+      turned = first.turned;
       layout = then.layout ∙ first.layout;
       generation = then.generation ∙ first.generation;
       base = then.base ∙ first.base;
@@ -522,6 +543,7 @@ module _ (s0 s s' : Index) (i : ℕ) (c : CoreCall) (before tries : ℕ) (answer
             (o.stamps n here))
             (λ (low : stamp_in (world s') n ≤ 1). inr low)
             (ran.stamps n (subst (λ (l : Layout). n < l.nodes) (sym o.layout) here));
+        log = λ none. absurd (o.turned none);
         again = inr o.again;
         each_lock = λ n. let a = o.each n in let b = ran.each_lock n in omega arith;
         locks = let a = o.locks in let b = ran.locks in omega arith;

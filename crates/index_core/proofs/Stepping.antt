@@ -76,6 +76,7 @@ pub record StepFacts (s : Index) (party : ℕ) (state : PartyState) (machine : R
   pub keeps_op : (asked : NameOp) → IsOf asked machine → IsOfAfter asked (running_turned machine (told s machine))
   pub keeps_call : MakesCall (running_call machine) (running_turned machine (told s machine))
   pub is_step : AnyStep s.layout s.generation (stage_of machine) (running_asks machine) (told s machine) (stage_after (running_turned machine (told s machine))) (reply_of (running_turned machine (told s machine)))
+  pub foot : FootStep s.layout s.generation state.caller (footing_of machine) (running_asks machine) (told s machine) (footing_after (running_turned machine (told s machine))) (reply_of (running_turned machine (told s machine)))
   pub kept : (spare : ℕ) → IsIndex (stepped_index s party state machine spare)
   pub weighs : (spare : ℕ) → RisesBy (AddsName s.layout (stage_of machine) (running_asks machine) (stage_after (running_turned machine (told s machine)))) (weight_sum (world s)) (weight_sum (world (stepped_index s party state machine spare)))
   pub counts : Counts s.layout (length s.history) (running_asks machine) (told s machine) (counted (stage_of machine))
@@ -201,6 +202,7 @@ step_facts s i state machine is there flies =
       keeps_op = λ asked of. turns_keep_op l g asked machine x sound act.told taken of;
       keeps_call = keeps_call machine x takes;
       is_step = step;
+      foot = foot;
       weighs = λ spare. subst (λ (q : Stage × ℕ). RisesBy (AddsName s.layout q.0 a (stage_after turn)) (weight_sum w) q.1)
           (λ k. (stage k, (weighs_after w i state a turn there' ∙ ap weight_sum same) k))
           (any_weighs w i p a x (stage_after turn) (reply_of turn) is.lawful there' (subst (λ (u : Stage). AnyStep l g u a x (stage_after turn) (reply_of turn)) (sym stage) step) refl);

@@ -20,7 +20,7 @@ use Rattle.node_ops.specs.declared.running.Running.{Running}
 use Rattle.call_stages.specs.Views.{IsView}
 use Rattle.node_ops.specs.Asked.{IsOf, op_in, name_asked}
 use Rattle.node_ops.specs.RunningSteps.{running_asks, running_turned, running_left, count_in, IsRunning}
-use Rattle.node_ops.specs.CallStages.{stage_of, reply_of}
+use Rattle.node_ops.specs.CallStages.{stage_of, footing_of, footing_after, reply_of}
 use Rattle.node_ops.proofs.PartListing.{count_stays}
 use Rattle.node_ops.proofs.OpLaw.{op_told}
 use Rattle.index_law.specs.Facts.{Facts}
@@ -30,15 +30,15 @@ use Rattle.index_law.proofs.Parties.{at_set, set_here}
 use Rattle.lone_law.specs.Locks.{locks_of, fewest_locks}
 use Rattle.lone_law.specs.Merging.{FindsMerge, HasKeptList, IsMergedSince, LeavesShape}
 use Rattle.lone_law.specs.LoneCalls.{LoneCall, IsAnswered, LosesLocks, AfterCall, ValueFits, begun_party}
-use Rattle.lone_law.specs.Tries.{IsHalvedSince}
+use Rattle.lone_law.specs.Tries.{Trying, IsHalvedSince}
 use Rattle.lone_law.proofs.Locks.{fewest_lose}
 use Rattle.lone_law.proofs.LoneCalls.{lone_calls_begin, lone_parts_begin, lone_calls_go}
 use Rattle.index_core.specs.declared.party.PartyState.{PartyState}
 use Rattle.index_core.specs.declared.party.CoreCall.{CoreCall}
 use Rattle.index_core.specs.declared.party.CoreCall.TheVariants as call
 use Rattle.index_core.specs.CoreCalls.{machine_of, op_of, limit_of, count_of, most_writes}
-use Rattle.index_core.specs.PartyStates.{party_of, state_with, state_after, machine_owes, owed}
-use Rattle.index_core.specs.Indexes.{Index, room_of, world, IsIndex, IsInFlight, view_of, Starts, started_index, told, stepped_index, TurnsTo}
+use Rattle.index_core.specs.PartyStates.{party_of, machine_footing, state_with, state_after, machine_owes, owed}
+use Rattle.index_core.specs.Indexes.{Index, room_of, layered, world, IsIndex, IsInFlight, view_of, Starts, started_index, told, stepped_index, TurnsTo}
 use Rattle.index_core.specs.Lone.{IsQuiet, TriesAlone, locks_left, LoseAtMost}
 use Rattle.index_core.specs.MachineLaws.{MachineLaw, showing, showing_after}
 use Rattle.index_core.specs.Weights.{weight_of, added_by}
@@ -48,10 +48,18 @@ use Rattle.index_core.proofs.Quiet.{rests}
 use Rattle.index_law.specs.Laws.{IsAtRest}
 use Rattle.cat_history.specs.declared.op.NameOp.TheVariants as op
 use Rattle.index_core.proofs.MachineLaw.{machine_law, begin_law, idle_weigh}
-use Rattle.index_core.proofs.Stepping.{begins_count, machine_idle, machine_writes}
+use Rattle.index_core.proofs.Stepping.{begins_count, machine_idle, machine_writes, step_facts}
 use Rattle.index_core.proofs.Told.{go_of, done_of}
 use Rattle.index_core.proofs.Stamps.{step_leaves_stamps}
 use Rattle.lone_turn.specs.LoneTurns.{stamp_in}
+use Rattle.lone_turn.specs.CallLogs.{KeepsLayer, KeepsLines, MakesReady, StandsSo, LogStands, LeavesLines}
+use Rattle.lone_turn.proofs.CallLogs.{log_goes, log_ends}
+use Rattle.lone_turn.proofs.InStep.{calls_are_in_step}
+use Rattle.call_stages.specs.Footings.{FootStep}
+use Rattle.call_stages.specs.Lines.{HeldLine}
+use Rattle.call_stages.specs.Prevs.{no_debt}
+use Rattle.cat_history.specs.Records.{change_of}
+use Rattle.node_ops.proofs.CallLaw.{footing_stage}
 
 -- One call is in flight, as the index was s0 before it.
 pub record Lone (s0 s : Index) (i : ℕ) (c : CoreCall) : Type 0 where
@@ -65,6 +73,7 @@ pub record Lone (s0 s : Index) (i : ℕ) (c : CoreCall) : Type 0 where
   pub index : IsIndex s
   pub call : LoneCall (world s0) i (op_of c) (limit_of c) (world s) (party_of (state_with state (length s0.history) machine)) machine
   pub count : count_in machine ≡ count_of c
+  pub log : LogStands state.caller (world s0) (world s) (footing_of machine)
   pub same_base : s.base ≡ s0.base
   pub stamps : stamp_in (world s) ≡ stamp_in (world s0)
   pub weighs : weight_sum (world s) ≤ weight_of s0 + showing (Some machine)
@@ -86,6 +95,10 @@ with_parties cut = record {
 
 merge_with_parties : {name : List ℕ} {w0 w : World} {parties : List Party} → IsMergedSince name w0 w → IsMergedSince name w0 (record w { parties = parties })
 merge_with_parties merge = record { list = merge.list; anchors = merge.anchors; most = merge.most }
+
+-- so are the states of lines
+pub ready_with_parties : {caller : ℕ} {w0 w : World} {parties : List Party} → MakesReady caller w0 w → MakesReady caller w0 (record w { parties = parties })
+ready_with_parties made = record { line = made.line; within = made.within; own = made.own; was_empty = made.was_empty; is = made.is }
 
 -- how many actions it has left
 abbrev pub left_of : Option Running → ℕ
@@ -139,6 +152,24 @@ begun_call s0 i e c n is quiet there here of =
     subst (λ (q : List Party × Party). LoneCall (world s0) i (op_of c) (limit_of c) (record (world s0) { parties = q.0 }) q.1 m)
     (λ k. (parties k, party k)) first
 
+-- it has no log line yet
+begun_line : (v : View) (c : CoreCall) → (footing_of (machine_of v c)).line ≡ None
+begun_line v (call.Put name value limit) = refl
+begun_line v (call.Get name) = refl
+begun_line v (call.Del name limit) = refl
+begun_line v (call.Part low count) = refl
+begun_line v (call.Recheck node version) = refl
+
+begun_log : (s0 : Index) (i : ℕ) (e : PartyState) (c : CoreCall) (n : ℕ) → LogStands e.caller (world s0) (world (started_index s0 i e c n)) (footing_of (machine_of (view_of s0 i) c))
+begun_log s0 i e c n =
+    let m = machine_of (view_of s0 i) c in
+    let stage : (footing_of m).stage ≡ Idle = footing_stage m ∙ machine_idle s0 i c in
+    let line : (footing_of m).line ≡ None = begun_line (view_of s0 i) c in
+    record {
+      layer = refl;
+      lines = subst (λ (f : Stage × Option HeldLine). StandsSo e.caller (world s0) (world (started_index s0 i e c n)) f.0 f.1) (λ k. (sym stage k, sym line k)) (inl ((refl, refl), refl));
+    }
+
 pub lone_start : (s0 s : Index) (i : ℕ) (c : CoreCall) → IsIndex s0 → IsQuiet s0 → Starts s0 i c s → s.spare + most_writes c ≡ s0.spare → IsIndex s → Lone s0 s i c
 lone_start s0 s i c is0 quiet t spare is =
     let is' : IsIndex (started_index s0 i t.state c s.spare) = subst IsIndex t.is is in
@@ -163,6 +194,7 @@ lone_start s0 s i c is0 quiet t spare is =
       index = is';
       call = begun_call s0 i t.state c s.spare is0 quiet t.there here t.of;
       count = begins_count (view_of s0 i) c;
+      log = begun_log s0 i t.state c s.spare;
       same_base = refl;
       stamps = refl;
       weighs = omega arith;
@@ -254,6 +286,28 @@ module _ (s0 s s' : Index) (i : ℕ) (c : CoreCall) (result : Option (Once Place
   same_stamps : stamp_in (world s') ≡ stamp_in (world s0)
   same_stamps = ap (λ (v : Index). stamp_in (world v)) is ∙ step_leaves_stamps s i e o.machine s'.spare o.index at_i refl ∙ o.stamps
 
+  -- what the step makes of the log
+  foot : FootStep s.layout s.generation e.caller (footing_of o.machine) (running_asks o.machine) x (footing_after (running_turned o.machine x)) (reply_of (running_turned o.machine x))
+  foot = (step_facts s i e o.machine o.index at_i refl).foot
+
+  line_at : get_elem? (layered s).whole.lines i ≡ some (footing_of o.machine).line
+  line_at = map_there (λ (d : PartyState). (machine_footing d.machine).line) s.states i e at_i
+
+  debt_at : get_elem? (layered s).whole.debts i ≡ some (footing_of o.machine).debt
+  debt_at = map_there (λ (d : PartyState). (machine_footing d.machine).debt) s.states i e at_i
+
+  log_on : (next : Running) → running_turned o.machine x ≡ Go next → LoneCall (world s0) i (op_of c) (limit_of c) (stepped (world s) i p (running_asks o.machine) (stage_of next)) (moved_on p (stage_of next)) next
+      → LogStands o.state.caller (world s0) (world s') (footing_of next)
+  log_on next turned call_on =
+      let stage = footing_stage next in
+      let step = subst (λ (t : Turn Running (Once Placed)). FootStep s.layout s.generation e.caller (footing_of o.machine) (running_asks o.machine) x (footing_after t) (reply_of t)) turned foot in
+      let trying : Trying (name_asked (op_of c)) (change_of (op_of c)) (world s0) i (stepped (world s) i p (running_asks o.machine) (footing_of next).stage) (moved_on p (footing_of next).stage) =
+      subst (λ (u : Stage). Trying (name_asked (op_of c)) (change_of (op_of c)) (world s0) i (stepped (world s) i p (running_asks o.machine) u) (moved_on p u)) (sym stage) call_on.trying in
+      subst (λ (w : World). LogStands o.state.caller (world s0) w (footing_of next)) (sym (world_is next turned))
+      (subst (λ (u : Stage). LogStands o.state.caller (world s0) (stepped (world s) i p (running_asks o.machine) u) (footing_of next)) stage
+      (log_goes (name_asked (op_of c)) (change_of (op_of c)) (world s0) (layered s) i p (footing_of o.machine) (footing_of next) (running_asks o.machine) x o.index.layered o.call.trying trying line_at debt_at
+      (o.call.stage ∙ sym (footing_stage o.machine)) o.log step refl (calls_are_in_step next)))
+
   pub lone_goes : result ≡ None → Lone s0 s' i c × (suc (left_at s' i) ≤ left_at s i)
   lone_goes going =
       let go = go_of (running_turned o.machine x) (sym turn_told ∙ going) in
@@ -281,6 +335,7 @@ module _ (s0 s s' : Index) (i : ℕ) (c : CoreCall) (result : Option (Once Place
           index = is';
           call = subst (λ (w : World). LoneCall (world s0) i (op_of c) (limit_of c) w (moved_on p (stage_of next)) next) (sym (world_is next go.1)) call_on;
           count = count_stays o.machine next x go.1 ∙ o.count;
+          log = log_on next go.1 call_on;
           same_base = ap (λ (v : Index). v.base) is ∙ o.same_base;
           stamps = same_stamps;
           weighs = omega arith;
@@ -337,6 +392,32 @@ module _ (s0 s s' : Index) (i : ℕ) (c : CoreCall) (result : Option (Once Place
     of_party (once.Again (again.Held word)) end = absurd end
     of_party (once.Again (again.Epoch first second)) end = absurd end
 
+    -- what it leaves of the log
+    ended_log : KeepsLayer (world s0) (stepped (world s) i p (running_asks o.machine) Idle) × LeavesLines (name_asked (op_of c)) o.state.caller (world s0) (stepped (world s) i p (running_asks o.machine) Idle) answer
+    ended_log =
+        log_ends (name_asked (op_of c)) (change_of (op_of c)) (world s0) (layered s) i p (footing_of o.machine) no_debt (running_asks o.machine) x answer o.index.layered o.call.trying line_at
+        (o.call.stage ∙ sym (footing_stage o.machine)) o.log
+        (subst (λ (t : Turn Running (Once Placed)). FootStep s.layout s.generation e.caller (footing_of o.machine) (running_asks o.machine) x (footing_after t) (reply_of t)) done foot)
+        (subst (AfterCall (world s0) i (op_of c) (limit_of c) (world s) p o.machine) done goes).3
+
+    lines_of_party : (r : Once Placed) → LeavesLines (name_asked (op_of c)) o.state.caller (world s0) (stepped (world s) i p (running_asks o.machine) Idle) r
+        → LeavesLines (name_asked (op_of c)) o.state.caller (world s0) (world (stepped_index s i e o.machine s'.spare)) r
+    lines_of_party (once.Worn node word) lines = lines
+    lines_of_party (once.Spent clock) lines = lines
+    lines_of_party (once.Done placed) lines = ⊎_elim
+        (λ (kept : HasKeptList (world s0) (stepped (world s) i p (running_asks o.machine) Idle) × KeepsLines (world s0) (stepped (world s) i p (running_asks o.machine) Idle)). inl kept)
+        (λ (made : IsMergedSince (name_asked (op_of c)) (world s0) (stepped (world s) i p (running_asks o.machine) Idle) × MakesReady o.state.caller (world s0) (stepped (world s) i p (running_asks o.machine) Idle)).
+        inr (merge_with_parties made.0, ready_with_parties made.1))
+        lines
+    lines_of_party (once.Again (again.NeedsSplit n)) made = ready_with_parties made
+    lines_of_party (once.Again again.NoFree) lines = lines
+    lines_of_party (once.Again (again.Locked n word)) lines = lines
+    lines_of_party (once.Again (again.Moved n first second)) lines = lines
+    lines_of_party (once.Again (again.Hops count)) lines = lines
+    lines_of_party (once.Again again.LogFull) lines = lines
+    lines_of_party (once.Again (again.Held word)) lines = lines
+    lines_of_party (once.Again (again.Epoch first second)) lines = lines
+
     weighs : weight_of s' ≤ weight_of s0 + added_by (op_of c) answer
     weighs =
         let op_same : op_in o.machine ≡ op_of c = op_told (op_of c) o.machine o.call.of in
@@ -359,6 +440,8 @@ module _ (s0 s s' : Index) (i : ℕ) (c : CoreCall) (result : Option (Once Place
       generation = same_generation;
       base = ap (λ (v : Index). v.base) is ∙ o.same_base;
       stamps = same_stamps;
+      layer = subst (KeepsLayer (world s0)) (sym (ap world is)) ended_log.0;
+      lines = subst (λ (w : World). LeavesLines (name_asked (op_of c)) o.state.caller (world s0) w answer) (sym (ap world is)) (lines_of_party answer ended_log.1);
       weighs = weighs;
     }
 

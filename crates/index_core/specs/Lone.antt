@@ -27,8 +27,9 @@ use Rattle.index_law.specs.Worlds.{facts, written}
 use Rattle.lone_law.specs.Rooms.{target_node}
 use Rattle.lone_law.specs.Merging.{NextIsWorn, TriesMerge}
 use Rattle.lone_law.specs.LoneCalls.{FindsWorn, IsAnswered}
-use Rattle.lone_law.specs.Splitting.{LacksLine}
+use Rattle.lone_law.specs.Splitting.{HasFree, HasLine, LacksLine}
 use Rattle.lone_law.specs.Locks.{locks_of, locks_in}
+use Rattle.lone_turn.specs.CallLogs.{KeepsLayer, KeepsLines, MakesReady, LeavesLines}
 use Rattle.lone_turn.specs.LoneTurns.{stamp_in}
 use Rattle.updater.specs.declared.terms.Turned.{Turned}
 use Rattle.index_core.specs.declared.party.CoreCall.{CoreCall}
@@ -188,6 +189,22 @@ LeavesList c (whole.Spent clock) s new = HasSameList s new
 LeavesList c whole.Full s new = HasSameList s new
 LeavesList c (whole.Worn node word) s new = Unit {0}
 
+-- The call needs no turn of the updater: it is a get or a part of a scan, or its caller has a log line that is EMPTY and,
+-- for a put, some node is FREE that can be locked.
+abbrev pub NeedsNoTurn : ℕ → CoreCall → Index → Type 0
+NeedsNoTurn caller (call.Put name value limit) s =
+    HasLine s.layout s.words caller × HasFree s.layout s.generation s.words
+NeedsNoTurn caller (call.Del name limit) s = HasLine s.layout s.words caller
+NeedsNoTurn caller _ s = Unit {0}
+
+-- The search layer leads each key where it led. The same nodes are listed, and each log line has the state that it had;
+-- or the call splits or merges by the shape, and one line of its caller, which was EMPTY, is READY, and each other line
+-- has the state that it had.
+pub record LeavesLog (caller : ℕ) (c : CoreCall) (s new : Index) : Type 0 where
+  pub layer : KeepsLayer (world s) (world new)
+  pub lines : (HasSameList s new × KeepsLines (world s) (world new)) ⊎
+      ((SplitsFor c s new ⊎ MergesFor c s new) × MakesReady caller (world s) (world new))
+
 -- How many more times one node can be locked.
 abbrev pub node_locks : Index → ℕ → ℕ
 node_locks s n = locks_of s.generation (version_in s.layout s.words n)
@@ -274,6 +291,8 @@ pub record TriesAlone (old : Index) (caller : ℕ) (c : CoreCall) (new : Index) 
   pub generation : new.generation ≡ old.generation
   pub base : new.base ≡ old.base
   pub stamps : stamp_in (world new) ≡ stamp_in (world old)
+  pub layer : KeepsLayer (world old) (world new)
+  pub lines : LeavesLines (name_asked (op_of c)) state.caller (world old) (world new) answer
   pub weighs : weight_of new ≤ weight_of old + added_by (op_of c) answer
 
 -- A turn of the updater with stamp 1 and release 1, and one try of the call behind it.
@@ -300,5 +319,6 @@ pub record RunsAlone (old : Index) (caller : ℕ) (c : CoreCall) (new : Index) (
   pub base : new.base ≡ old.base
   pub list : LeavesList c result old new
   pub stamps : KeepsStamps old new
+  pub log : NeedsNoTurn caller c old → LeavesLog caller c old new
   -- it weighs one more at most, and that only where it adds a name
   pub weighs : weight_of new ≤ weight_of old + added_whole (op_of c) result
