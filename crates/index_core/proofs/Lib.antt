@@ -40,3 +40,4 @@ pub mod Opening
 pub mod RestImages
 pub mod InUse
 pub mod ScheduleCrashes
+pub mod Logs

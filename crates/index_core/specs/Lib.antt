@@ -19,3 +19,4 @@ pub mod Fulls
 pub mod Rounds
 pub mod Opened
 pub mod ScheduleCrashes
+pub mod Logs

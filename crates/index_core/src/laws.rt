@@ -109,3 +109,12 @@ pub fn opening_law()
     ensures index { OpeningIsIndex }
     ensures unused { OpeningIsUnused }
 {}
+
+ghost use Rattle.index_core.specs.Logs.{LogIsCounted, QuietHasNoneOpen};
+
+/// With nothing in flight each log line is EMPTY or READY. A lone call that needs no turn of the updater leaves one line
+/// more READY where it splits or merges by the shape, and else as many as there were.
+pub fn log_law()
+    ensures none_open { QuietHasNoneOpen }
+    ensures counted { LogIsCounted }
+{}

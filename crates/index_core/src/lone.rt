@@ -32,6 +32,10 @@ impl Core {
     ///
     /// Where the caller has no EMPTY log line, or no node is FREE, the updater's party makes a turn, which empties the
     /// log and frees merged nodes, and the call is made again. So it finds no room only where no turn could help.
+    ///
+    /// A call that needs no turn (`NeedsNoTurn`) keeps the search layer. It leaves one log line of its caller READY that
+    /// was EMPTY, if it splits or merges, also where its node is worn when it is made again; and no other line's state
+    /// changes.
     pub fn run_alone<L: Ledger>(
         &mut self,
         caller: u64,

@@ -1,5 +1,5 @@
 -- What a lone call leaves of the log lines and of the search layer, step by step.
-use Rattle.std.proofs.Common.{◌≡◌, ◌≢◌, ℕ, suc, ◌+◌, ◌*◌, ◌/◌, ◌<◌, ◌≤◌, ◌⊎◌, inl, inr, ⊎_elim, Bool, true, false, List, [], ◌∷◌, ◌++◌, length, refl, sym, ap, ◌∙◌, subst, arith, slice_set}
+use Rattle.std.proofs.Common.{◌≡◌, ◌≢◌, ℕ, ◌<◌, ◌⊎◌, inl, inr, ⊎_elim, Bool, true, false, List, [], ◌∷◌, ◌++◌, length, refl, sym, ap, ◌∙◌, subst, arith, slice_set}
 use Rattle.std.specs.Prelude.{Option, Some, None, IfSome}
 use Rattle.std.proofs.lemmas.Bool.{cases_eq}
 use Rattle.std.proofs.lemmas.List.{set-get_or, length-append}
@@ -7,23 +7,21 @@ use mathlib.Core.Option.{some}
 use lib.ListN.{get_elem?}
 use Rattle.pm_words.specs.declared.layout.Layout.{Layout}
 use Rattle.pm_words.specs.declared.action.Action.{Action}
-use Rattle.pm_words.specs.declared.action.Action.TheVariants.{Load, Drain}
-use Rattle.pm_words.specs.Locations.{Line, Cached, Durable, address_of, at, leaf_count}
+use Rattle.pm_words.specs.Locations.{Line, Cached, at, leaf_count}
 use Rattle.pm_words.specs.Rows.{IsRow, acted, got}
 use Rattle.pm_words.proofs.Kept.{action_address-drain}
 use Rattle.pm_words.specs.declared.again.Again.TheVariants as again
 use Rattle.cat_history.specs.declared.op.Change.{Change}
-use Rattle.cat_history.specs.declared.op.Write.{Write}
 use Rattle.data_node.specs.Spots.{Spot}
 use Rattle.call_stages.specs.declared.once.Once.{Once}
 use Rattle.call_stages.specs.declared.once.Once.TheVariants as once
 use Rattle.call_stages.specs.declared.once.Placed.{Placed}
-use Rattle.call_stages.specs.Stages.{Held, Grip, Stage, Idle, Saw, Wears, Holds, Eyes, Splits, Leaves, Meets, Joins, Filling, Linked, Gathered, Joined, Tells, counted, placed_in}
+use Rattle.call_stages.specs.Stages.{Grip, Stage, Idle, Saw, Wears, Holds, Eyes, Splits, Leaves, Meets, Joins, Tells, counted, placed_in}
 use Rattle.call_stages.specs.Kinds.{Step}
 use Rattle.call_stages.specs.Lines.{HeldLine, line_address, Marks, fills, opens, readies, Notes, passes_line, takes, looks_up, notes, keeps_safe}
 use Rattle.call_stages.specs.Footings.{Footing, IsOpenOf, Minds, HasLine, IsKnownEmpty, IsLeftToTurn, KeepsOrLetsGo, Waits, FootStep}
 use Rattle.call_stages.specs.Footings as foot
-use Rattle.call_stages.specs.Prevs.{Debt, Prevs, IsSwitch, IsJoin}
+use Rattle.call_stages.specs.Prevs.{Prevs, IsSwitch, IsJoin}
 use Rattle.index_law.specs.Lines.{line_in, SureLine}
 use Rattle.index_law.specs.LoneShapes.{has_merged, IsOut}
 use Rattle.index_law.specs.Worlds.{Party, World, facts, stepped, moved_on, written}
@@ -31,9 +29,9 @@ use Rattle.index_law.proofs.MergedOnce.{step_merges_once}
 use Rattle.index_law.proofs.Noting.{line-here}
 use Rattle.index_law.proofs.Own.{allow_law, sure_within}
 use Rattle.search_layer.specs.Leaves.{LayerWords, layer_in, layer_of}
-use Rattle.turn_law.specs.Covers.{Lines, set_at, empty_state, ready_state}
+use Rattle.turn_law.specs.Covers.{Lines, set_at, ready_state}
 use Rattle.turn_law.proofs.Columns.{here, other}
-use Rattle.turn_row.specs.Columns.{line_field, line_count, lines_in}
+use Rattle.turn_row.specs.Columns.{line_field}
 use Rattle.layer_law.specs.Turnings.{line_number}
 use Rattle.layer_law.specs.Layers.{Layered, IsLayered}
 use Rattle.layer_law.proofs.FactTies.{Rest, rest_in, node_rest}
@@ -41,9 +39,9 @@ use Rattle.layer_law.proofs.CallBeside.{line_beside, prev_beside}
 use Rattle.layer_law.proofs.CallDrains.{drained, drained_path}
 use Rattle.layer_law.proofs.CallLines.{line_tie}
 use Rattle.layer_law.proofs.CallNotes.{stored, field_else, state_lines}
-use Rattle.lone_law.specs.Merging.{HasKeptList, IsMergedSince}
-use Rattle.lone_law.specs.Tries.{Trying, HasShape, is_same, was_cut, was_joined, HasWritten, HasKeptOrMerged, Says, is_cut}
-use Rattle.lone_turn.specs.CallLogs.{KeepsLayer, KeepsLines, MakesReady, HasSwitched, HasNotSwitched, IsOwnLine, StandsSo, LogStands, LeavesLines, IsInStep, LogGoes, LogEnds}
+use Rattle.lone_law.specs.Merging.{HasKeptList}
+use Rattle.lone_law.specs.Tries.{Trying, HasShape, is_same, was_cut, was_joined, Says, is_cut}
+use Rattle.lone_turn.specs.CallLogs.{KeepsLayer, KeepsLines, MakesReady, HasSwitched, HasNotSwitched, IsOwnLine, StandsSo, LeavesLines, IsInStep, LogGoes, LogEnds}
 use Rattle.lone_turn.specs.LoneTurns.{line_state}
 use Rattle.lone_turn.proofs.Switching.{cut_moves, Told, answer_told}
 

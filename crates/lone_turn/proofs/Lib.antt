@@ -10,3 +10,4 @@ pub mod Ending
 pub mod Switching
 pub mod InStep
 pub mod CallLogs
+pub mod ReadyCounts

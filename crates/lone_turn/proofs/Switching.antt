@@ -1,5 +1,5 @@
 -- When a call makes its switch, and how it ends.
-use Rattle.std.proofs.Common.{◌≡◌, ◌≢◌, ℕ, ◌⊎◌, inl, inr, Bool, true, false, refl, sym, ap, ◌∙◌, subst}
+use Rattle.std.proofs.Common.{◌≡◌, ◌≢◌, ℕ, ◌⊎◌, inl, inr, Bool, true, false, refl, sym, subst}
 use Rattle.std.specs.Prelude.{Option, Some, None}
 use Rattle.pm_words.specs.declared.layout.Layout.{Layout}
 use Rattle.pm_words.specs.declared.action.Action.{Action}
@@ -13,7 +13,7 @@ use Rattle.call_stages.specs.Prevs.{IsSwitch}
 use Rattle.call_stages.specs.Kinds.{Look, turns_back, is_worn, wears, roams, roams_status, sees, misses, times, learns, decides, glances, finds_live, watches, watches_next, turns_away, steps_back, wanders, Split, fills, lights, switches, glances_left, glances_fresh, drains_left, drains_fresh, trims, splits, Merge, meets, knows_own, knows_right, copies, takes_up, puts_down, parts, gathers, joins, glances_joined, drains_joined, retires, yields, merges, peeks, peeks_status, eyes, eyes_free, passes, loses, claims, publishes, leaves, Step, looks, locks, stores, commits, drains, counts, unlocks, GivesUp, Answers, writes, reads, is_spent, has_no_room, refuses, IsRefusal}
 use Rattle.index_law.specs.LoneShapes.{has_merged}
 use Rattle.lone_law.specs.Tries.{is_cut}
-use Rattle.lone_turn.specs.CallLogs.{HasSwitched, HasNotSwitched}
+use Rattle.lone_turn.specs.CallLogs.{HasNotSwitched}
 
 loose_uncut : (s : Stage) → IsLoose s → is_cut s ≡ false
 loose_uncut Idle loose = refl

@@ -1,5 +1,5 @@
 -- What a call leaves of the log lines and of the search layer that is made with nothing else in flight.
-use Rattle.std.specs.Prelude.{◌≡◌, ◌≢◌, ℕ, ◌/◌, ◌<◌, ◌⊎◌, true, false, List, Option, Some, None}
+use Rattle.std.specs.Prelude.{◌≡◌, ◌≢◌, ℕ, ◌+◌, ◌/◌, ◌<◌, ◌⊎◌, true, false, List, Option, Some, None}
 use Rattle.call_stages.specs.declared.once.Once.{Once}
 use Rattle.call_stages.specs.declared.once.Once.TheVariants as once
 use Rattle.call_stages.specs.declared.once.Placed.{Placed}
@@ -25,7 +25,8 @@ use Rattle.turn_row.specs.Columns.{line_count}
 use Rattle.layer_law.specs.Turnings.{line_number}
 use Rattle.lone_law.specs.Merging.{HasKeptList, IsMergedSince}
 use Rattle.lone_law.specs.Tries.{Trying, Says, is_cut}
-use Rattle.lone_turn.specs.LoneTurns.{line_state}
+use Rattle.lone_turn.specs.LoneTurns.{line_state, is_ready}
+use Rattle.updater.specs.Events.{how_many}
 
 -- The search layer leads each key where it led.
 abbrev pub KeepsLayer : World → World → Type 0
@@ -42,6 +43,15 @@ pub record MakesReady (caller : ℕ) (w0 w : World) : Type 0 where
   pub own : line / 8 ≡ caller
   pub was_empty : line_state w0 line ≡ empty_state
   pub is : line_state w ≡ set_at (line_state w0) line ready_state
+
+-- How many log lines are READY.
+abbrev pub ready_lines : World → ℕ
+ready_lines w = how_many (is_ready w) (line_count w.layout)
+
+-- Those that are counted so are one more, or as many.
+abbrev pub ReadyAreCounted : Type 0
+ReadyAreCounted = (caller : ℕ) (w0 w : World) → w.layout ≡ w0.layout →
+    (KeepsLines w0 w → ready_lines w ≡ ready_lines w0) × (MakesReady caller w0 w → ready_lines w ≡ ready_lines w0 + 1)
 
 -- The call has made the switch of its split or of its merge, or it hasn't.
 abbrev pub HasSwitched : Stage → Type 0

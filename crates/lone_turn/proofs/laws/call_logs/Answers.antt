@@ -1,5 +1,6 @@
 use Rattle.lone_turn.proofs.CallLogs.{log_goes, log_ends}
 use Rattle.lone_turn.proofs.InStep.{calls_are_in_step}
+use Rattle.lone_turn.proofs.ReadyCounts.{ready_are_counted}
 use Rattle.lone_turn.proofs.laws.call_logs.Goals as goal
 
 pub returns-clause-in_step : goal.returns-clause-in_step
@@ -10,3 +11,6 @@ returns-clause-goes c = log_goes
 
 pub returns-clause-ends : goal.returns-clause-ends
 returns-clause-ends c = log_ends
+
+pub returns-clause-counted : goal.returns-clause-counted
+returns-clause-counted c = ready_are_counted
