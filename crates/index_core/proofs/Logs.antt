@@ -1,9 +1,8 @@
 -- How many log lines lone calls leave READY.
-use Rattle.std.proofs.Common.{◌≡◌, ◌⊎◌, inl, inr, ⊎_elim, ap}
-use Rattle.pm_words.specs.declared.layout.Layout.{Layout}
+use Rattle.std.proofs.Common.{◌⊎◌, inl, inr, ⊎_elim}
 use Rattle.lone_turn.specs.CallLogs.{KeepsLines, MakesReady}
 use Rattle.lone_turn.proofs.ReadyCounts.{ready_are_counted}
-use Rattle.index_core.specs.Indexes.{Index, world}
+use Rattle.index_core.specs.Indexes.{world}
 use Rattle.index_core.specs.Lone.{HasSameList, MergesFor, SplitsFor}
 use Rattle.index_core.specs.Logs.{LogIsCounted, QuietHasNoneOpen}
 use Rattle.index_core.proofs.LoneTurning.{quiet_is_idle_for_turns}

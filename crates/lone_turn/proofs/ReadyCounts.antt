@@ -1,13 +1,12 @@
 -- How many log lines are READY, where one more is.
-use Rattle.std.proofs.Common.{◌≡◌, ◌≢◌, ℕ, zero, suc, ◌+◌, ◌<◌, ◌==◌, ⊎_elim, Bool, true, false, cond, refl, sym, ap, ◌∙◌, subst, arith}
+use Rattle.std.proofs.Common.{◌≡◌, ◌≢◌, ℕ, zero, suc, ◌+◌, ◌<◌, ◌==◌, ⊎_elim, Bool, true, false, cond, refl, sym, ap, ◌∙◌, arith}
 use Rattle.std.proofs.lemmas.Bool.{cases_eq, eq-eqb}
 use Rattle.pm_words.specs.declared.layout.Layout.{Layout}
-use Rattle.index_law.specs.Worlds.{World}
 use Rattle.turn_law.specs.Covers.{ready_state}
 use Rattle.turn_law.proofs.Columns.{here, other}
 use Rattle.turn_row.specs.Columns.{line_count}
 use Rattle.updater.specs.Events.{how_many}
-use Rattle.lone_turn.specs.CallLogs.{KeepsLines, MakesReady, ReadyAreCounted, ready_lines}
+use Rattle.lone_turn.specs.CallLogs.{ReadyAreCounted}
 use Rattle.lone_turn.specs.LoneTurns.{line_state, is_ready}
 
 count_same : (test then : ℕ → Bool) (n : ℕ) → ((k : ℕ) → k < n → then k ≡ test k) → how_many then n ≡ how_many test n
