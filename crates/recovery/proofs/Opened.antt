@@ -147,6 +147,8 @@ module _ (from row : Row) (recovered : IsRecoveredTo from row) where
           keeps = keeps;
           history = refl;
           anchors = unused.anchors;
+          rests = is_opening.rests;
+          tells = is_opening.tells;
           weighs = weighs;
           gone = unused.gone;
           stamps = unused.stamps;
@@ -167,6 +169,8 @@ with_room from s room is = record {
   keeps = is.keeps;
   history = is.history;
   anchors = is.anchors;
+  rests = is.rests;
+  tells = is.tells;
   weighs = is.weighs;
   gone = is.gone;
   stamps = is.stamps;

@@ -1,6 +1,7 @@
 -- What an image is as it is opened as an index, and why it isn't opened.
 use Rattle.std.specs.Prelude.{◌≡◌, suc, []}
 use Rattle.pm_words.specs.Images.{Row}
+use Rattle.pm_words.specs.Locations.{Cached, Durable}
 use Rattle.cat_history.specs.Maps.{map_of}
 use Rattle.cat_history.specs.Replays.{pairs_of}
 use Rattle.version_lock.specs.Versions.{IsGeneration}
@@ -16,6 +17,10 @@ use Rattle.index_core.specs.Indexes.{Index, IsIndex, parties_of, world}
 use Rattle.index_core.specs.Fulls.{HasLowStamps}
 use Rattle.index_core.specs.Lone.{IsQuiet, locks_left}
 use Rattle.index_core.specs.PartyStates.{idle_states}
+use Rattle.recovery_law.specs.Rest.{Rests}
+use Rattle.recovery_law.specs.Rows.{columns_in}
+use Rattle.opening_law.specs.Openings.{TellsList}
+use Rattle.image_recovery.specs.Plans.{columns, list_of}
 use Rattle.image_recovery.specs.declared.recovering.Refused.{Refused}
 use Rattle.image_recovery.specs.declared.recovering.Refused.TheVariants as refused
 use Rattle.recovery.specs.declared.opening.OpenFault.{OpenFault}
@@ -23,7 +28,9 @@ use Rattle.recovery.specs.declared.opening.OpenFault.TheVariants.{Damaged, Gener
 
 -- The index is that of the image. Its base is the image's map, in rising order of names, and nothing is written yet. It
 -- has the image's shape and weight, in the next generation. No call is in flight, no node was locked in its run, and
--- none is GONE or has a stamp.
+-- none is GONE or has a stamp. Both rows of its words are those of the image once it is recovered, all of it durable, with
+-- an empty log, a search layer that is exactly the list's, and no live slot out of its node's range; and the volatile
+-- words tell the list.
 pub record IsOpenedFrom (image : Row) (s : Index) : Type 0 where
   pub sound : IsSoundByAll image.layout image.words
   pub next : IsGeneration (suc (header_generation image.layout image.words))
@@ -36,6 +43,9 @@ pub record IsOpenedFrom (image : Row) (s : Index) : Type 0 where
   pub keeps : IsMapOf image.layout image.words (map_of s.base)
   pub history : s.history ≡ []
   pub anchors : anchors_in (world s) ≡ image_anchors image.layout image.words
+  pub rests : Rests image.layout (list_of image) (columns image) (columns_in s.layout s.words Cached)
+      (columns_in s.layout s.words Durable)
+  pub tells : TellsList s.layout (list_of image) s.words
   pub weighs : index_weight s.layout (facts (world s)) ≡ image_weight image.layout image.words
   pub gone : gone_nodes s.layout.nodes (facts (world s)) ≡ 0
   pub stamps : HasLowStamps s
