@@ -1,16 +1,11 @@
-pub mod CoreMaps
 pub mod SeededCalls
 pub mod LonePlans
-pub mod LoneRoundSteps
 pub mod Outcomes
-pub mod Played
+pub mod PlayedReports
 pub mod ReportCalls
 pub mod RunEnds
-pub mod ScanSteps
 pub mod ScriptCalls
-pub mod Summing
 pub mod ImageFaults
 pub mod FileOutcomes
 pub mod FileRuns
 pub mod WordLists
-pub mod RoundTurns

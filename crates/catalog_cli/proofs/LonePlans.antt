@@ -16,7 +16,7 @@ use Rattle.cat_script.specs.declared.line.Line.{Line}
 use Rattle.cat_script.specs.declared.line.Line.TheVariants.{Blank, Call, Join, Crash, Updater, Limit}
 use Rattle.cat_script.specs.declared.script.Script.{Script}
 use Rattle.catalog_cli.specs.Built.{is_of_other, unbuilt_call, first_word, first_unbuilt}
-use Rattle.catalog_cli.specs.LoneCalls.{AreLoneCalls}
+use Rattle.core_rounds.specs.LoneCalls.{AreLoneCalls}
 use Rattle.catalog_cli.specs.declared.status.Verb.{Verb}
 use Rattle.catalog_cli.specs.declared.status.Verb.TheVariants as word
 

@@ -14,7 +14,7 @@ use Rattle.cat_script.specs.declared.line.Line.TheVariants.{Blank, Call, Join, C
 use Rattle.cat_script.specs.declared.script.Script.{Script}
 use Rattle.cat_text.specs.ReportGrammar.{IsReportOp}
 use Rattle.shapes.proofs.NameLists.{all_append, all_first, all_second}
-use Rattle.catalog_cli.specs.LoneCalls.{AreReportCalls, IsReportCall}
+use Rattle.core_rounds.specs.LoneCalls.{AreReportCalls, IsReportCall}
 
 -- a line whose call, if it is one, is that of a report
 abbrev IsReportLine : Line → Type 0

@@ -15,17 +15,18 @@ use Rattle.sound_image.specs.Weights.{image_weight}
 use Rattle.std.specs.FinMap.{len}
 use Rattle.index_law.specs.Anchors.{anchors_in, image_anchors}
 use Rattle.index_core.specs.Indexes.{Index, map_of_index, world}
-use Rattle.catalog_cli.specs.CoreMaps.{HasNoLines, IsImageOf, IsNextRun, IsOfRun, IsOpenedMap, calls_left_of}
+use Rattle.core_rounds.specs.CoreMaps.{HasNoLines, IsImageOf, IsNextRun, IsOfRun, IsOpenedMap, calls_left_of}
 use Rattle.recovery.specs.Opened.{IsOpenFault}
-use Rattle.catalog_cli.specs.Reports.{ArePlayedRounds, IsAccepted, IsRefusedBy, map_end, shape_end}
-use Rattle.catalog_cli.specs.Rounds.{RoundsEndWithTurn}
+use Rattle.catalog_cli.specs.Reports.{IsAccepted, IsRefusedBy}
+use Rattle.core_rounds.specs.Rounds.{ArePlayedRounds, map_end, shape_end}
+use Rattle.core_rounds.specs.Rounds.{RoundsEndWithTurn}
 use Rattle.catalog_cli.specs.Runs.{IsImageAfter, IsOpenable, IsPlayRefused, IsRunOn}
 use Rattle.catalog_cli.specs.Statuses.{status_of_open}
 use Rattle.recovery.specs.declared.opening.OpenFault.{OpenFault}
 use Rattle.recovery.specs.declared.opening.OpenFault.TheVariants as opening
 use Rattle.catalog_cli.specs.declared.status.Status.{Status}
 use Rattle.catalog_cli.specs.declared.status.Status.TheVariants as status
-use Rattle.catalog_cli.proofs.Played.{rounds-paid}
+use Rattle.core_rounds.proofs.Played.{rounds-paid}
 
 pub opened-openable : (image : Row) (writes : ℕ) (s : Index) → IsOpenedMap image writes s → IsOpenable image
 opened-openable image writes s is = record { sound = is.sound; keeps = is.keeps; next = is.next }

@@ -1,6 +1,6 @@
 -- How many calls a script has.
-use Rattle.std.proofs.Common.{◌≡◌, ℕ, ◌+◌, ◌*◌, ◌<◌, ◌≤◌, List, [], ◌∷◌, ◌++◌, length, get_or, drop, sum_by, refl, sym, ap, ◌∙◌, arith, inl, inr}
-use Rattle.std.proofs.lemmas.List.Sums.{sum_by-cons, sum_by-drop_more, sum_by_push}
+use Rattle.std.proofs.Common.{◌≡◌, ℕ, ◌+◌, ◌≤◌, List, [], ◌∷◌, ◌++◌, length, sum_by, refl, sym, ap, ◌∙◌, arith, inl, inr}
+use Rattle.std.proofs.lemmas.List.Sums.{sum_by-cons, sum_by_push}
 use Rattle.cat_history.specs.declared.plan.RoundPlan.{RoundPlan}
 use Rattle.cat_script.specs.Limits.{call_count}
 use Rattle.cat_script.specs.Rounds.{calls_in as asked_in, AreEnded, AreRounds}
@@ -8,7 +8,7 @@ use Rattle.cat_script.specs.Scripts.{IsScript}
 use Rattle.cat_script.specs.declared.line.Line.{Line}
 use Rattle.cat_script.specs.declared.line.Line.TheVariants.{Blank, Call, Join, Crash, Updater, Limit}
 use Rattle.cat_script.specs.declared.script.Script.{Script}
-use Rattle.catalog_cli.specs.LoneCalls.{calls_in}
+use Rattle.core_rounds.specs.LoneCalls.{calls_in}
 
 abbrev ops_count : RoundPlan → ℕ
 ops_count plan = length plan.ops
@@ -68,17 +68,3 @@ calls-of-script bytes script is =
     let as_many = counted is.said in
     let limit = is.limits.calls in
     omega arith
-
--- one round fewer is to come
-pub calls-to-come : (plans : List RoundPlan) (i : ℕ) (plan : RoundPlan) → i < length plans → plan ≡ get_or plans i plan →
-    calls_in (drop i plans) ≡ length plan.ops + calls_in (drop (i + 1) plans)
-calls-to-come plans i plan less is =
-    sum_by-drop_more (λ (p : RoundPlan). length p.ops) plans i plan less ∙ ap (λ (p : RoundPlan). length p.ops + calls_in (drop (i + 1) plans)) (sym is)
-
--- what the rest needs of calls is enough for one round,
-pub calls-of-one : (one rest most left : ℕ) → (one + rest) * most ≤ left → one * most ≤ left
-calls-of-one one rest most left enough = omega (arith, enough)
-
--- and then for the others
-pub calls-of-rest : (one rest most left left' : ℕ) → (one + rest) * most ≤ left → left ≤ left' + one * most → rest * most ≤ left'
-calls-of-rest one rest most left left' enough taken = omega (arith, enough, taken)

@@ -30,11 +30,11 @@ use Rattle.cat_text.specs.declared.report.RoundReport.{RoundReport}
 use Rattle.cat_text.specs.declared.summary.Summary.{Summary}
 use Rattle.cat_history.specs.declared.plan.RoundPlan.{RoundPlan}
 use Rattle.catalog_cli.specs.Headline.{done, all_done, IsSummaryOf}
-use Rattle.catalog_cli.specs.Reports.{ArePlayedRounds}
-use Rattle.catalog_cli.specs.Rounds.{IsPlayedRound}
-use Rattle.catalog_cli.proofs.Played.{only-round, paid-round}
-use Rattle.catalog_cli.specs.LoneCalls.{AreLoneCalls, AreReportCalls, IsReportCall, calls_in}
-use Rattle.catalog_cli.specs.Summaries.{IsWithin, full_in, is_full, summary_of}
+use Rattle.core_rounds.specs.Rounds.{ArePlayedRounds}
+use Rattle.core_rounds.specs.Rounds.{IsPlayedRound}
+use Rattle.catalog_cli.proofs.PlayedReports.{only-round, paid-round}
+use Rattle.core_rounds.specs.LoneCalls.{AreLoneCalls, AreReportCalls, IsReportCall, calls_in}
+use Rattle.core_rounds.specs.Summaries.{IsWithin, full_in, is_full, summary_of}
 
 -- ---- what the calls are
 

@@ -25,11 +25,12 @@ use Rattle.pm_words.specs.declared.layout.Layout.{Layout}
 use Rattle.catalog_cli.specs.Built.{unbuilt_command, IsCommandWord}
 use Rattle.catalog_cli.specs.Files.{Formats, FormatsSome, HasBytes, HasFile, HasImage, HasNoFile, ListsSome}
 use Rattle.catalog_cli.specs.Files.{ListsWords, NamesFile, RunsScript, file_of, formatted_line, lines_told}
-use Rattle.catalog_cli.specs.Reports.{ArePaidFromEmpty, IsAccepted, IsRefusedBy, IsReportOf, empty_opening}
-use Rattle.catalog_cli.specs.Rounds.{IsPlayedRound}
+use Rattle.catalog_cli.specs.Reports.{IsAccepted, IsRefusedBy, IsReportOf, empty_opening}
+use Rattle.core_rounds.specs.Rounds.{ArePaidFromEmpty}
+use Rattle.core_rounds.specs.Rounds.{IsPlayedRound}
 use Rattle.catalog_cli.specs.Runs.{AreBytesLeft, HasScript, IsFileAfterRun, IsNoScript, IsOpenable}
 use Rattle.catalog_cli.specs.Runs.{IsRefusedOnFile, IsRunFileCause, IsRunOnFile, IsRunRefusal}
-use Rattle.catalog_cli.specs.Summaries.{full_in, summary_of}
+use Rattle.core_rounds.specs.Summaries.{full_in, summary_of}
 use Rattle.catalog_cli.specs.declared.status.ImageRefusal.{ImageRefusal}
 use Rattle.catalog_cli.specs.declared.status.ImageRefusal.TheVariants as image
 use Rattle.catalog_cli.specs.declared.status.Verb.{Verb}

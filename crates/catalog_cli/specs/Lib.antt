@@ -1,11 +1,7 @@
 pub mod Statuses
-pub mod Summaries
 pub mod Built
 pub mod Files
-pub mod Rounds
 pub mod Reports
 pub mod Runs
 pub mod Headline
-pub mod LoneCalls
-pub mod CoreMaps
 pub mod Refused

@@ -21,7 +21,7 @@ use Rattle.shapes.specs.Anchors.{Anchors}
 use Rattle.shapes.specs.ShapeRounds.{anchors_end, puts_added, FullIsPaid}
 use Rattle.index_law.specs.Anchors.{image_anchors}
 use Rattle.catalog_cli.specs.Built.{first_unbuilt}
-use Rattle.catalog_cli.specs.Rounds.{IsPlayedRound}
+use Rattle.core_rounds.specs.Rounds.{ArePaidRounds, ArePlayedRounds}
 use Rattle.catalog_cli.specs.declared.status.Verb.{Verb}
 use Rattle.catalog_cli.specs.declared.status.Status.{Status}
 use Rattle.catalog_cli.specs.declared.status.Status.TheVariants as status
@@ -59,42 +59,6 @@ IsRefusedBy callers bytes status.Shelf = ⊥
 IsRefusedBy callers bytes status.NoMemory = ⊥
 IsRefusedBy callers bytes (status.Image refusal) = ⊥
 IsRefusedBy callers bytes (status.NotBuilt verb) = IsUnbuiltScript callers bytes verb
-
--- ---- rounds
-
--- Each round of the plan is played and reported, the first on the base and its shape, and each later one on the map and
--- the shape that the calls of the one before it made of them. In each there can be as many members as nodes.
-abbrev pub ArePlayedRounds : ℕ → ℕ → Map → Anchors → List RoundPlan → List RoundReport → Type 0
-ArePlayedRounds slots nodes base anchors [] [] = Unit {0}
-ArePlayedRounds slots nodes base anchors [] (report ∷ reports) = ⊥
-ArePlayedRounds slots nodes base anchors (plan ∷ plans) [] = ⊥
-ArePlayedRounds slots nodes base anchors (plan ∷ plans) (report ∷ reports) =
-    IsPlayedRound slots nodes base anchors plan report (writes_of report.records) ×
-    ArePlayedRounds slots nodes (after_all base (writes_of report.records))
-    (anchors_end slots base anchors report.records) plans reports
-
--- The map once the writes of all these rounds are done on the base, in their order,
-abbrev pub map_end : Map → List RoundReport → Map
-map_end base [] = base
-map_end base (report ∷ reports) = map_end (after_all base (writes_of report.records)) reports
-
--- and the shape that follows the last one.
-abbrev pub shape_end : ℕ → Map → Anchors → List RoundReport → Anchors
-shape_end slots base anchors [] = anchors
-shape_end slots base anchors (report ∷ reports) =
-    shape_end slots (after_all base (writes_of report.records)) (anchors_end slots base anchors report.records) reports
-
--- In each round a call is answered full only where all nodes are paid for by the weight at the opening, and the slots
--- of one by the names then, together with the puts since then, up to the end of that round, that added a name.
-abbrev pub ArePaidRounds : ℕ → ℕ → ℕ → ℕ → List RoundReport → Type 0
-ArePaidRounds slots nodes weighs names [] = Unit {0}
-ArePaidRounds slots nodes weighs names (report ∷ reports) =
-    All (FullIsPaid slots nodes (weighs + puts_added report.records) (names + puts_added report.records)) report.records
-    × ArePaidRounds slots nodes (weighs + puts_added report.records) (names + puts_added report.records) reports
-
--- The same from an empty catalogue: its one member weighs half as many as a node has slots.
-abbrev pub ArePaidFromEmpty : ℕ → ℕ → List RoundReport → Type 0
-ArePaidFromEmpty slots nodes reports = ArePaidRounds slots nodes (slots / 2) 0 reports
 
 -- ---- reports
 

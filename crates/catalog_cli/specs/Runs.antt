@@ -14,10 +14,11 @@ use Rattle.sound_image.specs.Rules.{header_generation}
 use Rattle.sound_image.specs.Sound.{IsMapOf, image_map}
 use Rattle.sound_layer.specs.Sound.{IsFirstOfAll, IsSoundByAll}
 use Rattle.version_lock.specs.Versions.{IsGeneration}
-use Rattle.catalog_cli.specs.CoreMaps.{ImageHasNoLines}
+use Rattle.core_rounds.specs.CoreMaps.{ImageHasNoLines}
 use Rattle.catalog_cli.specs.Files.{HasBytes, HasImage, HasNoFile, SavesImage}
-use Rattle.catalog_cli.specs.Reports.{IsRefusedBy, IsReportOf, image_opening, map_end, shape_end}
-use Rattle.catalog_cli.specs.Rounds.{RoundsEndWithTurn}
+use Rattle.catalog_cli.specs.Reports.{IsRefusedBy, IsReportOf, image_opening}
+use Rattle.core_rounds.specs.Rounds.{map_end, shape_end}
+use Rattle.core_rounds.specs.Rounds.{RoundsEndWithTurn}
 use Rattle.catalog_cli.specs.declared.status.ImageRefusal.{ImageRefusal}
 use Rattle.catalog_cli.specs.declared.status.ImageRefusal.TheVariants as image
 use Rattle.catalog_cli.specs.declared.status.Status.{Status}

@@ -4,11 +4,10 @@ ghost use Rattle.std.specs.Prelude.{◌≡◌, ◌^◌, ◌<◌, ◌≤◌, IfOk
 ghost use Rattle.pm_words.specs.Layouts.{IsLayout};
 ghost use Rattle.catalog_cli.specs.Headline.{IsSummaryOf};
 
-use crate::play::play_plans;
-use crate::summary::summarize;
 use cat_history::NoMemory;
 use cat_script::generated;
 use cat_text::print_summary;
+use core_rounds::{play_plans, summarize};
 use pm_words::Layout;
 use std::alloc::Global;
 use std::slice;

@@ -3,18 +3,14 @@
 
 mod built;
 mod catalog;
-mod core_map;
 mod files;
 mod generated;
 mod play;
 mod reading;
-mod round;
 mod run_file;
 mod status;
-mod summary;
 #[cfg(test)]
 mod tests;
-mod updated_map;
 
 use cat_text::{FileShelf, ReadSource, WriteSink};
 pub use catalog::catalog;

@@ -3,17 +3,16 @@
 ghost use Rattle.std.specs.Prelude.{◌≡◌, ◌+◌, ◌<◌, ◌≤◌, ℕ, List, [], IfErr, IfOk, IfSome, OnOk, Some};
 ghost use Rattle.cat_script.specs.Scripts.{IsScript};
 ghost use Rattle.cat_text.specs.Outside.{ConsumesAtMost};
-ghost use Rattle.catalog_cli.specs.CoreMaps.{IsNextRun};
+ghost use Rattle.core_rounds.specs.CoreMaps.{IsNextRun};
 ghost use Rattle.catalog_cli.specs.Headline.{IsAfterReading};
 ghost use Rattle.catalog_cli.specs.Runs.{IsPlayRefused, IsRunLeft, IsRunOn, IsRunOnFile, IsRunRefused};
 
-use crate::core_map::{CoreMap, RunOf};
 use crate::files::{load_image, save_image};
-use crate::play::{calls_in, play_rounds};
 use crate::reading::{accept, read_source};
 use crate::status::Status;
 use cat_script::{MOST_BYTES, Script};
 use cat_text::{Shelf, Source, print_report};
+use core_rounds::{CoreMap, RunOf, calls_in, play_rounds};
 use pm_words::{Image, Steps};
 use std::alloc::Global;
 use std::marker::Brand;

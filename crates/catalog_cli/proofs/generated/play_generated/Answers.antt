@@ -1,8 +1,8 @@
 use Rattle.std.proofs.Common.{sym, subst}
 use Rattle.std.proofs.lemmas.Result.{IfOk-weaker}
 use Rattle.cat_history.specs.declared.plan.RoundPlan.{RoundPlan}
-use Rattle.catalog_cli.specs.LoneCalls.{AreLoneCalls, AreReportCalls}
-use Rattle.catalog_cli.proofs.Played.{all-of-one}
+use Rattle.core_rounds.specs.LoneCalls.{AreLoneCalls, AreReportCalls}
+use Rattle.catalog_cli.proofs.PlayedReports.{all-of-one}
 use Rattle.catalog_cli.proofs.SeededCalls.{one-caller-calls, calls-told, seeded, summed-up, one-plan-few}
 use Rattle.catalog_cli.proofs.generated.play_generated.Goals as goal
 

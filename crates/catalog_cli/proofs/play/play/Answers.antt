@@ -1,9 +1,9 @@
 use Rattle.std.proofs.Common.{length, ap, sym, subst, arith}
 use Rattle.std.specs.Prelude.{All}
 use Rattle.cat_history.specs.declared.plan.RoundPlan.{RoundPlan}
-use Rattle.catalog_cli.specs.LoneCalls.{AreLoneCalls, AreReportCalls, calls_in}
+use Rattle.core_rounds.specs.LoneCalls.{AreLoneCalls, AreReportCalls, calls_in}
 use Rattle.catalog_cli.proofs.LonePlans.{script-of-one-caller}
-use Rattle.catalog_cli.proofs.Played.{played-report}
+use Rattle.catalog_cli.proofs.PlayedReports.{played-report}
 use Rattle.catalog_cli.proofs.ReportCalls.{calls-of-report, some-round}
 use Rattle.catalog_cli.proofs.ScriptCalls.{calls-of-script}
 use Rattle.catalog_cli.proofs.play.play.Goals as goal

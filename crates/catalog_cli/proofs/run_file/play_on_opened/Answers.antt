@@ -3,10 +3,10 @@ use Rattle.std.proofs.lemmas.Result.{err_from_is_err_and}
 use Rattle.std.specs.Prelude.{All, Ok}
 use Rattle.cat_history.specs.declared.plan.RoundPlan.{RoundPlan}
 use Rattle.pm_words.specs.declared.layout.Layout.{Layout}
-use Rattle.catalog_cli.specs.LoneCalls.{AreLoneCalls, AreReportCalls, calls_in}
+use Rattle.core_rounds.specs.LoneCalls.{AreLoneCalls, AreReportCalls, calls_in}
 use Rattle.catalog_cli.specs.Reports.{IsAccepted, IsRefusedBy}
 use Rattle.catalog_cli.proofs.LonePlans.{script-of-one-caller}
-use Rattle.catalog_cli.proofs.Played.{played-report}
+use Rattle.catalog_cli.proofs.PlayedReports.{played-report}
 use Rattle.catalog_cli.proofs.ReportCalls.{calls-of-report, some-round}
 use Rattle.catalog_cli.proofs.RunEnds.{calls-enough, not-accepted, not-opened, opened-openable, run-ends}
 use Rattle.catalog_cli.proofs.ScriptCalls.{calls-of-script}

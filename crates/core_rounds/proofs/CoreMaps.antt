@@ -1,0 +1,432 @@
+-- The index as a map of names: its names counted, its calls left, and its shape.
+use Rattle.std.proofs.Common.{◌≡◌, ◌≢◌, ℕ, ◌+◌, ◌-◌, ◌*◌, ◌/◌, ◌<◌, ◌≤◌, ◌==◌, Bool, true, false, cond, List, [], ◌∷◌, length, ◌⊎◌, ⊎_elim, refl, le_trans, inl, inr, sym, ap, ◌∙◌, subst, arith, length-append}
+use Rattle.std.specs.Prelude.{Option, ◌↔◌, ◌^◌}
+use Rattle.std.specs.List.{flat_map, AllByRecursion}
+use Rattle.std.specs.Option.{is_some}
+use Rattle.std.specs.FinMap.{insert, remove, len, len-insert, len-remove, len-empty, empty_of_len, get-empty}
+use Rattle.std.proofs.lemmas.Bool.{cases_eq, false≢true}
+use Rattle.std.proofs.Math.Nat.{le-min, min-le_right}
+use Rattle.std.proofs.lemmas.Cmp.{nat_list_cmp_total}
+use Rattle.cat_key.specs.Names.{IsName, name_cmp}
+use Rattle.cat_history.specs.Maps.{Map, at, map_of}
+use Rattle.cat_history.specs.Writes.{after_all}
+use Rattle.pm_words.specs.declared.layout.Layout.{Layout}
+use Rattle.pm_words.specs.Layouts.{IsLayout}
+use Rattle.version_lock.specs.declared.TheConstants.{LAST_COUNT}
+use Rattle.shapes.specs.Members.{Member, members}
+use Rattle.shapes.specs.ShapeRounds.{PutsFull}
+use Rattle.shapes.specs.Weights.{IsShape}
+use Rattle.cat_history.specs.Records.{as_op}
+use Rattle.shapes.specs.Anchors.{merges}
+use Rattle.shapes.proofs.Agreements.{length-members, put-stays}
+use Rattle.shapes.proofs.Shapes.{len-keys, del-stays}
+use Rattle.shapes.proofs.Targets.{members_part_names}
+use Rattle.call_stages.specs.declared.once.Once.{Once}
+use Rattle.call_stages.specs.declared.once.Once.TheVariants as once
+use Rattle.call_stages.specs.declared.once.Placed.{Placed}
+use Rattle.node_ops.specs.declared.part.PartWords.{PartWords}
+use Rattle.pm_words.specs.declared.again.Again.{Again}
+use Rattle.node_ops.specs.Asked.{name_asked}
+use Rattle.data_node.specs.Lists.{key_of}
+use Rattle.data_node.proofs.ListLemmas.{chain_closed, target_in}
+use Rattle.index_law.specs.Anchors.{anchors_of, anchors_in}
+use Rattle.index_law.specs.Facts.{list_in}
+use Rattle.index_law.specs.Laws.{fresh_row}
+use Rattle.index_law.specs.Worlds.{World, facts}
+use Rattle.index_law.proofs.Fresh.{fresh_list, fresh_statuses}
+use Rattle.index_law.proofs.Holding.{idle_has_shape}
+use Rattle.index_law.proofs.Starts.{listed_within}
+use Rattle.lone_law.specs.Merging.{NextIsWorn, next_node}
+use Rattle.lone_law.proofs.Locks.{worn_has_none}
+use Rattle.index_core.specs.Fresh.{IsFreshIndex}
+use Rattle.index_core.specs.Indexes.{Index, IsIndex, map_of_index, world}
+use Rattle.index_core.specs.Lone.{IsQuiet, FindsNoRoom, FindsWornNode, HasSameList, IsOver, IsWornNode, IsWholeAnswer, RunsAlone, LeavesList, most_tries, SplitsFor, SplitsNothing, MergesFor, MergesNothing, node_for, locks_left, alone_writes, whole_of, part_whole}
+use Rattle.index_core.specs.declared.party.CoreCall.TheVariants as call
+use Rattle.index_core.specs.declared.party.CoreCall.{CoreCall}
+use Rattle.index_core.specs.declared.party.Whole.{Whole}
+use Rattle.index_core.specs.declared.party.Whole.TheVariants as whole
+use Rattle.index_core.specs.CoreCalls.{op_of, most_writes}
+use Rattle.index_core.specs.Fulls.{HasLowStamps}
+use Rattle.lone_turn.specs.LoneTurns.{stamp_in, stamp_then}
+use Rattle.updater.specs.declared.terms.Turned.{Turned}
+use Rattle.index_core.specs.Turns.{TurnsAlone}
+use Rattle.index_core.proofs.Retrying.{stamped_are_gone}
+use Rattle.index_core.proofs.Quiet.{quiet_parties}
+use Rattle.index_core.proofs.Fresh.{fresh_quiet, fresh_locks}
+use Rattle.index_core.proofs.Fulls.{no_room_is_full_put}
+use Rattle.index_core.proofs.Stepping.{respare}
+use Rattle.std.proofs.lemmas.List.{length-map}
+use Rattle.std.specs.FinMap.{entries, len-entries}
+use Rattle.cat_history.proofs.ReplayLemmas.{map_of-pairs_of}
+use Rattle.pm_words.specs.Images.{Row}
+use Rattle.sound_image.specs.Sound.{IsMapOf, image_map}
+use Rattle.sound_image.specs.Weights.{image_weight}
+use Rattle.shapes.specs.Anchors.{Anchors}
+use Rattle.shapes.specs.ShapeRounds.{IsShapeWithin}
+use Rattle.index_law.specs.Anchors.{image_anchors}
+use Rattle.core_rounds.specs.CoreMaps.{calls_left_of, writes_left_of, IsUnlimited, IsCoreMap, IsNextRun, IsOfRun, IsOpenedMap, anchors_made}
+use Rattle.recovery.specs.Opened.{IsOpenedFrom}
+use Rattle.recovery.proofs.Opened.{with_room}
+
+-- a put of a name that the map lacks adds one, and of one that it has adds none
+pub put_counted : (s s' : Index) (name : List ℕ) (value names names' : ℕ) (old : Option ℕ) (b : Bool) → IsCoreMap s names → IsIndex s' → IsQuiet s' → HasLowStamps s' →
+    old ≡ at (map_of_index s) name → map_of_index s' ≡ insert (map_of_index s) name value → is_some old ≡ b → names' ≡ cond b names (names + 1) → IsCoreMap s' names'
+put_counted s s' name value names names' old b was index quiet stamps told after is counts =
+    let m = map_of_index s in
+    let has : is_some (at m name) ≡ b = sym (ap is_some told) ∙ is in
+    record {
+      index = index;
+      quiet = quiet;
+      stamps = stamps;
+      counted = counts ∙ ap (λ (n : ℕ). cond b n (n + 1)) was.counted
+          ∙ sym (ap len after ∙ len-insert nat_list_cmp_total m name value ∙ ap (λ (c : Bool). cond c (len m) (len m + 1)) has);
+    }
+
+-- a map that has a name has one at least
+some_name : (m : Map) (name : List ℕ) → is_some (at m name) ≡ true → 1 ≤ len m
+some_name m name has =
+    elim (cases_eq (len m) 0) [
+      | inl none ↦
+          let lacks : is_some (at m name) ≡ false = ap (λ (n : Map). is_some (at n name)) (empty_of_len m none) ∙ ap is_some (get-empty name_cmp name) in
+          absurd (false≢true (sym lacks ∙ has))
+      | inr other ↦ omega arith
+    ]
+
+-- a count of names from which a name that is there can be taken
+pub told_name : (s : Index) (name : List ℕ) (names : ℕ) (old : Option ℕ) → IsCoreMap s names → old ≡ at (map_of_index s) name → is_some old ≡ true → 1 ≤ names
+told_name s name names old was told is = let one = some_name (map_of_index s) name (sym (ap is_some told) ∙ is) in let counted = was.counted in omega (arith, one, counted)
+
+-- a removal of a name that the map has takes one, and of one that it lacks takes none
+pub removal_counted : (s s' : Index) (name : List ℕ) (names names' : ℕ) (old : Option ℕ) (b : Bool) → IsCoreMap s names → IsIndex s' → IsQuiet s' → HasLowStamps s' →
+    old ≡ at (map_of_index s) name → map_of_index s' ≡ remove (map_of_index s) name → is_some old ≡ b → names' ≡ cond b (names - 1) names → IsCoreMap s' names'
+removal_counted s s' name names names' old b was index quiet stamps told after is counts =
+    let m = map_of_index s in
+    let has : is_some (at m name) ≡ b = sym (ap is_some told) ∙ is in
+    record {
+      index = index;
+      quiet = quiet;
+      stamps = stamps;
+      counted = counts ∙ ap (λ (n : ℕ). cond b (n - 1) n) was.counted
+          ∙ sym (ap len after ∙ len-remove nat_list_cmp_total m name ∙ ap (λ (c : Bool). cond c (len m - 1) (len m)) has);
+    }
+
+-- members have no more names in all than slots
+each_few : (members_are : List Member) (slots : ℕ) → slots ≤ 64 → AllByRecursion (λ (m : Member). length m.names ≤ slots) members_are →
+    length (flat_map (λ (m : Member). m.names) members_are) ≤ length members_are * 64
+each_few [] slots most fits = omega arith
+each_few (m ∷ later) slots most fits =
+    let here = fits.0 in
+    let rest = each_few later slots most fits.1 in
+    let both = length-append m.names (flat_map (λ (n : Member). n.names) later) in
+    omega arith
+
+-- so there is always a number for one name more
+pub few_names : (s : Index) (names : ℕ) → IsCoreMap s names → names ≤ 262144
+few_names s names is =
+    let w = world s in
+    let m = map_of_index s in
+    let shape = (idle_has_shape w is.index.lawful (quiet_parties s is.quiet)).0 in
+    let row = is.index.lawful.row.layout in
+    let slots = row.slots in
+    let nodes = row.nodes in
+    let members_few = shape.few in
+    let size = len-keys m in
+    let parts = ap length (members_part_names m (anchors_in w) shape.ordered) in
+    let each = each_few (members m (anchors_in w)) s.layout.slots slots.1 shape.fits in
+    let as_many = length-members m (anchors_in w) in
+    let counted = is.counted in
+    omega arith
+
+-- a fresh index has no node that is GONE, and so none with a stamp
+fresh_low : (l : Layout) (s s' : Index) → IsLayout l → IsFreshIndex l s → s' ≡ record s { spare = s'.spare } → HasLowStamps s'
+fresh_low l s s' layout fresh kept n here = ⊎_elim
+    (λ (none : stamp_in (world s') n ≡ 0). omega arith)
+    (λ (some_stamp : stamp_in (world s') n ≢ 0).
+    let gone = stamped_are_gone s' (subst IsIndex (sym kept) (respare s s'.spare fresh.index)).layered n some_stamp in
+    let within : n < l.nodes = subst (λ (k : Layout). n < k.nodes) (ap (λ (v : Index). v.layout) kept ∙ fresh.layout) here in
+    let same : (facts (world s')).status n ≡ (facts (world (record s { layout = l; words = fresh_row l }))).status n =
+    ap (λ (v : Index). (facts (world v)).status n) kept ∙ (λ k. (facts (world (record s { layout = fresh.layout k; words = fresh.words k }))).status n) in
+    absurd (fresh_statuses l layout n within (sym same ∙ gone)))
+    (cases_eq (stamp_in (world s') n) 0)
+
+-- a fresh index, once room for writes is made
+pub fresh_map : (l : Layout) (s s' : Index) → IsLayout l → IsFreshIndex l s → s' ≡ record s { spare = s'.spare } → IsCoreMap s' 0
+fresh_map l s s' layout fresh kept = record {
+  index = subst IsIndex (sym kept) (respare s s'.spare fresh.index);
+  quiet = subst IsQuiet (sym kept) (let quiet = fresh_quiet l s fresh in record { calls = quiet.calls; turns = quiet.turns });
+  stamps = fresh_low l s s' layout fresh kept;
+  counted = sym (ap (λ (v : Index). len (map_of_index v)) kept ∙ (λ k. len (after_all (map_of (fresh.base k)) (fresh.history k))) ∙ len-empty name_cmp ℕ);
+}
+
+-- it is that of the first run
+pub fresh_run : (l : Layout) (s s' : Index) {run_l : Layout} {number : ℕ} → (run_l ≡ l) × (number ≡ 1) → IsFreshIndex l s → s' ≡ record s { spare = s'.spare } → IsOfRun run_l number s'
+fresh_run l s s' run fresh kept = record {
+  layout = ap (λ (v : Index). v.layout) kept ∙ fresh.layout ∙ sym run.0;
+  generation = ap (λ (v : Index). v.generation) kept ∙ fresh.generation ∙ sym run.1;
+}
+
+-- calls and turns leave it that of its run
+pub same_run : (s s' : Index) {l : Layout} {number : ℕ} → IsOfRun l number s → s'.layout ≡ s.layout → s'.generation ≡ s.generation → IsOfRun l number s'
+same_run s s' was layout generation = record { layout = layout ∙ was.layout; generation = generation ∙ was.generation }
+
+-- its one member has no names, and each node may be one
+pub fresh_anchors : (l : Layout) (s s' : Index) → IsLayout l → IsFreshIndex l s → s' ≡ record s { spare = s'.spare } → anchors_in (world s') ≡ [] ∷ []
+fresh_anchors l s s' layout fresh kept =
+    ap (λ (v : Index). anchors_in (world v)) kept ∙ (λ k. anchors_of (list_in (fresh.layout k) (fresh.words k))) ∙ ap anchors_of (fresh_list l layout)
+
+pub fresh_most : (l : Layout) (s s' : Index) → IsFreshIndex l s → s' ≡ record s { spare = s'.spare } → s'.layout.nodes ≡ l.nodes
+fresh_most l s s' fresh kept = ap (λ (v : Index). v.layout.nodes) kept ∙ ap (λ (v : Layout). v.nodes) fresh.layout
+
+-- all locks of its nodes are left,
+pub fresh_calls : (l : Layout) (s s' : Index) → IsLayout l → IsFreshIndex l s → s' ≡ record s { spare = s'.spare } → calls_left_of s' ≡ LAST_COUNT / 4
+fresh_calls l s s' layout fresh kept = ap (λ (n : ℕ). n / 4) (ap locks_left kept ∙ fresh_locks l s layout fresh)
+
+-- and a number below 2^62 for its clock, for each of the writes
+pub fresh_writes : (l : Layout) (s s' : Index) (writes : ℕ) → IsFreshIndex l s → s' ≡ record s { spare = s'.spare } → writes ≤ s'.spare → writes ≤ 2 ^ 62 → writes ≤ writes_left_of s'
+fresh_writes l s s' writes fresh kept spare few =
+    let history : length s'.history ≡ 0 = ap (λ (v : Index). length v.history) kept ∙ ap length fresh.history in
+    le-min spare (omega (arith, history, few))
+
+-- where calls are left, so are four locks of each node
+locks_remain : (s : Index) → 0 < calls_left_of s → 4 ≤ locks_left s
+locks_remain s left = omega (arith, left)
+
+-- then no node is worn, and no clock has come to a limit that is none
+pub unworn : (s : Index) (c : CoreCall) → IsIndex s → 0 < calls_left_of s → FindsWornNode c s → ⊥
+unworn s c is left worn =
+    let f = facts (world s) in
+    let here = listed_within s.layout f is.lawful.list is.lawful.row.layout (node_for s (name_asked (op_of c))) (target_in 0 f.list (key_of (name_asked (op_of c)))) in
+    let none : locks_left s ≡ 0 = worn_has_none s.generation f.version (node_for s (name_asked (op_of c))) s.layout.nodes here worn in
+    let some_left = locks_remain s left in
+    omega arith
+
+pub in_time : (s : Index) (c : CoreCall) → IsUnlimited c → most_writes c ≤ writes_left_of s → IsOver c s → ⊥
+in_time s (call.Put name value limit) unlimited left over = let room : 0 < 2 ^ 62 - length s.history = le_trans left (min-le_right s.spare (2 ^ 62 - length s.history)) in omega (arith, room, unlimited, over)
+in_time s (call.Get name) unlimited left over = over
+in_time s (call.Part low count) unlimited left over = over
+in_time s (call.Recheck node version) unlimited left over = over
+in_time s (call.Del name limit) unlimited left over = let room : 0 < 2 ^ 62 - length s.history = le_trans left (min-le_right s.spare (2 ^ 62 - length s.history)) in omega (arith, room, unlimited, over)
+
+few_tries : (c : CoreCall) → most_tries c ≤ 4
+few_tries (call.Put name value limit) = omega arith
+few_tries (call.Del name limit) = omega arith
+few_tries (call.Get name) = omega arith
+few_tries (call.Part low count) = omega arith
+few_tries (call.Recheck node version) = omega arith
+
+pub goes_through : (s : Index) (i : ℕ) (c : CoreCall) (new : Index) (r : Once Placed) → IsIndex s → IsUnlimited c → 0 < calls_left_of s → most_writes c ≤ writes_left_of s → IsWholeAnswer (most_tries c) s i c new (whole_of r)
+    → ((clock : ℕ) × (r ≡ once.Spent clock)) ⊎ ((node : ℕ) × (word : ℕ) × (r ≡ once.Worn node word)) → ⊥
+goes_through s i c new r is unlimited left writes answer = ⊎_elim
+    (λ (late : (clock : ℕ) × (r ≡ once.Spent clock)). in_time s c unlimited writes (subst (λ (o : Once Placed). IsWholeAnswer (most_tries c) s i c new (whole_of o)) late.1 answer).1)
+    (λ (worn : (node : ℕ) × (word : ℕ) × (r ≡ once.Worn node word)). both_worn worn.0 worn.1 (subst (λ (o : Once Placed). IsWholeAnswer (most_tries c) s i c new (whole_of o)) worn.2 answer))
+  where
+    both_worn : (node word : ℕ) → IsWornNode (most_tries c) s i c new node word → ⊥
+    both_worn node word (inl first) = unworn s c is left first.0
+    both_worn node word (inr again) =
+        let four = locks_remain s left in
+        let few = few_tries c in
+        let less = again.1 in
+        omega (arith, four, few, less)
+
+-- a call finds no room exactly where it is a put that is full in the shape
+pub full_exactly : (s : Index) (c : CoreCall) → IsIndex s → IsQuiet s → IsName (name_asked (op_of c)) → 0 < calls_left_of s → HasLowStamps s →
+    FindsNoRoom c s ↔ PutsFull s.layout.slots s.layout.nodes (map_of_index s) (anchors_in (world s)) (as_op (op_of c))
+full_exactly s (call.Put name value limit) is quiet named left low = let four = locks_remain s left in no_room_is_full_put s name value limit is quiet named (omega arith) low
+full_exactly s (call.Get name) is quiet named left low = ((λ none. none), (λ none. none))
+full_exactly s (call.Del name limit) is quiet named left low = ((λ none. none), (λ none. none))
+full_exactly s (call.Part low_name count) is quiet named left low = ((λ none. none), (λ none. none))
+full_exactly s (call.Recheck node version) is quiet named left low = ((λ none. none), (λ none. none))
+
+-- no call gives a stamp above 1
+pub stays_low : (s : Index) (i : ℕ) (c : CoreCall) (new : Index) (r : Whole) → RunsAlone s i c new r → HasLowStamps s → HasLowStamps new
+stays_low s i c new r runs low n here =
+    let within : n < s.layout.nodes = subst (λ (l : Layout). n < l.nodes) runs.layout here in
+    let was = low n within in
+    ⊎_elim
+    (λ (same : stamp_in (world new) n ≡ stamp_in (world s) n). omega arith)
+    (λ (small : stamp_in (world new) n ≤ 1). small)
+    (runs.stamps n within)
+
+-- nor is the node worn behind that of a name
+next_unworn : (s : Index) (name : List ℕ) → IsIndex s → 0 < calls_left_of s → NextIsWorn (world s) name → ⊥
+next_unworn s name is left worn =
+    let f = facts (world s) in
+    let n = node_for s name in
+    let next = next_node (world s) name in
+    let within : next < s.layout.nodes =
+    listed_within s.layout f is.lawful.list is.lawful.row.layout next
+    (elim (cases_eq next 0) [ inl none ↦ inl none | inr some_one ↦ inr (chain_closed f.now 0 f.list is.lawful.list.chain n (target_in 0 f.list (key_of name)) some_one) ]) in
+    let none : locks_left s ≡ 0 = worn_has_none s.generation f.version next s.layout.nodes within worn in
+    let some_left = locks_remain s left in
+    omega arith
+
+-- one that takes place leaves the anchors that it makes
+same_made : (s : Index) (c : CoreCall) (new : Index) → anchors_in (world s) ≡ anchors_made s c → HasSameList s new → anchors_in (world new) ≡ anchors_made s c
+same_made s c new made same = ap anchors_of same ∙ made
+
+made : (s : Index) (c : CoreCall) (new : Index) (placed : Placed) → IsIndex s → IsUnlimited c → 0 < calls_left_of s → LeavesList c (whole.Placed placed) s new → anchors_in (world new) ≡ anchors_made s c
+made s (call.Put name value limit) new placed is unlimited left list = ⊎_elim
+    (λ (kept : HasSameList s new × SplitsNothing (call.Put name value limit) s × Unit {0}).
+    same_made s (call.Put name value limit) new (sym (put-stays s.layout.slots (map_of_index s) (anchors_in (world s)) name kept.1)) kept.0)
+    (λ (changed : SplitsFor (call.Put name value limit) s new ⊎ ⊥). ⊎_elim (λ (cut : SplitsFor (call.Put name value limit) s new). cut.1) (λ (merge : ⊥). absurd merge) changed)
+    list
+made s (call.Get name) new placed is unlimited left list = ⊎_elim
+    (λ (kept : HasSameList s new × Unit {0} × Unit {0}). same_made s (call.Get name) new refl kept.0)
+    (λ (changed : ⊥ ⊎ ⊥). ⊎_elim (λ (cut : ⊥). absurd cut) (λ (merge : ⊥). absurd merge) changed)
+    list
+made s (call.Part low count) new placed is unlimited left list = absurd unlimited
+made s (call.Recheck node version) new placed is unlimited left list = absurd unlimited
+made s (call.Del name limit) new placed is unlimited left list = ⊎_elim
+    (λ (kept : HasSameList s new × Unit {0} × MergesNothing (call.Del name limit) s).
+    let stays : merges s.layout.slots (map_of_index s) (anchors_in (world s)) name ≡ false =
+    ⊎_elim (λ (none : merges s.layout.slots (map_of_index s) (anchors_in (world s)) name ≡ false). none) (λ (worn : NextIsWorn (world s) name). absurd (next_unworn s name is left worn)) kept.2 in
+    same_made s (call.Del name limit) new (sym (del-stays s.layout.slots (map_of_index s) (anchors_in (world s)) name stays)) kept.0)
+    (λ (changed : ⊥ ⊎ MergesFor (call.Del name limit) s new). ⊎_elim (λ (cut : ⊥). absurd cut) (λ (merge : MergesFor (call.Del name limit) s new). merge.1) changed)
+    list
+
+-- what a whole call that was answered so says of room and of the shape
+pub told_placed : (s : Index) (c : CoreCall) (new : Index) (r : Whole) (placed : Placed) → IsIndex s → IsUnlimited c → 0 < calls_left_of s → r ≡ whole.Placed placed → {caller : ℕ} → RunsAlone s caller c new r →
+    (FindsNoRoom c s → ⊥) × (anchors_in (world new) ≡ anchors_made s c)
+told_placed s c new r placed index unlimited left is {caller} runs =
+    let run : RunsAlone s caller c new (whole.Placed placed) = subst (RunsAlone s caller c new) is runs in
+    (run.answer.1.2, made s c new placed index unlimited left run.list)
+
+pub told_full : (s : Index) (c : CoreCall) (new : Index) (r : Whole) → r ≡ whole.Full → {caller : ℕ} → RunsAlone s caller c new r → FindsNoRoom c s × (anchors_in (world new) ≡ anchors_in (world s))
+told_full s c new r is {caller} runs =
+    let run : RunsAlone s caller c new whole.Full = subst (RunsAlone s caller c new) is runs in
+    (run.answer.2, ap anchors_of run.list)
+
+-- with no call in flight it has a shape that its members can have
+pub core_shape : (s : Index) (names : ℕ) → IsCoreMap s names → IsShape s.layout.slots s.layout.nodes (map_of_index s) (anchors_in (world s))
+core_shape s names is =
+    let shape = (idle_has_shape (world s) is.index.lawful (quiet_parties s is.quiet)).0 in
+    let few = shape.few in
+    record { ordered = shape.ordered; few = omega arith; fits = shape.fits }
+
+-- of what is left for writes a call takes one at most, for its write
+few_writes : (c : CoreCall) (r : Whole) (caller index : ℕ) → length (alone_writes caller index c r) ≤ most_writes c
+few_writes (call.Put name value limit) (whole.Placed placed) caller index = omega arith
+few_writes (call.Get name) (whole.Placed placed) caller index = omega arith
+few_writes (call.Del name limit) (whole.Placed placed) caller index = omega arith
+few_writes (call.Part low count) (whole.Placed placed) caller index = omega arith
+few_writes (call.Recheck node version) (whole.Placed placed) caller index = omega arith
+few_writes c (whole.Part words) caller index = omega arith
+few_writes c (whole.Spent clock) caller index = omega arith
+few_writes c whole.Full caller index = omega arith
+few_writes c (whole.Worn node word) caller index = omega arith
+
+pub writes_fall : (s s' : Index) (c : CoreCall) (r : Whole) (caller : ℕ) → RunsAlone s caller c s' r → s.spare + length s.history ≤ s'.spare + length s'.history →
+    writes_left_of s ≤ writes_left_of s' + most_writes c
+writes_fall s s' c r caller runs spare =
+    let few = few_writes c r caller runs.state.index in
+    let grown = ap length runs.history in
+    let both = length-append s.history (alone_writes caller runs.state.index c r) in
+    omega (arith, few, grown, both, spare)
+
+-- ---- turns of the updater
+
+stamp_low : (w : World) (n : ℕ) → stamp_in w n ≤ 1 → stamp_then w 1 n ≤ 1
+stamp_low w n low = elim (stamp_in w n == 0) as (λ b. cond b 1 (stamp_in w n) ≤ 1) [ true ↦ omega arith | false ↦ low ]
+
+module _ (s s' : Index) (answer : Turned) (t : TurnsAlone s 1 1 answer s') where
+  -- a turn leaves no stamp above its own
+  turn_low : IsIndex s' → HasLowStamps s → HasLowStamps s'
+  turn_low is low n here = ⊎_elim
+      (λ (none : stamp_in (world s') n ≡ 0). omega arith)
+      (λ (some_stamp : stamp_in (world s') n ≢ 0).
+      let within : n < s.layout.nodes = subst (λ (l : Layout). n < l.nodes) (ap (λ (v : Index). v.layout) t.is) here in
+      let left = t.lone.stamps n within (stamped_are_gone s' is.layered n some_stamp) in
+      let small = stamp_low (world s) n (low n within) in
+      omega arith)
+      (cases_eq (stamp_in (world s') n) 0)
+
+  -- nor does it change the names
+  pub turned_map : (names : ℕ) → IsCoreMap s names → IsIndex s' → IsQuiet s' → IsCoreMap s' names
+  turned_map names was index quiet = record {
+    index = index;
+    quiet = quiet;
+    stamps = turn_low index was.stamps;
+    counted = was.counted ∙ ap (λ (v : Index). len (map_of_index v)) (sym t.is);
+  }
+
+  pub turned_run : {l : Layout} {number : ℕ} → IsOfRun l number s → IsOfRun l number s'
+  turned_run was = record { layout = ap (λ (v : Index). v.layout) t.is ∙ was.layout; generation = ap (λ (v : Index). v.generation) t.is ∙ was.generation }
+
+-- ---- parts of scans
+
+-- where calls are left a part is done
+pub part_goes_through : (s : Index) (i : ℕ) (low : List ℕ) (count : ℕ) (new : Index) (r : Once PartWords) → IsIndex s → 0 < calls_left_of s → IsWholeAnswer 1 s i (call.Part low count) new (part_whole r) →
+    ((clock : ℕ) × (r ≡ once.Spent clock)) ⊎ (((node : ℕ) × (word : ℕ) × (r ≡ once.Worn node word)) ⊎ ((why : Again) × (r ≡ once.Again why))) → ⊥
+part_goes_through s i low count new r is left answer = ⊎_elim
+    (λ (late : (clock : ℕ) × (r ≡ once.Spent clock)). (at late.1).1)
+    (λ (rest : ((node : ℕ) × (word : ℕ) × (r ≡ once.Worn node word)) ⊎ ((why : Again) × (r ≡ once.Again why))). ⊎_elim
+    (λ (worn : (node : ℕ) × (word : ℕ) × (r ≡ once.Worn node word)). is_worn worn.0 worn.1 (at worn.2))
+    (λ (turned : (why : Again) × (r ≡ once.Again why)). (at turned.1).2)
+    rest)
+  where
+    at : {o : Once PartWords} → r ≡ o → IsWholeAnswer 1 s i (call.Part low count) new (part_whole o)
+    at same = subst (λ (o : Once PartWords). IsWholeAnswer 1 s i (call.Part low count) new (part_whole o)) same answer
+
+    is_worn : (node word : ℕ) → IsWornNode 1 s i (call.Part low count) new node word → ⊥
+    is_worn node word (inl first) = unworn s (call.Part low count) is left first.0
+    is_worn node word (inr again) = again.0
+
+-- ---- images
+
+-- an index that an image is opened as, once room for writes is made
+opened_core : (image : Row) (s s' : Index) → IsOpenedFrom image s → s' ≡ record s { spare = s'.spare } → IsOpenedFrom image s'
+opened_core image s s' is kept = subst (IsOpenedFrom image) (sym kept) (with_room image s s'.spare is)
+
+-- it has the map of the image, each of whose names is counted once
+opened_contents : (image : Row) (s : Index) → IsOpenedFrom image s → map_of_index s ≡ image_map image.layout image.words
+opened_contents image s is = (λ k. after_all (map_of (is.base k)) (is.history k)) ∙ map_of-pairs_of (image_map image.layout image.words)
+
+opened_counted : (image : Row) (s : Index) (names : ℕ) → IsOpenedFrom image s → names ≡ length s.base → names ≡ len (map_of_index s)
+opened_counted image s names is counts =
+    counts ∙ ap length is.base ∙ length-map (entries (image_map image.layout image.words)) (λ (e : List ℕ × ℕ). record { name = e.0; value = e.1 })
+    ∙ sym (len-entries (image_map image.layout image.words)) ∙ sym (ap len (opened_contents image s is))
+
+pub opened_map : (image : Row) (s s' : Index) (names : ℕ) → IsOpenedFrom image s → s' ≡ record s { spare = s'.spare } → names ≡ length s'.base → IsCoreMap s' names
+opened_map image s s' names from kept counts =
+    let is = opened_core image s s' from kept in
+    record { index = is.index; quiet = is.quiet; stamps = is.stamps; counted = opened_counted image s' names is counts }
+
+pub opened_run : (image : Row) (s s' : Index) {l : Layout} {number : ℕ} → IsNextRun image l number → IsOpenedFrom image s → s' ≡ record s { spare = s'.spare } → IsOfRun l number s'
+opened_run image s s' run from kept =
+    let is = opened_core image s s' from kept in
+    record { layout = is.layout ∙ sym run.layout; generation = is.generation ∙ sym run.generation }
+
+-- its shape weighs what the image does
+opened_within : (image : Row) (s : Index) → IsOpenedFrom image s →
+    IsShapeWithin s.layout.slots s.layout.nodes (image_weight image.layout image.words) (len (map_of_index s)) (map_of_index s) (anchors_in (world s))
+opened_within image s is =
+    let w = world s in
+    let both = idle_has_shape w is.index.lawful (quiet_parties s is.quiet) in
+    let few = both.0.few in
+    let light = both.1 in
+    let weighs = is.weighs in
+    record {
+      shape = record { ordered = both.0.ordered; few = omega arith; fits = both.0.fits };
+      light = omega (arith, light, weighs);
+      few = omega arith;
+    }
+
+pub opened_so : (image : Row) (writes : ℕ) (s s' : Index) → IsOpenedFrom image s → s' ≡ record s { spare = s'.spare } → writes ≤ s'.spare → writes ≤ 2 ^ 62 → IsOpenedMap image writes s'
+opened_so image writes s s' from kept spare few =
+    let is = opened_core image s s' from kept in
+    let contents = opened_contents image s' is in
+    let weighs = image_weight image.layout image.words in
+    let empty_history : length s'.history ≡ 0 = ap length is.history in
+    record {
+      sound = is.sound;
+      next = is.next;
+      layout = is.layout;
+      keeps = subst (IsMapOf image.layout image.words) (ap map_of is.base ∙ map_of-pairs_of (image_map image.layout image.words)) is.keeps;
+      contents = contents;
+      anchors = is.anchors;
+      within = subst (λ (l : Layout). IsShapeWithin l.slots l.nodes weighs (len (image_map image.layout image.words)) (image_map image.layout image.words) (image_anchors image.layout image.words)) is.layout
+          (subst (λ (a : Anchors). IsShapeWithin s'.layout.slots s'.layout.nodes weighs (len (image_map image.layout image.words)) (image_map image.layout image.words) a) is.anchors
+          (subst (λ (m : Map). IsShapeWithin s'.layout.slots s'.layout.nodes weighs (len m) m (anchors_in (world s'))) contents (opened_within image s' is)));
+      calls_left = ap (λ (n : ℕ). n / 4) is.locks;
+      writes_left = le-min spare (omega (arith, empty_history, few));
+    }

@@ -1,0 +1,44 @@
+use Rattle.std.proofs.Common.{◌≡◌, refl, ap}
+use Rattle.std.proofs.lemmas.Bool.{false≢true}
+use Rattle.index_law.specs.Anchors.{anchors_in}
+use Rattle.index_core.specs.Indexes.{world}
+use Rattle.index_core.specs.Lone.{FindsNoRoom, whole_of}
+use Rattle.core_rounds.specs.CoreMaps.{anchors_made}
+use Rattle.core_rounds.proofs.CoreMaps.{goes_through, full_exactly, stays_low, told_placed, told_full, writes_fall}
+use Rattle.core_rounds.proofs.core_map.call_alone.Goals as goal
+
+-- there is a lock left, and the clock is below the limit
+pub unreachable-requires : goal.unreachable-requires
+unreachable-requires g c = goes_through c.args.core.now _ c.args.call c.name_alone.new.self c.name_alone.result c.requires.index c.requires.unlimited c.requires.calls_left c.requires.writes_left c.name_alone.ensures.runs.answer c.in-Spent.is
+
+-- what it says where it took place
+placed_so : (g : _) (c : goal.In-Done g) → (FindsNoRoom c.args.call c.args.core.now → ⊥) × (anchors_in (world c.name_alone.new.self) ≡ anchors_made c.args.core.now c.args.call)
+placed_so g c = told_placed c.args.core.now c.args.call c.name_alone.new.self (whole_of c.name_alone.result) c.in-Done.placed c.requires.index c.requires.unlimited c.requires.calls_left (ap whole_of c.in-Done.is) c.name_alone.ensures.runs
+
+pub returns-in-Done-clause-full : goal.returns-in-Done-clause-full
+returns-in-Done-clause-full g c =
+    let exactly = full_exactly c.args.core.now c.args.call c.requires.index c.requires.quiet c.name_alone.ensures.runs.named c.requires.calls_left c.requires.stamps in
+    ((λ e. absurd (false≢true e)), (λ full. absurd ((placed_so g c).0 (exactly.1 full))))
+
+pub returns-in-Again-clause-full : goal.returns-in-Again-clause-full
+returns-in-Again-clause-full g c =
+    let exactly = full_exactly c.args.core.now c.args.call c.requires.index c.requires.quiet c.name_alone.ensures.runs.named c.requires.calls_left c.requires.stamps in
+    ((λ _. exactly.0 (told_full c.args.core.now c.args.call c.name_alone.new.self (whole_of c.name_alone.result) (ap whole_of c.in-Again.is) c.name_alone.ensures.runs).0), (λ _. refl))
+
+pub returns-in-Done-clause-anchors : goal.returns-in-Done-clause-anchors
+returns-in-Done-clause-anchors g c = (placed_so g c).1
+
+pub returns-in-Again-clause-err_anchors : goal.returns-in-Again-clause-err_anchors
+returns-in-Again-clause-err_anchors g c = (told_full c.args.core.now c.args.call c.name_alone.new.self (whole_of c.name_alone.result) (ap whole_of c.in-Again.is) c.name_alone.ensures.runs).1
+
+pub returns-in-Done-clause-writes_left : goal.returns-in-Done-clause-writes_left
+returns-in-Done-clause-writes_left g c = writes_fall c.args.core.now c.name_alone.new.self c.args.call (whole_of c.name_alone.result) _ c.name_alone.ensures.runs c.name_alone.ensures.spare
+
+pub returns-in-Again-clause-writes_left : goal.returns-in-Again-clause-writes_left
+returns-in-Again-clause-writes_left g c = writes_fall c.args.core.now c.name_alone.new.self c.args.call (whole_of c.name_alone.result) _ c.name_alone.ensures.runs c.name_alone.ensures.spare
+
+pub returns-in-Done-clause-stamps : goal.returns-in-Done-clause-stamps
+returns-in-Done-clause-stamps g c = stays_low _ _ _ _ _ c.name_alone.ensures.runs
+
+pub returns-in-Again-clause-stamps : goal.returns-in-Again-clause-stamps
+returns-in-Again-clause-stamps g c = stays_low _ _ _ _ _ c.name_alone.ensures.runs

@@ -1,0 +1,22 @@
+use Rattle.std.proofs.Common.{rules, sym, subst}
+use Rattle.cat_history.specs.Scans.{Rise}
+use Rattle.cat_history.proofs.ScanLemmas.{range_rises}
+use Rattle.core_rounds.proofs.ScanSteps.{part-is}
+use Rattle.core_rounds.proofs.round.read_part.Goals as goal
+
+pub returns-clause-part : goal.returns-clause-part
+returns-clause-part g c =
+    let M = g.M.NameMap in
+    let told = c.in_ok-high.ensures in
+    part-is (M.contents c.args.map.now) (M.anchors c.args.map.now) c.args.low c.args.left c.args.place _ _ told.high told.pairs
+
+pub returns-clause-report : goal.returns-clause-report
+returns-clause-report g c =
+    let told = c.in_ok-high.ensures in
+    record {
+      low = search rules;
+      high = search rules;
+      place = c.ranges.place.fits;
+      pairs = told.named;
+      rise = subst Rise (sym told.pairs) (range_rises (g.M.NameMap.contents c.args.map.now) c.args.low _ c.args.left);
+    }

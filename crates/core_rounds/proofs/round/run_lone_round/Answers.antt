@@ -1,0 +1,119 @@
+use Rattle.std.proofs.Common.{◌≡◌, ℕ, ◌+◌, ◌<◌, ◌≤◌, ◌↔◌, cond, List, [], ◌∷◌, ◌++◌, length, take, map, All, rules, refl, ap, subst, ◌∙◌, sym, arith, length-append}
+use Rattle.std.specs.FinMap.{len}
+use Rattle.cat_history.specs.LoneRounds.{write_of, writes_of, IsAnswerNow, IsSpent}
+use Rattle.cat_history.specs.Records.{call_of, numbered}
+use Rattle.cat_history.specs.Rounds.{IsWriter}
+use Rattle.core_rounds.specs.LoneCalls.{AreReportCalls}
+use Rattle.cat_history.specs.declared.op.CallerOp.{CallerOp}
+use Rattle.cat_history.specs.declared.record.Record.{Record}
+use Rattle.cat_history.specs.declared.record.Reply.TheVariants.{Full}
+use Rattle.core_rounds.specs.Rounds.{IsTurnDue}
+use Rattle.cat_history.proofs.LoneRoundLemmas.{lone_rounds_are_legal}
+use Rattle.cat_text.proofs.LoneReports.{lone_stand}
+use Rattle.shapes.specs.Runs.{Standing, opening}
+use Rattle.shapes.specs.ShapeRounds.{PutsFull, anchors_after}
+use Rattle.core_rounds.proofs.LoneRoundSteps.{one_at_most, recorded, writes_of-push, calls-push, calls-whole, along-push, ends-push, full-push, stands-push, anchors-push, bounds-push, told-push, none-so-far}
+use Rattle.core_rounds.proofs.round.run_lone_round.Goals.{then-is_placed_write, else-is_placed_write}
+use Rattle.core_rounds.proofs.round.run_lone_round.Goals as goal
+
+pub returns-in_err-records-clause-err : goal.returns-in_err-records-clause-err
+returns-in_err-records-clause-err g c =
+    let M = g.M.NameMap in
+    let none = none-so-far (M.slots c.args.map.now) (M.most c.args.map.now) (M.contents c.args.map.now) (M.anchors c.args.map.now) c.args.plan.now in
+    search (rules, none)
+
+pub loop-index-preserved : goal.loop-index-preserved
+loop-index-preserved g c =
+    let M = g.M.NameMap in
+    let was = c.loop-index.invariant in
+    let asked = c.as_slice-asked.result.now in
+    let same = c.as_slice-asked.ensures in
+    let index = c.loop-index.index in
+    let call = c.index-asked-index.result in
+    let reply = c.in_ok-answer.field-0 in
+    let answer = c.in_ok-answer.ensures in
+    let records = c.loop-index.records.items in
+    let base = M.contents c.args.map.now in
+    let now = M.contents c.loop-index.map in
+    let anchors = M.anchors c.args.map.now in
+    let slots = M.slots c.args.map.now in
+    let opened = opening base anchors in
+    let most = M.most c.args.map.now in
+    let shape = M.anchors c.loop-index.map in
+    let stood : Standing = record { map = now; anchors = shape; place = c.loop-index.writes } in
+    let r : Record = recorded index call reply in
+    let grown : c.push_reserved.new.self.items ≡ records ++ r ∷ [] = c.push_reserved.ensures.items in
+    let one = subst (λ (ops : List CallerOp). All (λ a. a.caller ≡ c.requires.caller.0) ops) (sym same) c.requires.caller.1 in
+    let told = subst AreReportCalls (sym same) c.requires.told in
+    let limit = c.args.plan.now.limit in
+    let late : Type 0 = IsWriter call.op × (limit ≤ c.loop-index.writes) in
+    let full = subst (λ (k : ℕ). (reply ≡ Full) ↔ ((late → ⊥) × PutsFull slots k now shape call.op)) was.most_stays
+    (subst (λ (k : ℕ). (reply ≡ Full) ↔ ((late → ⊥) × PutsFull k (M.most c.loop-index.map) now shape call.op)) was.slots_stay answer.full) in
+    let left = answer.anchors ∙ ap (λ (k : ℕ). anchors_after k now shape call.op reply) was.slots_stay in
+    let counted : c.if-is_placed_write.writes ≡ c.loop-index.writes + length (write_of r) =
+    elim c.if-is_placed_write.branch [
+      | then-is_placed_write w ↦ omega (arith, w.writes-is, c.is_placed_write.ensures, ap {B = ℕ} (λ b. cond b 1 0) w.if-is_placed_write.true)
+      | else-is_placed_write w ↦ omega (arith, w.writes-is, c.is_placed_write.ensures, ap {B = ℕ} (λ b. cond b 1 0) w.if-is_placed_write.false)
+    ] in
+    let stands = stands-push slots opened stood records r (M.contents c.answer.new.map) (M.anchors c.answer.new.map) c.if-is_placed_write.writes was.stands
+    (answer.left call.caller index) left counted in
+    let calls : map call_of records ≡ numbered (take index asked) = was.played.in_script_order ∙ ap (λ (ops : List CallerOp). numbered (take index ops)) (sym same) in
+    record {
+      played = rw grown (record {
+        answers = along-push (λ m place q. IsAnswerNow m place q.op q.reply) base now c.loop-index.writes records r was.played.answers was.played.after was.writes answer.answer;
+        in_script_order = calls-push c.requires.caller.0 asked index call reply records one c.loop-index-test.true c.index-asked-index.is calls ∙ ap (λ (ops : List CallerOp). numbered (take (index + 1) ops)) same;
+        spent = along-push (λ m place q. IsSpent q.reply ↔ (IsWriter q.op × (limit ≤ place))) base now c.loop-index.writes records r was.played.spent was.played.after was.writes answer.spent;
+        full = full-push slots most limit opened stood records r was.played.full was.stands full;
+        bounds = bounds-push slots base anchors shape records r was.played.bounds was.played.after_shape answer.bounds;
+        after = ends-push base now (M.contents c.answer.new.map) records r was.played.after (answer.left call.caller index);
+        after_shape = anchors-push slots base now anchors shape (M.anchors c.answer.new.map) records r was.played.after was.played.after_shape left;
+      });
+      told = rw grown (told-push asked index call reply records told c.loop-index-test.true c.index-asked-index.is answer.report was.told);
+      stands = rw grown stands;
+      writes = rw (grown, writes_of-push) (omega (arith, counted, was.writes, length-append (writes_of records) (write_of r)));
+      few = omega (arith, counted, was.few, one_at_most c.is_placed_write.result (length (write_of r)) c.is_placed_write.ensures);
+      slots_stay = c.answer.ensures.slots ∙ was.slots_stay;
+      most_stays = c.answer.ensures.most ∙ was.most_stays;
+      calls = omega (arith, was.calls, was.most_stays, c.answer.ensures.calls_left);
+      writes_left = omega (arith, was.writes_left, c.answer.ensures.writes_left);
+      made = c.push_reserved.ensures.len ∙ omega (arith, was.made);
+      reserved = omega (arith, was.reserved, c.push_reserved.ensures.capacity);
+      settled = λ some due. answer.settled (c.is_turn_due-is_due.ensures.1 due);
+    }
+
+pub returns-clause-played : goal.returns-clause-played
+returns-clause-played g c =
+    let was = c.loop-index.invariant.played in
+    let ops = c.args.plan.now.ops in
+    let callers = c.requires.caller.1 in
+    let calls = calls-whole ops ops c.loop-index.index c.loop-index.records.items refl (omega (arith, ap length c.as_slice-asked.ensures, c.loop-index-test.false)) was.in_script_order in
+    record {
+      legal = rw c.of.ensures
+          (lone_rounds_are_legal (g.M.NameMap.contents c.args.map.now) c.requires.caller.0 ops c.args.plan.now.limit c.loop-index.records.items callers calls was.answers was.spent);
+      answers = rw c.of.ensures was.answers;
+      spent = rw c.of.ensures was.spent;
+      in_script_order = rw c.of.ensures calls;
+      full = rw c.of.ensures was.full;
+      bounds = rw c.of.ensures was.bounds;
+      joined = refl;
+      placed = rw c.of.ensures c.loop-index.invariant.writes;
+      names = rw c.of.ensures (c.len.ensures ∙ ap len was.after);
+    }
+
+pub returns-clause-report : goal.returns-clause-report
+returns-clause-report g c =
+    let was = c.loop-index.invariant in
+    let ops = c.args.plan.now.ops in
+    let calls = calls-whole ops ops c.loop-index.index c.loop-index.records.items refl (omega (arith, ap length c.as_slice-asked.ensures, c.loop-index-test.false)) was.played.in_script_order in
+    record {
+      records = rw c.of.ensures was.told;
+      by_caller = rw c.of.ensures (lone_stand c.requires.caller.0 ops c.loop-index.records.items c.requires.caller.1 calls);
+      writes = search arith;
+      names = search arith;
+    }
+
+pub returns-clause-settled : goal.returns-clause-settled
+returns-clause-settled g c ends =
+    let same = ap length c.as_slice-asked.ensures in
+    let all : length c.args.plan.now.ops ≡ c.loop-index.index = omega (arith, same, c.loop-index-test.false) in
+    c.loop-index.invariant.settled (subst (λ n. 0 < n) all ends.0) (subst (IsTurnDue c.args.plan.now.updater) all ends.1)

@@ -1,0 +1,4 @@
+pub mod LoneCalls
+pub mod Rounds
+pub mod CoreMaps
+pub mod Summaries

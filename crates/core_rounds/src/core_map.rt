@@ -1,0 +1,285 @@
+//! The core of the index as a map of names: each call is a whole call of one caller, with no other in flight.
+
+ghost use Rattle.std.specs.Prelude.{◌≡◌, ◌+◌, ◌/◌, ◌^◌, ◌<◌, ◌≤◌, ◌↔◌, [], ◌∷◌, IfOk, OnOk, OnErr, IsErr};
+ghost use Rattle.std.specs.Prelude.{MatchResult};
+ghost use Rattle.std.specs.FinMap.{empty};
+ghost use Rattle.cat_history.specs.Maps.{at};
+ghost use Rattle.cat_history.specs.Records.{as_op, change_of};
+ghost use Rattle.call_stages.specs.Stages.{pended};
+ghost use Rattle.pm_words.specs.Layouts.{IsLayout};
+ghost use Rattle.version_lock.specs.declared.TheConstants.{LAST_COUNT};
+ghost use Rattle.node_ops.specs.Asked.{name_asked};
+ghost use Rattle.index_core.specs.CoreCalls.{most_writes, op_of};
+ghost use Rattle.index_core.specs.Indexes.{IsIndex, map_of_index, world};
+ghost use Rattle.index_core.specs.Listings.{ListsRange};
+ghost use Rattle.index_core.specs.Fulls.{HasLowStamps};
+ghost use Rattle.index_core.specs.Lone.{IsQuiet};
+ghost use Rattle.index_law.specs.Anchors.{anchors_in};
+ghost use Rattle.shapes.specs.Anchors.{next_of};
+ghost use Rattle.shapes.specs.ShapeRounds.{PutsFull};
+ghost use Rattle.recovery.specs.Opened.{IsOpenFault};
+ghost use Rattle.core_rounds.specs.CoreMaps.{IsImageOf, IsNextRun, IsOfRun, IsOpenedMap, IsUnlimited};
+ghost use Rattle.core_rounds.specs.CoreMaps.{anchors_made, calls_left_of, writes_left_of};
+
+use crate::updated_map::UpdatedMap;
+use call_stages::Once;
+use cat_history::{Listed, NoMemory};
+use cat_key::Name;
+use index_core::{Core, CoreCall, listed_pairs};
+use node_ops::PartWords;
+use pm_words::{Image, Layout, Steps};
+use recovery::{OpenFault, recover};
+use shapes::{Full, MapPart, NameMap};
+use std::alloc::Global;
+use std::marker::{Brand, Model, PhantomData};
+use std::sync::ledger::Ledger;
+
+/// The caller that makes the calls.
+const CALLER: u64 = 0;
+
+/// The clock at which writes are refused. No run comes as far.
+const LIMIT: u64 = 1 << 62;
+
+/// The layout and the generation of a run of the index, for proofs alone: no call changes them.
+pub trait RunOf {
+    ghost use Rattle.std.specs.Prelude.{ℕ};
+    ghost use Rattle.pm_words.specs.declared.layout.Layout.{Layout};
+
+    ghost layout: { Layout };
+
+    ghost generation: { ℕ };
+}
+
+impl RunOf for Brand {
+    ghost layout = { record { nodes = 1; slots = 4; callers = 1 } };
+
+    ghost generation = { 1 };
+}
+
+/// The index as a map of names. Contracts see it as its index.
+#[derive(Drop)]
+pub struct CoreMap<L: Ledger, K: RunOf> {
+    core: Core,
+    /// How many names the map has.
+    names: u64,
+    steps: Steps<L>,
+    run: PhantomData<K>,
+}
+
+impl<L: Ledger, K: RunOf> Model for CoreMap<L, K> {
+    ghost use Rattle.index_core.specs.Indexes.{Index};
+    ghost use Rattle.core_rounds.specs.CoreMaps.{IsCoreMap, IsOfRun};
+
+    ghost Value = { Index };
+
+    ghost view = { λ m. m.core };
+
+    ghost invariant = { λ m. IsCoreMap m.core m.names × IsOfRun K.layout K.generation m.core };
+}
+
+impl<L: Ledger, K: RunOf> CoreMap<L, K> {
+    /// A map without names, that can have so many puts and removals.
+    pub fn new(
+        alloc: Global,
+        layout: Layout,
+        writes: u64,
+        steps: Steps<L>,
+    ) -> Result<CoreMap<L, K>, NoMemory>
+        requires layout { IsLayout layout }
+        requires writes { writes ≤ 2 ^ 62 }
+        requires run { (K.layout ≡ layout) × (K.generation ≡ 1) }
+        ensures empty { IfOk result (λ map. map_of_index map ≡ empty) }
+        ensures anchors { IfOk result (λ map. anchors_in (world map) ≡ [] ∷ []) }
+        ensures slots { IfOk result (λ map. map.layout.slots ≡ layout.slots) }
+        ensures most { IfOk result (λ map. map.layout.nodes ≡ layout.nodes) }
+        ensures calls_left { IfOk result (λ map. calls_left_of map ≡ LAST_COUNT / 4) }
+        ensures writes_left { IfOk result (λ map. writes ≤ writes_left_of map) }
+    {
+        let mut core = Core::fresh(alloc, layout)?;
+        core.reserve(writes)?;
+        Ok(CoreMap {
+            core,
+            names: 0,
+            steps,
+            run: PhantomData,
+        })
+    }
+
+    /// The map that an image keeps, that can have so many puts and removals. It is that of the image's next generation.
+    pub fn opened(
+        alloc: Global,
+        image: Image,
+        writes: u64,
+        steps: Steps<L>,
+    ) -> Result<CoreMap<L, K>, OpenFault>
+        requires writes { writes ≤ 2 ^ 62 }
+        requires run { IsNextRun image K.layout K.generation }
+        ensures opened { MatchResult result (IsOpenedMap image writes) (IsOpenFault image) }
+    {
+        let mut core = recover(alloc, image)?;
+        core.reserve(writes)?;
+        let names = core.base().as_slice().len() as u64;
+        Ok(CoreMap {
+            core,
+            names,
+            steps,
+            run: PhantomData,
+        })
+    }
+
+    /// The image of the index as it is.
+    pub fn image(&self, alloc: Global) -> Result<Image, NoMemory>
+        ensures image { IfOk result (IsImageOf self.now) }
+        ensures run { IsOfRun K.layout K.generation self.now }
+    {
+        self.core.image(alloc)
+    }
+}
+
+impl<L: Ledger, K: RunOf> NameMap for CoreMap<L, K> {
+    ghost use Rattle.index_core.specs.Indexes.{map_of_index, world};
+    ghost use Rattle.index_law.specs.Anchors.{anchors_in};
+    ghost use Rattle.core_rounds.specs.CoreMaps.{calls_left_of, writes_left_of};
+
+    ghost contents = { map_of_index };
+
+    ghost anchors = { λ map. anchors_in (world map) };
+
+    ghost slots = { λ map. map.layout.slots };
+
+    ghost most = { λ map. map.layout.nodes };
+
+    ghost calls_left = { calls_left_of };
+
+    ghost writes_left = { writes_left_of };
+
+    fn has_shape(&self) {
+        // Its fields have what is known of it.
+        let _names = self.names;
+    }
+
+    fn get(&mut self, name: &Name) -> Option<u64> {
+        let call = CoreCall::Get { name: *name };
+        match call_alone(&mut self.core, call, &mut self.steps) {
+            Ok(old) => old,
+            Err(Full) => unreachable!(),
+        }
+    }
+
+    fn part(&mut self, alloc: Global, low: &Name, count: u64) -> Result<MapPart, NoMemory> {
+        let words = list_alone(&mut self.core, low, count, &mut self.steps);
+        Ok(MapPart {
+            high: words.high,
+            pairs: Listed::of(listed_pairs(alloc, &words)?),
+        })
+    }
+
+    fn put(&mut self, name: &Name, value: u64) -> Result<Option<u64>, Full> {
+        let call = CoreCall::Put {
+            name: *name,
+            value,
+            limit: LIMIT,
+        };
+        let old = call_alone(&mut self.core, call, &mut self.steps)?;
+        if old.is_none() {
+            self.names += 1;
+        }
+        Ok(old)
+    }
+
+    fn del(&mut self, name: &Name) -> Option<u64> {
+        let call = CoreCall::Del {
+            name: *name,
+            limit: LIMIT,
+        };
+        match call_alone(&mut self.core, call, &mut self.steps) {
+            Ok(old) => {
+                if old.is_some() {
+                    self.names -= 1;
+                }
+                old
+            }
+            Err(Full) => unreachable!(),
+        }
+    }
+
+    fn len(&self) -> u64 {
+        self.names
+    }
+}
+
+/// The stamp that turns of the updater give to merged nodes, and the greatest that they release.
+const STAMP: u64 = 1;
+
+impl<L: Ledger, K: RunOf> UpdatedMap for CoreMap<L, K> {
+    ghost use Rattle.core_rounds.specs.CoreMaps.{HasNoLines};
+
+    ghost is_settled = { HasNoLines };
+
+    fn turn(&mut self) {
+        let updater = self.core.layout().callers();
+        self.core.turn_alone(updater, STAMP, STAMP, &mut self.steps);
+    }
+}
+
+/// A whole call on an index that has calls left, with no other in flight. `Full` comes exactly where a put is full in
+/// the shape, and then nothing changes; else the answer is the number that the name had.
+fn call_alone<L: Ledger>(
+    core: &mut Core,
+    call: CoreCall,
+    steps: &mut Steps<L>,
+) -> Result<Option<u64>, Full>
+    requires index { IsIndex core.old }
+    requires quiet { IsQuiet core.old }
+    requires stamps { HasLowStamps core.old }
+    requires unlimited { IsUnlimited call }
+    requires calls_left { 0 < calls_left_of core.old }
+    requires writes_left { most_writes call ≤ writes_left_of core.old }
+    ensures old { IfOk result (λ old. old ≡ at (map_of_index core.old) (name_asked (op_of call))) }
+    ensures ok { OnOk result (map_of_index core.new ≡ pended (change_of (op_of call)) (map_of_index core.old)) }
+    ensures anchors { OnOk result (anchors_in (world core.new) ≡ anchors_made core.old call) }
+    ensures full { IsErr result ↔ PutsFull core.old.layout.slots core.old.layout.nodes (map_of_index core.old)
+        (anchors_in (world core.old)) (as_op (op_of call)) }
+    ensures err { OnErr result (map_of_index core.new ≡ map_of_index core.old) }
+    ensures err_anchors { OnErr result (anchors_in (world core.new) ≡ anchors_in (world core.old)) }
+    ensures layout { core.new.layout ≡ core.old.layout }
+    ensures generation { core.new.generation ≡ core.old.generation }
+    ensures calls_left { calls_left_of core.old ≤ calls_left_of core.new + 1 }
+    ensures writes_left { writes_left_of core.old ≤ writes_left_of core.new + most_writes call }
+    ensures quiet { IsQuiet core.new }
+    ensures stamps { HasLowStamps core.old → HasLowStamps core.new }
+    ensures index { IsIndex core.new }
+{
+    match core.name_alone(CALLER, call, steps) {
+        Once::Done(placed) => Ok(placed.old),
+        // A call that is alone is turned back for want of room only.
+        Once::Again(_) => Err(Full),
+        // There is a lock left, and the clock is below the limit.
+        Once::Spent { .. } | Once::Worn { .. } => unreachable!(),
+    }
+}
+
+/// A whole part of a scan on an index that has calls left, with no call in flight: it lists the first names from the low
+/// one on, so many at most, of those that belong to its member.
+fn list_alone<L: Ledger>(core: &mut Core, low: &Name, count: u64, steps: &mut Steps<L>) -> PartWords
+    requires index { IsIndex core.old }
+    requires quiet { IsQuiet core.old }
+    requires calls_left { 0 < calls_left_of core.old }
+    ensures high { result.high ≡ next_of (anchors_in (world core.old)) low.now }
+    ensures lists { ListsRange (map_of_index core.old) low.now count result }
+    ensures map { map_of_index core.new ≡ map_of_index core.old }
+    ensures anchors { anchors_in (world core.new) ≡ anchors_in (world core.old) }
+    ensures layout { core.new.layout ≡ core.old.layout }
+    ensures generation { core.new.generation ≡ core.old.generation }
+    ensures calls_left { calls_left_of core.old ≤ calls_left_of core.new + 1 }
+    ensures writes_left { writes_left_of core.old ≤ writes_left_of core.new }
+    ensures quiet { IsQuiet core.new }
+    ensures stamps { HasLowStamps core.old → HasLowStamps core.new }
+    ensures index { IsIndex core.new }
+{
+    match core.part_alone(CALLER, *low, count, steps) {
+        Once::Done(words) => words,
+        // There is a lock left.
+        Once::Spent { .. } | Once::Worn { .. } | Once::Again(_) => unreachable!(),
+    }
+}
