@@ -1,6 +1,6 @@
 -- An index in which no node is FREE weighs at least half of all its slots: each node has its half of what the index
 -- weighs, and no part of that serves two of them.
-use Rattle.std.proofs.Common.{◌≡◌, ◌≢◌, ℕ, zero, suc, ◌+◌, ◌*◌, ◌/◌, ◌-◌, ◌<◌, ◌≤◌, ◌⊎◌, inl, inr, ⊎_elim, Bool, true, false, cond, List, [], ◌∷◌, refl, sym, ap, ap₂, ◌∙◌, subst, arith}
+use Rattle.std.proofs.Common.{◌≡◌, ◌≢◌, ℕ, zero, suc, ◌+◌, ◌*◌, ◌/◌, ◌<◌, ◌≤◌, ◌⊎◌, inl, inr, ⊎_elim, Bool, true, false, cond, List, [], ◌∷◌, refl, sym, ap, ◌∙◌, subst, arith}
 use Rattle.std.specs.Prelude.{Option, Some, None, ◌==◌}
 use Rattle.std.proofs.lemmas.Bool.{cases_eq, eq-eqb, eqb-true}
 use Rattle.std.proofs.Math.Nat.{suc-mul}
@@ -12,7 +12,7 @@ use Rattle.data_node.specs.Lists.{ListNode, IsMember}
 use Rattle.data_node.specs.Slots.{AreAllLive}
 use Rattle.data_node.specs.Spots.{bitmap_offset}
 use Rattle.data_node.specs.Weights.{names_in, total}
-use Rattle.call_stages.specs.Kinds.{free_status, live_status, gone_status}
+use Rattle.call_stages.specs.Kinds.{live_status, gone_status}
 use Rattle.call_stages.specs.Stages.{Held, Grip, Filling, Linked, Parted, Gathered, Joined, Gone, Stage, Idle, Saw, Wears, Holds, Eyes, Splits, Leaves, Meets, Joins, HoldsNode}
 use Rattle.index_law.specs.Facts.{Facts, range_of, IsListed}
 use Rattle.index_law.specs.Worlds.{Party, World, facts}

@@ -19,6 +19,7 @@ use Rattle.call_stages.specs.declared.once.Placed.{Placed}
 use Rattle.call_stages.specs.Stages.{Grip, Stage, Idle, Saw, Wears, Holds, Eyes, Splits, Leaves, Meets, Joins, Tells, counted, placed_in}
 use Rattle.call_stages.specs.Kinds.{Step}
 use Rattle.call_stages.specs.Lines.{HeldLine, line_address, Marks, fills, opens, readies, Notes, passes_line, takes, looks_up, notes, keeps_safe}
+use Rattle.call_stages.specs.AnySteps.{leaf_address}
 use Rattle.call_stages.specs.Footings.{Footing, IsOpenOf, Minds, HasLine, IsKnownEmpty, IsLeftToTurn, KeepsOrLetsGo, Waits, FootStep}
 use Rattle.call_stages.specs.Footings as foot
 use Rattle.call_stages.specs.Prevs.{Prevs, IsSwitch, IsJoin}
@@ -414,6 +415,14 @@ log_goes name own w0 z i p f next a x is o o' at_line owing stage stands (foot.o
     record {
       layer = layer_on name own w0 z i p is o (acted l z.whole.world.words a) both_so.0.cached stands.layer;
       lines = moment p.caller w0 z.whole.world (stepped z.whole.world i p a s) s line (both_so.1 0 (omega arith)) stands.lines;
+    }
+log_goes name own w0 z i p f next a x is o o' at_line owing stage stands (foot.on_layer {stage = s} {line = line} {leaf = leaf} {offset = offset} none has) told in_step =
+    let l = z.whole.world.layout in
+    let words = z.whole.world.words in
+    let same : acted l words a ≡ words = set-get_or words (leaf_address l leaf offset) 0 in
+    record {
+      layer = layer_on name own w0 z i p is o (acted l words a) (ap (λ (v : List ℕ). (rest_in l v).leaves) same) stands.layer;
+      lines = moment p.caller w0 z.whole.world (stepped z.whole.world i p a s) s line (ap (λ (v : List ℕ). line_field l v Cached 0) same) stands.lines;
     }
 
 pub log_ends : LogEnds

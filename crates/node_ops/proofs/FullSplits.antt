@@ -1,12 +1,11 @@
 -- A call that splits a node knows that it is full until that leads to the fresh one; no other call splits one.
-use Rattle.std.proofs.Common.{◌≡◌, ℕ, ◌≤◌, sym, subst, arith}
+use Rattle.std.proofs.Common.{ℕ, ◌≤◌, sym, subst, arith}
 use Rattle.data_node.specs.Slots.{AreAllLive}
 use Rattle.call_stages.specs.Stages.{Stage, Idle, Saw, Wears, Holds, Eyes, Splits, Leaves, Meets, Joins}
 use Rattle.call_stages.specs.declared.view.View.{View}
 use Rattle.split_merge.specs.SplitLaws.{IsSplitOfFull}
 use Rattle.split_merge.specs.SplitStages.{split_footing}
 use Rattle.split_merge.proofs.FullSplits.{splits_are_of_full, merges_split_none}
-use Rattle.node_ops.specs.declared.del.Del.{Del}
 use Rattle.node_ops.specs.declared.del.Del.TheVariants as del
 use Rattle.node_ops.specs.declared.single_del.SingleDel.TheVariants as single_del
 use Rattle.node_ops.specs.declared.get.Get.TheVariants as get

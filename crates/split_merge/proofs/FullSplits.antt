@@ -1,10 +1,10 @@
 -- A split knows that its node is full until that leads to the fresh one.
-use Rattle.std.proofs.Common.{◌≡◌, ℕ, ◌≤◌, ◌*◌, ◌+◌, Bool, true, false, cond, List, ◌∷◌}
+use Rattle.std.proofs.Common.{ℕ, ◌≤◌, ◌*◌, ◌+◌, true, false, cond, List, ◌∷◌}
 use Rattle.version_lock.specs.Versions.{is_free_word, is_worn_word}
 use Rattle.data_node.specs.Slots.{AreAllLive}
 use Rattle.data_node.specs.Spots.{Spot, bitmap_offset}
 use Rattle.data_node.specs.Lists.{next_offset}
-use Rattle.call_stages.specs.Stages.{Held, Tells, Stage, Holds, Eyes}
+use Rattle.call_stages.specs.Stages.{Held, Tells, Holds, Eyes}
 use Rattle.pm_alloc.specs.declared.claim.ClaimAt.{ClaimAt}
 use Rattle.pm_alloc.specs.declared.claim.ClaimAt.TheVariants as claim_at
 use Rattle.pm_alloc.specs.Claims.{lock_of}
@@ -23,7 +23,7 @@ use Rattle.split_merge.specs.declared.merging.MergeAt.{MergeAt}
 use Rattle.split_merge.specs.declared.merging.MergeAt.TheVariants as merge_at
 use Rattle.split_merge.specs.JoinStages.{join_at_stage}
 use Rattle.split_merge.specs.MergeStages.{merge_at_footing}
-use Rattle.split_merge.specs.MoveStages.{Known, move_at_stage}
+use Rattle.split_merge.specs.MoveStages.{move_at_stage}
 use Rattle.split_merge.specs.Plans.{spot_of}
 use Rattle.split_merge.specs.SplitLaws.{IsSplitOfFull, SplitsAreOfFull, MergesSplitNone}
 use Rattle.split_merge.specs.SplitStages.{bitmap_in, read_seen, known_by, split_at_footing}
