@@ -92,7 +92,8 @@ impl Shared {
             (seen_by caller.old) answer (seen_by caller.new)) }
         ensures spare { spare_of caller.old ≤ spare_of caller.new }
     {
-        self.try_part(caller, *low, count, &OpenGate)
+        let mut pace = Pace::begin(&OpenGate, caller.number, caller.index);
+        self.try_part(caller, *low, count, &mut pace)
     }
 
     /// One try of a call on one name, with the gate before its first step and between its steps.
@@ -149,13 +150,32 @@ impl Shared {
         Tried::Answered(answer)
     }
 
-    /// One try of a part of a range scan, with the gate in the same way.
+    /// One try of a get, of a whole call that goes at this pace.
+    pub(crate) fn try_get<G: Gate>(
+        &self,
+        caller: &mut Caller,
+        name: Name,
+        pace: &mut Pace<'_, G>,
+    ) -> Tried<Placed>
+        requires caller { IsCallerOf self.now caller.old }
+        requires worker { caller.old.number < self.now.about.layout.callers }
+        ensures caller { IsCallerOf self.now caller.new }
+        ensures number { caller.new.number ≡ caller.old.number }
+        ensures index { IsAnswered result (λ answer. caller.new.index ≡ counted_index caller.old.index answer) }
+        ensures answered { IsAnswered result (λ answer. Answers (call.Get name) caller.old.index
+            (seen_by caller.old) answer (seen_by caller.new)) }
+        ensures spare { spare_of caller.old ≤ spare_of caller.new }
+    {
+        self.try_at_pace(caller, CoreCall::Get { name }, pace)
+    }
+
+    /// One try of a part of a range scan, of a whole call that goes at this pace.
     pub(crate) fn try_part<G: Gate>(
         &self,
         caller: &mut Caller,
         low: Name,
         count: u64,
-        gate: &G,
+        pace: &mut Pace<'_, G>,
     ) -> Tried<PartWords>
         requires caller { IsCallerOf self.now caller.old }
         requires worker { caller.old.number < self.now.about.layout.callers }
@@ -166,14 +186,13 @@ impl Shared {
             answer (seen_by caller.new)) }
         ensures spare { spare_of caller.old ≤ spare_of caller.new }
     {
-        let mut pace = Pace::begin(gate, caller.number, caller.index);
         let answer = self.run_part::<Brand, G>(
             &mut caller.seat,
             caller.number,
             caller.index,
             low,
             count,
-            &mut pace,
+            pace,
         );
         caller.index = index_after(caller.index, &answer);
         Tried::Answered(answer)

@@ -34,8 +34,29 @@ impl Shared {
             before (once.Done placed) after) (seen_by caller.old) (seen_by caller.new)) }
         ensures spare { spare_of caller.old ≤ spare_of caller.new }
     {
+        self.get_at(rt, caller, *name, &OpenGate)
+    }
+
+    /// A get with the gate before its first step and between its steps, over all tries.
+    pub(crate) fn get_at<R: Wait, G: Gate>(
+        &self,
+        rt: &R,
+        caller: &mut Caller,
+        name: Name,
+        gate: &G,
+    ) -> Ended<Placed>
+        requires caller { IsCallerOf self.now caller.old }
+        requires worker { caller.old.number < self.now.about.layout.callers }
+        ensures caller { IsCallerOf self.now caller.new }
+        ensures number { caller.new.number ≡ caller.old.number }
+        ensures index { caller.new.index ≡ next_index caller.old.index }
+        ensures done { IsDone result (λ placed. AtLast (λ before after. Answers (call.Get name) caller.old.index
+            before (once.Done placed) after) (seen_by caller.old) (seen_by caller.new)) }
+        ensures spare { spare_of caller.old ≤ spare_of caller.new }
+    {
+        let mut pace = Pace::begin(gate, caller.number, caller.index);
         for _ in rt.forever() {
-            if let Some(ended) = self.get_once(caller, name).ended() {
+            if let Some(ended) = self.try_get(caller, name, &mut pace).ended() {
                 return ended;
             }
             yield_now();
@@ -60,8 +81,51 @@ impl Shared {
             before (once.Done words) after) (seen_by caller.old) (seen_by caller.new)) }
         ensures spare { spare_of caller.old ≤ spare_of caller.new }
     {
+        self.part_at(rt, caller, *low, count, &OpenGate)
+    }
+
+    /// A part with the gate in the same way.
+    pub(crate) fn part_at<R: Wait, G: Gate>(
+        &self,
+        rt: &R,
+        caller: &mut Caller,
+        low: Name,
+        count: u64,
+        gate: &G,
+    ) -> Ended<PartWords>
+        requires caller { IsCallerOf self.now caller.old }
+        requires worker { caller.old.number < self.now.about.layout.callers }
+        ensures caller { IsCallerOf self.now caller.new }
+        ensures number { caller.new.number ≡ caller.old.number }
+        ensures index { caller.new.index ≡ next_index caller.old.index }
+        ensures done { IsDone result (λ words. AtLast (λ before after. PartAnswers low count caller.old.index
+            before (once.Done words) after) (seen_by caller.old) (seen_by caller.new)) }
+        ensures spare { spare_of caller.old ≤ spare_of caller.new }
+    {
+        let mut pace = Pace::begin(gate, caller.number, caller.index);
+        self.part_at_pace(rt, caller, low, count, &mut pace)
+    }
+
+    /// A part of a whole call that goes at this pace: of itself, or of a scan.
+    pub(crate) fn part_at_pace<R: Wait, G: Gate>(
+        &self,
+        rt: &R,
+        caller: &mut Caller,
+        low: Name,
+        count: u64,
+        pace: &mut Pace<'_, G>,
+    ) -> Ended<PartWords>
+        requires caller { IsCallerOf self.now caller.old }
+        requires worker { caller.old.number < self.now.about.layout.callers }
+        ensures caller { IsCallerOf self.now caller.new }
+        ensures number { caller.new.number ≡ caller.old.number }
+        ensures index { caller.new.index ≡ next_index caller.old.index }
+        ensures done { IsDone result (λ words. AtLast (λ before after. PartAnswers low count caller.old.index
+            before (once.Done words) after) (seen_by caller.old) (seen_by caller.new)) }
+        ensures spare { spare_of caller.old ≤ spare_of caller.new }
+    {
         for _ in rt.forever() {
-            if let Some(ended) = self.part_once(caller, low, count).ended() {
+            if let Some(ended) = self.try_part(caller, low, count, pace).ended() {
                 return ended;
             }
             yield_now();
@@ -80,7 +144,25 @@ impl Shared {
         ensures done { IsDone result (λ turned. AtLast (λ before after. TurnAnswers before (reply.Turned turned) after)
             (seen_by caller.old) (seen_by caller.new)) }
     {
-        let mut pace = Pace::begin(&OpenGate, caller.number, caller.index);
+        self.turn_at(rt, caller, &OpenGate)
+    }
+
+    /// A turn of the updater by its caller with the gate in the same way.
+    pub(crate) fn turn_at<R: Wait, G: Gate>(
+        &self,
+        rt: &R,
+        caller: &mut Caller,
+        gate: &G,
+    ) -> Ended<Turned>
+        requires caller { IsCallerOf self.now caller.old }
+        requires updater { caller.old.number ≡ self.now.about.layout.callers }
+        ensures caller { IsCallerOf self.now caller.new }
+        ensures same { (caller.new.number ≡ caller.old.number) × (caller.new.index ≡ caller.old.index) ×
+            (caller.new.kept ≡ caller.old.kept) }
+        ensures done { IsDone result (λ turned. AtLast (λ before after. TurnAnswers before (reply.Turned turned) after)
+            (seen_by caller.old) (seen_by caller.new)) }
+    {
+        let mut pace = Pace::begin(gate, caller.number, caller.index);
         self.turn_at_pace(rt, caller, &mut pace)
     }
 

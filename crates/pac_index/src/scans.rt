@@ -8,6 +8,7 @@ ghost use Rattle.pac_index.specs.Scanned.{AreScanned, IsRead, IsScanned};
 
 use crate::caller::Caller;
 use crate::ended::Ended;
+use crate::gate::{Gate, OpenGate, Pace};
 use crate::shared::Shared;
 use cat_history::{Listed, Parts, ScanPart};
 use cat_key::Name;
@@ -50,19 +51,44 @@ impl Shared {
             (AreScanned from.now count (seen_by caller.old) (seen_by caller.new))) }
         ensures spare { spare_of caller.old ≤ spare_of caller.new }
     {
-        let parts = self.read_parts(rt, alloc, caller, *from, count);
-        caller.index = caller.index.saturating_add(1);
-        Ok(Scanned::Done(parts?))
+        self.scan_at(rt, alloc, caller, *from, count, &OpenGate)
     }
 
-    /// The parts of a scan, which isn't counted as a call yet.
-    fn read_parts<R: Wait>(
+    /// A scan with the gate before its first step and between its steps, over all tries of all parts.
+    pub(crate) fn scan_at<R: Wait, G: Gate>(
         &self,
         rt: &R,
         alloc: Global,
         caller: &mut Caller,
         from: Name,
         count: u64,
+        gate: &G,
+    ) -> Result<Scanned, NoMemory>
+        requires caller { IsCallerOf self.now caller.old }
+        requires worker { caller.old.number < self.now.about.layout.callers }
+        ensures caller { IsCallerOf self.now caller.new }
+        ensures number { caller.new.number ≡ caller.old.number }
+        ensures index { caller.new.index ≡ next_index caller.old.index }
+        ensures reads { HasOnlyRead (seen_by caller.old) (seen_by caller.new) }
+        ensures done { IfOk result (λ scanned. IsScanned scanned
+            (AreScanned from count (seen_by caller.old) (seen_by caller.new))) }
+        ensures spare { spare_of caller.old ≤ spare_of caller.new }
+    {
+        let mut pace = Pace::begin(gate, caller.number, caller.index);
+        let parts = self.read_parts(rt, alloc, caller, from, count, &mut pace);
+        caller.index = caller.index.saturating_add(1);
+        Ok(Scanned::Done(parts?))
+    }
+
+    /// The parts of a scan, which isn't counted as a call yet.
+    fn read_parts<R: Wait, G: Gate>(
+        &self,
+        rt: &R,
+        alloc: Global,
+        caller: &mut Caller,
+        from: Name,
+        count: u64,
+        pace: &mut Pace<'_, G>,
     ) -> Result<Parts, NoMemory>
         requires caller { IsCallerOf self.now caller.old }
         requires worker { caller.old.number < self.now.about.layout.callers }
@@ -77,7 +103,7 @@ impl Shared {
         let mut left = count;
         let mut next = Some(from);
         while let Some(low) = next {
-            let part = self.read_part(rt, alloc, caller, low, left)?;
+            let part = self.read_part(rt, alloc, caller, low, left, pace)?;
             left -= part.pairs.as_slice().len() as u64;
             let high = part.high;
             parts.push(part)?;
@@ -87,13 +113,14 @@ impl Shared {
     }
 
     /// The part of a scan that begins at this name, with so many names left.
-    fn read_part<R: Wait>(
+    fn read_part<R: Wait, G: Gate>(
         &self,
         rt: &R,
         alloc: Global,
         caller: &mut Caller,
         low: Name,
         left: u64,
+        pace: &mut Pace<'_, G>,
     ) -> Result<ScanPart, NoMemory>
         requires caller { IsCallerOf self.now caller.old }
         requires worker { caller.old.number < self.now.about.layout.callers }
@@ -106,7 +133,7 @@ impl Shared {
     {
         // All parts of a scan are one call.
         let index = caller.index;
-        let ended = self.part(rt, caller, &low, left);
+        let ended = self.part_at_pace(rt, caller, low, left, pace);
         caller.index = index;
         let Ended::Done(words) = ended else {
             unreachable!()

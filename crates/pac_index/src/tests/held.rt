@@ -8,7 +8,7 @@ use super::gates::{puts, wait_for};
 use super::parts::{COUNT, ListedPart, are_of_history};
 use super::*;
 use crate::Gate;
-use crate::gate::OpenGate;
+use crate::gate::{OpenGate, Pace};
 
 /// No part here has as many steps.
 const STEPS: u64 = 60;
@@ -44,7 +44,8 @@ fn lists_held(
     ensures { IsCallerOf shared.now result.0 × (result.0.number ≡ caller.number) }
 {
     let mut caller = caller;
-    let tried = shared.try_part(&mut caller, low, COUNT, gate);
+    let mut pace = Pace::begin(gate, caller.number, caller.index);
+    let tried = shared.try_part(&mut caller, low, COUNT, &mut pace);
     gate.stands.store(true, Ordering::SeqCst);
     let part = match tried {
         Tried::Answered(Once::Done(words)) => Some(ListedPart { low, words }),

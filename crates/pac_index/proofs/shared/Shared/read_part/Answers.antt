@@ -8,8 +8,8 @@ use Rattle.pac_index.proofs.shared.Shared.read_part.Goals as goal
 pub returns-clause-part : goal.returns-clause-part
 returns-clause-part g c =
     let told = c.in_ok-listed_pairs.ensures in
-    part_is c.args.low c.args.left c.args.caller.now.index (seen_by c.args.caller.now) (seen_by c.part-ended.new.caller) c.in-Done.words c.in-Done.ensures.done c.of.result (c.of.ensures ∙ told.pairs)
+    part_is c.args.low c.args.left c.args.caller.now.index (seen_by c.args.caller.now) (seen_by c.part_at_pace-ended.new.caller) c.in-Done.words c.in-Done.ensures.done c.of.result (c.of.ensures ∙ told.pairs)
     (subst (All (λ (pair : Pair). IsName pair.name × (pair.value < 2 ^ 64))) (sym c.of.ensures) told.named)
 
 pub returns-clause-reads : goal.returns-clause-reads
-returns-clause-reads g c = part_reads c.args.low c.args.left c.args.caller.now.index (seen_by c.args.caller.now) (seen_by c.part-ended.new.caller) c.in-Done.words c.in-Done.ensures.done
+returns-clause-reads g c = part_reads c.args.low c.args.left c.args.caller.now.index (seen_by c.args.caller.now) (seen_by c.part_at_pace-ended.new.caller) c.in-Done.words c.in-Done.ensures.done

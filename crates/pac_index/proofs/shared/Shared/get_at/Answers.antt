@@ -1,17 +1,17 @@
 use Rattle.std.proofs.Common.{◌≤◌, sym, ◌∙◌, arith}
 use Rattle.pac_index.specs.Callers.{spare_of, seen_by}
 use Rattle.pac_index.proofs.Repeating.{get_again, none_else}
-use Rattle.pac_index.proofs.shared.Shared.get.Goals as goal
+use Rattle.pac_index.proofs.shared.Shared.get_at.Goals as goal
 
 pub loop-preserved : goal.loop-preserved
 loop-preserved g c =
     let old = c.args.caller.now in
     let before = c.loop.caller in
-    let after = c.get_once.new.caller in
-    let on = c.get_once.ensures in
+    let after = c.try_get.new.caller in
+    let on = c.try_get.ensures in
     let spare : spare_of old ≤ spare_of after = let was = c.loop.invariant.2 in let now = on.spare in omega arith in (
       on.caller,
       on.number ∙ c.loop.invariant.1,
       spare,
-      get_again c.args.name.now old.index before.index after.index (seen_by old) (seen_by before) (seen_by after) c.get_once.result c.loop.invariant.3 (sym c.ended.ensures ∙ none_else c.ended.result c.in_default.not-Some) on.index on.answered,
+      get_again c.args.name old.index before.index after.index (seen_by old) (seen_by before) (seen_by after) c.try_get.result c.loop.invariant.3 (sym c.ended.ensures ∙ none_else c.ended.result c.in_default.not-Some) on.index on.answered,
     )

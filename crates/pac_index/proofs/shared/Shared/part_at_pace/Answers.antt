@@ -1,17 +1,17 @@
 use Rattle.std.proofs.Common.{◌≤◌, sym, ◌∙◌, arith}
 use Rattle.pac_index.specs.Callers.{spare_of, seen_by}
 use Rattle.pac_index.proofs.Repeating.{part_again, none_else}
-use Rattle.pac_index.proofs.shared.Shared.part.Goals as goal
+use Rattle.pac_index.proofs.shared.Shared.part_at_pace.Goals as goal
 
 pub loop-preserved : goal.loop-preserved
 loop-preserved g c =
     let old = c.args.caller.now in
     let before = c.loop.caller in
-    let after = c.part_once.new.caller in
-    let on = c.part_once.ensures in
+    let after = c.try_part.new.caller in
+    let on = c.try_part.ensures in
     let spare : spare_of old ≤ spare_of after = let was = c.loop.invariant.2 in let now = on.spare in omega arith in (
       on.caller,
       on.number ∙ c.loop.invariant.1,
       spare,
-      part_again c.args.low.now c.args.count old.index before.index after.index (seen_by old) (seen_by before) (seen_by after) c.part_once.result c.loop.invariant.3 (sym c.ended.ensures ∙ none_else c.ended.result c.in_default.not-Some) on.index on.answered,
+      part_again c.args.low c.args.count old.index before.index after.index (seen_by old) (seen_by before) (seen_by after) c.try_part.result c.loop.invariant.3 (sym c.ended.ensures ∙ none_else c.ended.result c.in_default.not-Some) on.index on.answered,
     )
