@@ -1,10 +1,11 @@
 //! The top call on whole scripts, over a source and a sink in memory.
 
+
 use super::*;
 use cat_script::{Reason, ScriptFault};
 use cat_text::{FaultPlan, MemoryShelf, MemorySink, MemorySource, Shelf};
 use pm_words::{Field, ImageFault};
-use std::alloc::AllocError;
+use std::alloc::{AllocError, Global};
 use std::test::Fail;
 
 const PLAY: &str = "play 1 64 1";
@@ -186,6 +187,154 @@ fn blames_the_shelf_for_its_faults(rt: HostRuntime) -> Result<(), Fail> {
         }
         let (status, written) = run_on(&rt, &mut shelf, "words c 5 1")?;
         assert_eq!(rt; (status, written.len()), (Status::Shelf, 0));
+    }
+    Ok(())
+}
+
+/// Commands on one shelf, in their order, each with its script, its status and what it writes.
+#[test]
+fn runs_scripts_on_files(rt: HostRuntime) -> Result<(), Fail> {
+    let mut shelf = MemoryShelf::new(rt.alloc(), FaultPlan::new(rt.alloc()));
+    let done = Status::Done;
+    let missing = Status::Image(ImageRefusal::Missing);
+    let five = "0 put a 1\n0 put b 2\n0 put c 3\n0 put d 4\n0 put e 5\n";
+    let no_turns = format!(in rt.alloc(); "updater 0\n{five}")?;
+    let with_turns = format!(in rt.alloc(); "updater 1\n{five}")?;
+    let answers =
+        "0 put a 1 -> none @0\n0 put b 2 -> none @1\n0 put c 3 -> none @2\n0 put d 4 -> none @3\n\
+         0 put e 5 -> none @4\njoin 5 names 5\n";
+    let rows = [
+        ("run c", "0 get a\n", missing, ""),
+        // A text that is no script is told so first.
+        ("run c", "0 get a\n0 get\n", at_line(2, Reason::Words), ""),
+        ("format c 2 4 1", "", done, "formatted 2 4 1 words 2496\n"),
+        (
+            "run c",
+            "0 put a 1\n0 put b 2\n",
+            done,
+            "0 put a 1 -> none @0\n0 put b 2 -> none @1\njoin 2 names 2\n",
+        ),
+        // The generation; the bitmap of node 0, and the next node; the name and the number in its first slot.
+        ("words c 5 1", "", done, "5 0000000000000002\n"),
+        (
+            "words c 17 2",
+            "",
+            done,
+            "17 0000000000000003\n18 0000000000000000\n",
+        ),
+        ("words c 32 1", "", done, "32 6100000000000000\n"),
+        ("words c 35 1", "", done, "35 0000000000000001\n"),
+        (
+            "run c",
+            "0 get a\n0 put a 7\njoin\n0 scan a 2\n",
+            done,
+            "0 get a -> 1 @0\n0 put a 7 -> 1 @0\njoin 1 names 2\n\
+             0 scan a 2 -> 1 parts\npart a end @0 a 7 b 2\njoin 0 names 2\n",
+        ),
+        ("words c 5 1", "", done, "5 0000000000000003\n"),
+        ("run c", "1 get a\n", at_line(1, Reason::Caller), ""),
+        ("run c", "crash 0 5 5\n", Status::NotBuilt(Verb::Crash), ""),
+        ("words c 5 1", "", done, "5 0000000000000003\n"),
+        ("run c", "", done, "join 0 names 2\n"),
+        ("words c 5 1", "", done, "5 0000000000000004\n"),
+        // The fifth put splits. Its log line is READY until a turn, and EMPTY behind one.
+        ("format d 2 4 1", "", done, "formatted 2 4 1 words 2496\n"),
+        ("run d", no_turns.as_str(), done, answers),
+        ("words d 80 1", "", done, "80 0000000000000002\n"),
+        ("format e 2 4 1", "", done, "formatted 2 4 1 words 2496\n"),
+        ("run e", with_turns.as_str(), done, answers),
+        ("words e 80 1", "", done, "80 0000000000000000\n"),
+    ];
+    for (words, script, status, written) in &rows {
+        let ran = run_script(&rt, &mut shelf, words, script.as_bytes(), &SOUND)?;
+        assert_eq!(rt; ran.status, *status, "{words}: {script}");
+        assert_eq!(rt;
+            ran.written.as_slice(),
+            written.as_bytes(),
+            "{words}: {script}"
+        );
+    }
+    Ok(())
+}
+
+/// The bytes of an image with one word changed.
+fn with_word(alloc: Global, bytes: &[u8], word: usize, value: u64) -> Result<Vec<u8>, AllocError> {
+    let mut changed = bytes.to_vec(alloc)?;
+    let (words, _) = changed.as_chunks_mut::<8>();
+    if let Some(place) = words.get_mut(word) {
+        *place = value.to_le_bytes();
+    }
+    Ok(changed)
+}
+
+/// Node 0 begins at word 16 and has two of five names, node 1 begins at word 48.
+#[test]
+fn refuses_to_run_on_damaged_images(rt: HostRuntime) -> Result<(), Fail> {
+    let mut shelf = MemoryShelf::new(rt.alloc(), FaultPlan::new(rt.alloc()));
+    run_on(&rt, &mut shelf, "format c 2 4 1")?;
+    let puts = b"0 put a 1\n0 put b 2\n0 put c 3\n0 put d 4\n0 put e 5\n";
+    let ran = run_script(&rt, &mut shelf, "run c", puts, &SOUND)?;
+    assert_eq!(rt; ran.status, Status::Done);
+    let whole = shelf.load("c")?.ok_or("c")?;
+    let rows = [
+        // Generation 0 is that of no image, and words 6 and 9 are spare.
+        (5, 0, damaged(1, 5)),
+        (6, 1, damaged(1, 6)),
+        (9, 1, damaged(1, 9)),
+        // Node 1 leads back to itself.
+        (50, 1, damaged(4, 50)),
+        // The fingerprints of node 0.
+        (24, 0, damaged(7, 24)),
+        // The root word.
+        (8, 1, damaged(10, 8)),
+        (5, 16_777_215, Status::Image(ImageRefusal::Generations)),
+    ];
+    for (word, value, status) in rows {
+        let bytes = with_word(rt.alloc(), &whole, word, value)?;
+        shelf.save("c", &bytes)?;
+        let ran = run_script(&rt, &mut shelf, "run c", b"0 get a\n", &SOUND)?;
+        assert_eq!(rt; (ran.status, ran.written.len()), (status, 0), "word {word}");
+        // What the file has stays.
+        let kept = shelf.load("c")?.ok_or("c")?;
+        assert_eq!(rt; kept.as_slice(), bytes.as_slice(), "word {word}");
+    }
+    Ok(())
+}
+
+/// Which calls of the shelf, the source and the sink fail, by their numbers, of which 0 is none; how the run ends, what
+/// it writes, and the generation that the file has then. `format` makes the shelf's first two calls.
+#[test]
+fn a_run_keeps_the_file_or_changes_it_whole(rt: HostRuntime) -> Result<(), Fail> {
+    let rows = [
+        (
+            0,
+            0,
+            0,
+            Status::Done,
+            "0 put a 1 -> none @0\njoin 1 names 1\n",
+            2,
+        ),
+        (3, 0, 0, Status::Shelf, "", 1),
+        (4, 0, 0, Status::Shelf, "", 1),
+        (0, 2, 0, Status::Read, "", 1),
+        (0, 0, 1, Status::Write, "", 2),
+        (0, 0, 2, Status::Write, "0 pu", 2),
+    ];
+    for (shelf_call, read, write, status, written, generation) in &rows {
+        let plan = FaultPlan::failing_at(Vec::from_slice(rt.alloc(), &[*shelf_call])?);
+        let mut shelf = MemoryShelf::new(rt.alloc(), plan);
+        run_on(&rt, &mut shelf, "format c 2 4 1")?;
+        let outside = Outside {
+            largest: 4,
+            failing_reads: &[*read],
+            failing_writes: &[*write],
+        };
+        let ran = run_script(&rt, &mut shelf, "run c", b"0 put a 1", &outside)?;
+        assert_eq!(rt; ran.status, *status);
+        assert_eq!(rt; ran.written.as_slice(), written.as_bytes());
+        let (_, line) = run_on(&rt, &mut shelf, "words c 5 1")?;
+        let wanted = format!(in rt.alloc(); "5 000000000000000{generation}\n")?;
+        assert_eq!(rt; line.as_slice(), wanted.as_bytes());
     }
     Ok(())
 }

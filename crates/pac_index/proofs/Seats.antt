@@ -1,5 +1,5 @@
 -- How the rule begins, and how seats part and meet.
-use Rattle.std.proofs.Common.{◌≡◌, ◌≢◌, ℕ, zero, suc, ◌+◌, ◌*◌, ◌/◌, ◌<◌, ◌≤◌, ⊎_elim, true, false, eq-eqb, ne_eqb, List, [], ◌∷◌, ◌++◌, map, drop, set, refl, sym, ap, ◌∙◌, subst, arith}
+use Rattle.std.proofs.Common.{◌≡◌, ◌≢◌, ℕ, zero, suc, ◌+◌, ◌<◌, ◌≤◌, ⊎_elim, true, false, eq-eqb, ne_eqb, List, [], ◌∷◌, ◌++◌, map, drop, set, refl, sym, ap, ◌∙◌, subst, arith}
 use Rattle.std.proofs.lemmas.Bool.{cases_eq}
 use Rattle.std.specs.Prelude.{◌==◌}
 use mathlib.Core.Option.{some, some-injective, some-ne-none}
