@@ -1,7 +1,7 @@
 //! Plays rounds of calls on the index.
 //!
-//! `CoreMap` is the index as a map of names, each call of which is a whole call of one caller with no other in flight. A
-//! round is the calls of one caller, answered in their order, with turns of the updater among them; rounds are played
+//! `CoreMap` is the index as a map of names, each call of which is a whole call of one caller with no other in flight.
+//! A round is the calls of one caller, answered in their order, with turns of the updater among them; rounds are played
 //! one after another, and a round is summed up.
 #![tactic(auto)]
 
