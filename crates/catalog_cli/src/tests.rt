@@ -1,6 +1,5 @@
 //! The top call on whole scripts, over a source and a sink in memory.
 
-
 use super::*;
 use cat_script::{Reason, ScriptFault};
 use cat_text::{FaultPlan, MemoryShelf, MemorySink, MemorySource, Shelf};

@@ -92,4 +92,3 @@ counted_none s layer i t there stage n here free =
     let row = layer.rows i t there rest in
     let law = subst (λ (at : RowStage). TurnLawful (terms_of (row_terms_of (world s) t)) (turn_facts (world s) layer.holder t) (turn_stage at)) stage row.law in
     law.sure refl n here (status_tie s.layout s.words n ∙ free)
-
