@@ -4,6 +4,8 @@ ghost use Rattle.std.specs.Prelude.{◌≡◌, ◌<◌, ◌≤◌, IfOk, length}
 ghost use Rattle.index_core.specs.CoreCalls.{MayBegin};
 ghost use Rattle.index_core.specs.Lone.{IsQuiet};
 
+mod damage;
+
 use crate::{OpenFault, recover};
 use cat_key::Name;
 use index_core::{Core, CoreCall, Whole};
