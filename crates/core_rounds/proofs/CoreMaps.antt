@@ -1,6 +1,6 @@
 -- The index as a map of names: its names counted, its calls left, and its shape.
-use Rattle.std.proofs.Common.{◌≡◌, ◌≢◌, ℕ, ◌+◌, ◌-◌, ◌*◌, ◌/◌, ◌<◌, ◌≤◌, ◌==◌, Bool, true, false, cond, List, [], ◌∷◌, length, ◌⊎◌, ⊎_elim, refl, le_trans, inl, inr, sym, ap, ◌∙◌, subst, arith, length-append}
-use Rattle.std.specs.Prelude.{Option, ◌↔◌, ◌^◌}
+use Rattle.std.proofs.Common.{◌≡◌, ◌≢◌, ℕ, ◌+◌, ◌-◌, ◌*◌, ◌/◌, ◌<◌, ◌≤◌, ◌==◌, Bool, true, false, cond, List, [], ◌∷◌, ◌++◌, append-nil, length, ◌⊎◌, ⊎_elim, refl, le_trans, inl, inr, sym, ap, ◌∙◌, subst, arith, length-append}
+use Rattle.std.specs.Prelude.{Option, Some, None, ◌↔◌, ◌^◌}
 use Rattle.std.specs.List.{flat_map, AllByRecursion}
 use Rattle.std.specs.Option.{is_some}
 use Rattle.std.specs.FinMap.{insert, remove, len, len-insert, len-remove, len-empty, empty_of_len, get-empty}
@@ -16,7 +16,12 @@ use Rattle.version_lock.specs.declared.TheConstants.{LAST_COUNT}
 use Rattle.shapes.specs.Members.{Member, members}
 use Rattle.shapes.specs.ShapeRounds.{PutsFull}
 use Rattle.shapes.specs.Weights.{IsShape}
-use Rattle.cat_history.specs.Records.{as_op}
+use Rattle.cat_history.specs.Records.{as_op, change_of}
+use Rattle.cat_history.specs.declared.op.Change.{Change}
+use Rattle.cat_history.specs.declared.op.Write.{Write}
+use Rattle.call_stages.specs.Stages.{pended}
+use Rattle.index_law.specs.Worlds.{written}
+use Rattle.index_law.proofs.Maps.{after_all-push}
 use Rattle.shapes.specs.Anchors.{merges}
 use Rattle.shapes.proofs.Agreements.{length-members, put-stays}
 use Rattle.shapes.proofs.Shapes.{len-keys, del-stays}
@@ -290,6 +295,17 @@ pub told_placed : (s : Index) (c : CoreCall) (new : Index) (r : Whole) (placed :
 told_placed s c new r placed index unlimited left is {caller} runs =
     let run : RunsAlone s caller c new (whole.Placed placed) = subst (RunsAlone s caller c new) is runs in
     (run.answer.1.2, made s c new placed index unlimited left run.list)
+
+pends : (m : Map) (history : List Write) (caller index : ℕ) (change : Option Change) → after_all m (history ++ written caller index change) ≡ pended change (after_all m history)
+pends m history caller index None = ap (after_all m) (append-nil history)
+pends m history caller index (Some change) = after_all-push m history (record { caller = caller; index = index; change = change })
+
+-- and of its map
+pub told_map : (s : Index) (c : CoreCall) (new : Index) (r : Whole) (placed : Placed) → r ≡ whole.Placed placed → {caller : ℕ} → RunsAlone s caller c new r →
+    map_of_index new ≡ pended (change_of (op_of c)) (map_of_index s)
+told_map s c new r placed is {caller} runs =
+    let run : RunsAlone s caller c new (whole.Placed placed) = subst (RunsAlone s caller c new) is runs in
+    (λ k. after_all (map_of (run.base k)) (run.history k)) ∙ pends (map_of s.base) s.history caller run.state.index (change_of (op_of c))
 
 pub told_full : (s : Index) (c : CoreCall) (new : Index) (r : Whole) → r ≡ whole.Full → {caller : ℕ} → RunsAlone s caller c new r → FindsNoRoom c s × (anchors_in (world new) ≡ anchors_in (world s))
 told_full s c new r is {caller} runs =

@@ -1,8 +1,7 @@
 -- Rounds that are played one after another.
 use Rattle.std.proofs.Common.{◌≡◌, ℕ, ◌+◌, ◌<◌, ◌≤◌, List, [], ◌∷◌, ◌++◌, length, take, ◌/◌, refl, sym, ap, ◌∙◌, subst, arith, append_assoc, append-nil, get_or}
 use Rattle.std.proofs.lemmas.List.{take_more, take_all}
-use Rattle.std.proofs.lemmas.List.Elements.{All-from_recursion}
-use Rattle.std.specs.Prelude.{All, IfOk, Result, Ok, Err}
+use Rattle.std.specs.Prelude.{All}
 use Rattle.cat_history.specs.Maps.{Map}
 use Rattle.cat_history.specs.Writes.{after_all}
 use Rattle.cat_history.specs.LoneRounds.{writes_of}
@@ -14,7 +13,6 @@ use Rattle.shapes.proofs.Shapes.{fresh_is_shape, len-keys}
 use Rattle.shapes.proofs.Targets.{all-between}
 use Rattle.cat_text.specs.declared.report.RoundReport.{RoundReport}
 use Rattle.cat_history.specs.declared.plan.RoundPlan.{RoundPlan}
-use Rattle.cat_text.specs.ReportGrammar.{IsReport, IsReportRound}
 use Rattle.pm_words.specs.Layouts.{IsLayout}
 use Rattle.pm_words.specs.declared.layout.Layout.{Layout}
 use Rattle.std.specs.FinMap.{empty, len, len-empty}

@@ -16,7 +16,6 @@ use Rattle.cat_history.specs.declared.op.NameOp.TheVariants as op
 use Rattle.data_node.specs.Lists.{ListNode, target_from, key_of}
 use Rattle.data_node.proofs.RangeNames.{range_names}
 use Rattle.data_node.proofs.ListLemmas.{target_in}
-use Rattle.data_list.specs.Still.{position_from}
 use Rattle.call_stages.specs.declared.once.Once.{Once}
 use Rattle.call_stages.specs.declared.once.Once.TheVariants as once
 use Rattle.call_stages.specs.declared.once.Placed.{Placed}
@@ -37,7 +36,6 @@ use Rattle.call_stages.specs.Kinds.{free_status}
 use Rattle.lone_law.specs.Tries.{IsHalvedSince}
 use Rattle.lone_law.specs.Rooms.{target_node, target_names}
 use Rattle.lone_law.specs.Merging.{FindsMerge, HasKeptList, IsMergedSince, LeavesShape, NextIsWorn, next_node}
-use Rattle.lone_law.proofs.Hops.{merge_keeps_hops}
 use Rattle.lone_law.proofs.Locks.{worn_has_none}
 use Rattle.lone_law.proofs.Rooms.{names_most, cut_has_room}
 use Rattle.lone_law.proofs.Shapes.{room_is_no_split, cut_is_split}
@@ -48,7 +46,7 @@ use Rattle.index_core.specs.declared.party.Whole.TheVariants as whole
 use Rattle.index_core.specs.CoreCalls.{op_of, limit_of, count_of}
 use Rattle.index_core.specs.PartyStates.{party_of, state_counted}
 use Rattle.index_core.specs.Indexes.{Index, world, map_of_index, IsIndex}
-use Rattle.index_core.specs.Lone.{IsQuiet, FindsNoRoom, HasSameList, SplitsFor, SplitsNothing, MergesFor, MergesNothing, LeavesList, TakesLocks, LoseAtMost, TakesEachLock, names_beside, locks_left, IsWholeAnswer, TriesAlone, RunsAlone, CountsCall, ComesFree, KeepsStamps, IsMadeAgain, NeedsNoTurn, LeavesLog, most_tries, alone_writes, lacks_line, lacks_node, needs_split, node_for, part_whole, whole_of, state_tried, state_done}
+use Rattle.index_core.specs.Lone.{IsQuiet, FindsNoRoom, HasSameList, SplitsFor, SplitsNothing, MergesFor, MergesNothing, LeavesList, TakesLocks, LoseAtMost, TakesEachLock, names_beside, locks_left, IsWholeAnswer, TriesAlone, RunsAlone, CountsCall, ComesFree, KeepsStamps, IsMadeAgain, NeedsNoTurn, LandsIn, LeavesLog, most_tries, alone_writes, lacks_line, lacks_node, needs_split, node_for, part_whole, whole_of, state_tried, state_done}
 use Rattle.index_core.specs.Weights.{weight_of, added_by, added_if, added_whole}
 use Rattle.index_core.specs.Listings.{IsPartAt}
 use Rattle.lone_turn.specs.CallLogs.{KeepsLines, MakesReady, LeavesLines}
@@ -131,12 +129,12 @@ pub record Ran (s0 s : Index) (i : ℕ) (c : CoreCall) (answer : Once Placed) (t
 
 -- where its party is as a whole call leaves it
 counted_runs : (s0 s : Index) (i : ℕ) (c : CoreCall) (answer : Once Placed) (tries : ℕ) (ran : Ran s0 s i c answer tries) → tries ≤ most_tries c → (states : List PartyState) → states ≡ slice_set s0.states i (state_done ran.state (length s0.history))
-    → RunsAlone s0 i c (record s { states = states }) (whole_of answer)
-counted_runs s0 s i c answer tries ran few states are = record {
+    → ((placed : Placed) → answer ≡ once.Done placed → states ≡ s.states) → RunsAlone s0 i c (record s { states = states }) (whole_of answer)
+counted_runs s0 s i c answer tries ran few states are kept = record {
   state = ran.state;
   there = ran.there;
   named = ran.named;
-  answer = same_cause answer ran.cause;
+  answer = same_cause answer refl ran.cause;
   history = ran.history;
   states = are;
   layout = ran.layout;
@@ -163,13 +161,13 @@ counted_runs s0 s i c answer tries ran few states are = record {
         (λ (made : (SplitsFor c s0 s ⊎ MergesFor c s0 s) × MakesReady i (world s0) (world s)).
         inr (⊎_elim (λ (cut : SplitsFor c s0 s). inl (same_split c cut)) (λ (merge : MergesFor c s0 s). inr (same_merge c merge)) made.0, ready_with_parties made.1))
 
-    same_cause : (r : Once Placed) → IsWholeAnswer tries s0 i c s (whole_of r) → IsWholeAnswer (most_tries c) s0 i c (record s { states = states }) (whole_of r)
-    same_cause (once.Worn node word) cause = ⊎_elim (λ first. inl first) (λ (later : IsMadeAgain i c s0 × (locks_left s0 < tries) × (HasSameList s0 s ⊎ SplitsFor c s0 s) × (node ≡ target_node (world s) (name_asked (op_of c))) × IsWorn word s0.generation).
+    same_cause : (r : Once Placed) → answer ≡ r → IsWholeAnswer tries s0 i c s (whole_of r) → IsWholeAnswer (most_tries c) s0 i c (record s { states = states }) (whole_of r)
+    same_cause (once.Worn node word) is cause = ⊎_elim (λ first. inl first) (λ (later : IsMadeAgain i c s0 × (locks_left s0 < tries) × (HasSameList s0 s ⊎ SplitsFor c s0 s) × (node ≡ target_node (world s) (name_asked (op_of c))) × IsWorn word s0.generation).
         let less = later.1 in
         inr (later.0, omega arith, ⊎_elim (λ (same : HasSameList s0 s). inl same) (λ (cut : SplitsFor c s0 s). inr (same_split c cut)) later.2, later.3, later.4)) cause
-    same_cause (once.Spent clock) cause = cause
-    same_cause (once.Again why) cause = cause
-    same_cause (once.Done placed) cause = cause
+    same_cause (once.Spent clock) is cause = cause
+    same_cause (once.Again why) is cause = cause
+    same_cause (once.Done placed) is (name, causes, old, place, lands) = (name, causes, old, place, subst (λ (l : List PartyState). LandsIn s0 i c (record s { states = l }) placed) (sym (kept placed is)) lands)
 
     same_list : (r : Once Placed) → LeavesList c (whole_of r) s0 s → LeavesList c (whole_of r) s0 (record s { states = states })
     same_list (once.Worn node word) list = list
@@ -207,6 +205,9 @@ full_counts (once.Spent clock) state since full = absurd cc
 full_counts (once.Worn node word) state since full = absurd cc
 full_counts (once.Again why) state since full = refl
 
+placed_not_full : (answer : Once Placed) (placed : Placed) → answer ≡ once.Done placed → whole_of answer ≡ whole.Full → ⊥
+placed_not_full answer placed is full = let no : whole.Placed placed ≡ whole.Full = sym (ap whole_of is) ∙ full in cc
+
 pub full_again : (answer : Once Placed) → whole_of answer ≡ whole.Full → (why : Again) × (answer ≡ once.Again why)
 full_again (once.Done placed) full = absurd cc
 full_again (once.Spent clock) full = absurd cc
@@ -214,7 +215,7 @@ full_again (once.Worn node word) full = absurd cc
 full_again (once.Again why) full = (why, refl)
 
 pub ran_runs : (s0 s : Index) (i : ℕ) (c : CoreCall) (answer : Once Placed) (tries : ℕ) → Ran s0 s i c answer tries → tries ≤ most_tries c → (whole_of answer ≡ whole.Full → ⊥) → RunsAlone s0 i c s (whole_of answer)
-ran_runs s0 s i c answer tries ran few other = counted_runs s0 s i c answer tries ran few s.states (ran.states ∙ ap (slice_set s0.states i) (try_counts answer ran.state (length s0.history) other))
+ran_runs s0 s i c answer tries ran few other = counted_runs s0 s i c answer tries ran few s.states (ran.states ∙ ap (slice_set s0.states i) (try_counts answer ran.state (length s0.history) other)) (λ placed is. refl)
 
 pub full_runs : (s0 s : Index) (i : ℕ) (c : CoreCall) (answer : Once Placed) (tries : ℕ) → Ran s0 s i c answer tries → tries ≤ most_tries c → whole_of answer ≡ whole.Full → (new : Index) → CountsCall s i new → RunsAlone s0 i c new (whole_of answer)
 full_runs s0 s i c answer tries ran few full new t =
@@ -223,7 +224,8 @@ full_runs s0 s i c answer tries ran few full new t =
     let state : t.state ≡ tried = some-injective _ _ (sym t.there ∙ here) in
     subst (λ (v : Index). RunsAlone s0 i c v (whole_of answer)) (sym t.is)
     (counted_runs s0 s i c answer tries ran few (slice_set s.states i (state_counted t.state))
-    ((λ k. set (ran.states k) i (state_counted (state k))) ∙ set_twice s0.states i tried (state_counted tried) ∙ ap (slice_set s0.states i) (full_counts answer ran.state (length s0.history) full)))
+    ((λ k. set (ran.states k) i (state_counted (state k))) ∙ set_twice s0.states i tried (state_counted tried) ∙ ap (slice_set s0.states i) (full_counts answer ran.state (length s0.history) full))
+    (λ placed is. absurd (placed_not_full answer placed is full)))
 
 -- the locks left are those of an index that differs in the states of its parties alone
 pub counted_each : (s0 s : Index) (i : ℕ) (c : CoreCall) (new : Index) → CountsCall s i new → TakesEachLock i c s0 s → TakesEachLock i c s0 new
@@ -265,9 +267,8 @@ merges_nothing s (call.Del name limit) none =
 merges_nothing s c none = tt
 
 -- the shape that a call leaves which took place
-record Leaves (s0 s : Index) (c : CoreCall) : Type 0 where
-  list : (HasSameList s0 s × SplitsNothing c s0 × MergesNothing c s0) ⊎ (SplitsFor c s0 s ⊎ MergesFor c s0 s)
-  position : position_from (facts (world s0)).list (key_of (name_asked (op_of c))) ≡ position_from (facts (world s)).list (key_of (name_asked (op_of c)))
+abbrev Leaves : Index → Index → CoreCall → Type 0
+Leaves s0 s c = (HasSameList s0 s × SplitsNothing c s0 × MergesNothing c s0) ⊎ (SplitsFor c s0 s ⊎ MergesFor c s0 s)
 
 -- A call that took place is one on a name, and no part of a scan, which lists names besides.
 abbrev IsOnName : CoreCall → Once Placed → Type 0
@@ -296,54 +297,62 @@ module _ (s0 s : Index) (i : ℕ) (c : CoreCall) (is0 : IsIndex s0) (quiet0 : Is
   merged : (c : CoreCall) → FindsMerge (world s0) (op_of c) → IsMergedSince (name_asked (op_of c)) (world s0) (world s) → Leaves s0 s c
   merged (call.Del name limit) finds since =
       let merge : MergesFor (call.Del name limit) s0 s = (finds, since.anchors) in
-      record { list = inr (inr merge); position = sym (merge_keeps_hops (world s0) (world s) name rest0 since) }
+      inr (inr merge)
   merged c finds since = absurd finds
 
   leaves : IsName (name_asked (op_of c)) → (FindsFull (world s0) (op_of c) → ⊥) → LeavesShape (world s0) (op_of c) (world s) → Leaves s0 s c
   leaves named not_full = ⊎_elim
-      (λ (kept : (FindsMerge (world s0) (op_of c) → ⊥) × HasKeptList (world s0) (world s)). record {
-        list = inl (kept.1.0, splits_nothing c named not_full, merges_nothing s0 c kept.0);
-        position = ap (λ (l : List ListNode). position_from l (key_of (name_asked (op_of c)))) (sym kept.1.0);
-      })
+      (λ (kept : (FindsMerge (world s0) (op_of c) → ⊥) × HasKeptList (world s0) (world s)). inl (kept.1.0, splits_nothing c named not_full, merges_nothing s0 c kept.0))
       (λ (since : FindsMerge (world s0) (op_of c) × IsMergedSince (name_asked (op_of c)) (world s0) (world s)). merged c since.0 since.1)
 
   -- where it lacked a node, a turn was made before it
-  ends : (r : Once Placed) → needs_split r ≡ false → lacks_line r ≡ false → (lacks_node r ≡ true → IsSwept s0) → IsOnName c r
+  ends : (r : Once Placed) → answer ≡ r → needs_split r ≡ false → lacks_line r ≡ false → (lacks_node r ≡ true → IsSwept s0) → IsOnName c r
       → IsAnswered (world s0) (op_of c) (limit_of c) (world s) (party_of t.state) r → Ends s0 s i t.state.index c r 1
-  ends (once.Worn node word) one lined swept on_name (worn, node_is, word_is, same, kept) = record {
+  ends (once.Worn node word) is one lined swept on_name (worn, node_is, word_is, same, kept) = record {
     cause = inl (worn, node_is, word_is, kept.0);
     history = same ∙ sym (append-nil s0.history);
     list = tt;
   }
-  ends (once.Spent clock) one lined swept on_name (unworn, late, clock_is, same, kept) = record {
+  ends (once.Spent clock) is one lined swept on_name (unworn, late, clock_is, same, kept) = record {
     cause = (unworn, late_is (limit_of c) (length s0.history) late, clock_is);
     history = same ∙ sym (append-nil s0.history);
     list = kept.0;
   }
-  ends (once.Again again.NoFree) one lined swept on_name (unworn, below, full, has, lacks, same, kept, unmoved) = record {
+  ends (once.Again again.NoFree) is one lined swept on_name (unworn, below, full, has, lacks, same, kept, unmoved) = record {
     cause = (unworn, (λ over. below (late_was (limit_of c) (length s0.history) over)), no_room_is s0 c rest0 (swept refl) full lacks);
     history = same ∙ sym (append-nil s0.history);
     list = kept.0;
   }
-  ends (once.Again (again.NeedsSplit n)) one lined swept on_name end = absurd (cc)
-  ends (once.Again (again.Locked n word)) one lined swept on_name end = absurd end
-  ends (once.Again (again.Moved n first second)) one lined swept on_name end = absurd end
-  ends (once.Again (again.Hops count)) one lined swept on_name end = absurd end
-  ends (once.Again again.LogFull) one lined swept on_name end = absurd (cc)
-  ends (once.Again (again.Held word)) one lined swept on_name end = absurd end
-  ends (once.Again (again.Epoch first second)) one lined swept on_name end = absurd end
-  ends (once.Done placed) one lined swept on_name ((unworn, below, not_full, line), old, place, hops, write, shape) =
-      let left = leaves t.named not_full shape in
+  ends (once.Again (again.NeedsSplit n)) is one lined swept on_name end = absurd (cc)
+  ends (once.Again (again.Locked n word)) is one lined swept on_name end = absurd end
+  ends (once.Again (again.Moved n first second)) is one lined swept on_name end = absurd end
+  ends (once.Again (again.Hops count)) is one lined swept on_name end = absurd end
+  ends (once.Again again.LogFull) is one lined swept on_name end = absurd (cc)
+  ends (once.Again (again.Held word)) is one lined swept on_name end = absurd end
+  ends (once.Again (again.Epoch first second)) is one lined swept on_name end = absurd end
+  ends (once.Done placed) is one lined swept on_name ((unworn, below, not_full, line), old, place, hops, write, shape) =
       record {
         cause = (
           on_name,
           (unworn, (λ over. below (late_was (limit_of c) (length s0.history) over)), (λ none. not_full (no_room_was s0 c rest0 none))),
           old,
           place,
-          hops ∙ left.position,
+          record {
+            last = s0;
+            began = inl refl;
+            index = is0;
+            quiet = quiet0;
+            layout = refl;
+            generation = refl;
+            base = refl;
+            history = refl;
+            layer = λ none. refl;
+            tries = subst (TriesAlone s0 i c s) is t;
+            hops = hops;
+          },
         );
         history = write ∙ ap (λ (j : ℕ). s0.history ++ alone_writes j t.state.index c (whole.Placed placed)) (is0.states i t.state t.there).caller;
-        list = left.list;
+        list = leaves t.named not_full shape;
       }
 
   merges_for : (c : CoreCall) → FindsMerge (world s0) (op_of c) → IsMergedSince (name_asked (op_of c)) (world s0) (world s) → MergesFor c s0 s
@@ -378,7 +387,7 @@ module _ (s0 s : Index) (i : ℕ) (c : CoreCall) (is0 : IsIndex s0) (quiet0 : Is
 
   pub one_try : needs_split answer ≡ false → lacks_line answer ≡ false → (lacks_node answer ≡ true → IsSwept s0) → IsOnName c answer → Ran s0 s i c answer 1
   one_try one lined swept on_name =
-      let end = ends answer one lined swept on_name t.answered in
+      let end = ends answer refl one lined swept on_name t.answered in
       let added = adds c answer in
       let before = t.weighs in
       record {
@@ -488,8 +497,8 @@ module _ (s0 s1 s : Index) (i : ℕ) (c : CoreCall) (is0 : IsIndex s0) (quiet0 :
         worn_has_none s1.generation (facts (world s1)).version n s1.layout.nodes
         (listed_within s1.layout (facts (world s1)) rest_between.list rest_between.row.layout n (target_in 0 (facts (world s1)).list (key_of (name_asked (op_of c))))) worn
 
-    ends_then : (r : Once Placed) → IsAnswered (world s1) (op_of c) (limit_of c) (world s) (party_of u.state) r → Ends s0 s i u.state.index c r 2 × SplitsFor c s0 s
-    ends_then (once.Worn node word) (worn, node_is, word_is, same, kept) =
+    ends_then : (r : Once Placed) → answer ≡ r → IsAnswered (world s1) (op_of c) (limit_of c) (world s) (party_of u.state) r → Ends s0 s i u.state.index c r 2 × SplitsFor c s0 s
+    ends_then (once.Worn node word) is (worn, node_is, word_is, same, kept) =
         let no_lock = no_locks worn in
         let split_now = split_on s0 s1 s c kept.0 split in (
           record {
@@ -505,17 +514,17 @@ module _ (s0 s1 s : Index) (i : ℕ) (c : CoreCall) (is0 : IsIndex s0) (quiet0 :
           },
           split_now,
         )
-    ends_then (once.Spent clock) (unworn, late, clock_is, same, kept) =
+    ends_then (once.Spent clock) is (unworn, late, clock_is, same, kept) =
         absurd (cut.below (subst (λ (n : ℕ). IsTrue (is_spent (limit_of c) n)) (ap length cut.history) late))
-    ends_then (once.Again again.NoFree) (unworn, below, full, has, lacks, same, kept, unmoved) = absurd (not_full full)
-    ends_then (once.Again (again.NeedsSplit n)) (unworn, below, full, has, free, same, halved, most) = absurd (not_full full)
-    ends_then (once.Again (again.Locked n word)) end = absurd end
-    ends_then (once.Again (again.Moved n one two)) end = absurd end
-    ends_then (once.Again (again.Hops count)) end = absurd end
-    ends_then (once.Again again.LogFull) (unworn, below, needs, lacks, same, kept, unmoved) = absurd (not_full (put_needs c (world s0) (world s1) cut.full needs))
-    ends_then (once.Again (again.Held word)) end = absurd end
-    ends_then (once.Again (again.Epoch one two)) end = absurd end
-    ends_then (once.Done placed) ((unworn, below, has_room_now, line), old, place, hops, write, shape) =
+    ends_then (once.Again again.NoFree) is (unworn, below, full, has, lacks, same, kept, unmoved) = absurd (not_full full)
+    ends_then (once.Again (again.NeedsSplit n)) is (unworn, below, full, has, free, same, halved, most) = absurd (not_full full)
+    ends_then (once.Again (again.Locked n word)) is end = absurd end
+    ends_then (once.Again (again.Moved n one two)) is end = absurd end
+    ends_then (once.Again (again.Hops count)) is end = absurd end
+    ends_then (once.Again again.LogFull) is (unworn, below, needs, lacks, same, kept, unmoved) = absurd (not_full (put_needs c (world s0) (world s1) cut.full needs))
+    ends_then (once.Again (again.Held word)) is end = absurd end
+    ends_then (once.Again (again.Epoch one two)) is end = absurd end
+    ends_then (once.Done placed) is ((unworn, below, has_room_now, line), old, place, hops, write, shape) =
         let kept = put_keeps c (world s0) (world s1) (world s) cut.full shape in
         let split_now = split_on s0 s1 s c kept.0 split in (
           record {
@@ -524,7 +533,19 @@ module _ (s0 s1 s : Index) (i : ℕ) (c : CoreCall) (is0 : IsIndex s0) (quiet0 :
               (cut.unworn, (λ over. cut.below (late_was (limit_of c) (length s0.history) over)), (λ none. free_is_room s0 c cut.free none)),
               old ∙ ap (λ (m : Map). at m (name_asked (op_of c))) same_map,
               place ∙ ap length cut.history,
-              hops ∙ ap (λ (l : List ListNode). position_from l (key_of (name_asked (op_of c)))) (sym kept.0),
+              record {
+                last = s1;
+                began = inr (full_again_if s0 i c rest_before cut.full);
+                index = is1;
+                quiet = quiet1;
+                layout = t.layout;
+                generation = t.generation;
+                base = t.base;
+                history = cut.history;
+                layer = λ none. t.layer;
+                tries = subst (TriesAlone s1 i c s) is u;
+                hops = hops;
+              },
             );
             history = write ∙ (λ k. cut.history k ++ alone_writes ((is1.states i u.state u.there).caller k) u.state.index c (whole.Placed placed));
             list = inr (inl split_now);
@@ -594,7 +615,7 @@ module _ (s0 s1 s : Index) (i : ℕ) (c : CoreCall) (is0 : IsIndex s0) (quiet0 :
   pub two_tries : needs_split first ≡ true → Ran s0 s i c answer 2
   two_tries again =
       let cut = splits_first first again t.answered in
-      let end = ends_then cut answer u.answered in
+      let end = ends_then cut answer refl u.answered in
       let tried = state_tried t.state (length s0.history) first in
       let now : u.state ≡ tried = some-injective _ _ (sym u.there ∙ ap (λ (l : List PartyState). get_elem? l i) t.states ∙ set_here s0.states i tried t.state t.there) in
       let index : u.state.index ≡ t.state.index = ap (λ (d : PartyState). d.index) now ∙ same_index first again t.state in

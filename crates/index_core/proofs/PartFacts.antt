@@ -52,7 +52,9 @@ use Rattle.node_ops.specs.declared.running.Running.{Running}
 use Rattle.node_ops.specs.declared.running.Running.TheVariants.{Getting, Putting, Deleting, Parting}
 use Rattle.node_ops.specs.Calls.{IsCall, name_in}
 use Rattle.node_ops.specs.CallStages.{stage_of, part_stage, lookup_at_stage}
-use Rattle.node_ops.specs.LookupSteps.{goes_to, ends, tried_lock, saw_clock, lookup_at_asks, lookup_at_turned, walked_on, saw_name, saw_prints, candidate_turned, is_spent}
+use Rattle.search_layer.specs.declared.floor.Floor.{Floor}
+use Rattle.search_layer.specs.FloorSteps.{floor_turned}
+use Rattle.node_ops.specs.LookupSteps.{goes_to, ends, tried_lock, saw_clock, lookup_at_asks, lookup_at_turned, floored, walked_on, saw_name, saw_prints, candidate_turned, is_spent}
 use Rattle.node_ops.specs.PartSteps.{IsPart, part_call, part_asks, part_behind, part_count, part_listed, part_looked, part_turned, behind_of, reading_turned, reading_at_asks}
 use Rattle.node_ops.specs.Parts.{HaveWords, EndsAt, IsPartOf}
 use Rattle.node_ops.specs.RunningSteps.{Sound}
@@ -89,6 +91,7 @@ walk_touches l n m k (walk_at.HighThird version low next first second) = loads
 walk_touches l n m k walk_at.Prev = loads
 
 looking_touches : (call : Call) (at : LookupAt) → Touches call.view.layout call.node (lookup_at_asks call at)
+looking_touches call (look.Floor floor) = loads
 looking_touches call (look.Walk walk) = walk_touches call.view.layout call.node walk.layout walk.node walk.at
 looking_touches call (look.Lock seen locked) = takes
 looking_touches call (look.Clock locked) = loads
@@ -166,6 +169,10 @@ LookEnds l f call count behind turn = TurnEnds l f (part_looked call count behin
 
 module _ (l : Layout) (f : Facts) (call : Call) (count : ℕ) (behind : Option Next) where
   -- before it has the lock
+  floored_ends : (turn : Turn Floor ℕ) → LookEnds l f call count behind (floored call turn)
+  floored_ends (Go floor) = tt
+  floored_ends (Done node) = tt
+
   walked_ends : (turn : Turn Walk Walked) → LookEnds l f call count behind (walked_on call turn)
   walked_ends (Go walk) = walking_ends l f (name_in call) (high_of behind) walk.generation walk.node walk.at
   walked_ends (Done (walked.Again why)) = tt
@@ -239,6 +246,7 @@ module _ (l : Layout) (g : ℕ) (words : List ℕ) (base : Map) (history : List 
   looking_ends : (call : Call) (at : LookupAt) (count : ℕ) (behind : Option Next) (x : ℕ) → Sound l g (Parting (part.Looking (record { call = call; at = at }) count behind))
       → Sure l g f caller index since (lookup_at_stage call at) → call.node < l.nodes → x ≡ got l words (lookup_at_asks call at) → HeldEnds l f (lookup_at_stage call at) (name_in call) (high_of behind)
       → TurnSure l g f' caller index since (part_looked call count (behind_of at behind) (lookup_at_turned call at x)) → LookEnds l f' call count (behind_of at behind) (lookup_at_turned call at x)
+  looking_ends call (look.Floor floor) count behind x sound sure here told is knows = floored_ends l f' call count behind (floor_turned floor x)
   looking_ends call (look.Walk walk) count behind x sound sure here told is knows = walked_ends l f' call count behind (walk_turned walk x)
   looking_ends call (look.Lock seen locked) count behind x sound sure here told is knows =
       let version : x ≡ f.version call.node = told ∙ ap (λ (m : Layout). slice_index words (version_address m call.node)) sound.layout ∙ sym (version_in-here l words call.node here) in

@@ -39,7 +39,8 @@ use Rattle.node_ops.specs.RunningSteps.{listed_in}
 use Rattle.lone_law.specs.LoneCalls.{IsThere}
 use Rattle.index_core.specs.Indexes.{Index, world, map_of_index, IsIndex}
 use Rattle.index_core.specs.Listings.{IsPartAt, ListsRange}
-use Rattle.index_core.specs.Lone.{IsQuiet, IsWholePart, hops_before, node_for}
+use Rattle.index_core.specs.Lone.{IsQuiet, IsWholePart, node_for}
+use Rattle.lone_law.specs.There.{WalksBy}
 use Rattle.index_core.proofs.PartFacts.{lists_range}
 use Rattle.index_core.proofs.Quiet.{rests}
 
@@ -142,7 +143,7 @@ module _ (s0 s : Index) (low : List ℕ) (count : ℕ) (words : PartWords) (is0 
   inside = eq-eqb n n refl
 
   -- where the map and the list are as before
-  pub whole_part : s.base ≡ s0.base → s.history ≡ s0.history → (facts (world s)).list ≡ f.list → IsName low → words.node ≡ n → words.place ≡ length s0.history → words.hops ≡ hops_before s0 low → words.old ≡ at (map_of_index s0) low
+  pub whole_part : s.base ≡ s0.base → s.history ≡ s0.history → (facts (world s)).list ≡ f.list → IsName low → words.node ≡ n → words.place ≡ length s0.history → WalksBy s0.layout s0.words low words.hops → words.old ≡ at (map_of_index s0) low
       → IsPartAt s.layout (facts (world s)) low count words → IsWholePart s0 low count s words
   whole_part base history list named node place hops old is =
       let map_is : after (map_of s.base) s.history words.place ≡ map_of_index s0 =

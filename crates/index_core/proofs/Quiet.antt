@@ -10,9 +10,11 @@ use Rattle.index_law.specs.Worlds.{Party}
 use Rattle.index_law.specs.Lawful.{Each}
 use Rattle.index_law.specs.Laws.{IsAtRest}
 use Rattle.index_law.proofs.Starts.{idle_law}
+use Rattle.lone_law.specs.There.{CanWalk}
+use Rattle.lone_turn.proofs.TurnSteps.{walks_are_quiet}
 use Rattle.index_core.specs.declared.party.PartyState.{PartyState}
 use Rattle.index_core.specs.PartyStates.{machine_footing, machine_stage, party_of}
-use Rattle.index_core.specs.Indexes.{Index, world, footed, IsIndex}
+use Rattle.index_core.specs.Indexes.{Index, world, footed, layered, IsIndex}
 use Rattle.index_core.specs.Lone.{IsQuiet}
 use Rattle.index_core.proofs.Lists.{map_from}
 
@@ -31,3 +33,12 @@ quiet_lines s quiet i e at =
 -- an index with no call in flight is at rest
 pub rests : (s : Index) → IsIndex s → IsQuiet s → IsAtRest (world s)
 rests s is quiet = idle_law (world s) is.lawful (quiet_parties s quiet)
+
+-- walks come to their targets there
+pub can_walk : (s : Index) → IsIndex s → IsQuiet s → CanWalk s.layout s.generation s.words
+can_walk s is quiet =
+    let active = is.layered.active in
+    record {
+      quiet = walks_are_quiet (layered s) is.layered (quiet_parties s quiet);
+      order = (is.layered.rows active.0 active.1 active.2 active.3).leaves;
+    }

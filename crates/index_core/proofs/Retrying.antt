@@ -488,7 +488,19 @@ module _ (s0 s s' : Index) (i : ℕ) (c : CoreCall) (before tries : ℕ) (answer
     (o.unworn, o.below, (λ none. cause.1.2 (room_then_too c none))),
     cause.2 ∙ ap (λ (m : Map). at m name) map_same,
     cause.3 ∙ ap length o.history,
-    cause.4,
+    (let lands = cause.4 in record {
+      last = lands.last;
+      began = inr o.again;
+      index = lands.index;
+      quiet = lands.quiet;
+      layout = lands.layout ∙ o.layout;
+      generation = lands.generation ∙ o.generation;
+      base = lands.base ∙ o.base;
+      history = lands.history ∙ o.history;
+      layer = λ none. absurd (o.turned none);
+      tries = lands.tries;
+      hops = lands.hops;
+    }),
   )
 
   merge_was : (d : CoreCall) → ((FindsWornNode c s → ⊥)) → d ≡ c → MergesNothing d s → MergesNothing d s0

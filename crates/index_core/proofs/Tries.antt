@@ -30,6 +30,7 @@ use Rattle.index_law.proofs.Parties.{at_set, set_here}
 use Rattle.lone_law.specs.Locks.{locks_of, fewest_locks}
 use Rattle.lone_law.specs.Merging.{FindsMerge, HasKeptList, IsMergedSince, LeavesShape}
 use Rattle.lone_law.specs.LoneCalls.{LoneCall, IsAnswered, LosesLocks, AfterCall, ValueFits, begun_party}
+use Rattle.lone_law.specs.There.{CanWalk}
 use Rattle.lone_law.specs.Tries.{Trying, IsHalvedSince}
 use Rattle.lone_law.proofs.Locks.{fewest_lose}
 use Rattle.lone_law.proofs.LoneCalls.{lone_calls_begin, lone_parts_begin, lone_calls_go}
@@ -44,7 +45,7 @@ use Rattle.index_core.specs.MachineLaws.{MachineLaw, showing, showing_after}
 use Rattle.index_core.specs.Weights.{weight_of, added_by}
 use Rattle.index_core.proofs.Bounds.{bounded_small}
 use Rattle.index_core.proofs.Lists.{map_there, map_set, set_twice, owed-set, quiet-owed}
-use Rattle.index_core.proofs.Quiet.{rests}
+use Rattle.index_core.proofs.Quiet.{rests, can_walk}
 use Rattle.index_law.specs.Laws.{IsAtRest}
 use Rattle.cat_history.specs.declared.op.NameOp.TheVariants as op
 use Rattle.index_core.proofs.MachineLaw.{machine_law, begin_law, idle_weigh}
@@ -123,18 +124,18 @@ asks v (call.Part low count) here of = record { view = here.call.view; named = s
 asks v (call.Recheck node version) here of = record { view = here.call.view; named = subst IsName of here.call.packed.named; limit = tt; value = tt }
 
 -- whatever is called begins so
-begins_alone : (w0 : World) (i : ℕ) (c : CoreCall) (p : Party) (index : ℕ) (v : View) → IsAtRest w0 → get_elem? w0.parties i ≡ some p → v.layout ≡ w0.layout → v.generation ≡ w0.generation → v.caller ≡ p.caller → Asks v c
+begins_alone : (w0 : World) (i : ℕ) (c : CoreCall) (p : Party) (index : ℕ) (v : View) → IsAtRest w0 → CanWalk w0.layout w0.generation w0.words → get_elem? w0.parties i ≡ some p → v.layout ≡ w0.layout → v.generation ≡ w0.generation → v.caller ≡ p.caller → Asks v c
     → LoneCall w0 i (op_of c) (limit_of c) (started w0 i p index) (begun_party w0 p index) (machine_of v c)
-begins_alone w0 i (call.Put name value limit) p index v rest there layout generation own ask =
-    lone_calls_begin w0 i (op.Put name value) (Some limit) p index v rest there ask.view layout generation own ask.named ask.limit ask.value
-begins_alone w0 i (call.Get name) p index v rest there layout generation own ask =
-    lone_calls_begin w0 i (op.Get name) None p index v rest there ask.view layout generation own ask.named ask.limit ask.value
-begins_alone w0 i (call.Del name limit) p index v rest there layout generation own ask =
-    lone_calls_begin w0 i (op.Del name) (Some limit) p index v rest there ask.view layout generation own ask.named ask.limit ask.value
-begins_alone w0 i (call.Part low count) p index v rest there layout generation own ask =
-    lone_parts_begin w0 i low count p index v rest there ask.view layout generation own ask.named
-begins_alone w0 i (call.Recheck node version) p index v rest there layout generation own ask =
-    lone_calls_begin w0 i (op.Get []) None p index v rest there ask.view layout generation own ask.named ask.limit ask.value
+begins_alone w0 i (call.Put name value limit) p index v rest can there layout generation own ask =
+    lone_calls_begin w0 i (op.Put name value) (Some limit) p index v rest can there ask.view layout generation own ask.named ask.limit ask.value
+begins_alone w0 i (call.Get name) p index v rest can there layout generation own ask =
+    lone_calls_begin w0 i (op.Get name) None p index v rest can there ask.view layout generation own ask.named ask.limit ask.value
+begins_alone w0 i (call.Del name limit) p index v rest can there layout generation own ask =
+    lone_calls_begin w0 i (op.Del name) (Some limit) p index v rest can there ask.view layout generation own ask.named ask.limit ask.value
+begins_alone w0 i (call.Part low count) p index v rest can there layout generation own ask =
+    lone_parts_begin w0 i low count p index v rest can there ask.view layout generation own ask.named
+begins_alone w0 i (call.Recheck node version) p index v rest can there layout generation own ask =
+    lone_calls_begin w0 i (op.Get []) None p index v rest can there ask.view layout generation own ask.named ask.limit ask.value
 
 -- the call as it begins
 begun_call : (s0 : Index) (i : ℕ) (e : PartyState) (c : CoreCall) (n : ℕ) → IsIndex s0 → IsQuiet s0 → get_elem? s0.states i ≡ some e → IsRunning (machine_of (view_of s0 i) c)
@@ -144,7 +145,7 @@ begun_call s0 i e c n is quiet there here of =
     let v = view_of s0 i in
     let m = machine_of v c in
     let now = state_with e (length s0.history) m in
-    let first = begins_alone (world s0) i c (party_of e) e.index v (rests s0 is quiet) (map_there party_of s0.states i e there) refl refl (sym (is.states i e there).caller) (asks v c here of) in
+    let first = begins_alone (world s0) i c (party_of e) e.index v (rests s0 is quiet) (can_walk s0 is quiet) (map_there party_of s0.states i e there) refl refl (sym (is.states i e there).caller) (asks v c here of) in
     let idle : Party = begun_party (world s0) (party_of e) e.index in
     let party : idle ≡ party_of now = (λ k. record { caller = e.caller; index = e.index; since = length s0.history; stage = sym (machine_idle s0 i c) k }) in
     let parties : slice_set (map party_of s0.states) i idle ≡ map party_of (slice_set s0.states i now) =

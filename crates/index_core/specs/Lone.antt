@@ -6,8 +6,6 @@ use mathlib.Core.Option.{some}
 use lib.ListN.{get_elem?}
 use Rattle.cat_history.specs.Maps.{at}
 use Rattle.cat_key.specs.Names.{IsName}
-use Rattle.data_node.specs.Lists.{key_of}
-use Rattle.data_list.specs.Still.{position_from}
 use Rattle.cat_history.specs.declared.op.Write.{Write}
 use Rattle.pm_words.specs.declared.again.Again.TheVariants as again
 use Rattle.call_stages.specs.declared.once.Once.{Once}
@@ -27,6 +25,7 @@ use Rattle.index_law.specs.Worlds.{facts, written}
 use Rattle.lone_law.specs.Rooms.{target_node}
 use Rattle.lone_law.specs.Merging.{NextIsWorn, TriesMerge}
 use Rattle.lone_law.specs.LoneCalls.{FindsWorn, IsAnswered}
+use Rattle.lone_law.specs.There.{WalksBy}
 use Rattle.lone_law.specs.Splitting.{HasFree, HasLine, LacksLine}
 use Rattle.lone_law.specs.Locks.{locks_of, locks_in}
 use Rattle.lone_turn.specs.CallLogs.{KeepsLayer, KeepsLines, MakesReady, LeavesLines}
@@ -61,10 +60,6 @@ node_for s name = target_node (world s) name
 -- The names of the map that belong to the same node as this one.
 abbrev pub names_beside : Index → List ℕ → List (List ℕ)
 names_beside s name = filter (λ other. node_for s other == node_for s name) (keys (map_of_index s))
-
--- How many nodes are listed before it, which a walk from the first one passes.
-abbrev pub hops_before : Index → List ℕ → ℕ
-hops_before s name = position_from (facts (world s)).list (key_of name)
 
 -- No lock can be taken any more of the node to which its name belongs.
 abbrev pub FindsWornNode : CoreCall → Index → Type 0
@@ -159,11 +154,55 @@ pub record IsWholePart (s : Index) (low : List ℕ) (count : ℕ) (new : Index) 
   pub node : words.node ≡ node_for s low
   pub version : version_in new.layout new.words words.node ≡ words.version
   pub place : words.place ≡ length s.history
-  pub hops : words.hops ≡ hops_before s low
+  pub hops : WalksBy s.layout s.words low words.hops
   pub old : words.old ≡ at (map_of_index s) low
   pub high : words.high ≡ next_of (anchors_in (world s)) low
   pub lists : ListsRange (map_of_index s) low count words
   pub compared : words.compared ≡ length (names_at (map_of_index s) (anchors_in (world s)) low)
+
+-- The call needs no turn of the updater: it is a get or a part of a scan, or its caller has a log line that is EMPTY and,
+-- for a put, some node is FREE that can be locked.
+abbrev pub NeedsNoTurn : ℕ → CoreCall → Index → Type 0
+NeedsNoTurn caller (call.Put name value limit) s =
+    HasLine s.layout s.words caller × HasFree s.layout s.generation s.words
+NeedsNoTurn caller (call.Del name limit) s = HasLine s.layout s.words caller
+NeedsNoTurn caller _ s = Unit {0}
+
+-- The party once a try of its call is answered.
+abbrev pub state_tried : PartyState → ℕ → Once Placed → PartyState
+state_tried state since answer =
+    record state { index = index_after state.index answer; since = since; machine = None }
+
+-- What one try of a call answers and leaves.
+pub record TriesAlone (old : Index) (caller : ℕ) (c : CoreCall) (new : Index) (answer : Once Placed) : Type 0 where
+  pub state : PartyState
+  pub there : get_elem? old.states caller ≡ some state
+  pub named : IsName (name_asked (op_of c))
+  pub answered : IsAnswered (world old) (op_of c) (limit_of c) (world new) (party_of state) answer
+  pub states : new.states ≡ slice_set old.states caller (state_tried state (length old.history) answer)
+  pub layout : new.layout ≡ old.layout
+  pub generation : new.generation ≡ old.generation
+  pub base : new.base ≡ old.base
+  pub stamps : stamp_in (world new) ≡ stamp_in (world old)
+  pub layer : KeepsLayer (world old) (world new)
+  pub lines : LeavesLines (name_asked (op_of c)) state.caller (world old) (world new) answer
+  pub weighs : weight_of new ≤ weight_of old + added_by (op_of c) answer
+
+-- The last try of a call that took place began as the index was `last`: that was s, or the call was made again, and
+-- had written nothing before. So many hops its walk made there.
+pub record LandsIn (s : Index) (caller : ℕ) (c : CoreCall) (new : Index) (placed : Placed) : Type 0 where
+  pub last : Index
+  pub began : (last ≡ s) ⊎ IsMadeAgain caller c s
+  pub index : IsIndex last
+  pub quiet : IsQuiet last
+  pub layout : last.layout ≡ s.layout
+  pub generation : last.generation ≡ s.generation
+  pub base : last.base ≡ s.base
+  pub history : last.history ≡ s.history
+  -- where the call made no turn of the updater, the search layer leads each key where it led
+  pub layer : NeedsNoTurn caller c s → KeepsLayer (world s) (world last)
+  pub tries : TriesAlone last caller c new (once.Done placed)
+  pub hops : WalksBy last.layout last.words (name_asked (op_of c)) placed.hops
 
 -- The answer by its cause, of a call that is tried so many times at most: of these five, exactly one holds where as many
 -- locks are left of each node.
@@ -177,7 +216,7 @@ IsWholeAnswer tries s caller c new (whole.Part words) =
 IsWholeAnswer tries s caller c new (whole.Placed placed) =
     (count_of c ≡ None) × (¬ FindsWornNode c s × ¬ IsOver c s × ¬ FindsNoRoom c s)
     × (placed.old ≡ at (map_of_index s) (name_asked (op_of c))) × (placed.place ≡ length s.history) ×
-    (placed.hops ≡ hops_before new (name_asked (op_of c)))
+    LandsIn s caller c new placed
 
 -- A call that took place split the node of its name, or merged it with the next one, exactly where the shape says so;
 -- one that was refused or found no room did neither. Of a worn node its cause says it.
@@ -188,14 +227,6 @@ LeavesList c (whole.Part words) s new = HasSameList s new
 LeavesList c (whole.Spent clock) s new = HasSameList s new
 LeavesList c whole.Full s new = HasSameList s new
 LeavesList c (whole.Worn node word) s new = Unit {0}
-
--- The call needs no turn of the updater: it is a get or a part of a scan, or its caller has a log line that is EMPTY and,
--- for a put, some node is FREE that can be locked.
-abbrev pub NeedsNoTurn : ℕ → CoreCall → Index → Type 0
-NeedsNoTurn caller (call.Put name value limit) s =
-    HasLine s.layout s.words caller × HasFree s.layout s.generation s.words
-NeedsNoTurn caller (call.Del name limit) s = HasLine s.layout s.words caller
-NeedsNoTurn caller _ s = Unit {0}
 
 -- The search layer leads each key where it led. The same nodes are listed, and each log line has the state that it had;
 -- or the call splits or merges by the shape, and one line of its caller, which was EMPTY, is READY, and each other line
@@ -265,11 +296,6 @@ abbrev pub lacks_node : Once Placed → Bool
 lacks_node (once.Again again.NoFree) = true
 lacks_node _ = false
 
--- The party once a try of its call is answered.
-abbrev pub state_tried : PartyState → ℕ → Once Placed → PartyState
-state_tried state since answer =
-    record state { index = index_after state.index answer; since = since; machine = None }
-
 -- The party once its whole call is answered. It counts whatever it is answered.
 abbrev pub state_done : PartyState → ℕ → PartyState
 state_done state since = record state { index = next_index state.index; since = since; machine = None }
@@ -279,21 +305,6 @@ pub record CountsCall (old : Index) (party : ℕ) (new : Index) : Type 0 where
   pub state : PartyState
   pub there : get_elem? old.states party ≡ some state
   pub is : new ≡ record old { states = slice_set old.states party (state_counted state) }
-
--- What one try of a call answers and leaves.
-pub record TriesAlone (old : Index) (caller : ℕ) (c : CoreCall) (new : Index) (answer : Once Placed) : Type 0 where
-  pub state : PartyState
-  pub there : get_elem? old.states caller ≡ some state
-  pub named : IsName (name_asked (op_of c))
-  pub answered : IsAnswered (world old) (op_of c) (limit_of c) (world new) (party_of state) answer
-  pub states : new.states ≡ slice_set old.states caller (state_tried state (length old.history) answer)
-  pub layout : new.layout ≡ old.layout
-  pub generation : new.generation ≡ old.generation
-  pub base : new.base ≡ old.base
-  pub stamps : stamp_in (world new) ≡ stamp_in (world old)
-  pub layer : KeepsLayer (world old) (world new)
-  pub lines : LeavesLines (name_asked (op_of c)) state.caller (world old) (world new) answer
-  pub weighs : weight_of new ≤ weight_of old + added_by (op_of c) answer
 
 -- A turn of the updater with stamp 1 and release 1, and one try of the call behind it.
 pub record TriesBehindTurn (old : Index) (caller : ℕ) (c : CoreCall) (new : Index) (answer : Once Placed) : Type 0 where

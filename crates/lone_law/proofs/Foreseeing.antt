@@ -95,6 +95,7 @@ use Rattle.lone_law.proofs.Standing.{both, shape_tries, no_next_was, next_was, h
 
 -- a look-up has no place
 looks_unplaced : (call : Call) (at : LookupAt) → placed_in (lookup_at_stage call at) ≡ None
+looks_unplaced call (look.Floor floor) = refl
 looks_unplaced call (look.Walk walk) = loose_placed (walk_stage walk) (walk_loose walk.generation walk.node walk.at)
 looks_unplaced call (look.Lock seen locked) = refl
 looks_unplaced call (look.Clock locked) = refl

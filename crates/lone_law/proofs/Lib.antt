@@ -4,7 +4,6 @@ pub mod Standing
 pub mod MergeStands
 pub mod Foreseeing
 pub mod Tries
-pub mod Hops
 pub mod Rooms
 pub mod Went
 pub mod LoneCalls

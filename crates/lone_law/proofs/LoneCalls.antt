@@ -1,6 +1,6 @@
 -- A whole try of any call, with no other in flight.
 use Rattle.std.proofs.Common.{◌≡◌, ◌≢◌, ℕ, ◌+◌, ◌<◌, ◌≤◌, ◌^◌, ◌⊎◌, inl, inr, ⊎_elim, Bool, true, false, cond, List, ◌++◌, length, refl, sym, ap, ◌∙◌, subst, arith}
-use Rattle.std.specs.Prelude.{Option, Some, None, IfSome, IsTrue, IsSome}
+use Rattle.std.specs.Prelude.{Option, Some, None, IfSome, IsTrue, IsSome, IsSomeAnd, ◌*◌}
 use Rattle.std.specs.FinMap.{insert, get-insert}
 use Rattle.std.proofs.lemmas.Bool.{leb-true}
 use Rattle.std.proofs.lemmas.List.{append-nil}
@@ -12,6 +12,7 @@ use Rattle.pm_words.specs.declared.again.Again.{Again}
 use Rattle.pm_words.specs.declared.again.Again.TheVariants as again
 use Rattle.pm_words.specs.declared.machine.Turn.{Turn}
 use Rattle.pm_words.specs.declared.machine.Turn.TheVariants.{Go, Done}
+use Rattle.pm_words.specs.Locations.{Cached, leaf_count}
 use Rattle.pm_words.specs.Rows.{acted, got}
 use Rattle.cat_key.specs.Names.{IsName, fingerprint_of}
 use Rattle.cat_key.proofs.Packing.{packed_from_name, bytes_of-words_of}
@@ -26,18 +27,18 @@ use Rattle.cat_history.specs.Records.{change_of}
 use Rattle.cat_history.specs.declared.op.Change.{Change}
 use Rattle.cat_history.specs.declared.op.NameOp.{NameOp}
 use Rattle.cat_history.specs.declared.op.NameOp.TheVariants as op
-use Rattle.data_node.specs.Lists.{key_of}
 use Rattle.call_stages.specs.declared.once.Once.{Once}
 use Rattle.call_stages.specs.declared.once.Once.TheVariants as once
 use Rattle.call_stages.specs.declared.once.Placed.{Placed}
 use Rattle.call_stages.specs.Stages.{Held, Stage, Idle, Saw, Wears, Holds, Eyes, Splits, Leaves, Meets, Joins, IsLoose, counted, placed_in}
 use Rattle.call_stages.specs.Kinds.{Told, LeadsWithin}
 use Rattle.call_stages.specs.AnySteps.{AnyStep}
-use Rattle.data_list.specs.Still.{position_from, IsQuietList, IsOnWay}
-use Rattle.data_list.specs.Keys.{key_number, key_words}
-use Rattle.data_list.specs.Walks.{walk_from}
-use Rattle.data_list.proofs.Comings.{first_comes}
-use Rattle.data_list.proofs.StillWalk.{begins_on_way}
+use Rattle.search_layer.specs.Layers.{IsFloorOf}
+use Rattle.search_layer.specs.Leaves.{LayerWords, leaves_in, layer_of}
+use Rattle.search_layer.specs.FloorSteps.{floor_starts}
+use Rattle.search_layer.specs.Laws.{answer_from}
+use Rattle.search_layer.proofs.FloorAlone.{floor_is_exact}
+use Rattle.search_layer.proofs.FloorTold.{floor_starts_sound}
 use Rattle.node_ops.specs.declared.call.Call.{Call}
 use Rattle.node_ops.specs.declared.get.Get.{Get}
 use Rattle.node_ops.specs.declared.get.Get.TheVariants as get
@@ -93,7 +94,7 @@ use Rattle.node_ops.proofs.LookupSound.{Stays}
 use Rattle.node_ops.proofs.CallSound.{get_stays, put_stays, del_stays, turns_stay_sound}
 use Rattle.node_ops.proofs.PartSound.{part_stays}
 use Rattle.node_ops.proofs.OpLaw.{counts_own_change, holds_own_name, turns_keep_op}
-use Rattle.index_law.specs.Facts.{Facts, map_now, list_in}
+use Rattle.index_law.specs.Facts.{Facts, map_now}
 use Rattle.index_law.specs.Worlds.{Party, World, facts, stepped, started, moved_on, written}
 use Rattle.index_law.proofs.Starts.{start_law, rest_law}
 use Rattle.index_law.proofs.Parties.{set_here, set_else}
@@ -104,7 +105,8 @@ use Rattle.index_law.proofs.AnySteps.{any_allowed, any_can, any_keeps}
 use Rattle.index_law.proofs.Actions.{some_told, some_leads}
 use Rattle.index_law.proofs.Own.{sure_within}
 use Rattle.index_law.proofs.Maps.{after_all-push}
-use Rattle.lone_law.specs.There.{nodes_in, IsAtNode, IsUnmoved}
+use Rattle.node_ops.proofs.LookupLaw.{key_is}
+use Rattle.lone_law.specs.There.{CanWalk, StartsAt, WalksBy, IsAtNode, IsUnmoved, IsLanding}
 use Rattle.lone_law.specs.Rooms.{target_node}
 use Rattle.lone_law.specs.Locks.{locks_of, HasLocked, HoldsBoth, PartsOnce, AfterLocks}
 use Rattle.lone_law.specs.Merging.{LeavesShape}
@@ -112,7 +114,6 @@ use Rattle.lone_law.specs.MergeStands.{merge_leaves}
 use Rattle.lone_law.specs.Splitting.{HasLine, LacksLine, HoldsAlone}
 use Rattle.lone_law.specs.Tries.{IsFor, is_same, Trying, HasKeptOrMerged, Says, LeavesHistory}
 use Rattle.lone_law.specs.LoneCalls.{HasClaimed, IsPast, IsThere, Foresees, is_leaving, LoneCall, FindsFull, NeedsLine, FindsWorn, IsLate, IsAnswered, AfterCall, LoneCallsGo, LoneCallsBegin, LonePartsBegin}
-use Rattle.lone_law.proofs.There.{rest_is_still}
 use Rattle.node_ops.specs.Endings.{limit_in, IsPutOp}
 use Rattle.lone_law.proofs.Foreseeing.{DelForeseesSo, EndsSo, del_foresees, del_ends, del_had_line, PutForeseesSo, put_foresees}
 use Rattle.lone_law.proofs.Locks.{locks_go}
@@ -213,6 +214,7 @@ loose_one (Joins h left right pace) loose = absurd loose
 loose_one (Leaves left) loose = absurd loose
 
 looks_one : (call : Call) (at : LookupAt) → HoldsFew (lookup_at_stage call at)
+looks_one call (look.Floor floor) = tt
 looks_one call (look.Walk walk) = loose_one (walk_stage walk) (walk_loose walk.generation walk.node walk.at)
 looks_one call (look.Lock seen locked) = tt
 looks_one call (look.Clock locked) = tt
@@ -526,7 +528,7 @@ module _ (w0 : World) (i : ℕ) (asked : NameOp) (limit : Option ℕ) (w : World
 
   went : Went w0.layout w0.generation w0.words (acted w.layout w.words a) machine (running_turned machine x)
   went =
-      let still = subst (λ (q : Layout × ℕ). IsQuietList q.0 q.1 (nodes_in q.0 w0.words)) (λ k. (sym layout_is k, sym generation_is k)) (rest_is_still w0 rest) in
+      let still = subst (λ (q : Layout × ℕ). CanWalk q.0 q.1 w0.words) (λ k. (sym layout_is k, sym generation_is k)) o.walks in
       let stands = subst (λ (k : Layout). IsThere k w0.words w.words machine) (sym layout_is) o.stands in
       let own_told = subst (λ (k : Layout). x ≡ got k w.words a) (sym o.sound.layout) told in
       let own_tells = subst (λ (q : Layout × ℕ). Told q.0 q.1 a x) (λ k. (sym o.sound.layout k, sym o.sound.generation k)) tells in
@@ -700,7 +702,7 @@ module _ (w0 : World) (i : ℕ) (asked : NameOp) (limit : Option ℕ) (w : World
         (fresh ended.0, in_time ended.3, room_had, λ needs. own_line (had_line asked machine o.of o.stands o.foresees ended.2 room_had needs)),
         says.0,
         says.1,
-        ended.1 ∙ ended.0.hops ∙ ap (λ (n : List ℕ). position_from (list_in w0.layout w0.words) (key_of n)) name_is,
+        subst (λ (q : List ℕ × ℕ). WalksBy w0.layout w0.words q.0 q.1) (λ k. (name_is k, sym ended.1 k)) ended.0.hops,
         history,
         leaves_shape asked p.stage says.2 (subst (MergesEnd w0 asked) (sym o.stage) ends),
       )
@@ -779,6 +781,7 @@ module _ (w0 : World) (i : ℕ) (asked : NameOp) (limit : Option ℕ) (w : World
       → Went w0.layout w0.generation w0.words (acted w.layout w.words a) machine t → AfterCall w0 i asked limit w p machine t
   after_turn (Go next) turn k sound of keeps begun foreseen locks been = record {
     trying = goes_on_to next turn;
+    walks = o.walks;
     stage = refl;
     sound = sound;
     of = of;
@@ -807,7 +810,7 @@ lone_calls_go w0 i asked limit w p machine x o rest told room =
     (call_kept machine x o.sound.here own_told led) (not_past machine x)
     (foresees_so w0 i asked limit w p machine x o rest told room) (locks_so w0 i asked limit w p machine x o rest told room) (went w0 i asked limit w p machine x o rest told room)
 
-module _ (w0 : World) (i : ℕ) (limit : Option ℕ) (p : Party) (index : ℕ) (view : View) (name : List ℕ) (rest : IsAtRest w0) (there : get_elem? w0.parties i ≡ some p)
+module _ (w0 : World) (i : ℕ) (limit : Option ℕ) (p : Party) (index : ℕ) (view : View) (name : List ℕ) (rest : IsAtRest w0) (can : CanWalk w0.layout w0.generation w0.words) (there : get_elem? w0.parties i ≡ some p)
     (is_view : IsView view) (layout : view.layout ≡ w0.layout) (generation : view.generation ≡ w0.generation) (named : IsName name) (most : IfSome limit (λ m. m ≤ 2 ^ 62)) where
   abbrev call : Call
   call = new_call view name limit
@@ -820,7 +823,7 @@ module _ (w0 : World) (i : ℕ) (limit : Option ℕ) (p : Party) (index : ℕ) (
       let nodes : 1 ≤ view.layout.nodes = is_view.layout.nodes.0 in
       record {
         call = record { view = is_view; node = omega arith; packed = packed_from_name name named; print = ap fingerprint_of (sym (bytes_of-words_of name named)); limit = most };
-        here = record { sound = record { layout = is_view.layout; node = omega arith; hops = omega arith; here = tt; first = tt }; layout = refl; generation = refl; key = refl };
+        here = record { sound = floor_starts_sound view.layout call.name is_view.layout; layout = refl; key = refl };
       }
 
   tries : (own : Option Change) → Trying name own w0 i (started w0 i p index) begun
@@ -838,52 +841,59 @@ module _ (w0 : World) (i : ℕ) (limit : Option ℕ) (p : Party) (index : ℕ) (
     gone = omega arith;
   }
 
-  on_way : IsOnWay w0.layout (nodes_in w0.layout w0.words) (position_from (list_in w0.layout w0.words) (key_number (key_words call.name))) (walk_from view.layout view.generation 0 (key_words call.name))
-  on_way =
-      let still = rest_is_still w0 rest in
-      begins_on_way w0.layout w0.generation (nodes_in w0.layout w0.words) (position_from (list_in w0.layout w0.words) (key_number (key_words call.name)))
-      (walk_from view.layout view.generation 0 (key_words call.name)) still rest.row.layout.nodes.0 refl refl
-      (first_comes w0.layout w0.generation (nodes_in w0.layout w0.words) (key_number (key_words call.name)) still)
+  landing : IsLanding w0.layout w0.words call (floor_starts view.layout call.name)
+  landing =
+      let turns : ℕ = 4 * leaf_count w0.layout in
+      let leaves : LayerWords = leaves_in w0.layout w0.words Cached in
+      let exact = floor_is_exact w0.layout call.name leaves rest.row.layout can.order in
+      record {
+        turns = turns;
+        answers = subst (λ (l : Layout). IsSomeAnd (answer_from turns leaves (floor_starts l call.name)) (StartsAt w0.layout w0.words (name_in call))) (sym layout)
+            (subst (λ (key : ℕ). IsSomeAnd (answer_from turns leaves (floor_starts w0.layout call.name)) (IsFloorOf (layer_of w0.layout w0.words) key)) (key_is call looks_sound.call) exact);
+      }
 
   about_name : name_in call ≡ name
   about_name = bytes_of-words_of name named
 
 pub lone_calls_begin : LoneCallsBegin
-lone_calls_begin w0 i (op.Get name) limit p index view rest there is_view layout generation own named most fits = record {
+lone_calls_begin w0 i (op.Get name) limit p index view rest can there is_view layout generation own named most fits = record {
+  walks = can;
   foresees = tt;
   locks = λ m. refl;
   timely = λ past. absurd past;
-  trying = tries w0 i limit p index view name rest there is_view layout generation named most None;
+  trying = tries w0 i limit p index view name rest can there is_view layout generation named most None;
   stage = refl;
-  sound = record { layout = layout; generation = generation; here = looks_sound w0 i limit p index view name rest there is_view layout generation named most };
+  sound = record { layout = layout; generation = generation; here = looks_sound w0 i limit p index view name rest can there is_view layout generation named most };
   of = bytes_of-words_of name named;
   limited = refl;
   own = own;
-  stands = (refl, on_way w0 i limit p index view name rest there is_view layout generation named most);
+  stands = (refl, landing w0 i limit p index view name rest can there is_view layout generation named most);
 }
-lone_calls_begin w0 i (op.Put name value) limit p index view rest there is_view layout generation own named most fits = record {
+lone_calls_begin w0 i (op.Put name value) limit p index view rest can there is_view layout generation own named most fits = record {
+  walks = can;
   foresees = tt;
   locks = λ m. refl;
   timely = λ past. absurd past;
-  trying = tries w0 i limit p index view name rest there is_view layout generation named most (Some (change.Put name value));
+  trying = tries w0 i limit p index view name rest can there is_view layout generation named most (Some (change.Put name value));
   stage = refl;
-  sound = record { layout = layout; generation = generation; here = (looks_sound w0 i limit p index view name rest there is_view layout generation named most, fits) };
+  sound = record { layout = layout; generation = generation; here = (looks_sound w0 i limit p index view name rest can there is_view layout generation named most, fits) };
   of = (bytes_of-words_of name named, refl);
   limited = refl;
   own = own;
-  stands = (refl, on_way w0 i limit p index view name rest there is_view layout generation named most);
+  stands = (refl, landing w0 i limit p index view name rest can there is_view layout generation named most);
 }
-lone_calls_begin w0 i (op.Del name) limit p index view rest there is_view layout generation own named most fits = record {
+lone_calls_begin w0 i (op.Del name) limit p index view rest can there is_view layout generation own named most fits = record {
+  walks = can;
   foresees = tt;
   locks = λ m. refl;
   timely = λ past. absurd past;
-  trying = tries w0 i limit p index view name rest there is_view layout generation named most (Some (change.Del name));
+  trying = tries w0 i limit p index view name rest can there is_view layout generation named most (Some (change.Del name));
   stage = refl;
-  sound = record { layout = layout; generation = generation; here = looks_sound w0 i limit p index view name rest there is_view layout generation named most };
+  sound = record { layout = layout; generation = generation; here = looks_sound w0 i limit p index view name rest can there is_view layout generation named most };
   of = (bytes_of-words_of name named, tt);
   limited = refl;
   own = own;
-  stands = (refl, on_way w0 i limit p index view name rest there is_view layout generation named most);
+  stands = (refl, landing w0 i limit p index view name rest can there is_view layout generation named most);
 }
 
 -- to the law a part is a get of its low name
@@ -891,6 +901,7 @@ as_part : {w0 w : World} {i : ℕ} {asked : NameOp} {limit : Option ℕ} {p : Pa
     → LoneCall w0 i asked limit w p (Parting (part.Looking lookup count None))
 as_part lookup count o = record {
   trying = o.trying;
+  walks = o.walks;
   stage = o.stage;
   sound = record { layout = o.sound.layout; generation = o.sound.generation; here = o.sound.here };
   of = of_part _ o.of;
@@ -908,5 +919,5 @@ as_part lookup count o = record {
     of_part (op.Del name) is = is
 
 pub lone_parts_begin : LonePartsBegin
-lone_parts_begin w0 i low count p index view rest there is_view layout generation own named =
-    as_part (starts (new_call view low None)) count (lone_calls_begin w0 i (op.Get low) None p index view rest there is_view layout generation own named tt tt)
+lone_parts_begin w0 i low count p index view rest can there is_view layout generation own named =
+    as_part (starts (new_call view low None)) count (lone_calls_begin w0 i (op.Get low) None p index view rest can there is_view layout generation own named tt tt)

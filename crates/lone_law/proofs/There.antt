@@ -1,7 +1,7 @@
 -- A look-up that nobody disturbs comes to the target of its name.
-use Rattle.std.proofs.Common.{◌≡◌, ℕ, ◌+◌, ◌<◌, ◌==◌, true, false, cond, ltb, List, get_or, set, Some, None, refl, sym, subst, ap, ◌∙◌, arith}
+use Rattle.std.proofs.Common.{◌≡◌, ℕ, zero, suc, ◌+◌, ◌<◌, ◌==◌, true, false, cond, ltb, List, get_or, set, Some, None, refl, sym, subst, ap, ◌∙◌, arith}
 use Rattle.std.proofs.lemmas.Bool.{eq-eqb, lt-ltb}
-use Rattle.std.specs.Prelude.{slice_index}
+use Rattle.std.specs.Prelude.{slice_index, IsSomeAnd}
 use Rattle.std.proofs.lemmas.List.{set-get_or}
 use Rattle.pm_words.specs.declared.layout.Layout.{Layout}
 use Rattle.pm_words.specs.declared.again.Again.TheVariants.{Moved}
@@ -19,10 +19,11 @@ use Rattle.data_list.specs.declared.walk.Walk.{Walk}
 use Rattle.data_list.specs.declared.walk.WalkAt.{WalkAt}
 use Rattle.data_list.specs.declared.walk.WalkAt.TheVariants as walk_at
 use Rattle.data_list.specs.Keys.{key_number, key_words}
-use Rattle.data_list.specs.Walks.{sighting_of, walk_at_asks, walk_asks, walk_turned, IsWalkAt}
-use Rattle.data_list.specs.Still.{position_from, IsQuietList, loaded, StaysOnWay}
+use Rattle.data_list.specs.Walks.{sighting_of, walk_from, walk_at_asks, walk_asks, walk_turned, IsWalkAt}
+use Rattle.data_list.specs.Still.{Nodes, Comes, loaded, StaysOnWay}
 use Rattle.version_lock.proofs.WordTests.{worn_word, fresh_word}
-use Rattle.data_list.proofs.StillWalk.{walks_come_there}
+use Rattle.data_list.proofs.Comings.{each_comes}
+use Rattle.data_list.proofs.StillWalk.{begins_on_way, walks_come_there}
 use Rattle.node_ops.specs.declared.call.Call.{Call}
 use Rattle.node_ops.specs.declared.lookup.Directory.{Directory}
 use Rattle.node_ops.specs.declared.lookup.Hold.{Hold}
@@ -32,7 +33,7 @@ use Rattle.node_ops.specs.declared.lookup.LookupAt.{LookupAt}
 use Rattle.node_ops.specs.declared.lookup.LookupAt.TheVariants as at
 use Rattle.node_ops.specs.Calls.{IsCall, name_in, at_node, call_address}
 use Rattle.data_node.specs.Spots.{bitmap_offset, slot_offset}
-use Rattle.node_ops.specs.LookupSteps.{is_spent, goes_to, ends, walked_on, saw_directory, next_candidate, candidate_turned, lookup_at_asks, lookup_at_turned, IsLookupAt}
+use Rattle.node_ops.specs.LookupSteps.{is_spent, goes_to, ends, floored, walked_on, saw_directory, next_candidate, candidate_turned, lookup_at_asks, lookup_at_turned, IsFlooring, IsLookupAt}
 use Rattle.node_ops.proofs.LookupLaw.{key_is}
 use Rattle.index_law.specs.Facts.{list_in}
 use Rattle.index_law.specs.Worlds.{facts}
@@ -42,9 +43,17 @@ use Rattle.index_law.proofs.Noting.{line-alike}
 use Rattle.index_law.proofs.Starts.{idle_law}
 use Rattle.index_law.proofs.Prevs.{idle_follow}
 use Rattle.pm_words.proofs.Apart.{at-set_other}
-use Rattle.pm_words.specs.Locations.{Node, Line, Location, Volatile, Cached}
+use Rattle.pm_words.specs.Locations.{Node, Line, Location, Volatile, Cached, leaf_count}
 use Rattle.pm_words.specs.declared.action.Action.TheVariants.{Load, Exchange}
-use Rattle.lone_law.specs.There.{nodes_in, IsAtNode, IsUnmoved, LookupStands, LookedStands, LooksComeThere}
+use Rattle.search_layer.specs.declared.floor.Floor.{Floor}
+use Rattle.search_layer.specs.Leaves.{LayerWords, leaves_in, leaf_place}
+use Rattle.search_layer.specs.Reading.{offset_read}
+use Rattle.search_layer.specs.FloorSteps.{floor_asks, floor_turned}
+use Rattle.search_layer.specs.Laws.{told_turn, answer_from, FloorAfter}
+use Rattle.search_layer.proofs.LeafRows.{leaves_in-here}
+use Rattle.search_layer.proofs.FloorTold.{floor_stays, offset_small}
+use Rattle.search_layer.proofs.FloorAlone.{lone_keeps}
+use Rattle.lone_law.specs.There.{nodes_in, CanWalk, StartsAt, WalksBy, IsAtNode, IsUnmoved, LookupStands, LookedStands, LooksComeThere}
 use Rattle.lone_law.specs.There.{RestIsStill, IdleIsQuiet}
 
 pub rest_is_still : RestIsStill
@@ -145,21 +154,48 @@ module _ (call : Call) (sound : IsCall call) (words0 words : List ℕ) where
   abbrev g : ℕ
   g = call.view.generation
 
-  abbrev hops : ℕ
-  hops = position_from (list_in l words0) (key_number (key_words call.name))
-
   abbrev Stands : List ℕ → Turn Lookup Looked → Type 0
   Stands words' = LookedStands l g words0 words' call
 
-  walked_there : (words' : List ℕ) (turn : Turn Walk Walked) → words' ≡ words0 → StaysOnWay l (nodes_in l words0) hops (key_words call.name) turn → Stands words' (walked_on call turn)
-  walked_there words' (Go walk) same way = (same, way)
-  walked_there words' (Done (walked.Again why)) same way = absurd way
-  walked_there words' (Done (walked.Target target)) same way =
+  -- the floor leads to where the walk begins
+  floored_there : (words' : List ℕ) (turns : ℕ) (turn : Turn Floor ℕ) → CanWalk l g words0 → words' ≡ words0 → FloorAfter l turn
+      → IsSomeAnd (told_turn turn (answer_from turns (leaves_in l words0 Cached))) (StartsAt l words0 (name_in call)) → Stands words' (floored call turn)
+  floored_there words' turns (Go next) can same here answers = (same, record { turns = turns; answers = answers })
+  floored_there words' turns (Done node) can same here starts =
+      let f : Nodes = nodes_in l words0 in
+      let walk : Walk = walk_from l g node (key_words call.name) in
+      let comes = each_comes l g f (key_number (key_words call.name)) node can.quiet here in (
+        same,
+        record {
+          hops = comes.0;
+          walks = record { start = node; begins = starts; comes = subst (λ (k : ℕ). Comes l f k node comes.0) (key_is call sound) comes.1 };
+          way = begins_on_way l g f comes.0 walk can.quiet.quiet sound.view.layout.nodes.0 refl refl comes.1;
+        },
+      )
+
+  floor_there : (floor : Floor) (x : ℕ) → IsFlooring call floor → CanWalk l g words0 → words ≡ words0 → (turns : ℕ) → IsSomeAnd (answer_from turns (leaves_in l words0 Cached) floor) (StartsAt l words0 (name_in call))
+      → x ≡ got l words (floor_asks floor) → Stands (acted l words (floor_asks floor)) (floored call (floor_turned floor x))
+  floor_there floor x here can same zero answers told = absurd answers
+  floor_there floor x here can same (suc turns) answers told =
+      let w : LayerWords = leaves_in l words0 Cached in
+      let within : floor.reader.leaf < leaf_count l = subst (λ (k : Layout). floor.reader.leaf < leaf_count k) here.layout here.sound.reader.leaf in
+      let loads : w floor.reader.leaf (offset_read floor.reader.at) ≡ x =
+      leaves_in-here l words0 Cached floor.reader.leaf (offset_read floor.reader.at) within (offset_small floor.reader.at)
+      ∙ ap (λ (k : Layout). slice_index words0 (leaf_place k floor.reader.leaf (offset_read floor.reader.at))) (sym here.layout)
+      ∙ ap (λ (ws : List ℕ). got l ws (floor_asks floor)) (sym same) ∙ sym told in
+      floored_there (acted l words (floor_asks floor)) turns (floor_turned floor x) can (lone_keeps l words floor ∙ same)
+      (subst (λ (k : Layout). FloorAfter k (floor_turned floor x)) here.layout (floor_stays floor x here.sound))
+      (subst (λ (n : ℕ). IsSomeAnd (told_turn (floor_turned floor n) (answer_from turns w)) (StartsAt l words0 (name_in call))) loads answers)
+
+  walked_there : (words' : List ℕ) (hops : ℕ) (turn : Turn Walk Walked) → WalksBy l words0 (name_in call) hops → words' ≡ words0 → StaysOnWay l (nodes_in l words0) hops (key_words call.name) turn → Stands words' (walked_on call turn)
+  walked_there words' hops (Go walk) walks same way = (same, record { hops = hops; walks = walks; way = way })
+  walked_there words' hops (Done (walked.Again why)) walks same way = absurd way
+  walked_there words' hops (Done (walked.Target target)) walks same way =
       let node_is : target.node ≡ target_from 0 (list_in l words0) (key_of (name_in call)) = way.0 ∙ ap (target_from 0 (list_in l words0)) (key_is call sound) in
       elim (is_worn_word target.version g) as (λ b. is_worn_word target.version g ≡ b → Stands words'
       (cond b (ends (once.Worn target.node target.version)) (goes_to (at_node call target.node target.hops) (at.Lock (sighting_of target) (locked_word g (kept_count target.version g)))))) [
         | true ↦ λ worn. (node_is, way.2, worn_word target.version g worn)
-        | false ↦ λ fresh. (same, record { node = node_is; hops = way.1 ∙ ap (position_from (list_in l words0)) (key_is call sound); unworn = λ worn. fresh_word target.version g fresh (subst (λ v. IsWorn v g) (sym way.2) worn) }, way.2)
+        | false ↦ λ fresh. (same, record { node = node_is; hops = subst (WalksBy l words0 (name_in call)) (sym way.1) walks; unworn = λ worn. fresh_word target.version g fresh (subst (λ v. IsWorn v g) (sym way.2) worn) }, way.2)
       ] refl
 
   candidate_there : (words' : List ℕ) (hold : Hold) (directory : Directory) (left : ℕ) → IsAtNode l words0 call × IsUnmoved l words0 words' call.node → Stands words' (next_candidate call hold directory left)
@@ -173,8 +209,9 @@ module _ (call : Call) (sound : IsCall call) (words0 words : List ℕ) where
   loaded_there : (address : ℕ) → IsAtNode l words0 call × IsUnmoved l words0 words call.node → IsAtNode l words0 call × IsUnmoved l words0 (acted l words (Load address)) call.node
   loaded_there address stands = (stands.0, loaded_unmoved l words0 words call.node address stands.1)
 
-  pub at_there : (at : LookupAt) (x : ℕ) → IsLookupAt call at → IsQuietList l g (nodes_in l words0) → LookupStands l words0 words call at → x ≡ got l words (lookup_at_asks call at)
+  pub at_there : (at : LookupAt) (x : ℕ) → IsLookupAt call at → CanWalk l g words0 → LookupStands l words0 words call at → x ≡ got l words (lookup_at_asks call at)
       → Stands (acted l words (lookup_at_asks call at)) (lookup_at_turned call at x)
+  at_there (at.Floor floor) x here still stands told = floor_there floor x here still stands.0 stands.1.turns stands.1.answers told
   at_there (at.Walk walk) x here still stands told =
       let same_layout : walk.layout ≡ l = here.layout in
       let asks : walk_asks walk ≡ walk_at_asks l walk.node walk.at = ap (λ (k : Layout). walk_at_asks k walk.node walk.at) same_layout in
@@ -183,11 +220,12 @@ module _ (call : Call) (sound : IsCall call) (words0 words : List ℕ) where
       let loads : x ≡ loaded (nodes_in l words0) walk.node walk.at =
       told ∙ ap (got l words) asks ∙ ap (λ (ws : List ℕ). got l ws (walk_at_asks l walk.node walk.at)) stands.0
       ∙ told_loaded l g words0 walk walk.at node fields in
-      let turn = walks_come_there l g (nodes_in l words0) hops walk still here.layout here.generation stands.1 in
+      let hops = stands.1.hops in
+      let turn = walks_come_there l g (nodes_in l words0) hops walk still.quiet.quiet here.layout here.generation stands.1.way in
       let keyed : StaysOnWay l (nodes_in l words0) hops (key_words call.name) (walk_turned walk x) =
       subst (λ y. StaysOnWay l (nodes_in l words0) hops (key_words call.name) (walk_turned walk y)) (sym loads)
       (subst (λ k. StaysOnWay l (nodes_in l words0) hops k (walk_turned walk (loaded (nodes_in l words0) walk.node walk.at))) here.key turn) in
-      walked_there (acted l words (walk_asks walk)) (walk_turned walk x) (ap (acted l words) asks ∙ walk_loads l words walk.node walk.at ∙ stands.0) keyed
+      walked_there (acted l words (walk_asks walk)) hops (walk_turned walk x) stands.1.walks (ap (acted l words) asks ∙ walk_loads l words walk.node walk.at ∙ stands.0) keyed
   at_there (at.Lock sight word) x here still stands told =
       let node : call.node < l.nodes = sound.node in
       let seen : x ≡ sight.version = told ∙ ap (λ (ws : List ℕ). get_or ws (version_address l call.node) 0) stands.0 ∙ sym (version_in-here l words0 call.node node) ∙ sym stands.2 in

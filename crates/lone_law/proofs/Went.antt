@@ -12,7 +12,6 @@ use Rattle.call_stages.specs.declared.once.Once.{Once}
 use Rattle.call_stages.specs.declared.once.Once.TheVariants as once
 use Rattle.call_stages.specs.declared.once.Placed.{Placed}
 use Rattle.call_stages.specs.Stages.{placed_in}
-use Rattle.data_list.specs.Still.{IsQuietList}
 use Rattle.node_ops.specs.declared.call.Call.{Call}
 use Rattle.node_ops.specs.declared.lookup.Hit.{Hit}
 use Rattle.node_ops.specs.declared.lookup.Found.{Found}
@@ -65,7 +64,7 @@ use Rattle.split_merge.specs.declared.merging.Merge.{Merge}
 use Rattle.split_merge.specs.declared.merging.Merged.{Merged}
 use Rattle.split_merge.specs.Merges.{merge_turned}
 use Rattle.index_law.specs.Lines.{line_in}
-use Rattle.lone_law.specs.There.{nodes_in, IsAtNode, IsUnmoved, EndsEarly, LookedStands}
+use Rattle.lone_law.specs.There.{CanWalk, IsAtNode, IsUnmoved, EndsEarly, LookedStands}
 use Rattle.lone_law.specs.Splitting.{HasLine, HasFree, IsLacking, SplitStands, SplitWent, IsReadyToSplit, HoldsAlone}
 use Rattle.lone_law.proofs.Splitting.{splits_come_there, take_unmoved, take_told}
 use Rattle.index_law.specs.Facts.{version_in, list_in}
@@ -100,7 +99,7 @@ early_went l g words0 words call limit (once.Spent clock) is = is
 early_went l g words0 words call limit (once.Again why) is = absurd is
 
 pub get_went : (machine : Get) (words0 words : List ℕ) (x : ℕ) → IsGet machine
-    → IsQuietList (get_call machine).view.layout (get_call machine).view.generation (nodes_in (get_call machine).view.layout words0)
+    → CanWalk (get_call machine).view.layout (get_call machine).view.generation words0
     → GetIsThere (get_call machine).view.layout words0 words machine → x ≡ got (get_call machine).view.layout words (get_asks machine)
     → GetWent (get_call machine).view.layout (get_call machine).view.generation words0 (acted (get_call machine).view.layout words (get_asks machine)) (get_call machine) (limit_in (get_stage machine)) (get_turned machine x)
 get_went (get.Looking lookup) words0 words x sound still stands told = at (lookup_turned lookup x) (looks_come_there lookup words0 words x sound still stands told)
@@ -309,15 +308,15 @@ KnowsOwn l words (Putting (put.Splitting call hold bitmap value split)) = HoldsA
 KnowsOwn l words _ = Unit {0}
 
 -- the words as they were are ready for a split of a listed node
-ready_to_split : (l : Layout) (g : ℕ) (words0 : List ℕ) (call : Call) → IsQuietList l g (nodes_in l words0) → IsAtNode l words0 call → IsReadyToSplit l g words0 call.node
+ready_to_split : (l : Layout) (g : ℕ) (words0 : List ℕ) (call : Call) → CanWalk l g words0 → IsAtNode l words0 call → IsReadyToSplit l g words0 call.node
 ready_to_split l g words0 call still at = record {
-  live = still.live call.node (subst (IsIn (list_in l words0)) (sym at.node) (target_in 0 (list_in l words0) (key_of (name_in call))));
-  first = still.live 0 (inl refl);
-  free = still.free;
+  live = still.quiet.quiet.live call.node (subst (IsIn (list_in l words0)) (sym at.node) (target_in 0 (list_in l words0) (key_of (name_in call))));
+  first = still.quiet.quiet.live 0 (inl refl);
+  free = still.quiet.quiet.free;
 }
 
 split_went : (call : Call) (hold : Hold) (bitmap value : ℕ) (split : Split) (words0 words : List ℕ) (x : ℕ) → IsSplitting call hold bitmap split
-    → IsQuietList call.view.layout call.view.generation (nodes_in call.view.layout words0)
+    → CanWalk call.view.layout call.view.generation words0
     → IsAtNode call.view.layout words0 call → SplitStands call.view.layout call.view.generation words0 words call.node hold.locked call.view.caller split.at
     → Told call.view.layout call.view.generation (split_asks split) x → (HoldsAlone split.at → version_in call.view.layout words call.node ≡ hold.locked)
     → x ≡ got call.view.layout words (split_asks split)
@@ -334,7 +333,7 @@ split_went call hold bitmap value split words0 words x sound still at stands tel
     (subst (λ (q : View × (ℕ × ℕ)). x ≡ got q.0.layout words (split_asks split)) back told))
 
 put_went : (machine : Put) (words0 words : List ℕ) (x : ℕ) → IsPut machine
-    → IsQuietList (put_call machine).view.layout (put_call machine).view.generation (nodes_in (put_call machine).view.layout words0)
+    → CanWalk (put_call machine).view.layout (put_call machine).view.generation words0
     → Told (put_call machine).view.layout (put_call machine).view.generation (put_asks machine) x
     → KnowsOwn (put_call machine).view.layout words (Putting machine)
     → PutIsThere (put_call machine).view.layout words0 words machine → x ≡ got (put_call machine).view.layout words (put_asks machine)
@@ -375,7 +374,7 @@ del_take_went call hold bitmap hit take words0 words x place limit R is there st
     (takes_heed take (λ number. line_in call.view.layout words0 call.view.caller number 0) x is.here states looked))
 
 del_went : (machine : Del) (words0 words : List ℕ) (x : ℕ) → IsDel machine
-    → IsQuietList (del_call machine).view.layout (del_call machine).view.generation (nodes_in (del_call machine).view.layout words0)
+    → CanWalk (del_call machine).view.layout (del_call machine).view.generation words0
     → Told (del_call machine).view.layout (del_call machine).view.generation (del_asks machine) x
     → DelIsThere (del_call machine).view.layout words0 words machine → x ≡ got (del_call machine).view.layout words (del_asks machine)
     → DelWent (del_call machine).view.layout (del_call machine).view.generation words0 (acted (del_call machine).view.layout words (del_asks machine)) (MayLack (Deleting machine)) (del_call machine) (placed_in (del_stage machine)) (limit_in (del_stage machine)) (del_turned machine x)
@@ -417,7 +416,7 @@ reading_went l g words0 words reading x stands (reading_at.Load slot word) = sta
 reading_went l g words0 words reading x stands reading_at.Unlock = (stands, refl, tt, refl)
 
 part_went : (machine : Part) (words0 words : List ℕ) (x : ℕ) → IsPart machine
-    → IsQuietList (part_call machine).view.layout (part_call machine).view.generation (nodes_in (part_call machine).view.layout words0)
+    → CanWalk (part_call machine).view.layout (part_call machine).view.generation words0
     → PartIsThere (part_call machine).view.layout words0 words machine → x ≡ got (part_call machine).view.layout words (part_asks machine)
     → PartWent (part_call machine).view.layout (part_call machine).view.generation words0 (acted (part_call machine).view.layout words (part_asks machine)) machine (part_turned machine x)
 part_went (part.Looking lookup count behind) words0 words x sound still stands told =
@@ -425,7 +424,7 @@ part_went (part.Looking lookup count behind) words0 words x sound still stands t
 part_went (part.Reading reading) words0 words x sound still stands told = reading_went _ _ words0 _ reading x stands reading.at
 
 pub machine_went : (machine : Running) (words0 words : List ℕ) (x : ℕ) → IsRunning machine
-    → IsQuietList (running_call machine).view.layout (running_call machine).view.generation (nodes_in (running_call machine).view.layout words0)
+    → CanWalk (running_call machine).view.layout (running_call machine).view.generation words0
     → Told (running_call machine).view.layout (running_call machine).view.generation (running_asks machine) x
     → KnowsOwn (running_call machine).view.layout words machine
     → IsThere (running_call machine).view.layout words0 words machine → x ≡ got (running_call machine).view.layout words (running_asks machine)

@@ -13,12 +13,10 @@ use Rattle.cat_history.specs.Maps.{at}
 use Rattle.cat_history.specs.Records.{change_of}
 use Rattle.cat_history.specs.declared.op.NameOp.{NameOp}
 use Rattle.cat_history.specs.declared.op.NameOp.TheVariants as op
-use Rattle.data_node.specs.Lists.{key_of}
 use Rattle.call_stages.specs.declared.once.Once.{Once}
 use Rattle.call_stages.specs.declared.once.Once.TheVariants as once
 use Rattle.call_stages.specs.declared.once.Placed.{Placed}
 use Rattle.call_stages.specs.Stages.{Idle}
-use Rattle.data_list.specs.Still.{position_from}
 use Rattle.cat_key.specs.Names.{IsName}
 use Rattle.call_stages.specs.declared.view.View.{View}
 use Rattle.node_ops.specs.Calls.{new_call}
@@ -46,7 +44,7 @@ use Rattle.node_ops.specs.CallStages.{stage_of}
 use Rattle.index_law.specs.Facts.{map_now}
 use Rattle.index_law.specs.Worlds.{Party, World, facts, stepped, started, moved_on, written}
 use Rattle.index_law.specs.Laws.{IsAtRest}
-use Rattle.lone_law.specs.There.{IsAtNode, IsUnmoved, LookupStands}
+use Rattle.lone_law.specs.There.{CanWalk, WalksBy, IsAtNode, IsUnmoved, LookupStands}
 use Rattle.lone_law.specs.Locks.{locks_of, HasLocked}
 use Rattle.lone_law.specs.Merging.{KeepsFew, TriesMerge, HasKeptList, LeavesShape}
 use Rattle.lone_law.specs.MergeStands.{merge_leaves, MergeForesees}
@@ -170,6 +168,7 @@ is_leaving (Parting machine) = false
 pub record LoneCall (w0 : World) (i : ℕ) (asked : NameOp) (limit : Option ℕ) (w : World) (p : Party)
     (machine : Running) : Type 0 where
   pub trying : Trying (name_asked asked) (change_of asked) w0 i w p
+  pub walks : CanWalk w0.layout w0.generation w0.words
   pub stage : p.stage ≡ stage_of machine
   pub sound : Sound w.layout w.generation machine
   pub of : IsOf asked machine
@@ -206,7 +205,7 @@ IsAnswered w0 asked limit w p (once.Done placed) =
     (¬ FindsWorn w0 asked × ¬ IsLate w0 limit × ¬ FindsFull w0 asked ×
     (NeedsLine w0 asked → HasLine w0.layout w0.words p.caller))
     × (placed.old ≡ at (map_now (facts w0)) (name_asked asked)) × (placed.place ≡ length w0.history)
-    × (placed.hops ≡ position_from (facts w0).list (key_of (name_asked asked)))
+    × WalksBy w0.layout w0.words (name_asked asked) placed.hops
     × (w.history ≡ w0.history ++ written p.caller p.index (change_of asked)) × LeavesShape w0 asked w
 IsAnswered w0 asked limit w p (once.Again why) = ⊥
 
@@ -248,7 +247,7 @@ begun_party w0 p index = record { caller = p.caller; index = index; since = leng
 -- A call of a party of an index in which nothing is in flight, as it begins.
 abbrev pub LoneCallsBegin : Type 0
 LoneCallsBegin = (w0 : World) (i : ℕ) (asked : NameOp) (limit : Option ℕ) (p : Party) (index : ℕ) (view : View) →
-    IsAtRest w0 → get_elem? w0.parties i ≡ some p →
+    IsAtRest w0 → CanWalk w0.layout w0.generation w0.words → get_elem? w0.parties i ≡ some p →
     IsView view → view.layout ≡ w0.layout → view.generation ≡ w0.generation → view.caller ≡ p.caller →
     IsName (name_asked asked) →
     IfSome limit (λ most. most ≤ 2 ^ 62) → ValueFits asked →
@@ -257,7 +256,7 @@ LoneCallsBegin = (w0 : World) (i : ℕ) (asked : NameOp) (limit : Option ℕ) (p
 -- So does a part of a range scan, which is a call of a get of its low name.
 abbrev pub LonePartsBegin : Type 0
 LonePartsBegin = (w0 : World) (i : ℕ) (low : List ℕ) (count : ℕ) (p : Party) (index : ℕ) (view : View) →
-    IsAtRest w0 → get_elem? w0.parties i ≡ some p →
+    IsAtRest w0 → CanWalk w0.layout w0.generation w0.words → get_elem? w0.parties i ≡ some p →
     IsView view → view.layout ≡ w0.layout → view.generation ≡ w0.generation → view.caller ≡ p.caller → IsName low →
     LoneCall w0 i (op.Get low) None (started w0 i p index) (begun_party w0 p index)
     (Parting (part.Looking (starts (new_call view low None)) count None))

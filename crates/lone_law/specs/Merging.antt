@@ -7,7 +7,6 @@ use Rattle.cat_history.specs.declared.op.NameOp.TheVariants as op
 use Rattle.version_lock.specs.Versions.{IsWorn}
 use Rattle.shapes.specs.Anchors.{next_of, names_at, merges, del_anchors}
 use Rattle.data_node.specs.Lists.{next_offset, target_from, key_of, without_member}
-use Rattle.data_list.specs.Still.{position_from}
 use Rattle.node_ops.specs.Asked.{name_asked}
 use Rattle.index_law.specs.Facts.{map_now}
 use Rattle.index_law.specs.Anchors.{anchors_in, members_most}
@@ -55,11 +54,6 @@ HasKeptList w0 w = ((facts w).list ≡ (facts w0).list) × (members_most w ≡ m
 abbrev pub LeavesShape : World → NameOp → World → Type 0
 LeavesShape w0 asked w = (¬ FindsMerge w0 asked × HasKeptList w0 w) ⊎
     (FindsMerge w0 asked × IsMergedSince (name_asked asked) w0 w)
-
--- With the node behind the target of a name the list loses none before that.
-abbrev pub MergeKeepsHops : Type 0
-MergeKeepsHops = (w0 w : World) (name : List ℕ) → IsAtRest w0 → IsMergedSince name w0 w →
-    position_from (facts w).list (key_of name) ≡ position_from (facts w0).list (key_of name)
 
 -- A delete that merges by the shape tries to.
 abbrev pub MergeIsTried : Type 0

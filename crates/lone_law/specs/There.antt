@@ -1,8 +1,9 @@
 -- Where a call stands that nobody disturbs.
-use Rattle.std.specs.Prelude.{◌≡◌, ◌≢◌, ℕ, List, IsTrue}
+use Rattle.std.specs.Prelude.{◌≡◌, ◌≢◌, ℕ, List, IsTrue, IsSomeAnd}
 use Rattle.pm_words.specs.declared.layout.Layout.{Layout}
 use Rattle.pm_words.specs.declared.machine.Turn.{Turn}
 use Rattle.pm_words.specs.declared.machine.Turn.TheVariants.{Go, Done}
+use Rattle.pm_words.specs.Locations.{Cached}
 use Rattle.pm_words.specs.Rows.{acted, got}
 use Rattle.version_lock.specs.Versions.{IsWorn}
 use Rattle.data_node.specs.Lists.{next_offset, target_from, key_of}
@@ -10,8 +11,8 @@ use Rattle.call_stages.specs.declared.once.Once.{Once}
 use Rattle.call_stages.specs.declared.once.Once.TheVariants as once
 use Rattle.call_stages.specs.declared.once.Placed.{Placed}
 use Rattle.call_stages.specs.Stages.{Idle}
-use Rattle.data_list.specs.Keys.{key_number, key_words}
-use Rattle.data_list.specs.Still.{Nodes, position_from, IsQuietList, AreQuiet, IsOnWay}
+use Rattle.data_list.specs.declared.walk.Walk.{Walk}
+use Rattle.data_list.specs.Still.{Nodes, IsQuietList, AreQuiet, Comes, IsOnWay}
 use Rattle.node_ops.specs.declared.call.Call.{Call}
 use Rattle.node_ops.specs.declared.lookup.Looked.{Looked}
 use Rattle.node_ops.specs.declared.lookup.Looked.TheVariants as looked
@@ -26,6 +27,10 @@ use Rattle.index_law.specs.Worlds.{World}
 use Rattle.index_law.specs.Lawful.{Each}
 use Rattle.index_law.specs.Laws.{IsAtRest}
 use Rattle.index_law.specs.Prevs.{prev_in, Traced, IsTraced}
+use Rattle.search_layer.specs.declared.floor.Floor.{Floor}
+use Rattle.search_layer.specs.Layers.{IsFloorOf}
+use Rattle.search_layer.specs.Leaves.{leaves_in, layer_of, IsInOrder}
+use Rattle.search_layer.specs.Laws.{answer_from}
 
 abbrev pub nodes_in : Layout → List ℕ → Nodes
 nodes_in l words = record {
@@ -36,10 +41,25 @@ nodes_in l words = record {
   list = list_in l words;
 }
 
--- The call is at the target of its name, by as many hops as there are nodes of the list before that.
+-- Walks come to their targets from every node, and the leaves of the search layer are in order.
+pub record CanWalk (l : Layout) (g : ℕ) (words : List ℕ) : Type 0 where
+  pub quiet : AreQuiet l g (nodes_in l words)
+  pub order : IsInOrder l words
+
+-- The search layer leads the name to this node, where a call of the name begins to walk.
+abbrev pub StartsAt : Layout → List ℕ → List ℕ → ℕ → Type 0
+StartsAt l words name start = IsFloorOf (layer_of l words) (key_of name) start
+
+-- From the node where it begins, a call of this name comes to the name's target by so many hops.
+pub record WalksBy (l : Layout) (words name : List ℕ) (hops : ℕ) : Type 0 where
+  pub start : ℕ
+  pub begins : StartsAt l words name start
+  pub comes : Comes l (nodes_in l words) (key_of name) start hops
+
+-- The call is at the target of its name, by as many hops as its walk made.
 pub record IsAtNode (l : Layout) (words : List ℕ) (call : Call) : Type 0 where
   pub node : call.node ≡ target_from 0 (list_in l words) (key_of (name_in call))
-  pub hops : call.hops ≡ position_from (list_in l words) (key_of (name_in call))
+  pub hops : WalksBy l words (name_in call) call.hops
   pub unworn : IsWorn (version_in l words call.node) call.view.generation → ⊥
 
 -- Since the call took the lock of this node nothing else has changed: no version word of another, no status, no node
@@ -50,10 +70,21 @@ pub record IsUnmoved (l : Layout) (words0 words : List ℕ) (node : ℕ) : Type 
   pub nexts : (m : ℕ) → spot_in l words m next_offset ≡ spot_in l words0 m next_offset
   pub lines : (c j : ℕ) → line_in l words c j 0 ≡ line_in l words0 c j 0
 
+-- The floor of the call, told words of the leaves so many times, answers the node where the call begins to walk.
+pub record IsLanding (l : Layout) (words : List ℕ) (call : Call) (floor : Floor) : Type 0 where
+  pub turns : ℕ
+  pub answers : IsSomeAnd (answer_from turns (leaves_in l words Cached) floor) (StartsAt l words (name_in call))
+
+-- The walk of the call is on its way there, by so many hops in all.
+pub record IsUnderWay (l : Layout) (words : List ℕ) (call : Call) (walk : Walk) : Type 0 where
+  pub hops : ℕ
+  pub walks : WalksBy l words (name_in call) hops
+  pub way : IsOnWay l (nodes_in l words) hops walk
+
 -- A look-up is on its way there, with the words as they were, or has come there.
 abbrev pub LookupStands : Layout → List ℕ → List ℕ → Call → LookupAt → Type 0
-LookupStands l words0 words call (at.Walk walk) = (words ≡ words0) ×
-    IsOnWay l (nodes_in l words0) (position_from (list_in l words0) (key_number (key_words call.name))) walk
+LookupStands l words0 words call (at.Floor floor) = (words ≡ words0) × IsLanding l words0 call floor
+LookupStands l words0 words call (at.Walk walk) = (words ≡ words0) × IsUnderWay l words0 call walk
 LookupStands l words0 words call (at.Lock seen locked) = (words ≡ words0) × IsAtNode l words0 call ×
     (seen.version ≡ version_in l words0 call.node)
 LookupStands l words0 words call _ = IsAtNode l words0 call × IsUnmoved l words0 words call.node
@@ -75,7 +106,7 @@ LookedStands l g words0 words call (Done (looked.Found found)) = IsAtNode l word
 
 abbrev pub LooksComeThere : Type 0
 LooksComeThere = (lookup : Lookup) (words0 words : List ℕ) (x : ℕ) → IsLookup lookup →
-    IsQuietList lookup.call.view.layout lookup.call.view.generation (nodes_in lookup.call.view.layout words0) →
+    CanWalk lookup.call.view.layout lookup.call.view.generation words0 →
     LookupStands lookup.call.view.layout words0 words lookup.call lookup.at →
     x ≡ got lookup.call.view.layout words (lookup_asks lookup) →
     LookedStands lookup.call.view.layout lookup.call.view.generation words0

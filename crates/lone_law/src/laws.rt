@@ -77,10 +77,3 @@ ghost use Rattle.lone_law.specs.Splitting.{SplitsComeThere};
 pub fn splits_come_there()
     ensures { SplitsComeThere }
 {}
-
-ghost use Rattle.lone_law.specs.Merging.{MergeKeepsHops};
-
-/// A merge takes out of the list the node behind the target of its name, and none before that.
-pub fn merges_keep_hops()
-    ensures { MergeKeepsHops }
-{}

@@ -59,7 +59,7 @@ use Rattle.node_ops.specs.RunningSteps.{running_call, running_asks, running_turn
 use Rattle.node_ops.specs.Laws.{TurnsAreFootSteps, TurnsAreSteps, LeadsAreTaken}
 use Rattle.node_ops.specs.CallStages.{words_from, nothing, knows, decided, fence_rest, seen_hit, seen_fill, get_stage, put_stage, part_stage, stage_of, stage_after, reply_of, found_full, footing_of, footing_after}
 use Rattle.node_ops.proofs.SeenLemmas.{Stand, seen_append, seen_front, stand_whole}
-use Rattle.node_ops.proofs.LookupLaw.{hit_words, found_known, Leads_found, Leads, lookup_leads}
+use Rattle.node_ops.proofs.LookupLaw.{PlainStep, steps, hit_words, found_known, Leads_found, Leads, lookup_leads}
 use Rattle.node_ops.proofs.FinishLaw.{Finishes, finish_leads}
 use Rattle.node_ops.proofs.FillLaw.{Fills, fill_leads}
 use Rattle.node_ops.proofs.LookupSound.{SoundLooked, lookup_stays}
@@ -73,12 +73,12 @@ use Rattle.node_ops.proofs.DelLaw.{dels_are_steps, merge_leads}
 
 -- the kind of step of a turn of a get
 abbrev Gets : Call → Stage → Action → ℕ → Turn Get (Once Placed) → Type 0
-Gets call stage action x (Go get) = Step call.view.layout call.view.generation stage action x (get_stage get) None
+Gets call stage action x (Go get) = PlainStep call.view.layout call.view.generation stage action x (get_stage get) None
 Gets call stage action x (Done answer) = Step call.view.layout call.view.generation stage action x Idle (Some answer)
 
 -- of a put
 abbrev Puts : Call → Stage → Action → ℕ → Turn Put (Once Placed) → Type 0
-Puts call stage action x (Go put) = Step call.view.layout call.view.generation stage action x (put_stage put) None
+Puts call stage action x (Go put) = PlainStep call.view.layout call.view.generation stage action x (put_stage put) None
 Puts call stage action x (Done answer) = Step call.view.layout call.view.generation stage action x Idle (Some answer)
 
 module _ (call : Call) (sound : IsCall call) where
@@ -92,7 +92,7 @@ module _ (call : Call) (sound : IsCall call) where
   get_looked_leads stage action x (Go lookup) step = step
   get_looked_leads stage action x (Done (looked.Early answer)) step = step
   get_looked_leads stage action x (Done (looked.Found found)) leads =
-      leads nothing None false tt (λ s known. record { seen = tt; left = tt }) (λ range s m in_range old means. means)
+      steps (leads nothing None false tt (λ s known. record { seen = tt; left = tt }) (λ range s m in_range old means. means))
 
   -- what is known as the writing into a clear slot begins
   fill_known : (s : Spot) (found : Found) (value slot : ℕ) → length found.directory.prints ≡ 8 → slot < 64 → Knows (name_in call) (found_known call found) s
@@ -118,17 +118,17 @@ module _ (call : Call) (sound : IsCall call) where
   put_full_leads : (stage : Stage) (action : Action) (x : ℕ) (found : Found) (hit : Option Hit) (value : ℕ)
       → Leads_found call stage action x (record found { hit = hit }) → Puts call stage action x (Go (put_full call found.hold found.directory.bitmap hit value))
   put_full_leads stage action x found (Some hit) value leads =
-      leads (knows (seen_hit call found.directory.bitmap (Some hit))) None false tt
-      (λ s known. record { seen = part_hit s call (record found { hit = Some hit }) known; left = tt }) (λ range s m in_range old means. means)
+      steps (leads (knows (seen_hit call found.directory.bitmap (Some hit))) None false tt
+      (λ s known. record { seen = part_hit s call (record found { hit = Some hit }) known; left = tt }) (λ range s m in_range old means. means))
   put_full_leads stage action x found None value leads =
-      leads (knows ((bitmap_offset, found.directory.bitmap) ∷ [])) None false tt (λ s known. record { seen = (known.seen.0, tt); left = tt }) (λ range s m in_range old means. means)
+      steps (leads (knows ((bitmap_offset, found.directory.bitmap) ∷ [])) None false tt (λ s known. record { seen = (known.seen.0, tt); left = tt }) (λ range s m in_range old means. means))
 
   put_into_leads : (stage : Stage) (action : Action) (x : ℕ) (found : Found) (value : ℕ) (clear : Option ℕ) → lowest_clear found.directory.bitmap slots ≡ clear → IsFoundBy slots found
       → Leads_found call stage action x found → Puts call stage action x (Go (put_into call found value clear))
   put_into_leads stage action x found value (Some slot) is sound_found leads =
       let lowest = lowest_clear-some found.directory.bitmap slots slot sound_found.directory.bitmap limit is in
       let small : slot < 64 = let within : slot < slots = lowest.within in let few : slots ≤ 64 = limit in omega arith in
-      leads (knows (seen_fill (record {
+      steps (leads (knows (seen_fill (record {
         call = call;
         hold = found.hold;
         bitmap = found.directory.bitmap;
@@ -139,7 +139,7 @@ module _ (call : Call) (sound : IsCall call) where
         at = fill_at.Word 0;
       })
       (get_or found.directory.prints (slot / 8) 0) 0)) None false tt
-      (λ s known. fill_known s found value slot sound_found.directory.prints small known) (λ range s m in_range old means. means)
+      (λ s known. fill_known s found value slot sound_found.directory.prints small known) (λ range s m in_range old means. means))
   put_into_leads stage action x found value None is sound_found leads = put_full_leads stage action x found found.hit value leads
 
   put_looked_leads : (stage : Stage) (action : Action) (x value : ℕ) (turn : Turn Lookup Looked) → SoundLooked call turn → Leads call stage action x turn
@@ -150,11 +150,11 @@ module _ (call : Call) (sound : IsCall call) where
       put_into_leads stage action x found value (lowest_clear found.directory.bitmap slots) refl sound_turn leads
 
   put_filled_leads : (stage : Stage) (action : Action) (x : ℕ) (turn : Turn Fill Finish) → Fills call stage action x turn → Puts call stage action x (put_filled turn)
-  put_filled_leads stage action x (Go fill) step = step
-  put_filled_leads stage action x (Done finish) step = step
+  put_filled_leads stage action x (Go fill) step = steps step
+  put_filled_leads stage action x (Done finish) step = steps step
 
   put_finished_leads : (stage : Stage) (action : Action) (x : ℕ) (turn : Turn Finish (Once Placed)) → Finishes call stage action x turn → Puts call stage action x (put_finished turn)
-  put_finished_leads stage action x (Go finish) step = step
+  put_finished_leads stage action x (Go finish) step = steps step
   put_finished_leads stage action x (Done answer) step = step
 
   -- the store of a value in place
@@ -185,20 +185,20 @@ put_leads : (put : Put) (x : ℕ) → IsWhole put → IsPut put → Told (put_ca
 put_leads (put.Single (single_put.Looking lookup value)) x whole sound told =
     put_looked_leads lookup.call sound.0.call _ _ x value (lookup_turned lookup x) (lookup_stays lookup x sound.0 told) (lookup_leads lookup.call sound.0.call lookup.at x sound.0.here told)
 put_leads (put.Single (single_put.Filling fill)) x whole sound told = put_filled_leads fill.call sound.call _ _ x (fill_turned fill x) (fill_leads fill x sound told.fits)
-put_leads (put.Single (single_put.Replacing call hold bitmap hit value)) x whole sound told = replacing_leads call sound.call hold bitmap hit value x sound.hit sound.value
+put_leads (put.Single (single_put.Replacing call hold bitmap hit value)) x whole sound told = steps (replacing_leads call sound.call hold bitmap hit value x sound.hit sound.value)
 put_leads (put.Single (single_put.Finishing finish)) x whole sound told = put_finished_leads finish.call sound.call _ _ x (finish_turned finish x) (finish_leads finish x sound told.fits)
 put_leads (put.Splitting call hold bitmap value split) x whole sound told = absurd whole
 
 -- a part's step is the whole's
 as_get : (call : Call) (stage : Stage) (action : Action) (x : ℕ) (turn : Turn Get (Once Placed)) → Gets call stage action x turn
-    → Step call.view.layout call.view.generation stage action x (stage_after (wrapped Getting turn)) (reply_of (wrapped Getting turn))
+    → PlainStep call.view.layout call.view.generation stage action x (stage_after (wrapped Getting turn)) (reply_of (wrapped Getting turn))
 as_get call stage action x (Go get) step = step
-as_get call stage action x (Done answer) step = step
+as_get call stage action x (Done answer) step = steps step
 
 as_put : (call : Call) (stage : Stage) (action : Action) (x : ℕ) (turn : Turn Put (Once Placed)) → Puts call stage action x turn
-    → Step call.view.layout call.view.generation stage action x (stage_after (wrapped Putting turn)) (reply_of (wrapped Putting turn))
+    → PlainStep call.view.layout call.view.generation stage action x (stage_after (wrapped Putting turn)) (reply_of (wrapped Putting turn))
 as_put call stage action x (Go put) step = step
-as_put call stage action x (Done answer) step = step
+as_put call stage action x (Done answer) step = steps step
 
 get_single : (get : Get) → IsSingle (get_stage get)
 get_single (get.Looking lookup) = looks_single lookup.call lookup.at

@@ -64,13 +64,13 @@ use Rattle.node_ops.specs.DelSteps.{IsDel, IsTakeOf, IsUnplaced, IsMerging, name
 use Rattle.node_ops.proofs.MergeFacts.{placed_still, goes_on_stage}
 use Rattle.node_ops.specs.RunningSteps.{running_turned, wrapped}
 use Rattle.node_ops.specs.CallStages.{nothing, knows, decided, fence_rest, seen_hit, del_stage, stage_after, reply_of, finish_stage, has_place, found_in, line_taken, del_footing, footing_after}
-use Rattle.node_ops.proofs.LookupLaw.{Leads_found, Leads, lookup_leads}
+use Rattle.node_ops.proofs.LookupLaw.{PlainStep, steps, Leads_found, Leads, lookup_leads}
 use Rattle.node_ops.proofs.FinishLaw.{Finishes, finish_leads}
 use Rattle.node_ops.proofs.PlainSteps.{hit_words_known, part_hit, Plain, IsSingle, IsPlainAfter, plain, looks_single}
 
 -- the kind of step of a turn of a delete
 abbrev Dels : Call → Stage → Action → ℕ → Turn Del (Once Placed) → Type 0
-Dels call stage action x (Go del) = Step call.view.layout call.view.generation stage action x (del_stage del) None
+Dels call stage action x (Go del) = PlainStep call.view.layout call.view.generation stage action x (del_stage del) None
 Dels call stage action x (Done answer) = Step call.view.layout call.view.generation stage action x Idle (Some answer)
 
 module _ (call : Call) (sound : IsCall call) where
@@ -87,12 +87,12 @@ module _ (call : Call) (sound : IsCall call) where
       let step = leads (knows (seen_hit call bitmap (Some hit))) None false tt
       (λ s known. record { seen = part_hit s call (record found { hit = Some hit }) known; left = tt }) (λ range s m in_range old means. means) in
       elim (ltb (slots / 2) (names_left call bitmap hit)) as (λ b. Dels call stage action x (Go (cond b (del.Single (single_del.Clearing call found.hold bitmap hit None)) (del.Single (single_del.Next call found.hold bitmap hit))))) [
-        | true ↦ step
-        | false ↦ step
+        | true ↦ steps step
+        | false ↦ steps step
       ]
   del_hit_leads stage action x found None leads =
-      leads nothing (Some (change.Del (name_in call))) true refl (λ s known. record { seen = tt; left = tt })
-      (λ range s m in_range absent means. subst (Means slots range s) (sym (remove_absent m (name_in call) absent)) means)
+      steps (leads nothing (Some (change.Del (name_in call))) true refl (λ s known. record { seen = tt; left = tt })
+      (λ range s m in_range absent means. subst (Means slots range s) (sym (remove_absent m (name_in call) absent)) means))
 
   del_looked_leads : (stage : Stage) (action : Action) (x : ℕ) (turn : Turn Lookup Looked) → Leads call stage action x turn → Dels call stage action x (del_looked call turn)
   del_looked_leads stage action x (Go lookup) step = step
@@ -102,7 +102,7 @@ module _ (call : Call) (sound : IsCall call) where
   del_finished_leads : (stage : Stage) (action : Action) (x : ℕ) (line : Option ℕ) (turn : Turn Finish (Once Placed)) → Finishes call stage action x turn
       → Dels call stage action x (del_finished line turn)
   del_finished_leads stage action x line (Go finish) step =
-      subst (λ (next : Stage). Step call.view.layout call.view.generation stage action x next None) (sym (goes_on_stage finish line)) step
+      steps (subst (λ (next : Stage). Step call.view.layout call.view.generation stage action x next None) (sym (goes_on_stage finish line)) step)
   del_finished_leads stage action x line (Done answer) step = step
 
   -- it loads where its node leads
@@ -111,7 +111,7 @@ module _ (call : Call) (sound : IsCall call) where
       let step : Step call.view.layout call.view.generation (found_in call hold bitmap hit) (del_asks (del.Single (single_del.Next call hold bitmap hit))) x (found_in call hold bitmap hit) None =
       looks (learns (sound.node, (omega arith)) (omega arith) refl (λ s tidy known is. known)) in
       elim (x == 0) as (λ b. Dels call (found_in call hold bitmap hit) (del_asks (del.Single (single_del.Next call hold bitmap hit))) x
-      (Go (cond b (del.Single (single_del.Clearing call hold bitmap hit None)) (del.Single (single_del.Taking call hold bitmap hit (take_from call.view.layout call.view.caller)))))) [ true ↦ step | false ↦ step ]
+      (Go (cond b (del.Single (single_del.Clearing call hold bitmap hit None)) (del.Single (single_del.Taking call hold bitmap hit (take_from call.view.layout call.view.caller)))))) [ true ↦ steps step | false ↦ steps step ]
 
   -- the store of the bitmap without the slot
   clearing_leads : (hold : Hold) (bitmap : ℕ) (hit : Hit) (line : Option ℕ) (x : ℕ) → bitmap < 2 ^ 64 → IsHit slots bitmap hit
@@ -139,15 +139,15 @@ del_leads (del.Single (single_del.Looking lookup)) x is sound told = del_looked_
 del_leads (del.Single (single_del.Next call hold bitmap hit)) x is sound told = next_leads call sound.0.call hold bitmap hit x
 del_leads (del.Single (single_del.Taking call hold bitmap hit take)) x is sound told = absurd is
 del_leads (del.Single (single_del.Refusing call hold bitmap hit)) x is sound told = unlocks refl refl refl refl (refuses refl tt)
-del_leads (del.Single (single_del.Clearing call hold bitmap hit line)) x is sound told = clearing_leads call sound.0.call hold bitmap hit line x sound.0.fits sound.0.hit
+del_leads (del.Single (single_del.Clearing call hold bitmap hit line)) x is sound told = steps (clearing_leads call sound.0.call hold bitmap hit line x sound.0.fits sound.0.hit)
 del_leads (del.Single (single_del.Finishing finish line)) x is sound told = del_finished_leads finish.call sound.0.here.call _ _ x line (finish_turned finish x) (finish_leads finish x sound.0.here told.fits)
 del_leads (del.Merging call hold old place merge) x is sound told = absurd is
 
 -- a part's step is the whole's
 as_del : (call : Call) (stage : Stage) (action : Action) (x : ℕ) (turn : Turn Del (Once Placed)) → Dels call stage action x turn
-    → Step call.view.layout call.view.generation stage action x (stage_after (wrapped Deleting turn)) (reply_of (wrapped Deleting turn))
+    → PlainStep call.view.layout call.view.generation stage action x (stage_after (wrapped Deleting turn)) (reply_of (wrapped Deleting turn))
 as_del call stage action x (Go del) step = step
-as_del call stage action x (Done answer) step = step
+as_del call stage action x (Done answer) step = steps step
 
 del_single : (del : Del) → IsPlain del → IsSingle (del_stage del)
 del_single (del.Single (single_del.Looking lookup)) is = looks_single lookup.call lookup.at

@@ -18,6 +18,8 @@ use Rattle.data_list.specs.declared.walk.WalkAt.{WalkAt}
 use Rattle.data_list.specs.declared.target.Walked.{Walked}
 use Rattle.data_list.specs.declared.target.Walked.TheVariants as walked
 use Rattle.data_list.specs.Walks.{sighting_of, walk_turned}
+use Rattle.search_layer.specs.declared.floor.Floor.{Floor}
+use Rattle.search_layer.specs.FloorSteps.{floor_turned}
 use Rattle.data_list.specs.Hops.{CanGiveUp as WalkGivesUp, HopsAt}
 use Rattle.data_list.proofs.HopLaw.{walks_hop}
 use Rattle.data_list.specs.WalkStages.{walk_stage}
@@ -52,7 +54,7 @@ use Rattle.node_ops.specs.declared.running.Running.{Running}
 use Rattle.node_ops.specs.declared.running.Running.TheVariants.{Getting, Putting, Deleting, Parting}
 use Rattle.node_ops.specs.Calls.{at_node}
 use Rattle.pm_words.specs.Fences.{fence_next}
-use Rattle.node_ops.specs.LookupSteps.{value_of, is_spent, candidate_turned, came_to, walked_on, goes_to, ends, lookup_turned, lookup_at_turned, IsLookupAt}
+use Rattle.node_ops.specs.LookupSteps.{value_of, is_spent, candidate_turned, came_to, floored, walked_on, goes_to, ends, lookup_turned, lookup_at_turned, IsLookupAt}
 use Rattle.node_ops.specs.FinishSteps.{finish_asks, finish_turned, finish_at_turned, finish_fenced}
 use Rattle.node_ops.specs.FillSteps.{fill_turned, fill_at_turned, slot_fenced, print_fenced}
 use Rattle.node_ops.specs.GetSteps.{get_looked}
@@ -100,6 +102,7 @@ loose_placed (Joins h left right pace) loose = absurd loose
 
 -- nor has a look-up
 lookup_placed : (call : Call) (at : LookupAt) → placed_in (lookup_at_stage call at) ≡ None
+lookup_placed call (look.Floor floor) = refl
 lookup_placed call (look.Walk walk) = loose_placed (walk_stage walk) (walk_loose walk.generation walk.node walk.at)
 lookup_placed call (look.Lock seen locked) = refl
 lookup_placed call (look.Clock locked) = refl
@@ -152,6 +155,10 @@ module _ (call : Call) where
       elim (is_worn_word target.version g) as (λ b. Ends (cond b (ends (once.Worn target.node target.version))
       (goes_to (at_node call target.node target.hops) (look.Lock (sighting_of target) (locked_word g (kept_count target.version g)))))) [ true ↦ tt | false ↦ tt ]
 
+  floored_so : (turn : Turn Floor ℕ) → Ends (floored call turn)
+  floored_so (Go floor) = tt
+  floored_so (Done node) = tt
+
   walked_so : (walk : Walk) (at : WalkAt) (x : ℕ) (turn : Turn Walk Walked) → HopsAt walk at x turn → Ends (walked_on call turn)
   walked_so walk at x (Go next) hops = tt
   walked_so walk at x (Done (walked.Again why)) hops = not_no_free walk x why hops
@@ -162,6 +169,7 @@ module _ (call : Call) where
   compared hold directory left (Some slot) = tt
 
   pub looks_end : (at : LookupAt) (x : ℕ) → IsLookupAt call at → Ends (lookup_at_turned call at x)
+  looks_end (look.Floor floor) x here = floored_so (floor_turned floor x)
   looks_end (look.Walk walk) x here = walked_so walk walk.at x (walk_turned walk x) (walks_hop walk x here.sound)
   looks_end (look.Lock seen locked) x here = elim (x == seen.version) as (λ b. Ends (cond b (goes_to call (look.Clock locked)) (ends (once.Again (again.Moved call.node seen.version x))))) [
     | true ↦ tt

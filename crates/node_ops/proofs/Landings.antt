@@ -13,6 +13,8 @@ use Rattle.data_list.specs.declared.target.Walked.{Walked}
 use Rattle.data_list.specs.declared.target.Walked.TheVariants as walked
 use Rattle.data_list.specs.declared.walk.Walk.{Walk}
 use Rattle.data_list.specs.Walks.{sighting_of, walk_turned}
+use Rattle.search_layer.specs.declared.floor.Floor.{Floor}
+use Rattle.search_layer.specs.FloorSteps.{floor_turned}
 use Rattle.node_ops.specs.declared.call.Call.{Call}
 use Rattle.node_ops.specs.declared.lookup.Hold.{Hold}
 use Rattle.node_ops.specs.declared.lookup.Hit.{Hit}
@@ -42,7 +44,7 @@ use Rattle.node_ops.specs.declared.running.Running.{Running}
 use Rattle.node_ops.specs.declared.running.Running.TheVariants.{Getting, Putting, Deleting, Parting}
 use Rattle.node_ops.specs.Calls.{at_node}
 use Rattle.pm_words.specs.Fences.{fence_next}
-use Rattle.node_ops.specs.LookupSteps.{is_spent, candidate_turned, walked_on, goes_to, ends, lookup_turned, lookup_at_turned}
+use Rattle.node_ops.specs.LookupSteps.{is_spent, candidate_turned, floored, walked_on, goes_to, ends, lookup_turned, lookup_at_turned}
 use Rattle.node_ops.specs.FinishSteps.{finish_turned, finish_at_turned, finish_fenced}
 use Rattle.node_ops.specs.FillSteps.{fill_turned, fill_at_turned, slot_fenced, print_fenced}
 use Rattle.node_ops.specs.GetSteps.{get_looked}
@@ -95,7 +97,12 @@ module _ (call : Call) where
   compared x hold directory left None = refl
   compared x hold directory left (Some slot) = refl
 
+  floor_lands : (x : ℕ) (turn : Turn Floor ℕ) → LooksLand call x None (floored call turn)
+  floor_lands x (Go floor) = refl
+  floor_lands x (Done node) = refl
+
   looks_land : (at : LookupAt) (x : ℕ) → LooksLand call x (lookup_walk at) (lookup_at_turned call at x)
+  looks_land (look.Floor floor) x = floor_lands x (floor_turned floor x)
   looks_land (look.Walk walk) x = walked_land walk x (walked_on call (walk_turned walk x)) (walks_land (walk_turned walk x))
   looks_land (look.Lock seen locked) x = elim (x == seen.version) as (λ b. LooksLand call x None (cond b (goes_to call (look.Clock locked)) (ends (once.Again (Moved call.node seen.version x))))) [
     | true ↦ refl

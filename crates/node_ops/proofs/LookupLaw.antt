@@ -38,6 +38,13 @@ use Rattle.data_list.specs.Walks.{sighting_of, walk_asks, walk_turned}
 use Rattle.data_list.specs.WalkStages.{walk_stage, sight_in}
 use Rattle.data_list.specs.Laws.{IsSighting, IsTarget, EndsAt, Walks}
 use Rattle.data_list.proofs.WalkLaw.{walks_are_looks}
+use Rattle.search_layer.specs.declared.floor.Floor.{Floor}
+use Rattle.search_layer.specs.FloorSteps.{floor_asks, floor_turned}
+use Rattle.search_layer.specs.Laws.{FloorAfter, LoadsALeaf}
+use Rattle.search_layer.proofs.FloorTold.{floor_stays, floor_only_loads}
+use Rattle.call_stages.specs.AnySteps.{HasLeafWord, leaf_address}
+use Rattle.call_stages.specs.declared.once.Once.{Once}
+use Rattle.call_stages.specs.declared.once.Placed.{Placed}
 use Rattle.node_ops.specs.declared.call.Call.{Call}
 use Rattle.node_ops.specs.declared.lookup.Hold.{Hold}
 use Rattle.node_ops.specs.declared.lookup.Directory.{Directory}
@@ -49,7 +56,7 @@ use Rattle.node_ops.specs.declared.lookup.LookupAt.{LookupAt}
 use Rattle.node_ops.specs.declared.lookup.LookupAt.TheVariants as look
 use Rattle.node_ops.specs.declared.lookup.Lookup.{Lookup}
 use Rattle.node_ops.specs.Calls.{IsCall, name_in, call_address, at_node}
-use Rattle.node_ops.specs.LookupSteps.{walked_on, IsWalking, is_spent as has_reached, value_of, goes_to, ends, finds, tried_lock, saw_clock, saw_prints, saw_name, saw_directory, next_candidate, candidate_turned, lookup_at_asks, lookup_at_turned, IsComparing, IsLookupAt, IsTargetOf}
+use Rattle.node_ops.specs.LookupSteps.{floored, walked_on, IsFlooring, IsWalking, is_spent as has_reached, value_of, goes_to, ends, finds, tried_lock, saw_clock, saw_prints, saw_name, saw_directory, next_candidate, candidate_turned, lookup_at_asks, lookup_at_turned, IsComparing, IsLookupAt, IsTargetOf}
 use Rattle.node_ops.specs.CallStages.{words_from, knows, timed, lookup_at_stage, lookup_stage}
 use Rattle.node_ops.proofs.SeenLemmas.{Seen, Stand, seen_append, seen_front, seen_back, stand_taken, taken_stand, stand_whole, whole_stand, stand_more, stand_set, name_stands}
 
@@ -85,9 +92,14 @@ Leads_found call stage action x found =
     }))
     None
 
+-- A step on nodes; or one of a call that relies on nothing, which loads a word of the search layer.
+pub data PlainStep (l : Layout) (g : ℕ) : Stage → Action → ℕ → Stage → Option (Once Placed) → Type 0 where
+  steps : {stage next : Stage} {action : Action} {x : ℕ} {answer : Option (Once Placed)} → Step l g stage action x next answer → PlainStep l g stage action x next answer
+  reads_layer : {leaf offset x : ℕ} → HasLeafWord l leaf offset → PlainStep l g Idle (Load (leaf_address l leaf offset)) x Idle None
+
 -- the kind of step of a turn
 abbrev pub Leads : Call → Stage → Action → ℕ → Turn Lookup Looked → Type 0
-Leads call stage action x (Go lookup) = Step call.view.layout call.view.generation stage action x (lookup_stage lookup) None
+Leads call stage action x (Go lookup) = PlainStep call.view.layout call.view.generation stage action x (lookup_stage lookup) None
 Leads call stage action x (Done (looked.Early answer)) = Step call.view.layout call.view.generation stage action x Idle (Some answer)
 Leads call stage action x (Done (looked.Found found)) = Leads_found call stage action x found
 
@@ -101,6 +113,25 @@ name_word s slot zero small = refl
 name_word s slot (suc zero) small = refl
 name_word s slot (suc (suc zero)) small = refl
 name_word s slot (suc (suc (suc k))) small = absurd (omega arith)
+
+-- each turn of the floor loads a word of the search layer
+floor_leads : (call : Call) (floor : Floor) (x : ℕ) → IsFlooring call floor → Leads call Idle (floor_asks floor) x (floored call (floor_turned floor x))
+floor_leads call floor x here = at (floor_turned floor x)
+  where
+    asked : LoadsALeaf floor.layout (floor_asks floor)
+    asked = floor_only_loads floor here.sound
+
+    reads : PlainStep call.view.layout call.view.generation Idle (floor_asks floor) x Idle None
+    reads = subst (λ (l : Layout). PlainStep l call.view.generation Idle (floor_asks floor) x Idle None) here.layout
+        (subst (λ (a : Action). PlainStep floor.layout call.view.generation Idle a x Idle None) (sym asked.loads) (reads_layer (asked.within, asked.small)))
+
+    at : (turn : Turn Floor ℕ) → Leads call Idle (floor_asks floor) x (floored call turn)
+    at (Go next) = reads
+    at (Done node) = reads
+
+-- where it ends, that is at a node of the layout
+pub floor_after : (call : Call) (floor : Floor) (x : ℕ) → IsFlooring call floor → FloorAfter call.view.layout (floor_turned floor x)
+floor_after call floor x here = subst (λ (l : Layout). FloorAfter l (floor_turned floor x)) here.layout (floor_stays floor x here.sound)
 
 -- each turn of the walk, as the call's
 pub own_walks : (call : Call) (walk : Walk) (x : ℕ) → IsWalking call walk → Told call.view.layout call.view.generation (walk_asks walk) x
@@ -165,9 +196,9 @@ module _ (call : Call) (sound : IsCall call) where
       → Leads call (Holds call.node hold.locked (timed call hold k)) (Load (call_address call offset)) x (next_candidate call hold directory left)
   next_leads hold directory left k offset x within behind seen covers =
       elim (lowest_live left) as (λ o. lowest_live left ≡ o → Leads call (Holds call.node hold.locked (timed call hold k)) (Load (call_address call offset)) x (candidate_turned call hold directory left o)) [
-        | Some slot ↦ λ is. looks (learns (has_word offset within) behind refl (λ s tidy known e.
+        | Some slot ↦ λ is. steps (looks (learns (has_word offset within) behind refl (λ s tidy known e.
             let both = seen s known e in
-            record { seen = (both.0, seen_append s (words_from 8 directory.prints) [] both.1 tt); left = covers s tidy known e }))
+            record { seen = (both.0, seen_append s (words_from 8 directory.prints) [] both.1 tt); left = covers s tidy known e })))
         | None ↦ λ is. decide (record { hold = hold; directory = directory; hit = None }) k offset x within behind
             (λ s tidy known e. let both = seen s known e in record { seen = (both.0, seen_append s (words_from 8 directory.prints) [] both.1 tt); left = tt })
             (λ range s m in_range known e means. at_missing slots range s m name sound.packed.named in_range means (λ slot slot_within live same.
@@ -180,14 +211,14 @@ module _ (call : Call) (sound : IsCall call) where
 
   walked_leads : (stage : Stage) (action : Action) (x : ℕ) (turn : Turn Walk Walked) → Walks call.view.layout call.view.generation (key_words call.name) stage action x turn
       → Leads call stage action x (walked_on call turn)
-  walked_leads stage action x (Go walk) is = looks is.0
+  walked_leads stage action x (Go walk) is = steps (looks is.0)
   walked_leads stage action x (Done (walked.Again why)) is = looks is
   walked_leads stage action x (Done (walked.Target target)) is =
       let g = call.view.generation in
       elim (is_worn_word target.version g) as (λ b. EndsAt call.view.layout g stage action x target.node (sighting_of target) b → Leads call stage action x
       (cond b (ends (once.Worn target.node target.version)) (goes_to (at_node call target.node target.hops) (look.Lock (sighting_of target) (locked_word g (kept_count target.version g)))))) [
         | true ↦ λ step. looks step
-        | false ↦ λ step. looks step
+        | false ↦ λ step. steps (looks step)
       ] is.0
 
   walk_leads : (walk : Walk) (x : ℕ) → IsWalking call walk → Told call.view.layout call.view.generation (walk_asks walk) x → Leads call (walk_stage walk) (walk_asks walk) x (walked_on call (walk_turned walk x))
@@ -198,7 +229,7 @@ module _ (call : Call) (sound : IsCall call) where
   lock_leads seen word x is =
       elim (x == seen.version) as (λ b. (x == seen.version) ≡ b → Leads call (Saw call.node seen.version word (sight_in seen)) (Exchange (call_address call 0) seen.version word) x
       (cond b (goes_to call (look.Clock word)) (ends (once.Again (Moved call.node seen.version x))))) [
-        | true ↦ λ same. locks (eqb-true _ _ same) sound.packed.named is.live (λ s t see. subst (IsBetween s t) (key_is call sound) (is.between s t see))
+        | true ↦ λ same. steps (locks (eqb-true _ _ same) sound.packed.named is.live (λ s t see. subst (IsBetween s t) (key_is call sound) (is.between s t see)))
         | false ↦ λ other. looks (misses (eqb-false _ _ other))
       ] refl
 
@@ -207,8 +238,8 @@ module _ (call : Call) (sound : IsCall call) where
       let hold : Hold = record { locked = word; clock = x } in
       elim (has_reached call.limit x) as (λ b. has_reached call.limit x ≡ b → Leads call (Holds call.node word (just_held name)) (Load (clock_address call.view.layout)) x
       (cond b (goes_to call (look.Spent hold)) (goes_to call (look.Bitmap hold)))) [
-        | true ↦ λ spent. looks (times {limit = None} (record { pending = refl; ready = refl; placed = refl }) tt)
-        | false ↦ λ below. looks (times {limit = call.limit} (record { pending = refl; ready = refl; placed = refl }) (below_limit call.limit x below))
+        | true ↦ λ spent. steps (looks (times {limit = None} (record { pending = refl; ready = refl; placed = refl }) tt))
+        | false ↦ λ below. steps (looks (times {limit = call.limit} (record { pending = refl; ready = refl; placed = refl }) (below_limit call.limit x below)))
       ] refl
 
   prints_leads : (hold : Hold) (bitmap : ℕ) (prints : List ℕ) (k x : ℕ) → length prints ≡ 8 → k < 8
@@ -221,8 +252,8 @@ module _ (call : Call) (sound : IsCall call) where
       λ s known e. stand_set s 8 prints k x (omega arith) (stand_taken s 8 prints k (omega arith) known.seen.1) e in
       elim (ltb (k + 1) 8) as (λ b. ltb (k + 1) 8 ≡ b → Leads call (lookup_at_stage call (look.Prints hold bitmap prints k)) (Load (call_address call (8 + k))) x
       (cond b (goes_to call (look.Prints hold bitmap (set prints k x) (k + 1))) (saw_directory call hold directory))) [
-        | true ↦ λ is. looks (learns (has_word (8 + k) (omega arith)) (omega arith) refl (λ s tidy known e.
-            record { seen = (known.seen.0, taken_stand s 8 (set prints k x) (k + 1) (omega arith) (more s known e)); left = tt }))
+        | true ↦ λ is. steps (looks (learns (has_word (8 + k) (omega arith)) (omega arith) refl (λ s tidy known e.
+            record { seen = (known.seen.0, taken_stand s 8 (set prints k x) (k + 1) (omega arith) (more s known e)); left = tt })))
         | false ↦ λ is.
             let last : k + 1 ≡ 8 = let past : 8 ≤ k + 1 = ltb-false _ _ is in omega arith in
             let stands : (s : Spot) → Knows name seen_so_far s → s (8 + k) ≡ x → Stand s 8 (set prints k x) 8 = λ s known e. subst (Stand s 8 (set prints k x)) last (more s known e) in
@@ -262,24 +293,24 @@ module _ (call : Call) (sound : IsCall call) where
       (next_candidate call hold directory (without_live left slot)))) [
         | true ↦ λ same. let is_word : x ≡ get_or words k 0 = eqb-true _ _ same in
             elim (ltb (k + 1) 3) as (λ b. ltb (k + 1) 3 ≡ b → Leads call stage action x (cond b (goes_to call (look.Name hold directory left slot (k + 1))) (goes_to call (look.Value hold directory slot)))) [
-              | true ↦ λ is. looks (learns (has_word (slot_offset slot k) within) (omega arith) refl (λ s tidy known e. record {
+              | true ↦ λ is. steps (looks (learns (has_word (slot_offset slot k) within) (omega arith) refl (λ s tidy known e. record {
                 seen = (
                   known.seen.0,
                   seen_append s (words_from 8 directory.prints) (words_from (slot_offset slot 0) (take (k + 1) words)) (front s known)
                       (taken_stand s (slot_offset slot 0) words (k + 1) (omega arith) (more s known (e ∙ is_word))),
                 );
                 left = known.left;
-              }))
+              })))
               | false ↦ λ is.
                   let last : k + 1 ≡ length words = let past : 3 ≤ k + 1 = ltb-false _ _ is in omega arith in
-                  looks (learns (has_word (slot_offset slot k) within) (omega arith) refl (λ s tidy known e. record {
+                  steps (looks (learns (has_word (slot_offset slot k) within) (omega arith) refl (λ s tidy known e. record {
                     seen = (
                       known.seen.0,
                       seen_append s (words_from 8 directory.prints) (words_from (slot_offset slot 0) words) (front s known)
                           (whole_stand s (slot_offset slot 0) words (subst (Stand s (slot_offset slot 0) words) last (more s known (e ∙ is_word)))),
                     );
                     left = tt;
-                  }))
+                  })))
             ] refl
         | false ↦ λ other. next_leads hold directory (without_live left slot) (comparing_known directory left slot k) (slot_offset slot k) x within (omega arith)
             (λ s known e. (known.seen.0, front s known))
@@ -304,11 +335,12 @@ module _ (call : Call) (sound : IsCall call) where
       at_found slots range s m name slot sound.packed.named in_range means live_here same ∙ ap Some e)
 
   pub lookup_leads : (at : LookupAt) (x : ℕ) → IsLookupAt call at → Told call.view.layout call.view.generation (lookup_at_asks call at) x → Leads call (lookup_at_stage call at) (lookup_at_asks call at) x (lookup_at_turned call at x)
+  lookup_leads (look.Floor floor) x here told = floor_leads call floor x here
   lookup_leads (look.Walk walk) x here told = walk_leads walk x here told
   lookup_leads (look.Lock seen word) x here told = lock_leads seen word x here.is
   lookup_leads (look.Clock word) x here told = clock_leads word x
   lookup_leads (look.Spent hold) x here told = unlocks refl refl refl refl (is_spent refl refl)
-  lookup_leads (look.Bitmap hold) x here told = looks (learns (has_word bitmap_offset (omega arith)) (omega arith) refl (λ s tidy known e. record { seen = (e, tt); left = tt }))
+  lookup_leads (look.Bitmap hold) x here told = steps (looks (learns (has_word bitmap_offset (omega arith)) (omega arith) refl (λ s tidy known e. record { seen = (e, tt); left = tt })))
   lookup_leads (look.Prints hold bitmap prints k) x here told = prints_leads hold bitmap prints k x here.1.prints here.2
   lookup_leads (look.Name hold directory left slot k) x here told = name_leads hold directory left slot k x here.2 here.3
   lookup_leads (look.Value hold directory slot) x here told = value_leads hold directory slot x here.2 here.3

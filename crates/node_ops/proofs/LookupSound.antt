@@ -1,5 +1,5 @@
 -- A look-up's fields keep what they keep, and what it found is in order.
-use Rattle.std.proofs.Common.{◌≡◌, ◌≢◌, ℕ, ◌+◌, ◌<◌, ◌≤◌, ◌^◌, ◌==◌, true, false, cond, ltb, List, Option, Some, None, IfSome, get_or, set, inl, inr, refl, sym, subst, ◌∙◌, arith}
+use Rattle.std.proofs.Common.{◌≡◌, ◌≢◌, ℕ, ◌+◌, ◌<◌, ◌≤◌, ◌^◌, ◌==◌, true, false, cond, ltb, List, [], ◌∷◌, Option, Some, None, IfSome, get_or, set, inl, inr, refl, sym, subst, ◌∙◌, arith}
 use Rattle.std.specs.Int.{bit_at}
 use Rattle.std.proofs.Math.ListN.{length-set}
 use Rattle.std.proofs.lemmas.Bool.{cases_eq, cases_lt, ltb-true}
@@ -28,7 +28,7 @@ use Rattle.node_ops.specs.declared.lookup.LookupAt.TheVariants as look
 use Rattle.node_ops.specs.declared.lookup.Lookup.{Lookup}
 use Rattle.node_ops.specs.Calls.{IsCall, at_node, IsSame}
 use Rattle.version_lock.specs.Versions.{IsLockWord}
-use Rattle.node_ops.specs.LookupSteps.{walked_on, is_spent, goes_to, ends, saw_prints, saw_name, saw_directory, next_candidate, candidate_turned, lookup_asks, lookup_at_asks, lookup_turned, lookup_at_turned, IsLocking, IsDirectory, IsComparing, IsFoundBy, IsLookupAt, IsLookup}
+use Rattle.node_ops.specs.LookupSteps.{floored, walked_on, is_spent, goes_to, ends, saw_prints, saw_name, saw_directory, next_candidate, candidate_turned, lookup_asks, lookup_at_asks, lookup_turned, lookup_at_turned, IsLocking, IsDirectory, IsComparing, IsFoundBy, IsLookupAt, IsLookup}
 use Rattle.pm_words.specs.declared.action.Action.{Action}
 use Rattle.call_stages.specs.Stages.{Stage}
 use Rattle.data_list.specs.declared.target.Walked.{Walked}
@@ -41,7 +41,16 @@ use Rattle.pm_words.specs.declared.layout.Layout.{Layout}
 use Rattle.data_list.specs.WalkStages.{walk_stage}
 use Rattle.data_list.specs.Laws.{IsTarget, Walks}
 use Rattle.version_lock.proofs.WordTests.{fresh_word}
-use Rattle.node_ops.proofs.LookupLaw.{own_walks}
+use Rattle.node_ops.proofs.LookupLaw.{floor_after, own_walks}
+use Rattle.pm_words.specs.Locations.{leaf_count}
+use Rattle.search_layer.specs.declared.floor.Floor.{Floor}
+use Rattle.search_layer.specs.declared.floor.Entry.{Entry}
+use Rattle.search_layer.specs.declared.reader.ReaderAt.{ReaderAt}
+use Rattle.search_layer.specs.declared.reader.ReaderAt.TheVariants as reads
+use Rattle.search_layer.specs.declared.reader.Read.TheVariants as read
+use Rattle.search_layer.specs.Reading.{reads_leaf, read_at}
+use Rattle.search_layer.specs.FloorSteps.{floor_turned, floor_past, floor_read, landed, better}
+use Rattle.search_layer.specs.Laws.{FloorAfter}
 
 -- the fields after a turn, and that the call is the same, maybe at another node
 abbrev pub SoundLooked : Call → Turn Lookup Looked → Type 0
@@ -53,6 +62,30 @@ SoundLooked call (Done (looked.Found found)) = IsFoundBy call.view.layout.slots 
 abbrev pub Stays : {M : Type 0} → (M → Type 0) → (M → Call) → Call → Turn M (Once Placed) → Type 0
 Stays sound of call (Go machine) = sound machine × IsSame call (of machine)
 Stays sound of call (Done answer) = Unit {0}
+
+-- a floor that goes on is of the same key
+abbrev SameKey : List ℕ → Turn Floor ℕ → Type 0
+SameKey key (Go floor) = floor.key ≡ key
+SameKey key (Done node) = Unit {0}
+
+past_same : (floor : Floor) (best : Option Entry) → SameKey floor.key (floor_past floor best)
+past_same floor best =
+    elim (ltb (floor.reader.leaf + 1) (leaf_count floor.layout)) as (λ b. SameKey floor.key (cond b (Go (record floor { best = best; reader = reads_leaf (floor.reader.leaf + 1) })) (Done (landed best)))) [
+      | true ↦ refl
+      | false ↦ tt
+    ]
+
+floor_same : (floor : Floor) (x : ℕ) → SameKey floor.key (floor_turned floor x)
+floor_same floor x = at floor.reader.at
+  where
+    at : (part : ReaderAt) → SameKey floor.key (floor_read floor (read_at part x))
+    at reads.Node = elim (x == 0) as (λ b. SameKey floor.key (floor_read floor (cond b read.Unused (read.Part (reads.First x))))) [
+      | true ↦ past_same floor floor.best
+      | false ↦ refl
+    ]
+    at (reads.First node) = refl
+    at (reads.Second node first) = refl
+    at (reads.Third node first second) = past_same floor (better floor node (first ∷ second ∷ x ∷ []))
 
 -- a locked word that was made of a free one can be given back
 pub lock_word : (generation version word : ℕ) → generation < GENERATION_LIMIT → IsLocking generation version word → IsLockWord word
@@ -96,6 +129,21 @@ module _ (call : Call) (sound : IsCall call) where
         | Some slot ↦ λ is. (record { call = sound; here = (locked, loaded, record { fits = fits; live = live; lowest = is }, omega arith) }, refl)
         | None ↦ λ is. record { locked = locked; directory = loaded; hit = tt }
       ] refl
+
+  floored_sound : (turn : Turn Floor ℕ) → FloorAfter call.view.layout turn → SameKey call.name turn → SoundLooked call (floored call turn)
+  floored_sound (Go floor) after key = (record { call = sound; here = record { sound = after.0; layout = after.1; key = key } }, refl)
+  floored_sound (Done node) after key = (
+    record {
+      call = sound;
+      here = record {
+        sound = record { layout = sound.view.layout; node = after; hops = let some : 1 ≤ call.view.layout.nodes = sound.view.layout.nodes.0 in omega arith; here = tt; first = tt };
+        layout = refl;
+        generation = refl;
+        key = refl;
+      };
+    },
+    refl,
+  )
 
   walked_sound : (stage : Stage) (action : Action) (x : ℕ) (turn : Turn Walk Walked) → Walks call.view.layout call.view.generation (key_words call.name) stage action x turn
       → SoundLooked call (walked_on call turn)
@@ -157,6 +205,7 @@ module _ (call : Call) (sound : IsCall call) where
       ]
 
   lookup_at_stays : (at : LookupAt) (x : ℕ) → IsLookupAt call at → Told call.view.layout call.view.generation (lookup_at_asks call at) x → SoundLooked call (lookup_at_turned call at x)
+  lookup_at_stays (look.Floor floor) x here told = floored_sound (floor_turned floor x) (floor_after call floor x here) (subst (λ (key : List ℕ). SameKey key (floor_turned floor x)) here.key (floor_same floor x))
   lookup_at_stays (look.Walk walk) x here told = walked_sound (walk_stage walk) (walk_asks walk) x (walk_turned walk x) (own_walks call walk x here told)
   lookup_at_stays (look.Lock seen word) x here told =
       elim (x == seen.version) as (λ b. SoundLooked call (cond b (goes_to call (look.Clock word)) (ends (once.Again (Moved call.node seen.version x))))) [

@@ -25,7 +25,14 @@ use Rattle.call_stages.specs.declared.once.Placed.{Placed}
 use Rattle.node_ops.specs.declared.running.Running.{Running}
 use Rattle.pm_words.specs.Fences.{fence_next}
 use Rattle.node_ops.specs.RunningSteps.{running_left}
-use Rattle.node_ops.specs.LookupSteps.{IsLookup, IsLookupAt, IsComparing, lookup_left, lookup_at_left, saw_name, next_candidate, candidate_turned}
+use Rattle.node_ops.specs.LookupSteps.{IsFlooring, floored, IsLookup, IsLookupAt, IsComparing, lookup_left, lookup_at_left, lookup_at_turned, saw_name, next_candidate, candidate_turned}
+use Rattle.pm_words.specs.declared.layout.Layout.{Layout}
+use Rattle.pm_words.specs.Layouts.{IsLayout}
+use Rattle.search_layer.specs.declared.floor.Floor.{Floor}
+use Rattle.search_layer.specs.FloorSteps.{floor_turned, floor_left}
+use Rattle.search_layer.specs.Laws.{FloorAfter}
+use Rattle.search_layer.proofs.FloorTold.{floor_fewer, left_some}
+use Rattle.node_ops.proofs.LookupLaw.{floor_after}
 use Rattle.node_ops.specs.FinishSteps.{finish_left}
 use Rattle.smo_log.specs.declared.take.Take.{Take}
 use Rattle.smo_log.specs.declared.take.Taken.{Taken}
@@ -91,11 +98,28 @@ name_goes_below call at hold directory left slot k word turn is turned limit com
     subst (λ (a : LookupAt). GoesBelow {A = Looked} lookup_left (lookup_at_left call.view.layout.slots a) turn) (sym is)
     (subst (GoesBelow {A = Looked} lookup_left (3 * (call.view.layout.slots - slot) + 1 - k)) (sym turned) (name_fewer call hold directory left slot k word limit comparing small))
 
+-- the floor reads on, or the walk begins
+floor_fewer_by : (call : Call) (floor : Floor) (turn : Turn Floor ℕ) → IsLayout call.view.layout → FloorAfter call.view.layout turn → GoesBelow {A = ℕ} floor_left (floor_left floor) turn → 1 ≤ floor_left floor
+    → GoesBelow {A = Looked} lookup_left (floor_left floor + 20 * call.view.layout.nodes + (3 * call.view.layout.slots + 13)) (floored call turn)
+floor_fewer_by call floor (Go next) layout after fewer some = subst (λ (l : Layout). floor_left next + 20 * l.nodes + (3 * call.view.layout.slots + 13) < floor_left floor + 20 * call.view.layout.nodes + (3 * call.view.layout.slots + 13)) (sym after.1) (omega arith)
+floor_fewer_by call floor (Done node) layout after fewer some = let nodes : 1 ≤ call.view.layout.nodes = layout.nodes.0 in omega arith
+
+pub floor_goes_below : (call : Call) (at : LookupAt) (floor : Floor) (x : ℕ) → at ≡ look.Floor floor → IsLayout call.view.layout → IsFlooring call floor
+    → GoesBelow {A = Looked} lookup_left (lookup_at_left call.view.layout.slots at) (lookup_at_turned call at x)
+floor_goes_below call at floor x is layout here =
+    subst (λ (a : LookupAt). GoesBelow {A = Looked} lookup_left (lookup_at_left call.view.layout.slots a) (lookup_at_turned call a x)) (sym is)
+    (subst (λ (l : Layout). GoesBelow {A = Looked} lookup_left (floor_left floor + 20 * l.nodes + (3 * call.view.layout.slots + 13)) (floored call (floor_turned floor x))) (sym here.layout)
+    (floor_fewer_by call floor (floor_turned floor x) layout (floor_after call floor x here) (floor_fewer floor x) some))
+  where
+    some : 1 ≤ floor_left floor
+    some = let one = left_some floor.reader.at in omega arith
+
 -- a look-up has an action left
 pub lookup_left_some : (lookup : Lookup) → IsLookup lookup → 0 < lookup_left lookup
 lookup_left_some lookup sound = at lookup.call lookup.at sound.here
   where
     at : (call : Call) (at : LookupAt) → IsLookupAt call at → 0 < lookup_at_left call.view.layout.slots at
+    at call (look.Floor floor) sound = omega arith
     at call (look.Walk walk) sound = omega arith
     at call (look.Lock target locked) sound = omega arith
     at call (look.Clock locked) sound = omega arith

@@ -269,6 +269,7 @@ loose_pends (Joins h left right pace) loose = absurd loose
 
 -- a look-up counts nothing, and holds its node for its call's name
 pub lookup_counts : (call : Call) (at : LookupAt) → counted (lookup_at_stage call at) ≡ None
+lookup_counts call (look.Floor floor) = refl
 lookup_counts call (look.Walk walk) = loose_counts (walk_stage walk) (walk_loose walk.generation walk.node walk.at)
 lookup_counts call (look.Lock target locked) = refl
 lookup_counts call (look.Clock locked) = refl
@@ -279,6 +280,7 @@ lookup_counts call (look.Name hold directory left slot k) = refl
 lookup_counts call (look.Value hold directory slot) = refl
 
 lookup_about : (call : Call) (at : LookupAt) → IsAbout (name_in call) (lookup_at_stage call at)
+lookup_about call (look.Floor floor) = tt
 lookup_about call (look.Walk walk) = loose_about (name_in call) (walk_stage walk) (walk_loose walk.generation walk.node walk.at)
 lookup_about call (look.Lock target locked) = tt
 lookup_about call (look.Clock locked) = refl
@@ -364,6 +366,7 @@ holds_own_name (op.Del name) (Deleting (del.Single (single_del.Finishing finish 
 holds_own_name (op.Del name) (Parting p) is = absurd is
 
 lookup_pends : (call : Call) (at : LookupAt) → pending_in (lookup_at_stage call at) ≡ None
+lookup_pends call (look.Floor floor) = refl
 lookup_pends call (look.Walk walk) = loose_pends (walk_stage walk) (walk_loose walk.generation walk.node walk.at)
 lookup_pends call (look.Lock target locked) = refl
 lookup_pends call (look.Clock locked) = refl

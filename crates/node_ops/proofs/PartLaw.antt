@@ -30,7 +30,7 @@ use Rattle.node_ops.specs.LookupSteps.{lookup_turned}
 use Rattle.node_ops.specs.PartSteps.{no_entries, entry_in, with_word, load_from, next_at, behind_of, part_looked, after_at, after_word, part_call, reading_at_asks, part_asks, reading_turned, part_turned, IsReadingAt, IsReading, IsPart}
 use Rattle.node_ops.specs.RunningSteps.{wrapped_part}
 use Rattle.node_ops.proofs.SeenLemmas.{Seen}
-use Rattle.node_ops.proofs.LookupLaw.{Leads, lookup_leads}
+use Rattle.node_ops.proofs.LookupLaw.{PlainStep, steps, Leads, lookup_leads}
 use Rattle.node_ops.proofs.PartSound.{entry_here, entry_other, within}
 use Rattle.node_ops.proofs.Endings.{LooksEnd, looks_end, early_placed}
 
@@ -138,24 +138,24 @@ module _ (reading : Reading) (sound : IsReading reading) (slot word got : ℕ) (
       looks (learns (sound.call.node, (omega arith)) (omega arith) refl (λ s tidy known is. record { seen = (known.seen.0, learnt s known.seen.1 is); left = tt }))
 
 abbrev Parts : Call → Stage → Action → ℕ → Turn Part (Once PartWords) → Type 0
-Parts call stage action x turn = Step call.view.layout call.view.generation stage action x (stage_after (wrapped_part turn)) (reply_of (wrapped_part turn))
+Parts call stage action x turn = PlainStep call.view.layout call.view.generation stage action x (stage_after (wrapped_part turn)) (reply_of (wrapped_part turn))
 
 looked_leads : (call : Call) (stage : Stage) (action : Action) (x count : ℕ) (behind : Option Next) (turn : Turn Lookup Looked) → LooksEnd call.limit turn → Leads call stage action x turn
     → Parts call stage action x (part_looked call count behind turn)
 looked_leads call stage action x count behind (Go lookup) ends step = step
 looked_leads call stage action x count behind (Done (looked.Early answer)) ends step =
-    subst (λ (a : Once Placed). Step call.view.layout call.view.generation stage action x Idle (Some a)) (sym (early_placed call.limit answer ends)) step
+    steps (subst (λ (a : Once Placed). Step call.view.layout call.view.generation stage action x Idle (Some a)) (sym (early_placed call.limit answer ends)) step)
 looked_leads call stage action x count behind (Done (looked.Found found)) ends leads =
     let slots = call.view.layout.slots in
     let bitmap = found.directory.bitmap in
-    leads (knows ((bitmap_offset, bitmap) ∷ loaded_at no_entries bitmap slots (next_at bitmap 0 slots))) None false tt
+    steps (leads (knows ((bitmap_offset, bitmap) ∷ loaded_at no_entries bitmap slots (next_at bitmap 0 slots))) None false tt
     (λ s known. record { seen = (known.seen.0, next_at_loaded s no_entries bitmap slots 0 (omega arith) (λ other below live. absurd (omega arith))); left = tt })
-    (λ range s m in_range old means. means)
+    (λ range s m in_range old means. means))
 
 reading_leads : (reading : Reading) (at : ReadingAt) (x : ℕ) → IsReading (record reading { at = at })
     → Parts reading.call (reading_stage (record reading { at = at })) (reading_at_asks reading.call reading.hold.locked at) x (reading_turned (record reading { at = at }) at x)
-reading_leads reading (at.Load slot word) x sound = word_leads (record reading { at = at.Load slot word }) sound slot word x sound.here
-reading_leads reading at.Unlock x sound = unlocks refl refl refl refl (reads refl refl refl)
+reading_leads reading (at.Load slot word) x sound = steps (word_leads (record reading { at = at.Load slot word }) sound slot word x sound.here)
+reading_leads reading at.Unlock x sound = steps (unlocks refl refl refl refl (reads refl refl refl))
 
 pub part_steps : (p : Part) (x : ℕ) → IsPart p → Told (part_call p).view.layout (part_call p).view.generation (part_asks p) x → Parts (part_call p) (part_stage p) (part_asks p) x (part_turned p x)
 part_steps (part.Looking lookup count behind) x sound told =

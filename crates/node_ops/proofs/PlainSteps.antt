@@ -1,4 +1,4 @@
--- Steps on nodes alone, of a call that has a log line or none and owes nothing; and what is known of the name's slot.
+-- Steps on nodes alone, or a load of the search layer, of a call that has a log line or none and owes nothing; and what is known of the name's slot.
 use Rattle.std.proofs.Common.{◌≡◌, ℕ, ◌++◌, Option, Some, None, inl, length, refl, sym, subst, ap, ◌∙◌}
 use Rattle.cat_key.specs.Names.{words_of}
 use Rattle.cat_key.proofs.Packing.{length-words_of}
@@ -11,12 +11,11 @@ use Rattle.call_stages.specs.declared.once.Once.{Once}
 use Rattle.call_stages.specs.declared.once.Placed.{Placed}
 use Rattle.call_stages.specs.Stages.{Knows, Stage, Idle, Saw, Wears, Holds, Eyes, Splits, Leaves, Meets, Joins, IsLoose}
 use Rattle.call_stages.specs.Prevs.{no_debt, Deals, keeps}
-use Rattle.call_stages.specs.Footings.{Footing, Minds, FootStep, on_nodes}
+use Rattle.call_stages.specs.Footings.{Footing, Minds, FootStep, on_nodes, on_layer}
 use Rattle.data_list.specs.WalkStages.{walk_stage}
 use Rattle.data_list.proofs.WalkLaw.{walk_loose}
 use Rattle.node_ops.specs.declared.lookup.LookupAt.{LookupAt}
 use Rattle.node_ops.specs.declared.lookup.LookupAt.TheVariants as look
-use Rattle.call_stages.specs.Kinds.{Step}
 use Rattle.node_ops.specs.declared.call.Call.{Call}
 use Rattle.node_ops.specs.declared.lookup.Hit.{Hit}
 use Rattle.node_ops.specs.declared.lookup.Found.{Found}
@@ -25,7 +24,7 @@ use Rattle.node_ops.specs.Calls.{IsCall, name_in}
 use Rattle.call_stages.specs.Lines.{HeldLine}
 use Rattle.node_ops.specs.CallStages.{words_from, seen_hit, stage_after, reply_of, lookup_at_stage, footing_after}
 use Rattle.node_ops.proofs.SeenLemmas.{Seen, Stand, seen_back, stand_whole, name_stands}
-use Rattle.node_ops.proofs.LookupLaw.{hit_words, found_known}
+use Rattle.node_ops.proofs.LookupLaw.{PlainStep, steps, reads_layer, hit_words, found_known}
 
 -- the name in the slot that has it
 pub hit_words_known : (s : Spot) (call : Call) (bitmap : ℕ) (hit : Hit) → IsCall call → Seen s (seen_hit call bitmap (Some hit)) → IsLive bitmap hit.slot
@@ -73,11 +72,17 @@ single_minds (Joins h left right pace) t line single = absurd single
 abbrev pub IsPlainAfter : Option HeldLine → Turn Running (Once Placed) → Type 0
 IsPlainAfter line turn = footing_after turn ≡ record { stage = stage_after turn; line = line; debt = no_debt }
 
+-- such a step, of what it has
+plain_foots : (l : Layout) (g c : ℕ) (line : Option HeldLine) (s : Stage) (action : Action) (x : ℕ) (t : Stage) (answer : Option (Once Placed)) → IsSingle s → PlainStep l g s action x t answer
+    → FootStep l g c (record { stage = s; line = line; debt = no_debt }) action x (record { stage = t; line = line; debt = no_debt }) answer
+plain_foots l g c line s action x t answer single (steps step) = on_nodes (single_minds s t line single) (inl refl) step (single_deals s t single)
+plain_foots l g c line s action x t answer single (reads_layer has) = on_layer refl has
+
 pub plain : (l : Layout) (g c : ℕ) (line : Option HeldLine) (s : Stage) (action : Action) (x : ℕ) (turn : Turn Running (Once Placed)) → IsSingle s → IsPlainAfter line turn
-    → Step l g s action x (stage_after turn) (reply_of turn) → Plain l g c line s action x turn
+    → PlainStep l g s action x (stage_after turn) (reply_of turn) → Plain l g c line s action x turn
 plain l g c line s action x turn single after step =
     subst (λ (f : Footing). FootStep l g c (record { stage = s; line = line; debt = no_debt }) action x f (reply_of turn)) (sym after)
-    (on_nodes (single_minds s (stage_after turn) line single) (inl refl) step (single_deals s (stage_after turn) single))
+    (plain_foots l g c line s action x (stage_after turn) (reply_of turn) single step)
 
 pub loose_single : (s : Stage) → IsLoose s → IsSingle s
 loose_single Idle loose = tt
@@ -91,6 +96,7 @@ loose_single (Meets n w h right) loose = tt
 loose_single (Joins h left right pace) loose = absurd loose
 
 pub looks_single : (call : Call) (at : LookupAt) → IsSingle (lookup_at_stage call at)
+looks_single call (look.Floor floor) = tt
 looks_single call (look.Walk walk) = loose_single (walk_stage walk) (walk_loose walk.generation walk.node walk.at)
 looks_single call (look.Lock seen locked) = tt
 looks_single call (look.Clock locked) = tt

@@ -152,6 +152,7 @@ abbrev pub fencing : Held → ℕ → Fence → List (ℕ × ℕ) → Held
 fencing held line fence others = record held { dirty = fence_rest line fence ∷ others; hand = fence_hand line fence }
 
 abbrev pub lookup_at_stage : Call → LookupAt → Stage
+lookup_at_stage call (look.Floor floor) = Idle
 lookup_at_stage call (look.Walk walk) = walk_stage walk
 lookup_at_stage call (look.Lock seen locked) = Saw call.node seen.version locked (sight_in seen)
 lookup_at_stage call (look.Clock locked) = Holds call.node locked (just_held (name_in call))

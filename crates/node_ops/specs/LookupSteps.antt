@@ -35,6 +35,8 @@ use Rattle.data_list.specs.Keys.{key_words}
 use Rattle.data_list.specs.Walks.{sighting_of, walk_from, walk_asks, walk_turned, walk_left, IsWalk}
 use Rattle.data_list.specs.Laws.{IsSighting}
 use Rattle.node_ops.specs.Calls.{IsCall, call_address, at_node}
+use Rattle.search_layer.specs.declared.floor.Floor.{Floor}
+use Rattle.search_layer.specs.FloorSteps.{IsFloor, floor_starts, floor_asks, floor_turned, floor_left}
 use Rattle.version_lock.specs.Versions.{IsLockWord}
 
 -- what a name has, if a slot has it
@@ -44,12 +46,10 @@ value_of (Some hit) = Some hit.value
 
 -- a look-up that begins
 abbrev pub starts : Call → Lookup
-starts call = record {
-  call = call;
-  at = at.Walk (walk_from call.view.layout call.view.generation 0 (key_words call.name));
-}
+starts call = record { call = call; at = at.Floor (floor_starts call.view.layout call.name) }
 
 abbrev pub lookup_at_asks : Call → LookupAt → Action
+lookup_at_asks call (at.Floor floor) = floor_asks floor
 lookup_at_asks call (at.Walk walk) = walk_asks walk
 lookup_at_asks call (at.Lock seen locked) = Exchange (call_address call 0) seen.version locked
 lookup_at_asks call (at.Clock locked) = Load (clock_address call.view.layout)
@@ -73,6 +73,12 @@ ends answer = Done (looked.Early answer)
 -- it found the slot with the name, or that none has it
 abbrev pub finds : Hold → Directory → Option Hit → Turn Lookup Looked
 finds hold directory hit = Done (looked.Found (record { hold = hold; directory = directory; hit = hit }))
+
+-- after a turn of the floor: it walks from the node that the layer leads to
+abbrev pub floored : Call → Turn Floor ℕ → Turn Lookup Looked
+floored call (Go floor) = goes_to call (at.Floor floor)
+floored call (Done node) =
+    goes_to call (at.Walk (walk_from call.view.layout call.view.generation node (key_words call.name)))
 
 -- it is at its target, which it locks next
 abbrev pub came_to : Call → Target → Turn Lookup Looked
@@ -136,6 +142,7 @@ saw_name call hold directory left slot k word =
     else next_candidate call hold directory (without_live left slot)
 
 abbrev pub lookup_at_turned : Call → LookupAt → ℕ → Turn Lookup Looked
+lookup_at_turned call (at.Floor floor) got = floored call (floor_turned floor got)
 lookup_at_turned call (at.Walk walk) got = walked_on call (walk_turned walk got)
 lookup_at_turned call (at.Lock seen locked) got = tried_lock call seen.version locked got
 lookup_at_turned call (at.Clock locked) got = saw_clock call (record { locked = locked; clock = got })
@@ -178,6 +185,12 @@ pub record IsFoundBy (slots : ℕ) (found : Found) : Type 0 where
   pub directory : IsDirectory found.directory
   pub hit : IfSome found.hit (IsHit slots found.directory.bitmap)
 
+-- it takes the floor of its name
+pub record IsFlooring (call : Call) (floor : Floor) : Type 0 where
+  pub sound : IsFloor floor
+  pub layout : floor.layout ≡ call.view.layout
+  pub key : floor.key ≡ call.name
+
 -- it walks to the node of its name
 pub record IsWalking (call : Call) (walk : Walk) : Type 0 where
   pub sound : IsWalk walk
@@ -192,6 +205,7 @@ pub record IsAtTarget (call : Call) (seen : Sighting) (locked : ℕ) : Type 0 wh
   pub leads : IfSome seen.next (λ next. next.node ≢ 0)
 
 abbrev pub IsLookupAt : Call → LookupAt → Type 0
+IsLookupAt call (at.Floor floor) = IsFlooring call floor
 IsLookupAt call (at.Walk walk) = IsWalking call walk
 IsLookupAt call (at.Lock seen locked) = IsAtTarget call seen locked
 IsLookupAt call (at.Clock locked) = IsLockWord locked
@@ -214,8 +228,10 @@ abbrev pub lookup_takes : Lookup → ℕ → Type 0
 lookup_takes lookup got = IsLookup lookup ×
     Told lookup.call.view.layout lookup.call.view.generation (lookup_asks lookup) got
 
--- each candidate takes three actions at most, and the value one more
+-- a walk hops to twice as many nodes at most as there are, with ten actions at each; each candidate takes three actions
+-- at most, and the value one more
 abbrev pub lookup_at_left : ℕ → LookupAt → ℕ
+lookup_at_left slots (at.Floor floor) = floor_left floor + 20 * floor.layout.nodes + (3 * slots + 13)
 lookup_at_left slots (at.Walk walk) = walk_left walk + (3 * slots + 13)
 lookup_at_left slots (at.Lock seen locked) = 3 * slots + 12
 lookup_at_left slots (at.Clock locked) = 3 * slots + 11

@@ -1,7 +1,9 @@
 //! The look-up with which every call begins. Its states, in order:
 //!
-//! - `Walk`: it walks to the node of its name; locked nodes and too many hops end it, and so does a target that is
-//! worn.
+//! - `Floor`: it reads the search layer, for the node with which the walk is to begin. Whichever that is, what it finds
+//! is the same: only the walk says which node is its name's.
+//! - `Walk`: it walks from there to the node of its name; locked nodes and too many hops end it, and so does a target
+//! that is worn.
 //! - `Lock`: it exchanges the version word that the walk saw for a locked one; another word there ends it.
 //! - `Clock`: it loads the clock. Where that has reached the limit, it gives the node back in `Spent` and ends.
 //! - `Bitmap`, `Prints`: it loads the bitmap and the eight words of fingerprints.
@@ -19,6 +21,7 @@ use data_list::{Sighting, Target, Walk, Walked};
 use data_node::{PRINT_WORDS, candidates, lowest_live, without_live};
 use pm_words::offsets::node;
 use pm_words::{Action, Again, Machine, Turn};
+use search_layer::Floor;
 use version_lock::{freed_of, locked_of};
 
 /// The lock that a call has on its node: the locked version word, and the clock that was loaded then.
@@ -71,6 +74,9 @@ pub enum Looked {
 
 /// It walks to the node of its name, locks it, loads the clock, and looks for the live slot with the call's name: it
 /// compares the name with those of the slots whose fingerprints agree.
+///
+/// The walk begins at the floor of the name in the search layer, which takes one load for each leaf that is not used and
+/// four for each that is; a row has four leaves more than nodes.
 #[derive(Clone, Copy)]
 pub struct Lookup {
     pub call: Call,
@@ -79,6 +85,9 @@ pub struct Lookup {
 
 #[derive(Clone, Copy)]
 pub enum LookupAt {
+    Floor {
+        floor: Floor,
+    },
     Walk {
         walk: Walk,
     },
@@ -136,6 +145,7 @@ impl Machine for Lookup {
     fn action(&self) -> Action {
         let call = &self.call;
         match self.at {
+            LookupAt::Floor { floor } => floor.action(),
             LookupAt::Walk { walk } => walk.action(),
             LookupAt::Lock { seen, locked } => {
                 Action::Exchange(call.address(node::VERSION), seen.version, locked)
@@ -166,13 +176,15 @@ impl Machine for Lookup {
 impl Lookup {
     ghost use Rattle.std.specs.Prelude.{◌≡◌, ℕ, ◌^◌, ◌<◌, ◌≤◌, List, IfSome};
     ghost use Rattle.pm_words.specs.Turns.{GoesBelow};
+    ghost use Rattle.pm_words.specs.Layouts.{IsLayout};
+    ghost use Rattle.search_layer.specs.Laws.{FloorAfter};
     ghost use Rattle.split_merge.specs.Advances.{AdvancesTo};
     ghost use Rattle.data_node.specs.Slots.{IsLive};
     ghost use Rattle.version_lock.specs.Versions.{generation_of, IsFree};
     ghost use Rattle.node_ops.specs.Calls.{IsCall};
     ghost use Rattle.node_ops.specs.LookupSteps.{IsLookup, starts, came_to, tried_lock, saw_clock, saw_prints};
     ghost use Rattle.node_ops.specs.LookupSteps.{saw_name, next_candidate, walked_on, IsTargetOf, lookup_left, lookup_takes};
-    ghost use Rattle.node_ops.specs.LookupSteps.{lookup_turned};
+    ghost use Rattle.node_ops.specs.LookupSteps.{floored, lookup_turned};
 
     pub(crate) fn new(call: Call) -> Lookup
         requires { IsCall call }
@@ -181,8 +193,8 @@ impl Lookup {
     {
         Lookup {
             call,
-            at: LookupAt::Walk {
-                walk: Walk::new(call.view.layout, call.view.generation, 0, call.name),
+            at: LookupAt::Floor {
+                floor: Floor::new(call.view.layout, call.name),
             },
         }
     }
@@ -195,6 +207,10 @@ impl Lookup {
         ensures call { IfSome result (λ _. self.new.call ≡ self.old.call) }
     {
         match &mut self.at {
+            LookupAt::Floor { floor } => {
+                let turn = floor.resume(got);
+                self.floored(turn)
+            }
             LookupAt::Walk { walk } => {
                 let turn = walk.resume(got);
                 self.walked(turn)
@@ -232,6 +248,24 @@ impl Lookup {
                 }),
             })),
         }
+    }
+
+    /// After a turn of the floor: it walks from the node that the layer leads to.
+    fn floored(&mut self, turn: Turn<Floor, u64>) -> Option<Looked>
+        requires layout { IsLayout self.old.call.view.layout }
+        requires node { FloorAfter self.old.call.view.layout turn }
+        ensures advances { AdvancesTo (floored self.old.call turn) self.new result }
+        ensures call { IfSome result (λ _. self.new.call ≡ self.old.call) }
+    {
+        self.at = match turn {
+            Turn::Go(floor) => LookupAt::Floor { floor },
+            Turn::Done(node) => {
+                let view = self.call.view;
+                let walk = Walk::new(view.layout, view.generation, node, self.call.name);
+                LookupAt::Walk { walk }
+            }
+        };
+        None
     }
 
     /// After a turn of the walk.

@@ -76,8 +76,9 @@ fn answers(rt: &impl Abort, row: &mut Row, ask: Ask, answer: Once<Placed>, actio
     assert_eq!(rt; row.actions, actions, "{ask:?}");
 }
 
-/// Nodes 0, 2 and 1 in the list, with the anchors g and p; node 0 has the names a and b, and node 2 has g. A walk to
-/// node 0 takes 9 loads, and one to node 2 as many more; a put of a new name takes 67 actions behind the walk.
+/// Nodes 0, 2 and 1 in the list, with the anchors g and p; node 0 has the names a and b, and node 2 has g. The floor
+/// takes 7 loads, since no leaf is used, a walk to node 0 takes 9, and one to node 2 as many more; a put of a new name
+/// takes 67 actions behind the walk.
 fn three_nodes(rt: &impl Abort, words: Vec<u64>, layout: Layout) -> Row
     requires { IsLayout layout }
     ensures { result.layout ≡ layout }
@@ -88,14 +89,14 @@ fn three_nodes(rt: &impl Abort, words: Vec<u64>, layout: Layout) -> Row
     row.live(rt, 1, 0);
     row.stand(rt, 2, node::ANCHOR, G);
     row.stand(rt, 1, node::ANCHOR, 0x70 << 56);
-    answers(rt, &mut row, put(b'a', 1), done(None, 0), 9 + 67);
-    answers(rt, &mut row, put(b'b', 2), done(None, 1), 9 + 67);
+    answers(rt, &mut row, put(b'a', 1), done(None, 0), 7 + 9 + 67);
+    answers(rt, &mut row, put(b'b', 2), done(None, 1), 7 + 9 + 67);
     answers(
         rt,
         &mut row,
         put(b'g', 3),
         done_after(None, 2, 1),
-        9 + 9 + 67,
+        7 + 9 + 9 + 67,
     );
     row
 }
@@ -111,15 +112,15 @@ fn have(rt: &impl Abort, row: &Row, words: &[(u64, u64, u64)]) {
     }
 }
 
-/// A delete that leaves one name, beside a node that has one, merges. Actions: 9 for the walk, 15 until the name is
-/// found, next, 17 for a line, 17 for the bitmap, and the add; then 20 up to the words of both nodes, 40 for the opened
-/// line, 8 loads and stores for the copy, a store of fingerprints, 32 for two lines, 17 for the bitmap, 17 for the
-/// switch, 3 for GONE and prevs, 17 for READY, and 2 stores. Its line is left READY.
+/// A delete that leaves one name, beside a node that has one, merges. Actions: 7 for the floor, 9 for the walk, 15 until
+/// the name is found, next, 17 for a line, 17 for the bitmap, and the add; then 20 up to the words of both nodes, 40 for
+/// the opened line, 8 loads and stores for the copy, a store of fingerprints, 32 for two lines, 17 for the bitmap, 17 for
+/// the switch, 3 for GONE and prevs, 17 for READY, and 2 stores. Its line is left READY.
 #[test]
 fn a_delete_merges_its_node_with_the_next(rt: HostRuntime) -> Result<(), Fail> {
     let layout = Layout::new(3, 4, 1)?;
     let mut row = three_nodes(&rt, vec![in rt.alloc(); 0u64; ROW]?, layout);
-    let actions = 60 + 20 + 40 + 8 + 1 + 32 + 17 + 17 + 3 + 17 + 2;
+    let actions = 67 + 20 + 40 + 8 + 1 + 32 + 17 + 17 + 3 + 17 + 2;
     answers(&rt, &mut row, del(b'a'), done(Some(1), 3), actions);
     let order = [
         Place::Word(0, node::VERSION),
@@ -178,7 +179,7 @@ fn a_delete_merges_its_node_with_the_next(rt: HostRuntime) -> Result<(), Fail> {
         &mut row,
         Ask::Get { letter: b'g' },
         done(Some(3), 4),
-        9 + 16,
+        7 + 9 + 16,
     );
     Ok(())
 }
@@ -194,9 +195,9 @@ fn a_delete_beside_a_fuller_node_merges_nothing(rt: HostRuntime) -> Result<(), F
         &mut row,
         put(b'h', 4),
         done_after(None, 3, 1),
-        9 + 9 + 67,
+        7 + 9 + 9 + 67,
     );
-    answers(&rt, &mut row, del(b'a'), done(Some(1), 4), 60 + 7);
+    answers(&rt, &mut row, del(b'a'), done(Some(1), 4), 67 + 7);
     let words = [
         (0, node::BITMAP, 0b10),
         (0, node::NEXT, 2),
@@ -220,8 +221,8 @@ fn a_delete_without_a_neighbour_takes_no_line(rt: HostRuntime) -> Result<(), Fai
     for index in 0..8 {
         row.mark(&rt, index, READY);
     }
-    answers(&rt, &mut row, put(b'a', 1), done(None, 0), 6 + 67);
-    answers(&rt, &mut row, del(b'a'), done(Some(1), 1), 6 + 35);
+    answers(&rt, &mut row, put(b'a', 1), done(None, 0), 5 + 6 + 67);
+    answers(&rt, &mut row, del(b'a'), done(Some(1), 1), 5 + 6 + 35);
     have(&rt, &row, &[(0, node::BITMAP, 0)]);
     Ok(())
 }
@@ -236,12 +237,12 @@ fn a_delete_without_a_line_is_to_be_made_again(rt: HostRuntime) -> Result<(), Fa
         row.mark(&rt, index, READY);
     }
     let full = Once::Again(Again::LogFull);
-    answers(&rt, &mut row, del(b'a'), full, 9 + 15 + 1 + 8 + 1);
+    answers(&rt, &mut row, del(b'a'), full, 7 + 9 + 15 + 1 + 8 + 1);
     have(&rt, &row, &[(0, node::BITMAP, 0b11), (0, node::NEXT, 2)]);
     assert_eq!(rt; row.twins(&rt, 0, node::VERSION).0, GENERATION_UNIT + 6);
     assert_eq!(rt; row.line_twins(&rt, 0, line::STATE), (READY, READY));
-    answers(&rt, &mut row, put(b'c', 5), done(None, 3), 9 + 67);
-    answers(&rt, &mut row, put(b'd', 6), done(None, 4), 9 + 67);
-    answers(&rt, &mut row, del(b'a'), done(Some(1), 5), 9 + 34);
+    answers(&rt, &mut row, put(b'c', 5), done(None, 3), 7 + 9 + 67);
+    answers(&rt, &mut row, put(b'd', 6), done(None, 4), 7 + 9 + 67);
+    answers(&rt, &mut row, del(b'a'), done(Some(1), 5), 7 + 9 + 34);
     Ok(())
 }

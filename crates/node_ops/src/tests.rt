@@ -8,7 +8,7 @@ ghost use Rattle.node_ops.specs.CallStages.{SoundAfter};
 use super::*;
 use call_stages::{Once, Placed, View};
 use cat_key::Name;
-use pm_words::offsets::{line, node, volatile};
+use pm_words::offsets::{leaf, line, node, volatile};
 use pm_words::{Action, Again, Layout, Machine, Turn};
 use split_merge::{MergeAt, SplitAt};
 use std::process::Abort;
@@ -162,6 +162,19 @@ impl Row {
             "{word}"
         );
         (self.words[cached], self.words[durable])
+    }
+
+    /// The layer has a leaf with a key of one letter that leads to this node.
+    fn lead(&mut self, rt: &impl Abort, number: u64, letter: u8, node: u64)
+        ensures { self.new.layout ≡ self.old.layout }
+    {
+        let layout = self.layout;
+        assert!(rt; number < layout.nodes() + 4, "{number}");
+        let key = layout.cached(layout.leaf_word(number, leaf::KEY));
+        self.act(rt, Action::Store(key, u64::from(letter) << 56));
+        let to = layout.cached(layout.leaf_word(number, leaf::NODE));
+        let word = node.checked_add(1).expect(rt, "a node word");
+        self.act(rt, Action::Store(to, word));
     }
 
     /// A volatile word of a node.
@@ -335,11 +348,12 @@ pub(crate) fn done_after(old: Option<u64>, place: u64, hops: u64) -> Once<Placed
 
 /// Puts, gets and deletes on a node of four slots, one after another: what each answers, and in how many actions.
 ///
-/// A walk to the one node takes 6 loads: version, status, three words of the anchor, and next. A look-up takes 11
-/// actions more until the fingerprints are loaded, the lock, the clock, the bitmap and eight words of fingerprints, and
-/// three or four for each slot with the name's fingerprint. A write into a clear slot takes 5 stores, two fences of 16
-/// actions and the store of the bitmap, and its end a fence, the add and the unlock. Where no slot is clear, the split
-/// loads next, takes a line by the load of its state and a fence, finds no free node by one load, and unlocks.
+/// The floor takes 5 loads, one for each leaf, since none is used. A walk to the one node takes 6 loads: version, status,
+/// three words of the anchor, and next. A look-up takes 11 actions more until the fingerprints are loaded, the lock, the
+/// clock, the bitmap and eight words of fingerprints, and three or four for each slot with the name's fingerprint. A
+/// write into a clear slot takes 5 stores, two fences of 16 actions and the store of the bitmap, and its end a fence, the
+/// add and the unlock. Where no slot is clear, the split loads next, takes a line by the load of its state and a fence,
+/// finds no free node by one load, and unlocks.
 #[test]
 fn one_caller_on_four_slots(rt: HostRuntime) -> Result<(), Fail> {
     let layout = Layout::new(1, 4, 1)?;
@@ -350,22 +364,23 @@ fn one_caller_on_four_slots(rt: HostRuntime) -> Result<(), Fail> {
         value,
         limit: FAR,
     };
+    let floor = 5;
     let calls = [
-        (put(b'a', 1), done(None, 0), 73),
-        (put(b'b', 2), done(None, 1), 73),
-        (put(b'c', 3), done(None, 2), 73),
-        (put(b'd', 4), done(None, 3), 73),
-        (put(b'a', 9), done(Some(1), 4), 40),
-        (put(b'e', 5), Once::Again(Again::NoFree), 37),
-        (Ask::Get { letter: b'a' }, done(Some(9), 5), 22),
-        (Ask::Get { letter: b'e' }, done(None, 5), 18),
+        (put(b'a', 1), done(None, 0), floor + 73),
+        (put(b'b', 2), done(None, 1), floor + 73),
+        (put(b'c', 3), done(None, 2), floor + 73),
+        (put(b'd', 4), done(None, 3), floor + 73),
+        (put(b'a', 9), done(Some(1), 4), floor + 40),
+        (put(b'e', 5), Once::Again(Again::NoFree), floor + 37),
+        (Ask::Get { letter: b'a' }, done(Some(9), 5), floor + 22),
+        (Ask::Get { letter: b'e' }, done(None, 5), floor + 18),
         (
             Ask::Del {
                 letter: b'b',
                 limit: FAR,
             },
             done(Some(2), 5),
-            40,
+            floor + 40,
         ),
         (
             Ask::Del {
@@ -373,9 +388,9 @@ fn one_caller_on_four_slots(rt: HostRuntime) -> Result<(), Fail> {
                 limit: FAR,
             },
             done(None, 6),
-            19,
+            floor + 19,
         ),
-        (put(b'a', 10), done(Some(9), 7), 77),
+        (put(b'a', 10), done(Some(9), 7), floor + 77),
         (
             Ask::Put {
                 letter: b'f',
@@ -383,7 +398,7 @@ fn one_caller_on_four_slots(rt: HostRuntime) -> Result<(), Fail> {
                 limit: 1,
             },
             Once::Spent { clock: 8 },
-            9,
+            floor + 9,
         ),
         (
             Ask::Del {
@@ -391,7 +406,7 @@ fn one_caller_on_four_slots(rt: HostRuntime) -> Result<(), Fail> {
                 limit: 8,
             },
             Once::Spent { clock: 8 },
-            9,
+            floor + 9,
         ),
     ];
     for (ask, answer, actions) in calls {
@@ -419,10 +434,10 @@ fn one_caller_on_four_slots(rt: HostRuntime) -> Result<(), Fail> {
     Ok(())
 }
 
-/// A put that finds its node full splits it, and is to be made again: then it goes to the fresh node. The split takes 1
-/// load of next, 17 actions for a line, 3 for the claim, 24 loads of the node's words, 14 stores and three fences for the
-/// fresh node, 40 actions for the opened line, 3 stores up to the switch and its fence, a store and a fence for the
-/// bitmap, 17 actions for READY, and 2 stores. Its line is left READY.
+/// A put that finds its node full splits it, and is to be made again: then it goes to the fresh node. The floor takes 6
+/// loads, since no leaf is used. The split takes 1 load of next, 17 actions for a line, 3 for the claim, 24 loads of the
+/// node's words, 14 stores and three fences for the fresh node, 40 actions for the opened line, 3 stores up to the switch
+/// and its fence, a store and a fence for the bitmap, 17 actions for READY, and 2 stores. Its line is left READY.
 #[test]
 fn a_put_splits_its_full_node(rt: HostRuntime) -> Result<(), Fail> {
     let layout = Layout::new(2, 4, 1)?;
@@ -433,24 +448,25 @@ fn a_put_splits_its_full_node(rt: HostRuntime) -> Result<(), Fail> {
         value,
         limit: FAR,
     };
+    let floor = 6;
     let split = 1 + 17 + 3 + 24 + 14 + 48 + 40 + 3 + 16 + 17 + 17 + 2;
     let calls = [
-        (put(b'c', 1), done(None, 0), 73),
-        (put(b'a', 2), done(None, 1), 73),
-        (put(b'd', 3), done(None, 2), 73),
-        (put(b'b', 4), done(None, 3), 73),
+        (put(b'c', 1), done(None, 0), floor + 73),
+        (put(b'a', 2), done(None, 1), floor + 73),
+        (put(b'd', 3), done(None, 2), floor + 73),
+        (put(b'b', 4), done(None, 3), floor + 73),
         (
             put(b'e', 5),
             Once::Again(Again::NeedsSplit { node: 0 }),
-            17 + split,
+            floor + 17 + split,
         ),
-        (put(b'e', 5), done_after(None, 4, 1), 9 + 6 + 67),
+        (put(b'e', 5), done_after(None, 4, 1), floor + 9 + 6 + 67),
         (
             Ask::Get { letter: b'c' },
             done_after(Some(1), 5, 1),
-            9 + 6 + 16,
+            floor + 9 + 6 + 16,
         ),
-        (Ask::Get { letter: b'b' }, done(Some(4), 5), 9 + 16),
+        (Ask::Get { letter: b'b' }, done(Some(4), 5), floor + 9 + 16),
     ];
     for (ask, answer, actions) in calls {
         row.actions = 0;
@@ -475,6 +491,7 @@ fn sixty_four_slots_take_no_longer(rt: HostRuntime) -> Result<(), Fail> {
     let layout = Layout::new(1, 64, 1)?;
     let mut row = Row::new(layout, vec![in rt.alloc(); 0u64; ROW]?);
     row.live(&rt, 0, 0);
+    let floor = 5;
     let calls = [
         (
             Ask::Put {
@@ -483,16 +500,16 @@ fn sixty_four_slots_take_no_longer(rt: HostRuntime) -> Result<(), Fail> {
                 limit: FAR,
             },
             done(None, 0),
-            73,
+            floor + 73,
         ),
-        (Ask::Get { letter: b'a' }, done(Some(1), 1), 22),
+        (Ask::Get { letter: b'a' }, done(Some(1), 1), floor + 22),
         (
             Ask::Del {
                 letter: b'a',
                 limit: FAR,
             },
             done(Some(1), 1),
-            41,
+            floor + 41,
         ),
     ];
     for (ask, answer, actions) in calls {
@@ -528,23 +545,24 @@ fn all_turn_back(rt: &impl Abort, mut row: Row, word: u64, answer: Once<Placed>,
     }
 }
 
-/// A walk ends at a version word that is locked. That its target is worn is told once it is there.
+/// A walk ends at a version word that is locked, behind the 5 loads of the floor. That its target is worn is told once it
+/// is there.
 #[test]
 fn locked_and_worn_nodes(rt: HostRuntime) -> Result<(), Fail> {
     let layout = Layout::new(1, 4, 1)?;
     let word = GENERATION_UNIT + 7;
     let row = Row::new(layout, vec![in rt.alloc(); 0u64; ROW]?);
     let locked = Once::Again(Again::Locked { node: 0, word });
-    all_turn_back(&rt, row, word, locked, 1);
+    all_turn_back(&rt, row, word, locked, 5 + 1);
     let word = GENERATION_UNIT + 2 * LAST_COUNT;
     let row = Row::new(layout, vec![in rt.alloc(); 0u64; ROW]?);
-    all_turn_back(&rt, row, word, Once::Worn { node: 0, word }, 6);
+    all_turn_back(&rt, row, word, Once::Worn { node: 0, word }, 5 + 6);
     Ok(())
 }
 
 /// Calls on a list of the nodes 0, 2 and 1, with the anchors g and p: each goes to the node of its name, and tells its
-/// hops. At a node that leads on, the three words of the next node's anchor are loaded too, so 9 loads each. After the
-/// walk all is as on one node.
+/// hops. The floor takes 7 loads, since no leaf is used, and leads to node 0. At a node that leads on, the three words of
+/// the next node's anchor are loaded too, so 9 loads each. After the walk all is as on one node.
 #[test]
 fn calls_on_three_nodes(rt: HostRuntime) -> Result<(), Fail> {
     let layout = Layout::new(3, 4, 1)?;
@@ -559,7 +577,7 @@ fn calls_on_three_nodes(rt: HostRuntime) -> Result<(), Fail> {
         value,
         limit: FAR,
     };
-    let walks = [9, 9 + 9, 9 + 9 + 6];
+    let walks = [7 + 9, 7 + 9 + 9, 7 + 9 + 9 + 6];
     let calls = [
         (put(b'a', 1), done_after(None, 0, 0), walks[0] + 67),
         (put(b'g', 2), done_after(None, 1, 1), walks[1] + 67),
@@ -604,6 +622,38 @@ fn calls_on_three_nodes(rt: HostRuntime) -> Result<(), Fail> {
             (bitmap, bitmap),
             "{node}"
         );
+    }
+    Ok(())
+}
+
+/// Gets on the same list, with a layer that leads from f to node 1, from g to node 2, and from q to no node: a floor takes
+/// four loads of each of the three used leaves, and one of each of the other four. From f to node 1 is too far: there the
+/// walk loads six words up to prev, and goes on at node 0. Wherever it begins, it comes to the node of its name.
+#[test]
+fn walks_begin_at_the_floor(rt: HostRuntime) -> Result<(), Fail> {
+    let layout = Layout::new(3, 4, 1)?;
+    let mut row = Row::new(layout, vec![in rt.alloc(); 0u64; ROW]?);
+    row.live(&rt, 0, 2);
+    row.live(&rt, 2, 1);
+    row.live(&rt, 1, 0);
+    row.stand(&rt, 2, node::ANCHOR, 0x67 << 56);
+    row.stand(&rt, 1, node::ANCHOR, 0x70 << 56);
+    row.lead(&rt, 3, b'g', 2);
+    row.lead(&rt, 2, b'q', 9);
+    row.lead(&rt, 1, b'f', 1);
+    let floor = 3 * 4 + 4;
+    let calls = [
+        (b'e', done(None, 0), floor + 9 + 12),
+        (b'f', done_after(None, 0, 1), floor + 6 + 9 + 12),
+        (b'g', done(None, 0), floor + 9 + 12),
+        (b'o', done(None, 0), floor + 9 + 12),
+        (b'z', done_after(None, 0, 1), floor + 9 + 6 + 12),
+    ];
+    for (letter, answer, actions) in calls {
+        row.actions = 0;
+        let call = started(&rt, row.layout, Ask::Get { letter });
+        assert_eq!(rt; run(&rt, &mut row, call), answer, "{letter}");
+        assert_eq!(rt; row.actions, actions, "{letter}");
     }
     Ok(())
 }

@@ -228,16 +228,16 @@ pub(super) fn found_by_evictions<L: Ledger>(
 #[test]
 fn a_crash_keeps_the_map_with_what_is_found(rt: HostRuntime) -> Result<(), Fail> {
     // A write is found from the store of its word on where that word is evicted, and else from its drain on. The bitmap
-    // is word 17 of the image, which a put into a clear slot stores as its event 55 and drains as 59, and a delete, which
-    // leaves few names and so looks where its node leads, as 23 and 27; the value of slot 0 is word 35, and is stored in
-    // place as event 22 and drained as event 30.
+    // is word 17 of the image, which a put into a clear slot stores as its event 63 and drains as 67, and a delete, which
+    // leaves few names and so looks where its node leads, as 31 and 35; the value of slot 0 is word 35, and is stored in
+    // place as event 30 and drained as event 38. The first eight events are those of the floor.
     let put = Case {
         nodes: 1,
         put: true,
         number: 1,
         before: 1,
         without: None,
-        steps: 75,
+        steps: 83,
     };
     let overwrite = Case {
         nodes: 1,
@@ -245,7 +245,7 @@ fn a_crash_keeps_the_map_with_what_is_found(rt: HostRuntime) -> Result<(), Fail>
         number: 0,
         before: 4,
         without: None,
-        steps: 75,
+        steps: 83,
     };
     let delete = Case {
         nodes: 1,
@@ -253,9 +253,9 @@ fn a_crash_keeps_the_map_with_what_is_found(rt: HostRuntime) -> Result<(), Fail>
         number: 0,
         before: 2,
         without: None,
-        steps: 75,
+        steps: 83,
     };
-    for (case, stored, drained) in [(put, 55, 59), (overwrite, 22, 30), (delete, 23, 27)] {
+    for (case, stored, drained) in [(put, 63, 67), (overwrite, 30, 38), (delete, 31, 35)] {
         let found = found_by_evictions::<Brand>(rt.alloc(), Blank::new(1), case)?;
         assert_eq!(rt;
             found,
@@ -267,14 +267,14 @@ fn a_crash_keeps_the_map_with_what_is_found(rt: HostRuntime) -> Result<(), Fail>
 
 #[test]
 fn a_crash_in_a_split_keeps_the_map(rt: HostRuntime) -> Result<(), Fail> {
-    // The put splits its full node in 219 events, and is then answered without a place.
+    // The put splits its full node in 228 events, nine of them of the floor, and is then answered without a place.
     let split = Case {
         nodes: 2,
         put: true,
         number: 4,
         before: 4,
         without: None,
-        steps: 225,
+        steps: 234,
     };
     let found = found_by_evictions::<Brand>(rt.alloc(), Blank::new(1), split)?;
     assert_eq!(rt; found, [None; 4]);

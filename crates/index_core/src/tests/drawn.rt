@@ -6,12 +6,13 @@ use super::crashes::{
     NAMES as LETTERS, add_found, evict, is_kept, map_of, name_of as letter_of, with_names,
 };
 use super::merges::{DEL, GET, LIVE, PUT, nodes_with};
-use super::model::{Model, NAMES, count_of, name_of};
+use super::model::{Answer, Membership, Model, NAMES, count_of, name_of};
 use super::splits::number_at;
 use super::turns::{begin_turn, has_turn, run_turn};
-use super::{begin_call, call_of, run, whole};
+use super::{begin_call, call_of, part_alone, run, whole};
 use crate::{Core, Crashed};
-use call_stages::Once;
+use call_stages::{Once, Placed};
+use node_ops::PartWords;
 use pm_words::{Layout, Steps};
 use std::alloc::Global;
 use std::marker::Brand;
@@ -60,12 +61,14 @@ fn is_alike<L: Ledger>(
 ) -> Result<bool, Fail> {
     let [kind, number, value] = asked;
     let call = call_of(kind, name_of(number)?, value);
-    let told = whole(core, &call, steps)?;
-    Ok(told == model.answer(alloc, kind, number, value)?)
+    let wanted = model.answer(alloc, kind, number, value)?;
+    Ok(match whole(core, &call, steps)? {
+        Some(Placed { old, place, .. }) => wanted == Some(Answer { old, place }),
+        None => wanted.is_none(),
+    })
 }
 
-/// Whether a get of each name is answered as by the model: with the same number, at the same place, by as many hops as
-/// there are members before its own.
+/// Whether a part of a scan from each name on is answered as a get by the model, and tells the name's member.
 fn stands_alike<L: Ledger>(
     alloc: Global,
     core: &mut Core,
@@ -74,7 +77,20 @@ fn stands_alike<L: Ledger>(
 ) -> Result<bool, Fail> {
     let mut alike = true;
     for number in 0..NAMES {
-        alike = alike && is_alike(alloc, core, model, [GET, number, 0], steps)?;
+        let words = part_alone(core, name_of(number)?, 0, steps)?;
+        let PartWords {
+            old,
+            place,
+            high,
+            compared,
+            ..
+        } = words;
+        let wanted = model.answer(alloc, GET, number, 0)?;
+        let told = Membership {
+            high,
+            count: compared,
+        };
+        alike = alike && wanted == Some(Answer { old, place }) && told == model.member_of(number)?;
     }
     Ok(alike)
 }

@@ -29,7 +29,7 @@ fn again_and_once_more<L: Ledger>(alloc: Global, blank: Blank) -> Result<[[u64; 
     let mut steps = Steps::new(book, share);
     let mut core = Core::fresh(alloc, Layout::new(1, 4, 2)?)?;
     begin(&mut core, 0, 0)?;
-    run(&mut core, 0, 10, &mut steps)?;
+    run(&mut core, 0, 18, &mut steps)?;
     begin(&mut core, 1, 0)?;
     let Some(Once::Again(_)) = run(&mut core, 1, MANY, &mut steps)? else {
         return Err("the lock is held")?;

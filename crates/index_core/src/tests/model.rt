@@ -1,6 +1,5 @@
 //! A slow model of an index with no call in flight, in the words of the rule alone: a list of members with their names.
 
-use call_stages::Placed;
 use cat_key::Name;
 use shapes::{NameMap, PlainMap};
 use std::alloc::Global;
@@ -59,6 +58,20 @@ struct Member {
     names: u64,
 }
 
+/// The member of a name, as a part of a scan tells of it: the first name of the next one, and how many names it has.
+#[derive(Clone, Copy, PartialEq, Eq)]
+pub(super) struct Membership {
+    pub high: Option<Name>,
+    pub count: u64,
+}
+
+/// What a call is answered: the number that its name had, and its place.
+#[derive(Clone, Copy, PartialEq, Eq)]
+pub(super) struct Answer {
+    pub old: Option<u64>,
+    pub place: u64,
+}
+
 /// The members in the order of their names, and the number that each name has.
 #[derive(Drop)]
 pub(super) struct Model {
@@ -96,7 +109,7 @@ impl Model {
         kind: u64,
         number: u64,
         value: u64,
-    ) -> Result<Option<Placed>, Fail> {
+    ) -> Result<Option<Answer>, Fail> {
         match kind {
             0 => self.put(alloc, number, value),
             1 => Ok(Some(self.get(number)?)),
@@ -130,26 +143,34 @@ impl Model {
         }
     }
 
-    fn get(&mut self, number: u64) -> Result<Placed, Fail> {
-        Ok(Placed {
+    /// The member of the name of this number.
+    pub(super) fn member_of(&self, number: u64) -> Result<Membership, Fail> {
+        let target = self.target(number);
+        let high = match self.members.get(target.saturating_add(1)) {
+            Some(next) => Some(name_of(next.first)?),
+            None => None,
+        };
+        Ok(Membership {
+            high,
+            count: count_of(self.names_at(target)),
+        })
+    }
+
+    fn get(&mut self, number: u64) -> Result<Answer, Fail> {
+        Ok(Answer {
             old: self.map.get(&name_of(number)?),
             place: self.writes,
-            hops: self.target(number) as u64,
         })
     }
 
     /// A write of a name that had this number takes the next place.
-    fn placed(&mut self, old: Option<u64>, target: usize) -> Placed {
+    fn placed(&mut self, old: Option<u64>) -> Answer {
         let place = self.writes;
         self.writes = place.saturating_add(1);
-        Placed {
-            old,
-            place,
-            hops: target as u64,
-        }
+        Answer { old, place }
     }
 
-    fn put(&mut self, alloc: Global, number: u64, value: u64) -> Result<Option<Placed>, Fail> {
+    fn put(&mut self, alloc: Global, number: u64, value: u64) -> Result<Option<Answer>, Fail> {
         let name = name_of(number)?;
         if self.map.get(&name).is_none() {
             if !self.has_room(alloc, number)? {
@@ -160,8 +181,7 @@ impl Model {
             self.set_names(target, names | bit_of(number));
         }
         let old = self.map.put(&name, value).ok().flatten();
-        let target = self.target(number);
-        Ok(Some(self.placed(old, target)))
+        Ok(Some(self.placed(old)))
     }
 
     /// Whether there is room for the name, once its target is split where it has as many names as slots and there can
@@ -202,7 +222,7 @@ impl Model {
         Ok(())
     }
 
-    fn del(&mut self, alloc: Global, number: u64) -> Result<Placed, Fail> {
+    fn del(&mut self, alloc: Global, number: u64) -> Result<Answer, Fail> {
         let target = self.target(number);
         let old = self.map.del(&name_of(number)?);
         if old.is_some() {
@@ -210,7 +230,7 @@ impl Model {
             self.set_names(target, names);
             self.merge_next(alloc, target)?;
         }
-        Ok(self.placed(old, target))
+        Ok(self.placed(old))
     }
 
     /// The next member goes where both together have no more than half as many names as slots, and its names join those

@@ -5,7 +5,7 @@ ghost use Rattle.std.specs.Prelude.{◌≡◌, ◌<◌};
 use super::crashes::{NAMES, evict, is_kept, map_of, name_of, with_names};
 use super::merges::{DEL, GET, PUT};
 use super::splits::number_at;
-use super::{MANY, begin_call, call_of, run, run_to_reply, whole};
+use super::{MANY, begin_call, call_of, part_alone, run, run_to_reply, whole};
 use crate::{Core, CoreCall, CoreReply, Crashed, CutCall, Cuts, Whole};
 use call_stages::Once;
 use cat_key::Name;
@@ -17,7 +17,7 @@ use std::sync::ledger::{Blank, Ledger};
 use std::test::Fail;
 
 /// How many steps no part here has.
-const PART_STEPS: u64 = 60;
+const PART_STEPS: u64 = 75;
 
 /// Begins a part of party 0 that lists so many names from the name of this number on.
 fn begin_part(core: &mut Core, low: u64, count: u64) -> Result<(), Fail> {
@@ -34,20 +34,6 @@ fn run_part<L: Ledger>(
     match run_to_reply(core, 0, most, steps)? {
         Some(CoreReply::Part(answer)) => Ok(Some(answer)),
         _ => Ok(None),
-    }
-}
-
-/// A part that is made with no other call in flight.
-fn part_alone<L: Ledger>(
-    core: &mut Core,
-    low: u64,
-    count: u64,
-    steps: &mut Steps<L>,
-) -> Result<PartWords, Fail> {
-    begin_part(core, low, count)?;
-    match run_part(core, MANY, steps)? {
-        Some(Once::Done(words)) => Ok(words),
-        _ => Err("a part alone takes place")?,
     }
 }
 
@@ -102,7 +88,7 @@ struct BesidePart {
 }
 
 impl BesidePart {
-    /// The case of a number below 1440: a put, a get and a delete, after each of 60 steps of a part from `a` and from
+    /// The case of a number below 1800: a put, a get and a delete, after each of 75 steps of a part from `a` and from
     /// `c` on, step by step or whole.
     fn of(case: u64) -> BesidePart {
         BesidePart {
@@ -168,7 +154,7 @@ fn lists_beside<L: Ledger>(
     }
     let words = match part {
         Some(Once::Done(words)) => words,
-        _ => part_alone(&mut core, low, count, steps)?,
+        _ => part_alone(&mut core, name_of(low)?, count, steps)?,
     };
     is_listed(alloc, &core, low, count, &words)
 }
@@ -180,7 +166,7 @@ fn first_unlisted<L: Ledger>(alloc: Global, blank: Blank) -> Result<Option<Besid
 {
     let (book, share) = blank.open::<L>();
     let mut steps = Steps::new(book, share);
-    for case in 0..1440 {
+    for case in 0..1800 {
         let beside = BesidePart::of(case);
         if !lists_beside(alloc, beside, &mut steps)? {
             return Ok(Some(beside));

@@ -166,7 +166,7 @@ fn first_disagreed<L: Ledger>(alloc: Global, blank: Blank) -> Result<Option<u64>
 {
     let (book, share) = blank.open::<L>();
     let mut steps = Steps::new(book, share);
-    for case in 0..1350 {
+    for case in 0..1404 {
         // The put of `e` splits the node of `a` to `d`.
         let core = with_names(alloc, Layout::new(2, 4, 2)?, 4, None, &mut steps)?;
         let beside = Beside {

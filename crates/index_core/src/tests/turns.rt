@@ -221,10 +221,21 @@ fn busy_core<L: Ledger>(alloc: Global, steps: &mut Steps<L>) -> Result<Core, Fai
     Ok(core)
 }
 
+/// Whether the answer is the one that is wanted, by no more hops: the turn may have put anchors into the search layer by
+/// the time at which the call reads it.
+fn is_wanted(wanted: Option<Once<Placed>>, answer: Once<Placed>) -> bool {
+    match (wanted, answer) {
+        (Some(Once::Done(wanted)), Once::Done(Placed { old, place, hops })) => {
+            old == wanted.old && place == wanted.place && hops <= wanted.hops
+        }
+        _ => wanted == Some(answer),
+    }
+}
+
 /// Whether the call of a case is answered as with no turn beside it. A part lists `a` and `b`.
 fn is_answered(alloc: Global, core: &Core, case: Case, reply: &CoreReply) -> Result<bool, Fail> {
     match reply {
-        CoreReply::Placed(answer) => Ok(case.answer == Some(*answer)),
+        CoreReply::Placed(answer) => Ok(is_wanted(case.answer, *answer)),
         CoreReply::Part(Once::Done(words)) => {
             Ok(case.answer.is_none() && words.len == 2 && is_listed(alloc, core, 0, 3, words)?)
         }

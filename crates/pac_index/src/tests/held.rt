@@ -11,7 +11,7 @@ use crate::Gate;
 use crate::gate::{OpenGate, Pace};
 
 /// No part here has as many steps.
-const STEPS: u64 = 60;
+const STEPS: u64 = 68;
 
 /// Holds caller 0 before the step of this number until the other caller has tried its put.
 #[derive(Drop)]

@@ -4,7 +4,7 @@ use Rattle.index_law.specs.Anchors.{anchors_in}
 use Rattle.index_core.specs.Indexes.{world}
 use Rattle.index_core.specs.Lone.{FindsNoRoom, whole_of}
 use Rattle.core_rounds.specs.CoreMaps.{anchors_made}
-use Rattle.core_rounds.proofs.CoreMaps.{goes_through, full_exactly, stays_low, told_placed, told_full, writes_fall}
+use Rattle.core_rounds.proofs.CoreMaps.{goes_through, full_exactly, stays_low, told_map, told_placed, told_full, writes_fall}
 use Rattle.core_rounds.proofs.core_map.call_alone.Goals as goal
 
 -- there is a lock left, and the clock is below the limit
@@ -24,6 +24,9 @@ pub returns-in-Again-clause-full : goal.returns-in-Again-clause-full
 returns-in-Again-clause-full g c =
     let exactly = full_exactly c.args.core.now c.args.call c.requires.index c.requires.quiet c.name_alone.ensures.runs.named c.requires.calls_left c.requires.stamps in
     ((λ _. exactly.0 (told_full c.args.core.now c.args.call c.name_alone.new.self (whole_of c.name_alone.result) (ap whole_of c.in-Again.is) c.name_alone.ensures.runs).0), (λ _. refl))
+
+pub returns-in-Done-clause-ok : goal.returns-in-Done-clause-ok
+returns-in-Done-clause-ok g c = told_map c.args.core.now c.args.call c.name_alone.new.self (whole_of c.name_alone.result) c.in-Done.placed (ap whole_of c.in-Done.is) c.name_alone.ensures.runs
 
 pub returns-in-Done-clause-anchors : goal.returns-in-Done-clause-anchors
 returns-in-Done-clause-anchors g c = (placed_so g c).1
