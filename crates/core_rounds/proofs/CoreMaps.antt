@@ -210,6 +210,7 @@ in_time s (call.Put name value limit) unlimited left over = let room : 0 < 2 ^ 6
 in_time s (call.Get name) unlimited left over = over
 in_time s (call.Part low count) unlimited left over = over
 in_time s (call.Recheck node version) unlimited left over = over
+in_time s (call.Turn stamp release) unlimited left over = over
 in_time s (call.Del name limit) unlimited left over = let room : 0 < 2 ^ 62 - length s.history = le_trans left (min-le_right s.spare (2 ^ 62 - length s.history)) in omega (arith, room, unlimited, over)
 
 few_tries : (c : CoreCall) → most_tries c ≤ 4
@@ -218,6 +219,7 @@ few_tries (call.Del name limit) = omega arith
 few_tries (call.Get name) = omega arith
 few_tries (call.Part low count) = omega arith
 few_tries (call.Recheck node version) = omega arith
+few_tries (call.Turn stamp release) = omega arith
 
 pub goes_through : (s : Index) (i : ℕ) (c : CoreCall) (new : Index) (r : Once Placed) → IsIndex s → IsUnlimited c → 0 < calls_left_of s → most_writes c ≤ writes_left_of s → IsWholeAnswer (most_tries c) s i c new (whole_of r)
     → ((clock : ℕ) × (r ≡ once.Spent clock)) ⊎ ((node : ℕ) × (word : ℕ) × (r ≡ once.Worn node word)) → ⊥
@@ -241,6 +243,7 @@ full_exactly s (call.Get name) is quiet named left low = ((λ none. none), (λ n
 full_exactly s (call.Del name limit) is quiet named left low = ((λ none. none), (λ none. none))
 full_exactly s (call.Part low_name count) is quiet named left low = ((λ none. none), (λ none. none))
 full_exactly s (call.Recheck node version) is quiet named left low = ((λ none. none), (λ none. none))
+full_exactly s (call.Turn stamp release) is quiet named left low = ((λ none. none), (λ none. none))
 
 -- no call gives a stamp above 1
 pub stays_low : (s : Index) (i : ℕ) (c : CoreCall) (new : Index) (r : Whole) → RunsAlone s i c new r → HasLowStamps s → HasLowStamps new
@@ -281,6 +284,7 @@ made s (call.Get name) new placed is unlimited left list = ⊎_elim
     list
 made s (call.Part low count) new placed is unlimited left list = absurd unlimited
 made s (call.Recheck node version) new placed is unlimited left list = absurd unlimited
+made s (call.Turn stamp release) new placed is unlimited left list = absurd unlimited
 made s (call.Del name limit) new placed is unlimited left list = ⊎_elim
     (λ (kept : HasSameList s new × Unit {0} × MergesNothing (call.Del name limit) s).
     let stays : merges s.layout.slots (map_of_index s) (anchors_in (world s)) name ≡ false =
@@ -326,8 +330,10 @@ few_writes (call.Get name) (whole.Placed placed) caller index = omega arith
 few_writes (call.Del name limit) (whole.Placed placed) caller index = omega arith
 few_writes (call.Part low count) (whole.Placed placed) caller index = omega arith
 few_writes (call.Recheck node version) (whole.Placed placed) caller index = omega arith
+few_writes (call.Turn stamp release) (whole.Placed placed) caller index = omega arith
 few_writes c (whole.Part words) caller index = omega arith
 few_writes c (whole.Spent clock) caller index = omega arith
+few_writes c (whole.Turned turned) caller index = omega arith
 few_writes c whole.Full caller index = omega arith
 few_writes c (whole.Worn node word) caller index = omega arith
 

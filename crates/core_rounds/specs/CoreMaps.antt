@@ -37,6 +37,7 @@ IsUnlimited (call.Get name) = Unit {0}
 IsUnlimited (call.Del name limit) = limit ≡ 2 ^ 62
 IsUnlimited (call.Part low count) = ⊥
 IsUnlimited (call.Recheck node version) = ⊥
+IsUnlimited (call.Turn stamp release) = ⊥
 
 -- The anchors that a call leaves which takes place.
 abbrev pub anchors_made : Index → CoreCall → Anchors
@@ -45,6 +46,7 @@ anchors_made s (call.Get name) = anchors_in (world s)
 anchors_made s (call.Del name limit) = del_anchors s.layout.slots (map_of_index s) (anchors_in (world s)) name
 anchors_made s (call.Part low count) = anchors_in (world s)
 anchors_made s (call.Recheck node version) = anchors_in (world s)
+anchors_made s (call.Turn stamp release) = anchors_in (world s)
 
 -- Between two calls none is in flight, no node has a stamp that turns don't release, and the names are counted.
 pub record IsCoreMap (s : Index) (names : ℕ) : Type 0 where

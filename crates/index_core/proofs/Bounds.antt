@@ -212,6 +212,7 @@ call_limit s party (call.Get name) here = tt
 call_limit s party (call.Del name limit) here = here.call.limit
 call_limit s party (call.Part low count) here = tt
 call_limit s party (call.Recheck node version) here = tt
+call_limit s party (call.Turn stamp release) here = tt
 
 -- and so does the start of a call
 pub start_bounded : (s : Index) (i : ℕ) (e : PartyState) (c : CoreCall) → IsIndex s → IsRunning (machine_of (view_of s i) c) → IsBounded (parties_of s.layout) (set s.states i (state_with e (length s.history) (machine_of (view_of s i) c))) s.history

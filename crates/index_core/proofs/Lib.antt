@@ -27,6 +27,7 @@ pub mod PartsAlone
 pub mod Alone
 pub mod Retrying
 pub mod PartTries
+pub mod Either
 pub mod Endings
 pub mod Told
 pub mod Fulls

@@ -142,6 +142,7 @@ none_shown s i (call.Get name) = refl
 none_shown s i (call.Del name limit) = refl
 none_shown s i (call.Part low count) = refl
 none_shown s i (call.Recheck node version) = refl
+none_shown s i (call.Turn stamp release) = refl
 
 -- an idle party may have another index
 module _ (s : Index) (i : ℕ) (e : PartyState) (index : ℕ) (is : IsIndex s) (there : get_elem? s.states i ≡ some e) (idle : e.machine ≡ None) where
@@ -211,6 +212,7 @@ first_ready v (call.Get name) here = ready_idle v.layout v.generation (machine_o
 first_ready v (call.Del name limit) here = ready_idle v.layout v.generation (machine_of v (call.Del name limit)) here.call.view.layout.nodes.0 (record { layout = refl; generation = refl; here = here }) refl
 first_ready v (call.Part low count) here = ready_idle v.layout v.generation (machine_of v (call.Part low count)) here.call.view.layout.nodes.0 (record { layout = refl; generation = refl; here = here }) refl
 first_ready v (call.Recheck node version) here = ready_idle v.layout v.generation (machine_of v (call.Recheck node version)) here.call.view.layout.nodes.0 (record { layout = refl; generation = refl; here = here }) refl
+first_ready v (call.Turn stamp release) here = ready_idle v.layout v.generation (machine_of v (call.Turn stamp release)) here.call.view.layout.nodes.0 (record { layout = refl; generation = refl; here = here }) refl
 
 -- an index with no call in flight is one with any other idle parties
 pub with_idle : IdleKeep

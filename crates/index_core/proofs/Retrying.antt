@@ -103,6 +103,7 @@ module _ (s s1 : Index) (i : ℕ) (c : CoreCall) (is : IsIndex s) (quiet : IsQui
   needs_line (call.Get name) needs lacks = absurd needs
   needs_line (call.Part low count) needs lacks = absurd needs
   needs_line (call.Recheck node version) needs lacks = absurd needs
+  needs_line (call.Turn stamp release) needs lacks = absurd needs
 
   -- a call that needs no turn has a line, and a put a node
   lined : (c : CoreCall) → Rattle.lone_law.specs.LoneCalls.NeedsLine (world s) (op_of c) → NeedsNoTurn i c s → LacksLine s.layout s.words i → ⊥
@@ -111,6 +112,7 @@ module _ (s s1 : Index) (i : ℕ) (c : CoreCall) (is : IsIndex s) (quiet : IsQui
   lined (call.Get name) needs has lacks = needs
   lined (call.Part low count) needs has lacks = needs
   lined (call.Recheck node version) needs has lacks = needs
+  lined (call.Turn stamp release) needs has lacks = needs
 
   noded : (c : CoreCall) → FindsFull (world s) (op_of c) → NeedsNoTurn i c s → LacksFree s.layout s.generation s.words → ⊥
   noded (call.Put name value limit) full has lacks = has.1.unworn (lacks has.1.node has.1.within has.1.free)
@@ -118,6 +120,7 @@ module _ (s s1 : Index) (i : ℕ) (c : CoreCall) (is : IsIndex s) (quiet : IsQui
   noded (call.Get name) full has lacks = full
   noded (call.Part low count) full has lacks = full
   noded (call.Recheck node version) full has lacks = full
+  noded (call.Turn stamp release) full has lacks = full
 
   turned_back : (r : Once Placed) → (lacks_line r ≡ true) ⊎ (lacks_node r ≡ true) → IsAnswered (world s) (op_of c) (limit_of c) (world s1) (party_of state) r → TurnedBack s s1 i c
   turned_back (once.Again again.LogFull) lacks (unworn, below, needs, lacks_lines, same, kept, unmoved) = record {
@@ -514,6 +517,7 @@ module _ (s0 s s' : Index) (i : ℕ) (c : CoreCall) (before tries : ℕ) (answer
   merge_was (call.Get n) unworn same none = tt
   merge_was (call.Part n count) unworn same none = tt
   merge_was (call.Recheck n version) unworn same none = tt
+  merge_was (call.Turn stamp release) unworn same none = tt
 
   merged_was : (d : CoreCall) → d ≡ c → MergesFor d s s' → MergesFor d s0 s'
   merged_was (call.Del n limit) same merge =
@@ -688,6 +692,7 @@ may_turn (call.Del name limit) s i again = omega arith
 may_turn (call.Get name) s i again = absurd again
 may_turn (call.Part low count) s i again = absurd again
 may_turn (call.Recheck node version) s i again = absurd again
+may_turn (call.Turn stamp release) s i again = absurd again
 
 full_is_put : (c : CoreCall) (w : World) → FindsFull w (op_of c) → (most_turns c ≡ 2) × (most_turns c + 2 ≤ most_tries c)
 full_is_put (call.Put name value limit) w full = (refl, omega arith)
@@ -695,6 +700,7 @@ full_is_put (call.Del name limit) w full = absurd full
 full_is_put (call.Get name) w full = absurd full
 full_is_put (call.Part low count) w full = absurd full
 full_is_put (call.Recheck node version) w full = absurd full
+full_is_put (call.Turn stamp release) w full = absurd full
 
 turns_and_one : (c : CoreCall) → most_turns c + 1 ≤ most_tries c
 turns_and_one (call.Put name value limit) = omega arith
@@ -702,6 +708,7 @@ turns_and_one (call.Del name limit) = omega arith
 turns_and_one (call.Get name) = omega arith
 turns_and_one (call.Part low count) = omega arith
 turns_and_one (call.Recheck node version) = omega arith
+turns_and_one (call.Turn stamp release) = omega arith
 
 -- Once a log line isn't what a call lacks any more: it was turned back for want of one at most once.
 pub record HasItsLine (s0 s : Index) (i : ℕ) (c : CoreCall) (answer : Once Placed) : Type 0 where

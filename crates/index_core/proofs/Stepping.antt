@@ -249,6 +249,7 @@ machine_idle s party (call.Get name) = refl
 machine_idle s party (call.Del name limit) = refl
 machine_idle s party (call.Part low count) = refl
 machine_idle s party (call.Recheck node version) = refl
+machine_idle s party (call.Turn stamp release) = refl
 
 pub machine_begins : (s : Index) (party : ℕ) (c : CoreCall) → IsRunning (machine_of (view_of s party) c) → Sound s.layout s.generation (machine_of (view_of s party) c)
 machine_begins s party (call.Put name value limit) here = record { layout = refl; generation = refl; here = here }
@@ -256,6 +257,7 @@ machine_begins s party (call.Get name) here = record { layout = refl; generation
 machine_begins s party (call.Del name limit) here = record { layout = refl; generation = refl; here = here }
 machine_begins s party (call.Part low count) here = record { layout = refl; generation = refl; here = here }
 machine_begins s party (call.Recheck node version) here = record { layout = refl; generation = refl; here = here }
+machine_begins s party (call.Turn stamp release) here = record { layout = refl; generation = refl; here = here }
 
 machine_op : (s : Index) (party : ℕ) (c : CoreCall) → IsOf (op_in (machine_of (view_of s party) c)) (machine_of (view_of s party) c)
 machine_op s party (call.Put name value limit) = (refl, refl)
@@ -263,6 +265,7 @@ machine_op s party (call.Get name) = refl
 machine_op s party (call.Del name limit) = (refl, tt)
 machine_op s party (call.Part low count) = refl
 machine_op s party (call.Recheck node version) = refl
+machine_op s party (call.Turn stamp release) = refl
 
 begins_own : (s : Index) (party : ℕ) (c : CoreCall) → (running_call (machine_of (view_of s party) c)).view.caller ≡ party
 begins_own s party (call.Put name value limit) = refl
@@ -270,6 +273,7 @@ begins_own s party (call.Get name) = refl
 begins_own s party (call.Del name limit) = refl
 begins_own s party (call.Part low count) = refl
 begins_own s party (call.Recheck node version) = refl
+begins_own s party (call.Turn stamp release) = refl
 
 -- and has no line, and owes nothing
 begins_free : (view : View) (c : CoreCall) → machine_footing (Some (machine_of view c)) ≡ machine_footing None
@@ -278,6 +282,7 @@ begins_free view (call.Get name) = refl
 begins_free view (call.Del name limit) = refl
 begins_free view (call.Part low count) = refl
 begins_free view (call.Recheck node version) = refl
+begins_free view (call.Turn stamp release) = refl
 
 pub machine_writes : (s : Index) (party : ℕ) (c : CoreCall) → owes (machine_of (view_of s party) c) ≡ most_writes c
 machine_writes s party (call.Put name value limit) = refl
@@ -285,6 +290,7 @@ machine_writes s party (call.Get name) = refl
 machine_writes s party (call.Del name limit) = refl
 machine_writes s party (call.Part low count) = refl
 machine_writes s party (call.Recheck node version) = refl
+machine_writes s party (call.Turn stamp release) = refl
 
 -- it has the limit and the count of the call
 pub begins_limit : (s : Index) (i : ℕ) (c : CoreCall) → (running_call (machine_of (view_of s i) c)).limit ≡ limit_of c
@@ -293,6 +299,7 @@ begins_limit s i (call.Get name) = refl
 begins_limit s i (call.Del name limit) = refl
 begins_limit s i (call.Part low count) = refl
 begins_limit s i (call.Recheck node version) = refl
+begins_limit s i (call.Turn stamp release) = refl
 
 pub begins_count : (v : View) (c : CoreCall) → count_in (machine_of v c) ≡ count_of c
 begins_count v (call.Put name value limit) = refl
@@ -300,6 +307,7 @@ begins_count v (call.Get name) = refl
 begins_count v (call.Del name limit) = refl
 begins_count v (call.Part low count) = refl
 begins_count v (call.Recheck node version) = refl
+begins_count v (call.Turn stamp release) = refl
 
 pub start_keeps : (s : Index) (party : ℕ) (state : PartyState) (c : CoreCall) (spare : ℕ) → IsIndex s → get_elem? s.states party ≡ some state → state.machine ≡ None
     → IsRunning (machine_of (view_of s party) c) → IsIndex (started_index s party state c spare)

@@ -122,6 +122,7 @@ asks v (call.Get name) here of = record { view = here.call.view; named = subst I
 asks v (call.Del name limit) here of = record { view = here.call.view; named = subst IsName of.0 here.call.packed.named; limit = here.call.limit; value = tt }
 asks v (call.Part low count) here of = record { view = here.call.view; named = subst IsName of here.call.packed.named; limit = tt; value = tt }
 asks v (call.Recheck node version) here of = record { view = here.call.view; named = subst IsName of here.call.packed.named; limit = tt; value = tt }
+asks v (call.Turn stamp release) here of = record { view = here.call.view; named = subst IsName of here.call.packed.named; limit = tt; value = tt }
 
 -- whatever is called begins so
 begins_alone : (w0 : World) (i : ℕ) (c : CoreCall) (p : Party) (index : ℕ) (v : View) → IsAtRest w0 → CanWalk w0.layout w0.generation w0.words → get_elem? w0.parties i ≡ some p → v.layout ≡ w0.layout → v.generation ≡ w0.generation → v.caller ≡ p.caller → Asks v c
@@ -135,6 +136,8 @@ begins_alone w0 i (call.Del name limit) p index v rest can there layout generati
 begins_alone w0 i (call.Part low count) p index v rest can there layout generation own ask =
     lone_parts_begin w0 i low count p index v rest can there ask.view layout generation own ask.named
 begins_alone w0 i (call.Recheck node version) p index v rest can there layout generation own ask =
+    lone_calls_begin w0 i (op.Get []) None p index v rest can there ask.view layout generation own ask.named ask.limit ask.value
+begins_alone w0 i (call.Turn stamp release) p index v rest can there layout generation own ask =
     lone_calls_begin w0 i (op.Get []) None p index v rest can there ask.view layout generation own ask.named ask.limit ask.value
 
 -- the call as it begins
@@ -160,6 +163,7 @@ begun_line v (call.Get name) = refl
 begun_line v (call.Del name limit) = refl
 begun_line v (call.Part low count) = refl
 begun_line v (call.Recheck node version) = refl
+begun_line v (call.Turn stamp release) = refl
 
 begun_log : (s0 : Index) (i : ℕ) (e : PartyState) (c : CoreCall) (n : ℕ) → LogStands e.caller (world s0) (world (started_index s0 i e c n)) (footing_of (machine_of (view_of s0 i) c))
 begun_log s0 i e c n =

@@ -167,6 +167,7 @@ record Weighs (first : Index) (calls : List AnsweredCall) (s : Index) : Type 0 w
 counts_added : (asked : NameOp) (result : Whole) → added_whole asked result ≤ added_by asked (once_of result)
 counts_added asked (whole.Placed placed) = omega arith
 counts_added asked (whole.Part words) = omega arith
+counts_added asked (whole.Turned turned) = omega arith
 counts_added asked whole.Full = omega arith
 counts_added asked (whole.Spent clock) = omega arith
 counts_added asked (whole.Worn node word) = omega arith

@@ -1,5 +1,6 @@
 -- What is called of the core.
-use Rattle.std.specs.Prelude.{ℕ, ◌≤◌, ◌^◌, [], Option, Some, None}
+use Rattle.std.specs.Prelude.{ℕ, ◌≤◌, ◌<◌, ◌^◌, ◌⊎◌, [], Option, Some, None}
+use Rattle.pm_words.specs.declared.layout.Layout.{Layout}
 use Rattle.cat_history.specs.declared.op.NameOp.{NameOp}
 use Rattle.cat_history.specs.declared.op.NameOp.TheVariants as op
 use Rattle.call_stages.specs.declared.view.View.{View}
@@ -16,8 +17,8 @@ use Rattle.node_ops.specs.LookupSteps.{starts}
 use Rattle.index_core.specs.declared.party.CoreCall.{CoreCall}
 use Rattle.index_core.specs.declared.party.CoreCall.TheVariants as call
 
--- No call begins as a recheck yet (`MayBegin`), so what stands for one in the functions below, a get of no name, says
--- nothing.
+-- A turn of the updater is no call on a name, and no call begins as a recheck yet (`MayBegin`). So what stands for these
+-- in the functions below, a get of no name, says nothing.
 
 -- What the call asks. A part of a scan asks what its low name has, and lists besides.
 abbrev pub op_of : CoreCall → NameOp
@@ -26,6 +27,7 @@ op_of (call.Get name) = op.Get name
 op_of (call.Del name limit) = op.Del name
 op_of (call.Part low count) = op.Get low
 op_of (call.Recheck node version) = op.Get []
+op_of (call.Turn stamp release) = op.Get []
 
 -- How many names it lists at most, if it is a part of a scan.
 abbrev pub count_of : CoreCall → Option ℕ
@@ -34,6 +36,7 @@ count_of (call.Get name) = None
 count_of (call.Del name limit) = None
 count_of (call.Part low count) = Some count
 count_of (call.Recheck node version) = None
+count_of (call.Turn stamp release) = None
 
 -- The clock at which it is refused, if there is one.
 abbrev pub limit_of : CoreCall → Option ℕ
@@ -42,6 +45,7 @@ limit_of (call.Get name) = None
 limit_of (call.Del name limit) = Some limit
 limit_of (call.Part low count) = None
 limit_of (call.Recheck node version) = None
+limit_of (call.Turn stamp release) = None
 
 -- How many writes it may place.
 abbrev pub most_writes : CoreCall → ℕ
@@ -50,14 +54,38 @@ most_writes (call.Get name) = 0
 most_writes (call.Del name limit) = 1
 most_writes (call.Part low count) = 0
 most_writes (call.Recheck node version) = 0
+most_writes (call.Turn stamp release) = 0
 
--- Its limit, if it has one, is at most 2^62, and it is no recheck.
+-- It is a call on a name, and its limit, if it has one, is at most 2^62.
 abbrev pub MayBegin : CoreCall → Type 0
 MayBegin (call.Put name value limit) = limit ≤ 2 ^ 62
 MayBegin (call.Get name) = Unit {0}
 MayBegin (call.Del name limit) = limit ≤ 2 ^ 62
 MayBegin (call.Part low count) = Unit {0}
 MayBegin (call.Recheck node version) = ⊥
+MayBegin (call.Turn stamp release) = ⊥
+
+-- It is a turn of the updater, of whose stamp and release this holds.
+abbrev pub IsTurnAnd : CoreCall → (ℕ → ℕ → Type 0) → Type 0
+IsTurnAnd (call.Put name value limit) P = ⊥
+IsTurnAnd (call.Get name) P = ⊥
+IsTurnAnd (call.Del name limit) P = ⊥
+IsTurnAnd (call.Part low count) P = ⊥
+IsTurnAnd (call.Recheck node version) P = ⊥
+IsTurnAnd (call.Turn stamp release) P = P stamp release
+
+-- This holds of its stamp and release, if it is a turn of the updater.
+abbrev pub IfTurn : CoreCall → (ℕ → ℕ → Type 0) → Type 0
+IfTurn (call.Put name value limit) P = Unit {0}
+IfTurn (call.Get name) P = Unit {0}
+IfTurn (call.Del name limit) P = Unit {0}
+IfTurn (call.Part low count) P = Unit {0}
+IfTurn (call.Recheck node version) P = Unit {0}
+IfTurn (call.Turn stamp release) P = P stamp release
+
+-- What this party may start: a caller any call on a name, and each party, also the updater's, a turn that gives a stamp.
+abbrev pub MayStart : Layout → ℕ → CoreCall → Type 0
+MayStart l party c = ((party < l.callers) × MayBegin c) ⊎ IsTurnAnd c (λ stamp release. (party ≤ l.callers) × (1 ≤ stamp))
 
 -- The machine that makes the call, before its first action.
 abbrev pub machine_of : View → CoreCall → Running
@@ -66,3 +94,4 @@ machine_of view (call.Get name) = Getting (get.Looking (starts (new_call view na
 machine_of view (call.Del name limit) = Deleting (del.Single (single_del.Looking (starts (new_call view name (Some limit)))))
 machine_of view (call.Part low count) = Parting (part.Looking (starts (new_call view low None)) count None)
 machine_of view (call.Recheck node version) = Getting (get.Looking (starts (new_call view [] None)))
+machine_of view (call.Turn stamp release) = Getting (get.Looking (starts (new_call view [] None)))

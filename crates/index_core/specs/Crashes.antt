@@ -18,6 +18,8 @@ use Rattle.cat_history.specs.Records.{change_of}
 use Rattle.node_ops.specs.Asked.{op_in}
 use Rattle.node_ops.specs.RunningSteps.{IsRunning, running_call, count_in}
 use Rattle.node_ops.specs.CallStages.{stage_of}
+use Rattle.updater.specs.declared.making.MakeTurn.{MakeTurn}
+use Rattle.updater.specs.Makings.{making_terms}
 use Rattle.index_core.specs.declared.party.CoreCall.{CoreCall}
 use Rattle.index_core.specs.declared.party.CoreCall.TheVariants as call
 use Rattle.index_core.specs.declared.party.PartyState.{PartyState}
@@ -50,15 +52,24 @@ call_with (op.Del name) limit count = call.Del name limit
 abbrev pub call_in : Running → CoreCall
 call_in machine = call_with (op_in machine) (limit_or_most (running_call machine).limit) (count_in machine)
 
--- The call of a party that a crash cuts off, if one is in flight.
-abbrev pub cut_call : ℕ → Option Running → Option CutCall
-cut_call party None = None
-cut_call party (Some machine) =
+-- The turn of the updater that a party makes, as a call.
+abbrev pub turn_in : MakeTurn → CoreCall
+turn_in making = call.Turn (making_terms making).stamp (making_terms making).release
+
+-- The turn of a party that a crash cuts off, if it makes one. A turn places no write.
+abbrev pub cut_turn : ℕ → Option MakeTurn → Option CutCall
+cut_turn party None = None
+cut_turn party (Some making) = Some (record { party = party; call = turn_in making; place = None })
+
+-- The call of a party that a crash cuts off, if one is in flight: one on a name, or a turn.
+abbrev pub cut_call : ℕ → Option Running → Option MakeTurn → Option CutCall
+cut_call party None turn = cut_turn party turn
+cut_call party (Some machine) turn =
     Some (record { party = party; call = call_in machine; place = placed_in (stage_of machine) })
 
 abbrev pub cut_of : Option PartyState → Option CutCall
 cut_of None = None
-cut_of (Some state) = cut_call state.caller state.machine
+cut_of (Some state) = cut_call state.caller state.machine state.turn
 
 -- The call of the party at this place that a crash cuts off.
 abbrev pub cut_at : List PartyState → ℕ → Option CutCall

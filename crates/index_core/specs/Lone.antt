@@ -204,9 +204,10 @@ pub record LandsIn (s : Index) (caller : ℕ) (c : CoreCall) (new : Index) (plac
   pub tries : TriesAlone last caller c new (once.Done placed)
   pub hops : WalksBy last.layout last.words (name_asked (op_of c)) placed.hops
 
--- The answer by its cause, of a call that is tried so many times at most: of these five, exactly one holds where as many
--- locks are left of each node.
+-- The answer by its cause, of a call on a name that is tried so many times at most: of these five, exactly one holds
+-- where as many locks are left of each node. None is answered as a turn of the updater is.
 abbrev pub IsWholeAnswer : ℕ → Index → ℕ → CoreCall → Index → Whole → Type 0
+IsWholeAnswer tries s caller c new (whole.Turned turned) = ⊥
 IsWholeAnswer tries s caller c new (whole.Worn node word) = IsWornNode tries s caller c new node word
 IsWholeAnswer tries s caller c new (whole.Spent clock) =
     ¬ FindsWornNode c s × IsOver c s × (clock ≡ length s.history)
@@ -227,6 +228,7 @@ LeavesList c (whole.Part words) s new = HasSameList s new
 LeavesList c (whole.Spent clock) s new = HasSameList s new
 LeavesList c whole.Full s new = HasSameList s new
 LeavesList c (whole.Worn node word) s new = Unit {0}
+LeavesList c (whole.Turned turned) s new = ⊥
 
 -- The search layer leads each key where it led. The same nodes are listed, and each log line has the state that it had;
 -- or the call splits or merges by the shape, and one line of its caller, which was EMPTY, is READY, and each other line

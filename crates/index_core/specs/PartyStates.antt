@@ -1,6 +1,7 @@
 -- The parties of the core, each with its call in flight.
 use Rattle.std.specs.Prelude.{◌≡◌, ℕ, zero, suc, ◌+◌, ◌-◌, ◌<◌, ◌^◌, ◌||◌, Bool, is_some, min, List, [], ◌∷◌, ◌++◌}
 use Rattle.std.specs.Prelude.{Option, Some, None, IfSome}
+use Rattle.pm_words.specs.declared.again.Again.TheVariants as again
 use Rattle.pm_words.specs.declared.layout.Layout.{Layout}
 use Rattle.pm_words.specs.declared.machine.Turn.{Turn}
 use Rattle.pm_words.specs.declared.machine.Turn.TheVariants.{Go, Done}
@@ -112,10 +113,12 @@ abbrev pub stepped_of : Running → Turn Running (Once Placed) → Stepped
 stepped_of machine (Go next) = Going
 stepped_of machine (Done answer) = Answered (reply_with (count_in machine) (listed_in machine) answer)
 
--- What the try of a call was answered, which of a part is the answer of a get of its low name.
+-- What the try of a call on a name was answered, which of a part is the answer of a get of its low name. No such call is
+-- answered as a turn of the updater is (`stepped_of`), so what stands for that says nothing.
 abbrev pub answer_in : CoreReply → Once Placed
 answer_in (reply.Placed answer) = answer
 answer_in (reply.Part answer) = placed_of answer
+answer_in (reply.Turn turned) = once.Again again.LogFull
 
 -- What a part listed, if it took place.
 abbrev pub words_told : Once PartWords → Option PartWords
@@ -127,6 +130,7 @@ words_told (once.Again why) = None
 abbrev pub listed_by : CoreReply → Option PartWords
 listed_by (reply.Placed answer) = None
 listed_by (reply.Part answer) = words_told answer
+listed_by (reply.Turn turned) = None
 
 -- What a step's call is answered, if it is.
 abbrev pub answered_by : Stepped → Option (Once Placed)
@@ -179,6 +183,11 @@ turn_after (Done reply) = None
 abbrev pub turn_reply : Turn MakeTurn TurnReply → Option TurnReply
 turn_reply (Go making) = None
 turn_reply (Done reply) = Some reply
+
+-- What a step of a turn comes to, by what answers the turn, if that ends it.
+abbrev pub turn_stepped : Option TurnReply → Stepped
+turn_stepped None = Going
+turn_stepped (Some turned) = Answered (reply.Turn turned)
 
 abbrev pub state_turned : PartyState → Turn MakeTurn TurnReply → PartyState
 state_turned state turn = record state { turn = turn_after turn }

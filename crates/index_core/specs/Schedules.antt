@@ -85,10 +85,12 @@ flying_call state machine =
       since = state.since;
     }
 
--- What a whole call that was alone is answered, as one try of it is: only a full node turns it back.
+-- What a whole call on a name that was alone is answered, as one try of it is: only a full node turns it back. None is
+-- answered as a turn of the updater is (`IsWholeAnswer`).
 abbrev pub once_of : Whole → Once Placed
 once_of (whole.Placed placed) = once.Done placed
 once_of (whole.Part words) = once.Done (words_placed words)
+once_of (whole.Turned turned) = once.Again again.LogFull
 once_of whole.Full = once.Again again.NoFree
 once_of (whole.Spent clock) = once.Spent clock
 once_of (whole.Worn node word) = once.Worn node word
@@ -97,6 +99,7 @@ once_of (whole.Worn node word) = once.Worn node word
 abbrev pub listed_of : Whole → Option PartWords
 listed_of (whole.Placed placed) = None
 listed_of (whole.Part words) = Some words
+listed_of (whole.Turned turned) = None
 listed_of whole.Full = None
 listed_of (whole.Spent clock) = None
 listed_of (whole.Worn node word) = None

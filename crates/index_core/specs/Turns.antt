@@ -16,7 +16,10 @@ use Rattle.updater.specs.declared.making.TurnReply.TheVariants as reply
 use Rattle.updater.specs.declared.terms.Turned.{Turned}
 use Rattle.updater.specs.Makings.{making_from, making_asks, making_turned, making_takes, making_left}
 use Rattle.index_core.specs.declared.party.PartyState.{PartyState}
-use Rattle.index_core.specs.PartyStates.{turn_reply, state_turned}
+use Rattle.index_core.specs.declared.party.Stepped.{Stepped}
+use Rattle.index_core.specs.declared.party.Whole.{Whole}
+use Rattle.index_core.specs.declared.party.Whole.TheVariants as whole
+use Rattle.index_core.specs.PartyStates.{turn_reply, turn_stepped, state_turned}
 use Rattle.index_core.specs.Indexes.{Index, IsIndex, world, layered}
 use Rattle.index_core.specs.Weights.{weight_of}
 
@@ -60,6 +63,12 @@ pub record TurnSteps (old : Index) (party : ℕ) (new : Index) (result : Option 
   -- it has fewer actions left
   pub fewer : GoesBelow making_left (making_left making) (making_turned making (turn_told old making))
 
+-- One step of the party's turn, and what it comes to.
+pub record TurnStepsTo (old : Index) (party : ℕ) (new : Index) (result : Stepped) : Type 0 where
+  pub answer : Option TurnReply
+  pub steps : TurnSteps old party new answer
+  pub comes_to : result ≡ turn_stepped answer
+
 -- The turn ends here, and answers that no node is FREE.
 abbrev pub FindsNoneFree : Turn MakeTurn TurnReply → Type 0
 FindsNoneFree (Go making) = ⊥
@@ -93,3 +102,12 @@ pub record TurnsAlone (old : Index) (stamp release : ℕ) (answer : Turned) (new
   pub lone : IsLoneTurn (layered old) stamp release answer (layered new)
   pub is : new ≡ record old { words = new.words }
   pub weighs : weight_of new ≤ weight_of old  -- what it made FREE weighs nothing any more
+
+-- A whole call is answered as a turn of the updater is, and this holds of what that has done.
+abbrev pub IsTurnedAnd : Whole → (Turned → Type 0) → Type 0
+IsTurnedAnd (whole.Placed placed) P = ⊥
+IsTurnedAnd (whole.Part words) P = ⊥
+IsTurnedAnd (whole.Turned turned) P = P turned
+IsTurnedAnd whole.Full P = ⊥
+IsTurnedAnd (whole.Spent clock) P = ⊥
+IsTurnedAnd (whole.Worn node word) P = ⊥

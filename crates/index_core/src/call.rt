@@ -28,6 +28,7 @@ impl CoreCall {
             CoreCall::Del { name, limit } => Running::Deleting(Del::new(view, &named(name), limit)),
             CoreCall::Part { low, count } => Running::Parting(Part::new(view, &named(low), count)),
             CoreCall::Recheck { .. } => unreachable!(),
+            CoreCall::Turn { .. } => unreachable!(),
         }
     }
 }

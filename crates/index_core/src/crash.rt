@@ -7,6 +7,7 @@ use cat_history::NameOp;
 use node_ops::Running;
 use pm_words::Image;
 use std::marker::Model;
+use updater::MakeTurn;
 
 /// The limit of a call that has none: no clock reaches it.
 const MOST_LIMIT: u64 = 1 << 62;
@@ -62,7 +63,7 @@ impl Cuts {
     {
         let state = self.states.get(party as usize)?;
         if !state.machine.flies() {
-            return None;
+            return cut_turn(state.caller, &state.turn);
         }
         let machine = state.machine.running();
         Some(CutCall {
@@ -75,7 +76,7 @@ impl Cuts {
 
 impl CoreCall {
     ghost use Rattle.node_ops.specs.RunningSteps.{IsRunning};
-    ghost use Rattle.index_core.specs.Crashes.{call_in};
+    ghost use Rattle.index_core.specs.Crashes.{call_in, turn_in};
 
     /// The call that a machine makes.
     pub(crate) fn of(machine: &Running) -> CoreCall
@@ -91,5 +92,35 @@ impl CoreCall {
             },
             NameOp::Del { name } => CoreCall::Del { name, limit },
         }
+    }
+
+    /// The call that a turn of the updater is.
+    fn of_turn(making: &MakeTurn) -> CoreCall
+        ensures { result ≡ turn_in making.now }
+    {
+        let terms = match making {
+            MakeTurn::Taking { terms } => terms,
+            MakeTurn::Working { work } => &work.terms,
+        };
+        CoreCall::Turn {
+            stamp: terms.stamp,
+            release: terms.release,
+        }
+    }
+}
+
+ghost use Rattle.index_core.specs.Crashes.{cut_turn};
+
+/// The turn of this party that was cut off, if it made one.
+fn cut_turn(party: u64, turn: &Option<MakeTurn>) -> Option<CutCall>
+    ensures { result ≡ cut_turn party turn.now }
+{
+    match turn {
+        None => None,
+        Some(making) => Some(CutCall {
+            party,
+            call: CoreCall::of_turn(making),
+            place: None,
+        }),
     }
 }

@@ -2,8 +2,10 @@ ghost use Rattle.std.specs.Prelude.{◌≡◌, ℕ, ◌+◌, ◌-◌, ◌<◌, �
 ghost use Rattle.std.specs.Prelude.{IsErr, IsTrue, vec_len, vec_capacity, Some, None};
 ghost use Rattle.pm_words.specs.Layouts.{IsLayout};
 ghost use Rattle.index_law.specs.Worlds.{written};
-ghost use Rattle.index_core.specs.CoreCalls.{MayBegin, most_writes};
+ghost use Rattle.index_core.specs.CoreCalls.{IfTurn, MayBegin, MayStart, most_writes};
 ghost use Rattle.index_core.specs.Indexes.{IsBusy, IsInFlight, IsIndex, KeepsRoom, Starts, StepsTo, TurnsTo};
+ghost use Rattle.index_core.specs.Turns.{StartsTurn, TurnStepsTo};
+ghost use Rattle.index_core.specs.declared.party.Stepped.TheVariants.{Going};
 ghost use Rattle.index_core.specs.Fresh.{IsFreshIndex};
 ghost use Rattle.index_core.specs.Opened.{opened_index};
 ghost use Rattle.pm_words.specs.Locations.{image_words};
@@ -151,9 +153,62 @@ impl Core {
         })
     }
 
-    /// Begins a call of the party, of which a put or delete takes one of `spare`. `InFlight` comes exactly where the
-    /// party's last call isn't answered, and then nothing changes.
+    /// Begins a call of the party, of which a put or delete takes one of `spare`. The party may be a caller, or that of
+    /// the updater, which starts turns alone. `InFlight` comes exactly where the party's last call isn't answered, and
+    /// then nothing changes.
     pub fn start(&mut self, party: u64, call: CoreCall) -> Result<(), InFlight>
+        requires may { MayStart self.old.layout party call }
+        requires spare { most_writes call ≤ self.old.spare }
+        ensures in_flight { IsErr result ↔ IsBusy self.old party }
+        ensures err { OnErr result (self.new ≡ self.old) }
+        ensures started { OnOk result (MayBegin call → Starts self.old party call self.new) }
+        ensures turns { OnOk result (IfTurn call
+            (λ stamp release. StartsTurn self.old party stamp release self.new)) }
+        ensures flies { OnOk result (IsBusy self.new party) }
+        ensures spare { OnOk result (self.new.spare + most_writes call ≡ self.old.spare) }
+        ensures before { IsIndex self.old }
+        ensures index { IsIndex self.new }
+    {
+        match call {
+            CoreCall::Turn { stamp, release } => self.start_turn(party, stamp, release),
+            _ => self.start_name(party, call),
+        }
+    }
+
+    /// Takes one step of the party's call, which is in flight: one action on one word, counted in `steps` as one event.
+    /// Returns whether the call goes on or is answered. A call that took place is answered with the number of its name
+    /// in the map at its place, which lies in the call's time, and its write stands in the history there. A part of a
+    /// scan that took place lists the names that the map at its place has up to where its node ends. A turn of the
+    /// updater leaves the map, the history and the list. Any other call is told its cause, and a put or delete gives the
+    /// room for its write back to `spare`.
+    pub fn step<L: Ledger>(&mut self, party: u64, steps: &mut Steps<L>) -> Stepped
+        requires flies { IsBusy self.old party }
+        ensures stepped { IsInFlight self.old party → StepsTo self.old party self.new result }
+        ensures turned { (IsInFlight self.old party → ⊥) → TurnStepsTo self.old party self.new result }
+        ensures flies { result ≡ Going → IsBusy self.new party }
+        ensures spare { KeepsRoom self.old self.new }
+        ensures tick { steps.new ≡ steps.old + 1 }
+        ensures index { IsIndex self.new }
+    {
+        if self.flies(party) {
+            return self.step_name(party, steps);
+        }
+        match self.step_turn(party, steps) {
+            None => Stepped::Going,
+            Some(turned) => Stepped::Answered(CoreReply::Turn(turned)),
+        }
+    }
+
+    /// Whether the party has a call on a name in flight.
+    fn flies(&self, party: u64) -> bool
+        requires { IsBusy self.now party }
+        ensures { IsTrue result ↔ IsInFlight self.now party }
+    {
+        self.states[party as usize].machine.flies()
+    }
+
+    /// Begins a call of a caller on a name, as `start` does.
+    pub(crate) fn start_name(&mut self, party: u64, call: CoreCall) -> Result<(), InFlight>
         requires party { party < self.old.layout.callers }
         requires begins { MayBegin call }
         requires spare { most_writes call ≤ self.old.spare }
@@ -178,12 +233,8 @@ impl Core {
         Ok(())
     }
 
-    /// Takes one step of the party's call, which is in flight: one action on one word, counted in `steps` as one event.
-    /// Returns whether the call goes on or is answered. A call that took place is answered with the number of its name
-    /// in the map at its place, which lies in the call's time, and its write stands in the history there. A part of a
-    /// scan that took place lists the names that the map at its place has up to where its node ends. Any other is told
-    /// its cause, and a put or delete gives the room for its write back to `spare`.
-    pub fn step<L: Ledger>(&mut self, party: u64, steps: &mut Steps<L>) -> Stepped
+    /// Takes one step of the party's call on a name, as `step` does.
+    fn step_name<L: Ledger>(&mut self, party: u64, steps: &mut Steps<L>) -> Stepped
         requires flies { IsInFlight self.old party }
         ensures stepped { StepsTo self.old party self.new result }
         ensures spare { KeepsRoom self.old self.new }
@@ -199,8 +250,8 @@ impl Core {
         }
     }
 
-    /// Takes one step of the party's call, which is in flight, and returns its answer, if it is answered. What a part
-    /// lists its machine tells before this.
+    /// Takes one step of the party's call on a name, which is in flight, and returns its answer, if it is answered. What
+    /// a part lists its machine tells before this.
     pub(crate) fn turn<L: Ledger>(
         &mut self,
         party: u64,

@@ -1,14 +1,15 @@
 //! Calls that are made with no other in flight.
 //!
 //! A call on one name answers little, and what a part of a scan lists takes some 2 KB. So each has a function of its own,
-//! and a call on a name clears no such room.
+//! as a turn of the updater has, and a call on a name clears no such room.
 
 ghost use Rattle.std.specs.Prelude.{◌≡◌, ◌+◌, ◌<◌, ◌≤◌, length, None};
 ghost use Rattle.index_core.specs.declared.party.CoreCall.TheVariants as CoreCall;
-ghost use Rattle.index_core.specs.CoreCalls.{MayBegin, count_of, most_writes};
+ghost use Rattle.index_core.specs.CoreCalls.{IfTurn, MayBegin, MayStart, count_of, most_writes};
 ghost use Rattle.index_core.specs.Indexes.{IsIndex};
 ghost use Rattle.index_core.specs.Lone.{IsQuiet, LoseAtMost, RunsAlone, TakesEachLock, TakesLocks, TriesAlone};
 ghost use Rattle.index_core.specs.Lone.{TriesBehindTurn, locks_left, part_whole, whole_of};
+ghost use Rattle.index_core.specs.Turns.{IsTurnedAnd, TurnsAlone};
 
 use crate::index::Core;
 use crate::party::{CoreCall, Whole, lacks_line, lacks_node, needs_split};
@@ -23,7 +24,8 @@ use std::sync::ledger::Ledger;
 const STAMP: u64 = 1;
 
 impl Core {
-    /// A whole call of a caller, with no other in flight. Its answer is told by its cause: the locks of the node are
+    /// A whole call of a party, with no other in flight. A turn of the updater is answered `Turned`, and leaves what
+    /// `turn_alone` says. Of a caller's call on a name the answer is told by its cause: the locks of the node are
     /// used up, else the clock has reached the limit, else there is no room for a new name, else it takes place. A put
     /// that finds its node full splits it, and is made again. A delete merges the node of its name with the next one
     /// where both together are left with at most half as many names as a node has slots. A part of a scan lists the
@@ -42,20 +44,24 @@ impl Core {
         call: CoreCall,
         steps: &mut Steps<L>,
     ) -> Whole
-        requires caller { caller < self.old.layout.callers }
-        requires begins { MayBegin call }
+        requires may { MayStart self.old.layout caller call }
         requires spare { most_writes call ≤ self.old.spare }
         requires quiet { IsQuiet self.old }
-        ensures runs { RunsAlone self.old caller call self.new result }
+        ensures runs { MayBegin call → RunsAlone self.old caller call self.new result }
+        ensures turns { IfTurn call (λ stamp release.
+            IsTurnedAnd result (λ turned. TurnsAlone self.old stamp release turned self.new)) }
         ensures quiet { IsQuiet self.new }
         ensures spare { self.old.spare + length self.old.history ≤ self.new.spare + length self.new.history }
-        ensures each_lock { TakesEachLock caller call self.old self.new }
-        ensures locks { TakesLocks caller call self.old self.new }
+        ensures each_lock { MayBegin call → TakesEachLock caller call self.old self.new }
+        ensures locks { MayBegin call → TakesLocks caller call self.old self.new }
         ensures index { IsIndex self.new }
     {
         match call {
             CoreCall::Part { low, count } => {
                 Whole::of_part(self.part_alone(caller, low, count, steps))
+            }
+            CoreCall::Turn { stamp, release } => {
+                Whole::Turned(self.turn_alone(caller, stamp, release, steps))
             }
             _ => Whole::of(self.name_alone(caller, call, steps)),
         }
@@ -115,7 +121,7 @@ impl Core {
         ensures locks { locks_left self.old ≤ locks_left self.new + 1 }
         ensures index { IsIndex self.new }
     {
-        let Ok(()) = self.start(caller, CoreCall::Part { low, count }) else {
+        let Ok(()) = self.start_name(caller, CoreCall::Part { low, count }) else {
             unreachable!()
         };
         'steps: loop {
@@ -170,7 +176,7 @@ impl Core {
         ensures locks { locks_left self.old ≤ locks_left self.new + 1 }
         ensures index { IsIndex self.new }
     {
-        let Ok(()) = self.start(caller, *call) else {
+        let Ok(()) = self.start_name(caller, *call) else {
             unreachable!()
         };
         'steps: loop {

@@ -8,7 +8,7 @@ use cat_key::Name;
 use node_ops::{Part, PartWords};
 use pm_words::{Again, NoMemory};
 use std::alloc::Global;
-use updater::{MakeTurn, TurnReply};
+use updater::{MakeTurn, TurnReply, Turned};
 
 /// What a party calls.
 #[derive(Clone, Copy)]
@@ -22,6 +22,8 @@ pub enum CoreCall {
     Part { low: Name, count: u64 },
     /// Tells whether the node's version word is still this one. No such call begins yet.
     Recheck { node: u64, version: u64 },
+    /// A turn of the updater, which gives merged nodes the stamp, and makes those FREE whose stamp is at most `release`.
+    Turn { stamp: u64, release: u64 },
 }
 
 /// A party and its call in flight, if it has one.
@@ -47,6 +49,8 @@ pub enum CoreReply {
     Placed(Once<Placed>),
     /// The answer of one try of a part of a range scan.
     Part(Once<PartWords>),
+    /// The answer of a turn of the updater.
+    Turn(TurnReply),
 }
 
 /// What one step comes to.
@@ -62,6 +66,8 @@ pub enum Whole {
     Placed(Placed),
     /// What a part of a range scan lists.
     Part(PartWords),
+    /// What a turn of the updater has done: alone it is never held back.
+    Turned(Turned),
     /// A put found no room: the map lacks the name, its node has as many names as slots, and no FREE node can be locked.
     Full,
     /// The clock had reached the call's limit.

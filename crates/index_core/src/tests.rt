@@ -1,6 +1,7 @@
 ghost use Rattle.std.specs.Prelude.{◌≡◌, ◌<◌, ◌≤◌, IsTrue};
 ghost use Rattle.index_core.specs.CoreCalls.{MayBegin, most_writes};
-ghost use Rattle.index_core.specs.Indexes.{IsInFlight};
+ghost use Rattle.index_core.specs.Indexes.{IsBusy};
+ghost use Rattle.index_core.specs.Lone.{IsQuiet};
 
 use super::*;
 use crate::party::{lacks_line, lacks_node, needs_split};
@@ -24,6 +25,7 @@ mod merges;
 mod model;
 mod parts;
 mod splits;
+mod turn_crashes;
 mod turns;
 
 /// No call has as many steps.
@@ -67,11 +69,11 @@ fn begin(core: &mut Core, party: u64, kind: u64) -> Result<(), Fail> {
     begin_call(core, party, call_of(kind, name, 7))
 }
 
-/// Whether the party is a caller whose call is in flight.
+/// Whether the party's call is in flight.
 fn has_call(core: &Core, party: u64) -> bool
-    ensures { IsTrue result → IsInFlight core.now party }
+    ensures { IsTrue result → IsBusy core.now party }
 {
-    party < core.layout().callers() && core.states[party as usize].machine.flies()
+    party <= core.layout().callers() && core.states[party as usize].is_busy()
 }
 
 /// At most so many steps of a party's call, and its reply if it is answered.
@@ -154,6 +156,20 @@ fn whole<L: Ledger>(
         Once::Again(Again::NoFree) => Ok(None),
         _ => Err("a call alone takes place or finds no room")?,
     }
+}
+
+/// A whole call of party 0, with no other in flight, as the core makes it.
+fn alone<L: Ledger>(core: &mut Core, call: CoreCall, steps: &mut Steps<L>) -> Result<Whole, Fail>
+    requires begins { MayBegin call }
+    requires writes { most_writes call ≤ 1 }
+    requires quiet { IsQuiet core.old }
+    ensures { IsQuiet core.new }
+{
+    core.reserve(1)?;
+    if core.layout().callers() == 0 {
+        return Err("no caller")?;
+    }
+    Ok(core.run_alone(0, call, steps))
 }
 
 /// A part of party 0 that lists so many names from this one on at most, with no other call in flight.
@@ -320,8 +336,8 @@ fn put_alone<L: Ledger>(alloc: Global, steps: &mut Steps<L>) -> Result<Option<Pl
     }
 }
 
-/// Whether a get that the caller starts so many steps into its put is refused and leaves no trace: the history stays as
-/// long, and the put is answered as where it is alone.
+/// Whether a get and a turn that the caller starts so many steps into its put are refused and leave no trace: the history
+/// stays as long, and the put is answered as where it is alone.
 fn is_refused_without_trace<L: Ledger>(
     alloc: Global,
     before: u64,
@@ -332,14 +348,19 @@ fn is_refused_without_trace<L: Ledger>(
     begin(&mut core, 0, 0)?;
     let early = run(&mut core, 0, before, steps)?;
     let writes = core.history().len();
-    let refused = core.start(0, CoreCall::Get { name }) == Err(InFlight);
+    let turn = CoreCall::Turn {
+        stamp: 1,
+        release: 1,
+    };
+    let refused = core.start(0, CoreCall::Get { name }) == Err(InFlight)
+        && core.start(0, turn) == Err(InFlight);
     let kept = core.history().len() == writes;
     let answer = placed(run(&mut core, 0, MANY, steps)?);
     let alone = put_alone(alloc, steps)?;
     Ok(early.is_none() && refused && kept && alone.is_some() && answer == alone)
 }
 
-/// How many steps of a put come before the first at which a get of the same caller leaves a trace.
+/// How many steps of a put come before the first at which another call of the same caller leaves a trace.
 fn refused_starts<L: Ledger>(alloc: Global, blank: Blank) -> Result<u64, Fail>
     requires name { blank.name ≡ L.name }
     requires parts { (blank.parts ≡ L.parts) × (0 < L.parts) }

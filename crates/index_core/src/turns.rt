@@ -12,10 +12,13 @@ use std::sync::ledger::Ledger;
 use updater::{MakeTurn, TurnReply, Turned};
 
 impl Core {
-    /// Begins a turn of the updater by the party, which gives merged nodes this stamp, and makes those FREE whose stamp is
-    /// at most `release`. `InFlight` comes exactly where the party's last call or turn isn't answered, and then nothing
-    /// changes.
-    pub fn start_turn(&mut self, party: u64, stamp: u64, release: u64) -> Result<(), InFlight>
+    /// Begins a turn of the updater by the party, as `Core::start` does.
+    pub(crate) fn start_turn(
+        &mut self,
+        party: u64,
+        stamp: u64,
+        release: u64,
+    ) -> Result<(), InFlight>
         requires party { party ≤ self.old.layout.callers }
         requires stamp { 1 ≤ stamp }
         ensures in_flight { IsErr result ↔ IsBusy self.old party }
@@ -63,9 +66,12 @@ impl Core {
         }
     }
 
-    /// Takes one step of the party's turn of the updater, one action on one word, counted in `steps` as one event. Returns
-    /// the turn's answer, if that ends it. The map, the history and the list stay.
-    pub fn step_turn<L: Ledger>(&mut self, party: u64, steps: &mut Steps<L>) -> Option<TurnReply>
+    /// Takes one step of the party's turn of the updater, as `Core::step` does. Returns its answer, if that ends it.
+    pub(crate) fn step_turn<L: Ledger>(
+        &mut self,
+        party: u64,
+        steps: &mut Steps<L>,
+    ) -> Option<TurnReply>
         requires turns { IsTurning self.old party }
         ensures stepped { TurnSteps self.old party self.new result }
         ensures tick { steps.new ≡ steps.old + 1 }

@@ -96,6 +96,7 @@ first_limit v (call.Get name) = refl
 first_limit v (call.Del name limit) = refl
 first_limit v (call.Part low count) = refl
 first_limit v (call.Recheck node version) = refl
+first_limit v (call.Turn stamp release) = refl
 
 first_op : (v : Member) (c : CoreCall) → IsOf (op_of c) (machine_in v c) → IsOf (op_of c) (machine_in v c)
 first_op v c of = of
@@ -106,6 +107,7 @@ first_unplaced v (call.Get name) = refl
 first_unplaced v (call.Del name limit) = refl
 first_unplaced v (call.Part low count) = refl
 first_unplaced v (call.Recheck node version) = refl
+first_unplaced v (call.Turn stamp release) = refl
 
 -- a call that begins
 pub runs_first : (c : CoreCall) (n : ℕ) (old : Member) (since : ℕ) → length old.seen ≤ since → IsRunning (machine_in old c) → IsOf (op_of c) (machine_in old c) → Runs c n old (Go (machine_in old c)) (calling old c n since)

@@ -263,7 +263,8 @@ fn change_of(call: &CoreCall) -> Option<Change>
     match *call {
         CoreCall::Put { name, value, .. } => Some(Change::Put { name, value }),
         CoreCall::Del { name, .. } => Some(Change::Del { name }),
-        CoreCall::Get { .. } | CoreCall::Part { .. } | CoreCall::Recheck { .. } => None,
+        CoreCall::Get { .. } | CoreCall::Part { .. } => None,
+        CoreCall::Recheck { .. } | CoreCall::Turn { .. } => None,
     }
 }
 

@@ -147,7 +147,7 @@ fn unplaced(cuts: &Cuts, party: u64) -> Option<Change> {
 }
 
 /// Makes of the plain map what the writes make that were cut off without a place and are found in the image.
-pub(super) fn add_found(map: &mut PlainMap, image: &Image, cuts: &Cuts, parties: u64) {
+fn add_found(map: &mut PlainMap, image: &Image, cuts: &Cuts, parties: u64) {
     for party in 0..parties {
         if let Some(change) = unplaced(cuts, party) {
             if is_found(image, &change) {
@@ -155,6 +155,15 @@ pub(super) fn add_found(map: &mut PlainMap, image: &Image, cuts: &Cuts, parties:
             }
         }
     }
+}
+
+/// Whether a crash now leaves a sound image, with the map of the history and of those writes in flight that it shows.
+pub(super) fn crashes_soundly(alloc: Global, core: Core) -> Result<bool, Fail> {
+    let callers = core.layout().callers();
+    let mut map = map_of(alloc, &core)?;
+    let Crashed { image, cuts } = core.crash();
+    add_found(&mut map, &image, &cuts, callers);
+    is_kept(&image, &mut map)
 }
 
 /// Crashes a core in which a write of this change is in flight or answered.

@@ -2,15 +2,13 @@
 
 ghost use Rattle.std.specs.Prelude.{◌≡◌, ◌<◌};
 
-use super::crashes::{
-    NAMES as LETTERS, add_found, evict, is_kept, map_of, name_of as letter_of, with_names,
-};
+use super::crashes::{NAMES as LETTERS, crashes_soundly, evict, name_of as letter_of, with_names};
 use super::merges::{DEL, GET, LIVE, PUT, nodes_with};
 use super::model::{Answer, Membership, Model, NAMES, count_of, name_of};
 use super::splits::number_at;
-use super::turns::{begin_turn, has_turn, run_turn};
-use super::{begin_call, call_of, part_alone, run, whole};
-use crate::{Core, Crashed};
+use super::turns::{begin_turn, run_turn};
+use super::{begin_call, call_of, has_call, part_alone, run, whole};
+use crate::Core;
 use call_stages::{Once, Placed};
 use node_ops::PartWords;
 use pm_words::{Layout, Steps};
@@ -229,7 +227,7 @@ fn call_drawn<L: Ledger>(
 
 /// A step of the updater's turn, or of another one that it begins.
 fn turn_drawn<L: Ledger>(core: &mut Core, steps: &mut Steps<L>) -> Result<(), Fail> {
-    if !has_turn(core, CALLERS) {
+    if !has_call(core, CALLERS) {
         begin_turn(core, CALLERS, 1)?;
     }
     run_turn(core, CALLERS, 1, steps)?;
@@ -257,14 +255,6 @@ fn run_drawn<L: Ledger>(
         evict_drawn(core, draws);
     }
     Ok(legal)
-}
-
-/// Whether a crash now leaves a sound image, with the map of the history and of those writes in flight that it shows.
-fn crashes_soundly(alloc: Global, core: Core) -> Result<bool, Fail> {
-    let mut map = map_of(alloc, &core)?;
-    let Crashed { image, cuts } = core.crash();
-    add_found(&mut map, &image, &cuts, CALLERS);
-    is_kept(&image, &mut map)
 }
 
 /// The first of a hundred drawn schedules, on five nodes of two or more names with three free ones, that isn't

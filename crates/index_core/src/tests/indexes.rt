@@ -3,7 +3,7 @@
 ghost use Rattle.std.specs.Prelude.{◌≡◌, ◌<◌, ◌≤◌, IfOk};
 ghost use Rattle.index_core.specs.CoreCalls.{MayBegin, most_writes};
 
-use super::{LIMIT, MANY, begin, run};
+use super::{LIMIT, MANY, alone, begin, run};
 use crate::{Core, CoreCall, Whole};
 use call_stages::Once;
 use cat_key::Name;
@@ -76,10 +76,9 @@ fn past_a_full_node<L: Ledger>(alloc: Global, blank: Blank) -> Result<[u64; 2], 
     let (book, share) = blank.open::<L>();
     let mut steps = Steps::new(book, share);
     let mut core = Core::fresh(alloc, Layout::new(1, 4, 1)?)?;
-    core.reserve(6)?;
     let mut full = 0;
     for number in 0..6 {
-        if let Whole::Full = core.run_alone(0, put_of(number)?, &mut steps) {
+        if let Whole::Full = alone(&mut core, put_of(number)?, &mut steps)? {
             full = number;
         }
     }

@@ -5,7 +5,7 @@ ghost use Rattle.std.specs.Prelude.{◌≡◌, ◌<◌};
 use super::crashes::{NAMES, evict, is_kept, map_of, name_of, with_names};
 use super::merges::{DEL, GET, PUT};
 use super::splits::number_at;
-use super::{MANY, begin_call, call_of, part_alone, run, run_to_reply, whole};
+use super::{MANY, alone, begin_call, call_of, part_alone, run, run_to_reply, whole};
 use crate::{Core, CoreCall, CoreReply, Crashed, CutCall, Cuts, Whole};
 use call_stages::Once;
 use cat_key::Name;
@@ -190,12 +190,15 @@ fn part_of_first_node<L: Ledger>(alloc: Global, blank: Blank) -> Result<PartWord
     let (book, share) = blank.open::<L>();
     let mut steps = Steps::new(book, share);
     let mut core = Core::fresh(alloc, Layout::new(8, 4, 1)?)?;
-    core.reserve(5)?;
     for number in 0..5 {
-        core.run_alone(0, call_of(PUT, name_of(number)?, number), &mut steps);
+        alone(
+            &mut core,
+            call_of(PUT, name_of(number)?, number),
+            &mut steps,
+        )?;
     }
     let low = name_of(0)?;
-    match core.run_alone(0, CoreCall::Part { low, count: 10 }, &mut steps) {
+    match alone(&mut core, CoreCall::Part { low, count: 10 }, &mut steps)? {
         Whole::Part(words) => Ok(words),
         _ => Err("a part alone takes place")?,
     }

@@ -5,7 +5,7 @@ ghost use Rattle.index_core.specs.CoreCalls.{MayBegin, most_writes};
 ghost use Rattle.index_core.specs.Lone.{IsQuiet};
 
 use super::crashes::{NAMES, apply, is_kept, map_of, name_of, with_names};
-use super::{LIMIT, MANY, begin_call, call_of, placed, run};
+use super::{LIMIT, MANY, alone, begin_call, call_of, placed, run};
 use crate::{Core, CoreCall, Crashed, Whole};
 use call_stages::{Once, Placed};
 use cat_key::Name;
@@ -41,10 +41,9 @@ fn on_two_nodes<L: Ledger>(alloc: Global, blank: Blank) -> Result<[Option<[u64; 
     let (book, share) = blank.open::<L>();
     let mut steps = Steps::new(book, share);
     let mut core = Core::fresh(alloc, Layout::new(2, 4, 1)?)?;
-    core.reserve(8)?;
     let mut found = [None; 8];
     for number in 0..8 {
-        if let Whole::Placed(placed) = core.run_alone(0, put_of(number)?, &mut steps) {
+        if let Whole::Placed(placed) = alone(&mut core, put_of(number)?, &mut steps)? {
             found[number as usize] = Some([placed.place, placed.hops]);
         }
     }

@@ -1,8 +1,7 @@
 //! Turns of the updater, alone, beside a call and beside each other.
 
-ghost use Rattle.std.specs.Prelude.{◌≡◌, ◌<◌, ◌≤◌, IfOk, IsTrue};
+ghost use Rattle.std.specs.Prelude.{◌≡◌, ◌<◌, ◌≤◌, IfOk};
 ghost use Rattle.index_core.specs.CoreCalls.{MayBegin, most_writes};
-ghost use Rattle.index_core.specs.Indexes.{IsTurning};
 ghost use Rattle.index_core.specs.Lone.{IsQuiet};
 
 use super::crashes::{is_kept, map_of, name_of, with_names};
@@ -21,22 +20,16 @@ use std::test::Fail;
 use updater::{TurnReply, Turned};
 
 /// No turn here has as many steps.
-const TURN_STEPS: u64 = 100_000;
+pub(super) const TURN_STEPS: u64 = 100_000;
 
 /// Begins a turn of a party that is idle, which gives merged nodes the stamp 1.
 pub(super) fn begin_turn(core: &mut Core, party: u64, release: u64) -> Result<(), Fail> {
     if party > core.layout().callers() {
         return Err("no such party")?;
     }
-    core.start_turn(party, 1, release).ok().ok_or("in flight")?;
+    let turn = CoreCall::Turn { stamp: 1, release };
+    core.start(party, turn).ok().ok_or("in flight")?;
     Ok(())
-}
-
-/// Whether the party's turn is in flight.
-pub(super) fn has_turn(core: &Core, party: u64) -> bool
-    ensures { IsTrue result → IsTurning core.now party }
-{
-    party <= core.layout().callers() && core.states[party as usize].turn.is_some()
 }
 
 /// At most so many steps of a party's turn, and its reply if it is answered.
@@ -46,15 +39,10 @@ pub(super) fn run_turn<L: Ledger>(
     most: u64,
     steps: &mut Steps<L>,
 ) -> Result<Option<TurnReply>, Fail> {
-    for _ in 0..most {
-        if !has_turn(core, party) {
-            return Ok(None);
-        }
-        if let Some(reply) = core.step_turn(party, steps) {
-            return Ok(Some(reply));
-        }
+    match run_to_reply(core, party, most, steps)? {
+        Some(CoreReply::Turn(reply)) => Ok(Some(reply)),
+        _ => Ok(None),
     }
-    Ok(None)
 }
 
 /// A whole turn of the party, beside whatever is in flight. Merged nodes become FREE where it releases the stamp 1.
@@ -112,7 +100,12 @@ fn is_made<L: Ledger>(core: &mut Core, line: Line, steps: &mut Steps<L>) -> Resu
 {
     match line {
         Line::Write(kind, letter) => is_placed(core, kind, letter, steps),
-        Line::Turn { release, turned } => Ok(core.turn_alone(1, 1, release, steps) == turned),
+        Line::Turn { release, turned } => {
+            match core.run_alone(1, CoreCall::Turn { stamp: 1, release }, steps) {
+                Whole::Turned(found) => Ok(found == turned),
+                _ => Err("a turn alone is answered as one")?,
+            }
+        }
     }
 }
 
@@ -212,7 +205,7 @@ fn call(kind: u64, number: u64) -> Result<CoreCall, Fail>
 }
 
 /// A core with READY lines of three splits and of a merge: a b, e, g h i j. One node is GONE, and one FREE.
-fn busy_core<L: Ledger>(alloc: Global, steps: &mut Steps<L>) -> Result<Core, Fail> {
+pub(super) fn busy_core<L: Ledger>(alloc: Global, steps: &mut Steps<L>) -> Result<Core, Fail> {
     let mut core = with_names(alloc, Layout::new(5, 4, 2)?, 10, None, steps)?;
     // the node of c and d then has none, and takes e
     for number in [3, 5, 2] {
@@ -239,7 +232,7 @@ fn is_answered(alloc: Global, core: &Core, case: Case, reply: &CoreReply) -> Res
         CoreReply::Part(Once::Done(words)) => {
             Ok(case.answer.is_none() && words.len == 2 && is_listed(alloc, core, 0, 3, words)?)
         }
-        CoreReply::Part(_) => Ok(false),
+        CoreReply::Part(_) | CoreReply::Turn(_) => Ok(false),
     }
 }
 

@@ -1,31 +1,22 @@
-use Rattle.std.proofs.Common.{◌≡◌, ℕ, true, refl, sym, ap, ◌∙◌, arith}
-use Rattle.std.specs.Prelude.{Option, Some, None, is_some}
-use mathlib.Core.Option.{some}
+use Rattle.std.proofs.Common.{◌≡◌, true, sym, ap, ◌∙◌, arith}
 use lib.ListN.{get_elem?}
 use Rattle.pm_words.specs.declared.layout.Layout.{Layout}
-use Rattle.node_ops.specs.declared.running.Running.{Running}
-use Rattle.index_core.specs.declared.party.PartyState.{PartyState}
+use Rattle.index_core.specs.PartyStates.{is_busy}
 use Rattle.index_core.specs.Cores.{index_with}
-use Rattle.index_core.specs.Indexes.{Index, IsInFlight}
+use Rattle.index_core.specs.Indexes.{Index}
+use Rattle.index_core.proofs.Busy.{busy_told}
 use Rattle.index_core.proofs.Lists.{there_is, read_is}
 use Rattle.index_core.proofs.tests.has_call.Goals as goal
 
-flying : (s : Index) (i : ℕ) (e : PartyState) → get_elem? s.states i ≡ some e → is_some e.machine ≡ true → IsInFlight s i
-flying s i e there = by_machine e.machine refl
-  where
-    by_machine : (o : Option Running) → e.machine ≡ o → is_some o ≡ true → IsInFlight s i
-    by_machine (Some machine) is told = record { state = e; machine = machine; there = there; flies = is }
-    by_machine None is told = absurd (cc)
-
 pub returns-then-party-callers : goal.returns-then-party-callers
-returns-then-party-callers c = λ flew.
+returns-then-party-callers c = λ told_so.
     let s = index_with c.core.inside 0 in
     let i = c.args.party in
     let callers = ap (λ (v : Index). v.layout.callers) c.core.view_is in
     let told = ap (λ (l : Layout). l.callers) c.layout.ensures.layout in
     let read_callers = c.callers.ensures in
-    let lt = c.if-party-callers.true in
-    let here = there_is s.states i (omega (arith, c.core.invariant.0.parties, callers, told, read_callers, lt)) in
+    let le = c.if-party-callers.true in
+    let here = there_is s.states i (omega (arith, c.core.invariant.0.parties, callers, told, read_callers, le)) in
     let read = read_is s.states i here.0 c.index.result.now here.1 c.index.ensures in
-    let flies : is_some here.0.machine ≡ true = ap (λ (e : PartyState). is_some e.machine) (sym read) ∙ sym c.flies.ensures ∙ flew in
-    flying c.args.core.now i here.0 (sym (ap (λ (v : Index). get_elem? v.states i) c.core.view_is) ∙ here.1) flies
+    busy_told c.args.core.now i here.0 (sym (ap (λ (v : Index). get_elem? v.states i) c.core.view_is) ∙ here.1)
+    (ap is_busy (sym read) ∙ sym c.is_busy.ensures ∙ told_so)

@@ -1,10 +1,10 @@
 use Rattle.std.proofs.Common.{◌≡◌, ◌<◌, List, length, get_or, sym, ap, ◌∙◌, subst}
-use Rattle.std.specs.Prelude.{Option, Some, IfSome, slice_get}
+use Rattle.std.specs.Prelude.{Option, Some, None, IfSome, slice_get}
 use Rattle.std.proofs.lemmas.Bool.{ltb-true}
 use Rattle.node_ops.specs.declared.running.Running.{Running}
 use Rattle.node_ops.specs.RunningSteps.{IsRunning}
 use Rattle.index_core.specs.declared.party.PartyState.{PartyState}
-use Rattle.index_core.specs.Crashes.{cut_call, cut_of}
+use Rattle.index_core.specs.Crashes.{cut_call, cut_of, cut_turn}
 use Rattle.index_core.proofs.Lists.{there_at, got_there}
 use Rattle.index_core.proofs.crash.Cuts.get.Goals as goal
 
@@ -27,7 +27,7 @@ returns c =
     (subst (λ (l : List PartyState). c.args.party < length l) c.deref.ensures.value (ltb-true c.args.party (length c.deref.result.now) (sym lookup.0)))
     (subst (λ (l : List PartyState). state ≡ get_or l c.args.party state) c.deref.ensures.value lookup.1) in
     let machine : Running = c.running-machine.result.now in
-    let made : Some (record { party = state.caller; call = c.of.result; place = c.place.result }) ≡ cut_call state.caller (Some machine) =
+    let made : Some (record { party = state.caller; call = c.of.result; place = c.place.result }) ≡ cut_call state.caller (Some machine) state.turn =
     (λ k. Some (record { party = state.caller; call = c.of.ensures k; place = c.place.ensures k })) in
-    made ∙ ap (cut_call state.caller) (sym c.running-machine.ensures) ∙ ap cut_of (sym (got_there states c.args.party state there))
+    made ∙ ap (λ (o : Option Running). cut_call state.caller o state.turn) (sym c.running-machine.ensures) ∙ ap cut_of (sym (got_there states c.args.party state there))
     ∙ ap (λ (l : List PartyState). cut_of (slice_get l c.args.party)) c.self.view_is

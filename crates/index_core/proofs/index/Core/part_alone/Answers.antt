@@ -10,7 +10,7 @@ use Rattle.index_core.proofs.index.Core.part_alone.Goals.{In_default-turn}
 
 pub steps-init : goal.steps-init
 steps-init g c =
-    lone_start c.args.self.now c.start.new.self c.args.caller (call.Part c.args.low c.args.count) c.start.ensures.before c.requires.quiet c.in-Ok.ensures.started c.in-Ok.ensures.spare c.start.ensures.index
+    lone_start c.args.self.now c.start_name.new.self c.args.caller (call.Part c.args.low c.args.count) c.start_name.ensures.before c.requires.quiet c.in-Ok.ensures.started c.in-Ok.ensures.spare c.start_name.ensures.index
 
 pub has_listed-requires : goal.has_listed-requires
 has_listed-requires g c = lone_flies _ _ _ _ c.steps.invariant

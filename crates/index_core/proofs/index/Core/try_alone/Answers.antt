@@ -9,7 +9,7 @@ unreachable-requires g c =
 
 pub steps-init : goal.steps-init
 steps-init g c =
-    lone_start c.args.self.now c.start.new.self c.args.caller c.args.call.now c.start.ensures.before c.requires.quiet c.in-Ok.ensures.started c.in-Ok.ensures.spare c.start.ensures.index
+    lone_start c.args.self.now c.start_name.new.self c.args.caller c.args.call.now c.start_name.ensures.before c.requires.quiet c.in-Ok.ensures.started c.in-Ok.ensures.spare c.start_name.ensures.index
 
 pub turn-requires : goal.turn-requires
 turn-requires g c = record { flies = lone_flies _ _ _ _ c.steps.invariant }
