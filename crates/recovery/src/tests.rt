@@ -5,6 +5,7 @@ ghost use Rattle.index_core.specs.CoreCalls.{MayBegin};
 ghost use Rattle.index_core.specs.Lone.{IsQuiet};
 
 mod damage;
+mod turns;
 
 use crate::{OpenFault, recover};
 use cat_key::Name;
