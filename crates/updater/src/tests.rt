@@ -333,7 +333,19 @@ fn carries_a_merge(rt: &impl Abort, words: Vec<u64>, release: u64) -> (Row, Turn
 
 #[test]
 fn stamps_a_merged_node(rt: HostRuntime) -> Result<(), Fail> {
-    for (release, stores, freed) in [(4, 4, 0), (5, 6, 1)] {
+    // The fields; the floor, which finds two of eight leaves used; the walk, which loads the version, the status and the
+    // node before of the merged node, and then of node 0 its version, its status, its anchor and that there is no next
+    // node; the version again; the unset, which reads two leaves and stores and drains one; the stamp, and EMPTY.
+    let floor = 2 * 4 + 6;
+    let walk = 3 + 6;
+    let unset = 2 * 4 + 1 + 16;
+    let carried = 6 + floor + walk + 1 + unset + 1 + 1;
+    // Of each line the state; of each node the status, and of the merged one the stamp; the statuses once more, and the
+    // lock.
+    let kept = 8 + carried + 4 + 1 + 4 + 1;
+    // Where the release allows the stamp, the version of the node, stamp 0 and FREE.
+    let frees = kept + 1 + 2;
+    for (release, stores, freed, events) in [(4, 4, 0, kept), (5, 6, 1, frees)] {
         let (row, turned) = carries_a_merge(&rt, vec![in rt.alloc(); 0u64; ROW]?, release);
         let applied = Turned {
             applied: 1,
@@ -342,6 +354,7 @@ fn stamps_a_merged_node(rt: HostRuntime) -> Result<(), Fail> {
             none_free: false,
         };
         assert_eq!(rt; (turned, row.stores), (applied, stores));
+        assert_eq!(rt; row.events, events);
     }
     Ok(())
 }
