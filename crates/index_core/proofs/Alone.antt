@@ -26,7 +26,7 @@ use Rattle.node_ops.specs.PartSteps.{IsEarly, early_of, words_placed}
 use Rattle.index_law.specs.Facts.{range_of, version_in}
 use Rattle.index_law.specs.Worlds.{World, facts}
 use Rattle.index_law.specs.Laws.{IsAtRest}
-use Rattle.index_law.specs.Anchors.{anchors_of, anchors_in}
+use Rattle.index_law.specs.Anchors.{anchors_of, anchors_in, members_most}
 use Rattle.shapes.specs.Anchors.{merges}
 use Rattle.index_law.proofs.Parties.{at_set, set_here}
 use Rattle.index_law.proofs.Starts.{listed_within}
@@ -46,11 +46,12 @@ use Rattle.index_core.specs.declared.party.Whole.TheVariants as whole
 use Rattle.index_core.specs.CoreCalls.{op_of, limit_of, count_of}
 use Rattle.index_core.specs.PartyStates.{party_of, state_counted}
 use Rattle.index_core.specs.Indexes.{Index, world, map_of_index, IsIndex}
-use Rattle.index_core.specs.Lone.{IsQuiet, FindsNoRoom, HasSameList, SplitsFor, SplitsNothing, MergesFor, MergesNothing, LeavesList, TakesLocks, LoseAtMost, TakesEachLock, names_beside, locks_left, IsWholeAnswer, TriesAlone, RunsAlone, CountsCall, ComesFree, KeepsStamps, IsMadeAgain, NeedsNoTurn, LandsIn, LeavesLog, most_tries, alone_writes, lacks_line, lacks_node, needs_split, node_for, part_whole, whole_of, state_tried, state_done}
+use Rattle.index_core.specs.Lone.{IsQuiet, FindsNoRoom, HasSameList, SplitsFor, SplitsNothing, MergesFor, MergesNothing, LeavesList, TakesLocks, LoseAtMost, TakesEachLock, names_beside, locks_left, IsWholeAnswer, TriesAlone, RunsAlone, CountsCall, ComesFree, KeepsStamps, IsMadeAgain, NeedsNoTurn, LandsIn, LeavesLog, most_tries, alone_writes, lacks_line, lacks_node, needs_split, node_for, part_whole, whole_of, state_tried, state_done, taken_nodes}
 use Rattle.index_core.specs.Weights.{weight_of, added_by, added_if, added_whole}
 use Rattle.index_core.specs.Listings.{IsPartAt}
 use Rattle.lone_turn.specs.CallLogs.{KeepsLines, MakesReady, LeavesLines}
 use Rattle.index_core.proofs.Lists.{set_twice}
+use Rattle.index_core.proofs.Taken.{taken_kept, taken_merged, taken_split}
 use Rattle.index_core.proofs.Tries.{ready_with_parties}
 use Rattle.index_core.proofs.PartsAlone.{whole_part}
 use Rattle.index_core.proofs.Quiet.{rests}
@@ -142,7 +143,7 @@ counted_runs s0 s i c answer tries ran few states are kept = record {
   base = ran.base;
   list = same_list answer ran.list;
   stamps = ran.stamps;
-  log = λ none. let left = ran.log none in record { layer = left.layer; lines = same_lines left.lines };
+  log = λ none. let left = ran.log none in record { layer = left.layer; lines = same_lines left.lines; taken = same_taken left.taken };
   weighs = ran.weighs;
 }
   where
@@ -153,6 +154,11 @@ counted_runs s0 s i c answer tries ran few states are kept = record {
     same_merge : (c : CoreCall) → MergesFor c s0 s → MergesFor c s0 (record s { states = states })
     same_merge (call.Del name limit) merge = merge
     same_merge c merge = absurd merge
+
+    same_taken : (taken_nodes s ≡ taken_nodes s0) ⊎ (SplitsFor c s0 s × (taken_nodes s ≡ taken_nodes s0 + 1)) →
+        (taken_nodes (record s { states = states }) ≡ taken_nodes s0) ⊎ (SplitsFor c s0 (record s { states = states }) × (taken_nodes (record s { states = states }) ≡ taken_nodes s0 + 1))
+    same_taken (inl kept) = inl kept
+    same_taken (inr cut) = inr (same_split c cut.0, cut.1)
 
     same_lines : (HasSameList s0 s × KeepsLines (world s0) (world s)) ⊎ ((SplitsFor c s0 s ⊎ MergesFor c s0 s) × MakesReady i (world s0) (world s))
         → (HasSameList s0 (record s { states = states }) × KeepsLines (world s0) (world (record s { states = states }))) ⊎ ((SplitsFor c s0 (record s { states = states }) ⊎ MergesFor c s0 (record s { states = states })) × MakesReady i (world s0) (world (record s { states = states })))
@@ -385,6 +391,27 @@ module _ (s0 s : Index) (i : ℕ) (c : CoreCall) (is0 : IsIndex s0) (quiet0 : Is
       shape)
       lines
 
+  merged_taken : (c : CoreCall) → FindsMerge (world s0) (op_of c) → IsMergedSince (name_asked (op_of c)) (world s0) (world s) → taken_nodes s ≡ taken_nodes s0
+  merged_taken (call.Del name limit) finds since = taken_merged s0 s t.layout name finds.0 since
+  merged_taken c finds since = absurd finds
+
+  -- and of the nodes: none is taken
+  taken_of : (r : Once Placed) → needs_split r ≡ false → lacks_line r ≡ false → IsAnswered (world s0) (op_of c) (limit_of c) (world s) (party_of t.state) r → taken_nodes s ≡ taken_nodes s0
+  taken_of (once.Worn node word) one lined (worn, node_is, word_is, same, kept) = taken_kept s0 s t.layout kept
+  taken_of (once.Spent clock) one lined (unworn, late, clock_is, same, kept) = taken_kept s0 s t.layout kept
+  taken_of (once.Again again.NoFree) one lined (unworn, below, full, has, lacks, same, kept, unmoved) = taken_kept s0 s t.layout kept
+  taken_of (once.Again (again.NeedsSplit n)) one lined end = absurd (cc)
+  taken_of (once.Again (again.Locked n word)) one lined end = absurd end
+  taken_of (once.Again (again.Moved n first second)) one lined end = absurd end
+  taken_of (once.Again (again.Hops count)) one lined end = absurd end
+  taken_of (once.Again again.LogFull) one lined end = absurd (cc)
+  taken_of (once.Again (again.Held word)) one lined end = absurd end
+  taken_of (once.Again (again.Epoch first second)) one lined end = absurd end
+  taken_of (once.Done placed) one lined (causes, old, place, hops, write, shape) = ⊎_elim
+      (λ (none : (FindsMerge (world s0) (op_of c) → ⊥) × HasKeptList (world s0) (world s)). taken_kept s0 s t.layout none.1)
+      (λ (since : FindsMerge (world s0) (op_of c) × IsMergedSince (name_asked (op_of c)) (world s0) (world s)). merged_taken c since.0 since.1)
+      shape
+
   pub one_try : needs_split answer ≡ false → lacks_line answer ≡ false → (lacks_node answer ≡ true → IsSwept s0) → IsOnName c answer → Ran s0 s i c answer 1
   one_try one lined swept on_name =
       let end = ends answer refl one lined swept on_name t.answered in
@@ -402,7 +429,7 @@ module _ (s0 s : Index) (i : ℕ) (c : CoreCall) (is0 : IsIndex s0) (quiet0 : Is
         base = t.base;
         list = end.list;
         stamps = λ n here. inl (ap (λ (stamp : ℕ → ℕ). stamp n) t.stamps);
-        log = λ _. record { layer = t.layer; lines = lines_of answer one lined t.answered t.lines };
+        log = λ _. record { layer = t.layer; lines = lines_of answer one lined t.answered t.lines; taken = inl (taken_of answer one lined t.answered) };
         again = inl (omega arith);
         each_lock = each;
         locks = locks;
@@ -439,6 +466,7 @@ record Split (s0 s1 : Index) (c : CoreCall) : Type 0 where
   free : HasFree s0.layout s0.generation s0.words
   history : s1.history ≡ s0.history
   halved : IsHalvedSince (name_asked (op_of c)) (world s0) (world s1)
+  most : members_most (world s1) ≡ members_most (world s0)
 
 -- a call that finds no room is a put, and merges nothing
 put_keeps : (c : CoreCall) (w0 w1 w : World) → FindsFull w0 (op_of c) → LeavesShape w1 (op_of c) w → HasKeptList w1 w
@@ -473,6 +501,7 @@ module _ (s0 s1 s : Index) (i : ℕ) (c : CoreCall) (is0 : IsIndex s0) (quiet0 :
     free = free;
     history = same;
     halved = halved;
+    most = most;
   }
   splits_first (once.Again (again.Locked n word)) again end = absurd end
   splits_first (once.Again (again.Moved n one two)) again end = absurd end
@@ -605,6 +634,20 @@ module _ (s0 s1 s : Index) (i : ℕ) (c : CoreCall) (is0 : IsIndex s0) (quiet0 :
       absurd (omega arith))
       lines
 
+  -- and the list that the first one left
+  list_then : Split s0 s1 c → (r : Once Placed) → IsAnswered (world s1) (op_of c) (limit_of c) (world s) (party_of u.state) r → HasKeptList (world s1) (world s)
+  list_then cut (once.Worn node word) (worn, node_is, word_is, same, kept) = kept
+  list_then cut (once.Spent clock) (unworn, late, clock_is, same, kept) = kept
+  list_then cut (once.Again again.NoFree) (unworn, below, full, has, lacks, same, kept, unmoved) = kept
+  list_then cut (once.Again (again.NeedsSplit n)) (unworn, below, full, has, free, same, halved, most) = absurd (not_full cut full)
+  list_then cut (once.Again (again.Locked n word)) end = absurd end
+  list_then cut (once.Again (again.Moved n one two)) end = absurd end
+  list_then cut (once.Again (again.Hops count)) end = absurd end
+  list_then cut (once.Again again.LogFull) (unworn, below, needs, lacks, same, kept, unmoved) = kept
+  list_then cut (once.Again (again.Held word)) end = absurd end
+  list_then cut (once.Again (again.Epoch one two)) end = absurd end
+  list_then cut (once.Done placed) (causes, old, place, hops, write, shape) = put_keeps c (world s0) (world s1) (world s) cut.full shape
+
   -- both tries take two locks of a node at most
   each_two : LoseAtMost 2 s0 s
   each_two n =
@@ -643,6 +686,7 @@ module _ (s0 s1 s : Index) (i : ℕ) (c : CoreCall) (is0 : IsIndex s0) (quiet0 :
             record {
               layer = u.layer ∙ t.layer;
               lines = inr (inl end.1, record { line = made.line; within = made.within; own = made.own; was_empty = made.was_empty; is = kept_then cut answer u.answered u.lines ∙ made.is });
+              taken = inr (end.1, taken_kept s1 s u.layout (list_then cut answer u.answered) ∙ taken_split s0 s1 t.layout c (split cut) cut.most);
             };
         again = inr (full_again_if s0 i c rest_before cut.full);
         each_lock = each_two;
@@ -701,6 +745,6 @@ module _ (s0 s : Index) (i : ℕ) (low : List ℕ) (count : ℕ) (is0 : IsIndex 
         base = t.base;
         list = kept.0;
         stamps = λ n here. inl (ap (λ (stamp : ℕ → ℕ). stamp n) t.stamps);
-        log = λ _. record { layer = t.layer; lines = inl (kept.0, lines) };
+        log = λ _. record { layer = t.layer; lines = inl (kept.0, lines); taken = inl (taken_kept s0 s t.layout kept) };
         weighs = omega arith;
       }

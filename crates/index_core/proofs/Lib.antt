@@ -24,6 +24,7 @@ pub mod Quiet
 pub mod Stamps
 pub mod Tries
 pub mod PartsAlone
+pub mod Taken
 pub mod Alone
 pub mod Retrying
 pub mod PartTries

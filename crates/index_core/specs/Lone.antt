@@ -20,7 +20,7 @@ use Rattle.node_ops.specs.RunningSteps.{listed_in}
 use Rattle.shapes.specs.Anchors.{next_of, names_at, splits, put_anchors, merges, del_anchors}
 use Rattle.version_lock.specs.Versions.{IsWorn}
 use Rattle.index_law.specs.Facts.{version_in}
-use Rattle.index_law.specs.Anchors.{anchors_in}
+use Rattle.index_law.specs.Anchors.{anchors_in, gone_nodes}
 use Rattle.index_law.specs.Worlds.{facts, written}
 use Rattle.lone_law.specs.Rooms.{target_node}
 use Rattle.lone_law.specs.Merging.{NextIsWorn, TriesMerge}
@@ -230,6 +230,10 @@ LeavesList c whole.Full s new = HasSameList s new
 LeavesList c (whole.Worn node word) s new = Unit {0}
 LeavesList c (whole.Turned turned) s new = ⊥
 
+-- How many nodes are listed or GONE. With nothing in flight the others are FREE.
+abbrev pub taken_nodes : Index → ℕ
+taken_nodes s = length (anchors_in (world s)) + gone_nodes s.layout.nodes (facts (world s))
+
 -- The search layer leads each key where it led. The same nodes are listed, and each log line has the state that it had;
 -- or the call splits or merges by the shape, and one line of its caller, which was EMPTY, is READY, and each other line
 -- has the state that it had.
@@ -237,6 +241,8 @@ pub record LeavesLog (caller : ℕ) (c : CoreCall) (s new : Index) : Type 0 wher
   pub layer : KeepsLayer (world s) (world new)
   pub lines : (HasSameList s new × KeepsLines (world s) (world new)) ⊎
       ((SplitsFor c s new ⊎ MergesFor c s new) × MakesReady caller (world s) (world new))
+  -- as many nodes are listed or GONE, or one more where it splits
+  pub taken : (taken_nodes new ≡ taken_nodes s) ⊎ (SplitsFor c s new × (taken_nodes new ≡ taken_nodes s + 1))
 
 -- How many more times one node can be locked.
 abbrev pub node_locks : Index → ℕ → ℕ

@@ -110,11 +110,14 @@ pub fn opening_law()
     ensures unused { OpeningIsUnused }
 {}
 
-ghost use Rattle.index_core.specs.Logs.{LogIsCounted, QuietHasNoneOpen};
+ghost use Rattle.index_core.specs.Logs.{LogIsCounted, QuietHasNoneOpen, RoomNeedsNoTurn};
 
 /// With nothing in flight each log line is EMPTY or READY. A lone call that needs no turn of the updater leaves one line
-/// more READY where it splits or merges by the shape, and else as many as there were.
+/// more READY, and one of its caller's fewer EMPTY, where it splits or merges by the shape, and else as many as there
+/// were. It needs none where its caller has an EMPTY line, a lock is left of each node, and some node is neither listed
+/// nor GONE.
 pub fn log_law()
     ensures none_open { QuietHasNoneOpen }
     ensures counted { LogIsCounted }
+    ensures room { RoomNeedsNoTurn }
 {}

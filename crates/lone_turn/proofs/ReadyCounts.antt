@@ -1,12 +1,12 @@
--- How many log lines are READY, where one more is.
-use Rattle.std.proofs.Common.{◌≡◌, ◌≢◌, ℕ, zero, suc, ◌+◌, ◌<◌, ◌==◌, ⊎_elim, Bool, true, false, cond, refl, sym, ap, ◌∙◌, arith}
-use Rattle.std.proofs.lemmas.Bool.{cases_eq, eq-eqb}
+-- How many log lines are READY and EMPTY, where one is made READY.
+use Rattle.std.proofs.Common.{◌≡◌, ◌≢◌, ℕ, zero, suc, ◌+◌, ◌*◌, ◌%◌, ◌<◌, ◌==◌, ⊎_elim, Bool, true, false, cond, refl, sym, ap, ◌∙◌, arith}
+use Rattle.std.proofs.lemmas.Bool.{cases_eq, eq-eqb, ne_eqb}
 use Rattle.pm_words.specs.declared.layout.Layout.{Layout}
-use Rattle.turn_law.specs.Covers.{ready_state}
+use Rattle.turn_law.specs.Covers.{empty_state, ready_state}
 use Rattle.turn_law.proofs.Columns.{here, other}
 use Rattle.turn_row.specs.Columns.{line_count}
 use Rattle.updater.specs.Events.{how_many}
-use Rattle.lone_turn.specs.CallLogs.{ReadyAreCounted}
+use Rattle.lone_turn.specs.CallLogs.{EmptyAreCounted, ReadyAreCounted, is_own_empty}
 use Rattle.lone_turn.specs.LoneTurns.{line_state, is_ready}
 
 count_same : (test then : ℕ → Bool) (n : ℕ) → ((k : ℕ) → k < n → then k ≡ test k) → how_many then n ≡ how_many test n
@@ -43,4 +43,17 @@ ready_are_counted caller w0 w layout = (
       ap (λ (l : Layout). how_many (is_ready w) (line_count l)) layout
       ∙ count_more (is_ready w0) (is_ready w) (line_count w0.layout) made.line made.within before now
       (λ j apart. ap (λ (state : ℕ). state == ready_state) (ap (λ (f : ℕ → ℕ). f j) made.is ∙ other (line_state w0) made.line j ready_state apart))),
+)
+
+pub empty_are_counted : EmptyAreCounted
+empty_are_counted caller w0 w = (
+  (λ kept. λ k. how_many (λ j. kept k (8 * caller + j) == empty_state) 8),
+  (λ made.
+      let j = made.line % 8 in
+      let place : 8 * caller + j ≡ made.line = let own = made.own in omega (arith, own) in
+      let was : is_own_empty caller w0 j ≡ true = eq-eqb (line_state w0 (8 * caller + j)) empty_state (ap (line_state w0) place ∙ made.was_empty) in
+      let is_ready_now : line_state w (8 * caller + j) ≡ ready_state = ap (λ (f : ℕ → ℕ). f (8 * caller + j)) made.is ∙ here (line_state w0) made.line (8 * caller + j) ready_state place in
+      let now : is_own_empty caller w j ≡ false = ne_eqb (line_state w (8 * caller + j)) empty_state (λ none. let clash : ready_state ≡ empty_state = sym is_ready_now ∙ none in cc) in
+      sym (count_more (is_own_empty caller w) (is_own_empty caller w0) 8 j (omega arith) now was
+      (λ k apart. ap (λ (state : ℕ). state == empty_state) (sym (ap (λ (f : ℕ → ℕ). f (8 * caller + k)) made.is ∙ other (line_state w0) made.line (8 * caller + k) ready_state (λ same. apart (omega (arith, same, place)))))))),
 )

@@ -1,5 +1,5 @@
 -- What a call leaves of the log lines and of the search layer that is made with nothing else in flight.
-use Rattle.std.specs.Prelude.{◌≡◌, ◌≢◌, ℕ, ◌+◌, ◌/◌, ◌<◌, ◌⊎◌, true, false, List, Option, Some, None}
+use Rattle.std.specs.Prelude.{◌≡◌, ◌≢◌, ℕ, ◌+◌, ◌*◌, ◌/◌, ◌<◌, ◌==◌, ◌⊎◌, Bool, true, false, List, Option, Some, None}
 use Rattle.call_stages.specs.declared.once.Once.{Once}
 use Rattle.call_stages.specs.declared.once.Once.TheVariants as once
 use Rattle.call_stages.specs.declared.once.Placed.{Placed}
@@ -48,10 +48,23 @@ pub record MakesReady (caller : ℕ) (w0 w : World) : Type 0 where
 abbrev pub ready_lines : World → ℕ
 ready_lines w = how_many (is_ready w) (line_count w.layout)
 
--- Those that are counted so are one more, or as many.
+-- How many of this caller's log lines are EMPTY.
+abbrev pub is_own_empty : ℕ → World → ℕ → Bool
+is_own_empty caller w j = line_state w (8 * caller + j) == empty_state
+
+abbrev pub empty_lines : ℕ → World → ℕ
+empty_lines caller w = how_many (is_own_empty caller w) 8
+
+-- The READY ones are one more, or as many,
 abbrev pub ReadyAreCounted : Type 0
 ReadyAreCounted = (caller : ℕ) (w0 w : World) → w.layout ≡ w0.layout →
     (KeepsLines w0 w → ready_lines w ≡ ready_lines w0) × (MakesReady caller w0 w → ready_lines w ≡ ready_lines w0 + 1)
+
+-- and the EMPTY ones one fewer.
+abbrev pub EmptyAreCounted : Type 0
+EmptyAreCounted = (caller : ℕ) (w0 w : World) →
+    (KeepsLines w0 w → empty_lines caller w ≡ empty_lines caller w0) ×
+    (MakesReady caller w0 w → empty_lines caller w + 1 ≡ empty_lines caller w0)
 
 -- The call has made the switch of its split or of its merge, or it hasn't.
 abbrev pub HasSwitched : Stage → Type 0

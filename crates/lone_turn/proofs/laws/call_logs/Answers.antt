@@ -1,6 +1,6 @@
 use Rattle.lone_turn.proofs.CallLogs.{log_goes, log_ends}
 use Rattle.lone_turn.proofs.InStep.{calls_are_in_step}
-use Rattle.lone_turn.proofs.ReadyCounts.{ready_are_counted}
+use Rattle.lone_turn.proofs.ReadyCounts.{empty_are_counted, ready_are_counted}
 use Rattle.lone_turn.proofs.laws.call_logs.Goals as goal
 
 pub returns-clause-in_step : goal.returns-clause-in_step
@@ -14,3 +14,6 @@ returns-clause-ends c = log_ends
 
 pub returns-clause-counted : goal.returns-clause-counted
 returns-clause-counted c = ready_are_counted
+
+pub returns-clause-empty : goal.returns-clause-empty
+returns-clause-empty c = empty_are_counted
