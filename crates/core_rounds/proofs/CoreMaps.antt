@@ -1,9 +1,9 @@
 -- The index as a map of names: its names counted, its calls left, and its shape.
 use Rattle.std.proofs.Common.{◌≡◌, ◌≢◌, ℕ, ◌+◌, ◌-◌, ◌*◌, ◌/◌, ◌<◌, ◌≤◌, ◌==◌, Bool, true, false, cond, List, [], ◌∷◌, ◌++◌, append-nil, length, ◌⊎◌, ⊎_elim, refl, le_trans, inl, inr, sym, ap, ◌∙◌, subst, arith, length-append}
-use Rattle.std.specs.Prelude.{Option, Some, None, ◌↔◌, ◌^◌}
+use Rattle.std.specs.Prelude.{Option, Some, None, ◌↔◌, ◌^◌, suc}
 use Rattle.std.specs.List.{flat_map, AllByRecursion}
 use Rattle.std.specs.Option.{is_some}
-use Rattle.std.specs.FinMap.{insert, remove, len, len-insert, len-remove, len-empty, empty_of_len, get-empty}
+use Rattle.std.specs.FinMap.{empty, insert, remove, len, len-insert, len-remove, len-empty, empty_of_len, get-empty}
 use Rattle.std.proofs.lemmas.Bool.{cases_eq, false≢true}
 use Rattle.std.proofs.Math.Nat.{le-min, min-le_right}
 use Rattle.std.proofs.lemmas.Cmp.{nat_list_cmp_total}
@@ -36,14 +36,11 @@ use Rattle.data_node.specs.Lists.{key_of}
 use Rattle.data_node.proofs.ListLemmas.{chain_closed, target_in}
 use Rattle.index_law.specs.Anchors.{anchors_of, anchors_in}
 use Rattle.index_law.specs.Facts.{list_in}
-use Rattle.index_law.specs.Laws.{fresh_row}
 use Rattle.index_law.specs.Worlds.{World, facts}
-use Rattle.index_law.proofs.Fresh.{fresh_list, fresh_statuses}
 use Rattle.index_law.proofs.Holding.{idle_has_shape}
 use Rattle.index_law.proofs.Starts.{listed_within}
 use Rattle.lone_law.specs.Merging.{NextIsWorn, next_node}
 use Rattle.lone_law.proofs.Locks.{worn_has_none}
-use Rattle.index_core.specs.Fresh.{IsFreshIndex}
 use Rattle.index_core.specs.Indexes.{Index, IsIndex, map_of_index, world}
 use Rattle.index_core.specs.Lone.{IsQuiet, FindsNoRoom, FindsWornNode, HasSameList, IsOver, IsWornNode, IsWholeAnswer, RunsAlone, LeavesList, most_tries, SplitsFor, SplitsNothing, MergesFor, MergesNothing, node_for, locks_left, alone_writes, whole_of, part_whole}
 use Rattle.index_core.specs.declared.party.CoreCall.TheVariants as call
@@ -57,20 +54,31 @@ use Rattle.updater.specs.declared.terms.Turned.{Turned}
 use Rattle.index_core.specs.Turns.{TurnsAlone}
 use Rattle.index_core.proofs.Retrying.{stamped_are_gone}
 use Rattle.index_core.proofs.Quiet.{quiet_parties}
-use Rattle.index_core.proofs.Fresh.{fresh_quiet, fresh_locks}
 use Rattle.index_core.proofs.Fulls.{no_room_is_full_put}
-use Rattle.index_core.proofs.Stepping.{respare}
 use Rattle.std.proofs.lemmas.List.{length-map}
 use Rattle.std.specs.FinMap.{entries, len-entries}
 use Rattle.cat_history.proofs.ReplayLemmas.{map_of-pairs_of}
-use Rattle.pm_words.specs.Images.{Row}
+use Rattle.pm_words.specs.Images.{Row, fresh_words}
+use Rattle.pm_words.specs.Locations.{Header, Node}
+use Rattle.pm_words.proofs.Made.{fresh_at}
+use Rattle.version_lock.specs.Versions.{IsGeneration}
+use Rattle.data_node.specs.Lists.{next_offset}
+use Rattle.data_node.proofs.ListLemmas.{chain_is}
+use Rattle.sound_image.specs.Nodes.{image_list, image_spot}
+use Rattle.sound_image.specs.Rules.{header_generation}
+use Rattle.sound_image.proofs.FreshLemmas.{fresh_is_sound}
+use Rattle.sound_image.proofs.MapLemmas.{has_one_map}
+use Rattle.sound_image.proofs.WordLemmas.{image_spot-here}
+use Rattle.sound_layer.proofs.FreshLaw.{fresh_is_sound_by_all}
 use Rattle.sound_image.specs.Sound.{IsMapOf, image_map}
 use Rattle.sound_image.specs.Weights.{image_weight}
 use Rattle.shapes.specs.Anchors.{Anchors}
 use Rattle.shapes.specs.ShapeRounds.{IsShapeWithin}
 use Rattle.index_law.specs.Anchors.{image_anchors}
-use Rattle.core_rounds.specs.CoreMaps.{calls_left_of, writes_left_of, IsUnlimited, IsCoreMap, IsNextRun, IsOfRun, IsOpenedMap, anchors_made}
-use Rattle.recovery.specs.Opened.{IsOpenedFrom}
+use Rattle.core_rounds.specs.CoreMaps.{calls_left_of, writes_left_of, IsUnlimited, IsCoreMap, IsNextRun, IsOfRun, IsOpenedMap, anchors_made, fresh_image}
+use Rattle.recovery.specs.Opened.{IsOpenedFrom, IsOpenFault}
+use Rattle.recovery.specs.declared.opening.OpenFault.{OpenFault}
+use Rattle.recovery.specs.declared.opening.OpenFault.TheVariants as opening
 use Rattle.recovery.proofs.Opened.{with_room}
 
 -- a put of a name that the map lacks adds one, and of one that it has adds none
@@ -142,55 +150,9 @@ few_names s names is =
     let counted = is.counted in
     omega arith
 
--- a fresh index has no node that is GONE, and so none with a stamp
-fresh_low : (l : Layout) (s s' : Index) → IsLayout l → IsFreshIndex l s → s' ≡ record s { spare = s'.spare } → HasLowStamps s'
-fresh_low l s s' layout fresh kept n here = ⊎_elim
-    (λ (none : stamp_in (world s') n ≡ 0). omega arith)
-    (λ (some_stamp : stamp_in (world s') n ≢ 0).
-    let gone = stamped_are_gone s' (subst IsIndex (sym kept) (respare s s'.spare fresh.index)).layered n some_stamp in
-    let within : n < l.nodes = subst (λ (k : Layout). n < k.nodes) (ap (λ (v : Index). v.layout) kept ∙ fresh.layout) here in
-    let same : (facts (world s')).status n ≡ (facts (world (record s { layout = l; words = fresh_row l }))).status n =
-    ap (λ (v : Index). (facts (world v)).status n) kept ∙ (λ k. (facts (world (record s { layout = fresh.layout k; words = fresh.words k }))).status n) in
-    absurd (fresh_statuses l layout n within (sym same ∙ gone)))
-    (cases_eq (stamp_in (world s') n) 0)
-
--- a fresh index, once room for writes is made
-pub fresh_map : (l : Layout) (s s' : Index) → IsLayout l → IsFreshIndex l s → s' ≡ record s { spare = s'.spare } → IsCoreMap s' 0
-fresh_map l s s' layout fresh kept = record {
-  index = subst IsIndex (sym kept) (respare s s'.spare fresh.index);
-  quiet = subst IsQuiet (sym kept) (let quiet = fresh_quiet l s fresh in record { calls = quiet.calls; turns = quiet.turns });
-  stamps = fresh_low l s s' layout fresh kept;
-  counted = sym (ap (λ (v : Index). len (map_of_index v)) kept ∙ (λ k. len (after_all (map_of (fresh.base k)) (fresh.history k))) ∙ len-empty name_cmp ℕ);
-}
-
--- it is that of the first run
-pub fresh_run : (l : Layout) (s s' : Index) {run_l : Layout} {number : ℕ} → (run_l ≡ l) × (number ≡ 1) → IsFreshIndex l s → s' ≡ record s { spare = s'.spare } → IsOfRun run_l number s'
-fresh_run l s s' run fresh kept = record {
-  layout = ap (λ (v : Index). v.layout) kept ∙ fresh.layout ∙ sym run.0;
-  generation = ap (λ (v : Index). v.generation) kept ∙ fresh.generation ∙ sym run.1;
-}
-
 -- calls and turns leave it that of its run
 pub same_run : (s s' : Index) {l : Layout} {number : ℕ} → IsOfRun l number s → s'.layout ≡ s.layout → s'.generation ≡ s.generation → IsOfRun l number s'
 same_run s s' was layout generation = record { layout = layout ∙ was.layout; generation = generation ∙ was.generation }
-
--- its one member has no names, and each node may be one
-pub fresh_anchors : (l : Layout) (s s' : Index) → IsLayout l → IsFreshIndex l s → s' ≡ record s { spare = s'.spare } → anchors_in (world s') ≡ [] ∷ []
-fresh_anchors l s s' layout fresh kept =
-    ap (λ (v : Index). anchors_in (world v)) kept ∙ (λ k. anchors_of (list_in (fresh.layout k) (fresh.words k))) ∙ ap anchors_of (fresh_list l layout)
-
-pub fresh_most : (l : Layout) (s s' : Index) → IsFreshIndex l s → s' ≡ record s { spare = s'.spare } → s'.layout.nodes ≡ l.nodes
-fresh_most l s s' fresh kept = ap (λ (v : Index). v.layout.nodes) kept ∙ ap (λ (v : Layout). v.nodes) fresh.layout
-
--- all locks of its nodes are left,
-pub fresh_calls : (l : Layout) (s s' : Index) → IsLayout l → IsFreshIndex l s → s' ≡ record s { spare = s'.spare } → calls_left_of s' ≡ LAST_COUNT / 4
-fresh_calls l s s' layout fresh kept = ap (λ (n : ℕ). n / 4) (ap locks_left kept ∙ fresh_locks l s layout fresh)
-
--- and a number below 2^62 for its clock, for each of the writes
-pub fresh_writes : (l : Layout) (s s' : Index) (writes : ℕ) → IsFreshIndex l s → s' ≡ record s { spare = s'.spare } → writes ≤ s'.spare → writes ≤ 2 ^ 62 → writes ≤ writes_left_of s'
-fresh_writes l s s' writes fresh kept spare few =
-    let history : length s'.history ≡ 0 = ap (λ (v : Index). length v.history) kept ∙ ap length fresh.history in
-    le-min spare (omega (arith, history, few))
 
 -- where calls are left, so are four locks of each node
 locks_remain : (s : Index) → 0 < calls_left_of s → 4 ≤ locks_left s
@@ -452,3 +414,39 @@ opened_so image writes s s' from kept spare few =
       calls_left = ap (λ (n : ℕ). n / 4) is.locks;
       writes_left = le-min spare (omega (arith, empty_history, few));
     }
+
+-- ---- fresh images
+
+fresh_generation : (l : Layout) → header_generation l (fresh_words l) ≡ 1
+fresh_generation l = fresh_at l (Header 5) (omega arith)
+
+-- one isn't refused
+pub fresh_is_opened : (l : Layout) (fault : OpenFault) → IsLayout l → IsOpenFault (fresh_image l) fault → fault ≡ opening.NoMemory
+fresh_is_opened l (opening.Damaged rule word) layout is =
+    let lowest = is.first.1.lowest.0 in
+    absurd (fresh_is_sound_by_all l layout rule is.first.0 lowest.word lowest.holds)
+fresh_is_opened l opening.Generations layout is = absurd (is.1 (subst (λ (n : ℕ). IsGeneration (suc n)) (sym (fresh_generation l)) (record { least = omega arith; fits = omega arith })))
+fresh_is_opened l opening.NoMemory layout is = refl
+
+-- the next generation is the second
+pub fresh_run : (image : Row) (l : Layout) {run_l : Layout} {number : ℕ} → image ≡ fresh_image l → (run_l ≡ l) × (number ≡ 2) → IsNextRun image run_l number
+fresh_run image l {run_l} {number} is run =
+    subst (λ (i : Row). IsNextRun i run_l number) (sym is) (record { layout = run.0; generation = run.1 ∙ sym (ap suc (fresh_generation l)) })
+
+-- it has no names,
+pub fresh_contents : (image : Row) (l : Layout) (writes : ℕ) (s : Index) → IsLayout l → image ≡ fresh_image l → IsOpenedMap image writes s → map_of_index s ≡ empty
+fresh_contents image l writes s layout same is =
+    let of_fresh : IsOpenedMap (fresh_image l) writes s = subst (λ (i : Row). IsOpenedMap i writes s) same is in
+    of_fresh.contents ∙ has_one_map l (fresh_words l) (image_map l (fresh_words l)) empty of_fresh.keeps (fresh_is_sound l layout).1
+
+-- and one member
+fresh_list : (l : Layout) → IsLayout l → image_list l (fresh_words l) ≡ []
+fresh_list l is =
+    let nodes = is.nodes in
+    chain_is (image_spot l (fresh_words l)) l.nodes 0 []
+    (image_spot-here l (fresh_words l) 0 next_offset (omega arith) (omega arith) (omega arith) ∙ fresh_at l (Node 0 next_offset) (omega arith, omega arith)) (omega arith)
+
+pub fresh_anchors : (image : Row) (l : Layout) (writes : ℕ) (s : Index) → IsLayout l → image ≡ fresh_image l → IsOpenedMap image writes s → anchors_in (world s) ≡ [] ∷ []
+fresh_anchors image l writes s layout same is =
+    let of_fresh : IsOpenedMap (fresh_image l) writes s = subst (λ (i : Row). IsOpenedMap i writes s) same is in
+    of_fresh.anchors ∙ ap anchors_of (fresh_list l layout)

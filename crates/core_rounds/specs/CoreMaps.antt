@@ -1,7 +1,7 @@
 -- The index, called by one caller with no other call in flight, as a map of names.
 use Rattle.std.specs.Prelude.{◌≡◌, ℕ, suc, ◌-◌, ◌/◌, ◌^◌, ◌<◌, ◌≤◌, min, length}
 use Rattle.std.specs.FinMap.{len}
-use Rattle.pm_words.specs.Images.{Row}
+use Rattle.pm_words.specs.Images.{Row, fresh_words}
 use Rattle.pm_words.specs.Locations.{Line, word_at}
 use Rattle.pm_words.specs.Rows.{cached_row}
 use Rattle.pm_words.specs.declared.layout.Layout.{Layout}
@@ -59,6 +59,9 @@ pub record IsCoreMap (s : Index) (names : ℕ) : Type 0 where
 pub record IsOfRun (l : Layout) (number : ℕ) (s : Index) : Type 0 where
   pub layout : s.layout ≡ l
   pub generation : s.generation ≡ number
+
+abbrev pub fresh_image : Layout → Row
+fresh_image l = record { layout = l; words = fresh_words l }
 
 -- The numbers of the run that opens this image: its layout, and its next generation.
 pub record IsNextRun (image : Row) (l : Layout) (number : ℕ) : Type 0 where

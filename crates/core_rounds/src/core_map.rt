@@ -18,6 +18,7 @@ ghost use Rattle.index_law.specs.Anchors.{anchors_in};
 ghost use Rattle.shapes.specs.Anchors.{next_of};
 ghost use Rattle.shapes.specs.ShapeRounds.{PutsFull};
 ghost use Rattle.recovery.specs.Opened.{IsOpenFault};
+ghost use Rattle.recovery.specs.declared.opening.OpenFault.TheVariants.{NoMemory as OutOfMemory};
 ghost use Rattle.core_rounds.specs.CoreMaps.{IsImageOf, IsNextRun, IsOfRun, IsOpenedMap, IsUnlimited};
 ghost use Rattle.core_rounds.specs.CoreMaps.{anchors_made, calls_left_of, writes_left_of};
 
@@ -53,7 +54,7 @@ pub trait RunOf {
 impl RunOf for Brand {
     ghost layout = { record { nodes = 1; slots = 4; callers = 1 } };
 
-    ghost generation = { 1 };
+    ghost generation = { 2 };
 }
 
 /// The index as a map of names. Contracts see it as its index.
@@ -78,7 +79,7 @@ impl<L: Ledger, K: RunOf> Model for CoreMap<L, K> {
 }
 
 impl<L: Ledger, K: RunOf> CoreMap<L, K> {
-    /// A map without names, that can have so many puts and removals.
+    /// A map without names, that can have so many puts and removals: that of a fresh image, in its next generation.
     pub fn new(
         alloc: Global,
         layout: Layout,
@@ -87,7 +88,7 @@ impl<L: Ledger, K: RunOf> CoreMap<L, K> {
     ) -> Result<CoreMap<L, K>, NoMemory>
         requires layout { IsLayout layout }
         requires writes { writes ≤ 2 ^ 62 }
-        requires run { (K.layout ≡ layout) × (K.generation ≡ 1) }
+        requires run { (K.layout ≡ layout) × (K.generation ≡ 2) }
         ensures empty { IfOk result (λ map. map_of_index map ≡ empty) }
         ensures anchors { IfOk result (λ map. anchors_in (world map) ≡ [] ∷ []) }
         ensures slots { IfOk result (λ map. map.layout.slots ≡ layout.slots) }
@@ -95,14 +96,11 @@ impl<L: Ledger, K: RunOf> CoreMap<L, K> {
         ensures calls_left { IfOk result (λ map. calls_left_of map ≡ LAST_COUNT / 4) }
         ensures writes_left { IfOk result (λ map. writes ≤ writes_left_of map) }
     {
-        let mut core = Core::fresh(alloc, layout)?;
-        core.reserve(writes)?;
-        Ok(CoreMap {
-            core,
-            names: 0,
-            steps,
-            run: PhantomData,
-        })
+        let image = Image::fresh(alloc, layout)?;
+        match CoreMap::opened(alloc, image, writes, steps) {
+            Ok(map) => Ok(map),
+            Err(fault) => Err(fresh_fault(fault)),
+        }
     }
 
     /// The map that an image keeps, that can have so many puts and removals. It is that of the image's next generation.
@@ -133,6 +131,16 @@ impl<L: Ledger, K: RunOf> CoreMap<L, K> {
         ensures run { IsOfRun K.layout K.generation self.now }
     {
         self.core.image(alloc)
+    }
+}
+
+/// Why a fresh image isn't opened, which is sound, and has a next generation.
+fn fresh_fault(fault: OpenFault) -> NoMemory
+    requires { fault ≡ OutOfMemory }
+{
+    match fault {
+        OpenFault::NoMemory => NoMemory,
+        OpenFault::Damaged { .. } | OpenFault::Generations => unreachable!(),
     }
 }
 

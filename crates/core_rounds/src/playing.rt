@@ -43,7 +43,7 @@ fn play_on_core<L: Ledger, K: RunOf>(
     requires calls { calls_in plans.now ≤ 100000 }
     requires name { blank.name ≡ L.name }
     requires parts { (blank.parts ≡ L.parts) × (0 < L.parts) }
-    requires run { (K.layout ≡ layout.now) × (K.generation ≡ 1) }
+    requires run { (K.layout ≡ layout.now) × (K.generation ≡ 2) }
     ensures played { IfOk result (ArePlayedRounds layout.now.slots layout.now.nodes empty ([] ∷ []) plans.now) }
     ensures report { IfOk result (All IsReportRound) }
 {

@@ -93,7 +93,7 @@ fn report_on_core<L: Ledger, K: RunOf>(
     requires name { blank.name ≡ L.name }
     requires parts { (blank.parts ≡ L.parts) × (0 < L.parts) }
     requires layout { IsLayout layout }
-    requires run { (K.layout ≡ layout) × (K.generation ≡ 1) }
+    requires run { (K.layout ≡ layout) × (K.generation ≡ 2) }
 {
     let (book, share) = blank.open::<L>();
     let steps = Steps::new(book, share);

@@ -4,6 +4,6 @@ use Rattle.core_rounds.proofs.playing.play_plans.Given as goal
 abbrev pub ghosts-play_on_core-L-Ledger : goal.ghosts-play_on_core-L-Ledger
 ghosts-play_on_core-L-Ledger a = record { name = a.blank.name; parts = a.blank.parts }
 
--- and the run is the first one of this layout
+-- and the run is that of a fresh image of this layout
 abbrev pub ghosts-play_on_core-K-RunOf : goal.ghosts-play_on_core-K-RunOf
-ghosts-play_on_core-K-RunOf a = record { layout = a.layout.now; generation = 1 }
+ghosts-play_on_core-K-RunOf a = record { layout = a.layout.now; generation = 2 }

@@ -1,22 +1,18 @@
-use Rattle.core_rounds.proofs.CoreMaps.{fresh_map, fresh_run, fresh_anchors, fresh_most, fresh_calls, fresh_writes}
+use Rattle.std.proofs.Common.{subst}
+use Rattle.pm_words.specs.Images.{Row}
+use Rattle.recovery.specs.Opened.{IsOpenFault}
+use Rattle.core_rounds.proofs.CoreMaps.{fresh_anchors, fresh_contents, fresh_is_opened, fresh_run}
 use Rattle.core_rounds.proofs.core_map.CoreMap.new.Goals as goal
 
-pub invariant_of-result : goal.invariant_of-result
-invariant_of-result g c = (
-  fresh_map c.args.layout c.in_ok-core.core c.reserve.new.self c.requires.layout c.in_ok-core.ensures c.reserve.ensures.kept,
-  fresh_run c.args.layout c.in_ok-core.core c.reserve.new.self c.requires.run c.in_ok-core.ensures c.reserve.ensures.kept,
-)
+pub opened-requires-clause-run : goal.opened-requires-clause-run
+opened-requires-clause-run g c = fresh_run c.in_ok-image.image c.args.layout c.in_ok-image.ensures c.requires.run
 
-pub returns-clause-anchors : goal.returns-clause-anchors
-returns-clause-anchors g c = fresh_anchors c.args.layout c.in_ok-core.core c.reserve.new.self c.requires.layout c.in_ok-core.ensures c.reserve.ensures.kept
+-- it is sound, and of the first generation
+pub fresh_fault-requires : goal.fresh_fault-requires
+fresh_fault-requires g c = fresh_is_opened c.args.layout c.in-Err.fault c.requires.layout (subst (λ (i : Row). IsOpenFault i c.in-Err.fault) c.in_ok-image.ensures c.in-Err.ensures.opened)
 
-pub returns-clause-most : goal.returns-clause-most
-returns-clause-most g c = fresh_most c.args.layout c.in_ok-core.core c.reserve.new.self c.in_ok-core.ensures c.reserve.ensures.kept
+pub returns-in-Ok-clause-empty : goal.returns-in-Ok-clause-empty
+returns-in-Ok-clause-empty g c = fresh_contents c.in_ok-image.image c.args.layout c.args.writes c.in-Ok.map c.requires.layout c.in_ok-image.ensures c.in-Ok.ensures.opened
 
-pub returns-clause-calls_left : goal.returns-clause-calls_left
-returns-clause-calls_left g c =
-    fresh_calls c.args.layout c.in_ok-core.core c.reserve.new.self c.requires.layout c.in_ok-core.ensures c.reserve.ensures.kept
-
-pub returns-clause-writes_left : goal.returns-clause-writes_left
-returns-clause-writes_left g c =
-    fresh_writes c.args.layout c.in_ok-core.core c.reserve.new.self c.args.writes c.in_ok-core.ensures c.reserve.ensures.kept c.in_ok-reserve.ensures.ok c.requires.writes
+pub returns-in-Ok-clause-anchors : goal.returns-in-Ok-clause-anchors
+returns-in-Ok-clause-anchors g c = fresh_anchors c.in_ok-image.image c.args.layout c.args.writes c.in-Ok.map c.requires.layout c.in_ok-image.ensures c.in-Ok.ensures.opened
