@@ -1,5 +1,7 @@
 //! The top call on whole scripts, over a source and a sink in memory.
 
+mod beside_core;
+
 use super::*;
 use cat_script::{Reason, ScriptFault};
 use cat_text::{FaultPlan, MemoryShelf, MemorySink, MemorySource, Shelf};
@@ -236,10 +238,16 @@ fn runs_scripts_on_files(rt: HostRuntime) -> Result<(), Fail> {
         ("words c 5 1", "", done, "5 0000000000000003\n"),
         ("run c", "", done, "join 0 names 2\n"),
         ("words c 5 1", "", done, "5 0000000000000004\n"),
-        // The fifth put splits. Its log line is READY until a turn, and EMPTY behind one.
+        // The fifth put splits. Its log line is READY until a turn, with its kind, the new node and that one's anchor; and
+        // EMPTY behind one.
         ("format d 2 4 1", "", done, "formatted 2 4 1 words 2496\n"),
         ("run d", no_turns.as_str(), done, answers),
-        ("words d 80 1", "", done, "80 0000000000000002\n"),
+        (
+            "words d 80 4",
+            "",
+            done,
+            "80 0000000000000002\n81 0000000000000001\n82 0000000000000001\n83 6300000000000000\n",
+        ),
         ("format e 2 4 1", "", done, "formatted 2 4 1 words 2496\n"),
         ("run e", with_turns.as_str(), done, answers),
         ("words e 80 1", "", done, "80 0000000000000000\n"),
@@ -297,6 +305,13 @@ fn refuses_to_run_on_damaged_images(rt: HostRuntime) -> Result<(), Fail> {
         let kept = shelf.load("c")?.ok_or("c")?;
         assert_eq!(rt; kept.as_slice(), bytes.as_slice(), "word {word}");
     }
+    let short = whole.get(..19_960).ok_or("a shorter file")?;
+    shelf.save("c", short)?;
+    let ran = run_script(&rt, &mut shelf, "run c", b"0 get a\n", &SOUND)?;
+    let length = of_bytes(ImageFault::Length { found: 19_960 });
+    assert_eq!(rt; (ran.status, ran.written.len()), (length, 0));
+    let kept = shelf.load("c")?.ok_or("c")?;
+    assert_eq!(rt; kept.as_slice(), short);
     Ok(())
 }
 
