@@ -1,6 +1,6 @@
 -- What a script comes to that is played on an image.
 use native.Mathlib.Nat.{mul-le-mul}
-use Rattle.std.proofs.Common.{◌≡◌, ℕ, ◌*◌, ◌≤◌, List, sym, ap, subst, ◌∙◌, arith}
+use Rattle.std.proofs.Common.{◌≡◌, ℕ, ◌+◌, ◌*◌, ◌≤◌, List, sym, ap, subst, ◌∙◌, arith, zero-add}
 use Rattle.cat_history.specs.Maps.{Map}
 use Rattle.cat_history.specs.declared.plan.RoundPlan.{RoundPlan}
 use Rattle.cat_script.specs.declared.script.Script.{Script}
@@ -15,12 +15,13 @@ use Rattle.sound_image.specs.Weights.{image_weight}
 use Rattle.std.specs.FinMap.{len}
 use Rattle.index_law.specs.Anchors.{anchors_in, image_anchors}
 use Rattle.index_core.specs.Indexes.{Index, map_of_index, world}
-use Rattle.core_rounds.specs.CoreMaps.{HasNoLines, IsImageOf, IsNextRun, IsOfRun, IsOpenedMap, calls_left_of}
+use Rattle.core_rounds.specs.CoreMaps.{HasNoLines, ImageWaits, IsImageOf, IsNextRun, IsOfRun, IsOpenedMap, Waits, calls_left_of}
+use Rattle.core_rounds.specs.Waiting.{HaveNoTurns, changes_made, puts_asked, writes_asked}
 use Rattle.recovery.specs.Opened.{IsOpenFault}
 use Rattle.catalog_cli.specs.Reports.{IsAccepted, IsRefusedBy}
 use Rattle.core_rounds.specs.Rounds.{ArePlayedRounds, map_end, shape_end}
 use Rattle.core_rounds.specs.Rounds.{RoundsEndWithTurn}
-use Rattle.catalog_cli.specs.Runs.{IsImageAfter, IsOpenable, IsPlayRefused, IsRunOn}
+use Rattle.catalog_cli.specs.Runs.{IsImageAfter, IsOpenable, IsPlayRefused, IsRunOn, LinesWait, NeedNoTurns}
 use Rattle.catalog_cli.specs.Statuses.{status_of_open}
 use Rattle.recovery.specs.declared.opening.OpenFault.{OpenFault}
 use Rattle.recovery.specs.declared.opening.OpenFault.TheVariants as opening
@@ -70,13 +71,29 @@ after-rounds image new writes number l s s' reports run is map_left shape_left k
   anchors = kept.anchors ∙ shape_left ∙ (λ k. shape_end ((is.layout k).slots) (is.contents k) (is.anchors k) reports);
 }
 
+-- what the rounds leave to the updater, as the calls of the map tell it
+abbrev pub LeavesWaiting : Index → Index → List RoundPlan → List RoundReport → Type 0
+LeavesWaiting s s' plans reports = HaveNoTurns plans → (changes lines puts : ℕ) → Waits s changes (lines + writes_asked plans) (puts + puts_asked plans) →
+    Waits s' (changes + changes_made s.layout.slots (map_of_index s) (anchors_in (world s)) reports) lines puts
+
+-- where they make no turn, so many lines of the image wait
+lines-wait : (image new : Row) (writes : ℕ) (s s' : Index) (plans : List RoundPlan) (reports : List RoundReport) → IsOpenedMap image writes s → IsImageOf s' new → LeavesWaiting s s' plans reports →
+    NeedNoTurns image plans → LinesWait image reports new
+lines-wait image new writes s s' plans reports is kept waits needs =
+    let few = needs.lines in
+    let nodes = needs.nodes in
+    let left = waits needs.none 0 0 0 (is.waits (0 + writes_asked plans) (0 + puts_asked plans) (omega (arith, few)) (omega (arith, nodes))) in
+    subst (ImageWaits new)
+    (left.ready ∙ zero-add (changes_made s.layout.slots (map_of_index s) (anchors_in (world s)) reports) ∙ (λ k. changes_made ((is.layout k).slots) (is.contents k) (is.anchors k) reports))
+    kept.waits
+
 -- and all of it is a run on the image
 pub run-ends : (image new : Row) (writes number : ℕ) (l : Layout) (s s' : Index) (bytes text : List ℕ) (script : Script) (plans : List RoundPlan) (reports : List RoundReport) → IsLayout image.layout →
     IsNextRun image l number → IsOpenedMap image writes s → IsAccepted image.layout.callers bytes script → plans ≡ script.rounds →
     ArePlayedRounds s.layout.slots s.layout.nodes (map_of_index s) (anchors_in (world s)) plans reports → map_of_index s' ≡ map_end (map_of_index s) reports →
     anchors_in (world s') ≡ shape_end s.layout.slots (map_of_index s) (anchors_in (world s)) reports → IsReportText text reports → IsImageOf s' new → IsOfRun l number s' →
-    (RoundsEndWithTurn plans → HasNoLines s') → IsRunOn image bytes text new
-run-ends image new writes number l s s' bytes text script plans reports layout run is accepted same played map_left shape_left told kept of_run settled =
+    (RoundsEndWithTurn plans → HasNoLines s') → LeavesWaiting s s' plans reports → IsRunOn image bytes text new
+run-ends image new writes number l s s' bytes text script plans reports layout run is accepted same played map_left shape_left told kept of_run settled waits =
     let slots = layout in
     let all = subst (λ (ps : List RoundPlan). ArePlayedRounds image.layout.slots image.layout.nodes (image_map image.layout image.words) (image_anchors image.layout image.words) ps reports) same
     (on-image image writes s plans reports is played) in
@@ -93,6 +110,7 @@ run-ends image new writes number l s s' bytes text script plans reports layout r
       };
       after = after-rounds image new writes number l s s' reports run is map_left shape_left kept of_run;
       turned = λ ends. kept.lines (settled (subst RoundsEndWithTurn (sym same) ends));
+      waits = λ needs. lines-wait image new writes s s' plans reports is kept waits (subst (NeedNoTurns image) (sym same) needs);
     }
 
 -- nodes and calls are few enough for all locks

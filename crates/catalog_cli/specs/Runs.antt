@@ -1,5 +1,5 @@
 -- A run on a file: what it reports, what it makes of the file, and why it is refused.
-use Rattle.std.specs.Prelude.{◌≡◌, ℕ, suc, ◌<◌, ◌⊎◌, List, Option, IfSome, length}
+use Rattle.std.specs.Prelude.{◌≡◌, ℕ, suc, ◌+◌, ◌<◌, ◌≤◌, ◌⊎◌, List, Option, IfSome, length}
 use Rattle.cat_script.specs.Scripts.{IsScript, IsFirstFault}
 use Rattle.cat_script.specs.declared.fault.ScriptFault.{ScriptFault}
 use Rattle.cat_script.specs.declared.fault.ScriptFault.TheVariants.{Bytes}
@@ -14,7 +14,9 @@ use Rattle.sound_image.specs.Rules.{header_generation}
 use Rattle.sound_image.specs.Sound.{IsMapOf, image_map}
 use Rattle.sound_layer.specs.Sound.{IsFirstOfAll, IsSoundByAll}
 use Rattle.version_lock.specs.Versions.{IsGeneration}
-use Rattle.core_rounds.specs.CoreMaps.{ImageHasNoLines}
+use Rattle.core_rounds.specs.CoreMaps.{ImageHasNoLines, ImageWaits}
+use Rattle.core_rounds.specs.Waiting.{HaveNoTurns, changes_made, puts_asked, writes_asked}
+use Rattle.cat_history.specs.declared.plan.RoundPlan.{RoundPlan}
 use Rattle.catalog_cli.specs.Files.{HasBytes, HasImage, HasNoFile, SavesImage}
 use Rattle.catalog_cli.specs.Reports.{IsRefusedBy, IsReportOf, image_opening}
 use Rattle.core_rounds.specs.Rounds.{map_end, shape_end}
@@ -48,13 +50,27 @@ pub record IsImageAfter (old : Row) (reports : List RoundReport) (new : Row) : T
   pub anchors : image_anchors new.layout new.words ≡
       shape_end old.layout.slots (image_map old.layout old.words) (image_anchors old.layout old.words) reports
 
+-- So many log lines of the new image wait as calls of these rounds split and merged members of the old one.
+abbrev pub LinesWait : Row → List RoundReport → Row → Type 0
+LinesWait old reports new = ImageWaits new
+    (changes_made old.layout.slots (image_map old.layout old.words) (image_anchors old.layout old.words) reports)
+
+-- Rounds make no turn, of the updater or of their own: at most eight of their calls are puts or deletes, as many as the
+-- first caller has log lines, and their puts and the members of the image are fewer than its nodes.
+pub record NeedNoTurns (old : Row) (plans : List RoundPlan) : Type 0 where
+  pub none : HaveNoTurns plans
+  pub lines : writes_asked plans ≤ 8
+  pub nodes : length (image_anchors old.layout old.words) + puts_asked plans < old.layout.nodes
+
 -- The bytes, read as a script, are played on the old image: the text is that of the report, and the new image is what
--- those very rounds leave. Where the last round has a turn of the updater behind its last call, no log line waits there.
+-- those very rounds leave. Where the last round has a turn of the updater behind its last call, no log line waits there;
+-- and where no turn is made, a line waits for each split and each merge.
 pub record IsRunOn (old : Row) (bytes text : List ℕ) (new : Row) : Type 0 where
   pub openable : IsOpenable old
   pub report : IsReportOf (image_opening old) bytes text
   pub after : IsImageAfter old report.reports new
   pub turned : RoundsEndWithTurn report.script.rounds → ImageHasNoLines new
+  pub waits : NeedNoTurns old report.script.rounds → LinesWait old report.reports new
 
 -- The script that the source had left is played on the image that the file of this name had: the text is that of the
 -- report, the file has now the image that those very rounds leave, and no other file changed.

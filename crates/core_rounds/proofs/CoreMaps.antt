@@ -1,10 +1,10 @@
 -- The index as a map of names: its names counted, its calls left, and its shape.
-use Rattle.std.proofs.Common.{◌≡◌, ◌≢◌, ℕ, ◌+◌, ◌-◌, ◌*◌, ◌/◌, ◌<◌, ◌≤◌, ◌==◌, Bool, true, false, cond, List, [], ◌∷◌, ◌++◌, append-nil, length, ◌⊎◌, ⊎_elim, refl, le_trans, inl, inr, sym, ap, ◌∙◌, subst, arith, length-append}
-use Rattle.std.specs.Prelude.{Option, Some, None, ◌↔◌, ◌^◌, suc}
+use Rattle.std.proofs.Common.{◌≡◌, ◌≢◌, ℕ, ◌+◌, ◌-◌, ◌*◌, ◌/◌, ◌<◌, ◌≤◌, ◌==◌, Bool, true, false, cond, List, [], ◌∷◌, ◌++◌, append-nil, length, ◌⊎◌, ⊎_elim, refl, le_trans, inl, inr, sym, ap, ◌∙◌, subst, arith, length-append, ◌&&◌, zero, suc}
+use Rattle.std.specs.Prelude.{Option, Some, None, ◌↔◌, ◌^◌, suc, nat_lt}
 use Rattle.std.specs.List.{flat_map, AllByRecursion}
 use Rattle.std.specs.Option.{is_some}
-use Rattle.std.specs.FinMap.{empty, insert, remove, len, len-insert, len-remove, len-empty, empty_of_len, get-empty}
-use Rattle.std.proofs.lemmas.Bool.{cases_eq, false≢true}
+use Rattle.std.specs.FinMap.{empty, insert, remove, len, len-insert, len-remove, empty_of_len, get-empty}
+use Rattle.std.proofs.lemmas.Bool.{cases_eq, eq-eqb, false≢true, lt-ltb}
 use Rattle.std.proofs.Math.Nat.{le-min, min-le_right}
 use Rattle.std.proofs.lemmas.Cmp.{nat_list_cmp_total}
 use Rattle.cat_key.specs.Names.{IsName, name_cmp}
@@ -12,7 +12,6 @@ use Rattle.cat_history.specs.Maps.{Map, at, map_of}
 use Rattle.cat_history.specs.Writes.{after_all}
 use Rattle.pm_words.specs.declared.layout.Layout.{Layout}
 use Rattle.pm_words.specs.Layouts.{IsLayout}
-use Rattle.version_lock.specs.declared.TheConstants.{LAST_COUNT}
 use Rattle.shapes.specs.Members.{Member, members}
 use Rattle.shapes.specs.ShapeRounds.{PutsFull}
 use Rattle.shapes.specs.Weights.{IsShape}
@@ -35,7 +34,6 @@ use Rattle.node_ops.specs.Asked.{name_asked}
 use Rattle.data_node.specs.Lists.{key_of}
 use Rattle.data_node.proofs.ListLemmas.{chain_closed, target_in}
 use Rattle.index_law.specs.Anchors.{anchors_of, anchors_in}
-use Rattle.index_law.specs.Facts.{list_in}
 use Rattle.index_law.specs.Worlds.{World, facts}
 use Rattle.index_law.proofs.Holding.{idle_has_shape}
 use Rattle.index_law.proofs.Starts.{listed_within}
@@ -49,7 +47,13 @@ use Rattle.index_core.specs.declared.party.Whole.{Whole}
 use Rattle.index_core.specs.declared.party.Whole.TheVariants as whole
 use Rattle.index_core.specs.CoreCalls.{op_of, most_writes}
 use Rattle.index_core.specs.Fulls.{HasLowStamps}
-use Rattle.lone_turn.specs.LoneTurns.{stamp_in, stamp_then}
+use Rattle.lone_turn.specs.CallLogs.{empty_lines, is_own_empty}
+use Rattle.lone_turn.specs.LoneTurns.{is_ready, line_state, stamp_in, stamp_then}
+use Rattle.turn_law.specs.Covers.{empty_state, ready_state}
+use Rattle.turn_row.specs.Columns.{line_count, line_word}
+use Rattle.turn_row.proofs.RowColumns.{column-here}
+use Rattle.recovery_law.proofs.RowColumns.{word_if-here}
+use Rattle.updater.specs.Events.{how_many}
 use Rattle.updater.specs.declared.terms.Turned.{Turned}
 use Rattle.index_core.specs.Turns.{TurnsAlone}
 use Rattle.index_core.proofs.Retrying.{stamped_are_gone}
@@ -59,7 +63,8 @@ use Rattle.std.proofs.lemmas.List.{length-map}
 use Rattle.std.specs.FinMap.{entries, len-entries}
 use Rattle.cat_history.proofs.ReplayLemmas.{map_of-pairs_of}
 use Rattle.pm_words.specs.Images.{Row, fresh_words}
-use Rattle.pm_words.specs.Locations.{Header, Node}
+use Rattle.pm_words.specs.Locations.{Cached, Header, Node}
+use Rattle.pm_words.specs.Locations as positions
 use Rattle.pm_words.proofs.Made.{fresh_at}
 use Rattle.version_lock.specs.Versions.{IsGeneration}
 use Rattle.data_node.specs.Lists.{next_offset}
@@ -75,7 +80,7 @@ use Rattle.sound_image.specs.Weights.{image_weight}
 use Rattle.shapes.specs.Anchors.{Anchors}
 use Rattle.shapes.specs.ShapeRounds.{IsShapeWithin}
 use Rattle.index_law.specs.Anchors.{image_anchors}
-use Rattle.core_rounds.specs.CoreMaps.{calls_left_of, writes_left_of, IsUnlimited, IsCoreMap, IsNextRun, IsOfRun, IsOpenedMap, anchors_made, fresh_image}
+use Rattle.core_rounds.specs.CoreMaps.{calls_left_of, writes_left_of, IsUnlimited, IsCoreMap, IsNextRun, IsOfRun, IsOpenedMap, Waits, anchors_made, fresh_image}
 use Rattle.recovery.specs.Opened.{IsOpenedFrom, IsOpenFault}
 use Rattle.recovery.specs.declared.opening.OpenFault.{OpenFault}
 use Rattle.recovery.specs.declared.opening.OpenFault.TheVariants as opening
@@ -155,7 +160,7 @@ pub same_run : (s s' : Index) {l : Layout} {number : ℕ} → IsOfRun l number s
 same_run s s' was layout generation = record { layout = layout ∙ was.layout; generation = generation ∙ was.generation }
 
 -- where calls are left, so are four locks of each node
-locks_remain : (s : Index) → 0 < calls_left_of s → 4 ≤ locks_left s
+pub locks_remain : (s : Index) → 0 < calls_left_of s → 4 ≤ locks_left s
 locks_remain s left = omega (arith, left)
 
 -- then no node is worn, and no clock has come to a limit that is none
@@ -218,7 +223,7 @@ stays_low s i c new r runs low n here =
     (runs.stamps n within)
 
 -- nor is the node worn behind that of a name
-next_unworn : (s : Index) (name : List ℕ) → IsIndex s → 0 < calls_left_of s → NextIsWorn (world s) name → ⊥
+pub next_unworn : (s : Index) (name : List ℕ) → IsIndex s → 0 < calls_left_of s → NextIsWorn (world s) name → ⊥
 next_unworn s name is left worn =
     let f = facts (world s) in
     let n = node_for s name in
@@ -395,6 +400,40 @@ opened_within image s is =
       few = omega arith;
     }
 
+-- its log is empty, and no node is GONE
+opened_line : (image : Row) (s : Index) (j : ℕ) → IsOpenedFrom image s → j < line_count s.layout → line_state (world s) j ≡ empty_state
+opened_line image s j is small =
+    let l = s.layout in
+    let inside : (nat_lt j (line_count l) && nat_lt 0 8) ≡ true = rw (lt-ltb j (line_count l) small) refl in
+    column-here l s.words (line_count l) (λ n. Cached (line_word 0 n)) j small
+    ∙ sym (word_if-here (nat_lt j (line_count l) && nat_lt 0 8) (positions.at l s.words (Cached (line_word 0 j))) inside)
+    ∙ is.rests.empty j
+
+all_many : (test : ℕ → Bool) (n : ℕ) → ((k : ℕ) → k < n → test k ≡ true) → how_many test n ≡ n
+all_many test zero all = refl
+all_many test (suc n) all =
+    let before = all_many test n (λ k small. all k (omega arith)) in
+    ap (λ b. cond b (how_many test n + 1) (how_many test n)) (all n (omega arith)) ∙ omega (arith, before)
+
+none_many : (test : ℕ → Bool) (n : ℕ) → ((k : ℕ) → k < n → test k ≡ false) → how_many test n ≡ 0
+none_many test zero none = refl
+none_many test (suc n) none = ap (λ b. cond b (how_many test n + 1) (how_many test n)) (none n (omega arith)) ∙ none_many test n (λ k small. none k (omega arith))
+
+opened_waits : (image : Row) (s : Index) → IsOpenedFrom image s → (lines puts : ℕ) → lines ≤ 8 → length (image_anchors image.layout image.words) + puts < image.layout.nodes → Waits s 0 lines puts
+opened_waits image s is lines puts few room =
+    let callers = is.index.lawful.row.layout.callers in
+    let all : empty_lines 0 (world s) ≡ 8 =
+    all_many (is_own_empty 0 (world s)) 8 (λ k small. eq-eqb (line_state (world s) (8 * 0 + k)) empty_state (opened_line image s (8 * 0 + k) is (omega arith))) in
+    let size : length (anchors_in (world s)) ≡ length (image_anchors image.layout image.words) = ap length is.anchors in
+    let gone = is.gone in
+    let nodes : s.layout.nodes ≡ image.layout.nodes = ap (λ (l : Layout). l.nodes) is.layout in
+    record {
+      ready = none_many (is_ready (world s)) (line_count s.layout)
+          (λ k small. ap (λ (state : ℕ). state == ready_state) (opened_line image s k is small));
+      lines = omega arith;
+      nodes = omega arith;
+    }
+
 pub opened_so : (image : Row) (writes : ℕ) (s s' : Index) → IsOpenedFrom image s → s' ≡ record s { spare = s'.spare } → writes ≤ s'.spare → writes ≤ 2 ^ 62 → IsOpenedMap image writes s'
 opened_so image writes s s' from kept spare few =
     let is = opened_core image s s' from kept in
@@ -413,6 +452,7 @@ opened_so image writes s s' from kept spare few =
           (subst (λ (m : Map). IsShapeWithin s'.layout.slots s'.layout.nodes weighs (len m) m (anchors_in (world s'))) contents (opened_within image s' is)));
       calls_left = ap (λ (n : ℕ). n / 4) is.locks;
       writes_left = le-min spare (omega (arith, empty_history, few));
+      waits = opened_waits image s' is;
     }
 
 -- ---- fresh images

@@ -3,5 +3,7 @@ pub mod CoreMaps
 pub mod LoneRoundSteps
 pub mod Played
 pub mod RoundTurns
+pub mod RoundWaits
 pub mod ScanSteps
 pub mod Summing
+pub mod Waiting

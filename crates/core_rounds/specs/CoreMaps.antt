@@ -1,11 +1,11 @@
 -- The index, called by one caller with no other call in flight, as a map of names.
-use Rattle.std.specs.Prelude.{◌≡◌, ℕ, suc, ◌-◌, ◌/◌, ◌^◌, ◌<◌, ◌≤◌, min, length}
+use Rattle.std.specs.Prelude.{◌≡◌, ℕ, suc, ◌+◌, ◌-◌, ◌*◌, ◌/◌, ◌%◌, ◌^◌, ◌<◌, ◌≤◌, ◌==◌, ◌⊎◌, min, length}
 use Rattle.std.specs.FinMap.{len}
 use Rattle.pm_words.specs.Images.{Row, fresh_words}
 use Rattle.pm_words.specs.Locations.{Line, word_at}
 use Rattle.pm_words.specs.Rows.{cached_row}
 use Rattle.pm_words.specs.declared.layout.Layout.{Layout}
-use Rattle.shapes.specs.Anchors.{Anchors, put_anchors, del_anchors}
+use Rattle.shapes.specs.Anchors.{Anchors, put_anchors, del_anchors, merges, splits}
 use Rattle.shapes.specs.ShapeRounds.{IsShapeWithin}
 use Rattle.sound_image.specs.Rules.{header_generation}
 use Rattle.sound_image.specs.Sound.{IsMapOf, image_map}
@@ -14,13 +14,16 @@ use Rattle.sound_layer.specs.Sound.{IsSoundByAll}
 use Rattle.version_lock.specs.Versions.{IsGeneration}
 use Rattle.version_lock.specs.declared.TheConstants.{LAST_COUNT}
 use Rattle.index_law.specs.Anchors.{anchors_in, image_anchors}
+use Rattle.lone_turn.specs.CallLogs.{empty_lines, ready_lines}
 use Rattle.lone_turn.specs.LoneTurns.{line_state}
-use Rattle.turn_law.specs.Covers.{empty_state}
+use Rattle.turn_law.specs.Covers.{empty_state, ready_state}
+use Rattle.updater.specs.Events.{how_many}
 use Rattle.index_core.specs.declared.party.CoreCall.{CoreCall}
 use Rattle.index_core.specs.declared.party.CoreCall.TheVariants as call
 use Rattle.index_core.specs.Indexes.{Index, IsIndex, map_of_index, world}
-use Rattle.index_core.specs.Lone.{IsQuiet, locks_left}
+use Rattle.index_core.specs.Lone.{IsQuiet, locks_left, taken_nodes}
 use Rattle.index_core.specs.Fulls.{HasLowStamps}
+use Rattle.core_rounds.specs.Waiting.{one_if}
 
 -- How many more calls it can have: each takes four locks of each node at most.
 abbrev pub calls_left_of : Index → ℕ
@@ -48,6 +51,31 @@ anchors_made s (call.Part low count) = anchors_in (world s)
 anchors_made s (call.Recheck node version) = anchors_in (world s)
 anchors_made s (call.Turn stamp release) = anchors_in (world s)
 
+-- How many puts a call is, and how many changes of the shape one makes that takes place: one where a put splits, or a
+-- delete merges.
+abbrev pub puts_for : CoreCall → ℕ
+puts_for (call.Put name value limit) = 1
+puts_for (call.Get name) = 0
+puts_for (call.Del name limit) = 0
+puts_for (call.Part low count) = 0
+puts_for (call.Recheck node version) = 0
+
+abbrev pub changes_for : Index → CoreCall → ℕ
+changes_for s (call.Put name value limit) =
+    one_if (splits s.layout.slots (map_of_index s) (anchors_in (world s)) name)
+changes_for s (call.Get name) = 0
+changes_for s (call.Del name limit) =
+    one_if (merges s.layout.slots (map_of_index s) (anchors_in (world s)) name)
+changes_for s (call.Part low count) = 0
+changes_for s (call.Recheck node version) = 0
+
+-- So many log lines are READY, each of which waits for the updater. So many more puts and deletes of the first caller, of
+-- which so many are puts, have an EMPTY line and a FREE node each.
+pub record Waits (s : Index) (changes writes puts : ℕ) : Type 0 where
+  pub ready : ready_lines (world s) ≡ changes
+  pub lines : writes ≤ empty_lines 0 (world s)
+  pub nodes : taken_nodes s + puts < s.layout.nodes
+
 -- Between two calls none is in flight, no node has a stamp that turns don't release, and the names are counted.
 pub record IsCoreMap (s : Index) (names : ℕ) : Type 0 where
   pub index : IsIndex s
@@ -69,7 +97,8 @@ pub record IsNextRun (image : Row) (l : Layout) (number : ℕ) : Type 0 where
   pub generation : number ≡ suc (header_generation image.layout image.words)
 
 -- The map that a sound image opens as which has a next generation: with the names, the shape and the weight of the
--- image, all its calls left, and room for so many writes.
+-- image, all its calls left, and room for so many writes. No line waits, and the first caller's eight are EMPTY; all
+-- nodes but those of the list are FREE.
 pub record IsOpenedMap (image : Row) (writes : ℕ) (s : Index) : Type 0 where
   pub sound : IsSoundByAll image.layout image.words
   pub next : IsGeneration (suc (header_generation image.layout image.words))
@@ -82,6 +111,8 @@ pub record IsOpenedMap (image : Row) (writes : ℕ) (s : Index) : Type 0 where
       (image_anchors image.layout image.words)
   pub calls_left : calls_left_of s ≡ LAST_COUNT / 4
   pub writes_left : writes ≤ writes_left_of s
+  pub waits : (lines puts : ℕ) → lines ≤ 8 →
+      length (image_anchors image.layout image.words) + puts < image.layout.nodes → Waits s 0 lines puts
 
 -- Each of its log lines is EMPTY, and so none waits for a turn.
 abbrev pub HasNoLines : Index → Type 0
@@ -92,6 +123,15 @@ abbrev pub ImageHasNoLines : Row → Type 0
 ImageHasNoLines image = (c j : ℕ) → c < image.layout.callers → j < 8 →
     word_at image.layout image.words (Line c j 0) ≡ empty_state
 
+-- So many of the log lines of the image are READY, and the others are EMPTY.
+abbrev pub image_line : Row → ℕ → ℕ
+image_line image j = word_at image.layout image.words (Line (j / 8) (j % 8) 0)
+
+pub record ImageWaits (image : Row) (changes : ℕ) : Type 0 where
+  pub ready : how_many (λ j. image_line image j == ready_state) (8 * image.layout.callers) ≡ changes
+  pub others : (j : ℕ) → j < 8 * image.layout.callers →
+      (image_line image j ≡ empty_state) ⊎ (image_line image j ≡ ready_state)
+
 -- The image keeps the index: its cached words, which are sound by all rules, with its map, its shape and its generation.
 pub record IsImageOf (s : Index) (image : Row) : Type 0 where
   pub layout : image.layout ≡ s.layout
@@ -101,3 +141,4 @@ pub record IsImageOf (s : Index) (image : Row) : Type 0 where
   pub keeps : IsMapOf image.layout image.words (map_of_index s)
   pub anchors : image_anchors image.layout image.words ≡ anchors_in (world s)
   pub lines : HasNoLines s → ImageHasNoLines image
+  pub waits : ImageWaits image (ready_lines (world s))

@@ -2,3 +2,4 @@ pub mod LoneCalls
 pub mod Rounds
 pub mod CoreMaps
 pub mod Summaries
+pub mod Waiting

@@ -1,6 +1,6 @@
 //! The core of the index as a map of names: each call is a whole call of one caller, with no other in flight.
 
-ghost use Rattle.std.specs.Prelude.{◌≡◌, ◌+◌, ◌/◌, ◌^◌, ◌<◌, ◌≤◌, ◌↔◌, [], ◌∷◌, IfOk, OnOk, OnErr, IsErr};
+ghost use Rattle.std.specs.Prelude.{◌≡◌, ℕ, ◌+◌, ◌/◌, ◌^◌, ◌<◌, ◌≤◌, ◌↔◌, [], ◌∷◌, IfOk, OnOk, OnErr, IsErr};
 ghost use Rattle.std.specs.Prelude.{MatchResult};
 ghost use Rattle.std.specs.FinMap.{empty};
 ghost use Rattle.cat_history.specs.Maps.{at};
@@ -20,7 +20,7 @@ ghost use Rattle.shapes.specs.ShapeRounds.{PutsFull};
 ghost use Rattle.recovery.specs.Opened.{IsOpenFault};
 ghost use Rattle.recovery.specs.declared.opening.OpenFault.TheVariants.{NoMemory as OutOfMemory};
 ghost use Rattle.core_rounds.specs.CoreMaps.{IsImageOf, IsNextRun, IsOfRun, IsOpenedMap, IsUnlimited};
-ghost use Rattle.core_rounds.specs.CoreMaps.{anchors_made, calls_left_of, writes_left_of};
+ghost use Rattle.core_rounds.specs.CoreMaps.{Waits, anchors_made, calls_left_of, changes_for, puts_for, writes_left_of};
 
 use crate::updated_map::UpdatedMap;
 use call_stages::Once;
@@ -30,13 +30,16 @@ use index_core::{Core, CoreCall, listed_pairs};
 use node_ops::PartWords;
 use pm_words::{Image, Layout, Steps};
 use recovery::{OpenFault, recover};
-use shapes::{Full, MapPart, NameMap};
+use shapes::{Full, MapPart};
 use std::alloc::Global;
 use std::marker::{Brand, Model, PhantomData};
 use std::sync::ledger::Ledger;
 
 /// The caller that makes the calls.
 const CALLER: u64 = 0;
+
+/// The stamp that turns of the updater give to merged nodes, and the greatest that they release.
+const STAMP: u64 = 1;
 
 /// The clock at which writes are refused. No run comes as far.
 const LIMIT: u64 = 1 << 62;
@@ -144,10 +147,10 @@ fn fresh_fault(fault: OpenFault) -> NoMemory
     }
 }
 
-impl<L: Ledger, K: RunOf> NameMap for CoreMap<L, K> {
+impl<L: Ledger, K: RunOf> UpdatedMap for CoreMap<L, K> {
     ghost use Rattle.index_core.specs.Indexes.{map_of_index, world};
     ghost use Rattle.index_law.specs.Anchors.{anchors_in};
-    ghost use Rattle.core_rounds.specs.CoreMaps.{calls_left_of, writes_left_of};
+    ghost use Rattle.core_rounds.specs.CoreMaps.{HasNoLines, Waits, calls_left_of, writes_left_of};
 
     ghost contents = { map_of_index };
 
@@ -160,6 +163,10 @@ impl<L: Ledger, K: RunOf> NameMap for CoreMap<L, K> {
     ghost calls_left = { calls_left_of };
 
     ghost writes_left = { writes_left_of };
+
+    ghost is_settled = { HasNoLines };
+
+    ghost waits = { Waits };
 
     fn has_shape(&self) {
         // Its fields have what is known of it.
@@ -214,15 +221,6 @@ impl<L: Ledger, K: RunOf> NameMap for CoreMap<L, K> {
     fn len(&self) -> u64 {
         self.names
     }
-}
-
-/// The stamp that turns of the updater give to merged nodes, and the greatest that they release.
-const STAMP: u64 = 1;
-
-impl<L: Ledger, K: RunOf> UpdatedMap for CoreMap<L, K> {
-    ghost use Rattle.core_rounds.specs.CoreMaps.{HasNoLines};
-
-    ghost is_settled = { HasNoLines };
 
     fn turn(&mut self) {
         let updater = self.core.layout().callers();
@@ -254,6 +252,12 @@ fn call_alone<L: Ledger>(
     ensures generation { core.new.generation ≡ core.old.generation }
     ensures calls_left { calls_left_of core.old ≤ calls_left_of core.new + 1 }
     ensures writes_left { writes_left_of core.old ≤ writes_left_of core.new + most_writes call }
+    ensures waits { OnOk result ((changes writes puts : ℕ) →
+        Waits core.old changes (writes + most_writes call) (puts + puts_for call) →
+        Waits core.new (changes + changes_for core.old call) writes puts) }
+    ensures err_waits { OnErr result ((changes writes puts : ℕ) →
+        Waits core.old changes (writes + most_writes call) (puts + puts_for call) →
+        Waits core.new changes writes puts) }
     ensures quiet { IsQuiet core.new }
     ensures stamps { HasLowStamps core.old → HasLowStamps core.new }
     ensures index { IsIndex core.new }
@@ -281,6 +285,8 @@ fn list_alone<L: Ledger>(core: &mut Core, low: &Name, count: u64, steps: &mut St
     ensures generation { core.new.generation ≡ core.old.generation }
     ensures calls_left { calls_left_of core.old ≤ calls_left_of core.new + 1 }
     ensures writes_left { writes_left_of core.old ≤ writes_left_of core.new }
+    ensures waits { (changes writes puts : ℕ) → Waits core.old changes writes puts →
+        Waits core.new changes writes puts }
     ensures quiet { IsQuiet core.new }
     ensures stamps { HasLowStamps core.old → HasLowStamps core.new }
     ensures index { IsIndex core.new }

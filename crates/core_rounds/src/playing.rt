@@ -1,11 +1,12 @@
 //! Playing rounds on the index, one after another.
 
-ghost use Rattle.std.specs.Prelude.{◌≡◌, ◌*◌, ◌<◌, ◌≤◌, [], ◌∷◌, All, IfOk};
+ghost use Rattle.std.specs.Prelude.{◌≡◌, ℕ, ◌+◌, ◌*◌, ◌<◌, ◌≤◌, [], ◌∷◌, All, IfOk};
 ghost use Rattle.std.specs.FinMap.{empty};
 ghost use Rattle.pm_words.specs.Layouts.{IsLayout};
 ghost use Rattle.cat_text.specs.ReportGrammar.{IsReportRound};
 ghost use Rattle.core_rounds.specs.LoneCalls.{AreLoneCalls, AreReportCalls, calls_in};
 ghost use Rattle.core_rounds.specs.Rounds.{ArePaidFromEmpty, ArePlayedRounds, RoundsEndWithTurn, map_end, shape_end};
+ghost use Rattle.core_rounds.specs.Waiting.{HaveNoTurns, changes_made, puts_asked, writes_asked};
 
 use crate::core_map::{CoreMap, RunOf};
 use crate::round::run_lone_round;
@@ -69,6 +70,10 @@ pub fn play_rounds<M: UpdatedMap>(
     ensures anchors { IfOk result (λ reports. M.anchors map.new ≡ shape_end (M.slots map.old) (M.contents map.old)
         (M.anchors map.old) reports) }
     ensures settled { IfOk result (λ _. RoundsEndWithTurn plans.now → M.is_settled map.new) }
+    ensures waits { IfOk result (λ reports. HaveNoTurns plans.now → (changes writes puts : ℕ) →
+        M.waits map.old changes (writes + writes_asked plans.now) (puts + puts_asked plans.now) →
+        M.waits map.new (changes + changes_made (M.slots map.old) (M.contents map.old) (M.anchors map.old) reports)
+        writes puts) }
     ensures report { IfOk result (All IsReportRound) }
 {
     let mut rounds = Vec::with_capacity(alloc, plans.len())?;

@@ -13,12 +13,13 @@ ghost use Rattle.shapes.specs.Laws.{IsScanByShape};
 ghost use Rattle.shapes.specs.ShapeRounds.{anchors_after, anchors_end, EndsWithMembers, PutsFull};
 ghost use Rattle.core_rounds.specs.LoneCalls.{AreLoneCalls, AreReportCalls, IsLeftBy};
 ghost use Rattle.core_rounds.specs.Rounds.{EndsWithTurn, IsPlayedRound, IsTurnDue, StopsWithin};
+ghost use Rattle.core_rounds.specs.Waiting.{changes_in, one_change, one_put, one_write, puts_among, writes_among};
 
 use crate::updated_map::UpdatedMap;
 use cat_history::{CutMark, Listed, NoMemory, Op, Parts, Record, Reply, RoundPlan, ScanPart};
 use cat_key::Name;
 use cat_text::RoundReport;
-use shapes::{Full, MapPart, NameMap};
+use shapes::{Full, MapPart};
 use std::alloc::Global;
 
 /// Answers the calls of one caller in their order, each on the map as the earlier ones left it. A put or a delete that
@@ -51,6 +52,11 @@ pub fn run_lone_round<M: UpdatedMap>(
     ensures writes_left { M.writes_left map.old ≤ M.writes_left map.new + length plan.now.ops }
     // Where it ends with a turn, that has done all that its calls left to the updater.
     ensures settled { IfOk result (λ _. EndsWithTurn plan.now → M.is_settled map.new) }
+    // Without turns the changes of the shape that its calls make wait.
+    ensures waits { IfOk result (λ report. plan.now.updater ≡ 0 → (changes writes puts : ℕ) →
+        M.waits map.old changes (writes + writes_among plan.now.ops) (puts + puts_among plan.now.ops) →
+        M.waits map.new (changes + changes_in (M.slots map.old) (M.contents map.old) (M.anchors map.old)
+        report.records) writes puts) }
     ensures err { OnErr result (StopsWithin (M.slots map.old) (M.most map.old) (M.contents map.old) (M.anchors map.old)
         plan.now (M.contents map.new) (M.anchors map.new)) }
 {
@@ -106,9 +112,15 @@ fn answer<M: UpdatedMap>(
     ensures calls_left { M.calls_left map.old ≤ M.calls_left map.new + M.most map.old }
     ensures writes_left { M.writes_left map.old ≤ M.writes_left map.new + 1 }
     ensures settled { IfOk result (λ _. IsTrue is_due → M.is_settled map.new) }
+    ensures waits { IfOk result (λ reply. ¬ IsTrue is_due → (changes writes puts : ℕ) →
+        M.waits map.old changes (writes + one_write op.now) (puts + one_put op.now) →
+        M.waits map.new (changes + one_change (M.slots map.old) (M.contents map.old) (M.anchors map.old) op.now reply)
+        writes puts) }
     ensures err { OnErr result (M.contents map.new ≡ M.contents map.old) }
     ensures err_anchors { OnErr result (M.anchors map.new ≡ M.anchors map.old) }
 {
+    // So there is room for fewer calls.
+    map.has_shape();
     let reply = if comes_late(op, place, limit) {
         Reply::Spent { clock: place }
     } else {
@@ -139,7 +151,7 @@ fn comes_late(op: &Op, place: u64, limit: u64) -> bool
 }
 
 /// Answers one call at once, on the map as it is, whatever the limit.
-fn answer_in_time<M: NameMap>(
+fn answer_in_time<M: UpdatedMap>(
     alloc: Global,
     map: &mut M,
     op: &Op,
@@ -160,6 +172,10 @@ fn answer_in_time<M: NameMap>(
     ensures most { M.most map.new ≡ M.most map.old }
     ensures calls_left { M.calls_left map.old ≤ M.calls_left map.new + M.most map.old }
     ensures writes_left { M.writes_left map.old ≤ M.writes_left map.new + 1 }
+    ensures waits { IfOk result (λ reply. (changes writes puts : ℕ) →
+        M.waits map.old changes (writes + one_write op.now) (puts + one_put op.now) →
+        M.waits map.new (changes + one_change (M.slots map.old) (M.contents map.old) (M.anchors map.old) op.now reply)
+        writes puts) }
     ensures err { OnErr result (M.contents map.new ≡ M.contents map.old) }
     ensures err_anchors { OnErr result (M.anchors map.new ≡ M.anchors map.old) }
 {
@@ -186,7 +202,7 @@ fn answer_in_time<M: NameMap>(
 }
 
 /// Reads the parts of a scan, one after another, until there are as many names as were asked for or no member is left.
-fn scan<M: NameMap>(
+fn scan<M: UpdatedMap>(
     alloc: Global,
     map: &mut M,
     from: &Name,
@@ -204,6 +220,8 @@ fn scan<M: NameMap>(
     ensures calls_left { M.calls_left map.old
         ≤ M.calls_left map.new + (length (past (M.anchors map.old) from.now) + 1) }
     ensures writes_left { M.writes_left map.old ≤ M.writes_left map.new }
+    ensures waits { (changes writes puts : ℕ) → M.waits map.old changes writes puts →
+        M.waits map.new changes writes puts }
 {
     let mut parts = Vec::new(alloc);
     let mut left = count;
@@ -219,7 +237,7 @@ fn scan<M: NameMap>(
 }
 
 /// Reads the part of a scan that begins at this name, with so many names left.
-fn read_part<M: NameMap>(
+fn read_part<M: UpdatedMap>(
     alloc: Global,
     map: &mut M,
     low: Name,
@@ -237,6 +255,8 @@ fn read_part<M: NameMap>(
     ensures most { M.most map.new ≡ M.most map.old }
     ensures calls_left { M.calls_left map.old ≤ M.calls_left map.new + 1 }
     ensures writes_left { M.writes_left map.old ≤ M.writes_left map.new }
+    ensures waits { (changes writes puts : ℕ) → M.waits map.old changes writes puts →
+        M.waits map.new changes writes puts }
 {
     let MapPart { high, pairs } = map.part(alloc, &low, left)?;
     Ok(ScanPart {
@@ -269,11 +289,52 @@ mod tests {
     use super::*;
     use cat_history::CallerOp;
     use cat_key::Name;
-    use shapes::PlainMap;
+    use shapes::{NameMap, PlainMap};
     use std::test::Fail;
 
+    /// It leaves nothing to an updater, and none of its calls is of use to tell what waits for one.
     impl UpdatedMap for PlainMap {
+        ghost use Rattle.std.specs.Prelude.{◌^◌, [], ◌∷◌};
+
+        ghost contents = { λ map. map.contents };
+
+        ghost anchors = { λ _. [] ∷ [] };
+
+        ghost slots = { λ map. map.room };
+
+        ghost most = { λ _. 1 };
+
+        ghost calls_left = { λ _. 2 ^ 64 };
+
+        ghost writes_left = { λ _. 2 ^ 64 };
+
         ghost is_settled = { λ _. Unit {0} };
+
+        ghost waits = { λ _ _ _ _. ⊥ };
+
+        fn has_shape(&self) {
+            NameMap::has_shape(self);
+        }
+
+        fn get(&mut self, name: &Name) -> Option<u64> {
+            NameMap::get(self, name)
+        }
+
+        fn part(&mut self, alloc: Global, low: &Name, count: u64) -> Result<MapPart, NoMemory> {
+            NameMap::part(self, alloc, low, count)
+        }
+
+        fn put(&mut self, name: &Name, value: u64) -> Result<Option<u64>, Full> {
+            NameMap::put(self, name, value)
+        }
+
+        fn del(&mut self, name: &Name) -> Option<u64> {
+            NameMap::del(self, name)
+        }
+
+        fn len(&self) -> u64 {
+            NameMap::len(self)
+        }
 
         fn turn(&mut self) {}
     }
@@ -357,7 +418,8 @@ mod tests {
             (report.writes, report.names, report.crashed),
             (3, 1, false)
         );
-        assert_eq!(rt; [map.get(&a), map.get(&b)], [None, Some(3)]);
+        let found = [NameMap::get(&mut map, &a), NameMap::get(&mut map, &b)];
+        assert_eq!(rt; found, [None, Some(3)]);
         Ok(())
     }
 }

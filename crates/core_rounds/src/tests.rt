@@ -9,7 +9,7 @@ use cat_history::{CallerOp, Listed, Op, RoundPlan};
 use cat_key::Name;
 use cat_text::{Report, print_report};
 use pm_words::{Layout, Steps};
-use shapes::{NameMap, PlainMap};
+use shapes::PlainMap;
 use std::alloc::{AllocError, Global};
 use std::marker::Brand;
 use std::sync::ledger::{Blank, Ledger};

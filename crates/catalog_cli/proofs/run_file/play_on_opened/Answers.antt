@@ -81,4 +81,4 @@ returns-clause-played g c bytes is =
     run-ends c.args.image c.in_ok-image.image c.calls_in.result _ _ c.in_ok-map.map c.play_rounds.new.map bytes c.in_ok-text.text.items c.args.script.now c.as_slice-plans.result.now
     c.in_ok-report.report c.layout-layout.ensures.image.layout c.requires.run c.in_ok-map.ensures.opened accepted c.as_slice-plans.ensures c.in_ok-report.ensures.played
     c.in_ok-report.ensures.contents c.in_ok-report.ensures.anchors c.in_ok-text.ensures.tells c.in_ok-image.ensures.image c.in_ok-image.ensures.run
-    c.in_ok-report.ensures.settled
+    c.in_ok-report.ensures.settled c.in_ok-report.ensures.waits

@@ -5,6 +5,7 @@ use Rattle.index_core.specs.Indexes.{world}
 use Rattle.index_core.specs.Lone.{FindsNoRoom, whole_of}
 use Rattle.core_rounds.specs.CoreMaps.{anchors_made}
 use Rattle.core_rounds.proofs.CoreMaps.{goes_through, full_exactly, stays_low, told_map, told_placed, told_full, writes_fall}
+use Rattle.core_rounds.proofs.Waiting.{waits_full, waits_placed}
 use Rattle.core_rounds.proofs.core_map.call_alone.Goals as goal
 
 -- there is a lock left, and the clock is below the limit
@@ -45,3 +46,12 @@ returns-in-Done-clause-stamps g c = stays_low _ _ _ _ _ c.name_alone.ensures.run
 
 pub returns-in-Again-clause-stamps : goal.returns-in-Again-clause-stamps
 returns-in-Again-clause-stamps g c = stays_low _ _ _ _ _ c.name_alone.ensures.runs
+
+pub returns-in-Done-clause-waits : goal.returns-in-Done-clause-waits
+returns-in-Done-clause-waits g c =
+    waits_placed c.args.core.now c.name_alone.new.self c.args.call (whole_of c.name_alone.result) c.in-Done.placed c.requires.index c.requires.quiet c.requires.calls_left (ap whole_of c.in-Done.is)
+    c.name_alone.ensures.runs
+
+pub returns-in-Again-clause-err_waits : goal.returns-in-Again-clause-err_waits
+returns-in-Again-clause-err_waits g c =
+    waits_full c.args.core.now c.name_alone.new.self c.args.call (whole_of c.name_alone.result) c.requires.index c.requires.quiet c.requires.calls_left (ap whole_of c.in-Again.is) c.name_alone.ensures.runs

@@ -1,4 +1,6 @@
 use Rattle.core_rounds.proofs.CoreMaps.{part_goes_through, stays_low}
+use Rattle.index_core.specs.Lone.{part_whole}
+use Rattle.core_rounds.proofs.Waiting.{waits_listed}
 use Rattle.core_rounds.proofs.core_map.list_alone.Goals as goal
 
 -- there is a lock left
@@ -8,3 +10,7 @@ unreachable-requires g c =
 
 pub returns-clause-stamps : goal.returns-clause-stamps
 returns-clause-stamps g c = stays_low _ _ _ _ _ c.part_alone.ensures.runs
+
+pub returns-clause-waits : goal.returns-clause-waits
+returns-clause-waits g c changes writes puts waits =
+    waits_listed c.args.core.now c.part_alone.new.self c.args.low.now c.args.count (part_whole c.part_alone.result) c.requires.index c.requires.quiet c.requires.calls_left c.part_alone.ensures.runs changes writes puts waits

@@ -1,23 +1,27 @@
-use Rattle.std.proofs.Common.{◌≡◌, ◌*◌, ◌≤◌, take, drop, All}
+use Rattle.std.proofs.Common.{◌≡◌, ℕ, ◌+◌, ◌*◌, ◌≤◌, take, drop, All}
 use Rattle.cat_text.specs.ReportGrammar.{IsReportRound}
 use Rattle.core_rounds.specs.LoneCalls.{calls_in}
 use Rattle.core_rounds.specs.Rounds.{RoundsEndWithTurn}
+use Rattle.core_rounds.specs.Waiting.{HaveNoTurns, changes_made, puts_asked, writes_asked}
 use Rattle.core_rounds.proofs.Played.{GoOn}
 use Rattle.core_rounds.proofs.playing.play_rounds.Given as goal
 
 -- the rounds so far are played, the rest goes on from the map and the shape as they are, and there are calls and writes left for the rest
 abbrev pub invariant-loop-plan : goal.invariant-loop-plan
 invariant-loop-plan g l =
-    let contents = g.M.NameMap.contents in
-    let anchors = g.M.NameMap.anchors in
-    let slots = g.M.NameMap.slots in
-    let most = g.M.NameMap.most in
+    let contents = g.M.UpdatedMap.contents in
+    let anchors = g.M.UpdatedMap.anchors in
+    let slots = g.M.UpdatedMap.slots in
+    let most = g.M.UpdatedMap.most in
     record {
       slots_stay : slots l.map ≡ slots l.fn.map;
       most_stays : most l.map ≡ most l.fn.map;
       played : GoOn (slots l.fn.map) (most l.fn.map) (contents l.fn.map) (anchors l.fn.map) (take l.plan-index l.plans) l.rounds.items (contents l.map) (anchors l.map);
       told : All IsReportRound l.rounds.items;
+      waits : HaveNoTurns l.plans → (changes writes puts : ℕ) →
+          g.M.UpdatedMap.waits l.fn.map changes (writes + writes_asked (take l.plan-index l.plans)) (puts + puts_asked (take l.plan-index l.plans)) →
+          g.M.UpdatedMap.waits l.map (changes + changes_made (slots l.fn.map) (contents l.fn.map) (anchors l.fn.map) l.rounds.items) writes puts;
       settled : RoundsEndWithTurn (take l.plan-index l.plans) → g.M.UpdatedMap.is_settled l.map;
-      calls : calls_in (drop l.plan-index l.plans) * most l.fn.map ≤ g.M.NameMap.calls_left l.map;
-      writes : calls_in (drop l.plan-index l.plans) ≤ g.M.NameMap.writes_left l.map;
+      calls : calls_in (drop l.plan-index l.plans) * most l.fn.map ≤ g.M.UpdatedMap.calls_left l.map;
+      writes : calls_in (drop l.plan-index l.plans) ≤ g.M.UpdatedMap.writes_left l.map;
     }

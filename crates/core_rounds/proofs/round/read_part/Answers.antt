@@ -6,7 +6,7 @@ use Rattle.core_rounds.proofs.round.read_part.Goals as goal
 
 pub returns-clause-part : goal.returns-clause-part
 returns-clause-part g c =
-    let M = g.M.NameMap in
+    let M = g.M.UpdatedMap in
     let told = c.in_ok-high.ensures in
     part-is (M.contents c.args.map.now) (M.anchors c.args.map.now) c.args.low c.args.left c.args.place _ _ told.high told.pairs
 
@@ -18,5 +18,5 @@ returns-clause-report g c =
       high = search rules;
       place = c.ranges.place.fits;
       pairs = told.named;
-      rise = subst Rise (sym told.pairs) (range_rises (g.M.NameMap.contents c.args.map.now) c.args.low _ c.args.left);
+      rise = subst Rise (sym told.pairs) (range_rises (g.M.UpdatedMap.contents c.args.map.now) c.args.low _ c.args.left);
     }

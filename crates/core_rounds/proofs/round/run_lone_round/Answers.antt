@@ -1,4 +1,4 @@
-use Rattle.std.proofs.Common.{◌≡◌, ℕ, ◌+◌, ◌<◌, ◌≤◌, ◌↔◌, cond, List, [], ◌∷◌, ◌++◌, length, take, map, All, rules, refl, ap, subst, ◌∙◌, sym, arith, length-append}
+use Rattle.std.proofs.Common.{◌≡◌, ℕ, ◌+◌, ◌<◌, ◌≤◌, ◌↔◌, cond, List, [], ◌∷◌, ◌++◌, length, get_or, take, map, All, rules, refl, ap, subst, ◌∙◌, sym, arith, length-append}
 use Rattle.std.specs.FinMap.{len}
 use Rattle.cat_history.specs.LoneRounds.{write_of, writes_of, IsAnswerNow, IsSpent}
 use Rattle.cat_history.specs.Records.{call_of, numbered}
@@ -13,18 +13,21 @@ use Rattle.cat_text.proofs.LoneReports.{lone_stand}
 use Rattle.shapes.specs.Runs.{Standing, opening}
 use Rattle.shapes.specs.ShapeRounds.{PutsFull, anchors_after}
 use Rattle.core_rounds.proofs.LoneRoundSteps.{one_at_most, recorded, writes_of-push, calls-push, calls-whole, along-push, ends-push, full-push, stands-push, anchors-push, bounds-push, told-push, none-so-far}
+use Rattle.std.proofs.lemmas.List.{take_all}
+use Rattle.core_rounds.specs.Waiting.{changes_in, one_change, puts_among, writes_among}
+use Rattle.core_rounds.proofs.RoundWaits.{changes_in-push, waits-call}
 use Rattle.core_rounds.proofs.round.run_lone_round.Goals.{then-is_placed_write, else-is_placed_write}
 use Rattle.core_rounds.proofs.round.run_lone_round.Goals as goal
 
 pub returns-in_err-records-clause-err : goal.returns-in_err-records-clause-err
 returns-in_err-records-clause-err g c =
-    let M = g.M.NameMap in
+    let M = g.M.UpdatedMap in
     let none = none-so-far (M.slots c.args.map.now) (M.most c.args.map.now) (M.contents c.args.map.now) (M.anchors c.args.map.now) c.args.plan.now in
     search (rules, none)
 
 pub loop-index-preserved : goal.loop-index-preserved
 loop-index-preserved g c =
-    let M = g.M.NameMap in
+    let M = g.M.UpdatedMap in
     let was = c.loop-index.invariant in
     let asked = c.as_slice-asked.result.now in
     let same = c.as_slice-asked.ensures in
@@ -78,6 +81,13 @@ loop-index-preserved g c =
       writes_left = omega (arith, was.writes_left, c.answer.ensures.writes_left);
       made = c.push_reserved.ensures.len ∙ omega (arith, was.made);
       reserved = omega (arith, was.reserved, c.push_reserved.ensures.capacity);
+      waits = λ none.
+          waits-call (M.waits c.args.map.now) (M.waits c.loop-index.map) (M.waits c.answer.new.map) c.args.plan.now.ops index call
+          (changes_in slots base anchors records) (one_change (M.slots c.loop-index.map) now shape call.op reply) (changes_in slots base anchors c.push_reserved.new.self.items)
+          (was.waits none) (answer.waits (λ due. let turns = (c.is_turn_due-is_due.ensures.0 due).0 in omega arith))
+          (subst (λ (ops : List CallerOp). index < length ops) same c.loop-index-test.true) (c.index-asked-index.is ∙ ap (λ (ops : List CallerOp). get_or ops index call) same)
+          (ap (changes_in slots base anchors) grown ∙ changes_in-push slots base anchors records r
+          ∙ (λ k. changes_in slots base anchors records + one_change (sym was.slots_stay k) (sym was.played.after k) (sym was.played.after_shape k) call.op reply));
       settled = λ some due. answer.settled (c.is_turn_due-is_due.ensures.1 due);
     }
 
@@ -89,7 +99,7 @@ returns-clause-played g c =
     let calls = calls-whole ops ops c.loop-index.index c.loop-index.records.items refl (omega (arith, ap length c.as_slice-asked.ensures, c.loop-index-test.false)) was.in_script_order in
     record {
       legal = rw c.of.ensures
-          (lone_rounds_are_legal (g.M.NameMap.contents c.args.map.now) c.requires.caller.0 ops c.args.plan.now.limit c.loop-index.records.items callers calls was.answers was.spent);
+          (lone_rounds_are_legal (g.M.UpdatedMap.contents c.args.map.now) c.requires.caller.0 ops c.args.plan.now.limit c.loop-index.records.items callers calls was.answers was.spent);
       answers = rw c.of.ensures was.answers;
       spent = rw c.of.ensures was.spent;
       in_script_order = rw c.of.ensures calls;
@@ -117,3 +127,12 @@ returns-clause-settled g c ends =
     let same = ap length c.as_slice-asked.ensures in
     let all : length c.args.plan.now.ops ≡ c.loop-index.index = omega (arith, same, c.loop-index-test.false) in
     c.loop-index.invariant.settled (subst (λ n. 0 < n) all ends.0) (subst (IsTurnDue c.args.plan.now.updater) all ends.1)
+
+pub returns-clause-waits : goal.returns-clause-waits
+returns-clause-waits g c none changes writes puts waits =
+    let M = g.M.UpdatedMap in
+    let ops = c.args.plan.now.ops in
+    let all = take_all c.loop-index.index ops (omega (arith, ap length c.as_slice-asked.ensures, c.loop-index-test.false)) in
+    rw c.of.ensures
+    (c.loop-index.invariant.waits none changes writes puts
+    (subst (λ (asked : List CallerOp). M.waits c.args.map.now changes (writes + writes_among asked) (puts + puts_among asked)) (sym all) waits))

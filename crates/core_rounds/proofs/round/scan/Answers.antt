@@ -12,12 +12,13 @@ loop-next-init g c = record {
   most = refl;
   calls = omega arith;
   writes = omega arith;
+  waits = λ changes writes puts waits. waits;
 }
 
 -- the next part begins where this one ends
 pub loop-next-smaller-then-left-gt0 : goal.loop-next-smaller-then-left-gt0
 loop-next-smaller-then-left-gt0 g c =
-    let anchors = g.M.NameMap.anchors c.args.map.now in
+    let anchors = g.M.UpdatedMap.anchors c.args.map.now in
     let high = c.in_ok-part.ensures.high ∙ ap (λ a. next_of a c.in-Some.low) c.loop-next.invariant.anchors in
     let come = ap (to_come anchors) c.in-Some.is in
     let less = fewer-to-come anchors c.in-Some.low c.in_ok-part.part.high high in
@@ -25,7 +26,7 @@ loop-next-smaller-then-left-gt0 g c =
 
 pub loop-next-preserved-then-left-gt0 : goal.loop-next-preserved-then-left-gt0
 loop-next-preserved-then-left-gt0 g c =
-    let anchors = g.M.NameMap.anchors c.args.map.now in
+    let anchors = g.M.UpdatedMap.anchors c.args.map.now in
     let was = c.loop-next.invariant in
     let is = next-part _ anchors _ c.in-Some.low c.loop-next.left c.args.place c.in_ok-part.part was.contents was.anchors c.in_ok-part.ensures.part c.in_ok-part.ensures.place c.in_ok-part.ensures.high c.in_ok-part.ensures.report in
     let less = fewer-to-come anchors c.in-Some.low c.in_ok-part.part.high is.bound in
@@ -39,15 +40,16 @@ loop-next-preserved-then-left-gt0 g c =
       most = c.read_part.ensures.most ∙ was.most;
       calls = omega (arith, less, come, was.calls, c.read_part.ensures.calls_left);
       writes = omega (arith, was.writes, c.read_part.ensures.writes_left);
+      waits = λ changes writes puts waits. c.read_part.ensures.waits changes writes puts (was.waits changes writes puts waits);
     }
 
 -- no name is left
 pub loop-next-smaller : goal.loop-next-smaller
-loop-next-smaller g c = let come = ap (to_come (g.M.NameMap.anchors c.args.map.now)) c.in-Some.is in omega (arith, come)
+loop-next-smaller g c = let come = ap (to_come (g.M.UpdatedMap.anchors c.args.map.now)) c.in-Some.is in omega (arith, come)
 
 pub loop-next-preserved : goal.loop-next-preserved
 loop-next-preserved g c =
-    let anchors = g.M.NameMap.anchors c.args.map.now in
+    let anchors = g.M.UpdatedMap.anchors c.args.map.now in
     let was = c.loop-next.invariant in
     let is = next-part _ anchors _ c.in-Some.low c.loop-next.left c.args.place c.in_ok-part.part was.contents was.anchors c.in_ok-part.ensures.part c.in_ok-part.ensures.place c.in_ok-part.ensures.high c.in_ok-part.ensures.report in
     let less = one-to-come anchors c.in-Some.low in
@@ -61,4 +63,5 @@ loop-next-preserved g c =
       most = c.read_part.ensures.most ∙ was.most;
       calls = omega (arith, less, come, was.calls, c.read_part.ensures.calls_left);
       writes = omega (arith, was.writes, c.read_part.ensures.writes_left);
+      waits = λ changes writes puts waits. c.read_part.ensures.waits changes writes puts (was.waits changes writes puts waits);
     }

@@ -1,13 +1,18 @@
-use Rattle.std.proofs.Common.{◌≡◌, ℕ, ◌+◌, ◌*◌, ◌/◌, ◌%◌, ◌<◌, refl, sym, ◌∙◌, subst, arith}
+use Rattle.std.proofs.Common.{◌≡◌, ℕ, zero, suc, ◌+◌, ◌*◌, ◌/◌, ◌%◌, ◌<◌, ◌==◌, Bool, cond, inl, inr, ⊎_elim, refl, sym, ap, ◌∙◌, subst, arith}
 use Rattle.std.proofs.lemmas.Result.{IfOk-weaker}
 use Rattle.pm_words.specs.Images.{Row}
-use Rattle.pm_words.specs.Locations.{Line, Cached, at}
+use Rattle.pm_words.specs.Locations.{Line, Cached, at, word_at}
+use Rattle.pm_words.specs.Rows.{cached_row}
 use Rattle.pm_words.proofs.Made.{cached_row-at}
 use Rattle.turn_row.specs.Columns.{line_count, line_word}
 use Rattle.turn_row.proofs.RowColumns.{column-here}
-use Rattle.lone_turn.specs.LoneTurns.{line_state}
+use Rattle.lone_turn.specs.LoneTurns.{is_ready, line_state}
+use Rattle.turn_law.specs.Covers.{empty_state, ready_state}
+use Rattle.updater.specs.Events.{how_many}
 use Rattle.rest_image.specs.Rest.{IsRestImage, cached_image}
-use Rattle.index_core.specs.Indexes.{Index, world}
+use Rattle.index_core.specs.Indexes.{Index, IsIndex, world}
+use Rattle.index_core.specs.Lone.{IsQuiet}
+use Rattle.index_core.proofs.Logs.{quiet_has_none_open}
 use Rattle.core_rounds.specs.CoreMaps.{IsImageOf}
 use Rattle.core_rounds.proofs.core_map.CoreMap.image.Goals as goal
 
@@ -20,9 +25,23 @@ line_is s c j here low =
     (λ i. at s.layout s.words (Cached (Line (sym caller i) (sym line i) 0)))
     ∙ sym (column-here s.layout s.words (line_count s.layout) (λ n. Cached (line_word 0 n)) k (omega arith))
 
+-- and in the image
+image_line_is : (s : Index) (k : ℕ) → k < 8 * s.layout.callers → word_at s.layout (cached_row s.layout s.words) (Line (k / 8) (k % 8) 0) ≡ line_state (world s) k
+image_line_is s k small =
+    let same : 8 * (k / 8) + k % 8 ≡ k = omega arith in
+    cached_row-at s.layout s.words (Line (k / 8) (k % 8) 0) (omega arith, omega arith, omega arith) ∙ line_is s (k / 8) (k % 8) (omega arith) (omega arith)
+    ∙ ap (line_state (world s)) same
+
+count_same : (test then : ℕ → Bool) (n : ℕ) → ((k : ℕ) → k < n → then k ≡ test k) → how_many then n ≡ how_many test n
+count_same test then zero same = refl
+count_same test then (suc n) same =
+    let before : how_many then n ≡ how_many test n = count_same test then n (λ k small. same k (omega arith)) in
+    let last : then n ≡ test n = same n (omega arith) in
+    λ k. cond (last k) (before k + 1) (before k)
+
 -- the image of an index with nothing in flight keeps it
-keeps : (s : Index) (image : Row) → image ≡ record { layout = s.layout; words = cached_image (world s) } → IsRestImage (world s) → IsImageOf s image
-keeps s image is rest = subst (IsImageOf s) (sym is) (record {
+keeps : (s : Index) (image : Row) → image ≡ record { layout = s.layout; words = cached_image (world s) } → IsIndex s → IsQuiet s → IsRestImage (world s) → IsImageOf s image
+keeps s image is index quiet rest = subst (IsImageOf s) (sym is) (record {
   layout = refl;
   words = refl;
   sound = rest.sound;
@@ -30,8 +49,16 @@ keeps s image is rest = subst (IsImageOf s) (sym is) (record {
   keeps = rest.keeps;
   anchors = rest.anchors;
   lines = λ none c j here low. cached_row-at s.layout s.words (Line c j 0) (here, low, omega arith) ∙ line_is s c j here low ∙ none (8 * c + j);
+  waits = record {
+    ready = count_same (is_ready (world s)) (λ k. word_at s.layout (cached_row s.layout s.words) (Line (k / 8) (k % 8) 0) == ready_state) (8 * s.layout.callers)
+        (λ k small. ap (λ (state : ℕ). state == ready_state) (image_line_is s k small));
+    others = λ k small. ⊎_elim
+        (λ (empty : line_state (world s) k ≡ empty_state). inl (image_line_is s k small ∙ empty))
+        (λ (ready : line_state (world s) k ≡ ready_state). inr (image_line_is s k small ∙ ready))
+        (quiet_has_none_open s index quiet k small);
+  };
 })
 
 pub returns-clause-image : goal.returns-clause-image
 returns-clause-image g c =
-    IfOk-weaker c.image.result _ _ (λ image is. subst (λ (s : Index). IsImageOf s image) c.self.view_is (keeps c.self.inside.core image is c.image.ensures.rest)) c.image.ensures.words
+    IfOk-weaker c.image.result _ _ (λ image is. subst (λ (s : Index). IsImageOf s image) c.self.view_is (keeps c.self.inside.core image is c.self.invariant.0.index c.self.invariant.0.quiet c.image.ensures.rest)) c.image.ensures.words

@@ -1,7 +1,12 @@
-use Rattle.std.proofs.Common.{refl, sym, ap, ◌∙◌, arith}
+use Rattle.std.proofs.Common.{ℕ, ◌+◌, refl, sym, ap, subst, ◌∙◌, arith}
 use Rattle.std.specs.FinMap.{len}
+use Rattle.shapes.specs.Anchors.{splits}
+use Rattle.index_law.specs.Anchors.{anchors_in}
+use Rattle.index_core.specs.Indexes.{Index, map_of_index, world}
+use Rattle.core_rounds.specs.CoreMaps.{Waits}
+use Rattle.core_rounds.specs.Waiting.{one_if}
 use Rattle.core_rounds.proofs.CoreMaps.{few_names, put_counted, same_run}
-use Rattle.core_rounds.proofs.core_map.CoreMapNameMap.put.Goals as goal
+use Rattle.core_rounds.proofs.core_map.CoreMapUpdatedMap.put.Goals as goal
 
 pub overflow_add-self : goal.overflow_add-self
 overflow_add-self g c = let few = few_names c.self.inside.core c.self.inside.names c.self.invariant.0 in omega (arith, few)
@@ -31,3 +36,13 @@ invariant_of-self g c = (
   },
   same_run c.self.inside.core c.call_alone.new.core c.self.invariant.1 c.call_alone.ensures.layout c.call_alone.ensures.generation,
 )
+
+pub returns-then-is_none-clause-waits : goal.returns-then-is_none-clause-waits
+returns-then-is_none-clause-waits g c =
+    subst (λ (s : Index). (changes writes puts : ℕ) → Waits s changes (writes + 1) (puts + 1) →
+    Waits c.call_alone.new.core (changes + one_if (splits s.layout.slots (map_of_index s) (anchors_in (world s)) c.args.name.now)) writes puts) c.self.view_is c.in_ok-old.ensures.waits
+
+pub returns-else-is_none-clause-waits : goal.returns-else-is_none-clause-waits
+returns-else-is_none-clause-waits g c =
+    subst (λ (s : Index). (changes writes puts : ℕ) → Waits s changes (writes + 1) (puts + 1) →
+    Waits c.call_alone.new.core (changes + one_if (splits s.layout.slots (map_of_index s) (anchors_in (world s)) c.args.name.now)) writes puts) c.self.view_is c.in_ok-old.ensures.waits

@@ -1,0 +1,17 @@
+use Rattle.std.proofs.Common.{subst, arith}
+use Rattle.shapes.specs.Weights.{IsShape}
+use Rattle.index_core.specs.Indexes.{map_of_index, world}
+use Rattle.index_law.specs.Anchors.{anchors_in}
+use Rattle.core_rounds.proofs.CoreMaps.{core_shape}
+use Rattle.core_rounds.proofs.core_map.CoreMapUpdatedMap.has_shape.Goals as goal
+
+pub returns-clause-shape : goal.returns-clause-shape
+returns-clause-shape g c =
+    subst (λ s. IsShape s.layout.slots s.layout.nodes (map_of_index s) (anchors_in (world s))) c.self.view_is
+    (core_shape c.self.inside.core c.self.inside.names c.self.invariant.0)
+
+pub returns-clause-fewer : goal.returns-clause-fewer
+returns-clause-fewer g c changes writes puts fewer_writes fewer_puts below below_puts waits =
+    let lines = waits.lines in
+    let nodes = waits.nodes in
+    record { ready = waits.ready; lines = omega (arith, lines, below); nodes = omega (arith, nodes, below_puts) }
