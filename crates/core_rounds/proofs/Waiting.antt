@@ -37,6 +37,7 @@ needs_none s (call.Del name limit) changes writes puts is quiet left waits =
 needs_none s (call.Get name) changes writes puts is quiet left waits = tt
 needs_none s (call.Part low count) changes writes puts is quiet left waits = tt
 needs_none s (call.Recheck node version) changes writes puts is quiet left waits = tt
+needs_none s (call.Turn stamp release) changes writes puts is quiet left waits = tt
 
 -- puts split, and puts and deletes alone change the shape
 split_is_put : (s new : Index) (c : CoreCall) → SplitsFor c s new → 1 ≤ puts_for c
@@ -45,6 +46,7 @@ split_is_put s new (call.Get name) cut = absurd cut
 split_is_put s new (call.Del name limit) cut = absurd cut
 split_is_put s new (call.Part low count) cut = absurd cut
 split_is_put s new (call.Recheck node version) cut = absurd cut
+split_is_put s new (call.Turn stamp release) cut = absurd cut
 
 change_is_write : (s new : Index) (c : CoreCall) → SplitsFor c s new ⊎ MergesFor c s new → 1 ≤ most_writes c
 change_is_write s new (call.Put name value limit) change = omega arith
@@ -52,6 +54,7 @@ change_is_write s new (call.Del name limit) change = omega arith
 change_is_write s new (call.Get name) change = absurd (⊎_elim (λ (none : ⊥). none) (λ (none : ⊥). none) change)
 change_is_write s new (call.Part low count) change = absurd (⊎_elim (λ (none : ⊥). none) (λ (none : ⊥). none) change)
 change_is_write s new (call.Recheck node version) change = absurd (⊎_elim (λ (none : ⊥). none) (λ (none : ⊥). none) change)
+change_is_write s new (call.Turn stamp release) change = absurd (⊎_elim (λ (none : ⊥). none) (λ (none : ⊥). none) change)
 
 -- with another shape other nodes are listed
 same_size : (s new : Index) → HasSameList s new → length (anchors_in (world new)) ≡ length (anchors_in (world s))
@@ -66,6 +69,7 @@ cut_is_other s new (call.Get name) same cut = cut
 cut_is_other s new (call.Del name limit) same cut = cut
 cut_is_other s new (call.Part low count) same cut = cut
 cut_is_other s new (call.Recheck node version) same cut = cut
+cut_is_other s new (call.Turn stamp release) same cut = cut
 
 merge_is_other : (s new : Index) (c : CoreCall) → HasSameList s new → MergesFor c s new → ⊥
 merge_is_other s new (call.Del name limit) same merge =
@@ -76,6 +80,7 @@ merge_is_other s new (call.Put name value limit) same merge = merge
 merge_is_other s new (call.Get name) same merge = merge
 merge_is_other s new (call.Part low count) same merge = merge
 merge_is_other s new (call.Recheck node version) same merge = merge
+merge_is_other s new (call.Turn stamp release) same merge = merge
 
 -- what a call leaves that changes the shape so often
 module _ (s new : Index) (c : CoreCall) (r : Whole) (is : IsIndex s) (quiet : IsQuiet s) (left : 0 < calls_left_of s) (runs : RunsAlone s 0 c new r) where
@@ -114,6 +119,7 @@ split_counts s new (call.Get name) cut = absurd cut
 split_counts s new (call.Del name limit) cut = absurd cut
 split_counts s new (call.Part low count) cut = absurd cut
 split_counts s new (call.Recheck node version) cut = absurd cut
+split_counts s new (call.Turn stamp release) cut = absurd cut
 
 merge_counts : (s new : Index) (c : CoreCall) → MergesFor c s new → changes_for s c ≡ 1
 merge_counts s new (call.Del name limit) merge = ap one_if merge.0.0
@@ -121,6 +127,7 @@ merge_counts s new (call.Put name value limit) merge = absurd merge
 merge_counts s new (call.Get name) merge = absurd merge
 merge_counts s new (call.Part low count) merge = absurd merge
 merge_counts s new (call.Recheck node version) merge = absurd merge
+merge_counts s new (call.Turn stamp release) merge = absurd merge
 
 none_counts : (s new : Index) (c : CoreCall) → IsIndex s → 0 < calls_left_of s → SplitsNothing c s → MergesNothing c s → changes_for s c ≡ 0
 none_counts s new (call.Put name value limit) is left splits_none merges_none = ap one_if splits_none
@@ -131,6 +138,7 @@ none_counts s new (call.Del name limit) is left splits_none merges_none = ⊎_el
 none_counts s new (call.Get name) is left splits_none merges_none = refl
 none_counts s new (call.Part low count) is left splits_none merges_none = refl
 none_counts s new (call.Recheck node version) is left splits_none merges_none = refl
+none_counts s new (call.Turn stamp release) is left splits_none merges_none = refl
 
 kept_counts : (s new : Index) (c : CoreCall) (placed : Placed) → IsIndex s → 0 < calls_left_of s → LeavesList c (whole.Placed placed) s new → HasSameList s new → changes_for s c ≡ 0
 kept_counts s new c placed is left list same = ⊎_elim

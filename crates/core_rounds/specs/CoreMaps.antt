@@ -59,6 +59,7 @@ puts_for (call.Get name) = 0
 puts_for (call.Del name limit) = 0
 puts_for (call.Part low count) = 0
 puts_for (call.Recheck node version) = 0
+puts_for (call.Turn stamp release) = 0
 
 abbrev pub changes_for : Index → CoreCall → ℕ
 changes_for s (call.Put name value limit) =
@@ -68,6 +69,7 @@ changes_for s (call.Del name limit) =
     one_if (merges s.layout.slots (map_of_index s) (anchors_in (world s)) name)
 changes_for s (call.Part low count) = 0
 changes_for s (call.Recheck node version) = 0
+changes_for s (call.Turn stamp release) = 0
 
 -- So many log lines are READY, each of which waits for the updater. So many more puts and deletes of the first caller, of
 -- which so many are puts, have an EMPTY line and a FREE node each.

@@ -46,15 +46,18 @@ use Rattle.index_core.specs.declared.party.Whole.TheVariants as whole
 use Rattle.index_core.specs.CoreCalls.{op_of, limit_of, count_of}
 use Rattle.index_core.specs.PartyStates.{party_of, state_counted}
 use Rattle.index_core.specs.Indexes.{Index, world, map_of_index, IsIndex}
-use Rattle.index_core.specs.Lone.{IsQuiet, FindsNoRoom, HasSameList, SplitsFor, SplitsNothing, MergesFor, MergesNothing, LeavesList, TakesLocks, LoseAtMost, TakesEachLock, names_beside, locks_left, IsWholeAnswer, TriesAlone, RunsAlone, CountsCall, ComesFree, KeepsStamps, IsMadeAgain, NeedsNoTurn, LandsIn, LeavesLog, most_tries, alone_writes, lacks_line, lacks_node, needs_split, node_for, part_whole, whole_of, state_tried, state_done, taken_nodes}
+use Rattle.index_core.specs.Lone.{IsQuiet, FindsNoRoom, HasSameList, SplitsFor, SplitsNothing, MergesFor, MergesNothing, LeavesList, TakesLocks, LoseAtMost, TakesEachLock, names_beside, locks_left, IsWholeAnswer, TriesAlone, RunsAlone, CountsCall, ComesFree, KeepsStamps, IsMadeAgain, NeedsNoTurn, LandsIn, HasShortWays, HopsAreFew, WalksShort, LeavesLog, most_tries, alone_writes, lacks_line, lacks_node, needs_split, node_for, part_whole, taken_nodes, whole_of, state_tried, state_done}
 use Rattle.index_core.specs.Weights.{weight_of, added_by, added_if, added_whole}
 use Rattle.index_core.specs.Listings.{IsPartAt}
-use Rattle.lone_turn.specs.CallLogs.{KeepsLines, MakesReady, LeavesLines}
+use Rattle.lone_law.specs.There.{WalksBy}
+use Rattle.lone_turn.specs.CallLogs.{KeepsLines, MakesReady, LeavesLines, ready_lines}
+use Rattle.lone_turn.proofs.ReadyCounts.{ready_are_counted}
+use Rattle.staleness.proofs.Short.{short_stays, short_walks}
 use Rattle.index_core.proofs.Lists.{set_twice}
 use Rattle.index_core.proofs.Taken.{taken_kept, taken_merged, taken_split}
 use Rattle.index_core.proofs.Tries.{ready_with_parties}
 use Rattle.index_core.proofs.PartsAlone.{whole_part}
-use Rattle.index_core.proofs.Quiet.{rests}
+use Rattle.index_core.proofs.Quiet.{rests, can_walk}
 
 -- to the node of a name belong as many names of the map as the node has
 pub target_has : (s : Index) → IsAtRest (world s) → (name : List ℕ) → target_names (world s) name ≡ length (names_beside s name)
@@ -126,7 +129,48 @@ pub record Ran (s0 s : Index) (i : ℕ) (c : CoreCall) (answer : Once Placed) (t
   pub again : (tries ≤ 1) ⊎ IsMadeAgain i c s0
   pub each_lock : LoseAtMost tries s0 s
   pub locks : locks_left s0 ≤ locks_left s + tries
+  pub short : HasShortWays s0 → HasShortWays s
   pub weighs : weight_of s ≤ weight_of s0 + added_whole (op_of c) (whole_of answer)
+
+-- a walk there makes no more hops than lines are READY
+walk_is_short : (s : Index) → IsIndex s → IsQuiet s → (name : List ℕ) (hops : ℕ) → HasShortWays s → WalksBy s.layout s.words name hops → hops ≤ ready_lines (world s)
+walk_is_short s is quiet name hops short walks =
+    let can = can_walk s is quiet in
+    short_walks (world s) (key_of name) walks.start hops can.quiet can.order short walks.begins walks.comes
+
+-- a call that took place leaves no fewer lines READY
+ready_rises : (w0 w : World) (name : List ℕ) (caller : ℕ) (placed : Placed) → w.layout ≡ w0.layout → LeavesLines name caller w0 w (once.Done placed) → ready_lines w0 ≤ ready_lines w
+ready_rises w0 w name caller placed layout = ⊎_elim
+    (λ (kept : HasKeptList w0 w × KeepsLines w0 w). let same = (ready_are_counted caller w0 w layout).0 kept.1 in omega arith)
+    (λ (made : IsMergedSince name w0 w × MakesReady caller w0 w). let one = (ready_are_counted caller w0 w layout).1 made.1 in omega arith)
+
+lands_short : (s0 s : Index) (i : ℕ) (c : CoreCall) (placed : Placed) → LandsIn s0 i c s placed → HasShortWays s0 → HopsAreFew c s0 s placed.hops
+lands_short s0 s i c placed lands short = of c lands.began
+  where
+    few : placed.hops ≤ ready_lines (world lands.last)
+    few = walk_is_short lands.last lands.index lands.quiet (name_asked (op_of c)) placed.hops (lands.short short) lands.hops
+
+    more : ready_lines (world lands.last) ≤ ready_lines (world s)
+    more = ready_rises (world lands.last) (world s) (name_asked (op_of c)) lands.tries.state.caller placed lands.tries.layout lands.tries.lines
+
+    first : (last : Index) → last ≡ s0 → placed.hops ≤ ready_lines (world last) → placed.hops ≤ ready_lines (world s0)
+    first last same = subst (λ (v : Index). placed.hops ≤ ready_lines (world v)) same
+
+    of : (d : CoreCall) → (lands.last ≡ s0) ⊎ IsMadeAgain i d s0 → HopsAreFew d s0 s placed.hops
+    of (call.Put name value limit) began = let a = few in let b = more in omega arith
+    of (call.Del name limit) began = let a = few in let b = more in omega arith
+    of (call.Get name) began = ⊎_elim (λ (same : lands.last ≡ s0). first lands.last same few) (λ (again : ⊥). absurd again) began
+    of (call.Part low count) began = ⊎_elim (λ (same : lands.last ≡ s0). first lands.last same few) (λ (again : ⊥). absurd again) began
+    of (call.Recheck node version) began = ⊎_elim (λ (same : lands.last ≡ s0). first lands.last same few) (λ (again : ⊥). absurd again) began
+    of (call.Turn stamp release) began = ⊎_elim (λ (same : lands.last ≡ s0). first lands.last same few) (λ (again : ⊥). absurd again) began
+
+few_then : (s0 s : Index) (states : List PartyState) (c : CoreCall) (hops : ℕ) → HopsAreFew c s0 s hops → HopsAreFew c s0 (record s { states = states }) hops
+few_then s0 s states (call.Put name value limit) hops few = few
+few_then s0 s states (call.Del name limit) hops few = few
+few_then s0 s states (call.Get name) hops few = few
+few_then s0 s states (call.Part low count) hops few = few
+few_then s0 s states (call.Recheck node version) hops few = few
+few_then s0 s states (call.Turn stamp release) hops few = few
 
 -- where its party is as a whole call leaves it
 counted_runs : (s0 s : Index) (i : ℕ) (c : CoreCall) (answer : Once Placed) (tries : ℕ) (ran : Ran s0 s i c answer tries) → tries ≤ most_tries c → (states : List PartyState) → states ≡ slice_set s0.states i (state_done ran.state (length s0.history))
@@ -144,9 +188,16 @@ counted_runs s0 s i c answer tries ran few states are kept = record {
   list = same_list answer ran.list;
   stamps = ran.stamps;
   log = λ none. let left = ran.log none in record { layer = left.layer; lines = same_lines left.lines; taken = same_taken left.taken };
+  short = λ short. (ran.short short, few_hops answer ran.cause short);
   weighs = ran.weighs;
 }
   where
+    few_hops : (r : Once Placed) → IsWholeAnswer tries s0 i c s (whole_of r) → HasShortWays s0 → WalksShort c s0 (record s { states = states }) (whole_of r)
+    few_hops (once.Worn node word) cause short = tt
+    few_hops (once.Spent clock) cause short = tt
+    few_hops (once.Again why) cause short = tt
+    few_hops (once.Done placed) cause short = few_then s0 s states c placed.hops (lands_short s0 s i c placed cause.4 short)
+
     same_split : (c : CoreCall) → SplitsFor c s0 s → SplitsFor c s0 (record s { states = states })
     same_split (call.Put name value limit) cut = cut
     same_split c cut = absurd cut
@@ -353,6 +404,7 @@ module _ (s0 s : Index) (i : ℕ) (c : CoreCall) (is0 : IsIndex s0) (quiet0 : Is
             base = refl;
             history = refl;
             layer = λ none. refl;
+            short = λ short. short;
             tries = subst (TriesAlone s0 i c s) is t;
             hops = hops;
           },
@@ -430,6 +482,7 @@ module _ (s0 s : Index) (i : ℕ) (c : CoreCall) (is0 : IsIndex s0) (quiet0 : Is
         list = end.list;
         stamps = λ n here. inl (ap (λ (stamp : ℕ → ℕ). stamp n) t.stamps);
         log = λ _. record { layer = t.layer; lines = lines_of answer one lined t.answered t.lines; taken = inl (taken_of answer one lined t.answered) };
+        short = short_stays (world s0) (world s) t.layer t.ways;
         again = inl (omega arith);
         each_lock = each;
         locks = locks;
@@ -572,6 +625,7 @@ module _ (s0 s1 s : Index) (i : ℕ) (c : CoreCall) (is0 : IsIndex s0) (quiet0 :
                 base = t.base;
                 history = cut.history;
                 layer = λ none. t.layer;
+                short = short_stays (world s0) (world s1) t.layer t.ways;
                 tries = subst (TriesAlone s1 i c s) is u;
                 hops = hops;
               },
@@ -688,6 +742,7 @@ module _ (s0 s1 s : Index) (i : ℕ) (c : CoreCall) (is0 : IsIndex s0) (quiet0 :
               lines = inr (inl end.1, record { line = made.line; within = made.within; own = made.own; was_empty = made.was_empty; is = kept_then cut answer u.answered u.lines ∙ made.is });
               taken = inr (end.1, taken_kept s1 s u.layout (list_then cut answer u.answered) ∙ taken_split s0 s1 t.layout c (split cut) cut.most);
             };
+        short = λ short. short_stays (world s1) (world s) u.layer u.ways (short_stays (world s0) (world s1) t.layer t.ways short);
         again = inr (full_again_if s0 i c rest_before cut.full);
         each_lock = each_two;
         locks = omega arith;
@@ -746,5 +801,6 @@ module _ (s0 s : Index) (i : ℕ) (low : List ℕ) (count : ℕ) (is0 : IsIndex 
         list = kept.0;
         stamps = λ n here. inl (ap (λ (stamp : ℕ → ℕ). stamp n) t.stamps);
         log = λ _. record { layer = t.layer; lines = inl (kept.0, lines); taken = inl (taken_kept s0 s t.layout kept) };
+        short = λ short. (short_stays (world s0) (world s) t.layer t.ways short, walk_is_short s0 is0 quiet0 low words.hops short t.answered.3);
         weighs = omega arith;
       }

@@ -1,5 +1,5 @@
 -- Calls that are on a name or turns of the updater: which of the two a call is, and what either leaves.
-use Rattle.std.proofs.Common.{◌≡◌, ℕ, ◌+◌, ◌<◌, ◌≤◌, inl, inr, length, refl, sym, ap, ◌∙◌, subst, arith}
+use Rattle.std.proofs.Common.{◌≡◌, ℕ, ◌<◌, ◌≤◌, inl, inr, length, refl, sym, ap, ◌∙◌, subst, arith}
 use Rattle.std.specs.Prelude.{Option, Some, None, true, is_some}
 use mathlib.Core.Option.{some, some-injective}
 use lib.ListN.{get_elem?}
@@ -16,11 +16,11 @@ use Rattle.updater.specs.declared.making.TurnReply.{TurnReply}
 use Rattle.updater.specs.Makings.{making_from, making_turned}
 use Rattle.index_core.specs.declared.party.CoreCall.{CoreCall}
 use Rattle.index_core.specs.declared.party.CoreCall.TheVariants as call
-use Rattle.index_core.specs.CoreCalls.{IfTurn, IsTurnAnd, MayBegin, MayStart, most_writes}
+use Rattle.index_core.specs.CoreCalls.{IfTurn, MayBegin, MayStart}
 use Rattle.index_core.specs.declared.party.PartyState.{PartyState}
 use Rattle.index_core.specs.declared.party.Stepped.{Stepped}
-use Rattle.index_core.specs.declared.party.Stepped.TheVariants.{Going, Answered}
-use Rattle.index_core.specs.Indexes.{Index, IsBusy, IsInFlight, IsTurning, KeepsRoom, Starts, StepsTo, told, view_of, room_of}
+use Rattle.index_core.specs.declared.party.Stepped.TheVariants.{Going}
+use Rattle.index_core.specs.Indexes.{Index, IsBusy, IsInFlight, IsTurning, KeepsRoom, Starts, StepsTo, told, view_of}
 use Rattle.index_core.specs.CoreCalls.{machine_of}
 use Rattle.index_core.specs.PartyStates.{state_after, state_turned, state_with, stepped_of, turn_after, turn_reply, turn_stepped}
 use Rattle.index_core.specs.Turns.{StartsTurn, TurnSteps, TurnStepsTo, turn_told}

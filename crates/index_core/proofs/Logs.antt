@@ -99,6 +99,7 @@ for_call s caller (call.Get name) line free = tt
 for_call s caller (call.Del name limit) line free = line
 for_call s caller (call.Part low count) line free = tt
 for_call s caller (call.Recheck node version) line free = tt
+for_call s caller (call.Turn stamp release) line free = tt
 
 pub room_needs_no_turn : RoomNeedsNoTurn
 room_needs_no_turn s caller c is quiet here left some room =

@@ -48,14 +48,15 @@ use Rattle.index_core.specs.declared.party.CoreCall.{CoreCall}
 use Rattle.index_core.specs.declared.party.CoreCall.TheVariants as call
 use Rattle.index_core.specs.CoreCalls.{op_of, limit_of, count_of}
 use Rattle.index_core.specs.PartyStates.{party_of}
+use Rattle.staleness.proofs.Short.{empty_is_short}
 use Rattle.index_core.specs.Indexes.{Index, IsIndex, layered, map_of_index, world}
-use Rattle.index_core.specs.Lone.{IsQuiet, ComesFree, LacksNode, FindsFullNode, FindsNoRoom, FindsWornNode, HasSameList, IsMadeAgain, NeedsNoTurn, IsOver, IsWholeAnswer, KeepsStamps, LeavesList, LoseAtMost, MergesFor, MergesNothing, SplitsFor, SplitsNothing, TriesAlone, TriesBehindTurn, alone_writes, lacks_line, lacks_node, locks_left, most_tries, needs_split, node_for, state_tried, whole_of}
+use Rattle.index_core.specs.Lone.{HasShortWays, IsQuiet, ComesFree, LacksNode, FindsFullNode, FindsNoRoom, FindsWornNode, HasSameList, IsMadeAgain, NeedsNoTurn, IsOver, IsWholeAnswer, KeepsStamps, LeavesList, LoseAtMost, MergesFor, MergesNothing, SplitsFor, SplitsNothing, TriesAlone, TriesBehindTurn, alone_writes, lacks_line, lacks_node, locks_left, most_tries, needs_split, node_for, state_tried, whole_of}
 use Rattle.index_core.specs.Turns.{TurnsAlone}
 use Rattle.index_core.specs.Weights.{weight_of, added_by}
 use Rattle.cat_history.specs.declared.op.NameOp.{NameOp}
 use Rattle.index_core.proofs.Alone.{IsSwept, Ran, full_again_if, late_was, on_name, one_try, two_tries}
 use Rattle.index_core.proofs.Lists.{set_twice}
-use Rattle.index_core.proofs.Quiet.{rests}
+use Rattle.index_core.proofs.Quiet.{rests, can_walk}
 
 -- a node with a stamp is GONE
 pub stamped_are_gone : (s : Index) → IsLayered (layered s) → (n : ℕ) → stamp_in (world s) n ≢ 0 → (facts (world s)).status n ≡ gone_status
@@ -177,10 +178,15 @@ pub record Later (s0 s : Index) (i : ℕ) (c : CoreCall) (tries : ℕ) : Type 0 
   each : LoseAtMost tries s0 s
   locks : locks_left s0 ≤ locks_left s + tries
   stamps : KeepsStamps s0 s
+  short : HasShortWays s
   weighs : weight_of s ≤ weight_of s0
 
+-- a turn that is made alone leaves ways short
+pub turned_short : (old new : Index) (stamp release : ℕ) (answer : Turned) → TurnsAlone old stamp release answer new → IsIndex new → IsQuiet new → HasShortWays new
+turned_short old new stamp release answer turned is quiet = empty_is_short (layered new) is.layered (can_walk new is quiet).quiet turned.lone.empty
+
 -- one try that was turned back, and a turn
-module _ (s s1 s2 : Index) (i : ℕ) (c : CoreCall) (answer : Once Placed) (turned : Turned) (is : IsIndex s) (quiet : IsQuiet s) (is2 : IsIndex s2) (t : TriesAlone s i c s1 answer) (b : TurnedBack s s1 i c) (u : TurnsAlone s1 1 1 turned s2)
+module _ (s s1 s2 : Index) (i : ℕ) (c : CoreCall) (answer : Once Placed) (turned : Turned) (is : IsIndex s) (quiet : IsQuiet s) (is2 : IsIndex s2) (quiet2 : IsQuiet s2) (t : TriesAlone s i c s1 answer) (b : TurnedBack s s1 i c) (u : TurnsAlone s1 1 1 turned s2)
     (each : LoseAtMost 1 s s1) (locks : locks_left s ≤ locks_left s1 + 1) (adds_nothing : weight_of s1 ≤ weight_of s)
     (tried_now : (since : ℕ) (r : Once Placed) → state_tried (state_tried t.state (length s.history) answer) since r ≡ state_tried t.state since r) (index_now : (state_tried t.state (length s.history) answer).index ≡ t.state.index) where
   abbrev f : Facts
@@ -376,6 +382,7 @@ module _ (s s1 s2 : Index) (i : ℕ) (c : CoreCall) (answer : Once Placed) (turn
         (λ k. (sym (ap (λ (v : Index). v.generation) u.is) k, sym (version2 n) k)) (each n);
     locks = let same = same_locks in omega arith;
     stamps = stamps2;
+    short = turned_short s1 s2 1 1 turned u is2 quiet2;
     weighs = let less = u.weighs in omega arith;
   }
 
@@ -413,6 +420,7 @@ later_then s0 s s2 i c tries first then =
           (first.stamps n here))
           (λ (low : stamp_in (world s2) n ≤ 1). inr low)
           (then.stamps n (subst (λ (l : Layout). n < l.nodes) (sym first.layout) here));
+      short = then.short;
       weighs = let a = first.weighs in let b = then.weighs in omega arith;
     }
 
@@ -501,6 +509,7 @@ module _ (s0 s s' : Index) (i : ℕ) (c : CoreCall) (before tries : ℕ) (answer
       base = lands.base ∙ o.base;
       history = lands.history ∙ o.history;
       layer = λ none. absurd (o.turned none);
+      short = λ _. lands.short o.short;
       tries = lands.tries;
       hops = lands.hops;
     }),
@@ -560,6 +569,7 @@ module _ (s0 s s' : Index) (i : ℕ) (c : CoreCall) (before tries : ℕ) (answer
             (λ (low : stamp_in (world s') n ≤ 1). inr low)
             (ran.stamps n (subst (λ (l : Layout). n < l.nodes) (sym o.layout) here));
         log = λ none. absurd (o.turned none);
+        short = λ _. ran.short o.short;
         again = inr o.again;
         each_lock = λ n. let a = o.each n in let b = ran.each_lock n in omega arith;
         locks = let a = o.locks in let b = ran.locks in omega arith;
@@ -632,11 +642,11 @@ module _ (s0 s s' : Index) (i : ℕ) (c : CoreCall) (answer then : Once Placed) 
       omega arith
 
   later : Later t.before b.between i c 1
-  later = later_once t.before s b.between i c answer b.turned t.index_before t.quiet_before b.index t.last turned b.turn t.each t.locks light
+  later = later_once t.before s b.between i c answer b.turned t.index_before t.quiet_before b.index b.quiet t.last turned b.turn t.each t.locks light
       (turned_state answer lacks t.last.state (length t.before.history)) (turned_index answer lacks t.last.state (length t.before.history))
 
   pub swept_between : IsSwept b.between
-  swept_between = swept t.before s b.between i c answer b.turned t.index_before t.quiet_before b.index t.last turned b.turn t.each t.locks light
+  swept_between = swept t.before s b.between i c answer b.turned t.index_before t.quiet_before b.index b.quiet t.last turned b.turn t.each t.locks light
       (turned_state answer lacks t.last.state (length t.before.history)) (turned_index answer lacks t.last.state (length t.before.history))
 
   pub later_begun : Later s0 b.between i c (tries + 1)

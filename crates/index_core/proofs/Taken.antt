@@ -104,3 +104,4 @@ module _ (s s' : Index) (layout : s'.layout ≡ s.layout) where
   taken_split (call.Del name limit) cut most = absurd cut
   taken_split (call.Part low count) cut most = absurd cut
   taken_split (call.Recheck node version) cut most = absurd cut
+  taken_split (call.Turn stamp release) cut most = absurd cut

@@ -1,5 +1,5 @@
 -- One try of a call, with no other in flight.
-use Rattle.std.proofs.Common.{◌⊎◌, ◌≡◌, ◌≢◌, ℕ, suc, ◌+◌, ◌<◌, ◌≤◌, ◌^◌, inl, inr, ⊎_elim, List, [], ◌++◌, length, set, slice_set, map, refl, sym, ap, ◌∙◌, subst, arith}
+use Rattle.std.proofs.Common.{true, false, ◌⊎◌, ◌≡◌, ◌≢◌, ℕ, suc, ◌+◌, ◌<◌, ◌≤◌, ◌^◌, inl, inr, ⊎_elim, List, [], ◌++◌, length, set, slice_set, map, refl, sym, ap, ◌∙◌, subst, arith}
 use Rattle.std.specs.Prelude.{Option, Some, None, IfSome}
 use mathlib.Core.Option.{some, none, some-injective}
 use lib.ListN.{get_elem?}
@@ -59,6 +59,13 @@ use Rattle.lone_turn.proofs.InStep.{calls_are_in_step}
 use Rattle.call_stages.specs.Footings.{FootStep}
 use Rattle.call_stages.specs.Lines.{HeldLine}
 use Rattle.call_stages.specs.Prevs.{no_debt}
+use Rattle.data_list.specs.Still.{AreQuiet}
+use Rattle.index_law.specs.LoneShapes.{has_merged}
+use Rattle.lone_law.specs.Tries.{has_retired}
+use Rattle.staleness.specs.LoneNodes.{nodes_of, HasLeftOut, NodesStand, LengthenWithin}
+use Rattle.staleness.specs.Ways.{StayGone}
+use Rattle.staleness.proofs.Lengthening.{tries_lengthen}
+use Rattle.staleness.proofs.NodesGo.{nodes_go, nodes_end}
 use Rattle.cat_history.specs.Records.{change_of}
 use Rattle.node_ops.proofs.CallLaw.{footing_stage}
 
@@ -75,6 +82,7 @@ pub record Lone (s0 s : Index) (i : ℕ) (c : CoreCall) : Type 0 where
   pub call : LoneCall (world s0) i (op_of c) (limit_of c) (world s) (party_of (state_with state (length s0.history) machine)) machine
   pub count : count_in machine ≡ count_of c
   pub log : LogStands state.caller (world s0) (world s) (footing_of machine)
+  pub nodes : NodesStand (world s0) (world s) (stage_of machine)
   pub same_base : s.base ≡ s0.base
   pub stamps : stamp_in (world s) ≡ stamp_in (world s0)
   pub weighs : weight_sum (world s) ≤ weight_of s0 + showing (Some machine)
@@ -175,6 +183,10 @@ begun_log s0 i e c n =
       lines = subst (λ (f : Stage × Option HeldLine). StandsSo e.caller (world s0) (world (started_index s0 i e c n)) f.0 f.1) (λ k. (sym stage k, sym line k)) (inl ((refl, refl), refl));
     }
 
+begun_nodes : (s0 : Index) (i : ℕ) (e : PartyState) (c : CoreCall) (n : ℕ) → NodesStand (world s0) (world (started_index s0 i e c n)) (stage_of (machine_of (view_of s0 i) c))
+begun_nodes s0 i e c n =
+    record { stay = λ m gone. (gone, refl); left_out = λ merged. absurd (let no : false ≡ true = sym (ap has_merged (machine_idle s0 i c)) ∙ merged in cc) }
+
 pub lone_start : (s0 s : Index) (i : ℕ) (c : CoreCall) → IsIndex s0 → IsQuiet s0 → Starts s0 i c s → s.spare + most_writes c ≡ s0.spare → IsIndex s → Lone s0 s i c
 lone_start s0 s i c is0 quiet t spare is =
     let is' : IsIndex (started_index s0 i t.state c s.spare) = subst IsIndex t.is is in
@@ -200,6 +212,7 @@ lone_start s0 s i c is0 quiet t spare is =
       call = begun_call s0 i t.state c s.spare is0 quiet t.there here t.of;
       count = begins_count (view_of s0 i) c;
       log = begun_log s0 i t.state c s.spare;
+      nodes = begun_nodes s0 i t.state c s.spare;
       same_base = refl;
       stamps = refl;
       weighs = omega arith;
@@ -313,6 +326,18 @@ module _ (s0 s s' : Index) (i : ℕ) (c : CoreCall) (result : Option (Once Place
       (log_goes (name_asked (op_of c)) (change_of (op_of c)) (world s0) (layered s) i p (footing_of o.machine) (footing_of next) (running_asks o.machine) x o.index.layered o.call.trying trying line_at debt_at
       (o.call.stage ∙ sym (footing_stage o.machine)) o.log step refl (calls_are_in_step next)))
 
+  -- and of the nodes
+  nodes_are : NodesStand (world s0) (world s) p.stage
+  nodes_are = subst (NodesStand (world s0) (world s)) (sym o.call.stage) o.nodes
+
+  nodes_on : (next : Running) → running_turned o.machine x ≡ Go next → NodesStand (world s0) (world s') (stage_of next)
+  nodes_on next turned =
+      let step = subst (λ (t : Turn Running (Once Placed)). FootStep s.layout s.generation e.caller (footing_of o.machine) (running_asks o.machine) x (footing_after t) (reply_of t)) turned foot in
+      subst (λ (w : World). NodesStand (world s0) w (stage_of next)) (sym (world_is next turned))
+      (subst (λ (u : Stage). NodesStand (world s0) (stepped (world s) i p (running_asks o.machine) u) u) (footing_stage next)
+      (nodes_go (name_asked (op_of c)) (change_of (op_of c)) (world s0) (layered s).whole i p (footing_of o.machine) (footing_of next) (running_asks o.machine) x o.index.layered.whole o.call.trying line_at debt_at
+      (o.call.stage ∙ sym (footing_stage o.machine)) nodes_are step refl (bounded_small s o.index)))
+
   pub lone_goes : result ≡ None → Lone s0 s' i c × (suc (left_at s' i) ≤ left_at s i)
   lone_goes going =
       let go = go_of (running_turned o.machine x) (sym turn_told ∙ going) in
@@ -341,6 +366,7 @@ module _ (s0 s s' : Index) (i : ℕ) (c : CoreCall) (result : Option (Once Place
           call = subst (λ (w : World). LoneCall (world s0) i (op_of c) (limit_of c) w (moved_on p (stage_of next)) next) (sym (world_is next go.1)) call_on;
           count = count_stays o.machine next x go.1 ∙ o.count;
           log = log_on next go.1 call_on;
+          nodes = nodes_on next go.1;
           same_base = ap (λ (v : Index). v.base) is ∙ o.same_base;
           stamps = same_stamps;
           weighs = omega arith;
@@ -423,6 +449,22 @@ module _ (s0 s s' : Index) (i : ℕ) (c : CoreCall) (result : Option (Once Place
     lines_of_party (once.Again (again.Held word)) lines = lines
     lines_of_party (once.Again (again.Epoch first second)) lines = lines
 
+    -- and of the ways
+    ended_nodes : StayGone (nodes_of (world s0)) (nodes_of (stepped (world s) i p (running_asks o.machine) Idle))
+        × (has_merged p.stage ≡ true → (has_retired p.stage ≡ true) × HasLeftOut (world s0) (stepped (world s) i p (running_asks o.machine) Idle) p.stage)
+    ended_nodes =
+        nodes_end (name_asked (op_of c)) (change_of (op_of c)) (world s0) (layered s).whole i p (footing_of o.machine) no_debt (running_asks o.machine) x answer o.index.layered.whole o.call.trying
+        (o.call.stage ∙ sym (footing_stage o.machine)) nodes_are
+        (subst (λ (t : Turn Running (Once Placed)). FootStep s.layout s.generation e.caller (footing_of o.machine) (running_asks o.machine) x (footing_after t) (reply_of t)) done foot)
+        refl (bounded_small s o.index)
+
+    ended_ways : LengthenWithin (world s0) (stepped (world s) i p (running_asks o.machine) Idle)
+    ended_ways =
+        tries_lengthen (name_asked (op_of c)) (change_of (op_of c)) (world s0) (stepped (world s) i p (running_asks o.machine) Idle) p.stage o.state.caller answer
+        o.call.trying.layout o.call.trying.generation (can_walk s0 o.before o.quiet).quiet
+        (subst (λ (v : Index). AreQuiet v.layout v.generation (nodes_of (world v))) is (can_walk s' is' (lone_quiet answer answered)).quiet)
+        ended_nodes.0 ended_nodes.1 (subst (AfterCall (world s0) i (op_of c) (limit_of c) (world s) p o.machine) done goes).3 ended_log.1
+
     weighs : weight_of s' ≤ weight_of s0 + added_by (op_of c) answer
     weighs =
         let op_same : op_in o.machine ≡ op_of c = op_told (op_of c) o.machine o.call.of in
@@ -447,6 +489,7 @@ module _ (s0 s s' : Index) (i : ℕ) (c : CoreCall) (result : Option (Once Place
       stamps = same_stamps;
       layer = subst (KeepsLayer (world s0)) (sym (ap world is)) ended_log.0;
       lines = subst (λ (w : World). LeavesLines (name_asked (op_of c)) o.state.caller (world s0) w answer) (sym (ap world is)) (lines_of_party answer ended_log.1);
+      ways = subst (LengthenWithin (world s0)) (sym (ap world is)) ended_ways;
       weighs = weighs;
     }
 

@@ -28,8 +28,10 @@ use Rattle.lone_law.specs.LoneCalls.{FindsWorn, IsAnswered}
 use Rattle.lone_law.specs.There.{WalksBy}
 use Rattle.lone_law.specs.Splitting.{HasFree, HasLine, LacksLine}
 use Rattle.lone_law.specs.Locks.{locks_of, locks_in}
-use Rattle.lone_turn.specs.CallLogs.{KeepsLayer, KeepsLines, MakesReady, LeavesLines}
+use Rattle.lone_turn.specs.CallLogs.{KeepsLayer, KeepsLines, MakesReady, LeavesLines, ready_lines}
 use Rattle.lone_turn.specs.LoneTurns.{stamp_in}
+use Rattle.staleness.specs.LoneNodes.{LengthenWithin}
+use Rattle.staleness.specs.Short.{WaysAreShort}
 use Rattle.updater.specs.declared.terms.Turned.{Turned}
 use Rattle.index_core.specs.declared.party.CoreCall.{CoreCall}
 use Rattle.index_core.specs.declared.party.CoreCall.TheVariants as call
@@ -186,7 +188,14 @@ pub record TriesAlone (old : Index) (caller : ℕ) (c : CoreCall) (new : Index) 
   pub stamps : stamp_in (world new) ≡ stamp_in (world old)
   pub layer : KeepsLayer (world old) (world new)
   pub lines : LeavesLines (name_asked (op_of c)) state.caller (world old) (world new) answer
+  pub ways : LengthenWithin (world old) (world new)
   pub weighs : weight_of new ≤ weight_of old + added_by (op_of c) answer
+
+-- From the node to which the search layer leads a name, the way to the name's node is no longer than log lines are READY.
+-- So it is of an index that was recovered, or behind a turn of the updater that was made alone, and stays so behind lone
+-- calls.
+abbrev pub HasShortWays : Index → Type 0
+HasShortWays s = WaysAreShort (world s)
 
 -- The last try of a call that took place began as the index was `last`: that was s, or the call was made again, and
 -- had written nothing before. So many hops its walk made there.
@@ -201,6 +210,7 @@ pub record LandsIn (s : Index) (caller : ℕ) (c : CoreCall) (new : Index) (plac
   pub history : last.history ≡ s.history
   -- where the call made no turn of the updater, the search layer leads each key where it led
   pub layer : NeedsNoTurn caller c s → KeepsLayer (world s) (world last)
+  pub short : HasShortWays s → HasShortWays last
   pub tries : TriesAlone last caller c new (once.Done placed)
   pub hops : WalksBy last.layout last.words (name_asked (op_of c)) placed.hops
 
@@ -218,6 +228,18 @@ IsWholeAnswer tries s caller c new (whole.Placed placed) =
     (count_of c ≡ None) × (¬ FindsWornNode c s × ¬ IsOver c s × ¬ FindsNoRoom c s)
     × (placed.old ≡ at (map_of_index s) (name_asked (op_of c))) × (placed.place ≡ length s.history) ×
     LandsIn s caller c new placed
+
+-- A walk makes no more hops than log lines are READY: as the call ends for a put or a delete, and as it begins for others.
+abbrev pub HopsAreFew : CoreCall → Index → Index → ℕ → Type 0
+HopsAreFew (call.Put name value limit) s new hops = hops ≤ ready_lines (world new)
+HopsAreFew (call.Del name limit) s new hops = hops ≤ ready_lines (world new)
+HopsAreFew _ s new hops = hops ≤ ready_lines (world s)
+
+-- So does that of a call which took place.
+abbrev pub WalksShort : CoreCall → Index → Index → Whole → Type 0
+WalksShort c s new (whole.Placed placed) = HopsAreFew c s new placed.hops
+WalksShort c s new (whole.Part words) = HopsAreFew c s new words.hops
+WalksShort c s new _ = Unit {0}
 
 -- A call that took place split the node of its name, or merged it with the next one, exactly where the shape says so;
 -- one that was refused or found no room did neither. Of a worn node its cause says it.
@@ -339,5 +361,6 @@ pub record RunsAlone (old : Index) (caller : ℕ) (c : CoreCall) (new : Index) (
   pub list : LeavesList c result old new
   pub stamps : KeepsStamps old new
   pub log : NeedsNoTurn caller c old → LeavesLog caller c old new
+  pub short : HasShortWays old → HasShortWays new × WalksShort c old new result
   -- it weighs one more at most, and that only where it adds a name
   pub weighs : weight_of new ≤ weight_of old + added_whole (op_of c) result

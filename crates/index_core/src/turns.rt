@@ -2,7 +2,7 @@
 
 ghost use Rattle.std.specs.Prelude.{◌≡◌, ◌+◌, ◌≤◌, ◌↔◌, IsErr, OnErr, OnOk};
 ghost use Rattle.index_core.specs.Indexes.{IsBusy, IsIndex, IsTurning};
-ghost use Rattle.index_core.specs.Lone.{IsQuiet};
+ghost use Rattle.index_core.specs.Lone.{HasShortWays, IsQuiet};
 ghost use Rattle.index_core.specs.Turns.{StartsTurn, TurnSteps, TurnsAlone};
 
 use crate::index::Core;
@@ -38,7 +38,8 @@ impl Core {
 
     /// A whole turn of the updater by the party, with nothing else in flight. It leaves every log line EMPTY, the search
     /// layer with the anchors of the listed nodes alone, and each GONE node FREE that isn't worn and whose stamp is at most
-    /// `release`, where one that had no stamp has got this one. The map, the list and the history stay.
+    /// `release`, where one that had no stamp has got this one. The map, the list and the history stay. From where the search
+    /// layer leads then no walk makes a hop.
     pub fn turn_alone<L: Ledger>(
         &mut self,
         party: u64,
@@ -50,6 +51,7 @@ impl Core {
         requires stamp { 1 ≤ stamp }
         requires quiet { IsQuiet self.old }
         ensures turns { TurnsAlone self.old stamp release result self.new }
+        ensures short { HasShortWays self.new }
         ensures quiet { IsQuiet self.new }
         ensures index { IsIndex self.new }
     {

@@ -1,5 +1,6 @@
 -- A recovered image, whose list its volatile words tell, is opened as an index.
-use Rattle.std.proofs.Common.{◌≡◌, ℕ, zero, suc, ◌+◌, ◌/◌, ◌<◌, cond, List, [], refl, sym, ap, ◌∙◌, subst, arith}
+use Rattle.std.proofs.Common.{◌≡◌, ℕ, zero, suc, ◌+◌, ◌/◌, ◌<◌, ◌&&◌, Bool, true, false, cond, List, [], refl, sym, ap, ◌∙◌, subst, arith}
+use Rattle.std.specs.Prelude.{nat_lt}
 use Rattle.std.proofs.lemmas.Bool.{ne_eqb}
 use Rattle.cat_key.specs.declared.Pair.{Pair}
 use Rattle.cat_history.specs.Maps.{map_of}
@@ -24,15 +25,19 @@ use Rattle.search_layer.proofs.LeafRows.{leaves_in-alike}
 use Rattle.index_law.specs.Facts.{Facts, list_in, spot_in}
 use Rattle.index_law.specs.Weights.{gone_weight, index_weight}
 use Rattle.index_law.specs.Worlds.{facts}
+use Rattle.turn_law.specs.Covers.{empty_state}
+use Rattle.turn_row.specs.Columns.{column, line_count, line_field, line_word}
 use Rattle.recovery_law.specs.Columns.{Columns, IsMapOf}
 use Rattle.recovery_law.specs.Rest.{Rests}
-use Rattle.recovery_law.specs.Rows.{columns_in}
+use Rattle.recovery_law.specs.Rows.{columns_in, word_if}
 use Rattle.recovery_law.proofs.RowColumns.{columns_alike, crash_has_columns}
 use Rattle.recovery_law.proofs.SoundColumns.{spots_are, columns_keep_maps}
 use Rattle.opening_law.specs.Openings.{IsOpening, IsUnlocked, TellsList}
 use Rattle.opening_law.proofs.Opened.{spot_is, opening_has_list, opening_is_unlocked}
-use Rattle.index_core.specs.Indexes.{Index, world}
+use Rattle.staleness.proofs.Short.{empty_is_short}
+use Rattle.index_core.specs.Indexes.{Index, layered, world}
 use Rattle.index_core.specs.Opened.{opened_index, row_with}
+use Rattle.index_core.proofs.Quiet.{can_walk}
 use Rattle.index_core.proofs.Stepping.{respare}
 use Rattle.index_core.proofs.Opening.{opening_is_index, opening_is_unused}
 use Rattle.image_recovery.specs.Plans.{columns, list_of}
@@ -51,6 +56,17 @@ none_weigh half status zero none = refl
 none_weigh half status (suc n) none =
     let rest : 0 + gone_weight half status n ≡ 0 = (let before = none_weigh half status n (λ k low. none k (omega arith)) in omega arith) in
     ap (λ b. cond {A = ℕ} b half 0 + gone_weight half status n) (ne_eqb (status n) gone_status (none n (omega arith))) ∙ rest
+
+-- no log line of a recovered row is in use
+no_line : (l : Layout) (words : List ℕ) (o : Columns) (list : List ListNode) (safe : Columns) → Rests l list o (columns_in l words Cached) safe → (j : ℕ) → line_field l words Cached 0 j ≡ empty_state
+unfolding column word_if
+no_line l words o list safe rests j =
+    let empty : cond (nat_lt j (line_count l) && true) (at l words (Cached (line_word 0 j))) 0 ≡ 0 = rests.empty j in
+    both (nat_lt j (line_count l)) (at l words (Cached (line_word 0 j))) ∙ empty
+  where
+    both : (b : Bool) (x : ℕ) → cond b x 0 ≡ cond (b && true) x 0
+    both true x = refl
+    both false x = refl
 
 module _ (from row : Row) (recovered : IsRecoveredTo from row) where
   abbrev l : Layout
@@ -153,6 +169,7 @@ module _ (from row : Row) (recovered : IsRecoveredTo from row) where
           gone = unused.gone;
           stamps = unused.stamps;
           locks = unused.locks;
+          short = empty_is_short (layered s) (opening_is_index l list (columns from) words base is_opening).layered (can_walk s (opening_is_index l list (columns from) words base is_opening) unused.quiet).quiet (no_line l words (columns from) list (columns_in l words Durable) is_opening.rests);
         }
 
 -- with whatever room
@@ -175,4 +192,5 @@ with_room from s room is = record {
   gone = is.gone;
   stamps = is.stamps;
   locks = is.locks;
+  short = is.short;
 }

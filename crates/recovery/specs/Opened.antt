@@ -15,7 +15,7 @@ use Rattle.index_law.specs.Weights.{index_weight}
 use Rattle.index_law.specs.Worlds.{facts}
 use Rattle.index_core.specs.Indexes.{Index, IsIndex, parties_of, world}
 use Rattle.index_core.specs.Fulls.{HasLowStamps}
-use Rattle.index_core.specs.Lone.{IsQuiet, locks_left}
+use Rattle.index_core.specs.Lone.{HasShortWays, IsQuiet, locks_left}
 use Rattle.index_core.specs.PartyStates.{idle_states}
 use Rattle.recovery_law.specs.Rest.{Rests}
 use Rattle.recovery_law.specs.Rows.{columns_in}
@@ -28,9 +28,9 @@ use Rattle.recovery.specs.declared.opening.OpenFault.TheVariants.{Damaged, Gener
 
 -- The index is that of the image. Its base is the image's map, in rising order of names, and nothing is written yet. It
 -- has the image's shape and weight, in the next generation. No call is in flight, no node was locked in its run, and
--- none is GONE or has a stamp. Both rows of its words are those of the image once it is recovered, all of it durable, with
--- an empty log, a search layer that is exactly the list's, and no live slot out of its node's range; and the volatile
--- words tell the list.
+-- none is GONE or has a stamp. Both rows of its words are those of the image once it is recovered, all of it durable,
+-- with an empty log, a search layer that is exactly the list's, and no live slot out of its node's range; and the
+-- volatile words tell the list. So the layer leads each name to its node.
 pub record IsOpenedFrom (image : Row) (s : Index) : Type 0 where
   pub sound : IsSoundByAll image.layout image.words
   pub next : IsGeneration (suc (header_generation image.layout image.words))
@@ -50,6 +50,7 @@ pub record IsOpenedFrom (image : Row) (s : Index) : Type 0 where
   pub gone : gone_nodes s.layout.nodes (facts (world s)) ≡ 0
   pub stamps : HasLowStamps s
   pub locks : locks_left s ≡ LAST_COUNT
+  pub short : HasShortWays s
 
 -- Why an image isn't opened: it isn't sound, and this is the first rule that it breaks and the first word at which it
 -- does; or it is sound, and of the last generation; or neither, and there was no memory.

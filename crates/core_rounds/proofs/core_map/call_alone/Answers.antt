@@ -4,7 +4,7 @@ use Rattle.index_law.specs.Anchors.{anchors_in}
 use Rattle.index_core.specs.Indexes.{world}
 use Rattle.index_core.specs.Lone.{FindsNoRoom, whole_of}
 use Rattle.core_rounds.specs.CoreMaps.{anchors_made}
-use Rattle.core_rounds.proofs.CoreMaps.{goes_through, full_exactly, stays_low, told_map, told_placed, told_full, writes_fall}
+use Rattle.core_rounds.proofs.CoreMaps.{goes_through, full_exactly, stays_low, told_placed, told_full, writes_fall, told_map}
 use Rattle.core_rounds.proofs.Waiting.{waits_full, waits_placed}
 use Rattle.core_rounds.proofs.core_map.call_alone.Goals as goal
 

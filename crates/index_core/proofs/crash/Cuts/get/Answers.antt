@@ -1,10 +1,10 @@
 use Rattle.std.proofs.Common.{◌≡◌, ◌<◌, List, length, get_or, sym, ap, ◌∙◌, subst}
-use Rattle.std.specs.Prelude.{Option, Some, None, IfSome, slice_get}
+use Rattle.std.specs.Prelude.{Option, Some, IfSome, slice_get}
 use Rattle.std.proofs.lemmas.Bool.{ltb-true}
 use Rattle.node_ops.specs.declared.running.Running.{Running}
 use Rattle.node_ops.specs.RunningSteps.{IsRunning}
 use Rattle.index_core.specs.declared.party.PartyState.{PartyState}
-use Rattle.index_core.specs.Crashes.{cut_call, cut_of, cut_turn}
+use Rattle.index_core.specs.Crashes.{cut_call, cut_of}
 use Rattle.index_core.proofs.Lists.{there_at, got_there}
 use Rattle.index_core.proofs.crash.Cuts.get.Goals as goal
 

@@ -3,6 +3,7 @@ use Rattle.updater.specs.declared.terms.Turned.{Turned}
 use Rattle.index_core.specs.Turns.{TurnsAlone}
 use Rattle.index_core.proofs.Busy.{quiet_is_idle}
 use Rattle.index_core.proofs.LoneTurning.{lone_turn_begins, lone_turn_flies, lone_turn_goes, lone_turn_ends, turned_same}
+use Rattle.index_core.proofs.Retrying.{turned_short}
 use Rattle.index_core.proofs.index.Core.turn_alone.Goals as goal
 
 pub unreachable-requires : goal.unreachable-requires
@@ -38,3 +39,8 @@ returns-in-Some-clause-turns g c =
 pub returns-in-Some-clause-quiet : goal.returns-in-Some-clause-quiet
 returns-in-Some-clause-quiet g c =
     (lone_turn_ends c.args.self.now c.steps.self c.step_turn.new.self c.args.party c.args.stamp c.args.release c.steps.invariant c.step_turn.result c.step_turn.ensures.stepped c.step_turn.ensures.index c.in-Some.reply c.in-Some.is).3
+
+pub returns-in-Some-clause-short : goal.returns-in-Some-clause-short
+returns-in-Some-clause-short g c =
+    let ended = lone_turn_ends c.args.self.now c.steps.self c.step_turn.new.self c.args.party c.args.stamp c.args.release c.steps.invariant c.step_turn.result c.step_turn.ensures.stepped c.step_turn.ensures.index c.in-Some.reply c.in-Some.is in
+    turned_short c.args.self.now c.step_turn.new.self c.args.stamp c.args.release ended.0 ended.2 c.step_turn.ensures.index ended.3

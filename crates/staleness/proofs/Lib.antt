@@ -1,0 +1,5 @@
+pub mod Positions
+pub mod WayLemmas
+pub mod NodesGo
+pub mod Lengthening
+pub mod Short

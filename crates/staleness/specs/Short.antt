@@ -1,0 +1,33 @@
+-- A search layer from which no walk makes more hops than log lines are READY.
+use Rattle.std.specs.Prelude.{◌≡◌, ℕ, ◌≤◌}
+use Rattle.data_list.specs.Still.{AreQuiet, Comes}
+use Rattle.index_law.specs.Worlds.{World}
+use Rattle.layer_law.specs.Layers.{Layered, IsLayered}
+use Rattle.lone_turn.specs.CallLogs.{KeepsLayer, ready_lines}
+use Rattle.lone_turn.specs.LoneTurns.{line_state}
+use Rattle.search_layer.specs.Layers.{IsFloorOf}
+use Rattle.search_layer.specs.Leaves.{IsInOrder, layer_of}
+use Rattle.turn_law.specs.Covers.{empty_state}
+use Rattle.staleness.specs.LoneNodes.{nodes_of, LengthenWithin}
+use Rattle.staleness.specs.Ways.{IsWay}
+
+-- From the node to which the layer leads a key, the way to the key's target is no longer than log lines are READY.
+abbrev pub WaysAreShort : World → Type 0
+WaysAreShort w = (key start : ℕ) → IsFloorOf (layer_of w.layout w.words) key start →
+    (hops : ℕ) × (hops ≤ ready_lines w) × IsWay (nodes_of w) key start hops
+
+-- So it is where each log line is EMPTY, with nothing in flight: the layer leads to the targets themselves.
+abbrev pub EmptyIsShort : Type 0
+EmptyIsShort = (z : Layered) → IsLayered z →
+    AreQuiet z.whole.world.layout z.whole.world.generation (nodes_of z.whole.world) →
+    ((j : ℕ) → line_state z.whole.world j ≡ empty_state) → WaysAreShort z.whole.world
+
+-- And so it stays where the layer leads each key where it led, and ways get longer by no more than lines get READY.
+abbrev pub ShortStays : Type 0
+ShortStays = (w0 w : World) → KeepsLayer w0 w → LengthenWithin w0 w → WaysAreShort w0 → WaysAreShort w
+
+-- Then a walk that begins there makes no more hops than lines are READY.
+abbrev pub ShortWalks : Type 0
+ShortWalks = (w : World) (key start hops : ℕ) → AreQuiet w.layout w.generation (nodes_of w) → IsInOrder w.layout w.words →
+    WaysAreShort w → IsFloorOf (layer_of w.layout w.words) key start → Comes w.layout (nodes_of w) key start hops →
+    hops ≤ ready_lines w
