@@ -1,5 +1,5 @@
 -- Stages that hold no node.
-use Rattle.std.proofs.Common.{◌≡◌, ◌≢◌, ℕ, refl, sym, subst}
+use Rattle.std.proofs.Common.{◌≡◌, ◌≢◌, ℕ, false, refl, sym, subst}
 use Rattle.std.specs.Prelude.{Option, Some, None}
 use Rattle.pm_words.specs.declared.layout.Layout.{Layout}
 use Rattle.pm_words.specs.declared.action.Action.{Action}
@@ -9,8 +9,9 @@ use Rattle.call_stages.specs.declared.once.Once.{Once}
 use Rattle.call_stages.specs.declared.once.Once.TheVariants as once
 use Rattle.call_stages.specs.declared.once.Placed.{Placed}
 use Rattle.call_stages.specs.Kinds.{clock_address, GivesUp}
-use Rattle.call_stages.specs.Stages.{Stage, Idle, Saw, Wears, Holds, Eyes, Splits, Leaves, Meets, Joins, IsLoose, counted}
+use Rattle.call_stages.specs.Stages.{Stage, Idle, Saw, Wears, Holds, Eyes, Splits, Leaves, Meets, Joins, IsLoose, counted, placed_in}
 use Rattle.index_law.specs.Facts.{Facts}
+use Rattle.index_law.specs.LoneShapes.{IsOut, has_merged}
 use Rattle.call_stages.specs.Stages.{HoldsNode}
 use Rattle.index_law.specs.Laws.{Counts, IsLegal, IsLegalUnheld}
 use Rattle.index_law.specs.Weights.{lowered_in}
@@ -78,3 +79,41 @@ loose_gives l g f caller index since s (Some (once.Again again.NoFree)) loose up
 loose_gives l g f caller index since s (Some (once.Again (again.NeedsSplit n))) loose up = absurd up
 loose_gives l g f caller index since s (Some (once.Again (again.Held word))) loose up = absurd up
 loose_gives l g f caller index since s (Some (once.Again (again.Epoch first second))) loose up = absurd up
+
+-- ---- stages without a change of a name
+
+pub out_unplaced : (s : Stage) → IsOut s → placed_in s ≡ None
+out_unplaced Idle out = refl
+out_unplaced (Saw n v w k) out = refl
+out_unplaced (Wears n v) out = refl
+out_unplaced (Holds n w h) out = absurd out
+out_unplaced (Eyes n w h m v u free) out = absurd out
+out_unplaced (Splits left fresh phase) out = refl
+out_unplaced (Leaves left) out = refl
+out_unplaced (Meets n w h right) out = absurd out
+out_unplaced (Joins h left right pace) out = absurd out
+
+pub out_unmerged : (s : Stage) → IsOut s → has_merged s ≡ false
+out_unmerged Idle out = refl
+out_unmerged (Saw n v w k) out = refl
+out_unmerged (Wears n v) out = refl
+out_unmerged (Holds n w h) out = absurd out
+out_unmerged (Eyes n w h m v u free) out = absurd out
+out_unmerged (Splits left fresh phase) out = refl
+out_unmerged (Leaves left) out = refl
+out_unmerged (Meets n w h right) out = absurd out
+out_unmerged (Joins h left right pace) out = absurd out
+
+pub loose_out : (s : Stage) → IsLoose s → IsOut s
+loose_out Idle loose = tt
+loose_out (Saw n v w k) loose = tt
+loose_out (Wears n v) loose = tt
+loose_out (Holds n w h) loose = absurd loose
+loose_out (Eyes n w h m v u free) loose = absurd loose
+loose_out (Splits left fresh phase) loose = absurd loose
+loose_out (Leaves left) loose = absurd loose
+loose_out (Meets n w h right) loose = absurd loose
+loose_out (Joins h left right pace) loose = absurd loose
+
+pub loose_unplaced : (s : Stage) → IsLoose s → placed_in s ≡ None
+loose_unplaced s loose = out_unplaced s (loose_out s loose)

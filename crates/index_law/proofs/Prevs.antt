@@ -6,7 +6,7 @@ use Rattle.std.proofs.Math.Dec.{eqb}
 use Rattle.std.proofs.lemmas.List.{get_or-set_other}
 use Rattle.pm_words.specs.Rows as rows
 use Rattle.std.specs.Prelude.{◌==◌, ◌||◌, nat_lt, slice_set, Option, Some, None, IfSome}
-use Rattle.std.proofs.lemmas.Bool.{lt-ltb, ltb-true, eq-eqb, eqb-true, ne_eqb, cases_eq}
+use Rattle.std.proofs.lemmas.Bool.{lt-ltb, ltb-true, eq-eqb, eqb-true, ne_eqb, cases_eq, cond_both}
 use Rattle.std.proofs.lemmas.List.{set-get_or}
 use mathlib.Core.Option.{some, some-injective}
 use lib.ListN.{get_elem?}
@@ -76,7 +76,7 @@ nodes_leave_prevs l words s a n (frees_right {right = right} here next) = store_
 nodes_leave_prevs l words s a n (frees {n = m} here next) = store_prev l words (Cached (Node m 0)) _ (here, omega arith) (λ k e. cc) n
 
 -- two chains over one list lead on alike
-chain_next : (now now' : ℕ → Spot) (here : ℕ) (list : List ListNode) → IsChain now here list → IsChain now' here list → (n : ℕ) → (n ≡ here) ⊎ IsMember list n → now' n next_offset ≡ now n next_offset
+pub chain_next : (now now' : ℕ → Spot) (here : ℕ) (list : List ListNode) → IsChain now here list → IsChain now' here list → (n : ℕ) → (n ≡ here) ⊎ IsMember list n → now' n next_offset ≡ now n next_offset
 chain_next now now' here [] chain chain' n (inl e) = ap (λ k. now' k next_offset) e ∙ chain' ∙ sym (ap (λ k. now k next_offset) e ∙ chain)
 chain_next now now' here [] chain chain' n (inr among) = absurd among
 chain_next now now' here (m ∷ behind) chain chain' n (inl e) = ap (λ k. now' k next_offset) e ∙ chain'.0 ∙ sym (ap (λ k. now k next_offset) e ∙ chain.0)
@@ -515,7 +515,7 @@ step_traces z i p a x t r d d' traced there owing k told room deals =
       below = λ n. let is = same n in let low = traced.below n in omega arith;
     }
 
-prev_here : (l : Layout) (words : List ℕ) (m y : ℕ) → length words ≡ row_words l → m < l.nodes → prev_in l (slice_set words (prev_address l m) y) m ≡ y
+pub prev_here : (l : Layout) (words : List ℕ) (m y : ℕ) → length words ≡ row_words l → m < l.nodes → prev_in l (slice_set words (prev_address l m) y) m ≡ y
 unfolding prev_in
 prev_here l words m y whole here = rw (lt-ltb m l.nodes here) (at-set_same l words (Volatile m 1) y whole (here, omega arith))
 
@@ -523,7 +523,7 @@ abbrev node_of_place : Location → ℕ
 node_of_place (Volatile n o) = n
 node_of_place _ = 0
 
-prev_else : (l : Layout) (words : List ℕ) (m y n : ℕ) → m < l.nodes → n ≢ m → prev_in l (slice_set words (prev_address l m) y) n ≡ prev_in l words n
+pub prev_else : (l : Layout) (words : List ℕ) (m y n : ℕ) → m < l.nodes → n ≢ m → prev_in l (slice_set words (prev_address l m) y) n ≡ prev_in l words n
 unfolding prev_in
 prev_else l words m y n here other =
     elim (nat_lt n l.nodes) as (λ b. nat_lt n l.nodes ≡ b → cond b (at l (slice_set words (prev_address l m) y) (Volatile n 1)) 0 ≡ cond b (at l words (Volatile n 1)) 0) [
@@ -781,9 +781,17 @@ start_traces z i p index d traced there owing idle =
       below = traced.below;
     }
 
-prev_at : (l : Layout) (words : List ℕ) (n : ℕ) → n < l.nodes → prev_in l words n ≡ at l words (Volatile n 1)
+pub prev_at : (l : Layout) (words : List ℕ) (n : ℕ) → n < l.nodes → prev_in l words n ≡ at l words (Volatile n 1)
 unfolding prev_in
 prev_at l words n here = rw (lt-ltb n l.nodes here) refl
+
+-- rows with the same prev words have the same prevs
+pub prev_in-alike : (l : Layout) (words words' : List ℕ) (n : ℕ) → (n < l.nodes → at l words' (Volatile n 1) ≡ at l words (Volatile n 1)) → prev_in l words' n ≡ prev_in l words n
+unfolding prev_in
+prev_in-alike l words words' n same =
+    cond_both (nat_lt n l.nodes) (at l words' (Volatile n 1)) 0 (λ (x : ℕ). x ≡ cond (nat_lt n l.nodes) (at l words (Volatile n 1)) 0)
+    (λ here. same (ltb-true n l.nodes here) ∙ sym (rw here refl))
+    (λ past. sym (rw past refl))
 
 pub prevs_are_nodes : PrevsAreNodes
 prevs_are_nodes z n traced here = let is = prev_at z.world.layout z.world.words n here in let low = traced.below n in omega arith

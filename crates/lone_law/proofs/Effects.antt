@@ -20,8 +20,9 @@ use Rattle.index_law.proofs.Switch.{range_left, range_fresh}
 use Rattle.index_law.specs.Shapes.{IsHalved}
 use Rattle.index_law.proofs.Locks.{cut_now}
 use Rattle.index_law.proofs.Moves.{fact_after}
-use Rattle.index_law.proofs.Loose.{loose_counted}
+use Rattle.index_law.proofs.Loose.{loose_counted, loose_unplaced}
 use Rattle.index_law.specs.LoneShapes.{has_merged, IsOut}
+use Rattle.lone_law.proofs.Cuts.{loose_uncut}
 use Rattle.lone_law.specs.Tries.{is_cut, has_retired}
 
 -- an answer that isn't Done
@@ -62,35 +63,13 @@ pub data Effect (l : Layout) (f f' : Facts) (s : Stage) (x : ℕ) (t : Stage) : 
   ends : {r : Once Placed} → counted s ≡ None → (IsDone r → ⊥) → placed_in s ≡ None → f'.list ≡ f.list → Effect l f f' s x t (Some r)
   is_done : {r : Once Placed} → counted s ≡ None → IsDone r → f'.list ≡ f.list → Effect l f f' s x t (Some r)
 
-pub loose_placed : (s : Stage) → IsLoose s → placed_in s ≡ None
-loose_placed Idle loose = refl
-loose_placed (Saw n v w k) loose = refl
-loose_placed (Wears n v) loose = refl
-loose_placed (Holds n w h) loose = absurd loose
-loose_placed (Eyes n w h m v u free) loose = absurd loose
-loose_placed (Splits left fresh phase) loose = absurd loose
-loose_placed (Leaves left) loose = absurd loose
-loose_placed (Meets n w h right) loose = absurd loose
-loose_placed (Joins h left right pace) loose = absurd loose
-
-loose_cut : (s : Stage) → IsLoose s → is_cut s ≡ false
-loose_cut Idle loose = refl
-loose_cut (Saw n v w k) loose = refl
-loose_cut (Wears n v) loose = refl
-loose_cut (Holds n w h) loose = absurd loose
-loose_cut (Eyes n w h m v u free) loose = absurd loose
-loose_cut (Splits left fresh phase) loose = absurd loose
-loose_cut (Leaves left) loose = absurd loose
-loose_cut (Meets n w h right) loose = absurd loose
-loose_cut (Joins h left right pace) loose = absurd loose
-
 -- a call that has no node goes on to a stage without a node
 from_loose : (l : Layout) (f : Facts) (s t : Stage) (x : ℕ) → IsLoose s → placed_in t ≡ None → is_cut t ≡ false → IsOut t → Effect l f f s x t None
-from_loose l f s t x loose placed cut out = stays (loose_counted s loose) (placed ∙ sym (loose_placed s loose)) (cut ∙ sym (loose_cut s loose)) (inl out) refl
+from_loose l f s t x loose placed cut out = stays (loose_counted s loose) (placed ∙ sym (loose_unplaced s loose)) (cut ∙ sym (loose_uncut s loose)) (inl out) refl
 
 gives_up : (l : Layout) (f : Facts) (s : Stage) (x : ℕ) (r : Option (Once Placed)) → IsLoose s → GivesUp r → Effect l f f s x Idle r
 gives_up l f s x None loose up = from_loose l f s Idle x loose refl refl tt
-gives_up l f s x (Some (once.Again why)) loose up = ends (loose_counted s loose) (λ no. no) (loose_placed s loose) refl
+gives_up l f s x (Some (once.Again why)) loose up = ends (loose_counted s loose) (λ no. no) (loose_unplaced s loose) refl
 gives_up l f s x (Some (once.Done placed)) loose up = absurd up
 gives_up l f s x (Some (once.Spent clock)) loose up = absurd up
 gives_up l f s x (Some (once.Worn n word)) loose up = absurd up
@@ -114,7 +93,7 @@ answer_does l f f' n w x h r same none (refuses unplaced is) = ends none (λ no.
 
 module _ {l : Layout} {g : ℕ} (f : Facts) (list : IsList l f) (caller index since : ℕ) where
   look_does : {s : Stage} {a : Action} {x : ℕ} {t : Stage} {r : Option (Once Placed)} → Look l g s a x t r → Sure l g f caller index since s → Effect l f f s x t r
-  look_does (turns_back {s = s} {n = n} {x = x} loose here busy) knows = ends (loose_counted s loose) (λ no. no) (loose_placed s loose) refl
+  look_does (turns_back {s = s} {n = n} {x = x} loose here busy) knows = ends (loose_counted s loose) (λ no. no) (loose_unplaced s loose) refl
   look_does (wears {s = s} {n = n} {x = x} loose here free worn) knows = from_loose l f s (Wears n x) x loose refl refl tt
   look_does (roams has) knows = stays refl refl refl (inl tt) refl
   look_does (roams_status here) knows = stays refl refl refl (inl tt) refl

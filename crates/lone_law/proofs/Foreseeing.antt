@@ -89,14 +89,14 @@ use Rattle.lone_law.specs.Merging.{KeepsFew, TriesMerge, NextIsWorn}
 use Rattle.lone_law.specs.MergeStands.{FindsNone, MergeForesees}
 use Rattle.lone_law.specs.Splitting.{HasLine}
 use Rattle.lone_law.specs.Tries.{HasDeleted, Trying}
-use Rattle.lone_law.proofs.Effects.{loose_placed}
+use Rattle.index_law.proofs.Loose.{loose_unplaced}
 use Rattle.lone_law.proofs.MergeStands.{live_is, ForeseesSo, merge_foresees}
 use Rattle.lone_law.proofs.Standing.{both, shape_tries, no_next_was, next_was, had_was, left_was, full_was}
 
 -- a look-up has no place
 looks_unplaced : (call : Call) (at : LookupAt) → placed_in (lookup_at_stage call at) ≡ None
 looks_unplaced call (look.Floor floor) = refl
-looks_unplaced call (look.Walk walk) = loose_placed (walk_stage walk) (walk_loose walk.generation walk.node walk.at)
+looks_unplaced call (look.Walk walk) = loose_unplaced (walk_stage walk) (walk_loose walk.generation walk.node walk.at)
 looks_unplaced call (look.Lock seen locked) = refl
 looks_unplaced call (look.Clock locked) = refl
 looks_unplaced call (look.Spent hold) = refl

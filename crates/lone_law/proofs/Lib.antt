@@ -1,4 +1,5 @@
 pub mod There
+pub mod Cuts
 pub mod Effects
 pub mod Standing
 pub mod MergeStands

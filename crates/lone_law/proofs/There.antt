@@ -41,7 +41,7 @@ use Rattle.index_law.specs.Prevs.{prev_in}
 use Rattle.index_law.proofs.Rows.{version_in-here, spot_in-here, status_in-here, version_in-alike, spot_in-alike, status_in-alike}
 use Rattle.index_law.proofs.Noting.{line-alike}
 use Rattle.index_law.proofs.Starts.{idle_law}
-use Rattle.index_law.proofs.Prevs.{idle_follow}
+use Rattle.index_law.proofs.Prevs.{idle_follow, prev_at}
 use Rattle.pm_words.proofs.Apart.{at-set_other}
 use Rattle.pm_words.specs.Locations.{Node, Line, Location, Volatile, Cached, leaf_count}
 use Rattle.pm_words.specs.declared.action.Action.TheVariants.{Load, Exchange}
@@ -79,11 +79,6 @@ idle_is_quiet z traced idle =
       below = traced.below;
       order = traced.order;
     }
-
--- the prev of a node
-prev_at : (l : Layout) (words : List ℕ) (n : ℕ) → n < l.nodes → prev_in l words n ≡ slice_index words (prev_address l n)
-unfolding prev_in
-prev_at l words n within = rw (lt-ltb n l.nodes within) refl
 
 -- what a walk is told
 pub told_loaded : (l : Layout) (g : ℕ) (words : List ℕ) (walk : Walk) (at : WalkAt) → walk.node < l.nodes → IsWalkAt l g walk.key at

@@ -46,8 +46,10 @@ use Rattle.index_law.proofs.Dropping.{step_moves_anchors}
 use Rattle.index_law.proofs.GoneCounts.{step_counts_gone}
 use Rattle.index_law.proofs.LoneCuts.{switch_is_delete}
 use Rattle.index_law.proofs.Sizes.{nodes_are_counted}
+use Rattle.index_law.proofs.Loose.{out_unmerged, out_unplaced}
 use Rattle.lone_law.specs.Merging.{next_node, HasKeptList}
 use Rattle.lone_law.specs.Tries.{is_cut, has_retired, HasDeleted, IsFor, IsHalvedSince, IsJoinedSince, HasWritten, HasShape, is_same, was_cut, was_joined, HasGone, Trying, LeavesHistory, HasKeptOrMerged, Says, TriesGo, TriesEnd}
+use Rattle.lone_law.proofs.Cuts.{cut_unretired}
 use Rattle.lone_law.proofs.Standing.{both}
 use Rattle.lone_law.proofs.Standing as standing
 use Rattle.lone_law.proofs.Effects.{IsDone, Cuts, Keeps, Buries, Effect, stays, adds, cuts, drops, buries, ends, is_done, step_does, answers_idle}
@@ -133,17 +135,6 @@ place_within l g f f' caller index since (Leaves left) placed knows there legal 
 
 -- ---- stages
 
-out_unmerged : (s : Stage) → IsOut s → has_merged s ≡ false
-out_unmerged Idle out = refl
-out_unmerged (Saw n v w k) out = refl
-out_unmerged (Wears n v) out = refl
-out_unmerged (Holds n w h) out = absurd out
-out_unmerged (Eyes n w h m v u free) out = absurd out
-out_unmerged (Splits left fresh phase) out = refl
-out_unmerged (Leaves left) out = refl
-out_unmerged (Meets n w h right) out = absurd out
-out_unmerged (Joins h left right pace) out = absurd out
-
 out_unretired : (s : Stage) → IsOut s → has_retired s ≡ false
 out_unretired Idle out = refl
 out_unretired (Saw n v w k) out = refl
@@ -154,17 +145,6 @@ out_unretired (Splits left fresh phase) out = refl
 out_unretired (Leaves left) out = refl
 out_unretired (Meets n w h right) out = absurd out
 out_unretired (Joins h left right pace) out = absurd out
-
-out_unplaced : (s : Stage) → IsOut s → placed_in s ≡ None
-out_unplaced Idle out = refl
-out_unplaced (Saw n v w k) out = refl
-out_unplaced (Wears n v) out = refl
-out_unplaced (Holds n w h) out = absurd out
-out_unplaced (Eyes n w h m v u free) out = absurd out
-out_unplaced (Splits left fresh phase) out = refl
-out_unplaced (Leaves left) out = refl
-out_unplaced (Meets n w h right) out = absurd out
-out_unplaced (Joins h left right pace) out = absurd out
 
 -- what has merged none has made none GONE
 unmerged_unretired : (s : Stage) → has_merged s ≡ false → has_retired s ≡ false
@@ -179,18 +159,6 @@ unmerged_unretired (Meets n w h right) none = none
 unmerged_unretired (Joins h left right Gathered) none = refl
 unmerged_unretired (Joins h left right Joined) none = refl
 unmerged_unretired (Joins h left right Gone) none = none
-
--- nor has what splits
-cut_unretired : (s : Stage) → is_cut s ≡ true → has_retired s ≡ false
-cut_unretired Idle cut = refl
-cut_unretired (Saw n v w k) cut = refl
-cut_unretired (Wears n v) cut = refl
-cut_unretired (Holds n w h) cut = absurd (cc)
-cut_unretired (Eyes n w h m v u free) cut = absurd (cc)
-cut_unretired (Splits left fresh phase) cut = refl
-cut_unretired (Leaves left) cut = refl
-cut_unretired (Meets n w h right) cut = absurd (cc)
-cut_unretired (Joins h left right pace) cut = absurd (cc)
 
 -- what is answered that has merged has made one GONE
 done_retired : (l : Layout) (g : ℕ) (f : Facts) (caller index since : ℕ) (s : Stage) (placed : Placed) → IsLegal l g f caller index since s (Some (once.Done placed)) → has_retired s ≡ has_merged s

@@ -26,6 +26,7 @@ use Rattle.call_stages.specs.Prevs.{Prevs, IsSwitch, IsJoin}
 use Rattle.index_law.specs.Lines.{line_in, SureLine}
 use Rattle.index_law.specs.LoneShapes.{has_merged, IsOut}
 use Rattle.index_law.specs.Worlds.{Party, World, facts, stepped, moved_on, written}
+use Rattle.index_law.proofs.Loose.{out_unmerged, out_unplaced}
 use Rattle.index_law.proofs.MergedOnce.{step_merges_once}
 use Rattle.index_law.proofs.Noting.{line-here}
 use Rattle.index_law.proofs.Own.{allow_law, sure_within}
@@ -42,6 +43,7 @@ use Rattle.layer_law.proofs.CallLines.{line_tie}
 use Rattle.layer_law.proofs.CallNotes.{stored, field_else, state_lines}
 use Rattle.lone_law.specs.Merging.{HasKeptList}
 use Rattle.lone_law.specs.Tries.{Trying, HasShape, is_same, was_cut, was_joined, Says, is_cut}
+use Rattle.lone_law.proofs.Cuts.{cut_unmerged}
 use Rattle.lone_turn.specs.CallLogs.{KeepsLayer, KeepsLines, MakesReady, HasSwitched, HasNotSwitched, IsOwnLine, StandsSo, LeavesLines, IsInStep, LogGoes, LogEnds}
 use Rattle.lone_turn.specs.LoneTurns.{line_state}
 use Rattle.lone_turn.proofs.Switching.{cut_moves, Told, answer_told}
@@ -62,43 +64,10 @@ switched_or_not s = at (is_cut s) (has_merged s) refl refl
 not_both : (s : Stage) → HasNotSwitched s → HasSwitched s → ⊥
 not_both s before = ⊎_elim (λ (cut : is_cut s ≡ true). both cut before.0) (λ (merged : has_merged s ≡ true). both merged before.1)
 
-out_unplaced : (s : Stage) → IsOut s → placed_in s ≡ None
-out_unplaced Idle out = refl
-out_unplaced (Saw n v w k) out = refl
-out_unplaced (Wears n v) out = refl
-out_unplaced (Holds n w h) out = absurd out
-out_unplaced (Eyes n w h m v u free) out = absurd out
-out_unplaced (Splits left fresh phase) out = refl
-out_unplaced (Leaves left) out = refl
-out_unplaced (Meets n w h right) out = absurd out
-out_unplaced (Joins h left right pace) out = absurd out
-
-out_unmerged : (s : Stage) → IsOut s → has_merged s ≡ false
-out_unmerged Idle out = refl
-out_unmerged (Saw n v w k) out = refl
-out_unmerged (Wears n v) out = refl
-out_unmerged (Holds n w h) out = absurd out
-out_unmerged (Eyes n w h m v u free) out = absurd out
-out_unmerged (Splits left fresh phase) out = refl
-out_unmerged (Leaves left) out = refl
-out_unmerged (Meets n w h right) out = absurd out
-out_unmerged (Joins h left right pace) out = absurd out
-
 -- a call that has merged has its place
 merged_placed : {name : List ℕ} {own : Option Change} {w0 w : World} {s : Stage} → HasShape name own w0 w s → has_merged s ≡ true → placed_in s ≢ None
 merged_placed (is_same uncut unmerged list) merged = absurd (both merged unmerged)
-merged_placed {s = s} (was_cut cut halved history) merged = absurd (cut_merged s cut merged)
-  where
-    cut_merged : (s : Stage) → is_cut s ≡ true → has_merged s ≡ true → ⊥
-    cut_merged Idle cut merged = cc
-    cut_merged (Saw n v w k) cut merged = cc
-    cut_merged (Wears n v) cut merged = cc
-    cut_merged (Holds n w h) cut merged = cc
-    cut_merged (Eyes n w h m v u free) cut merged = cc
-    cut_merged (Splits left fresh phase) cut merged = cc
-    cut_merged (Leaves left) cut merged = cc
-    cut_merged (Meets n w h right) cut merged = cc
-    cut_merged (Joins h left right pace) cut merged = cc
+merged_placed {s = s} (was_cut cut halved history) merged = absurd (cut_unmerged s cut merged)
 merged_placed (was_joined uncut merged given deletes joined) is = given
 
 -- ---- the lines, at another moment

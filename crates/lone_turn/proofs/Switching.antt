@@ -12,33 +12,13 @@ use Rattle.call_stages.specs.Stages.{Held, Grip, Stage, Idle, Saw, Wears, Holds,
 use Rattle.call_stages.specs.Prevs.{IsSwitch}
 use Rattle.call_stages.specs.Kinds.{Look, turns_back, is_worn, wears, roams, roams_status, sees, misses, times, learns, decides, glances, finds_live, watches, watches_next, turns_away, steps_back, wanders, Split, fills, lights, switches, glances_left, glances_fresh, drains_left, drains_fresh, trims, splits, Merge, meets, knows_own, knows_right, copies, takes_up, puts_down, parts, gathers, joins, glances_joined, drains_joined, retires, yields, merges, peeks, peeks_status, eyes, eyes_free, passes, loses, claims, publishes, leaves, Step, looks, locks, stores, commits, drains, counts, unlocks, GivesUp, Answers, writes, reads, is_spent, has_no_room, refuses, IsRefusal}
 use Rattle.index_law.specs.LoneShapes.{has_merged}
+use Rattle.index_law.proofs.Loose.{out_unmerged, loose_out}
 use Rattle.lone_law.specs.Tries.{is_cut}
+use Rattle.lone_law.proofs.Cuts.{loose_uncut}
 use Rattle.lone_turn.specs.CallLogs.{HasNotSwitched}
 
-loose_uncut : (s : Stage) → IsLoose s → is_cut s ≡ false
-loose_uncut Idle loose = refl
-loose_uncut (Saw n v w k) loose = refl
-loose_uncut (Wears n v) loose = refl
-loose_uncut (Holds n w h) loose = absurd loose
-loose_uncut (Eyes n w h m v u free) loose = absurd loose
-loose_uncut (Splits left fresh phase) loose = absurd loose
-loose_uncut (Leaves left) loose = absurd loose
-loose_uncut (Meets n w h right) loose = absurd loose
-loose_uncut (Joins h left right pace) loose = absurd loose
-
-loose_unmerged : (s : Stage) → IsLoose s → has_merged s ≡ false
-loose_unmerged Idle loose = refl
-loose_unmerged (Saw n v w k) loose = refl
-loose_unmerged (Wears n v) loose = refl
-loose_unmerged (Holds n w h) loose = absurd loose
-loose_unmerged (Eyes n w h m v u free) loose = absurd loose
-loose_unmerged (Splits left fresh phase) loose = absurd loose
-loose_unmerged (Leaves left) loose = absurd loose
-loose_unmerged (Meets n w h right) loose = absurd loose
-loose_unmerged (Joins h left right pace) loose = absurd loose
-
 loose_not : (s : Stage) → IsLoose s → HasNotSwitched s
-loose_not s loose = (loose_uncut s loose, loose_unmerged s loose)
+loose_not s loose = (loose_uncut s loose, out_unmerged s (loose_out s loose))
 
 -- the phase alone tells
 one_phase : (left fresh left' fresh' : Grip) (phase : Phase) → is_cut (Splits left' fresh' phase) ≡ is_cut (Splits left fresh phase)

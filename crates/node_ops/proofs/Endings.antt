@@ -86,24 +86,13 @@ use Rattle.node_ops.proofs.SplitFacts.{split_uncounted, split_unplaced}
 use Rattle.node_ops.proofs.MergeFacts.{placed_still, merging_stage, merge_placed, merge_limited, merge_uncounted, goes_on_stage}
 use Rattle.cat_history.specs.declared.op.Change.{Change}
 use Rattle.node_ops.specs.Endings.{place_for, limit_in, IsPutOp, IsDone, DoneIsCounted, IsSpent, SpentIsLate, NoFreeIsOfPuts, RefusedIsUncounted, GoesOn, TurnsKeepPlace, LastCountsNothing, PlacedIsInTime}
+use Rattle.index_law.proofs.Loose.{loose_unplaced}
 use Rattle.node_ops.proofs.OpLaw.{lookup_counts}
 
--- a stage that holds no node has no place
-loose_placed : (s : Stage) → IsLoose s → placed_in s ≡ None
-loose_placed Idle loose = refl
-loose_placed (Saw n v w k) loose = refl
-loose_placed (Wears n v) loose = refl
-loose_placed (Holds n w h) loose = absurd loose
-loose_placed (Eyes n w h m v u free) loose = absurd loose
-loose_placed (Splits left fresh phase) loose = absurd loose
-loose_placed (Leaves left) loose = absurd loose
-loose_placed (Meets n w h right) loose = absurd loose
-loose_placed (Joins h left right pace) loose = absurd loose
-
--- nor has a look-up
+-- a look-up has no place
 lookup_placed : (call : Call) (at : LookupAt) → placed_in (lookup_at_stage call at) ≡ None
 lookup_placed call (look.Floor floor) = refl
-lookup_placed call (look.Walk walk) = loose_placed (walk_stage walk) (walk_loose walk.generation walk.node walk.at)
+lookup_placed call (look.Walk walk) = loose_unplaced (walk_stage walk) (walk_loose walk.generation walk.node walk.at)
 lookup_placed call (look.Lock seen locked) = refl
 lookup_placed call (look.Clock locked) = refl
 lookup_placed call (look.Spent hold) = refl

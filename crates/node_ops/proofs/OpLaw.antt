@@ -14,6 +14,7 @@ use Rattle.call_stages.specs.Stages.{Stage, Idle, Saw, Wears, Holds, Eyes, Split
 use Rattle.data_list.specs.WalkStages.{walk_stage}
 use Rattle.data_list.proofs.WalkLaw.{walk_loose}
 use Rattle.call_stages.specs.Kinds.{Told}
+use Rattle.index_law.proofs.Loose.{loose_counted}
 use Rattle.node_ops.specs.declared.call.Call.{Call}
 use Rattle.node_ops.specs.declared.lookup.Found.{Found}
 use Rattle.node_ops.specs.declared.lookup.Hit.{Hit}
@@ -234,17 +235,6 @@ turns_keep_op l g op running x sound told leads is =
     own_keep op running x sound.here (subst (λ (k : Layout). Told k (running_call running).view.generation (running_asks running) x) (sym sound.layout) at_generation) leads is
 
 -- a stage that holds no node
-loose_counts : (s : Stage) → IsLoose s → counted s ≡ None
-loose_counts Idle loose = refl
-loose_counts (Saw n v w k) loose = refl
-loose_counts (Wears n v) loose = refl
-loose_counts (Holds n w h) loose = absurd loose
-loose_counts (Eyes n w h m v u free) loose = absurd loose
-loose_counts (Splits left fresh phase) loose = absurd loose
-loose_counts (Leaves left) loose = absurd loose
-loose_counts (Meets n w h right) loose = absurd loose
-loose_counts (Joins h left right pace) loose = absurd loose
-
 loose_about : (name : List ℕ) (s : Stage) → IsLoose s → IsAbout name s
 loose_about name Idle loose = tt
 loose_about name (Saw n v w k) loose = tt
@@ -270,7 +260,7 @@ loose_pends (Joins h left right pace) loose = absurd loose
 -- a look-up counts nothing, and holds its node for its call's name
 pub lookup_counts : (call : Call) (at : LookupAt) → counted (lookup_at_stage call at) ≡ None
 lookup_counts call (look.Floor floor) = refl
-lookup_counts call (look.Walk walk) = loose_counts (walk_stage walk) (walk_loose walk.generation walk.node walk.at)
+lookup_counts call (look.Walk walk) = loose_counted (walk_stage walk) (walk_loose walk.generation walk.node walk.at)
 lookup_counts call (look.Lock target locked) = refl
 lookup_counts call (look.Clock locked) = refl
 lookup_counts call (look.Spent hold) = refl

@@ -33,13 +33,15 @@ use Rattle.index_law.specs.Whole.{Whole, IsWhole}
 use Rattle.index_law.specs.Worlds.{Party, World, facts, stepped, moved_on}
 use Rattle.index_law.proofs.AnySteps.{beside_keeps}
 use Rattle.index_law.proofs.Law.{step_law}
+use Rattle.index_law.proofs.Loose.{out_unmerged}
 use Rattle.index_law.proofs.Moves.{fact_after, split_after, merge_after, facts_step}
 use Rattle.index_law.proofs.Own.{allow_law, sure_within}
 use Rattle.index_law.proofs.Parties.{set_here}
-use Rattle.index_law.proofs.Prevs.{store_prev, nodes_leave_prevs, leads_now}
+use Rattle.index_law.proofs.Prevs.{store_prev, nodes_leave_prevs, leads_now, chain_next, prev_here, prev_else}
 use Rattle.index_law.proofs.Starts.{listed_within}
 use Rattle.index_law.proofs.Switch.{leads_on}
 use Rattle.lone_law.specs.Tries.{Trying, HasShape, is_same, was_cut, was_joined, is_cut, has_retired}
+use Rattle.lone_law.proofs.Cuts.{cut_unmerged}
 use Rattle.lone_law.proofs.Effects.{Effect, Keeps, stays, adds, cuts, drops, buries, is_done, step_does}
 use Rattle.lone_law.proofs.Effects as effect
 use Rattle.staleness.specs.Ways.{StayGone}
@@ -159,28 +161,6 @@ step_own n m (kinds.merges (kinds.yields next durable)) was is own = tt
 both : {b : Bool} → b ≡ true → b ≡ false → ⊥
 both is isnt = cc
 
-out_unmerged : (s : Stage) → IsOut s → has_merged s ≡ false
-out_unmerged Idle out = refl
-out_unmerged (Saw n v w k) out = refl
-out_unmerged (Wears n v) out = refl
-out_unmerged (Holds n w h) out = absurd out
-out_unmerged (Eyes n w h m v u free) out = absurd out
-out_unmerged (Splits left fresh phase) out = refl
-out_unmerged (Leaves left) out = refl
-out_unmerged (Meets n w h right) out = absurd out
-out_unmerged (Joins h left right pace) out = absurd out
-
-cut_unmerged : (s : Stage) → is_cut s ≡ true → has_merged s ≡ true → ⊥
-cut_unmerged Idle cut merged = cc
-cut_unmerged (Saw n v w k) cut merged = cc
-cut_unmerged (Wears n v) cut merged = cc
-cut_unmerged (Holds n w h) cut merged = cc
-cut_unmerged (Eyes n w h m v u free) cut merged = cc
-cut_unmerged (Splits left fresh phase) cut merged = cc
-cut_unmerged (Leaves left) cut merged = cc
-cut_unmerged (Meets n w h right) cut merged = cc
-cut_unmerged (Joins h left right pace) cut merged = cc
-
 -- a call that is answered is past its merge
 answered_retired : (l : Layout) (g : ℕ) (f : Facts) (caller index since : ℕ) (s : Stage) (answer : Once Placed) → IsLegal l g f caller index since s (Some answer) → has_merged s ≡ true → has_retired s ≡ true
 answered_retired l g f caller index since Idle answer legal is = absurd (let no : false ≡ true = is in cc)
@@ -212,35 +192,6 @@ retire_known (forgets no_switch no_join no_retire holds) q = absurd (no_retire q
 retire_known (ends no_switch no_join no_retire owed leads) q = absurd (no_retire q)
 retire_known (switches one fresh_known none) q = absurd (let no = q.was in cc)
 retire_known (joins one none) q = absurd (let no = q.was in cc)
-
--- ---- the words
-
--- where each node of a list leads its words tell
-next_in : (now now' : ℕ → Spot) (here : ℕ) (list : List ListNode) → IsChain now here list → IsChain now' here list → (n : ℕ) → (n ≡ here) ⊎ IsMember list n → now' n next_offset ≡ now n next_offset
-next_in now now' here list chain chain' n (inl e) = ap (λ k. now' k next_offset) e ∙ at list chain chain' ∙ ap (λ k. now k next_offset) (sym e)
-  where
-    at : (list : List ListNode) → IsChain now here list → IsChain now' here list → now' here next_offset ≡ now here next_offset
-    at [] chain chain' = chain' ∙ sym chain
-    at (m ∷ behind) chain chain' = chain'.0 ∙ sym chain.0
-next_in now now' here [] chain chain' n (inr among) = absurd among
-next_in now now' here (m ∷ behind) chain chain' n (inr among) = next_in now now' m.node behind chain.3 chain'.3 n among
-
-abbrev node_at : Location → ℕ
-node_at (Volatile n o) = n
-node_at _ = 0
-
--- a stored prev is the only one that changes
-prev_other : (l : Layout) (words : List ℕ) (m y n : ℕ) → m < l.nodes → n ≢ m → prev_in l (slice_set words (prev_address l m) y) n ≡ prev_in l words n
-unfolding prev_in
-prev_other l words m y n here other =
-    elim (nat_lt n l.nodes) as (λ b. nat_lt n l.nodes ≡ b → cond b (at l (slice_set words (prev_address l m) y) (Volatile n 1)) 0 ≡ cond b (at l words (Volatile n 1)) 0) [
-      | true ↦ λ is. at-set_other l words (Volatile m 1) (Volatile n 1) y (here, omega arith) (ltb-true n l.nodes is, omega arith) (λ e. other (ap node_at e))
-      | false ↦ λ _. refl
-    ] refl
-
-prev_stored : (l : Layout) (words : List ℕ) (m y : ℕ) → length words ≡ row_words l → m < l.nodes → prev_in l (slice_set words (prev_address l m) y) m ≡ y
-unfolding prev_in
-prev_stored l words m y whole here = rw (lt-ltb m l.nodes here) (at-set_same l words (Volatile m 1) y whole (here, omega arith))
 
 -- ---- the steps
 
@@ -331,7 +282,7 @@ module _ (name : List ℕ) (own : Option Change) (w0 : World) (z : Whole) (i : �
             right = join.right.node;
             listed = listed;
             some = sure.nonzero;
-            leads = next_in f.now (facts w0).now 0 (facts w0).list chain began.chain join.left.node listed ∙ linked.leads;
+            leads = chain_next f.now (facts w0).now 0 (facts w0).list chain began.chain join.left.node listed ∙ linked.leads;
             list = shorter ∙ ap (without_member join.right.node) was;
             own = subst (λ (s : Stage). IsOwn s join.left.node join.right.node) (sym join.is) (sym (join_node deals join), refl);
             gone = λ retired. absurd (both retired (ap has_retired join.is));
@@ -411,7 +362,7 @@ module _ (name : List ℕ) (own : Option Change) (w0 : World) (z : Whole) (i : �
   stored_prevs : (s : Stage) (d d' : Debt) (a : Action) → p.stage ≡ s → get_elem? z.debts i ≡ some d → Prevs l s d a d' → (n : ℕ) → IsGone f n → prev_in l (acted l words a) n ≡ prev_in l words n
   stored_prevs s d d' a stage owing (names {left = left} {fresh = fresh} {lit = lit}) n gone =
       let sure : SureSplits l g f left fresh (Filling lit) = subst (λ (u : Stage). Sure l g f p.caller p.index p.since u) stage knows in
-      prev_other l words fresh.node left.node n sure.new.here (λ e. lit_up lit sure.at.bright sure.at.dark (ap f.status (sym e) ∙ gone))
+      prev_else l words fresh.node left.node n sure.new.here (λ e. lit_up lit sure.at.bright sure.at.dark (ap f.status (sym e) ∙ gone))
     where
       lit_up : (lit : Bool) → (lit ≡ true → f.status fresh.node ≡ live_status) → (lit ≡ false → f.status fresh.node ≡ free_status) → f.status fresh.node ≡ gone_status → ⊥
       lit_up true bright dark is = absurd (let no : 1 ≡ 2 = sym (bright refl) ∙ is in omega arith)
@@ -421,14 +372,14 @@ module _ (name : List ℕ) (own : Option Change) (w0 : World) (z : Whole) (i : �
       let sure : Sure l g f p.caller p.index p.since s = subst (λ (u : Stage). Sure l g f p.caller p.index p.since u) stage knows in
       let to : f.now m next_offset ≡ y = leads_now l g f p.caller p.index p.since s m y sure leads in
       let next : IsListed f y = subst (IsListed f) to (leads_on l f o.lawful.list m listed (λ q. ne (sym to ∙ q))) in
-      prev_other l words y m n (listed_within l f o.lawful.list o.lawful.row.layout y next) (λ e. absurd (let no : 1 ≡ 2 = sym (o.lawful.live.live y next) ∙ ap f.status (sym e) ∙ gone in omega arith))
+      prev_else l words y m n (listed_within l f o.lawful.list o.lawful.row.layout y next) (λ e. absurd (let no : 1 ≡ 2 = sym (o.lawful.live.live y next) ∙ ap f.status (sym e) ∙ gone in omega arith))
   stored_prevs s d d' a stage owing (renews {left = left} {right = right} known) n gone =
       let sure : SureJoins l g f p.caller p.index p.since _ left right Gone = subst (λ (u : Stage). Sure l g f p.caller p.index p.since u) stage knows in
       let within = sure.other.here in
       let is : prev_in l words right.node ≡ left.node = (subst (λ (q : Option (ℕ × ℕ)). IfSome q (λ k. HoldsNode p.stage k.0 × (IsListed f k.0 → ⊥) × (prev_in l words k.0 ≡ k.1))) known (whole.traced.known i d p owing o.there)).2 in
       ⊎_elim
-      (λ (e : n ≡ right.node). ap (prev_in l (slice_set words (prev_address l right.node) left.node)) e ∙ prev_stored l words right.node left.node o.lawful.row.whole within ∙ sym is ∙ ap (prev_in l words) (sym e))
-      (λ (other : n ≢ right.node). prev_other l words right.node left.node n within other)
+      (λ (e : n ≡ right.node). ap (prev_in l (slice_set words (prev_address l right.node) left.node)) e ∙ prev_here l words right.node left.node o.lawful.row.whole within ∙ sym is ∙ ap (prev_in l words) (sym e))
+      (λ (other : n ≢ right.node). prev_else l words right.node left.node n within other)
       (cases_eq n right.node)
 
 pub nodes_go : NodesGo
