@@ -33,6 +33,7 @@ pub mod Endings
 pub mod Told
 pub mod Fulls
 pub mod Rounds
+pub mod ShortWays
 pub mod Layering
 pub mod Busy
 pub mod Turning

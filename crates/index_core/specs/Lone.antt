@@ -193,7 +193,7 @@ pub record TriesAlone (old : Index) (caller : ℕ) (c : CoreCall) (new : Index) 
 
 -- From the node to which the search layer leads a name, the way to the name's node is no longer than log lines are READY.
 -- So it is of an index that was recovered, or behind a turn of the updater that was made alone, and stays so behind lone
--- calls.
+-- calls, where a word becomes durable, and where another round begins.
 abbrev pub HasShortWays : Index → Type 0
 HasShortWays s = WaysAreShort (world s)
 

@@ -11,7 +11,7 @@ ghost use Rattle.index_core.specs.Opened.{opened_index};
 ghost use Rattle.pm_words.specs.Locations.{image_words};
 ghost use Rattle.index_core.specs.Crashes.{IsCrash, evicted_index};
 ghost use Rattle.index_core.specs.PartsOf.{index_in};
-ghost use Rattle.index_core.specs.Lone.{CountsCall, HasListed, HasListing, IsQuiet};
+ghost use Rattle.index_core.specs.Lone.{CountsCall, HasListed, HasListing, HasShortWays, IsQuiet};
 ghost use Rattle.index_core.specs.PartyStates.{idle_states};
 ghost use Rattle.index_core.specs.Rounds.{BeginsRound};
 
@@ -283,6 +283,7 @@ impl Core {
     pub fn evict(&mut self, word: u64)
         requires { word < image_words self.old.layout }
         ensures evicted { self.new ≡ evicted_index self.old word }
+        ensures short { HasShortWays self.old → HasShortWays self.new }
         ensures index { IsIndex self.new }
     {
         self.memory.evict(word);
@@ -320,6 +321,7 @@ impl Core {
         ensures ok { OnOk result (BeginsRound self.old self.new) }
         ensures spare { OnOk result (self.new.spare ≡ self.old.spare) }
         ensures err { OnErr result (self.new ≡ self.old) }
+        ensures short { HasShortWays self.old → HasShortWays self.new }
         ensures quiet { IsQuiet self.new }
         ensures index { IsIndex self.new }
     {

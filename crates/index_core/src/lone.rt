@@ -7,8 +7,8 @@ ghost use Rattle.std.specs.Prelude.{◌≡◌, ◌+◌, ◌<◌, ◌≤◌, leng
 ghost use Rattle.index_core.specs.declared.party.CoreCall.TheVariants as CoreCall;
 ghost use Rattle.index_core.specs.CoreCalls.{IfTurn, MayBegin, MayStart, count_of, most_writes};
 ghost use Rattle.index_core.specs.Indexes.{IsIndex};
-ghost use Rattle.index_core.specs.Lone.{IsQuiet, LoseAtMost, RunsAlone, TakesEachLock, TakesLocks, TriesAlone};
-ghost use Rattle.index_core.specs.Lone.{TriesBehindTurn, locks_left, part_whole, whole_of};
+ghost use Rattle.index_core.specs.Lone.{HasShortWays, IsQuiet, LoseAtMost, RunsAlone, TakesEachLock, TakesLocks};
+ghost use Rattle.index_core.specs.Lone.{TriesAlone, TriesBehindTurn, locks_left, part_whole, whole_of};
 ghost use Rattle.index_core.specs.Turns.{IsTurnedAnd, TurnsAlone};
 
 use crate::index::Core;
@@ -50,6 +50,7 @@ impl Core {
         ensures runs { MayBegin call → RunsAlone self.old caller call self.new result }
         ensures turns { IfTurn call (λ stamp release.
             IsTurnedAnd result (λ turned. TurnsAlone self.old stamp release turned self.new)) }
+        ensures short { IfTurn call (λ stamp release. HasShortWays self.new) }
         ensures quiet { IsQuiet self.new }
         ensures spare { self.old.spare + length self.old.history ≤ self.new.spare + length self.new.history }
         ensures each_lock { MayBegin call → TakesEachLock caller call self.old self.new }

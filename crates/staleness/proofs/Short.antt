@@ -1,18 +1,29 @@
 -- Where no log line waits the layer leads to the targets themselves; and what keeps ways short.
-use Rattle.std.proofs.Common.{◌≡◌, ℕ, ◌<◌, ◌≤◌, inl, ⊎_elim, Some, None, refl, sym, ◌∙◌, subst, arith}
+use Rattle.std.proofs.Common.{◌≡◌, ◌==◌, ℕ, ◌<◌, ◌≤◌, inl, ⊎_elim, Some, None, refl, sym, ◌∙◌, subst, arith}
 use Rattle.pm_words.specs.declared.layout.Layout.{Layout}
-use Rattle.pm_words.specs.Locations.{Cached, leaf_count}
-use Rattle.data_node.specs.Lists.{anchor_in, IsIn, Rise}
+use Rattle.pm_words.specs.Locations.{Node, Leaf, Cached, Volatile, leaf_count}
+use Rattle.data_node.specs.Lists.{anchor_in, members_from, IsIn, Rise}
 use Rattle.data_list.specs.Still.{Nodes, AreQuiet}
 use Rattle.data_list.proofs.Comings.{comes_once}
+use Rattle.index_law.specs.Facts.{spot_in, status_in, version_in}
+use Rattle.index_law.specs.Prevs.{prev_in}
 use Rattle.index_law.specs.Worlds.{World}
+use Rattle.index_law.proofs.Prevs.{prev_in-alike}
+use Rattle.index_law.proofs.Rows.{spot_in-alike, status_in-alike, version_in-alike}
 use Rattle.layer_law.proofs.LayerCover.{layer_is_covered}
 use Rattle.search_layer.specs.Layers.{Layer, IsFloorOf, IsBest}
-use Rattle.search_layer.specs.Leaves.{layer_of, leaves_in}
+use Rattle.search_layer.specs.Leaves.{layer_in, layer_of, leaves_in}
 use Rattle.search_layer.proofs.CountLemmas.{layer_leads_to_nodes}
+use Rattle.search_layer.proofs.LeafRows.{leaves_in-alike}
+use Rattle.turn_law.specs.Covers.{ready_state}
 use Rattle.turn_law.specs.Covered.{IsCovered}
+use Rattle.turn_row.specs.Columns.{line_count, line_word}
+use Rattle.turn_row.proofs.RowColumns.{column-same}
+use Rattle.updater.specs.Events.{how_many}
+use Rattle.lone_turn.specs.CallLogs.{ready_lines}
+use Rattle.lone_turn.specs.LoneTurns.{line_state}
 use Rattle.staleness.specs.LoneNodes.{nodes_of}
-use Rattle.staleness.specs.Short.{EmptyIsShort, ShortStays, ShortWalks}
+use Rattle.staleness.specs.Short.{EmptyIsShort, ShortStays, ShortStaysAlike, ShortWalks}
 use Rattle.staleness.specs.Ways.{is_out, IsWay}
 use Rattle.staleness.proofs.Positions.{position_between}
 use Rattle.staleness.proofs.WayLemmas.{ways_are_walks}
@@ -60,6 +71,28 @@ short_stays w0 w layer lengthen short key start floor =
     let few = was.1 in
     let more = now.1 in
     (now.0, omega arith, now.2)
+
+pub short_stays_alike : ShortStaysAlike
+short_stays_alike w words alike short key start floor =
+    let l : Layout = w.layout in
+    let leaves : (leaf offset : ℕ) → leaves_in l words Cached leaf offset ≡ leaves_in l w.words Cached leaf offset =
+    λ leaf offset. leaves_in-alike l w.words words Cached leaf offset (λ here small. alike (Cached (Leaf leaf offset)) (here, small) tt) in
+    let layer : layer_of l words ≡ layer_of l w.words = λ k. layer_in (λ leaf offset. leaves leaf offset k) (leaf_count l) in
+    let states : line_state (record w { words = words }) ≡ line_state w =
+    column-same l w.words words (line_count l) (λ j. Cached (line_word 0 j)) (λ j here. alike (Cached (line_word 0 j)) (omega arith, omega arith, omega arith) tt) in
+    let ready : ready_lines (record w { words = words }) ≡ ready_lines w = λ k. how_many (λ j. states k j == ready_state) (line_count l) in
+    let version : (n : ℕ) → version_in l words n ≡ version_in l w.words n =
+    λ n. version_in-alike l w.words words n (λ here. alike (Cached (Node n 0)) (here, omega arith) tt) in
+    let status : (n : ℕ) → status_in l words n ≡ status_in l w.words n =
+    λ n. status_in-alike l w.words words n (λ here. alike (Volatile n 0) (here, omega arith) tt) in
+    let prev : (n : ℕ) → prev_in l words n ≡ prev_in l w.words n =
+    λ n. prev_in-alike l w.words words n (λ here. alike (Volatile n 1) (here, omega arith) tt) in
+    let spot : (n offset : ℕ) → spot_in l words n offset ≡ spot_in l w.words n offset =
+    λ n offset. spot_in-alike l w.words words n offset (λ has positive. alike (Cached (Node n offset)) has tt) in
+    let nodes : nodes_of (record w { words = words }) ≡ nodes_of w =
+    λ k. record { version = λ n. version n k; status = λ n. status n k; prev = λ n. prev n k; now = λ n offset. spot n offset k; list = members_from (λ n offset. spot n offset k) l.nodes 0 } in
+    let was = short key start (subst (λ (layer : Layer). IsFloorOf layer key start) layer floor) in
+    (was.0, subst (λ (count : ℕ). was.0 ≤ count) (sym ready) was.1, subst (λ (f : Nodes). IsWay f key start was.0) (sym nodes) was.2)
 
 -- the floor is one of the nodes
 floor_within : (w : World) (key start : ℕ) → 0 < w.layout.nodes → ((k node : ℕ) → layer_of w.layout w.words k ≡ Some node → node < w.layout.nodes) → IsFloorOf (layer_of w.layout w.words) key start → start < w.layout.nodes

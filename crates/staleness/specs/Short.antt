@@ -1,5 +1,6 @@
 -- A search layer from which no walk makes more hops than log lines are READY.
-use Rattle.std.specs.Prelude.{◌≡◌, ℕ, ◌≤◌}
+use Rattle.std.specs.Prelude.{◌≡◌, ℕ, ◌≤◌, List}
+use Rattle.pm_words.specs.Locations.{Location, Cached, Volatile, HasLocation, at}
 use Rattle.data_list.specs.Still.{AreQuiet, Comes}
 use Rattle.index_law.specs.Worlds.{World}
 use Rattle.layer_law.specs.Layers.{Layered, IsLayered}
@@ -25,6 +26,18 @@ EmptyIsShort = (z : Layered) → IsLayered z →
 -- And so it stays where the layer leads each key where it led, and ways get longer by no more than lines get READY.
 abbrev pub ShortStays : Type 0
 ShortStays = (w0 w : World) → KeepsLayer w0 w → LengthenWithin w0 w → WaysAreShort w0 → WaysAreShort w
+
+-- A word that a walk or a look at the layer or the log may load: a cached one, or a volatile one of a node.
+abbrev pub IsLookedAt : Location → Type 0
+IsLookedAt (Cached word) = Unit {0}
+IsLookedAt (Volatile node offset) = Unit {0}
+IsLookedAt _ = ⊥
+
+-- So it stays too where each of these is what it was.
+abbrev pub ShortStaysAlike : Type 0
+ShortStaysAlike = (w : World) (words : List ℕ) →
+    ((p : Location) → HasLocation w.layout p → IsLookedAt p → at w.layout words p ≡ at w.layout w.words p) →
+    WaysAreShort w → WaysAreShort (record w { words = words })
 
 -- Then a walk that begins there makes no more hops than lines are READY.
 abbrev pub ShortWalks : Type 0

@@ -1,7 +1,7 @@
 //! Laws.
 
 ghost use Rattle.staleness.specs.LoneNodes.{NodesGo, NodesEnd, TriesLengthen};
-ghost use Rattle.staleness.specs.Short.{EmptyIsShort, ShortStays, ShortWalks};
+ghost use Rattle.staleness.specs.Short.{EmptyIsShort, ShortStays, ShortStaysAlike, ShortWalks};
 ghost use Rattle.staleness.specs.Ways.{WaysAreWalks, SameWays, CutWays, JoinWays};
 
 /// A way is a walk's with nothing in flight, and is one hop longer at most once a node was cut or two were joined.
@@ -23,5 +23,6 @@ pub fn nodes_law()
 pub fn short_law()
     ensures empty { EmptyIsShort }
     ensures stays { ShortStays }
+    ensures stays_alike { ShortStaysAlike }
     ensures walks { ShortWalks }
 {}

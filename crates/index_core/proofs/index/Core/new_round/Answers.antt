@@ -9,10 +9,11 @@ use Rattle.index_core.specs.declared.party.PartyState.{PartyState}
 use Rattle.index_core.specs.Cores.{index_of, index_with, taken}
 use Rattle.index_core.specs.PartyStates.{idle_state, idle_states, owed}
 use Rattle.index_core.specs.Indexes.{Index, IsIndex, parties_of}
-use Rattle.index_core.specs.Lone.{IsQuiet}
+use Rattle.index_core.specs.Lone.{HasShortWays, IsQuiet}
 use Rattle.index_core.specs.Rounds.{BeginsRound, round_index}
 use Rattle.index_core.proofs.Lists.{idle-each, idle-owed, quiet-owed}
 use Rattle.index_core.proofs.Rounds.{begins_round, round_is}
+use Rattle.index_core.proofs.ShortWays.{round_short}
 use Rattle.index_core.proofs.Stepping.{respare}
 use Rattle.index_core.proofs.index.Core.new_round.Goals as goal
 
@@ -44,6 +45,16 @@ returns-in_err-base-clause-index c = subst IsIndex c.self.view_is (respare _ _ c
 
 pub returns-in_err-history-clause-index : goal.returns-in_err-history-clause-index
 returns-in_err-history-clause-index c = subst IsIndex c.self.view_is (respare _ _ c.self.invariant.0)
+
+pub returns-in_err-base-clause-short : goal.returns-in_err-base-clause-short
+returns-in_err-base-clause-short c short = short
+
+pub returns-in_err-history-clause-short : goal.returns-in_err-history-clause-short
+returns-in_err-history-clause-short c short = short
+
+pub returns-clause-short : goal.returns-clause-short
+returns-clause-short c short =
+    subst HasShortWays (sym (is_round c 0)) (round_short (index_of c.self.inside) 0 (subst HasShortWays (sym c.self.view_is) short))
 
 pub returns-clause-ok : goal.returns-clause-ok
 returns-clause-ok c =

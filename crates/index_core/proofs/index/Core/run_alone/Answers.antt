@@ -9,3 +9,6 @@ returns-in_default-clause-runs g c = λ _. subst (λ (r : Whole). RunsAlone c.ar
 
 pub returns-in_default-clause-turns : goal.returns-in_default-clause-turns
 returns-in_default-clause-turns g c = no_turn c.args.call _ c.in_default.not-Turn
+
+pub returns-in_default-clause-short : goal.returns-in_default-clause-short
+returns-in_default-clause-short g c = no_turn c.args.call _ c.in_default.not-Turn
