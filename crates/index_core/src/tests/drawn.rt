@@ -1,4 +1,4 @@
-//! Calls that are drawn from a number.
+//! Calls and turns of the updater that are drawn from a number.
 
 ghost use Rattle.std.specs.Prelude.{◌≡◌, ◌<◌};
 
@@ -6,7 +6,7 @@ use super::crashes::{NAMES as LETTERS, crashes_soundly, evict, name_of as letter
 use super::merges::{DEL, GET, LIVE, PUT, nodes_with};
 use super::model::{Answer, Membership, Model, NAMES, count_of, name_of};
 use super::splits::number_at;
-use super::turns::{begin_turn, run_turn};
+use super::turns::{begin_turn, run_turn, whole_turn};
 use super::{begin_call, call_of, has_call, part_alone, run, whole};
 use crate::Core;
 use call_stages::{Once, Placed};
@@ -16,6 +16,7 @@ use std::alloc::Global;
 use std::marker::Brand;
 use std::sync::ledger::{Blank, Ledger};
 use std::test::Fail;
+use updater::TurnReply;
 
 /// A linear congruential generator.
 #[derive(Drop)]
@@ -93,8 +94,20 @@ fn stands_alike<L: Ledger>(
     Ok(alike)
 }
 
-/// Whether so many drawn calls, on so many nodes of four slots, are answered as by the model, which has as many members
-/// at the end as nodes are LIVE.
+/// Whether a turn of the updater empties as many log lines as are READY in the model, and frees as many nodes as are GONE
+/// there.
+fn turns_alike<L: Ledger>(
+    core: &mut Core,
+    model: &mut Model,
+    steps: &mut Steps<L>,
+) -> Result<bool, Fail> {
+    let updater = core.layout().callers();
+    let reply = whole_turn(core, updater, 1, steps)?;
+    Ok(reply == TurnReply::Turned(model.turn()))
+}
+
+/// Whether so many drawn calls, with turns of the updater drawn among them, on so many nodes of four slots, are answered
+/// as by the model, which has as many members at the end as nodes are LIVE.
 fn run_alike<L: Ledger>(
     alloc: Global,
     nodes: u64,
@@ -108,6 +121,9 @@ fn run_alike<L: Ledger>(
     for call in 0..calls {
         let asked = [draws.write(call / 24), draws.below(NAMES), call];
         alike = alike && is_alike(alloc, &mut core, &mut model, asked, steps)?;
+        if draws.below(16) == 0 {
+            alike = alike && turns_alike(&mut core, &mut model, steps)?;
+        }
         if call % 20 == 19 {
             alike = alike && stands_alike(alloc, &mut core, &mut model, steps)?;
         }
@@ -134,7 +150,7 @@ fn first_otherwise<L: Ledger>(alloc: Global, blank: Blank) -> Result<Option<u64>
 }
 
 #[test]
-fn drawn_calls_leave_the_shape_of_the_model(rt: HostRuntime) -> Result<(), Fail> {
+fn drawn_calls_and_turns_match_the_model(rt: HostRuntime) -> Result<(), Fail> {
     let found = first_otherwise::<Brand>(rt.alloc(), Blank::new(1))?;
     assert_eq!(rt; found, None);
     Ok(())

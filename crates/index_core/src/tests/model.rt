@@ -4,9 +4,13 @@ use cat_key::Name;
 use shapes::{NameMap, PlainMap};
 use std::alloc::Global;
 use std::test::Fail;
+use updater::Turned;
 
 /// How many names there are.
 pub(super) const NAMES: u64 = 64;
+
+/// How many log lines a caller has.
+const LINES: u64 = 8;
 
 /// The name of this number. They rise with their numbers.
 pub(super) fn name_of(number: u64) -> Result<Name, Fail> {
@@ -72,7 +76,7 @@ pub(super) struct Answer {
     pub place: u64,
 }
 
-/// The members in the order of their names, and the number that each name has.
+/// The members in the order of their names, the number that each name has, and the work that waits for the updater.
 #[derive(Drop)]
 pub(super) struct Model {
     slots: u64,
@@ -81,6 +85,10 @@ pub(super) struct Model {
     members: Vec<Member>,
     map: PlainMap,
     writes: u64,
+    /// How many log lines of the only caller are READY.
+    ready: u64,
+    /// How many nodes are GONE.
+    gone: u64,
 }
 
 impl Model {
@@ -94,12 +102,44 @@ impl Model {
             members,
             map: PlainMap::new(alloc, NAMES)?,
             writes: 0,
+            ready: 0,
+            gone: 0,
         })
     }
 
     /// How many members there are.
     pub(super) fn members(&self) -> u64 {
         self.members.len() as u64
+    }
+
+    /// A turn of the updater empties each READY line, and makes each GONE node FREE.
+    pub(super) fn turn(&mut self) -> Turned {
+        let turned = Turned {
+            applied: self.ready,
+            left: 0,
+            freed: self.gone,
+            none_free: self.members() >= self.nodes,
+        };
+        self.ready = 0;
+        self.gone = 0;
+        turned
+    }
+
+    /// The caller looks for a log line for a change that takes so many FREE nodes. Where no line is EMPTY, or too few
+    /// nodes are FREE, a turn is made first.
+    fn look_for_line(&mut self, nodes: u64) {
+        let wanted = self
+            .members()
+            .saturating_add(self.gone)
+            .saturating_add(nodes);
+        if self.ready >= LINES || wanted > self.nodes {
+            self.turn();
+        }
+    }
+
+    /// A line that was taken is left READY.
+    fn leave_ready(&mut self) {
+        self.ready = self.ready.saturating_add(1);
     }
 
     /// What a put of this number, a get or a delete is answered; None where it finds no room.
@@ -192,9 +232,11 @@ impl Model {
         if count_of(names) < self.slots {
             return Ok(true);
         }
+        self.look_for_line(1);
         if self.members() >= self.nodes {
             return Ok(false);
         }
+        self.leave_ready();
         let lower = lowest_of(names, self.slots / 2);
         let upper = names & !lower;
         self.set_names(target, lower);
@@ -234,15 +276,21 @@ impl Model {
     }
 
     /// The next member goes where both together have no more than half as many names as slots, and its names join those
-    /// of the target.
+    /// of the target. A line is looked for where the target alone has no more, and given back where both have more.
     fn merge_next(&mut self, alloc: Global, target: usize) -> Result<(), Fail> {
         let Some(next) = self.members.get(target.saturating_add(1)) else {
             return Ok(());
         };
         let joined = self.names_at(target) | next.names;
+        if count_of(self.names_at(target)) > self.slots / 2 {
+            return Ok(());
+        }
+        self.look_for_line(0);
         if count_of(joined) > self.slots / 2 {
             return Ok(());
         }
+        self.leave_ready();
+        self.gone = self.gone.saturating_add(1);
         let mut members = Vec::new(alloc);
         for (position, member) in self.members.iter().enumerate() {
             if position != target.saturating_add(1) {
