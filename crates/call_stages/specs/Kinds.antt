@@ -23,7 +23,7 @@ use Rattle.call_stages.specs.declared.once.Placed.{Placed}
 use Rattle.call_stages.specs.Stages.{Known, Knows, KnowsDurable, IsAmong, Held, Sight, Sees, no_sight, Grip, Tells}
 use Rattle.call_stages.specs.Stages.{AreCopies}
 use Rattle.call_stages.specs.Stages.{Phase, Filling, Linked, Parted, Pace, Gathered, Joined, Gone, Stage, Idle, Saw}
-use Rattle.call_stages.specs.Stages.{Wears, Holds, Eyes, Splits, Leaves, Meets, Joins, IsLoose, full_grip, fresh_grip}
+use Rattle.call_stages.specs.Stages.{Wears, Reads, Holds, Eyes, Splits, Leaves, Meets, Joins, IsLoose, full_grip, fresh_grip}
 use Rattle.call_stages.specs.Stages.{left_grip, just_held, merged_held, pended}
 
 -- The addresses of the clock, of a node's version word, and of a node's word by its offset.
@@ -116,6 +116,50 @@ GivesUp None = Unit {0}
 GivesUp (Some (once.Again (again.Hops count))) = Unit {0}
 GivesUp (Some _) = ⊥
 
+-- The steps of a call that takes no lock. What it loads of a node may be torn by others. If the version word stands at
+-- the last load, it wasn't.
+pub data Read (l : Layout) (g : ℕ) : Stage → Action → ℕ → Stage → Option (Once Placed) → Type 0 where
+  -- it loads a free version word, whether or not a lock can be taken from it
+  views : {s : Stage} {n x : ℕ} → IsLoose s → n < l.nodes → IsFree x g →
+      Read l g s (Load (version_address l n)) x (Reads n x no_sight None) None
+  -- what its walk sees of the node, and of the one that it leads to
+  views_live : {n v x : ℕ} {k : Sight} → n < l.nodes → x ≡ live_status →
+      Read l g (Reads n v k None) (Load (status_address l n)) x (Reads n v (record k { live = true }) None) None
+  views_word : {n v x offset : ℕ} {k k' : Sight} → HasWordAt l n offset → 0 < offset → k'.live ≡ k.live →
+      k'.next ≡ k.next →
+      ((s t : Spot) → Sees k s t → s offset ≡ x → Sees k' s t) →
+      Read l g (Reads n v k None) (Load (word_address l n offset)) x (Reads n v k' None) None
+  views_next : {n v m x offset : ℕ} {k k' : Sight} → HasWordAt l m offset → 3 ≤ offset → offset ≤ 5 → m ≢ 0 →
+      k.live ≡ true → k'.live ≡ true → k'.next ≡ m →
+      ((s t : Spot) → Sees k s t → s next_offset ≡ m) → ((s t : Spot) → Sees k s t → t offset ≡ x → Sees k' s t) →
+      Read l g (Reads n v k None) (Load (word_address l m offset)) x (Reads n v k' None) None
+  -- it loads the clock, at a node where its name belongs by what it saw, and goes on with a part of that
+  dates : {n v x : ℕ} {k k' : Sight} {name : List ℕ} → IsName name → k.live ≡ true →
+      ((s t : Spot) → Sees k s t → IsBetween s t (key_of name)) → ((s t : Spot) → Sees k s t → Sees k' s t) →
+      Read l g (Reads n v k None) (Load (clock_address l)) x
+      (Reads n v k' (Some (record (just_held name) { time = Some x }))) None
+  -- it loads a word of the node
+  notes : {n v x offset : ℕ} {k : Sight} {h : Held} {known : Known} → HasWordAt l n offset → 0 < offset →
+      ((s : Spot) → IsTidy l.slots s → Knows h.name h.known s → s offset ≡ x → Knows h.name known s) →
+      Read l g (Reads n v k (Some h)) (Load (word_address l n offset)) x
+      (Reads n v k (Some (record h { known = known }))) None
+  -- with the word that it loads it knows what its name has
+  finds : {n v x offset : ℕ} {k : Sight} {h : Held} {known : Known} {old : Option ℕ} → HasWordAt l n offset →
+      0 < offset →
+      ((s : Spot) → IsTidy l.slots s → Knows h.name h.known s → s offset ≡ x → Knows h.name known s) →
+      ((range : List ℕ → Bool) (s : Spot) (m : Map) → range h.name ≡ true → Knows h.name h.known s → s offset ≡ x →
+      Means l.slots range s m → at m h.name ≡ old) →
+      Read l g (Reads n v k (Some h)) (Load (word_address l n offset)) x
+      (Reads n v k (Some (record h { known = known; old = Some old }))) None
+  -- the version word is still the one that it saw: what it read stands, and stood at its clock
+  confirms : {n v x clock hops : ℕ} {k : Sight} {h : Held} {old : Option ℕ} → n < l.nodes → x ≡ v → h.placed ≡ None →
+      h.limit ≡ None → h.time ≡ Some clock → h.old ≡ Some old →
+      Read l g (Reads n v k (Some h)) (Load (version_address l n)) x Idle
+      (Some (once.Done (record { old = old; place = clock; hops = hops })))
+  -- it is another one
+  wavers : {n v x : ℕ} {k : Sight} {h : Option Held} → n < l.nodes → x ≢ v →
+      Read l g (Reads n v k h) (Load (version_address l n)) x Idle (Some (once.Again (again.Moved n v x)))
+
 -- From one stage to the next by an action that changes no word.
 pub data Look (l : Layout) (g : ℕ) : Stage → Action → ℕ → Stage → Option (Once Placed) → Type 0 where
   turns_back : {s : Stage} {n x : ℕ} → IsLoose s → n < l.nodes → (IsFree x g → ⊥) →
@@ -190,6 +234,9 @@ pub data Look (l : Layout) (g : ℕ) : Stage → Action → ℕ → Stage → Op
         pending = pending;
         ready = ready;
       })) None
+  -- it takes no lock
+  reads_on : {s : Stage} {a : Action} {x : ℕ} {t : Stage} {r : Option (Once Placed)} → Read l g s a x t r →
+      Look l g s a x t r
   -- it loads a word of its node to make it durable
   glances : {n w x offset : ℕ} {h : Held} → HasWordAt l n offset → h.ready ≡ false →
       Look l g (Holds n w h) (Load (word_address l n offset)) x (Holds n w (record h { hand = Some (offset, x) })) None

@@ -104,6 +104,9 @@ pub data Stage : Type 0 where
   Saw : ℕ → ℕ → ℕ → Sight → Stage
   -- of this node it loaded this free version word, from which no lock can be taken any more
   Wears : ℕ → ℕ → Stage
+  -- it takes no lock: of this node it loaded this free version word, and what the walk saw since; and once it has loaded
+  -- the clock, what it has learnt, as of a call that holds the node. All that stands as long as that version word does
+  Reads : ℕ → ℕ → Sight → Option Held → Stage
   -- it holds this node, whose version word is this
   Holds : ℕ → ℕ → Held → Stage
   -- it holds the first node, and of the second it loaded this free version word, from which this locked word is made;
@@ -123,6 +126,7 @@ abbrev pub IsLoose : Stage → Type 0
 IsLoose Idle = Unit {0}
 IsLoose (Saw n v w k) = Unit {0}
 IsLoose (Wears n v) = Unit {0}
+IsLoose (Reads n v k h) = Unit {0}
 IsLoose _ = ⊥
 
 -- What a split begins with: the full node, of which the call knows words, and a fresh one.
@@ -213,6 +217,7 @@ pending_in (Leaves left) = None
 pending_in (Meets n w h right) = None
 pending_in (Joins h left right pace) = None
 pending_in (Wears n v) = None
+pending_in (Reads n v k h) = None
 
 -- The place that its change was given.
 abbrev pub placed_in : Stage → Option ℕ
@@ -225,6 +230,7 @@ placed_in (Leaves left) = None
 placed_in (Meets n w h right) = h.placed
 placed_in (Joins h left right pace) = h.placed
 placed_in (Wears n v) = None
+placed_in (Reads n v k h) = None
 
 -- The change that the party's next step counts.
 abbrev pub counted : Stage → Option Change
@@ -237,6 +243,7 @@ counted (Leaves left) = None
 counted (Meets n w h right) = None
 counted (Joins h left right pace) = None
 counted (Wears n v) = None
+counted (Reads n v k h) = None
 
 -- The party holds the node.
 abbrev pub HoldsNode : Stage → ℕ → Type 0
@@ -247,6 +254,7 @@ HoldsNode (Eyes m w h k v u free) n = m ≡ n
 HoldsNode (Splits left fresh phase) n = (left.node ≡ n) ⊎ (fresh.node ≡ n)
 HoldsNode (Leaves left) n = left.node ≡ n
 HoldsNode (Wears m v) n = ⊥
+HoldsNode (Reads m v k h) n = ⊥
 HoldsNode (Meets m w h right) n = (m ≡ n) ⊎ (right.node ≡ n)
 HoldsNode (Joins h left right pace) n = (left.node ≡ n) ⊎ (right.node ≡ n)
 

@@ -15,7 +15,7 @@ use Rattle.call_stages.specs.declared.once.Once.{Once}
 use Rattle.call_stages.specs.declared.once.Placed.{Placed}
 use Rattle.data_node.specs.Spots.{bitmap_offset}
 use Rattle.data_node.specs.Lists.{next_offset}
-use Rattle.call_stages.specs.Stages.{Knows, KnowsDurable, IsAmong, Held, Grip, Phase, Filling, Linked, Parted, Pace, Gathered, Joined, Gone, Stage, Idle, Saw, Wears, Holds, Eyes, Splits, Leaves, Meets, Joins, just_held, merged_held, pended}
+use Rattle.call_stages.specs.Stages.{Knows, KnowsDurable, IsAmong, Held, Grip, Phase, Filling, Linked, Parted, Pace, Gathered, Joined, Gone, Stage, Idle, Saw, Wears, Reads, Holds, Eyes, Splits, Leaves, Meets, Joins, just_held, merged_held, pended}
 use Rattle.call_stages.specs.Kinds.{IsContent, Cleans, finds_live, watches, watches_next, turns_away, steps_back, wanders, Split, fills, lights, switches, glances_left, glances_fresh, drains_left, drains_fresh, trims, splits, Merge, meets, knows_own, knows_right, copies, takes_up, puts_down, parts, gathers, joins, glances_joined, drains_joined, retires, yields, merges, peeks, peeks_status, eyes, eyes_free, passes, loses, claims, publishes, leaves}
 use Rattle.call_stages.specs.Kinds.{Look, turns_back, is_worn, wears, roams, roams_status, sees, misses, times, learns, decides, glances, Step, looks, locks, stores, commits, drains, counts, unlocks}
 use Rattle.index_law.specs.Facts.{Facts, map_now, range_of, durable_spot}
@@ -30,6 +30,9 @@ use Rattle.index_law.proofs.Moves.{fact_after, split_after, merge_after, MergeGa
 use Rattle.index_law.proofs.Own.{stored, clean_means}
 use Rattle.index_law.proofs.Rows.{with_version, with_word, with_next, with_past, with_writes, set_here, set_else}
 use Rattle.index_law.proofs.Versions.{unfree}
+use Rattle.call_stages.specs.Kinds.{reads_on}
+use Rattle.index_law.proofs.Loose.{loose_backs}
+use Rattle.index_law.proofs.Moves.{read_after}
 
 -- an offset that is not in the first stretch is in one of the others or in none
 among_rest : (first count : ℕ) (stretches : List (ℕ × ℕ)) (offset : ℕ) → IsAmong stretches offset ⊎ (IsAmong stretches offset → ⊥)
@@ -195,6 +198,7 @@ pub backs_steady : (l : Layout) (g : ℕ) (f f' : Facts) → IsLater f f' → (w
 backs_steady l g f f' later words Idle steady backed = tt
 backs_steady l g f f' later words (Saw n v w z) steady backed = tt
 backs_steady l g f f' later words (Wears n v) steady backed = tt
+backs_steady l g f f' later words (Reads n v sight told) steady backed = tt
 backs_steady l g f f' later words (Holds n w h) steady backed = steady_backs l g f f' later (durable_spot l words n) n h (steady n refl) backed
 backs_steady l g f f' later words (Eyes n w h m v u free) steady backed = steady_backs l g f f' later (durable_spot l words n) n h (steady n refl) backed
 backs_steady l g f f' later words (Leaves left) steady backed = λ offset. backed offset ∙ sym (ap (λ (s : Spot). s offset) (steady left.node refl).now)
@@ -284,6 +288,7 @@ module _ {l : Layout} {g : ℕ} (f : Facts) (words : List ℕ) (caller index sin
   look_backs (decides {n = n} {h = h} {k = k} {old = old} {pending = pending} {ready = ready} has positive clean durable about learnt decided) after backed =
       clean_backs l f (durable_spot l words n) n (record h { known = k; old = Some old; pending = pending; ready = ready })
       (none_dirty (durable_spot l words n) (f.now n) h.dirty durable backed.clean) after.means
+  look_backs (reads_on {t = t} k) after backed = loose_backs l f words t (read_after k)
   look_backs (glances has unready) after backed = record { clean = backed.clean; fixed = backed.fixed; mixes = backed.mixes }
 
   -- a step of a split

@@ -13,9 +13,9 @@ use Rattle.data_node.specs.Spots.{Spot, Means, updated}
 use Rattle.std.specs.List.{AllByRecursion}
 use Rattle.version_lock.specs.Versions.{IsFree, IsWorn}
 use Rattle.data_node.specs.Lists.{next_offset, StaysIn}
-use Rattle.call_stages.specs.Stages.{Knows, Held, Sight, Grip, Tells, AreCopies, Phase, Filling, Linked, Parted, Pace, Gathered, Joined, Gone, Stage, Idle, Saw, Wears, Holds, Eyes, Splits, Leaves, Meets, Joins, pended}
+use Rattle.call_stages.specs.Stages.{Knows, Held, Sight, Grip, Tells, AreCopies, Phase, Filling, Linked, Parted, Pace, Gathered, Joined, Gone, Stage, Idle, Saw, Wears, Reads, Holds, Eyes, Splits, Leaves, Meets, Joins, pended}
 use Rattle.index_law.specs.Facts.{Facts, map_now, range_of, cached_word, IsListed}
-use Rattle.index_law.specs.Lawful.{IsTime, HasWriteAt, IsPlaced, map_before, IsSettled, IsAsked, Stands, SureSaw, SureEyes, SureWears, SureHolds, SureGrip, IsAtPhase, IsList, SureCounted, IsAtPace, Sure}
+use Rattle.index_law.specs.Lawful.{IsRead, SureReads, IsTime, HasWriteAt, IsPlaced, map_before, IsSettled, IsAsked, Stands, SureSaw, SureEyes, SureWears, SureHolds, SureGrip, IsAtPhase, IsList, SureCounted, IsAtPace, Sure}
 use Rattle.call_stages.specs.Stages.{HoldsNode}
 use Rattle.index_law.proofs.Switch.{one_range, leads_on}
 use Rattle.index_law.proofs.Stays.{both_true}
@@ -144,6 +144,18 @@ module _ (l : Layout) (g : ℕ) (f f' : Facts) (later : IsLater f f') where
       old = if_some (λ old. at (map_before f h.placed) h.name ≡ old) (λ old. at (map_before f' h.placed) h.name ≡ old) h.old
           (λ old was. old_kept caller index since h.name knows.inside h.placed knows.placed ∙ was) knows.old;
       placed = if_some (IsPlaced f.history caller index since h.name) (IsPlaced f'.history caller index since h.name) h.placed (placed_kept caller index since h.name) knows.placed;
+    }
+
+    -- what a reader learnt of a node
+    pub read_kept : (since : ℕ) (h : Held) → IsRead l f since n h → IsRead l f' since n h
+    read_kept since h knows = record {
+      listed = steady.listed knows.listed;
+      named = knows.named;
+      inside = (λ i. steady.range i h.name) ∙ knows.inside;
+      settled = settled_kept knows.settled;
+      knows = subst (Knows h.name h.known) (sym steady.now) knows.knows;
+      time = if_some (IsTime (range_of l f n) f.base f.history since None) (IsTime (range_of l f' n) f'.base f'.history since None) h.time (time_kept since None) knows.time;
+      old = if_some (λ old. at (map_now f) h.name ≡ old) (λ old. at (map_now f') h.name ≡ old) h.old (λ old was. steady.map h.name knows.inside ∙ was) knows.old;
     }
 
   pub grip_kept : (k : Grip) → IsSteady l f f' k.node → SureGrip l g f k → SureGrip l g f' k
@@ -283,6 +295,25 @@ module _ (l : Layout) (g : ℕ) (f f' : Facts) (later : IsLater f f') where
         stands_kept n k (calm.steady n knows.here (subst (λ (u : ℕ). IsFree u g) (sym same) knows.free) (is ∙ sym same)) calm list (knows.stands same);
   }
 
+  -- what a reader saw and read where all is calm
+  reads_kept : IsList l f → IsCalm l g f f' → (since n v : ℕ) (k : Sight) (h : Option Held) → SureReads l g f since n v k h → SureReads l g f' since n v k h
+  reads_kept list calm since n v k h knows =
+      let seen = knows.seen in
+      let rise = calm.rises n knows.here in
+      record {
+        here = knows.here;
+        known = knows.known;
+        free = knows.free;
+        seen = omega arith;
+        stands = λ is.
+            let same : f.version n ≡ v = omega arith in
+            stands_kept n k (calm.steady n knows.here (subst (λ (u : ℕ). IsFree u g) (sym same) knows.free) (is ∙ sym same)) calm list (knows.stands same);
+        read = λ is.
+            let same : f.version n ≡ v = omega arith in
+            let steady = calm.steady n knows.here (subst (λ (u : ℕ). IsFree u g) (sym same) knows.free) (is ∙ sym same) in
+            if_some (IsRead l f since n) (IsRead l f' since n) h (read_kept n steady since) (knows.read same);
+      }
+
   eyes_kept : IsCalm l g f f' → (h : Held) (m v u : ℕ) (free : Bool) → SureEyes l g f h m v u free → SureEyes l g f' h m v u free
   eyes_kept calm h m v u free knows = record {
     clean = knows.clean;
@@ -311,13 +342,15 @@ module _ (l : Layout) (g : ℕ) (f f' : Facts) (later : IsLater f f') where
 
   -- a party keeps what it knows where the nodes that it holds are steady, and what it saw of others stays
   module _ (saw : (n v w : ℕ) (k : Sight) → SureSaw l g f n v w k → SureSaw l g f' n v w k)
-      (eyes : (h : Held) (m v u : ℕ) (free : Bool) → SureEyes l g f h m v u free → SureEyes l g f' h m v u free) (wears : (n v : ℕ) → SureWears l g f n v → SureWears l g f' n v) where
+      (eyes : (h : Held) (m v u : ℕ) (free : Bool) → SureEyes l g f h m v u free → SureEyes l g f' h m v u free) (wears : (n v : ℕ) → SureWears l g f n v → SureWears l g f' n v)
+      (reads : (since n v : ℕ) (k : Sight) (h : Option Held) → SureReads l g f since n v k h → SureReads l g f' since n v k h) where
     pub keeps_by : (caller index since : ℕ) (u : Stage) → ((n : ℕ) → HoldsNode u n → IsSteady l f f' n) → Sure l g f caller index since u → Sure l g f' caller index since u
     keeps_by caller index since Idle steady knows = tt
     keeps_by caller index since (Saw n v w k) steady knows = saw n v w k knows
     keeps_by caller index since (Holds n w h) steady knows = holds_kept n (steady n refl) caller index since w h knows
     keeps_by caller index since (Eyes n w h m v u free) steady knows = (holds_kept n (steady n refl) caller index since w h knows.0, eyes h m v u free knows.1)
     keeps_by caller index since (Wears n v) steady knows = wears n v knows
+    keeps_by caller index since (Reads n v k h) steady knows = reads since n v k h knows
     keeps_by caller index since (Leaves left) steady knows =
         let one = steady left.node refl in
         record { grip = grip_kept left one knows.grip; listed = one.listed knows.listed; settled = settled_kept left.node one knows.settled }
@@ -363,7 +396,7 @@ module _ (l : Layout) (g : ℕ) (f f' : Facts) (later : IsLater f f') where
   -- so it does where all is calm
   pub keeps : (caller index since : ℕ) (u : Stage) → IsList l f → IsCalm l g f f' → ((n : ℕ) → HoldsNode u n → IsSteady l f f' n)
       → Sure l g f caller index since u → Sure l g f' caller index since u
-  keeps caller index since u list calm = keeps_by (saw_kept list calm) (eyes_kept calm) (wears_kept calm) caller index since u
+  keeps caller index since u list calm = keeps_by (saw_kept list calm) (eyes_kept calm) (wears_kept calm) (reads_kept list calm) caller index since u
 
 -- a number that is another one only where it is no smaller
 version_by : (v w : ℕ) (b : Bool) → (b ≡ true → v ≤ w) → v ≤ cond b w v

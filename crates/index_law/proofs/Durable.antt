@@ -14,7 +14,7 @@ use Rattle.data_node.specs.Weights.{names_in}
 use Rattle.data_node.proofs.NameCounts.{same_names}
 use Rattle.call_stages.specs.Kinds.{from_key}
 use Rattle.data_node.specs.Lists.{ListNode, next_offset, key_of, anchor_in, target_from, IsMember, IsIn, IsChain, Rise}
-use Rattle.call_stages.specs.Stages.{Held, Grip, Filling, Linked, Parted, Gathered, Joined, Gone, Stage, Idle, Saw, Wears, Holds, Eyes, Splits, Leaves, Meets, Joins, pended, pending_in}
+use Rattle.call_stages.specs.Stages.{Held, Grip, Filling, Linked, Parted, Gathered, Joined, Gone, Stage, Idle, Saw, Wears, Reads, Holds, Eyes, Splits, Leaves, Meets, Joins, pended, pending_in}
 use Rattle.index_law.specs.Facts.{Facts, map_now, range_of, durable_spot, IsListed}
 use Rattle.index_law.specs.Twins.{BacksStage}
 use Rattle.index_law.specs.Worlds.{Party, World, facts}
@@ -298,6 +298,7 @@ module _ (w : World) (lawful : Lawful w) where
       (λ shows. settles m (subst (λ (o : Option Change). Means w.layout.slots (range_of w.layout f m) (safe m) (pended o (map_now f))) sure.1.clean.pending shows))
       (backed.mixes (safe m) (λ offset. inl refl))))
   held_saved n i p (Wears m v) there is listed holds sure backed = absurd holds
+  held_saved n i p (Reads m v sight told) there is listed holds sure backed = absurd holds
   held_saved n i p (Leaves left) there is listed holds sure backed = subst (IsSaved w) holds (fresh_saved left.node backed sure.settled.means)
   held_saved n i p (Splits left fresh (Filling lit)) there is listed (inl holds) sure backed = subst (IsSaved w) holds (whole left.node (λ offset low high. backed.left_backed offset)
       (settles left.node (subst (λ (s : Spot). Means w.layout.slots (range_of w.layout f left.node) s (map_now f)) (sym (all_same (safe left.node) (f.now left.node) backed.left_backed)) sure.at.settled.means)))

@@ -13,7 +13,7 @@ use Rattle.data_node.specs.Slots.{AreAllLive}
 use Rattle.data_node.specs.Spots.{bitmap_offset}
 use Rattle.data_node.specs.Weights.{names_in, total}
 use Rattle.call_stages.specs.Kinds.{live_status, gone_status}
-use Rattle.call_stages.specs.Stages.{Held, Grip, Filling, Linked, Parted, Gathered, Joined, Gone, Stage, Idle, Saw, Wears, Holds, Eyes, Splits, Leaves, Meets, Joins, HoldsNode}
+use Rattle.call_stages.specs.Stages.{Held, Grip, Filling, Linked, Parted, Gathered, Joined, Gone, Stage, Idle, Saw, Wears, Reads, Holds, Eyes, Splits, Leaves, Meets, Joins, HoldsNode}
 use Rattle.index_law.specs.Facts.{Facts, range_of, IsListed}
 use Rattle.index_law.specs.Worlds.{Party, World, facts}
 use Rattle.index_law.specs.Lawful.{Sure, Lawful, IsHeld}
@@ -118,6 +118,7 @@ splits_to : (s : Stage) (m k : ℕ) → fresh_in s m ≡ Some k → SplitsTo s m
 splits_to Idle m k is = absurd (none_some k is)
 splits_to (Saw n v w t) m k is = absurd (none_some k is)
 splits_to (Wears n v) m k is = absurd (none_some k is)
+splits_to (Reads n v sight told) m k is = absurd (none_some k is)
 splits_to (Holds n w h) m k is = absurd (none_some k is)
 splits_to (Eyes n w h q v u free) m k is = absurd (none_some k is)
 splits_to (Splits left fresh (Filling lit)) m k is =
@@ -167,6 +168,7 @@ out_lowers : (l : Layout) (f : Facts) (n : ℕ) (s : Stage) → sum_to n (out_in
 out_lowers l f n Idle = let none = sum_zero n in omega arith
 out_lowers l f n (Saw m v w t) = let none = sum_zero n in omega arith
 out_lowers l f n (Wears m v) = let none = sum_zero n in omega arith
+out_lowers l f n (Reads m v sight told) = let none = sum_zero n in omega arith
 out_lowers l f n (Holds m w h) = let none = sum_zero n in omega arith
 out_lowers l f n (Eyes m w h q v u free) = let none = sum_zero n in omega arith
 out_lowers l f n (Splits left fresh phase) = let none = sum_zero n in omega arith
@@ -306,6 +308,7 @@ module _ (w : World) (lawful : Lawful w) (full : AreSplitFull w) (used : AreInUs
   held_has k i p Idle there is holds here live sure = absurd holds
   held_has k i p (Saw n v u t) there is holds here live sure = absurd holds
   held_has k i p (Wears n v) there is holds here live sure = absurd holds
+  held_has k i p (Reads n v sight told) there is holds here live sure = absurd holds
   held_has k i p (Holds n u h) there is holds here live sure = subst Has holds (listed_has n (inside_listed l f lawful.list n h.name sure.inside))
   held_has k i p (Eyes n u h m v z free) there is holds here live sure = subst Has holds (listed_has n (inside_listed l f lawful.list n h.name sure.0.inside))
   held_has k i p (Splits left fresh (Filling lit)) there is (inl holds) here live sure = subst Has holds (listed_has left.node sure.at.listed)

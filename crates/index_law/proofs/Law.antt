@@ -17,7 +17,7 @@ use Rattle.cat_history.specs.declared.op.Change.{Change}
 use Rattle.version_lock.specs.Versions.{IsFree}
 use Rattle.call_stages.specs.declared.once.Once.{Once}
 use Rattle.call_stages.specs.declared.once.Placed.{Placed}
-use Rattle.call_stages.specs.Stages.{Held, Stage, Idle, Saw, Wears, Holds, Eyes, Splits, Leaves, Meets, Joins, counted}
+use Rattle.call_stages.specs.Stages.{Held, Stage, Idle, Saw, Wears, Reads, Holds, Eyes, Splits, Leaves, Meets, Joins, counted}
 use Rattle.call_stages.specs.Kinds.{clock_address, Look, turns_back, is_worn, wears, roams, roams_status, sees, misses, times, learns, decides, glances, finds_live, watches, watches_next, turns_away, steps_back, wanders, fills, lights, switches, glances_left, glances_fresh, drains_left, drains_fresh, trims, splits, meets, knows_own, knows_right, copies, takes_up, puts_down, parts, gathers, joins, glances_joined, drains_joined, retires, yields, merges, peeks, peeks_status, eyes, eyes_free, passes, loses, claims, publishes, leaves, Step, looks, locks, stores, commits, drains, counts, unlocks}
 use Rattle.index_law.specs.Facts.{Facts}
 use Rattle.index_law.specs.Worlds.{Party, World, facts, written, counted_write, moved_on}
@@ -37,6 +37,8 @@ use Rattle.index_law.proofs.Parties.{at_set, set_here, set_else, each_set}
 use Rattle.index_law.proofs.Loose.{loose_counts}
 use Rattle.index_law.proofs.Listing.{step_list, step_live}
 use Rattle.index_law.proofs.Versions.{unfree}
+use Rattle.call_stages.specs.Kinds.{reads_on}
+use Rattle.index_law.proofs.Moves.{read_before, read_loads}
 
 -- a step that is not ready adds nothing to the clock
 unready_counts : (l : Layout) (n w x count : ℕ) (h : Held) (a : Action) → h.ready ≡ false → a ≢ Add (clock_address l) → Counts l count a x (counted (Holds n w h))
@@ -66,6 +68,7 @@ module _ {l : Layout} {g : ℕ} where
   look_counts (times {n = n} {w = w} {x = x} {h = h} clean below) count = unready_counts l n w x count h _ clean.ready (λ e. cc)
   look_counts (learns {n = n} {w = w} {x = x} {h = h} has positive unready learnt) count = unready_counts l n w x count h _ unready (λ e. cc)
   look_counts (decides {n = n} {w = w} {x = x} {h = h} has positive clean durable about learnt decided) count = unready_counts l n w x count h _ clean.ready (λ e. cc)
+  look_counts (reads_on {s = s} k) count = loose_counts l count _ _ s (read_before k) (λ e. let load = read_loads k in let is = load.1 in cc)
   look_counts (glances {n = n} {w = w} {x = x} {h = h} has unready) count = unready_counts l n w x count h _ unready (λ e. cc)
 
   -- what is counted is counted at the length of the history
@@ -187,6 +190,7 @@ counted_named : (l : Layout) (g : ℕ) (f : Facts) (caller index since : ℕ) (s
 counted_named l g f caller index since Idle has = tt
 counted_named l g f caller index since (Saw n v w k) has = tt
 counted_named l g f caller index since (Wears n v) has = tt
+counted_named l g f caller index since (Reads n v sight told) has = tt
 counted_named l g f caller index since (Holds n w h) has = held h.ready h.pending has.about where
   held : (b : Bool) (o : Option Change) → IfSome o (λ c. name_of c ≡ h.name) → IfSome (elim b [ true ↦ o | false ↦ None ]) (λ c. IsName (name_of c))
   held true None about = tt

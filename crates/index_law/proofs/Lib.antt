@@ -11,6 +11,7 @@ pub mod Actions
 pub mod Stays
 pub mod Splitting
 pub mod Joining
+pub mod Reading
 pub mod Own
 pub mod Locks
 pub mod Listing

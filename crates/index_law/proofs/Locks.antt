@@ -15,7 +15,7 @@ use Rattle.cat_history.specs.Maps.{Map}
 use Rattle.data_node.specs.Lists.{next_offset, StaysIn}
 use Rattle.data_node.specs.Spots.{bitmap_offset}
 use Rattle.data_node.proofs.SpotLemmas.{updated-same}
-use Rattle.call_stages.specs.Stages.{Held, Grip, Tells, Filling, Stage, Idle, Saw, Wears, Holds, Eyes, Splits, Leaves, Meets, Joins, pended}
+use Rattle.call_stages.specs.Stages.{Held, Grip, Tells, Filling, Stage, Idle, Saw, Wears, Reads, Holds, Eyes, Splits, Leaves, Meets, Joins, pended}
 use Rattle.call_stages.specs.Kinds.{IsContent, IsCut, live_status, gone_status, finds_live, watches, watches_next, turns_away, steps_back, wanders, Look, Split, fills, lights, switches, glances_left, glances_fresh, drains_left, drains_fresh, trims, splits, Merge, meets, knows_own, knows_right, copies, takes_up, puts_down, parts, gathers, joins, glances_joined, drains_joined, retires, yields, merges, peeks, peeks_status, eyes, eyes_free, passes, loses, claims, publishes, leaves}
 use Rattle.call_stages.specs.Kinds.{turns_back, is_worn, wears, roams, roams_status, sees, misses, times, learns, decides, glances, Step, looks, locks, stores, commits, drains, counts, unlocks}
 use Rattle.index_law.specs.Facts.{Facts, map_now, range_of, IsListed}
@@ -30,6 +30,8 @@ use Rattle.index_law.proofs.Loose.{loose_holds}
 use Rattle.index_law.proofs.Moves.{fact_after, split_after, merge_after, MergeGave, Gives}
 use Rattle.index_law.proofs.Rows.{with_version, word_set, set_here, set_else, set_other}
 use Rattle.index_law.proofs.Versions.{own_lock, unfree, freed-free, freed-known}
+use Rattle.call_stages.specs.Kinds.{reads_on}
+use Rattle.index_law.proofs.Moves.{read_before, read_after}
 
 -- the node that a party holds is locked in this run
 pub own_of : (l : Layout) (g : ℕ) (f : Facts) (caller index since : ℕ) (u : Stage) (n : ℕ) → HoldsNode u n → Sure l g f caller index since u → IsOwnLock g (f.version n)
@@ -38,6 +40,7 @@ own_of l g f caller index since (Saw m v w k) n holds knows = absurd holds
 own_of l g f caller index since (Holds m w h) n holds knows = subst (λ (k : ℕ). IsOwnLock g (f.version k)) holds (subst (IsOwnLock g) (sym knows.stands) knows.lock)
 own_of l g f caller index since (Eyes m w h k v u free) n holds knows = subst (λ (k : ℕ). IsOwnLock g (f.version k)) holds (subst (IsOwnLock g) (sym knows.0.stands) knows.0.lock)
 own_of l g f caller index since (Wears m v) n holds knows = absurd holds
+own_of l g f caller index since (Reads m v sight told) n holds knows = absurd holds
 own_of l g f caller index since (Leaves left) n holds knows = subst (λ (k : ℕ). IsOwnLock g (f.version k)) holds (subst (IsOwnLock g) (sym knows.grip.stands) knows.grip.lock)
 own_of l g f caller index since (Meets m w h right) n (inl e) knows = subst (λ (k : ℕ). IsOwnLock g (f.version k)) e (subst (IsOwnLock g) (sym knows.0.stands) knows.0.lock)
 own_of l g f caller index since (Meets m w h right) n (inr e) knows = subst (λ (k : ℕ). IsOwnLock g (f.version k)) e (subst (IsOwnLock g) (sym knows.1.grip.stands) knows.1.grip.lock)
@@ -55,6 +58,7 @@ holds_or (Saw m v w k) n = inr (λ h. h)
 holds_or (Holds m w h) n = cases_eq m n
 holds_or (Eyes m w h k v u free) n = cases_eq m n
 holds_or (Wears m v) n = inr (λ h. h)
+holds_or (Reads m v sight told) n = inr (λ h. h)
 holds_or (Leaves left) n = cases_eq left.node n
 holds_or (Meets m w h right) n = ⊎_elim
     (λ e. inl (inl e))
@@ -419,6 +423,7 @@ module _ {l : Layout} {g : ℕ} (f : Facts) (caller index since : ℕ) where
   look_before (times clean below) m lock = lock
   look_before (learns has positive unready learnt) m lock = lock
   look_before (decides has positive clean durable about learnt decided) m lock = lock
+  look_before (reads_on {t = t} k) m lock = absurd (loose_holds t (read_after k) m lock)
   look_before (glances has unready) m lock = lock
 
   pub split_before : {s : Stage} {a : Action} {x : ℕ} {t : Stage} → (k : Split l g s a x t) → (m : ℕ) → HoldsNode t m → HoldsNode s m
@@ -577,6 +582,7 @@ module _ {l : Layout} {g : ℕ} (f : Facts) (caller index since : ℕ) where
   look_freed (times clean below) m held = held
   look_freed (learns has positive unready learnt) m held = held
   look_freed (decides has positive clean durable about learnt decided) m held = held
+  look_freed (reads_on {s = s} k) m held = absurd (loose_holds s (read_before k) m held)
   look_freed (glances has unready) m held = held
 
   pub split_freed : {s : Stage} {a : Action} {x : ℕ} {t : Stage} → (k : Split l g s a x t) → (m : ℕ) → HoldsNode s m → HoldsNode t m

@@ -1,5 +1,5 @@
 -- Stages that hold no node.
-use Rattle.std.proofs.Common.{◌≡◌, ◌≢◌, ℕ, false, refl, sym, subst}
+use Rattle.std.proofs.Common.{◌≡◌, ◌≢◌, ℕ, List, false, refl, sym, subst}
 use Rattle.std.specs.Prelude.{Option, Some, None}
 use Rattle.pm_words.specs.declared.layout.Layout.{Layout}
 use Rattle.pm_words.specs.declared.action.Action.{Action}
@@ -9,12 +9,13 @@ use Rattle.call_stages.specs.declared.once.Once.{Once}
 use Rattle.call_stages.specs.declared.once.Once.TheVariants as once
 use Rattle.call_stages.specs.declared.once.Placed.{Placed}
 use Rattle.call_stages.specs.Kinds.{clock_address, GivesUp}
-use Rattle.call_stages.specs.Stages.{Stage, Idle, Saw, Wears, Holds, Eyes, Splits, Leaves, Meets, Joins, IsLoose, counted, placed_in}
+use Rattle.call_stages.specs.Stages.{Stage, Idle, Saw, Wears, Reads, Holds, Eyes, Splits, Leaves, Meets, Joins, IsLoose, counted, placed_in}
 use Rattle.index_law.specs.Facts.{Facts}
 use Rattle.index_law.specs.LoneShapes.{IsOut, has_merged}
 use Rattle.call_stages.specs.Stages.{HoldsNode}
 use Rattle.index_law.specs.Laws.{Counts, IsLegal, IsLegalUnheld}
 use Rattle.index_law.specs.Weights.{lowered_in}
+use Rattle.index_law.specs.Twins.{BacksStage}
 
 pub loose_counted : (s : Stage) → IsLoose s → counted s ≡ None
 loose_counted Idle loose = refl
@@ -23,6 +24,7 @@ loose_counted (Holds n w h) loose = absurd loose
 loose_counted (Eyes n w h m v u free) loose = absurd loose
 loose_counted (Splits left fresh phase) loose = absurd loose
 loose_counted (Wears n v) loose = refl
+loose_counted (Reads n v sight told) loose = refl
 loose_counted (Leaves left) loose = absurd loose
 loose_counted (Meets n w h right) loose = absurd loose
 loose_counted (Joins h left right pace) loose = absurd loose
@@ -37,6 +39,7 @@ loose_holds (Holds n w h) loose m held = loose
 loose_holds (Eyes n w h k v u free) loose m held = loose
 loose_holds (Splits left fresh phase) loose m held = loose
 loose_holds (Wears n v) loose m held = held
+loose_holds (Reads n v sight told) loose m held = held
 loose_holds (Leaves left) loose m held = loose
 loose_holds (Meets n w h right) loose m held = loose
 loose_holds (Joins h left right pace) loose m held = loose
@@ -48,9 +51,22 @@ loose_lowers l f (Holds n w h) loose = absurd loose
 loose_lowers l f (Eyes n w h m v u free) loose = refl
 loose_lowers l f (Splits left fresh phase) loose = refl
 loose_lowers l f (Wears n v) loose = refl
+loose_lowers l f (Reads n v sight told) loose = refl
 loose_lowers l f (Leaves left) loose = refl
 loose_lowers l f (Meets n w h right) loose = absurd loose
 loose_lowers l f (Joins h left right pace) loose = absurd loose
+
+pub loose_backs : (l : Layout) (f : Facts) (words : List ℕ) (s : Stage) → IsLoose s → BacksStage l f words s
+loose_backs l f words Idle loose = tt
+loose_backs l f words (Saw n v w k) loose = tt
+loose_backs l f words (Holds n w h) loose = absurd loose
+loose_backs l f words (Eyes n w h m v u free) loose = absurd loose
+loose_backs l f words (Splits left fresh phase) loose = absurd loose
+loose_backs l f words (Wears n v) loose = tt
+loose_backs l f words (Reads n v k h) loose = tt
+loose_backs l f words (Leaves left) loose = absurd loose
+loose_backs l f words (Meets n w h right) loose = absurd loose
+loose_backs l f words (Joins h left right pace) loose = absurd loose
 
 pub loose_legal : (l : Layout) (g : ℕ) (f : Facts) (caller index since : ℕ) (s : Stage) (answer : Once Placed) → IsLoose s → IsLegalUnheld g f answer
     → IsLegal l g f caller index since s (Some answer)
@@ -60,6 +76,11 @@ loose_legal l g f caller index since (Holds n w h) answer loose legal = absurd l
 loose_legal l g f caller index since (Eyes n w h m v u free) answer loose legal = absurd loose
 loose_legal l g f caller index since (Splits left fresh phase) answer loose legal = absurd loose
 loose_legal l g f caller index since (Wears n v) answer loose legal = legal
+loose_legal l g f caller index since (Reads n v k None) answer loose legal = legal
+loose_legal l g f caller index since (Reads n v k (Some h)) (once.Done answer) loose legal = absurd legal
+loose_legal l g f caller index since (Reads n v k (Some h)) (once.Spent clock) loose legal = legal
+loose_legal l g f caller index since (Reads n v k (Some h)) (once.Worn m word) loose legal = legal
+loose_legal l g f caller index since (Reads n v k (Some h)) (once.Again why) loose legal = legal
 loose_legal l g f caller index since (Leaves left) answer loose legal = absurd loose
 loose_legal l g f caller index since (Meets n w h right) answer loose legal = absurd loose
 loose_legal l g f caller index since (Joins h left right pace) answer loose legal = absurd loose
@@ -86,6 +107,7 @@ pub out_unplaced : (s : Stage) → IsOut s → placed_in s ≡ None
 out_unplaced Idle out = refl
 out_unplaced (Saw n v w k) out = refl
 out_unplaced (Wears n v) out = refl
+out_unplaced (Reads n v sight told) out = refl
 out_unplaced (Holds n w h) out = absurd out
 out_unplaced (Eyes n w h m v u free) out = absurd out
 out_unplaced (Splits left fresh phase) out = refl
@@ -97,6 +119,7 @@ pub out_unmerged : (s : Stage) → IsOut s → has_merged s ≡ false
 out_unmerged Idle out = refl
 out_unmerged (Saw n v w k) out = refl
 out_unmerged (Wears n v) out = refl
+out_unmerged (Reads n v sight told) out = refl
 out_unmerged (Holds n w h) out = absurd out
 out_unmerged (Eyes n w h m v u free) out = absurd out
 out_unmerged (Splits left fresh phase) out = refl
@@ -108,6 +131,7 @@ pub loose_out : (s : Stage) → IsLoose s → IsOut s
 loose_out Idle loose = tt
 loose_out (Saw n v w k) loose = tt
 loose_out (Wears n v) loose = tt
+loose_out (Reads n v sight told) loose = tt
 loose_out (Holds n w h) loose = absurd loose
 loose_out (Eyes n w h m v u free) loose = absurd loose
 loose_out (Splits left fresh phase) loose = absurd loose

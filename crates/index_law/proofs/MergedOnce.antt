@@ -13,6 +13,8 @@ use Rattle.index_law.specs.Worlds.{facts}
 use Rattle.index_law.specs.Lawful.{Sure}
 use Rattle.call_stages.specs.Prevs.{IsJoin}
 use Rattle.index_law.specs.LoneShapes.{has_merged, IsOut, StepMergesOnce}
+use Rattle.index_law.proofs.Moves.{read_after}
+use Rattle.index_law.proofs.Loose.{loose_out}
 
 abbrev Once_at : Stage → Stage → Type 0
 Once_at s t = IsOut t ⊎ (((IsJoin s t → ⊥) × (has_merged t ≡ has_merged s)) ⊎ (IsJoin s t × (has_merged s ≡ false) × (has_merged t ≡ true)))
@@ -45,6 +47,7 @@ module _ {l : Layout} {g : ℕ} (f : Facts) (caller index since : ℕ) where
   look_once (kinds.times clean below) = stay _ _ refl
   look_once (kinds.learns has positive unready learnt) = stay _ _ refl
   look_once (kinds.decides has positive clean durable about learnt decided) = stay _ _ refl
+  look_once (kinds.reads_on {t = t} k) = inl (loose_out t (read_after k))
   look_once (kinds.glances has unready) = stay _ _ refl
 
   merge_once : {s : Stage} {a : Action} {x : ℕ} {t : Stage} → Merge l g s a x t → Sure l g f caller index since s → Once_at s t

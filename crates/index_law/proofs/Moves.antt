@@ -7,7 +7,7 @@ use Rattle.pm_words.specs.declared.layout.Layout.{Layout}
 use Rattle.pm_words.specs.declared.action.Action.{Action}
 use Rattle.pm_words.specs.Locations.{Location, Volatile, Cached, Durable, Clock, Node, HasLocation, address_of}
 use Rattle.pm_words.specs.Rows.{IsRow, acted, got}
-use Rattle.pm_words.specs.declared.action.Action.TheVariants.{Add}
+use Rattle.pm_words.specs.declared.action.Action.TheVariants.{Load, Add}
 use Rattle.pm_words.proofs.Apart.{at-set_other, at-set_same}
 use Rattle.pm_words.proofs.Kept.{action_address-drain}
 use Rattle.cat_history.specs.Maps.{Map}
@@ -15,7 +15,8 @@ use Rattle.cat_history.specs.declared.op.Change.{Change}
 use Rattle.cat_history.specs.declared.op.Write.{Write}
 use Rattle.call_stages.specs.declared.once.Once.{Once}
 use Rattle.call_stages.specs.declared.once.Placed.{Placed}
-use Rattle.call_stages.specs.Stages.{Held, Sight, Stage, Saw, Holds, counted}
+use Rattle.call_stages.specs.Stages.{Held, Sight, Stage, Saw, Holds, IsLoose, counted}
+use Rattle.call_stages.specs.Kinds.{Read, views, views_live, views_word, views_next, dates, notes, finds, confirms, wavers, reads_on}
 use Rattle.call_stages.specs.Kinds.{Look, turns_back, is_worn, wears, roams, roams_status, sees, misses, times, learns, decides, glances, finds_live, watches, watches_next, turns_away, steps_back, wanders, Split, fills, lights, switches, glances_left, glances_fresh, drains_left, drains_fresh, trims, splits, Merge, meets, knows_own, knows_right, copies, takes_up, puts_down, parts, gathers, joins, glances_joined, drains_joined, retires, yields, merges, peeks, peeks_status, eyes, eyes_free, passes, loses, claims, publishes, leaves, Step, looks, locks, stores, commits, drains, counts, unlocks, clock_address, word_address, version_address}
 use Rattle.index_law.specs.Facts.{Facts, facts_of, cached_word, spot_in, map_now, range_of}
 use Rattle.index_law.specs.Worlds.{written}
@@ -109,6 +110,53 @@ module _ {l : Layout} {g : ℕ} where
   fact_after (splits k) f caller index = split_after k f
   fact_after (merges k) f caller index = merge_after k f
 
+  -- the number that a step of a reader gives
+  abbrev pub ReadGave : {s : Stage} {a : Action} {x : ℕ} {t : Stage} {r : Option (Once Placed)} → Read l g s a x t r → Facts → Type 0
+  ReadGave (views {n = n} {x = x} loose here free) f = x ≡ f.version n
+  ReadGave (views_live {n = n} {x = x} here is) f = x ≡ f.status n
+  ReadGave (views_word {n = n} {x = x} {offset = offset} has positive live next learnt) f = x ≡ f.now n offset
+  ReadGave (views_next {m = m} {x = x} {offset = offset} has low high ne live live' next leads learnt) f = x ≡ f.now m offset
+  ReadGave (dates {x = x} named live between kept) f = x ≡ length f.history
+  ReadGave (notes {n = n} {x = x} {offset = offset} has positive learnt) f = x ≡ f.now n offset
+  ReadGave (finds {n = n} {x = x} {offset = offset} has positive learnt decided) f = x ≡ f.now n offset
+  ReadGave (confirms {n = n} {x = x} here same unplaced unlimited time old) f = x ≡ f.version n
+  ReadGave (wavers {n = n} {x = x} here other) f = x ≡ f.version n
+
+  -- it is loose before and after
+  pub read_before : {s : Stage} {a : Action} {x : ℕ} {t : Stage} {r : Option (Once Placed)} → Read l g s a x t r → IsLoose s
+  read_before (views loose here free) = loose
+  read_before (views_live here is) = tt
+  read_before (views_word has positive live next learnt) = tt
+  read_before (views_next has low high ne live live' next leads learnt) = tt
+  read_before (dates named live between kept) = tt
+  read_before (notes has positive learnt) = tt
+  read_before (finds has positive learnt decided) = tt
+  read_before (confirms here same unplaced unlimited time old) = tt
+  read_before (wavers here other) = tt
+
+  pub read_after : {s : Stage} {a : Action} {x : ℕ} {t : Stage} {r : Option (Once Placed)} → Read l g s a x t r → IsLoose t
+  read_after (views loose here free) = tt
+  read_after (views_live here is) = tt
+  read_after (views_word has positive live next learnt) = tt
+  read_after (views_next has low high ne live live' next leads learnt) = tt
+  read_after (dates named live between kept) = tt
+  read_after (notes has positive learnt) = tt
+  read_after (finds has positive learnt decided) = tt
+  read_after (confirms here same unplaced unlimited time old) = tt
+  read_after (wavers here other) = tt
+
+  -- its action is a load
+  pub read_loads : {s : Stage} {a : Action} {x : ℕ} {t : Stage} {r : Option (Once Placed)} → Read l g s a x t r → (address : ℕ) × (a ≡ Load address)
+  read_loads (views {n = n} loose here free) = (version_address l n, refl)
+  read_loads (views_live {n = n} here is) = (status_address l n, refl)
+  read_loads (views_word {n = n} {offset = offset} has positive live next learnt) = (word_address l n offset, refl)
+  read_loads (views_next {m = m} {offset = offset} has low high ne live live' next leads learnt) = (word_address l m offset, refl)
+  read_loads (dates named live between kept) = (clock_address l, refl)
+  read_loads (notes {n = n} {offset = offset} has positive learnt) = (word_address l n offset, refl)
+  read_loads (finds {n = n} {offset = offset} has positive learnt decided) = (word_address l n offset, refl)
+  read_loads (confirms {n = n} here same unplaced unlimited time old) = (version_address l n, refl)
+  read_loads (wavers {n = n} here other) = (version_address l n, refl)
+
   -- the number that a look gives
   abbrev pub Gave : {s : Stage} {a : Action} {x : ℕ} {t : Stage} {r : Option (Once Placed)} → Look l g s a x t r → Facts → Type 0
   Gave (turns_back {s = s} {n = n} {x = x} loose here busy) f = x ≡ f.version n
@@ -133,6 +181,7 @@ module _ {l : Layout} {g : ℕ} where
   Gave (times {x = x} clean below) f = x ≡ length f.history
   Gave (learns {n = n} {x = x} {offset = offset} has positive unready knows) f = x ≡ f.now n offset
   Gave (decides {n = n} {x = x} {offset = offset} has positive clean durable about knows decided) f = x ≡ f.now n offset
+  Gave (reads_on k) f = ReadGave k f
   Gave (glances {n = n} {x = x} {offset = offset} has unready) f = x ≡ cached_word f n offset
 
   -- the number that a step is told
@@ -173,6 +222,7 @@ module _ {l : Layout} {g : ℕ} where
   look_adds (times {n = n} {w = w} {h = h} clean below) caller index = unready_adds n w h caller index clean.ready
   look_adds (learns {n = n} {w = w} {h = h} has positive unready knows) caller index = unready_adds n w h caller index unready
   look_adds (decides {n = n} {w = w} {h = h} has positive clean durable about knows decided) caller index = unready_adds n w h caller index clean.ready
+  look_adds (reads_on {s = s} k) caller index = ap (written caller index) (loose_counted s (read_before k))
   look_adds (glances {n = n} {w = w} {h = h} has unready) caller index = unready_adds n w h caller index unready
 
   split_adds : {s : Stage} {a : Action} {x : ℕ} {t : Stage} → Split l g s a x t → (caller index : ℕ) → written caller index (counted s) ≡ []
@@ -230,11 +280,26 @@ module _ {l : Layout} {g : ℕ} where
   look_keeps (times clean below) ws e = set-get_or ws (clock_address l) 0
   look_keeps (learns {n = n} {offset = offset} has positive unready knows) ws e = set-get_or ws (word_address l n offset) 0
   look_keeps (decides {n = n} {offset = offset} has positive clean durable about knows decided) ws e = set-get_or ws (word_address l n offset) 0
+  look_keeps (reads_on k) ws e =
+      let load = read_loads k in
+      ap (acted l ws) load.1 ∙ set-get_or ws load.0 0
   look_keeps (glances {n = n} {offset = offset} has unready) ws e = set-get_or ws (word_address l n offset) 0
 
   module _ (ws : List ℕ) (base : Map) (h : List Write) (caller index since : ℕ) where
     here : {n v w : ℕ} {k : Sight} → Sure l g (facts_of l ws base h) caller index since (Saw n v w k) → n < l.nodes
     here knows = knows.here
+
+    read_gave : {s : Stage} {a : Action} {x : ℕ} {t : Stage} {r : Option (Once Placed)} → (k : Read l g s a x t r) → slice_index ws (clock_address l) ≡ length h
+        → x ≡ got l ws a → ReadGave k (facts_of l ws base h)
+    read_gave (views {n = n} loose there free) clock e = e ∙ sym (version_in-here l ws n there)
+    read_gave (views_live {n = n} there is) clock e = e ∙ sym (status_in-here l ws n there)
+    read_gave (views_word {n = n} {offset = offset} has positive live next learnt) clock e = e ∙ sym (spot_in-here l ws n offset has positive)
+    read_gave (views_next {m = m} {offset = offset} has low high ne live live' next leads learnt) clock e = e ∙ sym (spot_in-here l ws m offset has (omega arith))
+    read_gave (dates named live between kept) clock e = e ∙ clock
+    read_gave (notes {n = n} {offset = offset} has positive learnt) clock e = e ∙ sym (spot_in-here l ws n offset has positive)
+    read_gave (finds {n = n} {offset = offset} has positive learnt decided) clock e = e ∙ sym (spot_in-here l ws n offset has positive)
+    read_gave (confirms {n = n} there same unplaced unlimited time old) clock e = e ∙ sym (version_in-here l ws n there)
+    read_gave (wavers {n = n} there other) clock e = e ∙ sym (version_in-here l ws n there)
 
     gave : {s : Stage} {a : Action} {x : ℕ} {t : Stage} {r : Option (Once Placed)} → (k : Look l g s a x t r) → slice_index ws (clock_address l) ≡ length h
         → x ≡ got l ws a → Sure l g (facts_of l ws base h) caller index since s → Gave k (facts_of l ws base h)
@@ -260,6 +325,7 @@ module _ {l : Layout} {g : ℕ} where
     gave (times clean below) clock e knows = e ∙ clock
     gave (learns {n = n} {offset = offset} has positive unready learnt) clock e knows = e ∙ sym (spot_in-here l ws n offset has positive)
     gave (decides {n = n} {offset = offset} has positive clean durable about learnt decided) clock e knows = e ∙ sym (spot_in-here l ws n offset has positive)
+    gave (reads_on k) clock e knows = read_gave k clock e
     gave (glances {n = n} {offset = offset} has unready) clock e knows = e ∙ sym (cached_word-here l ws base h n offset has)
 
     split_gave : {s : Stage} {a : Action} {x : ℕ} {t : Stage} → (k : Split l g s a x t) → x ≡ got l ws a → SplitGave k (facts_of l ws base h)

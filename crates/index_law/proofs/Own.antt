@@ -17,7 +17,7 @@ use Rattle.data_node.specs.Spots.{Spot, Means, updated}
 use Rattle.data_node.specs.Lists.{next_offset, StaysIn}
 use Rattle.call_stages.specs.declared.once.Once.{Once}
 use Rattle.call_stages.specs.declared.once.Placed.{Placed}
-use Rattle.call_stages.specs.Stages.{Knows, KnowsDurable, IsAmong, Held, Stage, Idle, Saw, Wears, Holds, Eyes, Splits, Leaves, Meets, Joins, pended}
+use Rattle.call_stages.specs.Stages.{Knows, KnowsDurable, IsAmong, Held, Stage, Idle, Saw, Wears, Reads, Holds, Eyes, Splits, Leaves, Meets, Joins, pended}
 use Rattle.call_stages.specs.Kinds.{finds_live, watches, watches_next, turns_away, steps_back, wanders, fills, lights, switches, glances_left, glances_fresh, drains_left, drains_fresh, trims, meets, knows_own, knows_right, copies, takes_up, puts_down, parts, gathers, joins, glances_joined, drains_joined, retires, yields, merges, splits, peeks, peeks_status, eyes, eyes_free, passes, loses, claims, publishes, leaves}
 use Rattle.call_stages.specs.Kinds.{Look, turns_back, is_worn, wears, roams, roams_status, sees, misses, times, learns, decides, glances, Answers, writes, reads, is_spent, has_no_room, refuses, Step, looks, locks, stores, commits, drains, counts, unlocks}
 use Rattle.index_law.specs.Facts.{Facts, map_now, range_of}
@@ -29,6 +29,8 @@ use Rattle.index_law.proofs.Rows.{with_version, with_word}
 use Rattle.index_law.proofs.Switch.{between_inside, inside_listed}
 use Rattle.index_law.proofs.Bystanders.{grip_kept, later-version, steady-version}
 use Rattle.index_law.proofs.Versions.{own_lock, unfree}
+use Rattle.index_law.proofs.Reading.{read_allowed, read_mine, read_legal}
+use Rattle.call_stages.specs.Kinds.{reads_on}
 use Rattle.index_law.proofs.Loose.{loose_legal, loose_gives}
 use Rattle.index_law.proofs.Stays.{stays_stored, stays_changed}
 use Rattle.index_law.proofs.Splitting.{split_mine}
@@ -58,6 +60,7 @@ allow_law l g s a x t r within (looks (misses other)) = exchanges within
 allow_law l g s a x t r within (looks (times clean below)) = loads_clock
 allow_law l g s a x t r within (looks (learns has positive unready learnt)) = loads_word has
 allow_law l g s a x t r within (looks (decides has positive clean durable about learnt decided)) = loads_word has
+allow_law l g s a x t r within (looks (reads_on k)) = read_allowed k
 allow_law l g s a x t r within (looks (glances has unready)) = loads_word has
 allow_law l g s a x t r within (locks same named live between) = exchanges within
 allow_law l g s a x t r within (stores {offset = offset} has content small clean soils learnt means) = stores_word refl has (content_positive offset content) small
@@ -98,6 +101,7 @@ sure_within l g f caller index since (Holds n w h) knows = knows.here
 sure_within l g f caller index since (Eyes n w h m v u free) knows = tt
 sure_within l g f caller index since (Splits left fresh phase) knows = knows.new.here
 sure_within l g f caller index since (Wears n v) knows = knows.here
+sure_within l g f caller index since (Reads n v sight told) knows = knows.here
 sure_within l g f caller index since (Leaves left) knows = knows.grip.here
 sure_within l g f caller index since (Meets n w h right) knows = (knows.0.here, knows.1.grip.here)
 sure_within l g f caller index since (Joins h left right pace) knows = (knows.one.here, knows.other.here)
@@ -134,7 +138,7 @@ module _ {l : Layout} {g : ℕ} (f : Facts) (caller index since : ℕ) where
   old_is n w h placed old knows placed_is old_is' =
       subst (λ (p : Option ℕ). at (map_before f p) h.name ≡ old) placed_is (subst (λ (o : Option (Option ℕ)). IfSome o (λ was. at (map_before f h.placed) h.name ≡ was)) old_is' knows.old)
 
-  module _ (begun : since ≤ length f.history) (known : AreKnown l g f) (list : IsList l f) (live_part : AreLive l g f) where
+  module _ (begun : since ≤ length f.history) (known : AreKnown l g f) (list : IsList l f) (live_part : AreLive l g f) (settled : AreSettled l g f) where
     look_mine : {s : Stage} {a : Action} {x : ℕ} {t : Stage} {r : Option (Once Placed)} → (k : Look l g s a x t r) → Gave k f → Sure l g f caller index since s → Sure l g f caller index since t
     look_mine (turns_back {s = s} loose here busy) e knows = tt
     look_mine (wears {s = s} loose here free worn) e knows = record { here = here; free = free; worn = worn; stands = sym e }
@@ -301,6 +305,7 @@ module _ {l : Layout} {g : ℕ} (f : Facts) (caller index since : ℕ) where
           old = subst (λ (p : Option ℕ). at (map_before f p) h.name ≡ old) (sym clean.placed) found.0;
           placed = knows.placed;
         }
+    look_mine (reads_on k) e knows = read_mine f caller index since begun known list live_part settled k e knows
     look_mine (glances has unready) e knows = record {
       here = knows.here;
       stands = knows.stands;
@@ -319,145 +324,144 @@ module _ {l : Layout} {g : ℕ} (f : Facts) (caller index since : ℕ) where
       placed = knows.placed;
     }
 
-    module _ (settled : AreSettled l g f) where
-      pub mine : {s : Stage} {a : Action} {x : ℕ} {t : Stage} {r : Option (Once Placed)} → (k : Step l g s a x t r) → Gives k f → Sure l g f caller index since s
-          → Sure l g (fact_after k f caller index) caller index since t
-      mine (looks look) e knows = look_mine look e knows
-      mine (locks {n = n} {v = v} {w = w} {name = name} same named live between) e knows = record {
-        here = knows.here;
-        stands = ap (λ (b : Bool). cond b w (f.version n)) (eq-eqb n n refl);
-        lock = own_lock v w g knows.known knows.unworn knows.lock;
-        named = named;
-        inside = between_inside l f list n name ((knows.stands (sym e ∙ same)).listed live) (between (f.now n) (f.now (f.now n next_offset)) (knows.stands (sym e ∙ same)).sees);
-        knows = record { seen = tt; left = tt };
-        hand = tt;
-        means = (settled n ((knows.stands (sym e ∙ same)).listed live) (subst (λ (u : ℕ). IsFree u g) (sym (sym e ∙ same)) knows.free)).means;
-        stays = (settled n ((knows.stands (sym e ∙ same)).listed live) (subst (λ (u : ℕ). IsFree u g) (sym (sym e ∙ same)) knows.free)).stays;
-        about = tt;
-        shown = tt;
-        below = tt;
-        time = tt;
-        old = tt;
-        placed = tt;
-      }
-      mine (stores {n = n} {y = y} {offset = offset} {h = h} {k = k} has content small clean soils learnt means) e knows = record {
-        here = knows.here;
-        stands = knows.stands;
-        lock = knows.lock;
-        named = knows.named;
-        inside = knows.inside;
-        knows = subst (Knows h.name k) (sym (stored f n offset y)) (learnt (f.now n) knows.means.tidy knows.knows);
-        hand = tt;
-        means = subst (λ (s : Spot). Means l.slots (range_of l f n) s (pended h.pending (map_now f))) (sym (stored f n offset y))
-            (means (range_of l f n) (f.now n) (pended h.pending (map_now f)) (durably h (f.now n) knows.knows) knows.means);
-        stays = subst (StaysIn l.slots (range_of l f n)) (sym (stored f n offset y))
-            (stays_stored l.slots (range_of l f n) (f.now n) (updated (f.now n) offset y) knows.means.tidy (λ other m was. means other (f.now n) m (durably h (f.now n) knows.knows) was) knows.stays);
-        about = knows.about;
-        shown = knows.shown;
-        below = knows.below;
-        time = knows.time;
-        old = knows.old;
-        placed = knows.placed;
-      }
-      mine (commits {n = n} {w = w} {y = y} {offset = offset} {h = h} {k = k} {old = old} {c = c} has content small clean durable soiled old_known about learnt means) e knows = record {
-        here = knows.here;
-        stands = knows.stands;
-        lock = knows.lock;
-        named = knows.named;
-        inside = knows.inside;
-        knows = subst (Knows h.name k) (sym (stored f n offset y)) (learnt (f.now n) knows.means.tidy knows.knows);
-        hand = tt;
-        means = subst (λ (s : Spot). Means l.slots (range_of l f n) s (changed (map_now f) c)) (sym (stored f n offset y))
-            (means (range_of l f n) (f.now n) (map_now f) knows.inside knows.knows (old_is n w h None old knows clean.placed old_known) (clean_means n w h knows clean.pending));
-        stays =
-            let had : at (map_now f) h.name ≡ old = old_is n w h None old knows clean.placed old_known in
-            subst (StaysIn l.slots (range_of l f n)) (sym (stored f n offset y))
-            (stays_changed l.slots (range_of l f n) (f.now n) (updated (f.now n) offset y) (map_now f) c (subst IsName (sym about) knows.named)
-            (subst (λ (name : List ℕ). range_of l f n name ≡ true) (sym about) knows.inside) (clean_means n w h knows clean.pending)
-            (λ m' alike was. means (λ name. true) (f.now n) m' refl knows.knows (ap (at m') (sym about) ∙ alike ∙ ap (at (map_now f)) about ∙ had) was) knows.stays);
-        about = about;
-        shown = (clean.placed, ap is_some old_known);
-        below = knows.below;
-        time = knows.time;
-        old = knows.old;
-        placed = knows.placed;
-      }
-      mine (drains has small unready hand cleans) e knows = record {
-        here = knows.here;
-        stands = knows.stands;
-        lock = knows.lock;
-        named = knows.named;
-        inside = knows.inside;
-        knows = knows.knows;
-        hand = tt;
-        means = knows.means;
-        stays = knows.stays;
-        about = knows.about;
-        shown = knows.shown;
-        below = knows.below;
-        time = knows.time;
-        old = knows.old;
-        placed = knows.placed;
-      }
-      mine (counts {n = n} {w = w} {x = x} {h = h} {c = c} durable ready pending unplaced) e knows =
-          let write : Write = record { caller = caller; index = index; change = c } in
-          let same : after f.base (f.history ++ write ∷ []) x ≡ map_now f = after-longer f.base f.history (write ∷ []) x (omega (arith, e)) ∙ after-whole f.base f.history x e in
-          record {
-            here = knows.here;
-            stands = knows.stands;
-            lock = knows.lock;
-            named = knows.named;
-            inside = knows.inside;
-            knows = knows.knows;
-            hand = knows.hand;
-            means = subst (Means l.slots (range_of l f n) (f.now n)) (sym (after_all-push f.base f.history write))
-                (subst (λ (p : Option Change). Means l.slots (range_of l f n) (f.now n) (pended p (map_now f))) pending knows.means);
-            stays = knows.stays;
-            about = tt;
-            shown = tt;
-            below = knows.below;
-            time = tt;
-            old = old_then h.old (subst (λ (p : Option ℕ). IfSome h.old (λ old. at (map_before f p) h.name ≡ old)) unplaced knows.old) (ap (λ (m : Map). at m h.name) same);
-            placed = record {
-              later = omega (arith, e);
-              within = omega (arith, e, length-append f.history (write ∷ []));
-              write = record {
-                change = c;
-                about = subst (λ (p : Option Change). IfSome p (λ d. name_of d ≡ h.name)) pending knows.about;
-                stands = ap (slice_get (f.history ++ write ∷ [])) e ∙ slice_get-last f.history write;
-              };
+    pub mine : {s : Stage} {a : Action} {x : ℕ} {t : Stage} {r : Option (Once Placed)} → (k : Step l g s a x t r) → Gives k f → Sure l g f caller index since s
+        → Sure l g (fact_after k f caller index) caller index since t
+    mine (looks look) e knows = look_mine look e knows
+    mine (locks {n = n} {v = v} {w = w} {name = name} same named live between) e knows = record {
+      here = knows.here;
+      stands = ap (λ (b : Bool). cond b w (f.version n)) (eq-eqb n n refl);
+      lock = own_lock v w g knows.known knows.unworn knows.lock;
+      named = named;
+      inside = between_inside l f list n name ((knows.stands (sym e ∙ same)).listed live) (between (f.now n) (f.now (f.now n next_offset)) (knows.stands (sym e ∙ same)).sees);
+      knows = record { seen = tt; left = tt };
+      hand = tt;
+      means = (settled n ((knows.stands (sym e ∙ same)).listed live) (subst (λ (u : ℕ). IsFree u g) (sym (sym e ∙ same)) knows.free)).means;
+      stays = (settled n ((knows.stands (sym e ∙ same)).listed live) (subst (λ (u : ℕ). IsFree u g) (sym (sym e ∙ same)) knows.free)).stays;
+      about = tt;
+      shown = tt;
+      below = tt;
+      time = tt;
+      old = tt;
+      placed = tt;
+    }
+    mine (stores {n = n} {y = y} {offset = offset} {h = h} {k = k} has content small clean soils learnt means) e knows = record {
+      here = knows.here;
+      stands = knows.stands;
+      lock = knows.lock;
+      named = knows.named;
+      inside = knows.inside;
+      knows = subst (Knows h.name k) (sym (stored f n offset y)) (learnt (f.now n) knows.means.tidy knows.knows);
+      hand = tt;
+      means = subst (λ (s : Spot). Means l.slots (range_of l f n) s (pended h.pending (map_now f))) (sym (stored f n offset y))
+          (means (range_of l f n) (f.now n) (pended h.pending (map_now f)) (durably h (f.now n) knows.knows) knows.means);
+      stays = subst (StaysIn l.slots (range_of l f n)) (sym (stored f n offset y))
+          (stays_stored l.slots (range_of l f n) (f.now n) (updated (f.now n) offset y) knows.means.tidy (λ other m was. means other (f.now n) m (durably h (f.now n) knows.knows) was) knows.stays);
+      about = knows.about;
+      shown = knows.shown;
+      below = knows.below;
+      time = knows.time;
+      old = knows.old;
+      placed = knows.placed;
+    }
+    mine (commits {n = n} {w = w} {y = y} {offset = offset} {h = h} {k = k} {old = old} {c = c} has content small clean durable soiled old_known about learnt means) e knows = record {
+      here = knows.here;
+      stands = knows.stands;
+      lock = knows.lock;
+      named = knows.named;
+      inside = knows.inside;
+      knows = subst (Knows h.name k) (sym (stored f n offset y)) (learnt (f.now n) knows.means.tidy knows.knows);
+      hand = tt;
+      means = subst (λ (s : Spot). Means l.slots (range_of l f n) s (changed (map_now f) c)) (sym (stored f n offset y))
+          (means (range_of l f n) (f.now n) (map_now f) knows.inside knows.knows (old_is n w h None old knows clean.placed old_known) (clean_means n w h knows clean.pending));
+      stays =
+          let had : at (map_now f) h.name ≡ old = old_is n w h None old knows clean.placed old_known in
+          subst (StaysIn l.slots (range_of l f n)) (sym (stored f n offset y))
+          (stays_changed l.slots (range_of l f n) (f.now n) (updated (f.now n) offset y) (map_now f) c (subst IsName (sym about) knows.named)
+          (subst (λ (name : List ℕ). range_of l f n name ≡ true) (sym about) knows.inside) (clean_means n w h knows clean.pending)
+          (λ m' alike was. means (λ name. true) (f.now n) m' refl knows.knows (ap (at m') (sym about) ∙ alike ∙ ap (at (map_now f)) about ∙ had) was) knows.stays);
+      about = about;
+      shown = (clean.placed, ap is_some old_known);
+      below = knows.below;
+      time = knows.time;
+      old = knows.old;
+      placed = knows.placed;
+    }
+    mine (drains has small unready hand cleans) e knows = record {
+      here = knows.here;
+      stands = knows.stands;
+      lock = knows.lock;
+      named = knows.named;
+      inside = knows.inside;
+      knows = knows.knows;
+      hand = tt;
+      means = knows.means;
+      stays = knows.stays;
+      about = knows.about;
+      shown = knows.shown;
+      below = knows.below;
+      time = knows.time;
+      old = knows.old;
+      placed = knows.placed;
+    }
+    mine (counts {n = n} {w = w} {x = x} {h = h} {c = c} durable ready pending unplaced) e knows =
+        let write : Write = record { caller = caller; index = index; change = c } in
+        let same : after f.base (f.history ++ write ∷ []) x ≡ map_now f = after-longer f.base f.history (write ∷ []) x (omega (arith, e)) ∙ after-whole f.base f.history x e in
+        record {
+          here = knows.here;
+          stands = knows.stands;
+          lock = knows.lock;
+          named = knows.named;
+          inside = knows.inside;
+          knows = knows.knows;
+          hand = knows.hand;
+          means = subst (Means l.slots (range_of l f n) (f.now n)) (sym (after_all-push f.base f.history write))
+              (subst (λ (p : Option Change). Means l.slots (range_of l f n) (f.now n) (pended p (map_now f))) pending knows.means);
+          stays = knows.stays;
+          about = tt;
+          shown = tt;
+          below = knows.below;
+          time = tt;
+          old = old_then h.old (subst (λ (p : Option ℕ). IfSome h.old (λ old. at (map_before f p) h.name ≡ old)) unplaced knows.old) (ap (λ (m : Map). at m h.name) same);
+          placed = record {
+            later = omega (arith, e);
+            within = omega (arith, e, length-append f.history (write ∷ []));
+            write = record {
+              change = c;
+              about = subst (λ (p : Option Change). IfSome p (λ d. name_of d ≡ h.name)) pending knows.about;
+              stands = ap (slice_get (f.history ++ write ∷ [])) e ∙ slice_get-last f.history write;
             };
-          }
-        where
-          old_then : {m m' : Option ℕ} → (o : Option (Option ℕ)) → IfSome o (λ old. m ≡ old) → m' ≡ m → IfSome o (λ old. m' ≡ old)
-          old_then None was same = tt
-          old_then (Some old) was same = same ∙ was
-      mine (unlocks next pending durable unready answers) e knows = tt
-      mine (claims {n = n} {w = w} {m = m} {v = v} {u = u} {h = h} unplaced here same) e knows =
-          let one : m ≢ n = (λ d. unfree w g knows.0.lock (subst (λ (z : ℕ). IsFree z g) (sym (sym e ∙ same) ∙ ap f.version d ∙ knows.0.stands) knows.1.unlocked)) in
-          let status = knows.1.stands (sym e ∙ same) refl in
-          record {
-            full = record { here = knows.0.here; stands = ap (λ (b : Bool). cond b u (f.version n)) (ne_eqb n m (λ d. one (sym d))) ∙ knows.0.stands; lock = knows.0.lock; seen = knows.0.knows.seen; hand = tt };
-            new = record { here = here; stands = ap (λ (b : Bool). cond b u (f.version m)) (eq-eqb m m refl); lock = own_lock v u g knows.1.known knows.1.unworn knows.1.lock; seen = tt; hand = tt };
-            apart = λ d. one (sym d);
-            nonzero = knows.1.nonzero;
-            at = record {
-              listed = inside_listed l f list n h.name knows.0.inside;
-              unlisted = λ is. let lit = live_part.live m is in absurd (let no : 0 ≡ 1 = sym status ∙ lit in omega arith);
-              settled = record { means = clean_means n w h knows.0 knows.1.clean.pending; stays = knows.0.stays };
-              asked = record { named = knows.0.named; inside = knows.0.inside; had = subst (λ (p : Option ℕ). IfSome h.old (λ old. at (map_before f p) h.name ≡ old)) unplaced.unplaced knows.0.old; lacked = unplaced.lacked };
-              bright = λ no. absurd (let none : false ≡ true = no in cc);
-              dark = λ _. status;
-            };
-          }
-      mine (publishes {freed = freed} {left = left} {fresh = fresh} next left_durable durable) e knows = record {
-        grip = grip_kept l g f (with_version f fresh.node freed) (later-version l f fresh.node freed) left (steady-version l f fresh.node freed left.node knows.apart) knows.full;
-        listed = knows.at.listed;
-        settled = record { means = knows.at.settled_left.means; stays = knows.at.settled_left.stays };
-      }
-      mine (leaves next) e knows = tt
-      mine (splits k) e knows = split_mine l g f caller index since list k e knows
-      mine (merges k) e knows = merge_mine l g f caller index since known list live_part settled k e knows
+          };
+        }
+      where
+        old_then : {m m' : Option ℕ} → (o : Option (Option ℕ)) → IfSome o (λ old. m ≡ old) → m' ≡ m → IfSome o (λ old. m' ≡ old)
+        old_then None was same = tt
+        old_then (Some old) was same = same ∙ was
+    mine (unlocks next pending durable unready answers) e knows = tt
+    mine (claims {n = n} {w = w} {m = m} {v = v} {u = u} {h = h} unplaced here same) e knows =
+        let one : m ≢ n = (λ d. unfree w g knows.0.lock (subst (λ (z : ℕ). IsFree z g) (sym (sym e ∙ same) ∙ ap f.version d ∙ knows.0.stands) knows.1.unlocked)) in
+        let status = knows.1.stands (sym e ∙ same) refl in
+        record {
+          full = record { here = knows.0.here; stands = ap (λ (b : Bool). cond b u (f.version n)) (ne_eqb n m (λ d. one (sym d))) ∙ knows.0.stands; lock = knows.0.lock; seen = knows.0.knows.seen; hand = tt };
+          new = record { here = here; stands = ap (λ (b : Bool). cond b u (f.version m)) (eq-eqb m m refl); lock = own_lock v u g knows.1.known knows.1.unworn knows.1.lock; seen = tt; hand = tt };
+          apart = λ d. one (sym d);
+          nonzero = knows.1.nonzero;
+          at = record {
+            listed = inside_listed l f list n h.name knows.0.inside;
+            unlisted = λ is. let lit = live_part.live m is in absurd (let no : 0 ≡ 1 = sym status ∙ lit in omega arith);
+            settled = record { means = clean_means n w h knows.0 knows.1.clean.pending; stays = knows.0.stays };
+            asked = record { named = knows.0.named; inside = knows.0.inside; had = subst (λ (p : Option ℕ). IfSome h.old (λ old. at (map_before f p) h.name ≡ old)) unplaced.unplaced knows.0.old; lacked = unplaced.lacked };
+            bright = λ no. absurd (let none : false ≡ true = no in cc);
+            dark = λ _. status;
+          };
+        }
+    mine (publishes {freed = freed} {left = left} {fresh = fresh} next left_durable durable) e knows = record {
+      grip = grip_kept l g f (with_version f fresh.node freed) (later-version l f fresh.node freed) left (steady-version l f fresh.node freed left.node knows.apart) knows.full;
+      listed = knows.at.listed;
+      settled = record { means = knows.at.settled_left.means; stays = knows.at.settled_left.stays };
+    }
+    mine (leaves next) e knows = tt
+    mine (splits k) e knows = split_mine l g f caller index since list k e knows
+    mine (merges k) e knows = merge_mine l g f caller index since known list live_part settled k e knows
 
   -- the answer of a call that gives its node back
   answered : (n w freed : ℕ) (h : Held) (r : Once Placed) → h.pending ≡ None → Answers l h r → SureHolds l g f caller index since n w h → IsLegalHeld l (with_version f n freed) caller index since n h r
@@ -531,6 +535,7 @@ module _ {l : Layout} {g : ℕ} (f : Facts) (caller index since : ℕ) where
   legal (looks (times clean below)) e knows = tt
   legal (looks (learns has positive unready learnt)) e knows = tt
   legal (looks (decides has positive clean durable about learnt decided)) e knows = tt
+  legal (looks (reads_on k)) e knows = read_legal f caller index since k e knows
   legal (looks (glances has unready)) e knows = tt
   legal (locks same named live between) e knows = tt
   legal (stores has content small clean soils learnt means) e knows = tt

@@ -21,7 +21,7 @@ use Rattle.data_node.specs.Spots.{Spot}
 use Rattle.data_node.specs.Lists.{ListNode, next_offset, anchor_in, IsMember, IsIn, IsChain, Rise}
 use Rattle.call_stages.specs.declared.once.Once.{Once}
 use Rattle.call_stages.specs.declared.once.Placed.{Placed}
-use Rattle.call_stages.specs.Stages.{Gone, Stage, Idle, Saw, Wears, Holds, Eyes, Splits, Leaves, Meets, Joins}
+use Rattle.call_stages.specs.Stages.{Gone, Stage, Idle, Saw, Wears, Reads, Holds, Eyes, Splits, Leaves, Meets, Joins}
 use Rattle.call_stages.specs.Kinds.{Step, gone_status, live_status, clock_address, word_address, status_address, prev_address}
 use Rattle.call_stages.specs.Kinds as kinds
 use Rattle.index_law.specs.Facts.{Facts, IsListed}
@@ -284,6 +284,7 @@ pub leads_now : (l : Layout) (g : ℕ) (f : Facts) (caller index since : ℕ) (s
 leads_now l g f caller index since Idle n y sure leads = absurd leads
 leads_now l g f caller index since (Saw m v w k) n y sure leads = absurd leads
 leads_now l g f caller index since (Wears m v) n y sure leads = absurd leads
+leads_now l g f caller index since (Reads m v sight told) n y sure leads = absurd leads
 leads_now l g f caller index since (Holds m w h) n y sure leads = absurd leads
 leads_now l g f caller index since (Eyes m w h k v u free) n y sure leads = absurd leads
 leads_now l g f caller index since (Leaves left) n y sure leads = absurd leads
@@ -638,6 +639,7 @@ leads_holds : (s : Stage) (n y : ℕ) → Leads s n y → HoldsNode s n
 leads_holds Idle n y leads = absurd leads
 leads_holds (Saw m v w k) n y leads = absurd leads
 leads_holds (Wears m v) n y leads = absurd leads
+leads_holds (Reads m v sight told) n y leads = absurd leads
 leads_holds (Holds m w h) n y leads = absurd leads
 leads_holds (Eyes m w h k v u free) n y leads = absurd leads
 leads_holds (Leaves left) n y leads = absurd leads

@@ -13,7 +13,7 @@ use Rattle.cat_history.specs.Maps.{Map}
 use Rattle.cat_history.specs.declared.op.Write.{Write}
 use Rattle.data_node.specs.Spots.{Spot}
 use Rattle.data_node.specs.Lists.{next_offset}
-use Rattle.call_stages.specs.Stages.{Held, Grip, Phase, Filling, Linked, Parted, Pace, Gathered, Joined, Gone, Stage, Idle, Saw, Wears, Holds, Eyes, Splits, Leaves, Meets, Joins}
+use Rattle.call_stages.specs.Stages.{Held, Grip, Phase, Filling, Linked, Parted, Pace, Gathered, Joined, Gone, Stage, Idle, Saw, Wears, Reads, Holds, Eyes, Splits, Leaves, Meets, Joins}
 use Rattle.call_stages.specs.Kinds.{HasWordAt, word_address}
 use Rattle.index_law.specs.Facts.{Facts, facts_of, spot_in, durable_spot}
 use Rattle.index_law.specs.Lawful.{AreKnown}
@@ -127,6 +127,7 @@ module _ (l : Layout) (words words' : List ℕ) (base : Map) (history : List Wri
   closer_stage (Holds n w h) backed = closer_backed l f (durable_spot l words n) (durable_spot l words' n) n h (closer_spot l words words' closer n) backed
   closer_stage (Eyes n w h m v u free) backed = closer_backed l f (durable_spot l words n) (durable_spot l words' n) n h (closer_spot l words words' closer n) backed
   closer_stage (Wears n v) backed = tt
+  closer_stage (Reads n v sight told) backed = tt
   closer_stage (Leaves left) backed = λ offset. ⊎_elim (λ stays. stays ∙ backed offset) (λ is. is) (closer_spot l words words' closer left.node offset)
   closer_stage (Meets n w h right) backed = (
     closer_backed l f (durable_spot l words n) (durable_spot l words' n) n h (closer_spot l words words' closer n) backed.0,

@@ -21,7 +21,7 @@ use Rattle.call_stages.specs.declared.once.Once.{Once}
 use Rattle.call_stages.specs.declared.once.Placed.{Placed}
 use Rattle.data_node.specs.Spots.{bitmap_offset}
 use Rattle.data_node.specs.Lists.{ListNode, next_offset, anchor_in, key_of}
-use Rattle.call_stages.specs.Stages.{Held, Gathered, Joined, Gone, Stage, Idle, Saw, Wears, Holds, Eyes, Splits, Leaves, Meets, Joins, pended}
+use Rattle.call_stages.specs.Stages.{Held, Gathered, Joined, Gone, Stage, Idle, Saw, Wears, Reads, Holds, Eyes, Splits, Leaves, Meets, Joins, pended}
 use Rattle.call_stages.specs.Kinds.{Look, turns_back, is_worn, wears, roams, roams_status, sees, misses, times, learns, decides, glances, finds_live, watches, watches_next, turns_away, steps_back, wanders, from_key, below_key, Merge, meets, knows_own, knows_right, copies, takes_up, puts_down, parts, gathers, joins, glances_joined, drains_joined, retires, yields, merges, Split, fills, lights, switches, glances_left, glances_fresh, drains_left, drains_fresh, trims, splits, peeks, peeks_status, eyes, eyes_free, passes, loses, claims, publishes, leaves, Step, looks, locks, stores, commits, drains, counts, unlocks, word_address}
 use Rattle.index_law.specs.Facts.{Facts, map_now, range_of, durable_spot, IsListed}
 use Rattle.index_law.specs.Worlds.{Party, World, facts, moved_on}
@@ -45,6 +45,8 @@ use Rattle.index_law.proofs.Moves.{fact_after, split_after, merge_after, Gave, G
 use Rattle.index_law.proofs.Own.{clean_means, old_is, mine}
 use Rattle.index_law.proofs.Rows.{with_word, with_next, with_past, new_member, set_else, set_other}
 use Rattle.index_law.proofs.Evictions.{evict_facts}
+use Rattle.call_stages.specs.Kinds.{reads_on}
+use Rattle.index_law.proofs.Moves.{read_before, read_after}
 
 -- a name taken away weighed where so many are left
 taken : (slots left names : ℕ) → left + 1 ≡ names → slots / 2 + (left - slots / 2) + cond (nat_le (slots / 2) left) 1 0 ≡ slots / 2 + (names - slots / 2)
@@ -198,6 +200,7 @@ module _ {l : Layout} {g : ℕ} (f : Facts) (caller index since : ℕ) where
       shown_before l.slots (range_of l f n) (f.now n) (map_now f) h.name pending old knows.named knows.inside about
       (decided (range_of l f n) (f.now n) (map_now f) knows.inside knows.knows (sym e) means).0 means after.means
       ∙ sym (unlowered l.slots (names_in l.slots (range_of l f n) (f.now n)) h.pending h.old clean.pending)
+  look_lowers (reads_on {s = s} {t = t} k) e knows after = loose_lowers l f t (read_after k) ∙ sym (loose_lowers l f s (read_before k))
   look_lowers (glances has unready) e knows after = refl
 
   -- a split weighs no more at any of its steps
@@ -420,6 +423,7 @@ lowered_alike l f f' (Holds n w h) same = λ i. lowered_by l.slots (names_in l.s
 lowered_alike l f f' (Eyes n w h m v u free) same = refl
 lowered_alike l f f' (Splits left fresh phase) same = refl
 lowered_alike l f f' (Wears n v) same = refl
+lowered_alike l f f' (Reads n v sight told) same = refl
 lowered_alike l f f' (Leaves left) same = refl
 lowered_alike l f f' (Meets n w h right) same = refl
 lowered_alike l f f' (Joins h left right pace) same = refl
@@ -653,6 +657,7 @@ module _ (w : World) (lawful : Lawful w) where
       let none = unlowered slots (names_in slots (range_of w.layout f m) (f.now m)) h.pending h.old sure.1.clean.pending in
       omega arith)
   stage_weighs n i p (Wears m v) there is holds listed sure backed = absurd holds
+  stage_weighs n i p (Reads m v sight told) there is holds listed sure backed = absurd holds
   stage_weighs n i p (Leaves left) there is holds listed sure backed = subst (λ k. node_weight slots (range_of w.layout f k) (safe k) ≤ cost k) holds (equal_weighs left.node backed)
   stage_weighs n i p (Splits left fresh (Filling lit)) there is (inl holds) listed sure backed =
       subst (λ k. node_weight slots (range_of w.layout f k) (safe k) ≤ cost k) holds (equal_weighs left.node backed.left_backed)

@@ -19,7 +19,7 @@ use Rattle.data_node.specs.Lists.{next_offset, key_of, anchor_in, MakeList, Stay
 use Rattle.data_node.specs.Weights.{names_in}
 use Rattle.call_stages.specs.Kinds.{IsStill, clock_address, free_status, live_status, gone_status, from_key}
 use Rattle.call_stages.specs.Stages.{Knows, Held, Sight, Sees, Grip, Tells, Phase, Filling, Linked, Parted, Pace}
-use Rattle.call_stages.specs.Stages.{Gathered, Joined, Gone, Stage, Idle, Saw, Wears, Holds, Eyes, Splits, Leaves}
+use Rattle.call_stages.specs.Stages.{Gathered, Joined, Gone, Stage, Idle, Saw, Wears, Reads, Holds, Eyes, Splits, Leaves}
 use Rattle.call_stages.specs.Stages.{Meets, Joins, HoldsNode, AreCopies, pended}
 use Rattle.index_law.specs.Facts.{Facts, map_now, range_of, cached_word, IsListed}
 use Rattle.index_law.specs.Twins.{BacksStage, AreDurable, AreDurablyKnown, IsFront}
@@ -186,6 +186,27 @@ pub record SureWears (l : Layout) (g : ℕ) (f : Facts) (n v : ℕ) : Type 0 whe
   pub worn : IsWorn v g
   pub stands : f.version n ≡ v
 
+-- What a reader learnt of its node once it had loaded the clock, as long as the version word stands. It reads the words
+-- of this node, and the map on its range.
+pub record IsRead (l : Layout) (f : Facts) (since n : ℕ) (h : Held) : Type 0 where
+  pub listed : IsListed f n
+  pub named : IsName h.name
+  pub inside : range_of l f n h.name ≡ true
+  pub settled : IsSettled l f n
+  pub knows : Knows h.name h.known (f.now n)
+  pub time : IfSome h.time (IsTime (range_of l f n) f.base f.history since None)
+  pub old : IfSome h.old (λ old. at (map_now f) h.name ≡ old)
+
+-- What a party knows that takes no lock. If the version word is still the one that it saw, the node is listed, what it
+-- saw and read of it is as it saw and read it, and on the node's range the map hasn't changed since its clock.
+pub record SureReads (l : Layout) (g : ℕ) (f : Facts) (since n v : ℕ) (k : Sight) (h : Option Held) : Type 0 where
+  pub here : n < l.nodes
+  pub known : generation_of v ≤ g
+  pub free : IsFree v g
+  pub seen : v ≤ f.version n
+  pub stands : f.version n ≡ v → Stands f n k
+  pub read : f.version n ≡ v → IfSome h (IsRead l f since n)
+
 -- What a party knows of the node that it gives back last.
 pub record SureLeaves (l : Layout) (g : ℕ) (f : Facts) (left : Grip) : Type 0 where
   pub grip : SureGrip l g f left
@@ -272,6 +293,7 @@ Sure l g f caller index since (Eyes n w h m v u free) = SureHolds l g f caller i
 Sure l g f caller index since (Splits left fresh phase) = SureSplits l g f left fresh phase
 Sure l g f caller index since (Leaves left) = SureLeaves l g f left
 Sure l g f caller index since (Wears n v) = SureWears l g f n v
+Sure l g f caller index since (Reads n v k h) = SureReads l g f since n v k h
 Sure l g f caller index since (Meets n w h right) = SureHolds l g f caller index since n w h × SureMeets l g f n h right
 Sure l g f caller index since (Joins h left right pace) = SureJoins l g f caller index since h left right pace
 

@@ -26,7 +26,7 @@ use Rattle.data_node.specs.Lists.{range_in}
 use Rattle.call_stages.specs.declared.once.Once.{Once}
 use Rattle.call_stages.specs.declared.once.Once.TheVariants as once
 use Rattle.call_stages.specs.declared.once.Placed.{Placed}
-use Rattle.call_stages.specs.Stages.{Held, Sight, Grip, Phase, Linked, Pace, Joined, Stage, Idle, Saw, Wears, Holds, Eyes}
+use Rattle.call_stages.specs.Stages.{Held, Sight, Grip, Phase, Linked, Pace, Joined, Stage, Idle, Saw, Wears, Reads, Holds, Eyes}
 use Rattle.call_stages.specs.Stages.{Splits, Leaves, Meets, Joins, counted, pending_in, pended}
 use Rattle.call_stages.specs.Kinds.{IsRefusal, Step, Told, LeadsWithin, HasWordAt, clock_address, word_address}
 use Rattle.call_stages.specs.Kinds.{version_address, status_address, prev_address, live_status}
@@ -75,6 +75,7 @@ IsWithin l (Eyes n w h m v u free) = Unit {0}
 IsWithin l (Splits left fresh phase) = fresh.node < l.nodes
 IsWithin l (Leaves left) = left.node < l.nodes
 IsWithin l (Wears n v) = n < l.nodes
+IsWithin l (Reads n v sight told) = n < l.nodes
 IsWithin l (Meets n w h right) = (n < l.nodes) × (right.node < l.nodes)
 IsWithin l (Joins h left right pace) = (left.node < l.nodes) × (right.node < l.nodes)
 
@@ -150,12 +151,18 @@ IsLegalHeld l f caller index since n h (once.Worn node word) = ⊥
 IsLegalHeld l f caller index since n h (once.Again why) = (h.placed ≡ None) ×
     (((why ≡ again.NoFree) × HasNoRoom l f since n h) ⊎ IsRefusal why)
 
+-- The answer of a call that takes no lock.
+abbrev pub IsLegalRead : ℕ → Facts → ℕ → ℕ → ℕ → Option Held → Once Placed → Type 0
+IsLegalRead g f caller index since (Some h) (once.Done answer) = IsLegalDone f caller index since h answer
+IsLegalRead g f caller index since h answer = IsLegalUnheld g f answer
+
 -- The answer, if there is one, of a call that was at this stage, the facts being those after its last step.
 abbrev pub IsLegal : Layout → ℕ → Facts → ℕ → ℕ → ℕ → Stage → Option (Once Placed) → Type 0
 IsLegal l g f caller index since stage None = Unit {0}
 IsLegal l g f caller index since Idle (Some answer) = IsLegalUnheld g f answer
 IsLegal l g f caller index since (Saw n v w k) (Some answer) = IsLegalUnheld g f answer
 IsLegal l g f caller index since (Wears n v) (Some answer) = IsLegalUnheld g f answer
+IsLegal l g f caller index since (Reads n v k h) (Some answer) = IsLegalRead g f caller index since h answer
 IsLegal l g f caller index since (Holds n w h) (Some answer) = IsLegalHeld l f caller index since n h answer
 IsLegal l g f caller index since (Eyes n w h m v u free) (Some answer) = ⊥
 IsLegal l g f caller index since (Splits left fresh phase) (Some answer) = ⊥

@@ -7,7 +7,7 @@ use Rattle.data_node.specs.Spots.{Spot, Means, bitmap_offset}
 use Rattle.data_node.specs.Lists.{next_offset}
 use Rattle.sound_image.specs.Rules.{IsSpare}
 use Rattle.call_stages.specs.Stages.{Held, Grip, Phase, Filling, Linked, Parted, Pace, Gathered, Joined, Gone, Stage}
-use Rattle.call_stages.specs.Stages.{Idle, Saw, Wears, Holds, Eyes, Splits, Leaves, Meets, Joins, IsAmong, pended}
+use Rattle.call_stages.specs.Stages.{Idle, Saw, Wears, Reads, Holds, Eyes, Splits, Leaves, Meets, Joins, IsAmong, pended}
 use Rattle.index_law.specs.Facts.{Facts, map_now, range_of, durable_spot, durable_version}
 
 -- Each word is that of the one or of the other.
@@ -74,6 +74,7 @@ abbrev pub BacksStage : Layout → Facts → List ℕ → Stage → Type 0
 BacksStage l f words Idle = Unit {0}
 BacksStage l f words (Saw n v w k) = Unit {0}
 BacksStage l f words (Wears n v) = Unit {0}
+BacksStage l f words (Reads n v sight told) = Unit {0}
 BacksStage l f words (Holds n w h) = IsBacked l f (durable_spot l words n) n h
 BacksStage l f words (Eyes n w h m v u free) = IsBacked l f (durable_spot l words n) n h
 BacksStage l f words (Leaves left) = (offset : ℕ) → durable_spot l words left.node offset ≡ f.now left.node offset

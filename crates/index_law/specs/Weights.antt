@@ -12,7 +12,7 @@ use Rattle.cat_history.specs.declared.op.Change.TheVariants.{Put, Del}
 use Rattle.data_node.specs.Weights.{names_in, node_weight, total, list_weight}
 use Rattle.call_stages.specs.declared.once.Once.{Once}
 use Rattle.call_stages.specs.declared.once.Placed.{Placed}
-use Rattle.call_stages.specs.Stages.{Held, Pace, Gathered, Joined, Gone, Stage, Idle, Saw, Wears, Holds, Eyes, Splits}
+use Rattle.call_stages.specs.Stages.{Held, Pace, Gathered, Joined, Gone, Stage, Idle, Saw, Wears, Reads, Holds, Eyes, Splits}
 use Rattle.call_stages.specs.Stages.{Leaves, Meets, Joins}
 use Rattle.data_node.specs.Spots.{bitmap_offset}
 use Rattle.call_stages.specs.Kinds.{Step, gone_status, word_address}
@@ -59,6 +59,7 @@ lowered_in l f (Eyes n w h m v u free) = 0
 lowered_in l f (Splits left fresh phase) = 0
 lowered_in l f (Leaves left) = 0
 lowered_in l f (Wears n v) = 0
+lowered_in l f (Reads n v sight told) = 0
 lowered_in l f (Meets n w h right) = 0
 lowered_in l f (Joins h left right pace) = left_out l.slots pace
 

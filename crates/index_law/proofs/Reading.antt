@@ -1,0 +1,180 @@
+-- What a party knows that takes no lock, after its own step, and that its answer is legal.
+use Rattle.std.proofs.Common.{◌≡◌, ◌≢◌, ℕ, ◌<◌, ◌≤◌, Bool, length, refl, sym, ap, ◌∙◌, subst, arith}
+use Rattle.std.specs.Prelude.{true, false, Option, Some, None, IfSome}
+use Rattle.pm_words.specs.declared.layout.Layout.{Layout}
+use Rattle.pm_words.specs.declared.action.Action.{Action}
+use Rattle.version_lock.specs.Versions.{generation_of, IsFree}
+use Rattle.cat_history.specs.Maps.{Map, at}
+use Rattle.data_node.specs.Lists.{next_offset}
+use Rattle.call_stages.specs.declared.once.Once.{Once}
+use Rattle.call_stages.specs.declared.once.Placed.{Placed}
+use Rattle.call_stages.specs.Stages.{Stage}
+use Rattle.call_stages.specs.Kinds.{Read, views, views_live, views_word, views_next, dates, notes, finds, confirms, wavers}
+use Rattle.index_law.specs.Facts.{Facts, map_now, range_of}
+use Rattle.index_law.specs.Lawful.{IsList, AreLive, AreKnown, AreSettled, IsTime, HasWriteAt, Sure}
+use Rattle.index_law.specs.Laws.{Allowed, loads_clock, loads_word, loads_status, IsLegal}
+use Rattle.index_law.proofs.Maps.{after-whole}
+use Rattle.index_law.proofs.Moves.{ReadGave}
+use Rattle.index_law.proofs.Switch.{between_inside}
+
+module _ {l : Layout} {g : ℕ} where
+  -- its action is one that a party may do
+  pub read_allowed : {s : Stage} {a : Action} {x : ℕ} {t : Stage} {r : Option (Once Placed)} → Read l g s a x t r → Allowed l s a
+  read_allowed (views loose here free) = loads_word (here, omega arith)
+  read_allowed (views_live here is) = loads_status here
+  read_allowed (views_word has positive live next learnt) = loads_word has
+  read_allowed (views_next has low high ne live live' next leads learnt) = loads_word has
+  read_allowed (dates named live between kept) = loads_clock
+  read_allowed (notes has positive learnt) = loads_word has
+  read_allowed (finds has positive learnt decided) = loads_word has
+  read_allowed (confirms here same unplaced unlimited time old) = loads_word (here, omega arith)
+  read_allowed (wavers here other) = loads_word (here, omega arith)
+
+  module _ (f : Facts) (caller index since : ℕ) where
+    pub read_mine : since ≤ length f.history → AreKnown l g f → IsList l f → AreLive l g f → AreSettled l g f → {s : Stage} {a : Action} {x : ℕ} {t : Stage} {r : Option (Once Placed)}
+        → (k : Read l g s a x t r) → ReadGave k f → Sure l g f caller index since s → Sure l g f caller index since t
+    read_mine begun known list lives settled (views {n = n} loose here free) e knows = record {
+      here = here;
+      known = subst (λ (v : ℕ). generation_of v ≤ g) (sym e) (known n here);
+      free = free;
+      seen = omega (arith, e);
+      stands = λ is. record {
+        listed = λ no. absurd (let none : false ≡ true = no in cc);
+        sees = record { seen = tt; leads = λ ne. absurd (ne refl); beyond = λ ne. absurd (ne refl) };
+        leads = λ ne. absurd (ne refl);
+      };
+      read = λ is. tt;
+    }
+    read_mine begun known list lives settled (views_live {n = n} here is) e knows = record {
+      here = knows.here;
+      known = knows.known;
+      free = knows.free;
+      seen = knows.seen;
+      stands = λ same.
+          let was = knows.stands same in
+          record {
+            listed = λ _. lives.listed n here (sym e ∙ is) (subst (λ (u : ℕ). IsFree u g) (sym same) knows.free);
+            sees = record { seen = was.sees.seen; leads = was.sees.leads; beyond = was.sees.beyond };
+            leads = was.leads;
+          };
+      read = λ same. tt;
+    }
+    read_mine begun known list lives settled (views_word {n = n} has positive live next learnt) e knows = record {
+      here = knows.here;
+      known = knows.known;
+      free = knows.free;
+      seen = knows.seen;
+      stands = λ same.
+          let was = knows.stands same in
+          record {
+            listed = λ is. was.listed (sym live ∙ is);
+            sees = learnt (f.now n) (f.now (f.now n next_offset)) was.sees (sym e);
+            leads = λ ne. was.leads (λ z. ne (next ∙ z));
+          };
+      read = λ same. tt;
+    }
+    read_mine begun known list lives settled (views_next {n = n} {m = m} {offset = offset} has low high ne live live' next leads learnt) e knows = record {
+      here = knows.here;
+      known = knows.known;
+      free = knows.free;
+      seen = knows.seen;
+      stands = λ same.
+          let was = knows.stands same in
+          let to : f.now n next_offset ≡ m = leads (f.now n) (f.now (f.now n next_offset)) was.sees in
+          record {
+            listed = λ _. was.listed live;
+            sees = learnt (f.now n) (f.now (f.now n next_offset)) was.sees (ap (λ (k : ℕ). f.now k offset) to ∙ sym e);
+            leads = λ _. was.listed live;
+          };
+      read = λ same. tt;
+    }
+    read_mine begun known list lives settled (dates {n = n} {x = x} {name = name} named live between kept) e knows = record {
+      here = knows.here;
+      known = knows.known;
+      free = knows.free;
+      seen = knows.seen;
+      stands = λ same.
+          let was = knows.stands same in
+          record {
+            listed = λ _. was.listed live;
+            sees = kept (f.now n) (f.now (f.now n next_offset)) was.sees;
+            leads = λ _. was.listed live;
+          };
+      read = λ same.
+          let was = knows.stands same in
+          record {
+            listed = was.listed live;
+            named = named;
+            inside = between_inside l f list n name (was.listed live) (between (f.now n) (f.now (f.now n next_offset)) was.sees);
+            settled = settled n (was.listed live) (subst (λ (u : ℕ). IsFree u g) (sym same) knows.free);
+            knows = record { seen = tt; left = tt };
+            time = record {
+              later = omega (arith, e);
+              within = omega (arith, e);
+              below = tt;
+              same = λ key inside. ap (λ (m : Map). at m key) (after-whole f.base f.history x e);
+            };
+            old = tt;
+          };
+    }
+    read_mine begun known list lives settled (notes {n = n} {h = h} has positive learnt) e knows = record {
+      here = knows.here;
+      known = knows.known;
+      free = knows.free;
+      seen = knows.seen;
+      stands = knows.stands;
+      read = λ same.
+          let was = knows.read same in
+          record {
+            listed = was.listed;
+            named = was.named;
+            inside = was.inside;
+            settled = was.settled;
+            knows = learnt (f.now n) was.settled.means.tidy was.knows (sym e);
+            time = was.time;
+            old = was.old;
+          };
+    }
+    read_mine begun known list lives settled (finds {n = n} {h = h} has positive learnt decided) e knows = record {
+      here = knows.here;
+      known = knows.known;
+      free = knows.free;
+      seen = knows.seen;
+      stands = knows.stands;
+      read = λ same.
+          let was = knows.read same in
+          record {
+            listed = was.listed;
+            named = was.named;
+            inside = was.inside;
+            settled = was.settled;
+            knows = learnt (f.now n) was.settled.means.tidy was.knows (sym e);
+            time = was.time;
+            old = decided (range_of l f n) (f.now n) (map_now f) was.inside was.knows (sym e) was.settled.means;
+          };
+    }
+    read_mine begun known list lives settled (confirms here same unplaced unlimited time old) e knows = tt
+    read_mine begun known list lives settled (wavers here other) e knows = tt
+
+    -- its answer is legal
+    pub read_legal : {s : Stage} {a : Action} {x : ℕ} {t : Stage} {r : Option (Once Placed)} → (k : Read l g s a x t r) → ReadGave k f → Sure l g f caller index since s
+        → IsLegal l g f caller index since s r
+    read_legal (views loose here free) e knows = tt
+    read_legal (views_live here is) e knows = tt
+    read_legal (views_word has positive live next learnt) e knows = tt
+    read_legal (views_next has low high ne live live' next leads learnt) e knows = tt
+    read_legal (dates named live between kept) e knows = tt
+    read_legal (notes has positive learnt) e knows = tt
+    read_legal (finds has positive learnt decided) e knows = tt
+    read_legal (confirms {n = n} {clock = clock} {h = h} {old = old} here same unplaced unlimited time old_known) e knows =
+        let was = knows.read (sym e ∙ same) in
+        let told = subst (λ (c : Option ℕ). IfSome c (IsTime (range_of l f n) f.base f.history since None)) time was.time in
+        record {
+          later = told.later;
+          within = told.within;
+          below = subst (λ (m : Option ℕ). IfSome m (λ most. since < most)) (sym unlimited) tt;
+          old = sym (told.same h.name was.inside ∙ subst (λ (o : Option (Option ℕ)). IfSome o (λ known. at (map_now f) h.name ≡ known)) old_known was.old);
+          write = subst (λ (p : Option ℕ). IfSome p (λ q. (clock ≡ q) × HasWriteAt f.history caller index h.name q)) (sym unplaced) tt;
+        }
+    read_legal (wavers {h = None} here other) e knows = (sym e, other)
+    read_legal (wavers {h = Some h} here other) e knows = (sym e, other)
