@@ -1,7 +1,7 @@
 -- What a party relies on stays where the words of its node, and the map on its range, stay.
-use Rattle.std.proofs.Common.{◌≡◌, ◌≢◌, ℕ, ◌<◌, ◌≤◌, inl, inr, Bool, true, false, cond, List, [], ◌∷◌, ◌++◌, length, refl, sym, ap, ◌∙◌, subst, arith}
+use Rattle.std.proofs.Common.{◌≡◌, ◌≢◌, ℕ, ◌<◌, ◌≤◌, ◌⊎◌, inl, inr, ⊎_elim, leb, Bool, true, false, cond, List, [], ◌∷◌, ◌++◌, length, refl, sym, ap, ◌∙◌, subst, arith}
 use Rattle.std.specs.Prelude.{◌==◌, ◌||◌, if◌then◌else◌, slice_get, Option, Some, None, IfSome}
-use Rattle.std.proofs.lemmas.Bool.{eqb-true, ne_eqb}
+use Rattle.std.proofs.lemmas.Bool.{eqb-true, ne_eqb, leb-true, leb-false}
 use Rattle.std.proofs.lemmas.List.{append-nil, length-append}
 use Rattle.pm_words.specs.declared.layout.Layout.{Layout}
 use Rattle.cat_history.specs.Maps.{Map, at}
@@ -22,7 +22,7 @@ use Rattle.index_law.proofs.Stays.{both_true}
 use Rattle.call_stages.specs.Kinds.{from_key}
 use Rattle.data_node.specs.Lists.{anchor_in}
 use Rattle.data_node.specs.Weights.{names_in}
-use Rattle.index_law.proofs.Maps.{at-changed_alike, after_all-push, after-longer, slice_get-longer, means_alike}
+use Rattle.index_law.proofs.Maps.{at-changed_alike, after_all-push, after-longer, after-whole, slice_get-longer, means_alike}
 use Rattle.index_law.proofs.Rows.{with_version, with_status, with_word, with_writes}
 
 -- what holds of what is there holds of it in another way
@@ -30,10 +30,11 @@ pub if_some : {A : Type 0} (P Q : A → Type 0) (o : Option A) → ((a : A) → 
 if_some P Q None step holds = tt
 if_some P Q (Some a) step holds = step a holds
 
--- the base stays, and the history grows at its end
+-- the base stays, and the history grows at its end, by one write at most
 pub record IsLater (f f' : Facts) : Type 0 where
   pub base : f'.base ≡ f.base
   pub more : List Write
+  pub few : length more ≤ 1
   pub history : f'.history ≡ f.history ++ more
 
 -- what the holder of a node relies on stays
@@ -89,8 +90,20 @@ module _ (l : Layout) (g : ℕ) (f f' : Facts) (later : IsLater f f') where
       later = time.later;
       within = let within = time.within in let longer' = longer in omega arith;
       below = time.below;
-      same = λ name inside. ap (λ (m : Map). at m name) (after_kept clock time.within) ∙ time.same name inside ∙ sym (steady.map name inside);
+      same = λ place late here name inside. ⊎_elim
+          (λ (old : place ≤ length f.history). ap (λ (m : Map). at m name) (after_kept place old) ∙ time.same place late old name inside ∙ sym (steady.map name inside))
+          (λ (new : length f.history < place). ap (λ (m : Map). at m name) (after-whole f'.base f'.history place (whole place new here)))
+          (leb_cases place (length f.history));
     })
+      where
+        whole : (place : ℕ) → length f.history < place → place ≤ length f'.history → place ≡ length f'.history
+        whole place new here = let same = ap length later.history in let parts = length-append f.history later.more in let few = later.few in omega arith
+
+        leb_cases : (a b : ℕ) → (a ≤ b) ⊎ (b < a)
+        leb_cases a b = elim (leb a b) as (λ c. leb a b ≡ c → (a ≤ b) ⊎ (b < a)) [
+          | true ↦ λ is. inl (leb-true a b is)
+          | false ↦ λ is. inr (leb-false a b is)
+        ] refl
 
     old_kept : (caller index since : ℕ) (name : List ℕ) → range_of l f n name ≡ true → (placed : Option ℕ) → IfSome placed (IsPlaced f.history caller index since name)
         → at (map_before f' placed) name ≡ at (map_before f placed) name
@@ -406,7 +419,7 @@ version_by v w false rise = omega arith
 module _ (l : Layout) (f : Facts) where
   -- another version word
   pub later-version : (n w : ℕ) → IsLater f (with_version f n w)
-  later-version n w = record { base = refl; more = []; history = sym (append-nil f.history) }
+  later-version n w = record { base = refl; more = []; few = omega arith; history = sym (append-nil f.history) }
 
   pub rises-version : (n w : ℕ) → f.version n ≤ w → (m : ℕ) → f.version m ≤ (with_version f n w).version m
   rises-version n w rise m = version_by (f.version m) w (m == n) (λ same. let alike = ap f.version (eqb-true m n same) in omega arith)
@@ -416,14 +429,14 @@ module _ (l : Layout) (f : Facts) where
 
   -- another word of a node
   pub later-word : (n offset y : ℕ) → IsLater f (with_word f n offset y)
-  later-word n offset y = record { base = refl; more = []; history = sym (append-nil f.history) }
+  later-word n offset y = record { base = refl; more = []; few = omega arith; history = sym (append-nil f.history) }
 
   pub steady-word : (n offset y m : ℕ) → m ≢ n → IsSteady l f (with_word f n offset y) m
   steady-word n offset y m other = record { version = refl; now = ap (λ (b : Bool). cond b (updated (f.now n) offset y) (f.now m)) (ne_eqb m n other); map = λ name inside. refl; range = refl; listed = λ is. is; unlisted = λ is. is; status = refl }
 
   -- one more write
   pub later-write : (write : Write) → IsLater f (with_writes f (write ∷ []))
-  later-write write = record { base = refl; more = write ∷ []; history = refl }
+  later-write write = record { base = refl; more = write ∷ []; few = omega arith; history = refl }
 
   -- it leaves the map at every other name
   pub map-write : (write : Write) (name : List ℕ) → name ≢ name_of write.change → at (map_now (with_writes f (write ∷ []))) name ≡ at (map_now f) name
@@ -442,7 +455,7 @@ module _ (l : Layout) (f : Facts) where
 
   -- another status
   pub later-status : (n x : ℕ) → IsLater f (with_status f n x)
-  later-status n x = record { base = refl; more = []; history = sym (append-nil f.history) }
+  later-status n x = record { base = refl; more = []; few = omega arith; history = sym (append-nil f.history) }
 
   pub steady-status : (n x m : ℕ) → m ≢ n → IsSteady l f (with_status f n x) m
   steady-status n x m other = record {

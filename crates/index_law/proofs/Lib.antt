@@ -50,6 +50,7 @@ pub mod Gone
 pub mod Images
 pub mod Claims
 pub mod AnySteps
+pub mod Standing
 pub mod Footings
 pub mod Footed
 pub mod InUse

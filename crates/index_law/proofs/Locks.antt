@@ -204,37 +204,37 @@ module _ {l : Layout} {g : ℕ} (f : Facts) (caller index since : ℕ) where
   steady_else (merges k) list mine m before after = merge_steady k list mine m before after
 
   split_goes : {s : Stage} {a : Action} {x : ℕ} {t : Stage} → (k : Split l g s a x t) → IsLater f (split_after k f)
-  split_goes (fills has positive small within soils told) = record { base = refl; more = []; history = sym (append-nil f.history) }
-  split_goes (lights here leads) = record { base = refl; more = []; history = sym (append-nil f.history) }
-  split_goes (switches here small durable soiled cut told means) = record { base = refl; more = []; history = sym (append-nil f.history) }
-  split_goes (glances_left has learnt) = record { base = refl; more = []; history = sym (append-nil f.history) }
-  split_goes (glances_fresh has) = record { base = refl; more = []; history = sym (append-nil f.history) }
-  split_goes (drains_left has small hand cleans) = record { base = refl; more = []; history = sym (append-nil f.history) }
-  split_goes (drains_fresh has small hand cleans) = record { base = refl; more = []; history = sym (append-nil f.history) }
-  split_goes (trims here small durable soiled anchor told means) = record { base = refl; more = []; history = sym (append-nil f.history) }
+  split_goes (fills has positive small within soils told) = record { base = refl; more = []; few = omega arith; history = sym (append-nil f.history) }
+  split_goes (lights here leads) = record { base = refl; more = []; few = omega arith; history = sym (append-nil f.history) }
+  split_goes (switches here small durable soiled cut told means) = record { base = refl; more = []; few = omega arith; history = sym (append-nil f.history) }
+  split_goes (glances_left has learnt) = record { base = refl; more = []; few = omega arith; history = sym (append-nil f.history) }
+  split_goes (glances_fresh has) = record { base = refl; more = []; few = omega arith; history = sym (append-nil f.history) }
+  split_goes (drains_left has small hand cleans) = record { base = refl; more = []; few = omega arith; history = sym (append-nil f.history) }
+  split_goes (drains_fresh has small hand cleans) = record { base = refl; more = []; few = omega arith; history = sym (append-nil f.history) }
+  split_goes (trims here small durable soiled anchor told means) = record { base = refl; more = []; few = omega arith; history = sym (append-nil f.history) }
 
   merge_goes : {s : Stage} {a : Action} {x : ℕ} {t : Stage} → (k : Merge l g s a x t) → IsLater f (merge_after k f)
-  merge_goes (meets here same untimed leads) = record { base = refl; more = []; history = sym (append-nil f.history) }
-  merge_goes (knows_own has positive learnt) = record { base = refl; more = []; history = sym (append-nil f.history) }
-  merge_goes (knows_right has positive told) = record { base = refl; more = []; history = sym (append-nil f.history) }
-  merge_goes (copies has content small soils learnt means) = record { base = refl; more = []; history = sym (append-nil f.history) }
-  merge_goes (takes_up has) = record { base = refl; more = []; history = sym (append-nil f.history) }
-  merge_goes (puts_down has small hand cleans) = record { base = refl; more = []; history = sym (append-nil f.history) }
-  merge_goes (parts next) = record { base = refl; more = []; history = sym (append-nil f.history) }
-  merge_goes (gathers small durable soiled told gathered) = record { base = refl; more = []; history = sym (append-nil f.history) }
-  merge_goes (joins small durable soiled next told) = record { base = refl; more = []; history = sym (append-nil f.history) }
-  merge_goes (glances_joined has learnt) = record { base = refl; more = []; history = sym (append-nil f.history) }
-  merge_goes (drains_joined has small hand cleans) = record { base = refl; more = []; history = sym (append-nil f.history) }
-  merge_goes (retires durable) = record { base = refl; more = []; history = sym (append-nil f.history) }
-  merge_goes (yields next durable) = record { base = refl; more = []; history = sym (append-nil f.history) }
+  merge_goes (meets here same untimed leads) = record { base = refl; more = []; few = omega arith; history = sym (append-nil f.history) }
+  merge_goes (knows_own has positive learnt) = record { base = refl; more = []; few = omega arith; history = sym (append-nil f.history) }
+  merge_goes (knows_right has positive told) = record { base = refl; more = []; few = omega arith; history = sym (append-nil f.history) }
+  merge_goes (copies has content small soils learnt means) = record { base = refl; more = []; few = omega arith; history = sym (append-nil f.history) }
+  merge_goes (takes_up has) = record { base = refl; more = []; few = omega arith; history = sym (append-nil f.history) }
+  merge_goes (puts_down has small hand cleans) = record { base = refl; more = []; few = omega arith; history = sym (append-nil f.history) }
+  merge_goes (parts next) = record { base = refl; more = []; few = omega arith; history = sym (append-nil f.history) }
+  merge_goes (gathers small durable soiled told gathered) = record { base = refl; more = []; few = omega arith; history = sym (append-nil f.history) }
+  merge_goes (joins small durable soiled next told) = record { base = refl; more = []; few = omega arith; history = sym (append-nil f.history) }
+  merge_goes (glances_joined has learnt) = record { base = refl; more = []; few = omega arith; history = sym (append-nil f.history) }
+  merge_goes (drains_joined has small hand cleans) = record { base = refl; more = []; few = omega arith; history = sym (append-nil f.history) }
+  merge_goes (retires durable) = record { base = refl; more = []; few = omega arith; history = sym (append-nil f.history) }
+  merge_goes (yields next durable) = record { base = refl; more = []; few = omega arith; history = sym (append-nil f.history) }
 
   -- the facts only go on
   pub goes_on : {s : Stage} {a : Action} {x : ℕ} {t : Stage} {r : Option (Once Placed)} → (k : Step l g s a x t r) → IsLater f (fact_after k f caller index)
-  goes_on (looks look) = record { base = refl; more = []; history = sym (append-nil f.history) }
+  goes_on (looks look) = record { base = refl; more = []; few = omega arith; history = sym (append-nil f.history) }
   goes_on (locks {n = n} {w = w} same named live between) = later-version l f n w
   goes_on (stores {n = n} {y = y} {offset = offset} has content small clean soils learnt means) = later-word l f n offset y
   goes_on (commits {n = n} {y = y} {offset = offset} has content small clean durable soiled old about learnt means) = later-word l f n offset y
-  goes_on (drains has small unready hand cleans) = record { base = refl; more = []; history = sym (append-nil f.history) }
+  goes_on (drains has small unready hand cleans) = record { base = refl; more = []; few = omega arith; history = sym (append-nil f.history) }
   goes_on (counts {c = c} durable ready pending unplaced) = later-write l f (record { caller = caller; index = index; change = c })
   goes_on (unlocks {n = n} {f = freed} next pending durable unready answers) = later-version l f n freed
   goes_on (claims {m = m} {u = u} unplaced here same) = later-version l f m u

@@ -263,7 +263,7 @@ module _ {l : Layout} {g : ℕ} (f : Facts) (caller index since : ℕ) where
         later = omega (arith, e);
         within = omega (arith, e);
         below = below;
-        same = λ name inside. ap (λ (m : Map). at m name) (after-whole f.base f.history x e);
+        same = λ place late there name inside. ap (λ (m : Map). at m name) (after-whole f.base f.history place (omega (arith, e)));
       };
       old = knows.old;
       placed = knows.placed;
@@ -480,7 +480,7 @@ module _ {l : Layout} {g : ℕ} (f : Facts) (caller index since : ℕ) where
         later = told.later;
         within = told.within;
         below = knows.below;
-        old = sym (told.same h.name knows.inside ∙ old_is n w h None old knows unplaced old_known);
+        old = sym (told.same clock (omega arith) told.within h.name knows.inside ∙ old_is n w h None old knows unplaced old_known);
         write = subst (λ (p : Option ℕ). IfSome p (λ q. (clock ≡ q) × HasWriteAt f.history caller index h.name q)) (sym unplaced) tt;
       }
   answered n w freed h r clean (is_spent unplaced time) knows =
@@ -502,9 +502,9 @@ module _ {l : Layout} {g : ℕ} (f : Facts) (caller index since : ℕ) where
             clock = clock;
             later = told.later;
             within = told.within;
-            lacked = told.same h.name knows.inside ∙ lacks;
+            lacked = told.same clock (omega arith) told.within h.name knows.inside ∙ lacks;
             many = full_has_in l.slots (range_of l f n) (f.now n) (after f.base f.history clock)
-                (means_alike l.slots (range_of l f n) (f.now n) (map_now f) (after f.base f.history clock) told.same means) knows.stays all_live;
+                (means_alike l.slots (range_of l f n) (f.now n) (map_now f) (after f.base f.history clock) (told.same clock (omega arith) told.within) means) knows.stays all_live;
           },
         ),
       )

@@ -112,7 +112,7 @@ module _ {l : Layout} {g : ℕ} where
               later = omega (arith, e);
               within = omega (arith, e);
               below = tt;
-              same = λ key inside. ap (λ (m : Map). at m key) (after-whole f.base f.history x e);
+              same = λ place late there key inside. ap (λ (m : Map). at m key) (after-whole f.base f.history place (omega (arith, e)));
             };
             old = tt;
           };
@@ -173,7 +173,7 @@ module _ {l : Layout} {g : ℕ} where
           later = told.later;
           within = told.within;
           below = subst (λ (m : Option ℕ). IfSome m (λ most. since < most)) (sym unlimited) tt;
-          old = sym (told.same h.name was.inside ∙ subst (λ (o : Option (Option ℕ)). IfSome o (λ known. at (map_now f) h.name ≡ known)) old_known was.old);
+          old = sym (told.same clock (omega arith) told.within h.name was.inside ∙ subst (λ (o : Option (Option ℕ)). IfSome o (λ known. at (map_now f) h.name ≡ known)) old_known was.old);
           write = subst (λ (p : Option ℕ). IfSome p (λ q. (clock ≡ q) × HasWriteAt f.history caller index h.name q)) (sym unplaced) tt;
         }
     read_legal (wavers {h = None} here other) e knows = (sym e, other)

@@ -68,13 +68,14 @@ pub record SureSaw (l : Layout) (g : ℕ) (f : Facts) (n v w : ℕ) (k : Sight) 
   pub stands : f.version n ≡ v → Stands f n k
 
 -- The clock that a call loaded lies in its time, below the limit if there is one, and on the range of the node that it
--- holds the map has not changed since. It reads the map on this range.
+-- holds or read the map has been the same at every place since. It reads the map on this range.
 pub record IsTime (range : List ℕ →
     Bool) (base : Map) (history : List Write) (since : ℕ) (limit : Option ℕ) (clock : ℕ) : Type 0 where
   pub later : since ≤ clock
   pub within : clock ≤ length history
   pub below : IfSome limit (λ most. clock < most)
-  pub same : (name : List ℕ) → range name ≡ true → at (after base history clock) name ≡ at (after_all base history) name
+  pub same : (place : ℕ) → clock ≤ place → place ≤ length history → (name : List ℕ) → range name ≡ true →
+      at (after base history place) name ≡ at (after_all base history) name
 
 -- At this place the history has the call's write of the name.
 pub record HasWriteAt (history : List Write) (caller index : ℕ) (name : List ℕ) (place : ℕ) : Type 0 where

@@ -19,3 +19,4 @@ pub mod AnySteps
 pub mod Footings
 pub mod Footed
 pub mod InUse
+pub mod Standing

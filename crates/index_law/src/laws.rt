@@ -258,3 +258,14 @@ pub fn footed_law()
     ensures stamp { StampIsFooted }
     ensures fresh { FreshIsFooted }
 {}
+
+ghost use Rattle.index_law.specs.Standing.{FreeNodesStand, StandingIsKept, ReadsStand};
+
+/// A step that leaves the version word of a free node as it was leaves that node, its range, and on it the map after the
+/// history, as they were, and no step lowers a version word. So what was told of names of a node's range stands, at every
+/// place since, while the node's version word does.
+pub fn standing_law()
+    ensures free { FreeNodesStand }
+    ensures kept { StandingIsKept }
+    ensures reads { ReadsStand }
+{}

@@ -54,7 +54,7 @@ module _ (l : Layout) (g : ℕ) (f : Facts) (n : ℕ) (gone : f.status n ≡ gon
   }
 
   later_freed : IsLater f freed
-  later_freed = record { base = refl; more = []; history = sym (append-nil f.history) }
+  later_freed = record { base = refl; more = []; few = omega arith; history = sym (append-nil f.history) }
 
   saw_freed : (m v w : ℕ) (k : Sight) → SureSaw l g f m v w k → SureSaw l g freed m v w k
   saw_freed m v w k knows = record {
