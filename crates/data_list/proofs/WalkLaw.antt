@@ -13,7 +13,7 @@ use Rattle.data_node.specs.Lists.{next_offset, three_words, anchor_in, IsBetween
 use Rattle.call_stages.specs.declared.once.Once.TheVariants as once
 use Rattle.call_stages.specs.declared.once.Once.{Once}
 use Rattle.call_stages.specs.declared.once.Placed.{Placed}
-use Rattle.call_stages.specs.Stages.{Sight, Sees, Tells, no_sight, Idle, Saw, Wears, IsLoose}
+use Rattle.call_stages.specs.Stages.{Sight, Sees, Tells, no_sight, Stage, Idle, Saw, Wears, Reads, IsLoose}
 use Rattle.call_stages.specs.Watches.{Watching, Nothing, Watches, Watch}
 use Rattle.call_stages.specs.Watches as watch
 use Rattle.call_stages.specs.Kinds.{HasWordAt, word_address, version_address, status_address, prev_address, live_status, gone_status, Told, GivesUp, Look, turns_back, wears, roams, roams_status, is_worn, sees, finds_live, watches, watches_next, turns_away, steps_back, wanders}
@@ -27,10 +27,11 @@ use Rattle.data_list.specs.declared.walk.WalkAt.{WalkAt}
 use Rattle.data_list.specs.declared.walk.WalkAt.TheVariants as at
 use Rattle.data_list.specs.Keys.{key_number, words_in}
 use Rattle.data_list.specs.Walks.{loads_at, landing, hops_to, saw_version, saw_status, saw_anchor, target, saw_next, saw_high, high_of, words_of_key, walk_at_asks, walk_at_turned, walk_asks, walk_turned, IsAbove, LeadsOn, WasFree, IsWalkAt, KnowsFirst, IsWalk}
-use Rattle.data_list.specs.WalkStages.{live_sight, anchor_seen, leading_sight, walk_at_watching, walk_watching, saw_stage, watching_stage, walk_at_stage, sight_in}
+use Rattle.data_list.specs.WalkStages.{live_sight, anchor_seen, leading_sight, walk_at_watching, walk_watching, view_stage, saw_stage, watching_stage, walk_at_stage, sight_in}
 use Rattle.version_lock.proofs.WordTests.{free_word, taken_word, worn_word, fresh_word}
 use Rattle.data_list.proofs.KeyLemmas.{name_kept_so}
-use Rattle.data_list.specs.Laws.{EndsAt, IsTarget, Walks, WalksAreLooks, WalkWatches, WalksAreWatches}
+use Rattle.data_list.specs.Laws.{EndsAt, IsTarget, Walks, WalksAreLooks, WalkWatches, WalksAreWatches, WalkViews, WalksAreViews}
+use Rattle.call_stages.specs.Kinds.{reads_on, views, views_live, views_word, views_next}
 
 watching_loose : (g : ℕ) (watching : Watching) → IsLoose (watching_stage g watching)
 watching_loose g Nothing = tt
@@ -38,6 +39,10 @@ watching_loose g (Watches n version sight) = elim (is_worn_word version g) as (�
   | true ↦ tt
   | false ↦ tt
 ]
+
+view_loose : (w : Watching) → IsLoose (view_stage w)
+view_loose Nothing = tt
+view_loose (Watches n version sight) = tt
 
 -- a walk holds no node
 pub walk_loose : (g n : ℕ) (at : WalkAt) → IsLoose (walk_at_stage g n at)
@@ -108,6 +113,18 @@ module _ (l : Layout) (g : ℕ) where
       ]
   looks watch.lets_go = tt
 
+  -- and so does a call that takes no lock, of any node
+  abbrev Views : Watching → Action → ℕ → Watching → Type 0
+  Views w action x Nothing = Unit {0}
+  Views w action x (Watches n version k) = Look l g (view_stage w) action x (Reads n version k None) None
+
+  viewed : {w next : Watching} {action : Action} {x : ℕ} → Watch l g w action x next → Views w action x next
+  viewed (watch.begins {w} here free) = reads_on (views (view_loose w) here free)
+  viewed (watch.finds_live here live) = reads_on (views_live here live)
+  viewed (watch.watches has positive live next learnt) = reads_on (views_word has positive live next learnt)
+  viewed (watch.watches_next has least most some live live' next leads learnt) = reads_on (views_next has least most some live live' next leads learnt)
+  viewed watch.lets_go = tt
+
   -- the last load
   ends : (n m offset x : ℕ) (k : Sight) (seen : Sighting) → HasWordAt l m offset → Watch l g (Watches n seen.version k) (Load (word_address l m offset)) x (Watches n seen.version (sight_in seen))
       → EndsAt l g (saw_stage g n seen.version k) (Load (word_address l m offset)) x n seen (is_worn_word seen.version g)
@@ -131,32 +148,33 @@ module _ (walk : Walk) (sound : IsWalk walk) where
 
   -- a turn is a look for a call, and a watch for one that takes no lock
   abbrev Leads : Watching → Action → ℕ → Turn Walk Walked → Type 0
-  Leads w action x turn = Walks l g walk.key (watching_stage g w) action x turn × WalkWatches l g walk.key w action x turn
+  Leads w action x turn = Walks l g walk.key (watching_stage g w) action x turn × WalkWatches l g walk.key w action x turn × WalkViews l g (view_stage w) action x turn
 
   -- it may give up by this load, or go on with nothing that it relies on
-  abbrev MayLetGo : Watching → Action → ℕ → Type 0
-  MayLetGo w action x = (r : Option (Once Placed)) → GivesUp r → Look l g (watching_stage g w) action x Idle r
+  abbrev MayLetGo : Action → ℕ → Type 0
+  MayLetGo action x = (s : Stage) → IsLoose s → (r : Option (Once Placed)) → GivesUp r → Look l g s action x Idle r
 
   has : (offset : ℕ) → offset < 16 → HasWordAt l n offset
   has offset small = (sound.node, omega arith)
 
   on : (w : Watching) (action : Action) (x : ℕ) (at : WalkAt) → Look l g (watching_stage g w) action x (walk_at_stage g n at) None → Watch l g w action x (walk_at_watching n at)
-      → IsWalkAt l g walk.key at → KnowsFirst n at → Leads w action x (loads_at walk at)
-  on w action x at look step keeps first = ((look, record { layout = sound.layout; node = sound.node; hops = sound.hops; here = keeps; first = first }, refl, refl, refl), step)
+      → Look l g (view_stage w) action x (view_stage (walk_at_watching n at)) None → IsWalkAt l g walk.key at → KnowsFirst n at → Leads w action x (loads_at walk at)
+  on w action x at look step seen keeps first = ((look, record { layout = sound.layout; node = sound.node; hops = sound.hops; here = keeps; first = first }, refl, refl, refl), step, seen)
 
   -- and relies on this sight of its node
   sees_on : (w : Watching) (action : Action) (x version : ℕ) (k : Sight) (at : WalkAt) → Watch l g w action x (Watches n version k) → walk_at_watching n at ≡ Watches n version k
       → IsWalkAt l g walk.key at → KnowsFirst n at → Leads w action x (loads_at walk at)
   sees_on w action x version k at step is keeps first =
-      on w action x at (subst (λ after. Look l g (watching_stage g w) action x (watching_stage g after) None) (sym is) (looks l g step)) (subst (λ after. Watch l g w action x after) (sym is) step) keeps first
+      on w action x at (subst (λ after. Look l g (watching_stage g w) action x (watching_stage g after) None) (sym is) (looks l g step)) (subst (λ after. Watch l g w action x after) (sym is) step)
+      (subst (λ after. Look l g (view_stage w) action x (view_stage after) None) (sym is) (viewed l g step)) keeps first
 
   -- a hop by a load after which nothing is relied on, or that ends the walk
-  hop : (w : Watching) (action : Action) (x m : ℕ) → MayLetGo w action x → Leads w action x (hops_to walk m)
+  hop : (w : Watching) (action : Action) (x m : ℕ) → MayLetGo action x → Leads w action x (hops_to walk m)
   hop w action x m may =
       elim (ltb (walk.hops + 1) (2 * l.nodes)) as (λ b. ltb (walk.hops + 1) (2 * l.nodes) ≡ b → Leads w action x
       (cond b (Go (record walk { node = landing walk m; hops = walk.hops + 1; at = at.Version })) (Done (walked.Again (Hops (walk.hops + 1)))))) [
-        | true ↦ λ more. ((may None tt, record { layout = sound.layout; node = inside; hops = ltb-true _ _ more; here = tt; first = tt }, refl, refl, refl), watch.lets_go)
-        | false ↦ λ last. (may (Some (once.Again (Hops (walk.hops + 1)))) tt, tt)
+        | true ↦ λ more. ((may (watching_stage g w) (watching_loose g w) None tt, record { layout = sound.layout; node = inside; hops = ltb-true _ _ more; here = tt; first = tt }, refl, refl, refl), watch.lets_go, may (view_stage w) (view_loose w) None tt)
+        | false ↦ λ last. (may (watching_stage g w) (watching_loose g w) (Some (once.Again (Hops (walk.hops + 1)))) tt, tt, may (view_stage w) (view_loose w) (Some (once.Again (Hops (walk.hops + 1)))) tt)
       ] refl
     where
       some : 0 < l.nodes
@@ -175,18 +193,18 @@ module _ (walk : Walk) (sound : IsWalk walk) where
   at_version x known =
       elim (is_free_word x g) as (λ b. is_free_word x g ≡ b → Leads Nothing (Load (version_address l n)) x (cond b (loads_at walk (at.Status x)) (Done (walked.Again (Locked n x))))) [
         | true ↦ λ free. sees_on Nothing (Load (version_address l n)) x x no_sight (at.Status x) (watch.begins sound.node (free_word x g free)) refl (record { known = known; free = free_word x g free }) tt
-        | false ↦ λ taken. (turns_back tt sound.node (taken_word x g taken), tt)
+        | false ↦ λ taken. (turns_back tt sound.node (taken_word x g taken), tt, turns_back tt sound.node (taken_word x g taken))
       ] refl
 
   at_status : (version x : ℕ) → WasFree g version → (n ≡ 0 → x ≡ live_status) → Leads (Watches n version no_sight) (Load (status_address l n)) x (saw_status walk version x)
   at_status version x free lit =
       let w : Watching = Watches n version no_sight in
-      let may : MayLetGo w (Load (status_address l n)) x = λ r up. turns_away (watching_loose g w) sound.node up in
+      let may : MayLetGo (Load (status_address l n)) x = λ s loose r up. turns_away loose sound.node up in
       elim (x == live_status) as (λ b. (x == live_status) ≡ b → Leads w (Load (status_address l n)) x
       (cond b (loads_at walk (at.First version)) (cond (x == gone_status) (loads_at walk at.Prev) (hops_to walk 0)))) [
         | true ↦ λ live. sees_on w (Load (status_address l n)) x version (live_sight []) (at.First version) (watch.finds_live sound.node (eqb-true _ _ live)) refl free tt
         | false ↦ λ other. elim (x == gone_status) as (λ b. Leads w (Load (status_address l n)) x (cond b (loads_at walk at.Prev) (hops_to walk 0))) [
-          | true ↦ on w (Load (status_address l n)) x at.Prev (may None tt) watch.lets_go tt (λ zero. eqb-false _ _ other (lit zero))
+          | true ↦ on w (Load (status_address l n)) x at.Prev (may (watching_stage g w) (watching_loose g w) None tt) watch.lets_go (may (view_stage w) (view_loose w) None tt) tt (λ zero. eqb-false _ _ other (lit zero))
           | false ↦ hop w (Load (status_address l n)) x 0 may
         ]
       ] refl
@@ -204,6 +222,7 @@ module _ (walk : Walk) (sound : IsWalk walk) where
       watch = step;
       seen = record { live = is.seen.live; between = is.seen.between; low = λ s t see. low_words s low (anchor s t see) };
     },
+    viewed l g step,
   )
 
   at_third : (version first second x : ℕ) → WasFree g version → (n ≡ 0 → (first ≡ 0) × (second ≡ 0) × (x ≡ 0))
@@ -214,7 +233,7 @@ module _ (walk : Walk) (sound : IsWalk walk) where
       let low = words_of_key first second x in
       elim (ltb (key_number walk.key) (key_number low)) as (λ b. ltb (key_number walk.key) (key_number low) ≡ b → Leads w (Load (word_address l n 5)) x
       (cond b (loads_at walk at.Prev) (loads_at walk (at.Next version low)))) [
-        | true ↦ λ under. on w (Load (word_address l n 5)) x at.Prev (wanders (watching_loose g w) (has 5 (omega arith)) tt) watch.lets_go tt
+        | true ↦ λ under. on w (Load (word_address l n 5)) x at.Prev (wanders (watching_loose g w) (has 5 (omega arith)) tt) watch.lets_go (wanders (view_loose w) (has 5 (omega arith)) tt) tt
             (λ zero. let low_is = lowest zero in let lt = ltb-true _ _ under in absurd (omega (arith, low_is.0, low_is.1, low_is.2)))
         | false ↦ λ above. sees_on w (Load (word_address l n 5)) x version (live_sight (anchor_seen low)) (at.Next version low) (watch.watches (has 5 (omega arith)) (omega arith) refl refl
             (λ s t see e. record { seen = (see.seen.0, (see.seen.1.0, (e, tt))); leads = λ some. absurd (some refl); beyond = λ some. absurd (some refl) }))
@@ -247,7 +266,7 @@ module _ (walk : Walk) (sound : IsWalk walk) where
           | true ↦ λ inside. sees_on w action x version (live_sight ((next_offset, x) ∷ anchor_seen low)) (at.HighFirst version low x) (watch.watches (has next_offset (omega arith)) (omega arith) refl refl
               (λ s t see e. record { seen = (e, see.seen); leads = λ some. absurd (some refl); beyond = λ some. absurd (some refl) }))
               refl (free, above, record { some = eqb-false x 0 some; within = ltb-true _ _ inside }) tt
-          | false ↦ λ out. hop w action x 0 (λ r up. wanders (watching_loose g w) (has next_offset (omega arith)) up)
+          | false ↦ λ out. hop w action x 0 (λ s loose r up. wanders loose (has next_offset (omega arith)) up)
         ] refl
       ] refl
 
@@ -276,7 +295,7 @@ module _ (walk : Walk) (sound : IsWalk walk) where
               next = leads;
               high = name_kept_so high;
             })
-        | false ↦ λ past. hop w action x next (λ r up. wanders (watching_loose g w) there up)
+        | false ↦ λ past. hop w action x next (λ s loose r up. wanders loose there up)
       ] refl
 
   walk_leads : (at : WalkAt) (x : ℕ) → IsWalkAt l g walk.key at → KnowsFirst n at → Told l g (walk_at_asks l n at) x → Leads (walk_at_watching n at) (walk_at_asks l n at) x (walk_at_turned walk at x)
@@ -304,7 +323,7 @@ module _ (walk : Walk) (sound : IsWalk walk) where
       (watch.watches_next there (omega arith) (omega arith) here.2.some refl refl refl (λ s t see. see.seen.0)
       (λ s t see e. let beyond = see.beyond here.2.some in record { seen = see.seen; leads = see.leads; beyond = λ some. (beyond.0, ((omega arith, omega arith, e), tt)) })) refl here tt
   walk_leads (at.HighThird version low next word second) x here first told = at_high version low next word second x here.0 here.1 here.2
-  walk_leads at.Prev x here first told = hop Nothing (Load (prev_address l n)) x x (λ r up. steps_back tt sound.node up)
+  walk_leads at.Prev x here first told = hop Nothing (Load (prev_address l n)) x x (λ s loose r up. steps_back loose sound.node up)
 
 walks_lead : (walk : Walk) (x : ℕ) → (sound : IsWalk walk) → Told walk.layout walk.generation (walk_asks walk) x → Leads walk sound (walk_watching walk) (walk_asks walk) x (walk_turned walk x)
 walks_lead walk x sound told = walk_leads walk sound walk.at x sound.here sound.first told
@@ -314,3 +333,6 @@ walks_are_looks walk x sound told = (walks_lead walk x sound told).0
 
 pub walks_are_watches : WalksAreWatches
 walks_are_watches walk x sound told = (walks_lead walk x sound told).1
+
+pub walks_are_views : WalksAreViews
+walks_are_views walk x sound told = (walks_lead walk x sound told).2

@@ -8,7 +8,7 @@ use Rattle.version_lock.specs.Versions.{kept_count, locked_word, is_worn_word, I
 use Rattle.data_node.specs.Spots.{Spot}
 use Rattle.data_node.specs.Lists.{IsBetween}
 use Rattle.call_stages.specs.declared.once.Once.TheVariants as once
-use Rattle.call_stages.specs.Stages.{Sees, Stage, Idle, Saw}
+use Rattle.call_stages.specs.Stages.{Sees, Stage, Idle, Saw, Reads}
 use Rattle.call_stages.specs.Kinds.{Look, Told}
 use Rattle.call_stages.specs.Watches.{Watching, Watches, Watch, IsSeenAs}
 use Rattle.data_list.specs.declared.key.KeyWords.{KeyWords}
@@ -20,7 +20,7 @@ use Rattle.data_list.specs.declared.target.Walked.TheVariants as walked
 use Rattle.data_list.specs.declared.walk.Walk.{Walk}
 use Rattle.data_list.specs.Keys.{key_number, key_words, words_in, IsNameOf}
 use Rattle.data_list.specs.Walks.{LeadsOn, sighting_of, WasFree, IsWalk, walk_asks, walk_turned}
-use Rattle.data_list.specs.WalkStages.{walk_watching, walk_stage, sight_in}
+use Rattle.data_list.specs.WalkStages.{walk_watching, walk_stage, view_stage, sight_in}
 
 -- What a walk saw of its target. While the version word stands, the key belongs there.
 pub record IsSighting (g : ℕ) (key : KeyWords) (seen : Sighting) : Type 0 where
@@ -82,3 +82,15 @@ WalkWatches l g key watching action x (Done (walked.Target target)) = IsWatched 
 abbrev pub WalksAreWatches : Type 0
 WalksAreWatches = (walk : Walk) (x : ℕ) → IsWalk walk → Told walk.layout walk.generation (walk_asks walk) x →
     WalkWatches walk.layout walk.generation walk.key (walk_watching walk) (walk_asks walk) x (walk_turned walk x)
+
+-- A turn of a walk of a call that takes no lock, at this stage, whose action gave x.
+abbrev pub WalkViews : Layout → ℕ → Stage → Action → ℕ → Turn Walk Walked → Type 0
+WalkViews l g stage action x (Go walk) = Look l g stage action x (view_stage (walk_watching walk)) None
+WalkViews l g stage action x (Done (walked.Again why)) = Look l g stage action x Idle (Some (once.Again why))
+WalkViews l g stage action x (Done (walked.Target target)) =
+    Look l g stage action x (Reads target.node target.version (sight_in (sighting_of target)) None) None
+
+-- Each turn of a sound walk is a look for such a call too.
+abbrev pub WalksAreViews : Type 0
+WalksAreViews = (walk : Walk) (x : ℕ) → IsWalk walk → Told walk.layout walk.generation (walk_asks walk) x →
+    WalkViews walk.layout walk.generation (view_stage (walk_watching walk)) (walk_asks walk) x (walk_turned walk x)

@@ -2,7 +2,7 @@
 use Rattle.std.specs.Prelude.{ℕ, true, if◌then◌else◌, List, [], ◌∷◌, Option, Some, None}
 use Rattle.version_lock.specs.Versions.{kept_count, locked_word, is_worn_word}
 use Rattle.data_node.specs.Lists.{next_offset}
-use Rattle.call_stages.specs.Stages.{Sight, no_sight, Stage, Idle, Saw, Wears}
+use Rattle.call_stages.specs.Stages.{Sight, no_sight, Stage, Idle, Saw, Wears, Reads}
 use Rattle.call_stages.specs.Watches.{Watching, Nothing, Watches}
 use Rattle.data_list.specs.declared.key.KeyWords.{KeyWords}
 use Rattle.data_list.specs.declared.target.Next.{Next}
@@ -46,6 +46,11 @@ walk_at_watching n at.Prev = Nothing
 
 abbrev pub walk_watching : Walk → Watching
 walk_watching walk = walk_at_watching walk.node walk.at
+
+-- a call that takes no lock relies on just that
+abbrev pub view_stage : Watching → Stage
+view_stage Nothing = Idle
+view_stage (Watches n version sight) = Reads n version sight None
 
 -- a call, which can take no lock of a worn node, relies on nothing that it saw of one
 abbrev pub saw_stage : ℕ → ℕ → ℕ → Sight → Stage
