@@ -56,6 +56,7 @@ use Rattle.recovery_law.proofs.RowColumns.{word_if-here}
 use Rattle.updater.specs.Events.{how_many}
 use Rattle.updater.specs.declared.terms.Turned.{Turned}
 use Rattle.index_core.specs.Turns.{TurnsAlone}
+use Rattle.index_core.proofs.WornNodes.{worn_target}
 use Rattle.index_core.proofs.Retrying.{stamped_are_gone}
 use Rattle.index_core.proofs.Quiet.{quiet_parties}
 use Rattle.index_core.proofs.Fulls.{no_room_is_full_put}
@@ -168,7 +169,7 @@ pub unworn : (s : Index) (c : CoreCall) → IsIndex s → 0 < calls_left_of s �
 unworn s c is left worn =
     let f = facts (world s) in
     let here = listed_within s.layout f is.lawful.list is.lawful.row.layout (node_for s (name_asked (op_of c))) (target_in 0 f.list (key_of (name_asked (op_of c)))) in
-    let none : locks_left s ≡ 0 = worn_has_none s.generation f.version (node_for s (name_asked (op_of c))) s.layout.nodes here worn in
+    let none : locks_left s ≡ 0 = worn_has_none s.generation f.version (node_for s (name_asked (op_of c))) s.layout.nodes here (worn_target (world s) (op_of c) worn) in
     let some_left = locks_remain s left in
     omega arith
 

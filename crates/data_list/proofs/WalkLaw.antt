@@ -40,7 +40,7 @@ watching_loose g (Watches n version sight) = elim (is_worn_word version g) as (�
   | false ↦ tt
 ]
 
-view_loose : (w : Watching) → IsLoose (view_stage w)
+pub view_loose : (w : Watching) → IsLoose (view_stage w)
 view_loose Nothing = tt
 view_loose (Watches n version sight) = tt
 

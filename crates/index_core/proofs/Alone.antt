@@ -53,6 +53,7 @@ use Rattle.lone_law.specs.There.{WalksBy}
 use Rattle.lone_turn.specs.CallLogs.{KeepsLines, MakesReady, LeavesLines, ready_lines}
 use Rattle.lone_turn.proofs.ReadyCounts.{ready_are_counted}
 use Rattle.staleness.proofs.Short.{short_stays, short_walks}
+use Rattle.index_core.proofs.WornNodes.{worn_target}
 use Rattle.index_core.proofs.Lists.{set_twice}
 use Rattle.index_core.proofs.Taken.{taken_kept, taken_merged, taken_split}
 use Rattle.index_core.proofs.Tries.{ready_with_parties}
@@ -577,7 +578,7 @@ module _ (s0 s1 s : Index) (i : ℕ) (c : CoreCall) (is0 : IsIndex s0) (quiet0 :
     no_locks worn =
         let n = target_node (world s1) (name_asked (op_of c)) in
         worn_has_none s1.generation (facts (world s1)).version n s1.layout.nodes
-        (listed_within s1.layout (facts (world s1)) rest_between.list rest_between.row.layout n (target_in 0 (facts (world s1)).list (key_of (name_asked (op_of c))))) worn
+        (listed_within s1.layout (facts (world s1)) rest_between.list rest_between.row.layout n (target_in 0 (facts (world s1)).list (key_of (name_asked (op_of c))))) (worn_target (world s1) (op_of c) worn)
 
     ends_then : (r : Once Placed) → answer ≡ r → IsAnswered (world s1) (op_of c) (limit_of c) (world s) (party_of u.state) r → Ends s0 s i u.state.index c r 2 × SplitsFor c s0 s
     ends_then (once.Worn node word) is (worn, node_is, word_is, same, kept) =
@@ -589,7 +590,7 @@ module _ (s0 s1 s : Index) (i : ℕ) (c : CoreCall) (is0 : IsIndex s0) (quiet0 :
               omega arith,
               inr split_now,
               node_is ∙ ap (λ (l : List ListNode). target_from 0 l (key_of (name_asked (op_of c)))) (sym kept.0),
-              subst (λ (q : ℕ × ℕ). IsWorn q.0 q.1) (λ k. ((sym word_is) k, t.generation k)) (subst (λ (n : ℕ). IsWorn ((facts (world s1)).version n) s1.generation) (sym node_is) worn),
+              subst (λ (q : ℕ × ℕ). IsWorn q.0 q.1) (λ k. ((sym word_is) k, t.generation k)) (subst (λ (n : ℕ). IsWorn ((facts (world s1)).version n) s1.generation) (sym node_is) (worn_target (world s1) (op_of c) worn)),
             );
             history = same ∙ cut.history ∙ sym (append-nil s0.history);
             list = tt;

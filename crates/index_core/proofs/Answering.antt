@@ -18,7 +18,7 @@ use Rattle.call_stages.specs.declared.once.Once.{Once}
 use Rattle.call_stages.specs.declared.once.Once.TheVariants as once
 use Rattle.call_stages.specs.declared.once.Placed.{Placed}
 use Rattle.call_stages.specs.Kinds.{IsRefusal}
-use Rattle.call_stages.specs.Stages.{Stage, Idle, Saw, Wears, Holds, Eyes, Splits, Leaves, Meets, Joins, placed_in}
+use Rattle.call_stages.specs.Stages.{Stage, Idle, Saw, Wears, Reads, Holds, Eyes, Splits, Leaves, Meets, Joins, placed_in}
 use Rattle.node_ops.specs.declared.running.Running.{Running}
 use Rattle.cat_history.specs.Records.{change_of}
 use Rattle.node_ops.specs.Asked.{IsOf, IsAbout, op_in, name_asked}
@@ -60,9 +60,18 @@ tells l g f caller index since name (Saw n v w k) (once.Spent clock) legal about
 tells l g f caller index since name (Saw n v w k) (once.Worn node word) legal about = tt
 tells l g f caller index since name (Saw n v w k) (once.Again why) legal about = λ is. absurd (unheld g f why legal is)
 tells l g f caller index since name (Wears n v) (once.Done answer) legal about = absurd legal
+tells l g f caller index since name (Reads n v sight None) (once.Done answer) legal about = absurd legal
+tells l g f caller index since name (Reads n v sight (Some h)) (once.Done answer) legal about =
+    subst (λ (own : List ℕ). Tells l.slots f caller index since own h.limit None (once.Done answer)) about (legal.later, legal.within, legal.old, tt, legal.below)
 tells l g f caller index since name (Wears n v) (once.Spent clock) legal about = absurd legal
+tells l g f caller index since name (Reads n v sight None) (once.Spent clock) legal about = absurd legal
+tells l g f caller index since name (Reads n v sight (Some h)) (once.Spent clock) legal about = absurd legal
 tells l g f caller index since name (Wears n v) (once.Worn node word) legal about = tt
+tells l g f caller index since name (Reads n v sight None) (once.Worn node word) legal about = tt
+tells l g f caller index since name (Reads n v sight (Some h)) (once.Worn node word) legal about = tt
 tells l g f caller index since name (Wears n v) (once.Again why) legal about = λ is. absurd (unheld g f why legal is)
+tells l g f caller index since name (Reads n v sight None) (once.Again why) legal about = λ is. absurd (unheld g f why legal is)
+tells l g f caller index since name (Reads n v sight (Some h)) (once.Again why) legal about = λ is. absurd (unheld g f why legal is)
 tells l g f caller index since name (Eyes n w h m v u free) answer legal about = absurd legal
 tells l g f caller index since name (Splits left fresh phase) answer legal about = absurd legal
 tells l g f caller index since name (Meets n w h right) answer legal about = absurd legal

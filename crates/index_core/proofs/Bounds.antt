@@ -17,12 +17,13 @@ use Rattle.pm_words.specs.declared.machine.Turn.{Turn}
 use Rattle.pm_words.specs.declared.machine.Turn.TheVariants.{Go, Done}
 use Rattle.call_stages.specs.declared.once.Once.{Once}
 use Rattle.call_stages.specs.declared.once.Placed.{Placed}
-use Rattle.call_stages.specs.Stages.{Stage, Idle, Saw, Wears, Holds, Eyes, Splits, Leaves, Meets, Joins, counted, placed_in}
+use Rattle.call_stages.specs.Stages.{Stage, Idle, Saw, Wears, Reads, Holds, Eyes, Splits, Leaves, Meets, Joins, counted, placed_in}
 use Rattle.node_ops.specs.declared.call.Call.{Call}
 use Rattle.node_ops.specs.Calls.{IsSame}
 use Rattle.node_ops.specs.declared.running.Running.{Running}
 use Rattle.node_ops.specs.Asked.{IsOf, IsOfAfter, op_in}
 use Rattle.node_ops.specs.RunningSteps.{running_call, running_turned, IsRunning}
+use Rattle.data_list.specs.WalkStages.{live_sight}
 use Rattle.node_ops.specs.CallStages.{stage_of}
 use Rattle.node_ops.proofs.OpLaw.{op_told, counts_own_change}
 use Rattle.index_law.specs.Facts.{Facts}
@@ -93,12 +94,12 @@ finish_limit finish (finish_at.Fence line fence) = refl
 finish_limit finish finish_at.Add = refl
 finish_limit finish (finish_at.Unlock place) = refl
 
-looking : {P : Type 0} (call : Call) (at : LookupAt) (c : Change) → counted (lookup_at_stage call at) ≡ Some c → P
-looking call at c is = absurd (let both : None ≡ Some c = sym (lookup_counts call at) ∙ is in cc)
+looking : {P : Type 0} (call : Call) (at : LookupAt) (c : Change) → counted (lookup_at_stage (live_sight []) call at) ≡ Some c → P
+looking call at c is = absurd (let both : None ≡ Some c = sym (lookup_counts (live_sight []) call at) ∙ is in cc)
 
 counts_in_time : (m : Running) (c : Change) → counted (stage_of m) ≡ Some c → limit_in (stage_of m) ≡ (running_call m).limit
 counts_in_time (Getting (get.Looking lookup)) c is = looking lookup.call lookup.at c is
-counts_in_time (Getting (get.Unlocking call hold old)) c is = refl
+counts_in_time (Getting (get.Checking call hold old)) c is = refl
 counts_in_time (Putting (put.Single (single_put.Looking lookup value))) c is = looking lookup.call lookup.at c is
 counts_in_time (Putting (put.Single (single_put.Filling fill))) c is = refl
 counts_in_time (Putting (put.Single (single_put.Replacing call hold bitmap hit value))) c is = refl
@@ -122,6 +123,7 @@ counts_below : (l : Layout) (g : ℕ) (f : Facts) (caller index since : ℕ) (st
 counts_below l g f caller index since Idle c sure is = absurd cc
 counts_below l g f caller index since (Saw n v w k) c sure is = absurd cc
 counts_below l g f caller index since (Wears n v) c sure is = absurd cc
+counts_below l g f caller index since (Reads n v sight told) c sure is = absurd cc
 counts_below l g f caller index since (Eyes n w h m v u free) c sure is = absurd cc
 counts_below l g f caller index since (Splits left fresh phase) c sure is = absurd cc
 counts_below l g f caller index since (Leaves left) c sure is = absurd cc
@@ -209,7 +211,7 @@ module _ (s : Index) (i : ℕ) (e : PartyState) (m : Running) (is : IsIndex s) (
 call_limit : (s : Index) (party : ℕ) (c : CoreCall) → IsRunning (machine_of (view_of s party) c) → HasLimit (machine_of (view_of s party) c)
 call_limit s party (call.Put name value limit) here = here.0.call.limit
 call_limit s party (call.Get name) here = tt
-call_limit s party (call.Del name limit) here = here.call.limit
+call_limit s party (call.Del name limit) here = here.0.call.limit
 call_limit s party (call.Part low count) here = tt
 call_limit s party (call.Recheck node version) here = tt
 call_limit s party (call.Turn stamp release) here = tt

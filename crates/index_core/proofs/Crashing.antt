@@ -9,7 +9,7 @@ use Rattle.pm_words.specs.Images.{Row}
 use Rattle.pm_words.specs.Locations.{image_words}
 use Rattle.pm_words.specs.Rows.{evicted, durable_row}
 use Rattle.cat_history.specs.declared.op.Change.{Change}
-use Rattle.call_stages.specs.Stages.{Held, Stage, Idle, Saw, Wears, Holds, Eyes, Splits, Leaves, Meets, Joins, pending_in, placed_in}
+use Rattle.call_stages.specs.Stages.{Held, Stage, Idle, Saw, Wears, Reads, Holds, Eyes, Splits, Leaves, Meets, Joins, pending_in, placed_in}
 use Rattle.node_ops.specs.declared.running.Running.{Running}
 use Rattle.node_ops.specs.Asked.{IsOf, IsAbout, op_in, name_asked}
 use Rattle.node_ops.specs.RunningSteps.{IsRunning, Sound}
@@ -35,7 +35,6 @@ use Rattle.index_core.specs.Indexes.{Index, IsIndex, IsOwnWrite, footed, layered
 use Rattle.index_law.proofs.Footed.{evict_footed}
 use Rattle.index_core.proofs.Layering.{evict_layered}
 use Rattle.index_core.proofs.Lists.{map_there, map_from}
-use Rattle.index_core.proofs.PartFacts.{running_listed}
 
 pub evict_keeps : (s : Index) (word : ℕ) → IsIndex s → word < image_words s.layout → IsIndex (evicted_index s word)
 evict_keeps s word is within =
@@ -49,7 +48,6 @@ evict_keeps s word is within =
       ordered = is.ordered;
       bounded = is.bounded;
       named = is.named;
-      ends = λ i state at. IfSome_then state.machine (is.ends i state at) (λ m held. running_listed s.layout (facts (world s)) (facts (world (evicted_index s word))) m (ap (λ (f : Facts). f.list) (evict_facts (world s) word)) held);
     }
 
 -- the index with this row
@@ -101,6 +99,7 @@ placed_since s is i place state machine there flies told =
     at Idle sure about told = absurd cc
     at (Saw n v w k) sure about told = absurd cc
     at (Wears n v) sure about told = absurd cc
+    at (Reads n v sight found) sure about told = absurd cc
     at (Splits left fresh phase) sure about told = absurd cc
     at (Leaves left) sure about told = absurd cc
     at (Holds n w h) sure about told = own h sure.placed about told

@@ -20,7 +20,7 @@ use Rattle.lone_law.specs.Locks.{locks_of, fewest_locks}
 use Rattle.index_core.specs.PartyStates.{idle_state, idle_states, party_of, IsPartyState}
 use Rattle.index_core.specs.declared.party.PartyState.{PartyState}
 use Rattle.index_core.specs.Fresh.{IsFreshIndex}
-use Rattle.index_core.specs.Indexes.{Index, IsIndex, RunningEnds, parties_of, world}
+use Rattle.index_core.specs.Indexes.{Index, IsIndex, parties_of, world}
 use Rattle.index_core.specs.Lone.{IsQuiet, locks_left}
 use Rattle.index_law.proofs.Footed.{fresh_footed}
 use Rattle.index_core.proofs.Layering.{fresh_layered}
@@ -55,7 +55,6 @@ fresh_is l layout =
         late = λ p q v w at there less far. absurd (let none : None ≡ Some v = at in cc);
       };
       named = λ place. subst HasNames (ap (after_all (map_of [])) (sym (take_all place [] (omega arith)))) rest.named;
-      ends = λ i state at. subst (λ (d : PartyState). IfSome d.machine (RunningEnds l (facts (world (fresh_index l))))) (sym (idle-each n i state at)) tt;
     }
 
 -- no call is in flight there

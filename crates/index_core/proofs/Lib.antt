@@ -1,3 +1,4 @@
+pub mod WornNodes
 pub mod Lists
 pub mod Owing
 pub mod Ordering

@@ -16,7 +16,7 @@ use Rattle.cat_history.specs.declared.op.NameOp.TheVariants as op
 use Rattle.cat_history.specs.declared.op.Write.{Write}
 use Rattle.call_stages.specs.declared.once.Once.TheVariants as once
 use Rattle.call_stages.specs.declared.once.Placed.{Placed}
-use Rattle.call_stages.specs.Stages.{Stage, Idle, Saw, Wears, Holds, Eyes, Splits, Leaves, Meets, Joins, placed_in}
+use Rattle.call_stages.specs.Stages.{Stage, Idle, Saw, Wears, Reads, Holds, Eyes, Splits, Leaves, Meets, Joins, placed_in}
 use Rattle.node_ops.specs.declared.running.Running.{Running}
 use Rattle.node_ops.specs.RunningSteps.{running_call}
 use Rattle.node_ops.specs.CallStages.{stage_of}
@@ -50,6 +50,8 @@ began_below s is i place state machine there flies told =
     at Idle sure = tt
     at (Saw n v w k) sure = tt
     at (Wears n v) sure = tt
+    at (Reads n v sight None) sure = tt
+    at (Reads n v sight (Some h)) sure = subst (λ (limit : Option ℕ). IfSome limit (λ most. state.since < most)) (sym sure.reader.unlimited) tt
     at (Eyes n w h m v u free) sure = sure.0.below
     at (Splits left fresh phase) sure = tt
     at (Leaves left) sure = tt

@@ -30,7 +30,7 @@ use Rattle.index_core.specs.CoreCalls.{machine_of}
 use Rattle.index_core.specs.PartyStates.{IsPartyState, IsTurnOf, state_after, state_with, machine_stage, party_of}
 use Rattle.updater.specs.declared.making.MakeTurn.{MakeTurn}
 use Rattle.index_core.proofs.Layering.{one_layered, idle_layered}
-use Rattle.index_core.specs.Indexes.{Index, IsIndex, RunningEnds, footed, world, told, view_of, stepped_index}
+use Rattle.index_core.specs.Indexes.{Index, IsIndex, footed, world, told, view_of, stepped_index}
 use Rattle.index_core.specs.MachineLaws.{IsReady, ReadyAfter, MachineKeeps, BeginKeeps, FirstIsReady, IdleKeep, place_told, place_now, place_next, PlacesFollow}
 use Rattle.cat_history.specs.declared.op.Change.TheVariants as change
 use Rattle.cat_history.specs.declared.op.NameOp.{NameOp}
@@ -47,7 +47,7 @@ use Rattle.index_core.proofs.Answering.{says_of}
 use Rattle.index_core.proofs.Lists.{map_from, map_there, map_set, set_twice}
 use Rattle.index_law.proofs.Footed.{rest_footed}
 use Rattle.index_core.proofs.Footings.{line_of, debt_of, free_states, may_do_names, swap_footed}
-use Rattle.index_core.proofs.Stepping.{may_do, step_facts, start_keeps, machine_idle, ends_but}
+use Rattle.index_core.proofs.Stepping.{may_do, step_facts, start_keeps, machine_idle}
 use Rattle.node_ops.specs.Endings.{GoesOn}
 use Rattle.node_ops.proofs.Endings.{turns_keep_place, last_counts_nothing}
 use Rattle.index_core.proofs.Endings.{EndsWith, ends_with}
@@ -185,7 +185,6 @@ module _ (s : Index) (i : ℕ) (e : PartyState) (index : ℕ) (is : IsIndex s) (
           late = is.bounded.late;
         };
         named = is.named;
-        ends = ends_but s i now is (subst (λ (o : Option Running). IfSome o (RunningEnds s.layout (facts (world s)))) (sym idle) tt);
       }
 
 pub begin_law : BeginKeeps
@@ -208,11 +207,11 @@ idle_weigh s quiet = idle_weighs (world s) (λ i p at. let from = map_from party
 
 pub first_ready : FirstIsReady
 first_ready v (call.Put name value limit) here = ready_idle v.layout v.generation (machine_of v (call.Put name value limit)) here.0.call.view.layout.nodes.0 (record { layout = refl; generation = refl; here = here }) refl
-first_ready v (call.Get name) here = ready_idle v.layout v.generation (machine_of v (call.Get name)) here.call.view.layout.nodes.0 (record { layout = refl; generation = refl; here = here }) refl
-first_ready v (call.Del name limit) here = ready_idle v.layout v.generation (machine_of v (call.Del name limit)) here.call.view.layout.nodes.0 (record { layout = refl; generation = refl; here = here }) refl
-first_ready v (call.Part low count) here = ready_idle v.layout v.generation (machine_of v (call.Part low count)) here.call.view.layout.nodes.0 (record { layout = refl; generation = refl; here = here }) refl
-first_ready v (call.Recheck node version) here = ready_idle v.layout v.generation (machine_of v (call.Recheck node version)) here.call.view.layout.nodes.0 (record { layout = refl; generation = refl; here = here }) refl
-first_ready v (call.Turn stamp release) here = ready_idle v.layout v.generation (machine_of v (call.Turn stamp release)) here.call.view.layout.nodes.0 (record { layout = refl; generation = refl; here = here }) refl
+first_ready v (call.Get name) here = ready_idle v.layout v.generation (machine_of v (call.Get name)) here.0.call.view.layout.nodes.0 (record { layout = refl; generation = refl; here = here }) refl
+first_ready v (call.Del name limit) here = ready_idle v.layout v.generation (machine_of v (call.Del name limit)) here.0.call.view.layout.nodes.0 (record { layout = refl; generation = refl; here = here }) refl
+first_ready v (call.Part low count) here = ready_idle v.layout v.generation (machine_of v (call.Part low count)) here.0.call.view.layout.nodes.0 (record { layout = refl; generation = refl; here = here }) refl
+first_ready v (call.Recheck node version) here = ready_idle v.layout v.generation (machine_of v (call.Recheck node version)) here.0.call.view.layout.nodes.0 (record { layout = refl; generation = refl; here = here }) refl
+first_ready v (call.Turn stamp release) here = ready_idle v.layout v.generation (machine_of v (call.Turn stamp release)) here.0.call.view.layout.nodes.0 (record { layout = refl; generation = refl; here = here }) refl
 
 -- an index with no call in flight is one with any other idle parties
 pub with_idle : IdleKeep
@@ -252,7 +251,6 @@ with_idle s states is quiet idle =
         late = is.bounded.late;
       };
       named = is.named;
-      ends = λ i e at. subst (λ (o : Option Running). IfSome o (RunningEnds s.layout (facts (world s)))) (sym (idle.idle i e at)) tt;
     }
 
 -- a step's place, and that a step which counts had none before

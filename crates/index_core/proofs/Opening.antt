@@ -29,7 +29,7 @@ use Rattle.lone_law.specs.Locks.{fewest_locks}
 use Rattle.lone_turn.specs.LoneTurns.{stamp_in}
 use Rattle.index_core.specs.PartyStates.{idle_states, party_of, IsPartyState}
 use Rattle.index_core.specs.declared.party.PartyState.{PartyState}
-use Rattle.index_core.specs.Indexes.{IsIndex, RunningEnds, parties_of, world}
+use Rattle.index_core.specs.Indexes.{IsIndex, parties_of, world}
 use Rattle.index_core.specs.Opened.{IsUnused, OpeningIsIndex, OpeningIsUnused, opened_index, row_with}
 use Rattle.index_core.proofs.Footings.{line_of, debt_of, free_states}
 use Rattle.index_core.proofs.Layering.{turn_of, first_turn, rest_turns, at_rest}
@@ -76,7 +76,6 @@ module _ (l : Layout) (list : List ListNode) (o : Columns) (words : List ℕ) (b
           late = λ p q v w there here less far. absurd (let none : None ≡ Some v = there in cc);
         };
         named = λ place. subst HasNames (ap (after_all (map_of base)) (sym (take_all place [] (omega arith)))) rest.named;
-        ends = λ i state there. subst (λ (d : PartyState). IfSome d.machine (RunningEnds l (facts (world (opened_index (row_with l words) base []))))) (sym (idle-each n i state there)) tt;
       }
 
   unlocked : IsUnlocked (world (opened_index (row_with l words) base []))

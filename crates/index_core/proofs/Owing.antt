@@ -46,7 +46,8 @@ use Rattle.split_merge.specs.declared.merging.Merge.{Merge}
 use Rattle.split_merge.specs.declared.merging.Merged.{Merged}
 use Rattle.split_merge.specs.Merges.{merge_turned}
 use Rattle.node_ops.specs.RunningSteps.{running_turned, wrapped}
-use Rattle.node_ops.specs.CallStages.{stage_of, lookup_stage, finish_stage, part_stage, found_full, has_place}
+use Rattle.data_list.specs.WalkStages.{live_sight}
+use Rattle.node_ops.specs.CallStages.{behind_sight, stage_of, lookup_stage, finish_stage, part_stage, found_full, has_place}
 use Rattle.node_ops.proofs.OpLaw.{lookup_counts}
 use Rattle.index_law.specs.Worlds.{written}
 use Rattle.index_core.specs.PartyStates.{owes, machine_owes, owed}
@@ -98,17 +99,17 @@ after_one (Go running) = owes_one running
 after_one (Done answer) = omega arith
 
 get_pays : (get : Get) (x : ℕ) → (owes_after (wrapped Getting (get_turned get x)) ≡ 0) × (counted (stage_of (Getting get)) ≡ None)
-get_pays (get.Looking lookup) x = (at (lookup_turned lookup x), lookup_counts lookup.call lookup.at)
+get_pays (get.Looking lookup) x = (at (lookup_turned lookup x), lookup_counts (live_sight []) lookup.call lookup.at)
   where
     at : (turn : Turn Lookup Looked) → owes_after (wrapped Getting (get_looked lookup.call turn)) ≡ 0
     at (Go next) = refl
     at (Done (looked.Early answer)) = refl
     at (Done (looked.Found found)) = refl
-get_pays (get.Unlocking call hold old) x = (refl, refl)
+get_pays (get.Checking call hold old) x = (refl, refl)
 
 -- no turn of a part counts anything
 pub part_counts : (p : Part) → counted (part_stage p) ≡ None
-part_counts (part.Looking lookup count behind) = lookup_counts lookup.call lookup.at
+part_counts (part.Looking lookup count behind) = lookup_counts (behind_sight behind) lookup.call lookup.at
 part_counts (part.Reading reading) = refl
 
 part_owes : (turn : Turn Part (Once Placed)) → owes_after (wrapped Parting turn) ≡ 0
@@ -156,7 +157,7 @@ pub pays : (running : Running) (x : ℕ) → owes_after (running_turned running 
 pays (Getting get) x = let is = get_pays get x in let none : many (counted (stage_of (Getting get))) ≡ 0 = rw is.1 refl in let zero_after = is.0 in omega arith
 pays (Putting (put.Single (single_put.Looking lookup value))) x =
     let one = after_one (running_turned (Putting (put.Single (single_put.Looking lookup value))) x) in
-    let none : many (counted (lookup_stage lookup)) ≡ 0 = rw (lookup_counts lookup.call lookup.at) refl in
+    let none : many (counted (lookup_stage lookup)) ≡ 0 = rw (lookup_counts (live_sight []) lookup.call lookup.at) refl in
     omega arith
 pays (Putting (put.Single (single_put.Filling fill))) x = let one = after_one (running_turned (Putting (put.Single (single_put.Filling fill))) x) in omega arith
 pays (Putting (put.Single (single_put.Replacing call hold bitmap hit value))) x = omega arith
@@ -167,7 +168,7 @@ pays (Putting (put.Splitting call hold bitmap value split)) x =
 pays (Putting (put.Single (single_put.Finishing finish))) x = put_finish_pays finish finish.at x
 pays (Deleting (del.Single (single_del.Looking lookup))) x =
     let one = after_one (running_turned (Deleting (del.Single (single_del.Looking lookup))) x) in
-    let none : many (counted (lookup_stage lookup)) ≡ 0 = rw (lookup_counts lookup.call lookup.at) refl in
+    let none : many (counted (lookup_stage lookup)) ≡ 0 = rw (lookup_counts (live_sight []) lookup.call lookup.at) refl in
     omega arith
 pays (Deleting (del.Single (single_del.Next call hold bitmap hit))) x = let one = after_one (running_turned (Deleting (del.Single (single_del.Next call hold bitmap hit))) x) in omega arith
 pays (Deleting (del.Single (single_del.Taking call hold bitmap hit take))) x = let one = after_one (running_turned (Deleting (del.Single (single_del.Taking call hold bitmap hit take))) x) in omega arith

@@ -26,7 +26,9 @@ use Rattle.index_core.specs.Indexes.{Index, room_of, told, world, IsIndex, IsInF
 use Rattle.index_core.specs.Listings.{IsPartAt, ListsAt}
 use Rattle.index_core.specs.Lone.{HasListed, HasListing, IsQuiet, LoseAtMost, RunsAlone, locks_left, part_whole, node_for}
 use Rattle.index_core.proofs.Alone.{part_early, part_done}
-use Rattle.index_core.proofs.PartsAlone.{listed_node}
+use Rattle.index_core.proofs.PartsAlone.{listed_node, listed_word}
+use Rattle.pm_words.specs.declared.layout.Layout.{Layout}
+use Rattle.lone_law.specs.LoneCalls.{IsThere}
 use Rattle.index_core.proofs.Told.{done_of, is_early}
 use Rattle.index_core.proofs.Tries.{Lone, lone_each, lone_locks, lone_machine, lone_quiet, lone_there, lone_tries, spare_left, turn_machine, turn_told}
 
@@ -69,9 +71,13 @@ module _ (s0 s s' : Index) (i : ℕ) (low : List ℕ) (count : ℕ) (result : Op
   its_own : (words : PartWords) → HasListed s i words → listed_in m ≡ Some words
   its_own words h = ap listed_in (sym (lone_machine s0 s i c o h.state h.machine h.there h.flies)) ∙ h.listed
 
+  -- it is told its version word again
+  its_word : (words : PartWords) → HasListed s i words → told s m ≡ words.version
+  its_word words h = listed_word s.layout s0.words s.words m words (its_own words h) (subst (λ (l : Layout). IsThere l s0.words s.words m) (sym o.call.trying.layout) o.call.stands) o.call.sound.here o.call.sound.layout
+
   -- its last turn
   pub part_last : (words : PartWords) → HasListed s i words → result ≡ Some (once.Done (words_placed words))
-  part_last words h = turn_told s0 s s' i c result o t is' room ∙ ap reply_of (listed_is_answered m words (its_own words h) (told s m))
+  part_last words h = turn_told s0 s s' i c result o t is' room ∙ ap reply_of (listed_is_answered m words (its_own words h) (told s m) (its_word words h))
 
   -- with an answer it leaves
   ends_alone : (answer : Once Placed) → result ≡ Some answer → (r : Whole) → RunsAlone s0 i c s' r → EndsAlone s0 s' i low count r
@@ -91,12 +97,12 @@ module _ (s0 s s' : Index) (i : ℕ) (low : List ℕ) (count : ℕ) (result : Op
       let answered = part_last words h in
       let node : words.node ≡ node_for s0 low = listed_node s0.layout s0.words s.words low m words listed o.call.of o.call.stands in
       let op_is : op_in m ≡ op.Get low = op_told (op.Get low) m o.call.of in
-      let lists : ListsAt s'.layout (facts (world s')) m = subst (ListsAt s'.layout (facts (world s'))) (turn_machine s0 s s' i c result o t is' room) t.lists in
-      let of_words : IfSome (count_in m) (λ (n : ℕ). IsPartAt s'.layout (facts (world s')) (name_asked (op_in m)) n words) =
-      subst (λ (found : Option PartWords). IfSome found (λ (w : PartWords). IfSome (count_in m) (λ (n : ℕ). IsPartAt s'.layout (facts (world s')) (name_asked (op_in m)) n w))) listed lists in
+      let lists : ListsAt s'.layout (facts (world s')) m (told s m) = subst (λ (q : Running). ListsAt s'.layout (facts (world s')) q (told s q)) (turn_machine s0 s s' i c result o t is' room) t.lists in
+      let of_words : IfSome (count_in m) (λ (n : ℕ). told s m ≡ words.version → IsPartAt s'.layout (facts (world s')) (name_asked (op_in m)) n words) =
+      subst (λ (found : Option PartWords). IfSome found (λ (w : PartWords). IfSome (count_in m) (λ (n : ℕ). told s m ≡ w.version → IsPartAt s'.layout (facts (world s')) (name_asked (op_in m)) n w))) listed lists in
       let is : IsPartAt s'.layout (facts (world s')) low count words =
       subst (λ (asked : NameOp). IsPartAt s'.layout (facts (world s')) (name_asked asked) count words) op_is
-      (subst (λ (found : Option ℕ). IfSome found (λ (n : ℕ). IsPartAt s'.layout (facts (world s')) (name_asked (op_in m)) n words)) o.count of_words) in
+      (subst (λ (found : Option ℕ). IfSome found (λ (n : ℕ). told s m ≡ words.version → IsPartAt s'.layout (facts (world s')) (name_asked (op_in m)) n words)) o.count of_words (its_word words h)) in
       ends_alone (once.Done (words_placed words)) answered (whole.Part words)
       (part_done s0 s' i low count o.before o.quiet words (lone_tries s0 s s' i c result o t is' room (once.Done (words_placed words)) answered) node is)
 

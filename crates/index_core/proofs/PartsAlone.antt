@@ -1,6 +1,6 @@
 -- What a part of a scan lists that is made with no other call in flight: names of the member of its low name, up to the
 -- next member's anchor.
-use Rattle.std.proofs.Common.{◌≡◌, ℕ, Bool, true, false, not, ◌&&◌, List, [], ◌∷◌, ◌++◌, inl, inr, ◌⊎◌, ⊎_elim, length, map, slice_get, refl, sym, ap, ◌∙◌, subst, arith}
+use Rattle.std.proofs.Common.{◌≡◌, ℕ, ◌<◌, Bool, true, false, not, ◌&&◌, List, [], ◌∷◌, ◌++◌, inl, inr, ◌⊎◌, ⊎_elim, length, map, slice_get, refl, sym, ap, ◌∙◌, subst, arith}
 use Rattle.std.specs.Prelude.{Option, Some, None, IfSome}
 use Rattle.std.specs.FinMap.{entries, keys}
 use Rattle.std.specs.List.{filter, AllByRecursion}
@@ -19,7 +19,8 @@ use Rattle.shapes.proofs.NameLists.{all_second, filter-keeps, filter-drops}
 use Rattle.shapes.proofs.Targets.{part, target-is, next-is}
 use Rattle.data_node.specs.Lists.{ListNode, key_of, range_in, target_from}
 use Rattle.index_law.specs.Anchors.{anchors_of, text_of_key}
-use Rattle.index_law.specs.Facts.{Facts, list_in, range_of}
+use Rattle.index_law.specs.Facts.{Facts, list_in, range_of, version_in}
+use Rattle.index_law.proofs.Rows.{version_in-here}
 use Rattle.index_law.specs.Laws.{IsAtRest}
 use Rattle.index_law.specs.Lawful.{HasNames, IsList}
 use Rattle.index_law.specs.Worlds.{facts}
@@ -29,19 +30,25 @@ use Rattle.index_law.proofs.Cutting.{range-names}
 use Rattle.node_ops.specs.declared.part.PartWords.{PartWords}
 use Rattle.node_ops.specs.declared.part.ReadingAt.{ReadingAt}
 use Rattle.node_ops.specs.declared.part.ReadingAt.TheVariants as reading_at
+use Rattle.node_ops.specs.declared.part.Part.{Part}
 use Rattle.node_ops.specs.declared.part.Part.TheVariants as part_at
 use Rattle.node_ops.specs.declared.running.Running.{Running}
 use Rattle.node_ops.specs.declared.running.Running.TheVariants.{Getting, Putting, Deleting, Parting}
 use Rattle.node_ops.specs.Asked.{IsOf}
-use Rattle.node_ops.specs.PartSteps.{listed_at, part_words}
+use Rattle.node_ops.specs.PartSteps.{listed_at, part_asks, part_call, part_listed, part_words}
+use Rattle.pm_words.specs.declared.action.Action.TheVariants.{Load}
+use Rattle.pm_words.specs.Rows.{got}
+use Rattle.call_stages.specs.Kinds.{version_address}
+use Rattle.node_ops.proofs.PartListing.{listed_is_told}
+use Rattle.node_ops.proofs.PartTelling.{parts_hear}
 use Rattle.node_ops.specs.Parts.{EndsAt, pairs_in}
-use Rattle.node_ops.specs.RunningSteps.{listed_in}
-use Rattle.lone_law.specs.LoneCalls.{IsThere}
+use Rattle.node_ops.specs.RunningSteps.{IsRunning, listed_in, running_asks, running_call}
+use Rattle.lone_law.specs.LoneCalls.{IsThere, PartIsThere}
 use Rattle.index_core.specs.Indexes.{Index, world, map_of_index, IsIndex}
 use Rattle.index_core.specs.Listings.{IsPartAt, ListsRange}
 use Rattle.index_core.specs.Lone.{IsQuiet, IsWholePart, node_for}
 use Rattle.lone_law.specs.There.{WalksBy}
-use Rattle.index_core.proofs.PartFacts.{lists_range}
+use Rattle.index_core.proofs.PartFacts.{lists_range, sound_call}
 use Rattle.index_core.proofs.Quiet.{rests}
 
 -- the end of a range is past it
@@ -121,10 +128,32 @@ listed_node l words0 words low (Parting (part_at.Looking lookup count behind)) l
 listed_node l words0 words low (Parting (part_at.Reading reading)) listing some of there =
     elim reading.at as (λ (a : ReadingAt). listed_at reading a ≡ Some listing → listing.node ≡ target_from 0 (list_in l words0) (key_of low)) [
       | reading_at.Load slot word ↦ λ none. absurd (cc)
-      | reading_at.Unlock ↦ λ is.
+      | reading_at.Check ↦ λ is.
           let same : part_words reading ≡ listing = cc in
-          sym (ap (λ (w : PartWords). w.node) same) ∙ there.node ∙ ap (λ (name : List ℕ). target_from 0 (list_in l words0) (key_of name)) of
+          sym (ap (λ (w : PartWords). w.node) same) ∙ there.0.node ∙ ap (λ (name : List ℕ). target_from 0 (list_in l words0) (key_of name)) of
     ] some
+
+-- and its version word is still the one that it saw
+word_stands : (l : Layout) (words0 words : List ℕ) (p : Part) (listing : PartWords) → part_listed p ≡ Some listing → PartIsThere l words0 words p → version_in l words listing.node ≡ listing.version
+word_stands l words0 words (part_at.Looking lookup count behind) listing none there = absurd (cc)
+word_stands l words0 words (part_at.Reading reading) listing some there =
+    elim reading.at as (λ (a : ReadingAt). listed_at reading a ≡ Some listing → version_in l words listing.node ≡ listing.version) [
+      | reading_at.Load slot word ↦ λ none. absurd (cc)
+      | reading_at.Check ↦ λ is.
+          let same : part_words reading ≡ listing = cc in
+          subst (λ (w : PartWords). version_in l words w.node ≡ w.version) same (ap (λ (ws : List ℕ). version_in l ws reading.call.node) there.1 ∙ sym there.2)
+    ] some
+
+-- which it is told next
+pub listed_word : (l : Layout) (words0 words : List ℕ) (m : Running) (listing : PartWords) → listed_in m ≡ Some listing → IsThere l words0 words m → IsRunning m → (running_call m).view.layout ≡ l → got l words (running_asks m) ≡ listing.version
+listed_word l words0 words (Getting get) listing lists there sound layout = absurd (cc)
+listed_word l words0 words (Putting put) listing lists there sound layout = absurd (cc)
+listed_word l words0 words (Deleting del) listing lists there sound layout = absurd (cc)
+listed_word l words0 words (Parting p) listing lists there sound layout =
+    let hears = parts_hear p listing.version listing (listed_is_told p listing lists listing.version refl) in
+    let loads : part_asks p ≡ Load (version_address l listing.node) = hears.asks ∙ ap (λ (m : Layout). Load (version_address m listing.node)) layout in
+    let here : listing.node < l.nodes = subst (λ (n : ℕ). n < l.nodes) (sym hears.node) (subst (λ (m : Layout). (part_call p).node < m.nodes) layout (sound_call p sound).node) in
+    ap (got l words) loads ∙ sym (version_in-here l words listing.node here) ∙ word_stands l words0 words p listing lists there
 
 module _ (s0 s : Index) (low : List ℕ) (count : ℕ) (words : PartWords) (is0 : IsIndex s0) (quiet0 : IsQuiet s0) where
   abbrev l : Layout

@@ -1,6 +1,6 @@
 -- A lone call that was turned back, and is tried again behind a turn of the updater.
 use Rattle.std.proofs.Common.{◌≡◌, ◌≢◌, ℕ, ◌+◌, ◌*◌, ◌/◌, ◌%◌, ◌<◌, ◌≤◌, ◌==◌, ◌⊎◌, inl, inr, ⊎_elim, cond, List, ◌++◌, length, slice_set, nat_le, not, refl, sym, ap, ◌∙◌, subst, arith}
-use Rattle.std.specs.Prelude.{None, IsSomeAnd, Bool, true, false, ◌&&◌}
+use Rattle.std.specs.Prelude.{None, IsSome, IsSomeAnd, Bool, true, false, ◌&&◌}
 use Rattle.std.specs.FinMap.{keys}
 use Rattle.std.specs.List.{filter}
 use Rattle.std.proofs.lemmas.Bool.{cases_eq, eq-eqb, ne_eqb, eqb-true, leb-true, le-leb}
@@ -54,6 +54,7 @@ use Rattle.index_core.specs.Lone.{HasShortWays, IsQuiet, ComesFree, LacksNode, F
 use Rattle.index_core.specs.Turns.{TurnsAlone}
 use Rattle.index_core.specs.Weights.{weight_of, added_by}
 use Rattle.cat_history.specs.declared.op.NameOp.{NameOp}
+use Rattle.index_core.proofs.WornNodes.{worn_found, worn_target}
 use Rattle.index_core.proofs.Alone.{IsSwept, Ran, full_again_if, late_was, on_name, one_try, two_tries}
 use Rattle.index_core.proofs.Lists.{set_twice}
 use Rattle.index_core.proofs.Quiet.{rests, can_walk}
@@ -173,8 +174,8 @@ pub record Later (s0 s : Index) (i : ℕ) (c : CoreCall) (tries : ℕ) : Type 0 
   list : HasSameList s0 s
   room : LacksNode s0 → LacksNode s
   lacked : LacksNode s → LacksNode s0
-  next : NextIsWorn (world s0) (name_asked (op_of c)) → NextIsWorn (world s) (name_asked (op_of c))
-  back : (FindsWornNode c s → ⊥) → NextIsWorn (world s) (name_asked (op_of c)) → NextIsWorn (world s0) (name_asked (op_of c))
+  next : IsSome (limit_of c) → NextIsWorn (world s0) (name_asked (op_of c)) → NextIsWorn (world s) (name_asked (op_of c))
+  back : IsSome (limit_of c) → (FindsWornNode c s → ⊥) → NextIsWorn (world s) (name_asked (op_of c)) → NextIsWorn (world s0) (name_asked (op_of c))
   each : LoseAtMost tries s0 s
   locks : locks_left s0 ≤ locks_left s + tries
   stamps : KeepsStamps s0 s
@@ -321,18 +322,18 @@ module _ (s s1 s2 : Index) (i : ℕ) (c : CoreCall) (answer : Once Placed) (turn
       ∙ ap (λ (l : List ListNode). (facts (world s1)).now (target_from 0 l (key_of (name_asked (op_of c)))) next_offset) b.list
       ∙ ap (λ (l : Layout). spot_in l s1.words target next_offset) t.layout ∙ b.unmoved.nexts target
 
-  next_then : NextIsWorn (world s) (name_asked (op_of c)) → NextIsWorn (world s2) (name_asked (op_of c))
-  next_then worn = ⊎_elim
-      (λ (own : next_node (world s) (name_asked (op_of c)) ≡ target). absurd (b.unworn (subst (λ (n : ℕ). IsWorn (f.version n) s.generation) own worn)))
+  next_then : IsSome (limit_of c) → NextIsWorn (world s) (name_asked (op_of c)) → NextIsWorn (world s2) (name_asked (op_of c))
+  next_then writes worn = ⊎_elim
+      (λ (own : next_node (world s) (name_asked (op_of c)) ≡ target). absurd (b.unworn (worn_found (world s) c writes (subst (λ (n : ℕ). IsWorn (f.version n) s.generation) own worn))))
       (λ (other : next_node (world s) (name_asked (op_of c)) ≢ target). subst (λ (n : ℕ). IsWorn (f2.version n) s2.generation) (sym next_same) (worn_then (next_node (world s) (name_asked (op_of c))) other worn))
       (cases_eq (next_node (world s) (name_asked (op_of c))) target)
 
-  next_before : (FindsWornNode c s2 → ⊥) → NextIsWorn (world s2) (name_asked (op_of c)) → NextIsWorn (world s) (name_asked (op_of c))
-  next_before unworn worn =
+  next_before : IsSome (limit_of c) → (FindsWornNode c s2 → ⊥) → NextIsWorn (world s2) (name_asked (op_of c)) → NextIsWorn (world s) (name_asked (op_of c))
+  next_before writes unworn worn =
       let here : IsWorn (f2.version (next_node (world s) (name_asked (op_of c)))) s2.generation = subst (λ (n : ℕ). IsWorn (f2.version n) s2.generation) next_same worn in
       ⊎_elim
       (λ (own : next_node (world s) (name_asked (op_of c)) ≡ target).
-      absurd (unworn (subst (λ (n : ℕ). IsWorn (f2.version n) s2.generation) (own ∙ ap (λ (l : List ListNode). target_from 0 l (key_of (name_asked (op_of c)))) (sym list2)) here)))
+      absurd (unworn (worn_found (world s2) c writes (subst (λ (n : ℕ). IsWorn (f2.version n) s2.generation) (own ∙ ap (λ (l : List ListNode). target_from 0 l (key_of (name_asked (op_of c)))) (sym list2)) here))))
       (λ (other : next_node (world s) (name_asked (op_of c)) ≢ target). worn_before (next_node (world s) (name_asked (op_of c))) other here)
       (cases_eq (next_node (world s) (name_asked (op_of c))) target)
 
@@ -409,8 +410,8 @@ later_then s0 s s2 i c tries first then =
       list = then.list ∙ first.list;
       room = λ lacks. then.room (first.room lacks);
       lacked = λ lacks. first.lacked (then.lacked lacks);
-      next = λ worn. then.next (first.next worn);
-      back = λ unworn worn. first.back then.unworn (then.back unworn worn);
+      next = λ writes worn. then.next writes (first.next writes worn);
+      back = λ writes unworn worn. first.back writes then.unworn (then.back writes unworn worn);
       each = λ n. let a = first.each n in let b = then.each n in omega arith;
       locks = let a = first.locks in let b = then.locks in omega arith;
       stamps = λ n here. ⊎_elim
@@ -467,7 +468,7 @@ module _ (s0 s s' : Index) (i : ℕ) (c : CoreCall) (before tries : ℕ) (answer
   worn_none : FindsWornNode c s → locks_left s ≡ 0
   worn_none worn =
       worn_has_none s.generation (facts (world s)).version (node_for s name) s.layout.nodes
-      (listed_within s.layout (facts (world s)) is.lawful.list is.lawful.row.layout (node_for s name) (target_in 0 (facts (world s)).list (key_of name))) worn
+      (listed_within s.layout (facts (world s)) is.lawful.list is.lawful.row.layout (node_for s name) (target_in 0 (facts (world s)).list (key_of name))) (worn_target (world s) (op_of c) worn)
 
   cause_of : (r : Once Placed) → IsWholeAnswer tries s i c s' (whole_of r) → IsWholeAnswer (before + tries) s0 i c s' (whole_of r)
   cause_of (once.Worn node word) cause =
@@ -480,7 +481,7 @@ module _ (s0 s s' : Index) (i : ℕ) (c : CoreCall) (before tries : ℕ) (answer
         omega arith,
         inl (same_list first.3),
         first.1 ∙ node_same s' first.3,
-        subst (λ (q : ℕ × ℕ). IsWorn q.0 q.1) (λ k. (sym (first.2 ∙ ap (λ (n : ℕ). version_in s.layout s.words n) first.1) k, o.generation k)) first.0,
+        subst (λ (q : ℕ × ℕ). IsWorn q.0 q.1) (λ k. (sym (first.2 ∙ ap (λ (n : ℕ). version_in s.layout s.words n) first.1) k, o.generation k)) (worn_target (world s) (op_of c) first.0),
       ))
       (λ (later : IsMadeAgain i c s × (locks_left s < tries) × (HasSameList s s' ⊎ SplitsFor c s s') × (node ≡ node_for s' name) × IsWorn word s.generation).
       let less = later.1 in
@@ -520,7 +521,7 @@ module _ (s0 s s' : Index) (i : ℕ) (c : CoreCall) (before tries : ℕ) (answer
       (λ (none : merges s.layout.slots (map_of_index s) (anchors_in (world s)) n ≡ false). inl (subst (λ (q : Layout × (Map × Anchors)). merges q.0.slots q.1.0 q.1.1 n ≡ false) reads none))
       (λ (worn : NextIsWorn (world s) n).
       let asked : n ≡ name = ap (λ (e : CoreCall). name_asked (op_of e)) same in
-      inr (subst (NextIsWorn (world s0)) (sym asked) (o.back unworn (subst (NextIsWorn (world s)) asked worn))))
+      inr (subst (NextIsWorn (world s0)) (sym asked) (o.back (subst (λ (e : CoreCall). IsSome (limit_of e)) same refl) unworn (subst (NextIsWorn (world s)) asked worn))))
       none
   merge_was (call.Put n value limit) unworn same none = tt
   merge_was (call.Get n) unworn same none = tt
@@ -532,7 +533,7 @@ module _ (s0 s s' : Index) (i : ℕ) (c : CoreCall) (before tries : ℕ) (answer
   merged_was (call.Del n limit) same merge =
       let asked : n ≡ name = ap (λ (e : CoreCall). name_asked (op_of e)) same in
       let shape = subst (λ (q : Layout × (Map × Anchors)). (merges q.0.slots q.1.0 q.1.1 n ≡ true) × (anchors_in (world s') ≡ del_anchors q.0.slots q.1.0 q.1.1 n)) reads (merge.0.0, merge.1) in
-      ((shape.0, (λ worn. merge.0.1 (subst (NextIsWorn (world s)) (sym asked) (o.next (subst (NextIsWorn (world s0)) asked worn))))), shape.1)
+      ((shape.0, (λ worn. merge.0.1 (subst (NextIsWorn (world s)) (sym asked) (o.next (subst (λ (e : CoreCall). IsSome (limit_of e)) same refl) (subst (NextIsWorn (world s0)) asked worn))))), shape.1)
   merged_was d same merge = absurd merge
 
   list_of : (r : Once Placed) → IsWholeAnswer tries s i c s' (whole_of r) → LeavesList c (whole_of r) s s' → LeavesList c (whole_of r) s0 s'

@@ -24,7 +24,7 @@ use Rattle.index_law.proofs.Starts.{rest_law}
 use Rattle.lone_law.specs.Locks.{fewest_locks}
 use Rattle.index_core.specs.PartyStates.{idle_state, idle_states, party_of, IsPartyState}
 use Rattle.index_core.specs.declared.party.PartyState.{PartyState}
-use Rattle.index_core.specs.Indexes.{Index, IsIndex, RunningEnds, footed, map_of_index, parties_of, world}
+use Rattle.index_core.specs.Indexes.{Index, IsIndex, footed, map_of_index, parties_of, world}
 use Rattle.index_core.specs.Lone.{IsQuiet}
 use Rattle.index_core.specs.Rounds.{BeginsRound, RoundBegins, round_index}
 use Rattle.index_law.specs.Footed.{IsFooted}
@@ -87,7 +87,6 @@ module _ (s : Index) (is : IsIndex s) (quiet : IsQuiet s) where
           late = λ p q v w at there less far. absurd (let none : None ≡ Some v = at in cc);
         };
         named = λ place. subst HasNames (ap (after_all (map_of (pairs_of (map_of_index s)))) (sym (take_all place [] (omega arith)))) now.0.named;
-        ends = λ i state at. subst (λ (d : PartyState). IfSome d.machine (RunningEnds s.layout (facts (world (round_index s spare))))) (sym (idle-each (parties_of s.layout) i state at)) tt;
       }
 
   -- what its nodes' words say stays

@@ -7,9 +7,10 @@ use Rattle.cat_history.specs.declared.op.Change.{Change}
 use Rattle.call_stages.specs.declared.once.Once.{Once}
 use Rattle.call_stages.specs.declared.once.Once.TheVariants as once
 use Rattle.call_stages.specs.declared.once.Placed.{Placed}
-use Rattle.call_stages.specs.Stages.{Held, Stage, Idle, Saw, Wears, Holds, Eyes, Splits, Leaves, Meets, Joins, IsLoose}
+use Rattle.call_stages.specs.Stages.{Held, Stage, Idle, Saw, Wears, Reads, Holds, Eyes, Splits, Leaves, Meets, Joins, IsLoose}
 use Rattle.call_stages.specs.AnySteps.{AnyStep, on_nodes, beside}
-use Rattle.call_stages.specs.Kinds.{IsClean, Look, turns_back, is_worn, wears, roams, roams_status, sees, misses, times, learns, decides, glances, finds_live, watches, watches_next, turns_away, steps_back, wanders, fills, lights, switches, glances_left, glances_fresh, drains_left, drains_fresh, trims, splits, meets, knows_own, knows_right, copies, takes_up, puts_down, parts, gathers, joins, glances_joined, drains_joined, retires, yields, merges, peeks, peeks_status, eyes, eyes_free, passes, loses, claims, publishes, leaves, Answers, writes, reads, is_spent, has_no_room, refuses, Step, looks, locks, stores, commits, drains, counts, unlocks}
+use Rattle.index_law.proofs.Moves.{read_before}
+use Rattle.call_stages.specs.Kinds.{IsClean, Look, turns_back, is_worn, wears, roams, roams_status, sees, misses, times, learns, decides, glances, reads_on, finds_live, watches, watches_next, turns_away, steps_back, wanders, fills, lights, switches, glances_left, glances_fresh, drains_left, drains_fresh, trims, splits, meets, knows_own, knows_right, copies, takes_up, puts_down, parts, gathers, joins, glances_joined, drains_joined, retires, yields, merges, peeks, peeks_status, eyes, eyes_free, passes, loses, claims, publishes, leaves, Answers, writes, reads, is_spent, has_no_room, refuses, Step, looks, locks, stores, commits, drains, counts, unlocks}
 use Rattle.index_law.specs.Weights.{AddsName}
 use Rattle.index_core.specs.MachineLaws.{shown_by, shows}
 
@@ -33,6 +34,7 @@ pub shows_few : (s : Stage) → shows s ≤ 1
 shows_few Idle = omega arith
 shows_few (Saw n v w k) = omega arith
 shows_few (Wears n v) = omega arith
+shows_few (Reads n v sight told) = omega arith
 shows_few (Holds n w h) = shown_few h.old h.pending h.placed
 shows_few (Eyes n w h m v u free) = shown_few h.old None h.placed
 shows_few (Splits left fresh phase) = omega arith
@@ -69,6 +71,7 @@ loose_shows : (s : Stage) → IsLoose s → shows s ≡ 0
 loose_shows Idle loose = refl
 loose_shows (Saw n v w k) loose = refl
 loose_shows (Wears n v) loose = refl
+loose_shows (Reads n v sight told) loose = refl
 loose_shows (Holds n w h) loose = absurd loose
 loose_shows (Eyes n w h m v u free) loose = absurd loose
 loose_shows (Splits left fresh phase) loose = refl
@@ -117,6 +120,7 @@ module _ {l : Layout} {g : ℕ} where
   look_shows (times {h = h} clean below) = let none = clean_shows h clean in omega arith
   look_shows (learns has positive unready learnt) = omega arith
   look_shows (decides {h = h} has positive clean durable about learnt decided) = let none = clean_shows h clean in omega arith
+  look_shows (reads_on {s = s} {r = r} k) = let none = loose_shows s (read_before k) in let least = told_least r in omega arith
   look_shows (glances has unready) = omega arith
 
   -- what a call shows it goes on to show, until it is answered so, by a step on nodes

@@ -58,9 +58,8 @@ use Rattle.index_core.specs.CoreCalls.{machine_of, most_writes, limit_of, count_
 use Rattle.index_core.specs.PartyStates.{machine_stage, machine_footing, party_of, state_with, state_after, state_counted, machine_owes, owes, owed, IsTurnOf, IsPartyState}
 use Rattle.node_ops.specs.Calls.{IsSame}
 use Rattle.index_core.specs.Listings.{ListsAt}
-use Rattle.index_core.proofs.PartFacts.{idle_ends}
-use Rattle.index_core.proofs.Ranges.{lists_at, step_ends, step_named}
-use Rattle.index_core.specs.Indexes.{Index, world, IsIndex, RunningEnds, view_of, started_index, told, stepped_index, MakesCall}
+use Rattle.index_core.proofs.Ranges.{lists_at, step_named}
+use Rattle.index_core.specs.Indexes.{Index, world, IsIndex, view_of, started_index, told, stepped_index, MakesCall}
 use Rattle.index_core.proofs.Footings.{swap_footed, step_footed}
 use Rattle.index_core.proofs.Layering.{step_layered, one_layered}
 use Rattle.index_core.proofs.Lists.{map_there, map_set, owed-set, set_twice}
@@ -80,7 +79,7 @@ pub record StepFacts (s : Index) (party : ℕ) (state : PartyState) (machine : R
   pub kept : (spare : ℕ) → IsIndex (stepped_index s party state machine spare)
   pub weighs : (spare : ℕ) → RisesBy (AddsName s.layout (stage_of machine) (running_asks machine) (stage_after (running_turned machine (told s machine)))) (weight_sum (world s)) (weight_sum (world (stepped_index s party state machine spare)))
   pub counts : Counts s.layout (length s.history) (running_asks machine) (told s machine) (counted (stage_of machine))
-  pub lists : ListsAt s.layout (facts (world (stepped_index s party state machine 0))) machine
+  pub lists : ListsAt s.layout (facts (world (stepped_index s party state machine 0))) machine (told s machine)
   pub owns : OwnsWrites (s.history ++ written state.caller state.index (counted (stage_of machine))) state machine
   pub legal : (spare : ℕ) → IsLegal s.layout s.generation (facts (world (stepped_index s party state machine spare))) state.caller state.index state.since (stage_of machine) (reply_of (running_turned machine (told s machine)))
 
@@ -127,15 +126,6 @@ set_states l g states i now all is j state at =
     (λ (t : (j ≡ i) × (now ≡ state)). subst (λ (k : ℕ). IsPartyState l g k state) (sym t.0) (subst (IsPartyState l g i) t.1 is))
     (λ (t : (j ≢ i) × (get_elem? states j ≡ some state)). all j state t.1)
     (at_set states i j now state at)
-
--- and what parts have of ranges, of which one is another
-pub ends_but : (s : Index) (i : ℕ) (now : PartyState) → IsIndex s → IfSome now.machine (RunningEnds s.layout (facts (world s)))
-    → (j : ℕ) (state : PartyState) → get_elem? (set s.states i now) j ≡ some state → IfSome state.machine (RunningEnds s.layout (facts (world s)))
-ends_but s i now is here j state at =
-    ⊎_elim
-    (λ (t : (j ≡ i) × (now ≡ state)). subst (λ (d : PartyState). IfSome d.machine (RunningEnds s.layout (facts (world s)))) t.1 here)
-    (λ (t : (j ≢ i) × (get_elem? s.states j ≡ some state)). is.ends j state t.1)
-    (at_set s.states i j now state at)
 
 -- each turn makes the same call
 same_call : {M : Type 0} (fits : M → Type 0) (of : M → Call) (wrap : M → Running) (c : Call) (turn : Turn M (Once Placed)) → ((m : M) → running_call (wrap m) ≡ of m) → Stays fits of c turn → MakesCall c (wrapped wrap turn)
@@ -217,7 +207,6 @@ step_facts s i state machine is there flies =
         ordered = step_ordered s i state machine is.states is.ordered is.lawful.clock there flies kept_op;
         bounded = step_bounded s i state machine is there flies (keeps_call machine x takes) kept_op;
         named = step_named s i state machine is lawful;
-        ends = step_ends s i state machine is there flies lawful step;
       };
       lists = lists_at s i state machine is there flies;
       owns = owns s i state machine is.states is.ordered is.lawful.clock there flies;
@@ -330,7 +319,6 @@ start_keeps s i state c spare is there idle here =
       ordered = start_ordered s.states s.history i state m is.ordered;
       bounded = start_bounded s i state c is here;
       named = is.named;
-      ends = ends_but s i now is (idle_ends s.layout (facts (world s)) m (machine_idle s i c));
     }
 
 pub start_owes : (s : Index) (party : ℕ) (state : PartyState) (c : CoreCall) → get_elem? s.states party ≡ some state → state.machine ≡ None
@@ -362,7 +350,6 @@ count_keeps s i state spare is there idle =
       ordered = count_ordered s.states s.history i state idle is.ordered;
       bounded = count_bounded s i state is idle;
       named = is.named;
-      ends = ends_but s i now is (subst (λ (o : Option Running). IfSome o (RunningEnds s.layout (facts (world s)))) (sym idle) tt);
     }
 
 -- and owes what it owed
@@ -371,7 +358,7 @@ count_owes s i state there = let moved = owed-set s.states i state (state_counte
 
 -- how much room is told of an index is none of its laws
 pub respare : (s : Index) (spare : ℕ) → IsIndex s → IsIndex (record s { spare = spare })
-respare s spare is = record { lawful = is.lawful; whole = is.whole; tended = is.tended; layered = is.layered; parties = is.parties; states = is.states; ordered = is.ordered; bounded = is.bounded; named = is.named; ends = is.ends }
+respare s spare is = record { lawful = is.lawful; whole = is.whole; tended = is.tended; layered = is.layered; parties = is.parties; states = is.states; ordered = is.ordered; bounded = is.bounded; named = is.named }
 
 -- the index that a step leaves, at values that are equal to its own
 pub step_at : (s : Index) (i : ℕ) (e r e' : PartyState) (m m' : Running) (row : Row) (got' : ℕ) (turn : Turn Running (Once Placed)) (history : List Write) (spare : ℕ)

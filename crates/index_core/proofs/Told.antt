@@ -1,6 +1,6 @@
 -- What a step's call is answered, by its turn, and what the answer of a part lists.
 use Rattle.std.proofs.Common.{◌≡◌, ℕ, ◌≤◌, List, ◌++◌, length, refl, sym, ap, ◌∙◌, subst, arith}
-use Rattle.std.specs.Prelude.{Option, Some, None, IfSome, IsSome}
+use Rattle.std.specs.Prelude.{Option, Some, None, IfSome, IsSome, IsSomeAnd}
 use Rattle.pm_words.specs.declared.layout.Layout.{Layout}
 use Rattle.pm_words.specs.declared.machine.Turn.{Turn}
 use Rattle.pm_words.specs.declared.machine.Turn.TheVariants.{Go, Done}
@@ -17,7 +17,7 @@ use Rattle.node_ops.specs.declared.running.Running.{Running}
 use Rattle.node_ops.specs.declared.running.Running.TheVariants.{Getting, Putting, Deleting, Parting}
 use Rattle.node_ops.specs.Asked.{op_in, name_asked}
 use Rattle.node_ops.specs.CallStages.{reply_of}
-use Rattle.node_ops.specs.PartSteps.{IsEarly}
+use Rattle.node_ops.specs.PartSteps.{IsEarly, words_placed}
 use Rattle.node_ops.specs.RunningSteps.{IsRunning, running_turned, count_in, listed_in}
 use Rattle.node_ops.proofs.PartListing.{listed_is_answered, done_is_listed}
 use Rattle.index_law.specs.Facts.{Facts}
@@ -47,10 +47,21 @@ done_same is = cc
 
 -- A part that has no listing is answered before its place is.
 pub is_early : (m : Running) (x : ℕ) (answer : Once Placed) → running_turned m x ≡ Done answer → IsSome (count_in m) → listed_in m ≡ None → IsEarly answer
-is_early m x (once.Done placed) is counts none = absurd (let no : IsSome {T = PartWords} None = subst IsSome none (done_is_listed m x placed counts is) in cc)
+is_early m x (once.Done placed) is counts none = absurd (subst (λ (o : Option PartWords). IsSomeAnd o (λ w. (x ≡ w.version) × (placed ≡ words_placed w))) none (done_is_listed m x placed counts is))
 is_early m x (once.Spent clock) is counts none = tt
 is_early m x (once.Worn node word) is counts none = tt
 is_early m x (once.Again why) is counts none = tt
+
+-- One that has a listing and is done was told its version word, and its answer is the listing's.
+abbrev IsDoneOf : ℕ → PartWords → Once Placed → Type 0
+IsDoneOf x words (once.Done placed) = (x ≡ words.version) × (placed ≡ words_placed words)
+IsDoneOf x words answer = Unit {0}
+
+is_done : (m : Running) (x : ℕ) (answer : Once Placed) → running_turned m x ≡ Done answer → IsSome (count_in m) → (words : PartWords) → listed_in m ≡ Some words → IsDoneOf x words answer
+is_done m x (once.Done placed) is counts words lists = subst (λ (o : Option PartWords). IsSomeAnd o (λ w. (x ≡ w.version) × (placed ≡ words_placed w))) lists (done_is_listed m x placed counts is)
+is_done m x (once.Spent clock) is counts words lists = tt
+is_done m x (once.Worn node word) is counts words lists = tt
+is_done m x (once.Again why) is counts words lists = tt
 
 -- What it is told is its answer,
 early_told : (answer : Once Placed) → IsEarly answer → (count : ℕ) → answer_in (reply_with (Some count) None answer) ≡ answer
@@ -65,7 +76,13 @@ answer_told m x answer is = at (count_in m) refl (listed_in m) refl
     at : (count : Option ℕ) → count_in m ≡ count → (listed : Option PartWords) → listed_in m ≡ listed → answer_in (reply_with count listed answer) ≡ answer
     at None counts listed lists = refl
     at (Some count) counts None lists = early_told answer (is_early m x answer is (subst IsSome (sym counts) refl) lists) count
-    at (Some count) counts (Some words) lists = done_same (sym (listed_is_answered m words lists x) ∙ is)
+    at (Some count) counts (Some words) lists = with_words answer (is_done m x answer is (subst IsSome (sym counts) refl) words lists)
+      where
+        with_words : (a : Once Placed) → IsDoneOf x words a → answer_in (reply_with (Some count) (Some words) a) ≡ a
+        with_words (once.Done placed) same = ap (λ (p : Placed). once.Done p) (sym same.1)
+        with_words (once.Spent clock) same = refl
+        with_words (once.Worn node word) same = refl
+        with_words (once.Again why) same = refl
 
 pub answer_of_step : (m : Running) (x : ℕ) → answered_by (stepped_of m (running_turned m x)) ≡ reply_of (running_turned m x)
 answer_of_step m x = at (running_turned m x) refl
@@ -87,18 +104,23 @@ low_named (Putting put) sound counts = absurd cc
 low_named (Deleting del) sound counts = absurd cc
 low_named (Parting p) sound counts = (sound_call p sound).packed.named
 
-pub told_lists : (l : Layout) (f : Facts) (m : Running) (x : ℕ) (answer : Once Placed) → running_turned m x ≡ Done answer → IsRunning m → ((place : ℕ) → HasNames (after f.base f.history place)) → ListsAt l f m
+pub told_lists : (l : Layout) (f : Facts) (m : Running) (x : ℕ) (answer : Once Placed) → running_turned m x ≡ Done answer → IsRunning m → ((place : ℕ) → HasNames (after f.base f.history place)) → ListsAt l f m x
     → CallLists f.base f.history (op_in m) (count_in m) answer (listed_by (reply_with (count_in m) (listed_in m) answer))
 told_lists l f m x answer is sound named = at (count_in m) refl (listed_in m) refl
   where
     at : (count : Option ℕ) → count_in m ≡ count → (listed : Option PartWords) → listed_in m ≡ listed
-        → IfSome listed (λ words. IfSome count (λ n. IsPartAt l f (name_asked (op_in m)) n words)) → CallLists f.base f.history (op_in m) count answer (listed_by (reply_with count listed answer))
+        → IfSome listed (λ words. IfSome count (λ n. x ≡ words.version → IsPartAt l f (name_asked (op_in m)) n words)) → CallLists f.base f.history (op_in m) count answer (listed_by (reply_with count listed answer))
     at None counts listed lists here = refl
     at (Some count) counts None lists here = early_lists f.base f.history (name_asked (op_in m)) count answer (is_early m x answer is (subst IsSome (sym counts) refl) lists)
-    at (Some count) counts (Some words) lists here =
-        let low = low_named m sound (subst IsSome (sym counts) refl) in
-        subst (λ (a : Once Placed). PartLists f.base f.history (name_asked (op_in m)) count a (Some words)) (done_same (sym (listed_is_answered m words lists x) ∙ is))
-        (record { placed_so = refl; lists = lists_range l f (name_asked (op_in m)) count words low (named words.place) here })
+    at (Some count) counts (Some words) lists here = with_words answer (is_done m x answer is (subst IsSome (sym counts) refl) words lists)
+      where
+        with_words : (a : Once Placed) → IsDoneOf x words a → PartLists f.base f.history (name_asked (op_in m)) count a (listed_by (reply_with (Some count) (Some words) a))
+        with_words (once.Done placed) same =
+            let low = low_named m sound (subst IsSome (sym counts) refl) in
+            record { placed_so = sym same.1; lists = lists_range l f (name_asked (op_in m)) count words low (named words.place) (here same.0) }
+        with_words (once.Spent clock) same = refl
+        with_words (once.Worn node word) same = refl
+        with_words (once.Again why) same = refl
 
 -- So they stay as the history grows past the place.
 pub longer_lists : (base : Map) (h more : List Write) (o : NameOp) (count : Option ℕ) (answer : Once Placed) (part : Option PartWords) → ((placed : Placed) → answer ≡ once.Done placed → placed.place ≤ length h)

@@ -126,27 +126,27 @@ record Asks (v : View) (c : CoreCall) : Type 0 where
 
 asks : (v : View) (c : CoreCall) → IsRunning (machine_of v c) → IsOf (op_of c) (machine_of v c) → Asks v c
 asks v (call.Put name value limit) here of = record { view = here.0.call.view; named = subst IsName of.0 here.0.call.packed.named; limit = here.0.call.limit; value = here.1 }
-asks v (call.Get name) here of = record { view = here.call.view; named = subst IsName of here.call.packed.named; limit = tt; value = tt }
-asks v (call.Del name limit) here of = record { view = here.call.view; named = subst IsName of.0 here.call.packed.named; limit = here.call.limit; value = tt }
-asks v (call.Part low count) here of = record { view = here.call.view; named = subst IsName of here.call.packed.named; limit = tt; value = tt }
-asks v (call.Recheck node version) here of = record { view = here.call.view; named = subst IsName of here.call.packed.named; limit = tt; value = tt }
-asks v (call.Turn stamp release) here of = record { view = here.call.view; named = subst IsName of here.call.packed.named; limit = tt; value = tt }
+asks v (call.Get name) here of = record { view = here.0.call.view; named = subst IsName of here.0.call.packed.named; limit = tt; value = tt }
+asks v (call.Del name limit) here of = record { view = here.0.call.view; named = subst IsName of.0 here.0.call.packed.named; limit = here.0.call.limit; value = tt }
+asks v (call.Part low count) here of = record { view = here.0.call.view; named = subst IsName of here.0.call.packed.named; limit = tt; value = tt }
+asks v (call.Recheck node version) here of = record { view = here.0.call.view; named = subst IsName of here.0.call.packed.named; limit = tt; value = tt }
+asks v (call.Turn stamp release) here of = record { view = here.0.call.view; named = subst IsName of here.0.call.packed.named; limit = tt; value = tt }
 
 -- whatever is called begins so
 begins_alone : (w0 : World) (i : ℕ) (c : CoreCall) (p : Party) (index : ℕ) (v : View) → IsAtRest w0 → CanWalk w0.layout w0.generation w0.words → get_elem? w0.parties i ≡ some p → v.layout ≡ w0.layout → v.generation ≡ w0.generation → v.caller ≡ p.caller → Asks v c
     → LoneCall w0 i (op_of c) (limit_of c) (started w0 i p index) (begun_party w0 p index) (machine_of v c)
 begins_alone w0 i (call.Put name value limit) p index v rest can there layout generation own ask =
-    lone_calls_begin w0 i (op.Put name value) (Some limit) p index v rest can there ask.view layout generation own ask.named ask.limit ask.value
+    lone_calls_begin w0 i (op.Put name value) (Some limit) p index v rest can there ask.view layout generation own ask.named ask.limit refl ask.value
 begins_alone w0 i (call.Get name) p index v rest can there layout generation own ask =
-    lone_calls_begin w0 i (op.Get name) None p index v rest can there ask.view layout generation own ask.named ask.limit ask.value
+    lone_calls_begin w0 i (op.Get name) None p index v rest can there ask.view layout generation own ask.named ask.limit refl ask.value
 begins_alone w0 i (call.Del name limit) p index v rest can there layout generation own ask =
-    lone_calls_begin w0 i (op.Del name) (Some limit) p index v rest can there ask.view layout generation own ask.named ask.limit ask.value
+    lone_calls_begin w0 i (op.Del name) (Some limit) p index v rest can there ask.view layout generation own ask.named ask.limit refl ask.value
 begins_alone w0 i (call.Part low count) p index v rest can there layout generation own ask =
     lone_parts_begin w0 i low count p index v rest can there ask.view layout generation own ask.named
 begins_alone w0 i (call.Recheck node version) p index v rest can there layout generation own ask =
-    lone_calls_begin w0 i (op.Get []) None p index v rest can there ask.view layout generation own ask.named ask.limit ask.value
+    lone_calls_begin w0 i (op.Get []) None p index v rest can there ask.view layout generation own ask.named ask.limit refl ask.value
 begins_alone w0 i (call.Turn stamp release) p index v rest can there layout generation own ask =
-    lone_calls_begin w0 i (op.Get []) None p index v rest can there ask.view layout generation own ask.named ask.limit ask.value
+    lone_calls_begin w0 i (op.Get []) None p index v rest can there ask.view layout generation own ask.named ask.limit refl ask.value
 
 -- the call as it begins
 begun_call : (s0 : Index) (i : ℕ) (e : PartyState) (c : CoreCall) (n : ℕ) → IsIndex s0 → IsQuiet s0 → get_elem? s0.states i ≡ some e → IsRunning (machine_of (view_of s0 i) c)

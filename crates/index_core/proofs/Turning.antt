@@ -10,7 +10,7 @@ use Rattle.pm_words.specs.declared.machine.Turn.{Turn}
 use Rattle.pm_words.specs.declared.machine.Turn.TheVariants.{Go, Done}
 use Rattle.pm_words.specs.Rows.{CanAct, acted}
 use Rattle.call_stages.specs.Kinds.{gone_status, free_status}
-use Rattle.call_stages.specs.Stages.{Stage, Idle, Saw, Wears, Holds, Eyes, Splits, Leaves, Meets, Joins}
+use Rattle.call_stages.specs.Stages.{Stage, Idle, Saw, Wears, Reads, Holds, Eyes, Splits, Leaves, Meets, Joins}
 use Rattle.call_stages.specs.Watches.{Nothing}
 use Rattle.node_ops.specs.declared.running.Running.{Running}
 use Rattle.index_law.specs.Facts.{Facts}
@@ -40,13 +40,12 @@ use Rattle.layer_law.proofs.TurnSteps.{turn_step_keeps, turn_step_leaves}
 use Rattle.layer_law.proofs.TurnRests.{turn_start_keeps}
 use Rattle.index_core.specs.declared.party.PartyState.{PartyState}
 use Rattle.index_core.specs.PartyStates.{party_of, resting, turning_of, turn_after, IsTurnOf}
-use Rattle.index_core.specs.Indexes.{Index, IsIndex, RunningEnds, world, footed, layered}
+use Rattle.index_core.specs.Indexes.{Index, IsIndex, world, footed, layered}
 use Rattle.index_core.specs.Turns.{turn_told, turned_index, FindsNoneFree, TurnLaw, TurnKeeps, TurnBegins}
 use Rattle.index_core.proofs.Footings.{line_of, debt_of}
 use Rattle.index_core.proofs.InUse.{ends_counting, counted_none, in_use_weighs}
 use Rattle.index_core.proofs.Layering.{turn_of, map_own}
 use Rattle.index_core.proofs.Lists.{map_there, map_set, set_twice}
-use Rattle.index_core.proofs.PartFacts.{running_listed}
 use Rattle.index_core.proofs.Stepping.{set_states}
 
 -- The parties, of which one may have another turn.
@@ -110,13 +109,6 @@ module _ (s : Index) (i : ℕ) (state : PartyState) (turn : Option MakeTurn) (th
           late = is.bounded.late;
         };
         named = is.named;
-        ends = λ j e at.
-            let list : (facts (record (world s) { words = words; parties = map party_of states })).list ≡ (facts (world s)).list = ap (λ (f : Facts). f.list) leaves.nodes in
-            let held : IfSome e.machine (RunningEnds s.layout (facts (world s))) = ⊎_elim
-            (λ (mine : (j ≡ i) × (now ≡ e)). subst (λ (d : PartyState). IfSome d.machine (RunningEnds s.layout (facts (world s)))) mine.1 (is.ends i state there))
-            (λ (other : (j ≢ i) × (get_elem? s.states j ≡ some e)). is.ends j e other.1)
-            (at_set s.states i j now e at) in
-            IfSome_then e.machine held (λ (m : Running) ends. running_listed s.layout (facts (world s)) (facts (record (world s) { words = words; parties = map party_of states })) m list ends);
       }
 
 -- What the calls have lowered the weight by reads no status.
@@ -128,6 +120,7 @@ lowered_same l f status (p ∷ parties) = λ k. one p.stage k + lowered_same l f
     one Idle = refl
     one (Saw n v w k) = refl
     one (Wears n v) = refl
+    one (Reads n v sight told) = refl
     one (Holds n w h) = refl
     one (Eyes n w h m v u free) = refl
     one (Splits left fresh phase) = refl

@@ -10,7 +10,7 @@ use Rattle.pm_words.specs.Rows.{acted, got}
 use Rattle.cat_history.specs.Maps.{Map, map_of}
 use Rattle.cat_history.specs.Writes.{after, after_all}
 use Rattle.cat_history.specs.declared.op.Write.{Write}
-use Rattle.call_stages.specs.Stages.{Stage, Idle, Saw, Wears, Holds, Eyes, Splits, Leaves, Meets, Joins, counted}
+use Rattle.call_stages.specs.Stages.{Stage, Idle, Saw, Wears, Reads, Holds, Eyes, Splits, Leaves, Meets, Joins, counted}
 use Rattle.call_stages.specs.Stages.{placed_in}
 use Rattle.call_stages.specs.AnySteps.{AnyStep}
 use Rattle.call_stages.specs.declared.view.View.{View}
@@ -114,25 +114,6 @@ pub record IsBounded (parties : ℕ) (states : List PartyState) (history : List 
 abbrev pub parties_of : Layout → ℕ
 parties_of l = l.callers + 1
 
--- The range of a node that is held from this name on ends at this next one, or nowhere.
-abbrev pub HeldEnds : Layout → Facts → Stage → List ℕ → Option (List ℕ) → Type 0
-HeldEnds l f Idle low high = Unit {0}
-HeldEnds l f (Saw n v w k) low high = Unit {0}
-HeldEnds l f (Wears n v) low high = Unit {0}
-HeldEnds l f (Holds n w h) low high = EndsAt (range_of l f n) low high
-HeldEnds l f (Eyes n w h m v u free) low high = Unit {0}
-HeldEnds l f (Splits left fresh phase) low high = Unit {0}
-HeldEnds l f (Leaves left) low high = Unit {0}
-HeldEnds l f (Meets n w h right) low high = Unit {0}
-HeldEnds l f (Joins h left right pace) low high = Unit {0}
-
--- As long as a part of a scan holds its node, the node's range ends at the next node's anchor, as the part has it.
-abbrev pub RunningEnds : Layout → Facts → Running → Type 0
-RunningEnds l f (Getting get) = Unit {0}
-RunningEnds l f (Putting put) = Unit {0}
-RunningEnds l f (Deleting del) = Unit {0}
-RunningEnds l f (Parting part) = HeldEnds l f (part_stage part) (name_in (part_call part)) (high_of (part_behind part))
-
 -- The index is lawful, each party's machine makes its call, and a party's writes come in order.
 pub record IsIndex (s : Index) : Type 0 where
   pub lawful : Lawful (world s)
@@ -145,8 +126,6 @@ pub record IsIndex (s : Index) : Type 0 where
   pub ordered : AreOrdered s.states s.history
   pub bounded : IsBounded (parties_of s.layout) s.states s.history
   pub named : (place : ℕ) → HasNames (after (map_of s.base) s.history place)  -- the map at each place, too
-  pub ends : (i : ℕ) (state : PartyState) → get_elem? s.states i ≡ some state →
-      IfSome state.machine (RunningEnds s.layout (facts (world s)))
 
 -- The party's call, and the party that makes it.
 pub record IsInFlight (s : Index) (party : ℕ) : Type 0 where
@@ -239,8 +218,8 @@ pub record TurnsTo (old : Index) (party : ℕ) (new : Index) (result : Option (O
   -- an answer is the map's, a write that took place stands in the history, and a refusal has its cause
   pub says : SaysOf new.layout.slots (map_of new.base) new.history state (op_in machine) (running_call machine).limit
       result
-  -- where it has a listing, that is the map's as it was at its place
-  pub lists : ListsAt new.layout (facts (world new)) machine
+  -- where it has a listing, and is told its version word again, that is the map's as it was at its place
+  pub lists : ListsAt new.layout (facts (world new)) machine (told old machine)
   -- it has fewer actions left
   pub fewer : GoesBelow running_left (running_left machine) (running_turned machine (told old machine))
   pub turn : IsTurn old new state machine

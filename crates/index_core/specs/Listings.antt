@@ -22,15 +22,15 @@ pub record ListsRange (m : Map) (low : List ℕ) (count : ℕ) (words : PartWord
   pub lists : pairs_of words ≡ take count (range m low words.high)
   pub named : AllByRecursion (λ (entry : List ℕ). AreNameWords (entry_name entry)) (take words.len words.entries)
 
--- As it gives its node back: it lists the node's names from the low one on, as the map had them at its place; the high
+-- As it is done: it lists the node's names from the low one on, as the map had them at its place; the high
 -- one is where the node's range ends; and it tells the node's version word.
 pub record IsPartAt (l : Layout) (f : Facts) (low : List ℕ) (count : ℕ) (words : PartWords) : Type 0 where
   pub part : IsPartOf (after f.base f.history words.place) (range_of l f words.node) low count words
   pub ends : EndsAt (range_of l f words.node) low words.high
   pub version : f.version words.node ≡ words.version
 
--- That a machine with a listing, which is a part's, has now given its node back.
-abbrev pub ListsAt : Layout → Facts → Running → Type 0
-ListsAt l f machine =
-    IfSome (listed_in machine) (λ words. IfSome (count_in machine) (λ count. IsPartAt l f (name_asked (op_in machine))
-    count words))
+-- That a machine with a listing, which is a part's, has now been told this number, and is done, if it is the version word.
+abbrev pub ListsAt : Layout → Facts → Running → ℕ → Type 0
+ListsAt l f machine x =
+    IfSome (listed_in machine) (λ words. IfSome (count_in machine) (λ count. x ≡ words.version →
+        IsPartAt l f (name_asked (op_in machine)) count words))

@@ -13,7 +13,7 @@ use Rattle.pm_words.specs.Rows.{CanAct, MayName}
 use Rattle.call_stages.specs.declared.once.Once.{Once}
 use Rattle.call_stages.specs.declared.once.Once.TheVariants as once
 use Rattle.call_stages.specs.declared.once.Placed.{Placed}
-use Rattle.call_stages.specs.Stages.{Stage, Idle, Saw, Wears, Holds, Eyes, Splits, Leaves, Meets, Joins, counted}
+use Rattle.call_stages.specs.Stages.{Stage, Idle, Saw, Wears, Reads, Holds, Eyes, Splits, Leaves, Meets, Joins, counted}
 use Rattle.call_stages.specs.Stages.{placed_in}
 use Rattle.cat_history.specs.declared.op.NameOp.{NameOp}
 use Rattle.cat_history.specs.declared.op.NameOp.TheVariants as op
@@ -57,6 +57,7 @@ abbrev pub shows : Stage → ℕ
 shows Idle = 0
 shows (Saw n v w k) = 0
 shows (Wears n v) = 0
+shows (Reads n v sight told) = 0
 shows (Holds n w h) = shown_by h.old h.pending h.placed
 shows (Eyes n w h m v u free) = shown_by h.old None h.placed
 shows (Splits left fresh phase) = 0
@@ -92,8 +93,8 @@ pub record MachineLaw (s : Index) (party : ℕ) (state : PartyState) (machine : 
   pub says : SaysOf s.layout.slots (map_of s.base) (stepped_index s party state machine s.spare).history state
       (op_in machine) (running_call machine).limit
       (reply_of (running_turned machine (told s machine)))
-  -- the listing of a part, if it has one now, is that of the map at its place
-  pub lists : ListsAt s.layout (facts (world (stepped_index s party state machine s.spare))) machine
+  -- the listing of a part, if it has one now and is told its version word again, is that of the map at its place
+  pub lists : ListsAt s.layout (facts (world (stepped_index s party state machine s.spare))) machine (told s machine)
   -- it goes on with the same call
   pub keeps_op : IsOfAfter (op_in machine) (running_turned machine (told s machine))
   pub keeps_call : MakesCall (running_call machine) (running_turned machine (told s machine))

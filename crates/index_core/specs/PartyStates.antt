@@ -98,10 +98,14 @@ abbrev pub state_after : PartyState → Turn Running (Once Placed) → PartyStat
 state_after state (Go machine) = record state { machine = Some machine }
 state_after state (Done answer) = record state { index = index_after state.index answer; machine = None }
 
--- What a part is answered: its listing, if it has one, and else why it ended early.
+-- What a part is answered: its listing, if it has one and is done, and else why it ended early.
+abbrev pub done_part : PartWords → Once Placed → Once PartWords
+done_part words (once.Done placed) = once.Done words
+done_part words answer = early_of answer
+
 abbrev pub part_answer : Option PartWords → Once Placed → Once PartWords
 part_answer None answer = early_of answer
-part_answer (Some words) answer = once.Done words
+part_answer (Some words) answer = done_part words answer
 
 -- What a call is answered. One with a count is a part of a scan.
 abbrev pub reply_with : Option ℕ → Option PartWords → Once Placed → CoreReply

@@ -114,7 +114,7 @@ impl CoreReply {
     ghost use Rattle.node_ops.specs.PartSteps.{IsEarly};
     ghost use Rattle.index_core.specs.PartyStates.{reply_with};
 
-    /// The answer of a call, which is a part of a scan where it has a count, and has listed names where it took place.
+    /// The answer of a call, which is a part of a scan where it has a count, and lists names where it took place.
     pub(crate) fn of(
         count: Option<u64>,
         listed: Option<PartWords>,
@@ -126,9 +126,9 @@ impl CoreReply {
         if count.is_none() {
             return CoreReply::Placed(answer);
         }
-        CoreReply::Part(match listed {
-            Some(words) => Once::Done(words),
-            None => Part::early(answer),
+        CoreReply::Part(match (listed, answer) {
+            (Some(words), Once::Done(_)) => Once::Done(words),
+            _ => Part::early(answer),
         })
     }
 }

@@ -318,6 +318,7 @@ module _ (l : Layout) (g : ℕ) (f f' : Facts) (later : IsLater f f') where
         known = knows.known;
         free = knows.free;
         seen = omega arith;
+        reader = knows.reader;
         stands = λ is.
             let same : f.version n ≡ v = omega arith in
             stands_kept n k (calm.steady n knows.here (subst (λ (u : ℕ). IsFree u g) (sym same) knows.free) (is ∙ sym same)) calm list (knows.stands same);

@@ -38,6 +38,7 @@ module _ {l : Layout} {g : ℕ} where
       known = subst (λ (v : ℕ). generation_of v ≤ g) (sym e) (known n here);
       free = free;
       seen = omega (arith, e);
+      reader = tt;
       stands = λ is. record {
         listed = λ no. absurd (let none : false ≡ true = no in cc);
         sees = record { seen = tt; leads = λ ne. absurd (ne refl); beyond = λ ne. absurd (ne refl) };
@@ -50,6 +51,7 @@ module _ {l : Layout} {g : ℕ} where
       known = knows.known;
       free = knows.free;
       seen = knows.seen;
+      reader = tt;
       stands = λ same.
           let was = knows.stands same in
           record {
@@ -64,6 +66,7 @@ module _ {l : Layout} {g : ℕ} where
       known = knows.known;
       free = knows.free;
       seen = knows.seen;
+      reader = tt;
       stands = λ same.
           let was = knows.stands same in
           record {
@@ -78,6 +81,7 @@ module _ {l : Layout} {g : ℕ} where
       known = knows.known;
       free = knows.free;
       seen = knows.seen;
+      reader = tt;
       stands = λ same.
           let was = knows.stands same in
           let to : f.now n next_offset ≡ m = leads (f.now n) (f.now (f.now n next_offset)) was.sees in
@@ -93,6 +97,7 @@ module _ {l : Layout} {g : ℕ} where
       known = knows.known;
       free = knows.free;
       seen = knows.seen;
+      reader = record { named = named; unlimited = refl };
       stands = λ same.
           let was = knows.stands same in
           record {
@@ -122,6 +127,7 @@ module _ {l : Layout} {g : ℕ} where
       known = knows.known;
       free = knows.free;
       seen = knows.seen;
+      reader = record { named = knows.reader.named; unlimited = knows.reader.unlimited };
       stands = knows.stands;
       read = λ same.
           let was = knows.read same in
@@ -140,6 +146,7 @@ module _ {l : Layout} {g : ℕ} where
       known = knows.known;
       free = knows.free;
       seen = knows.seen;
+      reader = record { named = knows.reader.named; unlimited = knows.reader.unlimited };
       stands = knows.stands;
       read = λ same.
           let was = knows.read same in

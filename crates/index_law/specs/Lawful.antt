@@ -198,6 +198,11 @@ pub record IsRead (l : Layout) (f : Facts) (since n : ℕ) (h : Held) : Type 0 w
   pub time : IfSome h.time (IsTime (range_of l f n) f.base f.history since None)
   pub old : IfSome h.old (λ old. at (map_now f) h.name ≡ old)
 
+-- A reader is about a name, and has no limit.
+pub record IsReader (h : Held) : Type 0 where
+  pub named : IsName h.name
+  pub unlimited : h.limit ≡ None
+
 -- What a party knows that takes no lock. If the version word is still the one that it saw, the node is listed, what it
 -- saw and read of it is as it saw and read it, and on the node's range the map hasn't changed since its clock.
 pub record SureReads (l : Layout) (g : ℕ) (f : Facts) (since n v : ℕ) (k : Sight) (h : Option Held) : Type 0 where
@@ -205,6 +210,7 @@ pub record SureReads (l : Layout) (g : ℕ) (f : Facts) (since n v : ℕ) (k : S
   pub known : generation_of v ≤ g
   pub free : IsFree v g
   pub seen : v ≤ f.version n
+  pub reader : IfSome h IsReader
   pub stands : f.version n ≡ v → Stands f n k
   pub read : f.version n ≡ v → IfSome h (IsRead l f since n)
 

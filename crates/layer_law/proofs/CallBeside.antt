@@ -13,7 +13,7 @@ use Rattle.pm_words.proofs.Apart.{at-set_other}
 use Rattle.pm_words.proofs.Kept.{action_address-drain}
 use Rattle.data_node.specs.Spots.{Spot}
 use Rattle.data_node.specs.Lists.{next_offset, anchor_in, key_of}
-use Rattle.call_stages.specs.Stages.{Stage, Held, Grip, Gone, Gathered, Joined, Joins, Idle, Saw, Wears, Holds, Eyes, Splits, Leaves, Meets, HoldsNode, Tells}
+use Rattle.call_stages.specs.Stages.{Stage, Held, Grip, Gone, Gathered, Joined, Joins, Idle, Saw, Wears, Reads, Holds, Eyes, Splits, Leaves, Meets, HoldsNode, Tells}
 use Rattle.call_stages.specs.Kinds.{prev_address}
 use Rattle.call_stages.specs.Lines.{HeldLine, line_address, Marks, fills, opens, readies, Notes, passes_line, takes, looks_up, notes, keeps_safe}
 use Rattle.call_stages.specs.Footings.{Waits, IsRetired, IsOfMerge}
@@ -117,6 +117,7 @@ module _ (z : Layered) (i : ℕ) (p : Party) (is : IsLayered z) (there : get_ele
   retired_is Idle e is_retired = absurd is_retired
   retired_is (Saw n v u k) e is_retired = absurd is_retired
   retired_is (Wears n v) e is_retired = absurd is_retired
+  retired_is (Reads n v sight told) e is_retired = absurd is_retired
   retired_is (Holds n u h) e is_retired = absurd is_retired
   retired_is (Eyes n u h m v q free) e is_retired = absurd is_retired
   retired_is (Splits left fresh phase) e is_retired = absurd is_retired

@@ -28,6 +28,9 @@ use Rattle.layer_law.specs.Layers.{Layered, IsLayered}
 use Rattle.layer_law.proofs.FactTies.{facts_tie}
 use Rattle.layer_law.proofs.CallMoves.{Moved}
 use Rattle.layer_law.proofs.CallSteps.{holder_after, Context}
+use Rattle.call_stages.specs.Kinds.{reads_on}
+use Rattle.call_stages.specs.Stages.{IsLoose}
+use Rattle.index_law.proofs.Moves.{read_after}
 
 -- whom a step makes the holder of which node
 module _ (l : Layout) (g : ℕ) (f : Facts) (holder : ℕ → ℕ) (i caller index since : ℕ) where
@@ -138,6 +141,7 @@ no_look (misses other) is = cc
 no_look (times clean below) is = cc
 no_look (learns has positive unready knows) is = cc
 no_look (decides has positive clean durable about knows decided) is = cc
+no_look (reads_on k) is = subst IsLoose is (read_after k)
 no_look (glances has unready) is = cc
 
 -- the right node of a stage that merges

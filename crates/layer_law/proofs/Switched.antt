@@ -10,7 +10,7 @@ use Rattle.cat_key.specs.Names.{IsName}
 use Rattle.data_node.specs.Lists.{next_offset, anchor_in, key_of}
 use Rattle.call_stages.specs.declared.once.Once.{Once}
 use Rattle.call_stages.specs.declared.once.Placed.{Placed}
-use Rattle.call_stages.specs.Stages.{Stage, Held, Grip, Phase, Filling, Linked, Parted, Pace, Gathered, Joined, Gone, Idle, Saw, Wears, Holds, Eyes, Splits, Leaves, Meets, Joins, IsSwitched}
+use Rattle.call_stages.specs.Stages.{Stage, Held, Grip, Phase, Filling, Linked, Parted, Pace, Gathered, Joined, Gone, Idle, Saw, Wears, Reads, Holds, Eyes, Splits, Leaves, Meets, Joins, IsSwitched}
 use Rattle.call_stages.specs.Kinds.{Look, turns_back, wears, roams, roams_status, is_worn, sees, finds_live, watches, watches_next, turns_away, steps_back, wanders, peeks, peeks_status, eyes, eyes_free, passes, loses, misses, times, learns, decides, glances, Step, looks, locks, stores, commits, drains, counts, unlocks, splits, merges, claims, publishes, leaves, Split, fills, lights, switches, glances_left, glances_fresh, drains_left, drains_fresh, trims, Merge, meets, knows_own, knows_right, copies, takes_up, puts_down, parts, gathers, joins, glances_joined, drains_joined, retires, yields}
 use Rattle.call_stages.specs.Lines.{HeldLine, Notes, passes_line, takes, looks_up, notes, keeps_safe}
 use Rattle.call_stages.specs.Footings.{Minds, Waits, HasLine, IsOpenOf, IsOfMerge, IsKnownEmpty, IsLeftToTurn, KeepsOrLetsGo}
@@ -30,6 +30,9 @@ use Rattle.layer_law.proofs.CallMoves.{Moved, now_known}
 use Rattle.layer_law.proofs.CallLines.{line_tie, named_words, open_covers}
 use Rattle.layer_law.proofs.CallSteps.{Context}
 use Rattle.call_stages.specs.Stages.{Tells}
+use Rattle.call_stages.specs.Kinds.{reads_on}
+use Rattle.call_stages.specs.Stages.{IsLoose}
+use Rattle.index_law.proofs.Moves.{read_after}
 
 -- A party has a line that isn't READY, of whose number this holds.
 abbrev pub HasUnready : (ℕ → Type 0) → Option HeldLine → Type 0
@@ -72,6 +75,7 @@ pub switched_busy : (l : Layout) (g : ℕ) (f : Facts) (caller index since : ℕ
 switched_busy l g f caller index since Idle live sure n is = absurd is
 switched_busy l g f caller index since (Saw m v w k) live sure n is = absurd is
 switched_busy l g f caller index since (Wears m v) live sure n is = absurd is
+switched_busy l g f caller index since (Reads m v sight told) live sure n is = absurd is
 switched_busy l g f caller index since (Holds m w h) live sure n is = absurd is
 switched_busy l g f caller index since (Eyes m w h k v u free) live sure n is = absurd is
 switched_busy l g f caller index since (Splits left fresh (Filling lit)) live sure n is = absurd is
@@ -97,6 +101,18 @@ line_stays l s n P line after a x is (notes {ready = ready} within fits marks so
 )
 line_stays l s n P line after a x is (keeps_safe within fits hand cleans) waits has = has
 
+loose_unswitched : (s : Stage) → IsLoose s → (n : ℕ) → IsSwitched s n → ⊥
+loose_unswitched Idle loose n is = is
+loose_unswitched (Saw m v w k) loose n is = is
+loose_unswitched (Wears m v) loose n is = is
+loose_unswitched (Reads m v k h) loose n is = is
+loose_unswitched (Holds m w h) loose n is = loose
+loose_unswitched (Eyes m w h k v u free) loose n is = loose
+loose_unswitched (Splits left fresh phase) loose n is = loose
+loose_unswitched (Leaves left) loose n is = loose
+loose_unswitched (Meets m w h right) loose n is = loose
+loose_unswitched (Joins h left right pace) loose n is = loose
+
 no_look : {l : Layout} {g : ℕ} {s : Stage} {a : Action} {x : ℕ} {t : Stage} {r : Option (Once Placed)} → Look l g s a x t r → (n : ℕ) → IsSwitched t n → ⊥
 no_look (turns_back loose within busy) n is = is
 no_look (wears loose within free worn) n is = is
@@ -120,6 +136,7 @@ no_look (misses other) n is = is
 no_look (times clean below) n is = is
 no_look (learns has positive unready knows) n is = is
 no_look (decides has positive clean durable about knows decided) n is = is
+no_look (reads_on {t = t} k) n is = loose_unswitched t (read_after k) n is
 no_look (glances has unready) n is = is
 
 same_split : (left fresh left' fresh' : Grip) (phase : Phase) (n : ℕ) → fresh'.node ≡ fresh.node → IsSwitched (Splits left' fresh' phase) n → IsSwitched (Splits left fresh phase) n

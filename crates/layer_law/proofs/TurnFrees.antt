@@ -15,7 +15,7 @@ use Rattle.index_law.specs.Lawful.{SureSaw, SureEyes, SureWears, Sure, IsList, A
 use Rattle.index_law.specs.Twins.{BacksStage, AreDurable}
 use Rattle.index_law.specs.Whole.{Whole, IsWhole}
 use Rattle.index_law.proofs.Backing.{backs_steady}
-use Rattle.index_law.proofs.Bystanders.{IsLater, IsSteady, keeps_by, steady-status}
+use Rattle.index_law.proofs.Bystanders.{IsLater, IsSteady, if_some, keeps_by, steady-status}
 use Rattle.index_law.proofs.Locks.{own_of}
 use Rattle.index_law.proofs.Noting.{store_leaves}
 use Rattle.index_law.proofs.Prevs.{store_prev}
@@ -23,6 +23,8 @@ use Rattle.index_law.proofs.Rows.{with_status, facts-status}
 use Rattle.index_law.proofs.Twins.{IsNearer, nearer, store_closer, closer_stage, closer_durable, closer_versions, closer_front, cached_front}
 use Rattle.index_law.proofs.Versions.{unfree}
 use Rattle.index_law.proofs.Whole.{traced_fewer, joint_same}
+use Rattle.index_law.specs.Lawful.{IsRead, SureReads}
+use Rattle.std.specs.Prelude.{Option}
 
 -- the facts with a node that is FREE instead of GONE
 module _ (l : Layout) (g : ℕ) (f : Facts) (n : ℕ) (gone : f.status n ≡ gone_status) (free : IsFree (f.version n) g) where
@@ -85,6 +87,28 @@ module _ (l : Layout) (g : ℕ) (f : Facts) (n : ℕ) (gone : f.status n ≡ gon
   wears_freed : (m v : ℕ) → SureWears l g f m v → SureWears l g freed m v
   wears_freed m v knows = record { here = knows.here; free = knows.free; worn = knows.worn; stands = knows.stands }
 
+  read_freed : (since m : ℕ) (h : Held) → IsRead l f since m h → IsRead l freed since m h
+  read_freed since m h knows = record {
+    listed = knows.listed;
+    named = knows.named;
+    inside = knows.inside;
+    settled = record { means = knows.settled.means; stays = knows.settled.stays };
+    knows = knows.knows;
+    time = knows.time;
+    old = knows.old;
+  }
+
+  reads_freed : (since m v : ℕ) (k : Sight) (h : Option Held) → SureReads l g f since m v k h → SureReads l g freed since m v k h
+  reads_freed since m v k h knows = record {
+    here = knows.here;
+    known = knows.known;
+    free = knows.free;
+    seen = knows.seen;
+    reader = knows.reader;
+    stands = λ is. let was = knows.stands is in record { listed = was.listed; sees = was.sees; leads = was.leads };
+    read = λ is. if_some (IsRead l f since m) (IsRead l freed since m) h (read_freed since m) (knows.read is);
+  }
+
   -- who holds a node holds another one
   steady_freed : (caller index since : ℕ) (u : Stage) → Sure l g f caller index since u → (m : ℕ) → HoldsNode u m → IsSteady l f freed m
   steady_freed caller index since u knows m holds = steady-status l f n 0 m
@@ -92,7 +116,7 @@ module _ (l : Layout) (g : ℕ) (f : Facts) (n : ℕ) (gone : f.status n ≡ gon
 
   sure_freed : (caller index since : ℕ) (u : Stage) → Sure l g f caller index since u → Sure l g freed caller index since u
   sure_freed caller index since u knows =
-      keeps_by l g f freed later_freed saw_freed eyes_freed wears_freed caller index since u (steady_freed caller index since u knows) knows
+      keeps_by l g f freed later_freed saw_freed eyes_freed wears_freed reads_freed caller index since u (steady_freed caller index since u knows) knows
 
   settled_freed : AreSettled l g f → AreSettled l g freed
   settled_freed settled m listed unlocked = let was = settled m listed unlocked in record { means = was.means; stays = was.stays }

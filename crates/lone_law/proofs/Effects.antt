@@ -24,6 +24,8 @@ use Rattle.index_law.proofs.Loose.{loose_counted, loose_unplaced}
 use Rattle.index_law.specs.LoneShapes.{has_merged, IsOut}
 use Rattle.lone_law.proofs.Cuts.{loose_uncut}
 use Rattle.lone_law.specs.Tries.{is_cut, has_retired}
+use Rattle.call_stages.specs.Kinds.{Read, views, views_live, views_word, views_next, dates, notes, finds, confirms, wavers, reads_on}
+use Rattle.call_stages.specs.Stages.{Reads}
 
 -- an answer that isn't Done
 abbrev pub IsDone : Once Placed → Type 0
@@ -91,6 +93,18 @@ answer_does l f f' n w x h r same none (is_spent unplaced time) = ends none (λ 
 answer_does l f f' n w x h r same none (has_no_room unplaced time old full) = ends none (λ no. no) unplaced same
 answer_does l f f' n w x h r same none (refuses unplaced is) = ends none (λ no. no) unplaced same
 
+module _ {l : Layout} {g : ℕ} (f : Facts) where
+  read_does : {s : Stage} {a : Action} {x : ℕ} {t : Stage} {r : Option (Once Placed)} → Read l g s a x t r → Effect l f f s x t r
+  read_does (views {s = s} {n = n} {x = x} loose here free) = from_loose l f s (Reads n x _ None) x loose refl refl tt
+  read_does (views_live here is) = stays refl refl refl (inl tt) refl
+  read_does (views_word has positive live next learnt) = stays refl refl refl (inl tt) refl
+  read_does (views_next has low high ne live live' next leads learnt) = stays refl refl refl (inl tt) refl
+  read_does (dates named live between kept) = stays refl refl refl (inl tt) refl
+  read_does (notes has positive learnt) = stays refl refl refl (inl tt) refl
+  read_does (finds has positive learnt decided) = stays refl refl refl (inl tt) refl
+  read_does (confirms here same unplaced unlimited time old) = is_done refl tt refl
+  read_does (wavers here other) = ends refl (λ no. no) refl refl
+
 module _ {l : Layout} {g : ℕ} (f : Facts) (list : IsList l f) (caller index since : ℕ) where
   look_does : {s : Stage} {a : Action} {x : ℕ} {t : Stage} {r : Option (Once Placed)} → Look l g s a x t r → Sure l g f caller index since s → Effect l f f s x t r
   look_does (turns_back {s = s} {n = n} {x = x} loose here busy) knows = ends (loose_counted s loose) (λ no. no) (loose_unplaced s loose) refl
@@ -115,6 +129,7 @@ module _ {l : Layout} {g : ℕ} (f : Facts) (list : IsList l f) (caller index si
   look_does (times {n = n} {w = w} {h = h} clean below) knows = stays (unready n w h clean.ready) refl refl (inr (refl, refl)) refl
   look_does (learns {n = n} {w = w} {h = h} has positive is learnt) knows = stays (unready n w h is) refl refl (inr (refl, refl)) refl
   look_does (decides {n = n} {w = w} {h = h} has positive clean durable about learnt decided) knows = stays (unready n w h clean.ready) refl refl (inr (refl, refl)) refl
+  look_does (reads_on k) knows = read_does f k
   look_does (glances {n = n} {w = w} {h = h} has is) knows = stays (unready n w h is) refl refl (inr (refl, refl)) refl
 
   pub step_does : {s : Stage} {a : Action} {x : ℕ} {t : Stage} {r : Option (Once Placed)} → (k : Step l g s a x t r) → Sure l g f caller index since s → Effect l f (fact_after k f caller index) s x t r
@@ -182,6 +197,17 @@ module _ {l : Layout} {g : ℕ} (f : Facts) (list : IsList l f) (caller index si
   })
   step_does (merges (yields next durable)) knows = stays refl refl refl (inr (refl, refl)) refl
 
+read_idle : {l : Layout} {g : ℕ} {s : Stage} {a : Action} {x : ℕ} {t : Stage} {r : Option (Once Placed)} {answer : Once Placed} → Read l g s a x t r → r ≡ Some answer → t ≡ Idle
+read_idle (views loose here free) is = absurd (cc)
+read_idle (views_live here live) is = absurd (cc)
+read_idle (views_word has positive live next learnt) is = absurd (cc)
+read_idle (views_next has low high ne live live' next leads learnt) is = absurd (cc)
+read_idle (dates named live between kept) is = absurd (cc)
+read_idle (notes has positive learnt) is = absurd (cc)
+read_idle (finds has positive learnt decided) is = absurd (cc)
+read_idle (confirms here same unplaced unlimited time old) is = refl
+read_idle (wavers here other) is = refl
+
 -- after an answer it relies on nothing
 look_idle : {l : Layout} {g : ℕ} {s : Stage} {a : Action} {x : ℕ} {t : Stage} {r : Option (Once Placed)} {answer : Once Placed} → Look l g s a x t r → r ≡ Some answer → t ≡ Idle
 look_idle (turns_back loose here busy) is = refl
@@ -206,6 +232,7 @@ look_idle (misses other) is = refl
 look_idle (times clean below) is = absurd (cc)
 look_idle (learns has positive unready learnt) is = absurd (cc)
 look_idle (decides has positive clean durable about learnt decided) is = absurd (cc)
+look_idle (reads_on k) is = read_idle k is
 look_idle (glances has unready) is = absurd (cc)
 
 pub answers_idle : {l : Layout} {g : ℕ} {s : Stage} {a : Action} {x : ℕ} {t : Stage} {r : Option (Once Placed)} {answer : Once Placed} → Step l g s a x t r → r ≡ Some answer → t ≡ Idle

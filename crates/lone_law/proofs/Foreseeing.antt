@@ -92,18 +92,9 @@ use Rattle.lone_law.specs.Tries.{HasDeleted, Trying}
 use Rattle.index_law.proofs.Loose.{loose_unplaced}
 use Rattle.lone_law.proofs.MergeStands.{live_is, ForeseesSo, merge_foresees}
 use Rattle.lone_law.proofs.Standing.{both, shape_tries, no_next_was, next_was, had_was, left_was, full_was}
-
--- a look-up has no place
-looks_unplaced : (call : Call) (at : LookupAt) → placed_in (lookup_at_stage call at) ≡ None
-looks_unplaced call (look.Floor floor) = refl
-looks_unplaced call (look.Walk walk) = loose_unplaced (walk_stage walk) (walk_loose walk.generation walk.node walk.at)
-looks_unplaced call (look.Lock seen locked) = refl
-looks_unplaced call (look.Clock locked) = refl
-looks_unplaced call (look.Spent hold) = refl
-looks_unplaced call (look.Bitmap hold) = refl
-looks_unplaced call (look.Prints hold bitmap prints k) = refl
-looks_unplaced call (look.Name hold directory left slot k) = refl
-looks_unplaced call (look.Value hold directory slot) = refl
+use Rattle.node_ops.proofs.Endings.{lookup_placed}
+use Rattle.data_list.specs.WalkStages.{live_sight}
+use Rattle.std.specs.Prelude.{[]}
 
 -- where it is after a turn
 abbrev pub DelForeseesSo : World → List ℕ → Turn Del (Once Placed) → Type 0
@@ -317,7 +308,7 @@ module _ (w0 : World) (name : List ℕ) (list : IsList w0.layout (facts w0)) (l 
   finish_ends finish (Some line) (finish_at.Unlock place) free given so = absurd free
 
   pub del_ends : (machine : Del) (x : ℕ) → IsDel machine → DelForesees w0 name machine → Legal (del_stage machine) → placed_in (del_stage machine) ≢ None → del_turned machine x ≡ Done (once.Done placed) → EndsSo w0 name (del_stage machine)
-  del_ends (del.Single (single_del.Looking lookup)) x sound so legal given done = absurd (given (looks_unplaced lookup.call lookup.at))
+  del_ends (del.Single (single_del.Looking lookup)) x sound so legal given done = absurd (given (lookup_placed (live_sight []) lookup.call lookup.at))
   del_ends (del.Single (single_del.Next call hold bitmap hit)) x sound so legal given done = absurd (given refl)
   del_ends (del.Single (single_del.Taking call hold bitmap hit take)) x sound so legal given done = absurd (given refl)
   del_ends (del.Single (single_del.Refusing call hold bitmap hit)) x sound so legal given done = absurd (given refl)
@@ -328,7 +319,7 @@ module _ (w0 : World) (name : List ℕ) (list : IsList w0.layout (facts w0)) (l 
 -- a delete that was answered that it took place, and tried to merge, has its line
 pub del_had_line : (w0 : World) (name : List ℕ) (l : Layout) (words0 words : List ℕ) (machine : Del) → DelIsThere l words0 words machine → DelForesees w0 name machine → placed_in (del_stage machine) ≢ None → TriesMerge w0 name
     → HasLine l words0 (del_call machine).view.caller
-del_had_line w0 name l words0 words (del.Single (single_del.Looking lookup)) stands so given tries = absurd (given (looks_unplaced lookup.call lookup.at))
+del_had_line w0 name l words0 words (del.Single (single_del.Looking lookup)) stands so given tries = absurd (given (lookup_placed (live_sight []) lookup.call lookup.at))
 del_had_line w0 name l words0 words (del.Single (single_del.Next call hold bitmap hit)) stands so given tries = absurd (given refl)
 del_had_line w0 name l words0 words (del.Single (single_del.Taking call hold bitmap hit take)) stands so given tries = absurd (given refl)
 del_had_line w0 name l words0 words (del.Single (single_del.Refusing call hold bitmap hit)) stands so given tries = absurd (given refl)

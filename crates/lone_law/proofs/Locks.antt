@@ -9,7 +9,7 @@ use Rattle.version_lock.specs.Versions.{generation_of, kept_count, locked_word, 
 use Rattle.version_lock.proofs.VersionFacts.{kept_count-same, kept_count-earlier, count_of-le, generation_of-version_word, count_of-version_word, freed-locked_word}
 use Rattle.call_stages.specs.declared.once.Once.{Once}
 use Rattle.call_stages.specs.declared.once.Placed.{Placed}
-use Rattle.call_stages.specs.Stages.{Held, Stage, Idle, Saw, Wears, Holds, Eyes, Splits, Leaves, Meets, Joins, IsLoose}
+use Rattle.call_stages.specs.Stages.{Held, Stage, Idle, Saw, Wears, Reads, Holds, Eyes, Splits, Leaves, Meets, Joins, IsLoose}
 use Rattle.call_stages.specs.Kinds.{Look, turns_back, is_worn, wears, roams, roams_status, sees, misses, times, learns, decides, glances, finds_live, watches, watches_next, turns_away, steps_back, wanders, fills, lights, switches, glances_left, glances_fresh, drains_left, drains_fresh, trims, splits, meets, knows_own, knows_right, copies, takes_up, puts_down, parts, gathers, joins, glances_joined, drains_joined, retires, yields, merges, peeks, peeks_status, eyes, eyes_free, passes, loses, claims, publishes, leaves, Step, looks, locks, stores, commits, drains, counts, unlocks}
 use Rattle.index_law.specs.Facts.{Facts}
 use Rattle.index_law.specs.Worlds.{facts}
@@ -19,6 +19,9 @@ use Rattle.call_stages.specs.AnySteps.{on_nodes, beside}
 use Rattle.index_law.proofs.AnySteps.{beside_keeps}
 use Rattle.index_law.proofs.Versions.{unfree}
 use Rattle.lone_law.specs.Locks.{locks_of, IsTaken, IsLockedOnce, AreLocked, IsLeft, HoldsLocked, HasLocked, PartsOnce, AfterLocks, LocksGo, FewestLose, WornHasNone}
+use Rattle.call_stages.specs.Kinds.{reads_on}
+use Rattle.index_law.proofs.Moves.{read_before, read_after}
+use Rattle.call_stages.specs.Stages.{IsLoose}
 
 -- a free word that is not worn leaves locks
 locks_there : (v g : ℕ) → generation_of v ≤ g → (IsWorn v g → ⊥) → locks_of g v ≡ 0 → ⊥
@@ -75,6 +78,7 @@ module _ (g : ℕ) (before now : ℕ → ℕ) where
   loose_same leaving Idle loose has = has
   loose_same leaving (Saw n v w k) loose has = has
   loose_same leaving (Wears n v) loose has = has
+  loose_same leaving (Reads n v sight told) loose has = has
   loose_same leaving (Holds n w h) loose has = absurd loose
   loose_same leaving (Eyes n w h m v u free) loose has = absurd loose
   loose_same leaving (Splits left fresh phase) loose has = absurd loose
@@ -101,6 +105,20 @@ module _ (g : ℕ) (before now : ℕ → ℕ) where
   still_once false n w h t after once has = has
   still_once true n w h t after once has = absurd (once.last refl tt refl)
 
+  -- a step of a read leaves all locks
+  loose_after : (after : Bool) (t : Stage) (r : Option (Once Placed)) → IsLoose t → ((m : ℕ) → now m ≡ before m) → AfterLocks g before now after t r
+  loose_after after t (Some answer) loose same = keeps g before now same
+  loose_after after Idle None loose same = same
+  loose_after after (Saw n v w k) None loose same = same
+  loose_after after (Wears n v) None loose same = same
+  loose_after after (Reads n v k h) None loose same = same
+  loose_after after (Holds n w h) None loose same = absurd loose
+  loose_after after (Eyes n w h m v u free) None loose same = absurd loose
+  loose_after after (Splits left fresh phase) None loose same = absurd loose
+  loose_after after (Leaves left) None loose same = absurd loose
+  loose_after after (Meets n w h right) None loose same = absurd loose
+  loose_after after (Joins h left right pace) None loose same = absurd loose
+
   look_locks : {l : Layout} {s : Stage} {a : Action} {x : ℕ} {t : Stage} {r : Option (Once Placed)} (leaving after : Bool) → Look l g s a x t r → HasLocked g before now leaving s → PartsOnce s leaving t after r → AfterLocks g before now after t r
   look_locks leaving after (turns_back {s = s} loose here busy) has one = keeps g before now (loose_same leaving s loose has)
   look_locks leaving after (wears {s = s} loose here free worn) has one = loose_same leaving s loose has
@@ -124,6 +142,7 @@ module _ (g : ℕ) (before now : ℕ → ℕ) where
   look_locks leaving after (times {n = n} {w = w} clean below) has one = holds_once after n w (still_once leaving n w _ _ after one has)
   look_locks leaving after (learns {n = n} {w = w} at positive unready learnt) has one = holds_once after n w (still_once leaving n w _ _ after one has)
   look_locks leaving after (decides {n = n} {w = w} at positive clean durable about learnt decided) has one = holds_once after n w (still_once leaving n w _ _ after one has)
+  look_locks leaving after (reads_on {s = s} {t = t} {r = r} k) has one = loose_after after t r (read_after k) (loose_same leaving s (read_before k) has)
   look_locks leaving after (glances {n = n} {w = w} at unready) has one = holds_once after n w (still_once leaving n w _ _ after one has)
 
 -- it is taken from the word that it was
@@ -214,6 +233,7 @@ locks_go before w i p leaving action x next after answer lawful there has one (b
     on_still g before now leaving after Idle once has = has
     on_still g before now leaving after (Saw n v w k) once has = has
     on_still g before now leaving after (Wears n v) once has = has
+    on_still g before now leaving after (Reads n v sight told) once has = has
     on_still g before now leaving after (Holds n w h) once has = holds_once g before now after n w (still_once g before now leaving n w h (Holds n w h) after once has)
     on_still g before now leaving after (Eyes n w h m v u free) once has = has
     on_still g before now leaving after (Splits left fresh phase) once has = has

@@ -1,6 +1,6 @@
 -- A whole try of any call, with no other in flight.
-use Rattle.std.proofs.Common.{◌≡◌, ◌≢◌, ℕ, ◌+◌, ◌<◌, ◌≤◌, ◌^◌, ◌⊎◌, inl, inr, ⊎_elim, Bool, true, false, cond, List, ◌++◌, length, refl, sym, ap, ◌∙◌, subst, arith}
-use Rattle.std.specs.Prelude.{Option, Some, None, IfSome, IsTrue, IsSome, IsSomeAnd, ◌*◌}
+use Rattle.std.proofs.Common.{◌≡◌, ◌≢◌, ℕ, ◌+◌, ◌<◌, ◌≤◌, ◌^◌, ◌⊎◌, inl, inr, ⊎_elim, Bool, true, false, cond, List, [], ◌++◌, length, refl, sym, ap, ◌∙◌, subst, arith}
+use Rattle.std.specs.Prelude.{Option, Some, None, IfSome, IsTrue, IsSome, is_some, IsSomeAnd, ◌*◌}
 use Rattle.std.specs.FinMap.{insert, get-insert}
 use Rattle.std.proofs.lemmas.Bool.{leb-true}
 use Rattle.std.proofs.lemmas.List.{append-nil}
@@ -30,7 +30,7 @@ use Rattle.cat_history.specs.declared.op.NameOp.TheVariants as op
 use Rattle.call_stages.specs.declared.once.Once.{Once}
 use Rattle.call_stages.specs.declared.once.Once.TheVariants as once
 use Rattle.call_stages.specs.declared.once.Placed.{Placed}
-use Rattle.call_stages.specs.Stages.{Held, Stage, Idle, Saw, Wears, Holds, Eyes, Splits, Leaves, Meets, Joins, IsLoose, counted, placed_in}
+use Rattle.call_stages.specs.Stages.{Held, Sight, Stage, Idle, Saw, Wears, Reads, Holds, Eyes, Splits, Leaves, Meets, Joins, IsLoose, counted, placed_in}
 use Rattle.call_stages.specs.Kinds.{Told, LeadsWithin}
 use Rattle.call_stages.specs.AnySteps.{AnyStep}
 use Rattle.search_layer.specs.Layers.{IsFloorOf}
@@ -46,8 +46,8 @@ use Rattle.node_ops.specs.declared.del.Del.TheVariants as del
 use Rattle.node_ops.specs.declared.single_del.SingleDel.TheVariants as single_del
 use Rattle.node_ops.specs.declared.lookup.LookupAt.{LookupAt}
 use Rattle.node_ops.specs.declared.lookup.LookupAt.TheVariants as look
-use Rattle.data_list.specs.WalkStages.{walk_stage}
-use Rattle.data_list.proofs.WalkLaw.{walk_loose}
+use Rattle.data_list.specs.WalkStages.{live_sight}
+use Rattle.node_ops.proofs.PlainSteps.{walk_by_loose}
 use Rattle.node_ops.specs.declared.put.Put.{Put}
 use Rattle.node_ops.specs.declared.put.Put.TheVariants as put
 use Rattle.node_ops.specs.declared.single_put.SinglePut.TheVariants as single_put
@@ -88,7 +88,7 @@ use Rattle.split_merge.proofs.OfSplits.{stages_are_of_splits}
 use Rattle.node_ops.specs.DelSteps.{IsDel, del_call, del_turned, del_merged}
 use Rattle.node_ops.specs.RunningSteps.{IsRunning, Sound, running_call, running_asks, running_turned, running_leads, wrapped, wrapped_part}
 use Rattle.node_ops.specs.PartSteps.{IsPart, part_call, part_turned, placed_turn}
-use Rattle.node_ops.specs.CallStages.{lookup_at_stage, del_stage, has_place, stage_of, stage_after, reply_of, SoundAfter, found_full}
+use Rattle.node_ops.specs.CallStages.{held_by, walk_by, behind_sight, lookup_at_stage, del_stage, has_place, stage_of, stage_after, reply_of, SoundAfter, found_full}
 use Rattle.node_ops.proofs.CallLaw.{turns_are_steps, leads_are_taken}
 use Rattle.node_ops.proofs.LookupSound.{Stays}
 use Rattle.node_ops.proofs.CallSound.{get_stays, put_stays, del_stays, turns_stay_sound}
@@ -113,7 +113,7 @@ use Rattle.lone_law.specs.Merging.{LeavesShape}
 use Rattle.lone_law.specs.MergeStands.{merge_leaves}
 use Rattle.lone_law.specs.Splitting.{HasLine, LacksLine, HoldsAlone}
 use Rattle.lone_law.specs.Tries.{IsFor, is_same, Trying, HasKeptOrMerged, Says, LeavesHistory}
-use Rattle.lone_law.specs.LoneCalls.{HasClaimed, IsPast, IsThere, Foresees, is_leaving, LoneCall, FindsFull, NeedsLine, FindsWorn, IsLate, IsAnswered, AfterCall, LoneCallsGo, LoneCallsBegin, LonePartsBegin}
+use Rattle.lone_law.specs.LoneCalls.{HasLimit, HasClaimed, IsPast, IsThere, Foresees, is_leaving, LoneCall, FindsFull, NeedsLine, FindsWorn, IsLate, IsAnswered, AfterCall, LoneCallsGo, LoneCallsBegin, LonePartsBegin}
 use Rattle.node_ops.specs.Endings.{limit_in, IsPutOp}
 use Rattle.lone_law.proofs.Foreseeing.{DelForeseesSo, EndsSo, del_foresees, del_ends, del_had_line, PutForeseesSo, put_foresees}
 use Rattle.lone_law.proofs.Locks.{locks_go}
@@ -164,6 +164,8 @@ sure_below : (l : Layout) (g : ℕ) (f : Facts) (caller index since : ℕ) (s : 
 sure_below l g f caller index since Idle knows = tt
 sure_below l g f caller index since (Saw n v w k) knows = tt
 sure_below l g f caller index since (Wears n v) knows = tt
+sure_below l g f caller index since (Reads n v k None) knows = tt
+sure_below l g f caller index since (Reads n v k (Some h)) knows = subst (λ (o : Option ℕ). IfSome o (λ most. since < most)) (sym knows.reader.unlimited) tt
 sure_below l g f caller index since (Holds n w h) knows = knows.below
 sure_below l g f caller index since (Eyes n w h m v u free) knows = knows.0.below
 sure_below l g f caller index since (Splits left fresh phase) knows = tt
@@ -181,6 +183,8 @@ named_by : (l : Layout) (g : ℕ) (f f' : Facts) (caller index since : ℕ) (nam
 named_by l g f f' caller index since name Idle placed knows about legal = absurd legal
 named_by l g f f' caller index since name (Saw n v w k) placed knows about legal = absurd legal
 named_by l g f f' caller index since name (Wears n v) placed knows about legal = absurd legal
+named_by l g f f' caller index since name (Reads n v k None) placed knows about legal = absurd legal
+named_by l g f f' caller index since name (Reads n v k (Some h)) placed knows about legal = subst IsName about knows.reader.named
 named_by l g f f' caller index since name (Holds n w h) placed knows about legal = subst IsName about knows.named
 named_by l g f f' caller index since name (Eyes n w h m v u free) placed knows about legal = absurd legal
 named_by l g f f' caller index since name (Splits left fresh phase) placed knows about legal = absurd legal
@@ -199,6 +203,7 @@ abbrev HoldsFew : Stage → Type 0
 HoldsFew Idle = Unit {0}
 HoldsFew (Saw n v w k) = Unit {0}
 HoldsFew (Wears n v) = Unit {0}
+HoldsFew (Reads n v sight told) = Unit {0}
 HoldsFew (Holds n w h) = Unit {0}
 HoldsFew _ = ⊥
 
@@ -206,6 +211,7 @@ loose_one : (s : Stage) → IsLoose s → HoldsFew s
 loose_one Idle loose = tt
 loose_one (Saw n v w k) loose = tt
 loose_one (Wears n v) loose = tt
+loose_one (Reads n v sight told) loose = tt
 loose_one (Holds n w h) loose = tt
 loose_one (Eyes n w h m v u free) loose = absurd loose
 loose_one (Splits left fresh phase) loose = absurd loose
@@ -213,22 +219,28 @@ loose_one (Meets n w h right) loose = absurd loose
 loose_one (Joins h left right pace) loose = absurd loose
 loose_one (Leaves left) loose = absurd loose
 
-looks_one : (call : Call) (at : LookupAt) → HoldsFew (lookup_at_stage call at)
-looks_one call (look.Floor floor) = tt
-looks_one call (look.Walk walk) = loose_one (walk_stage walk) (walk_loose walk.generation walk.node walk.at)
-looks_one call (look.Lock seen locked) = tt
-looks_one call (look.Clock locked) = tt
-looks_one call (look.Spent hold) = tt
-looks_one call (look.Bitmap hold) = tt
-looks_one call (look.Prints hold bitmap prints k) = tt
-looks_one call (look.Name hold directory left slot k) = tt
-looks_one call (look.Value hold directory slot) = tt
+held_one : (limit : Option ℕ) (n word : ℕ) (kept : Sight) (h : Held) → HoldsFew (held_by limit n word kept h)
+held_one None n word kept h = tt
+held_one (Some most) n word kept h = tt
+
+looks_one : (kept : Sight) (call : Call) (at : LookupAt) → HoldsFew (lookup_at_stage kept call at)
+looks_one kept call (look.Floor floor) = tt
+looks_one kept call (look.Walk walk) = loose_one (walk_by call.limit walk) (walk_by_loose call.limit walk)
+looks_one kept call (look.Read seen) = tt
+looks_one kept call (look.Lock seen locked) = tt
+looks_one kept call (look.Clock locked) = tt
+looks_one kept call (look.Spent hold) = tt
+looks_one kept call (look.Bitmap hold) = held_one call.limit _ _ _ _
+looks_one kept call (look.Prints hold bitmap prints k) = held_one call.limit _ _ _ _
+looks_one kept call (look.Name hold directory left slot k) = held_one call.limit _ _ _ _
+looks_one kept call (look.Value hold directory slot) = held_one call.limit _ _ _ _
 
 -- what splits is for its name
 split_is_for : (h : Held) (name : List ℕ) (own : Option Change) (s : Stage) → h.name ≡ name → h.old ≡ Some None → IsOfSplit h s → IsFor name own s
 split_is_for h name own Idle named lacked is = absurd is
 split_is_for h name own (Saw n v w k) named lacked is = absurd is
 split_is_for h name own (Wears n v) named lacked is = absurd is
+split_is_for h name own (Reads n v sight told) named lacked is = absurd is
 split_is_for h name own (Holds n w k) named lacked is = tt
 split_is_for h name own (Eyes n w k m v u free) named lacked is = tt
 split_is_for h name own (Splits left fresh phase) named lacked is = (is.0 ∙ named, is.1 ∙ lacked)
@@ -243,6 +255,7 @@ split_parts h (Joins k left right pace) is two = is
 split_parts h Idle is two = two
 split_parts h (Saw n v w k) is two = two
 split_parts h (Wears n v) is two = two
+split_parts h (Reads n v sight told) is two = two
 split_parts h (Holds n w k) is two = two
 split_parts h (Eyes n w k m v u free) is two = two
 split_parts h (Splits left fresh phase) is two = two
@@ -259,6 +272,7 @@ few_parts (Joins h left right pace) one two = one
 few_parts Idle one two = two
 few_parts (Saw n v w k) one two = two
 few_parts (Wears n v) one two = two
+few_parts (Reads n v sight told) one two = two
 few_parts (Holds n w h) one two = two
 few_parts (Eyes n w h m v u free) one two = two
 few_parts (Splits left fresh phase) one two = two
@@ -274,14 +288,14 @@ alone_parts s t after r alone = record { parts = λ two. absurd (alone two); las
 
 -- each turn of a call parts with the node of its merge at last
 parts_once : (m : Running) (x : ℕ) → PartsOnce (stage_of m) (is_leaving m) (stage_after (running_turned m x)) (leaves_after (running_turned m x)) (reply_of (running_turned m x))
-parts_once (Getting (get.Looking lookup)) x = alone_parts _ _ _ _ (few_parts _ (looks_one lookup.call lookup.at))
-parts_once (Getting (get.Unlocking call hold old)) x = alone_parts _ _ _ _ (λ two. two)
-parts_once (Putting (put.Single (single_put.Looking lookup value))) x = alone_parts _ _ _ _ (few_parts _ (looks_one lookup.call lookup.at))
+parts_once (Getting (get.Looking lookup)) x = alone_parts _ _ _ _ (few_parts _ (looks_one (live_sight []) lookup.call lookup.at))
+parts_once (Getting (get.Checking call hold old)) x = alone_parts _ _ _ _ (λ two. two)
+parts_once (Putting (put.Single (single_put.Looking lookup value))) x = alone_parts _ _ _ _ (few_parts _ (looks_one (live_sight []) lookup.call lookup.at))
 parts_once (Putting (put.Single (single_put.Filling fill))) x = alone_parts _ _ _ _ (λ two. two)
 parts_once (Putting (put.Single (single_put.Replacing call hold bitmap hit value))) x = alone_parts _ _ _ _ (λ two. two)
 parts_once (Putting (put.Single (single_put.Finishing finish))) x = alone_parts _ _ _ _ (λ two. two)
 parts_once (Putting (put.Splitting call hold bitmap value split)) x = alone_parts _ _ _ _ (split_parts _ _ (stages_are_of_splits (found_full call hold bitmap) split))
-parts_once (Deleting (del.Single (single_del.Looking lookup))) x = alone_parts _ _ _ _ (few_parts _ (looks_one lookup.call lookup.at))
+parts_once (Deleting (del.Single (single_del.Looking lookup))) x = alone_parts _ _ _ _ (few_parts _ (looks_one (live_sight []) lookup.call lookup.at))
 parts_once (Deleting (del.Single (single_del.Next call hold bitmap hit))) x = alone_parts _ _ _ _ (λ two. two)
 parts_once (Deleting (del.Single (single_del.Taking call hold bitmap hit take))) x = alone_parts _ _ _ _ (λ two. two)
 parts_once (Deleting (del.Single (single_del.Refusing call hold bitmap hit))) x = alone_parts _ _ _ _ (λ two. two)
@@ -294,13 +308,14 @@ parts_once (Deleting (del.Merging call hold old place merge)) x = on (merge_turn
         (leaves_after (wrapped Deleting (del_merged call hold old place turn))) (reply_of (wrapped Deleting (del_merged call hold old place turn)))
     on (Go next) so = record { parts = so.0; last = λ leaves one. absurd (so.1 leaves one) }
     on (Done merged) so = record { parts = λ two one. absurd one; last = λ leaves one e. cc }
-parts_once (Parting (part.Looking lookup count behind)) x = alone_parts _ _ _ _ (few_parts _ (looks_one lookup.call lookup.at))
+parts_once (Parting (part.Looking lookup count behind)) x = alone_parts _ _ _ _ (few_parts _ (looks_one (behind_sight behind) lookup.call lookup.at))
 parts_once (Parting (part.Reading reading)) x = alone_parts _ _ _ _ (λ two. two)
 
 one_for : (name : List ℕ) (own : Option Change) (s : Stage) → HoldsFew s → IsFor name own s
 one_for name own Idle one = tt
 one_for name own (Saw n v w k) one = tt
 one_for name own (Wears n v) one = tt
+one_for name own (Reads n v sight told) one = tt
 one_for name own (Holds n w h) one = tt
 one_for name own (Eyes n w h m v u free) one = absurd one
 one_for name own (Splits left fresh phase) one = absurd one
@@ -310,9 +325,9 @@ one_for name own (Joins h left right pace) one = absurd one
 
 -- what a call splits it splits for its name, and what it merges it merges for the delete of its name
 machine_for : (w0 : World) (asked : NameOp) (m : Running) → IsOf asked m → Foresees w0 asked m → IsFor (name_asked asked) (change_of asked) (stage_of m)
-machine_for w0 asked (Getting (get.Looking lookup)) of so = one_for _ _ _ (looks_one lookup.call lookup.at)
-machine_for w0 asked (Getting (get.Unlocking call hold old)) of so = tt
-machine_for w0 asked (Putting (put.Single (single_put.Looking lookup value))) of so = one_for _ _ _ (looks_one lookup.call lookup.at)
+machine_for w0 asked (Getting (get.Looking lookup)) of so = one_for _ _ _ (looks_one (live_sight []) lookup.call lookup.at)
+machine_for w0 asked (Getting (get.Checking call hold old)) of so = tt
+machine_for w0 asked (Putting (put.Single (single_put.Looking lookup value))) of so = one_for _ _ _ (looks_one (live_sight []) lookup.call lookup.at)
 machine_for w0 asked (Putting (put.Single (single_put.Filling fill))) of so = tt
 machine_for w0 asked (Putting (put.Single (single_put.Replacing call hold bitmap hit value))) of so = tt
 machine_for w0 asked (Putting (put.Single (single_put.Finishing finish))) of so = tt
@@ -320,7 +335,7 @@ machine_for w0 (op.Put name number) (Putting (put.Splitting call hold bitmap val
     split_is_for (found_full call hold bitmap) name _ _ of.0 refl (stages_are_of_splits (found_full call hold bitmap) split)
 machine_for w0 (op.Get name) (Putting (put.Splitting call hold bitmap value split)) of so = absurd of
 machine_for w0 (op.Del name) (Putting (put.Splitting call hold bitmap value split)) of so = absurd of
-machine_for w0 asked (Deleting (del.Single (single_del.Looking lookup))) of so = one_for _ _ _ (looks_one lookup.call lookup.at)
+machine_for w0 asked (Deleting (del.Single (single_del.Looking lookup))) of so = one_for _ _ _ (looks_one (live_sight []) lookup.call lookup.at)
 machine_for w0 asked (Deleting (del.Single (single_del.Next call hold bitmap hit))) of so = tt
 machine_for w0 asked (Deleting (del.Single (single_del.Taking call hold bitmap hit take))) of so = tt
 machine_for w0 asked (Deleting (del.Single (single_del.Refusing call hold bitmap hit))) of so = tt
@@ -331,7 +346,7 @@ machine_for w0 (op.Del name) (Deleting (del.Merging call hold old place merge)) 
     (record { named = of.0; deletes = refl; placed = λ e. cc; value = so.0.0; old = ap (λ (q : Option ℕ). Some q) so.0.1 })
 machine_for w0 (op.Get name) (Deleting (del.Merging call hold old place merge)) of so = absurd of
 machine_for w0 (op.Put name number) (Deleting (del.Merging call hold old place merge)) of so = absurd of
-machine_for w0 asked (Parting (part.Looking lookup count behind)) of so = one_for _ _ _ (looks_one lookup.call lookup.at)
+machine_for w0 asked (Parting (part.Looking lookup count behind)) of so = one_for _ _ _ (looks_one (behind_sight behind) lookup.call lookup.at)
 machine_for w0 asked (Parting (part.Reading reading)) of so = tt
 
 -- whether it could merge, as it is answered that it took place
@@ -634,9 +649,20 @@ module _ (w0 : World) (i : ℕ) (asked : NameOp) (limit : Option ℕ) (w : World
       (λ (splits : MayLackRoom machine). split_late machine o.sound sure o.timely o.limited splits)
       (λ (refuses : (again.LogFull ≡ again.LogFull) × IsRefusing machine). in_time (subst (λ (m : Running). limit_in (stage_of m) ≡ (running_call m).limit) (sym refuses.1.is) refl))
 
+  -- a write that finds its target worn
+  worn_so : (d : NameOp) → HasLimit d limit → FindsWorn w0 d → IsSome limit × IsWorn ((facts w0).version (target_node w0 (name_asked d))) w0.generation
+  worn_so (op.Get name) limits worn = absurd worn
+  worn_so (op.Put name value) limits worn = (limits, worn)
+  worn_so (op.Del name) limits worn = (limits, worn)
+
+  finds_worn : (d : NameOp) → HasLimit d limit → IsSome limit → IsWorn ((facts w0).version (target_node w0 (name_asked d))) w0.generation → FindsWorn w0 d
+  finds_worn (op.Get name) none given worn = absurd (let no : false ≡ true = sym (ap is_some none) ∙ given in cc)
+  finds_worn (op.Put name value) limits given worn = worn
+  finds_worn (op.Del name) limits given worn = worn
+
   fresh : IsAtNode w0.layout w0.words (running_call machine) → FindsWorn w0 asked → ⊥
-  fresh stands worn =
-      stands.unworn (subst (λ (q : ℕ × ℕ). IsWorn ((facts w0).version q.0) q.1) (λ k. (sym (stands.node ∙ ap (λ (n : List ℕ). target_node w0 n) name_is) k, sym generation_is k)) worn)
+  fresh stands finds = let so = worn_so asked o.limits finds in let worn = so.1 in
+      stands.unworn (ap is_some o.limited ∙ so.0) (subst (λ (q : ℕ × ℕ). IsWorn ((facts w0).version q.0) q.1) (λ k. (sym (stands.node ∙ ap (λ (n : List ℕ). target_node w0 n) name_is) k, sym generation_is k)) worn)
 
   -- it had room
   had_room : (d : NameOp) → IsName (name_asked d) → IsAtRest w' → w'.history ≡ w0.history ++ written p.caller p.index (change_of d) → (IsPutOp d → (facts w').list ≡ (facts w0).list) → FindsFull w0 d → ⊥
@@ -709,8 +735,8 @@ module _ (w0 : World) (i : ℕ) (asked : NameOp) (limit : Option ℕ) (w : World
   answered (once.Spent clock) done rest' says leaves legal ended =
       (fresh ended.1, subst (λ (q : Option ℕ × ℕ). IsTrue (is_spent q.0 q.1)) (λ k. (o.limited k, says.0 k)) ended.0, says.0, says.1, says.2)
   answered (once.Worn node word) done rest' says leaves legal ended =
-      let node_is : node ≡ target_node w0 (name_asked asked) = ended.0 ∙ ap (λ (n : List ℕ). target_node w0 n) name_is in
-      (subst (λ (v : ℕ). IsWorn v w0.generation) (ended.1 ∙ ap (facts w0).version node_is) ended.2, node_is, ended.1, says.0, says.1)
+      let node_is : node ≡ target_node w0 (name_asked asked) = ended.1 ∙ ap (λ (n : List ℕ). target_node w0 n) name_is in
+      (finds_worn asked o.limits (ap is_some (sym o.limited) ∙ ended.0) (subst (λ (v : ℕ). IsWorn v w0.generation) (ended.2 ∙ ap (facts w0).version node_is) ended.3), node_is, ended.2, says.0, says.1)
   answered (once.Again again.LogFull) done rest' says leaves legal ended =
       (fresh ended.0, line_late ended.1, needs asked machine o.of o.foresees ended.1, subst (LacksLine w0.layout w0.words) o.own ended.2, says.0, says.1, unmoved ended.0 ended.3)
   answered (once.Again again.NoFree) done rest' says leaves legal ended =
@@ -786,6 +812,7 @@ module _ (w0 : World) (i : ℕ) (asked : NameOp) (limit : Option ℕ) (w : World
     sound = sound;
     of = of;
     limited = keeps.0 ∙ o.limited;
+    limits = o.limits;
     own = ap (λ (v : View). v.caller) keeps.1 ∙ o.own;
     stands = been;
     foresees = foreseen;
@@ -856,40 +883,43 @@ module _ (w0 : World) (i : ℕ) (limit : Option ℕ) (p : Party) (index : ℕ) (
   about_name = bytes_of-words_of name named
 
 pub lone_calls_begin : LoneCallsBegin
-lone_calls_begin w0 i (op.Get name) limit p index view rest can there is_view layout generation own named most fits = record {
+lone_calls_begin w0 i (op.Get name) limit p index view rest can there is_view layout generation own named most limits fits = record {
   walks = can;
   foresees = tt;
+  limits = limits;
   locks = λ m. refl;
   timely = λ past. absurd past;
   trying = tries w0 i limit p index view name rest can there is_view layout generation named most None;
   stage = refl;
-  sound = record { layout = layout; generation = generation; here = looks_sound w0 i limit p index view name rest can there is_view layout generation named most };
+  sound = record { layout = layout; generation = generation; here = (looks_sound w0 i limit p index view name rest can there is_view layout generation named most, limits) };
   of = bytes_of-words_of name named;
   limited = refl;
   own = own;
   stands = (refl, landing w0 i limit p index view name rest can there is_view layout generation named most);
 }
-lone_calls_begin w0 i (op.Put name value) limit p index view rest can there is_view layout generation own named most fits = record {
+lone_calls_begin w0 i (op.Put name value) limit p index view rest can there is_view layout generation own named most limits fits = record {
   walks = can;
   foresees = tt;
+  limits = limits;
   locks = λ m. refl;
   timely = λ past. absurd past;
   trying = tries w0 i limit p index view name rest can there is_view layout generation named most (Some (change.Put name value));
   stage = refl;
-  sound = record { layout = layout; generation = generation; here = (looks_sound w0 i limit p index view name rest can there is_view layout generation named most, fits) };
+  sound = record { layout = layout; generation = generation; here = (looks_sound w0 i limit p index view name rest can there is_view layout generation named most, fits, limits) };
   of = (bytes_of-words_of name named, refl);
   limited = refl;
   own = own;
   stands = (refl, landing w0 i limit p index view name rest can there is_view layout generation named most);
 }
-lone_calls_begin w0 i (op.Del name) limit p index view rest can there is_view layout generation own named most fits = record {
+lone_calls_begin w0 i (op.Del name) limit p index view rest can there is_view layout generation own named most limits fits = record {
   walks = can;
   foresees = tt;
+  limits = limits;
   locks = λ m. refl;
   timely = λ past. absurd past;
   trying = tries w0 i limit p index view name rest can there is_view layout generation named most (Some (change.Del name));
   stage = refl;
-  sound = record { layout = layout; generation = generation; here = looks_sound w0 i limit p index view name rest can there is_view layout generation named most };
+  sound = record { layout = layout; generation = generation; here = (looks_sound w0 i limit p index view name rest can there is_view layout generation named most, limits) };
   of = (bytes_of-words_of name named, tt);
   limited = refl;
   own = own;
@@ -897,15 +927,16 @@ lone_calls_begin w0 i (op.Del name) limit p index view rest can there is_view la
 }
 
 -- to the law a part is a get of its low name
-as_part : {w0 w : World} {i : ℕ} {asked : NameOp} {limit : Option ℕ} {p : Party} (lookup : Lookup) (count : ℕ) → LoneCall w0 i asked limit w p (Getting (get.Looking lookup))
-    → LoneCall w0 i asked limit w p (Parting (part.Looking lookup count None))
-as_part lookup count o = record {
+as_part : {w0 w : World} {i : ℕ} {asked : NameOp} {limit : Option ℕ} {p : Party} (call : Call) (count : ℕ) → LoneCall w0 i asked limit w p (Getting (get.Looking (starts call)))
+    → LoneCall w0 i asked limit w p (Parting (part.Looking (starts call) count None))
+as_part call count o = record {
   trying = o.trying;
   walks = o.walks;
   stage = o.stage;
-  sound = record { layout = o.sound.layout; generation = o.sound.generation; here = o.sound.here };
+  sound = record { layout = o.sound.layout; generation = o.sound.generation; here = (o.sound.here.0, o.sound.here.1, tt) };
   of = of_part _ o.of;
   limited = o.limited;
+  limits = o.limits;
   own = o.own;
   stands = o.stands;
   foresees = tt;
@@ -913,11 +944,11 @@ as_part lookup count o = record {
   timely = λ past. absurd past;
 }
   where
-    of_part : (asked : NameOp) → IsOf asked (Getting (get.Looking lookup)) → IsOf asked (Parting (part.Looking lookup count None))
+    of_part : (asked : NameOp) → IsOf asked (Getting (get.Looking (starts call))) → IsOf asked (Parting (part.Looking (starts call) count None))
     of_part (op.Get name) is = is
     of_part (op.Put name value) is = is
     of_part (op.Del name) is = is
 
 pub lone_parts_begin : LonePartsBegin
 lone_parts_begin w0 i low count p index view rest can there is_view layout generation own named =
-    as_part (starts (new_call view low None)) count (lone_calls_begin w0 i (op.Get low) None p index view rest can there is_view layout generation own named tt tt)
+    as_part (new_call view low None) count (lone_calls_begin w0 i (op.Get low) None p index view rest can there is_view layout generation own named tt refl tt)

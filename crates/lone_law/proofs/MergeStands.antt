@@ -16,7 +16,7 @@ use Rattle.data_node.specs.Spots.{Spot, bitmap_offset}
 use Rattle.data_node.specs.Lists.{ListNode, next_offset, anchor_in, IsMember, IsChain, Rise}
 use Rattle.data_node.proofs.ListLemmas.{not_behind, rise_at}
 use Rattle.call_stages.specs.Kinds.{version_address, word_address}
-use Rattle.call_stages.specs.Stages.{Held, Stage, Idle, Saw, Wears, Holds, Eyes, Splits, Leaves, Meets, Joins}
+use Rattle.call_stages.specs.Stages.{Held, Stage, Idle, Saw, Wears, Reads, Holds, Eyes, Splits, Leaves, Meets, Joins}
 use Rattle.node_ops.proofs.MergeFacts.{IsOfMerge}
 use Rattle.pm_alloc.specs.Claims.{lock_of}
 use Rattle.split_merge.specs.declared.merging.Near.{Near}
@@ -54,6 +54,7 @@ merge_is_for name own h (Joins k left right pace) is deleted = record { named = 
 merge_is_for name own h Idle is deleted = absurd is
 merge_is_for name own h (Saw n v w k) is deleted = absurd is
 merge_is_for name own h (Wears n v) is deleted = absurd is
+merge_is_for name own h (Reads n v sight told) is deleted = absurd is
 merge_is_for name own h (Splits left fresh phase) is deleted = absurd is
 merge_is_for name own h (Leaves left) is deleted = absurd is
 

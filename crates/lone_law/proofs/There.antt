@@ -33,9 +33,9 @@ use Rattle.node_ops.specs.declared.lookup.LookupAt.{LookupAt}
 use Rattle.node_ops.specs.declared.lookup.LookupAt.TheVariants as at
 use Rattle.node_ops.specs.Calls.{IsCall, name_in, at_node, call_address}
 use Rattle.data_node.specs.Spots.{bitmap_offset, slot_offset}
-use Rattle.node_ops.specs.LookupSteps.{is_spent, goes_to, ends, floored, walked_on, saw_directory, next_candidate, candidate_turned, lookup_at_asks, lookup_at_turned, IsFlooring, IsLookupAt}
+use Rattle.node_ops.specs.LookupSteps.{came_by, is_spent, goes_to, ends, floored, walked_on, saw_directory, next_candidate, candidate_turned, lookup_at_asks, lookup_at_turned, IsFlooring, IsLookupAt}
 use Rattle.node_ops.proofs.LookupLaw.{key_is}
-use Rattle.index_law.specs.Facts.{list_in}
+use Rattle.index_law.specs.Facts.{list_in, version_in}
 use Rattle.index_law.specs.Worlds.{facts}
 use Rattle.index_law.specs.Prevs.{prev_in}
 use Rattle.index_law.proofs.Rows.{version_in-here, spot_in-here, status_in-here, version_in-alike, spot_in-alike, status_in-alike}
@@ -53,8 +53,10 @@ use Rattle.search_layer.specs.Laws.{told_turn, answer_from, FloorAfter}
 use Rattle.search_layer.proofs.LeafRows.{leaves_in-here}
 use Rattle.search_layer.proofs.FloorTold.{floor_stays, offset_small}
 use Rattle.search_layer.proofs.FloorAlone.{lone_keeps}
-use Rattle.lone_law.specs.There.{nodes_in, CanWalk, StartsAt, WalksBy, IsAtNode, IsUnmoved, LookupStands, LookedStands, LooksComeThere}
+use Rattle.lone_law.specs.There.{HasCome, nodes_in, CanWalk, StartsAt, WalksBy, IsAtNode, IsUnmoved, LookupStands, LookedStands, LooksComeThere}
 use Rattle.lone_law.specs.There.{RestIsStill, IdleIsQuiet}
+use Rattle.std.specs.Prelude.{IsSome, is_some}
+use Rattle.std.specs.Prelude.{Option, Some, None}
 
 pub rest_is_still : RestIsStill
 rest_is_still w rest =
@@ -185,15 +187,21 @@ module _ (call : Call) (sound : IsCall call) (words0 words : List ℕ) where
   walked_there : (words' : List ℕ) (hops : ℕ) (turn : Turn Walk Walked) → WalksBy l words0 (name_in call) hops → words' ≡ words0 → StaysOnWay l (nodes_in l words0) hops (key_words call.name) turn → Stands words' (walked_on call turn)
   walked_there words' hops (Go walk) walks same way = (same, record { hops = hops; walks = walks; way = way })
   walked_there words' hops (Done (walked.Again why)) walks same way = absurd way
-  walked_there words' hops (Done (walked.Target target)) walks same way =
-      let node_is : target.node ≡ target_from 0 (list_in l words0) (key_of (name_in call)) = way.0 ∙ ap (target_from 0 (list_in l words0)) (key_is call sound) in
-      elim (is_worn_word target.version g) as (λ b. is_worn_word target.version g ≡ b → Stands words'
-      (cond b (ends (once.Worn target.node target.version)) (goes_to (at_node call target.node target.hops) (at.Lock (sighting_of target) (locked_word g (kept_count target.version g)))))) [
-        | true ↦ λ worn. (node_is, way.2, worn_word target.version g worn)
-        | false ↦ λ fresh. (same, record { node = node_is; hops = subst (WalksBy l words0 (name_in call)) (sym way.1) walks; unworn = λ worn. fresh_word target.version g fresh (subst (λ v. IsWorn v g) (sym way.2) worn) }, way.2)
-      ] refl
+  walked_there words' hops (Done (walked.Target target)) walks same way = by call.limit refl
+    where
+      node_is : target.node ≡ target_from 0 (list_in l words0) (key_of (name_in call))
+      node_is = way.0 ∙ ap (target_from 0 (list_in l words0)) (key_is call sound)
 
-  candidate_there : (words' : List ℕ) (hold : Hold) (directory : Directory) (left : ℕ) → IsAtNode l words0 call × IsUnmoved l words0 words' call.node → Stands words' (next_candidate call hold directory left)
+      by : (limit : Option ℕ) → call.limit ≡ limit → Stands words' (came_by limit call target)
+      by None reads = (same, record { node = node_is; hops = subst (WalksBy l words0 (name_in call)) (sym way.1) walks; unworn = λ some. absurd (let no : false ≡ true = sym (ap is_some reads) ∙ some in cc) }, way.2)
+      by (Some most) writes =
+          elim (is_worn_word target.version g) as (λ b. is_worn_word target.version g ≡ b → Stands words'
+          (cond b (ends (once.Worn target.node target.version)) (goes_to (at_node call target.node target.hops) (at.Lock (sighting_of target) (locked_word g (kept_count target.version g)))))) [
+            | true ↦ λ worn. (ap is_some writes, node_is, way.2, worn_word target.version g worn)
+            | false ↦ λ fresh. (same, record { node = node_is; hops = subst (WalksBy l words0 (name_in call)) (sym way.1) walks; unworn = λ some worn. fresh_word target.version g fresh (subst (λ v. IsWorn v g) (sym way.2) worn) }, way.2)
+          ] refl
+
+  candidate_there : (words' : List ℕ) (hold : Hold) (directory : Directory) (left : ℕ) → HasCome call.limit l words0 words' call hold.locked → Stands words' (next_candidate call hold directory left)
   candidate_there words' hold directory left here =
       elim (lowest_live left) as (λ o. Stands words' (candidate_turned call hold directory left o)) [
         | Some slot ↦ here
@@ -203,6 +211,18 @@ module _ (call : Call) (sound : IsCall call) (words0 words : List ℕ) where
   -- a load leaves all as it is
   loaded_there : (address : ℕ) → IsAtNode l words0 call × IsUnmoved l words0 words call.node → IsAtNode l words0 call × IsUnmoved l words0 (acted l words (Load address)) call.node
   loaded_there address stands = (stands.0, loaded_unmoved l words0 words call.node address stands.1)
+
+  come_there : (limit : Option ℕ) (word address : ℕ) → HasCome limit l words0 words call word → HasCome limit l words0 (acted l words (Load address)) call word
+  come_there None word address here = (here.0, set-get_or words address 0 ∙ here.1, here.2)
+  come_there (Some most) word address here = loaded_there address here
+
+  come_locked : (limit : Option ℕ) (words' : List ℕ) (word : ℕ) → IsSome limit → IsAtNode l words0 call × IsUnmoved l words0 words' call.node → HasCome limit l words0 words' call word
+  come_locked None words' word some here = absurd (let no : false ≡ true = some in cc)
+  come_locked (Some most) words' word some here = here
+
+  come_read : (limit : Option ℕ) (words' : List ℕ) (word : ℕ) → limit ≡ None → IsAtNode l words0 call → words' ≡ words0 → word ≡ version_in l words0 call.node → HasCome limit l words0 words' call word
+  come_read None words' word none here same is = (here, same, is)
+  come_read (Some most) words' word none here same is = absurd (let no : true ≡ false = ap is_some none in cc)
 
   pub at_there : (at : LookupAt) (x : ℕ) → IsLookupAt call at → CanWalk l g words0 → LookupStands l words0 words call at → x ≡ got l words (lookup_at_asks call at)
       → Stands (acted l words (lookup_at_asks call at)) (lookup_at_turned call at x)
@@ -221,6 +241,8 @@ module _ (call : Call) (sound : IsCall call) (words0 words : List ℕ) where
       subst (λ y. StaysOnWay l (nodes_in l words0) hops (key_words call.name) (walk_turned walk y)) (sym loads)
       (subst (λ k. StaysOnWay l (nodes_in l words0) hops k (walk_turned walk (loaded (nodes_in l words0) walk.node walk.at))) here.key turn) in
       walked_there (acted l words (walk_asks walk)) hops (walk_turned walk x) stands.1.walks (ap (acted l words) asks ∙ walk_loads l words walk.node walk.at ∙ stands.0) keyed
+  at_there (at.Read sight) x here still stands told =
+      come_read call.limit (acted l words (lookup_at_asks call (at.Read sight))) sight.version here.reads stands.1 (set-get_or words (clock_address l) 0 ∙ stands.0) stands.2
   at_there (at.Lock sight word) x here still stands told =
       let node : call.node < l.nodes = sound.node in
       let seen : x ≡ sight.version = told ∙ ap (λ (ws : List ℕ). get_or ws (version_address l call.node) 0) stands.0 ∙ sym (version_in-here l words0 call.node node) ∙ sym stands.2 in
@@ -231,12 +253,12 @@ module _ (call : Call) (sound : IsCall call) (words0 words : List ℕ) where
       elim (is_spent call.limit x) as (λ b. Stands (acted l words (lookup_at_asks call (at.Clock word)))
       (cond b (goes_to call (at.Spent (record { locked = word; clock = x }))) (goes_to call (at.Bitmap (record { locked = word; clock = x }))))) [
         | true ↦ stands
-        | false ↦ stands
+        | false ↦ come_locked call.limit (acted l words (lookup_at_asks call (at.Clock word))) word here.0 stands
       ]
   at_there (at.Spent hold) x here still stands told = (here.1, stands.0)
-  at_there (at.Bitmap hold) x here still stands told = loaded_there (call_address call bitmap_offset) stands
+  at_there (at.Bitmap hold) x here still stands told = come_there call.limit hold.locked (call_address call bitmap_offset) stands
   at_there (at.Prints hold bitmap prints k) x here still was told =
-      let stands = loaded_there (call_address call (8 + k)) was in
+      let stands = come_there call.limit hold.locked (call_address call (8 + k)) was in
       let after = acted l words (lookup_at_asks call (at.Prints hold bitmap prints k)) in
       let directory : Directory = record { bitmap = bitmap; prints = set prints k x } in
       elim (ltb (k + 1) 8) as (λ b. Stands after (cond b (goes_to call (at.Prints hold bitmap (set prints k x) (k + 1))) (saw_directory call hold directory))) [
@@ -244,7 +266,7 @@ module _ (call : Call) (sound : IsCall call) (words0 words : List ℕ) where
         | false ↦ candidate_there after hold directory (candidate_bits bitmap (set prints k x) call.print l.slots) stands
       ]
   at_there (at.Name hold directory left slot k) x here still was told =
-      let stands = loaded_there (call_address call (slot_offset slot k)) was in
+      let stands = come_there call.limit hold.locked (call_address call (slot_offset slot k)) was in
       let after = acted l words (lookup_at_asks call (at.Name hold directory left slot k)) in
       elim (x == get_or call.name k 0) as (λ b. Stands after (cond b
       (cond (ltb (k + 1) 3) (goes_to call (at.Name hold directory left slot (k + 1))) (goes_to call (at.Value hold directory slot)))
@@ -255,7 +277,7 @@ module _ (call : Call) (sound : IsCall call) (words0 words : List ℕ) where
         ]
         | false ↦ candidate_there after hold directory (without_live left slot) stands
       ]
-  at_there (at.Value hold directory slot) x here still stands told = loaded_there (call_address call (slot_offset slot 3)) stands
+  at_there (at.Value hold directory slot) x here still stands told = come_there call.limit hold.locked (call_address call (slot_offset slot 3)) stands
 
 pub looks_come_there : LooksComeThere
 looks_come_there lookup words0 words x sound still stands told = at_there lookup.call sound.call words0 words lookup.at x sound.here still stands told

@@ -21,7 +21,7 @@ use Rattle.cat_history.specs.declared.op.Write.{Write}
 use Rattle.call_stages.specs.declared.once.Once.{Once}
 use Rattle.call_stages.specs.declared.once.Once.TheVariants as once
 use Rattle.call_stages.specs.declared.once.Placed.{Placed}
-use Rattle.call_stages.specs.Stages.{Stage, Idle, Saw, Wears, Holds, Eyes, Splits, Leaves, Meets, Joins, counted, placed_in}
+use Rattle.call_stages.specs.Stages.{Stage, Idle, Saw, Wears, Reads, Holds, Eyes, Splits, Leaves, Meets, Joins, counted, placed_in}
 use Rattle.call_stages.specs.Stages.{Gathered, Joined, Gone}
 use Rattle.data_node.specs.Lists.{ListNode, target_from, key_of, IsMember, without_member}
 use Rattle.call_stages.specs.Kinds.{Step, gone_status, below_key, from_key}
@@ -65,6 +65,9 @@ pub legal_tells : (l : Layout) (g : ℕ) (f : Facts) (caller index since : ℕ) 
 legal_tells l g f caller index since name Idle placed about legal = absurd legal
 legal_tells l g f caller index since name (Saw n v w k) placed about legal = absurd legal
 legal_tells l g f caller index since name (Wears n v) placed about legal = absurd legal
+legal_tells l g f caller index since name (Reads n v k None) placed about legal = absurd legal
+legal_tells l g f caller index since name (Reads n v k (Some h)) placed about legal =
+    record { later = legal.later; within = legal.within; old = legal.old ∙ ap (at (after f.base f.history placed.place)) about }
 legal_tells l g f caller index since name (Holds n w h) placed about legal =
     record { later = legal.later; within = legal.within; old = legal.old ∙ ap (at (after f.base f.history placed.place)) about }
 legal_tells l g f caller index since name (Eyes n w h m v u free) placed about legal = absurd legal
@@ -83,6 +86,7 @@ cut_answer : (l : Layout) (g : ℕ) (f : Facts) (caller index since : ℕ) (s : 
 cut_answer l g f caller index since Idle answer cut legal = absurd (cc)
 cut_answer l g f caller index since (Saw n v w k) answer cut legal = absurd (cc)
 cut_answer l g f caller index since (Wears n v) answer cut legal = absurd (cc)
+cut_answer l g f caller index since (Reads n v sight told) answer cut legal = absurd (cc)
 cut_answer l g f caller index since (Holds n w h) answer cut legal = absurd (cc)
 cut_answer l g f caller index since (Eyes n w h m v u free) answer cut legal = absurd (cc)
 cut_answer l g f caller index since (Splits left fresh phase) answer cut legal = absurd legal
@@ -96,6 +100,8 @@ uncut_answer : (l : Layout) (g : ℕ) (f : Facts) (caller index since : ℕ) (s 
 uncut_answer l g f caller index since Idle n cut legal = legal
 uncut_answer l g f caller index since (Saw m v w k) n cut legal = legal
 uncut_answer l g f caller index since (Wears m v) n cut legal = legal
+uncut_answer l g f caller index since (Reads m v k None) n cut legal = legal
+uncut_answer l g f caller index since (Reads m v k (Some h)) n cut legal = legal
 uncut_answer l g f caller index since (Holds m w h) n cut legal = ⊎_elim (λ no. let e = no.0 in absurd (cc)) (λ no. no) legal.1
 uncut_answer l g f caller index since (Eyes m w h k v u free) n cut legal = legal
 uncut_answer l g f caller index since (Splits left fresh phase) n cut legal = legal
@@ -108,6 +114,8 @@ spent_tells : (l : Layout) (g : ℕ) (f : Facts) (caller index since : ℕ) (s :
 spent_tells l g f caller index since Idle clock legal = absurd legal
 spent_tells l g f caller index since (Saw n v w k) clock legal = absurd legal
 spent_tells l g f caller index since (Wears n v) clock legal = absurd legal
+spent_tells l g f caller index since (Reads n v k None) clock legal = absurd legal
+spent_tells l g f caller index since (Reads n v k (Some h)) clock legal = absurd legal
 spent_tells l g f caller index since (Holds n w h) clock legal = (legal.later, legal.within)
 spent_tells l g f caller index since (Eyes n w h m v u free) clock legal = absurd legal
 spent_tells l g f caller index since (Splits left fresh phase) clock legal = absurd legal
@@ -121,6 +129,7 @@ place_within : (l : Layout) (g : ℕ) (f f' : Facts) (caller index since : ℕ) 
 place_within l g f f' caller index since Idle placed knows there legal = absurd legal
 place_within l g f f' caller index since (Saw n v w k) placed knows there legal = absurd legal
 place_within l g f f' caller index since (Wears n v) placed knows there legal = absurd legal
+place_within l g f f' caller index since (Reads n v k h) placed knows there legal = absurd (there refl)
 place_within l g f f' caller index since (Holds n w h) placed knows there legal = within h.placed knows.placed legal.write there
   where
     within : (o : Option ℕ) → IfSome o (IsPlaced f.history caller index since h.name) → IfSome o (λ place. (placed.place ≡ place) × HasWriteAt f'.history caller index h.name place)
@@ -139,6 +148,7 @@ out_unretired : (s : Stage) → IsOut s → has_retired s ≡ false
 out_unretired Idle out = refl
 out_unretired (Saw n v w k) out = refl
 out_unretired (Wears n v) out = refl
+out_unretired (Reads n v sight told) out = refl
 out_unretired (Holds n w h) out = absurd out
 out_unretired (Eyes n w h m v u free) out = absurd out
 out_unretired (Splits left fresh phase) out = refl
@@ -151,6 +161,7 @@ unmerged_unretired : (s : Stage) → has_merged s ≡ false → has_retired s �
 unmerged_unretired Idle none = refl
 unmerged_unretired (Saw n v w k) none = refl
 unmerged_unretired (Wears n v) none = refl
+unmerged_unretired (Reads n v sight told) none = refl
 unmerged_unretired (Holds n w h) none = none
 unmerged_unretired (Eyes n w h m v u free) none = none
 unmerged_unretired (Splits left fresh phase) none = refl
@@ -165,6 +176,7 @@ done_retired : (l : Layout) (g : ℕ) (f : Facts) (caller index since : ℕ) (s 
 done_retired l g f caller index since Idle placed legal = refl
 done_retired l g f caller index since (Saw n v w k) placed legal = refl
 done_retired l g f caller index since (Wears n v) placed legal = refl
+done_retired l g f caller index since (Reads n v sight told) placed legal = refl
 done_retired l g f caller index since (Holds n w h) placed legal = refl
 done_retired l g f caller index since (Eyes n w h m v u free) placed legal = refl
 done_retired l g f caller index since (Splits left fresh phase) placed legal = refl

@@ -49,7 +49,7 @@ use Rattle.node_ops.specs.GetSteps.{IsGet, get_call, get_asks, get_turned}
 use Rattle.node_ops.specs.PutSteps.{IsPut, put_call, put_asks, put_turned, put_looked, put_into, put_full, put_filled, put_finished, put_split, IsSplitting}
 use Rattle.node_ops.specs.DelSteps.{IsDel, IsTakeOf, names_left, del_call, del_asks, del_turned, del_looked, del_slot, del_hit, saw_next, del_taken, goes_on, merges_at, del_finished, del_merged}
 use Rattle.node_ops.specs.RunningSteps.{IsRunning, running_call, running_asks, running_turned, wrapped, wrapped_part}
-use Rattle.node_ops.specs.PartSteps.{IsPart, part_call, part_asks, part_turned, part_looked, reading_turned, behind_of}
+use Rattle.node_ops.specs.PartSteps.{IsPart, IsReading, part_words, reading_at_asks, part_call, part_asks, part_turned, part_looked, reading_turned, behind_of}
 use Rattle.node_ops.specs.CallStages.{stage_of, get_stage, put_stage, del_stage, has_place}
 use Rattle.node_ops.specs.Endings.{limit_in}
 use Rattle.node_ops.proofs.MergeFacts.{merging_stage, merge_placed, merge_limited}
@@ -64,7 +64,7 @@ use Rattle.split_merge.specs.declared.merging.Merge.{Merge}
 use Rattle.split_merge.specs.declared.merging.Merged.{Merged}
 use Rattle.split_merge.specs.Merges.{merge_turned}
 use Rattle.index_law.specs.Lines.{line_in}
-use Rattle.lone_law.specs.There.{CanWalk, IsAtNode, IsUnmoved, EndsEarly, LookedStands}
+use Rattle.lone_law.specs.There.{CanWalk, IsAtNode, IsUnmoved, HasCome, EndsEarly, LookedStands}
 use Rattle.lone_law.specs.Splitting.{HasLine, HasFree, IsLacking, SplitStands, SplitWent, IsReadyToSplit, HoldsAlone}
 use Rattle.lone_law.proofs.Splitting.{splits_come_there, take_unmoved, take_told}
 use Rattle.index_law.specs.Facts.{version_in, list_in}
@@ -83,6 +83,19 @@ use Rattle.lone_law.specs.LoneCalls.{GetIsThere, PutIsThere, HasFoundLine, DelIs
 use Rattle.lone_law.proofs.There.{looks_come_there, loaded_unmoved, stored_unmoved}
 use Rattle.node_ops.specs.declared.get.Get.TheVariants as get
 use Rattle.node_ops.specs.GetSteps.{get_looked}
+use Rattle.std.proofs.Common.{get_or}
+use Rattle.std.proofs.Common.{ap}
+use Rattle.std.specs.Prelude.{IsSome}
+use Rattle.std.proofs.lemmas.Bool.{eq-eqb}
+use Rattle.std.proofs.lemmas.List.{set-get_or}
+use Rattle.index_law.proofs.Rows.{version_in-here}
+use Rattle.call_stages.specs.Kinds.{version_address}
+use Rattle.data_node.specs.Spots.{slot_offset}
+
+-- a write that has come there holds the lock
+came_locked : (l : Layout) (words0 words : List ℕ) (call : Call) (word : ℕ) (limit : Option ℕ) → IsSome limit → HasCome limit l words0 words call word → IsAtNode l words0 call × IsUnmoved l words0 words call.node
+came_locked l words0 words call word None some here = absurd (let no : false ≡ true = some in cc)
+came_locked l words0 words call word (Some most) some here = here
 
 -- where a get is after a turn
 abbrev pub GetWent : Layout → ℕ → List ℕ → List ℕ → Call → Option ℕ → Turn Get (Once Placed) → Type 0
@@ -98,18 +111,28 @@ early_went l g words0 words call limit (once.Worn node word) is = is
 early_went l g words0 words call limit (once.Spent clock) is = is
 early_went l g words0 words call limit (once.Again why) is = absurd is
 
+-- a read is told the version word again that it saw
+reads_again : (call : Call) (words0 words : List ℕ) (x word : ℕ) → call.node < call.view.layout.nodes → HasCome None call.view.layout words0 words call word
+    → x ≡ got call.view.layout words (Load (version_address call.view.layout call.node)) → x ≡ word
+reads_again call words0 words x word within here told =
+    told ∙ ap (λ (ws : List ℕ). get_or ws (version_address call.view.layout call.node) 0) here.1 ∙ sym (version_in-here call.view.layout words0 call.node within) ∙ sym here.2
+
 pub get_went : (machine : Get) (words0 words : List ℕ) (x : ℕ) → IsGet machine
     → CanWalk (get_call machine).view.layout (get_call machine).view.generation words0
     → GetIsThere (get_call machine).view.layout words0 words machine → x ≡ got (get_call machine).view.layout words (get_asks machine)
     → GetWent (get_call machine).view.layout (get_call machine).view.generation words0 (acted (get_call machine).view.layout words (get_asks machine)) (get_call machine) (limit_in (get_stage machine)) (get_turned machine x)
-get_went (get.Looking lookup) words0 words x sound still stands told = at (lookup_turned lookup x) (looks_come_there lookup words0 words x sound still stands told)
+get_went (get.Looking lookup) words0 words x sound still stands told = at (lookup_turned lookup x) (looks_come_there lookup words0 words x sound.0 still stands told)
   where
     at : (turn : Turn Lookup Looked) → LookedStands lookup.call.view.layout lookup.call.view.generation words0 (acted lookup.call.view.layout words (lookup_asks lookup)) lookup.call turn
         → GetWent lookup.call.view.layout lookup.call.view.generation words0 (acted lookup.call.view.layout words (lookup_asks lookup)) lookup.call (limit_in (get_stage (get.Looking lookup))) (get_looked lookup.call turn)
     at (Go next) is = is
     at (Done (looked.Early answer)) is = early_went lookup.call.view.layout lookup.call.view.generation words0 (acted lookup.call.view.layout words (lookup_asks lookup)) lookup.call (limit_in (get_stage (get.Looking lookup))) answer is
-    at (Done (looked.Found found)) is = is.0
-get_went (get.Unlocking call hold old) words0 words x sound still stands told = (stands, refl, refl)
+    at (Done (looked.Found found)) is = subst (λ (o : Option ℕ). HasCome o lookup.call.view.layout words0 (acted lookup.call.view.layout words (lookup_asks lookup)) lookup.call found.hold.locked) sound.1 is
+get_went (get.Checking call hold old) words0 words x sound still stands told =
+    let same : x ≡ hold.locked = reads_again call words0 words x hold.locked sound.0.node stands told in
+    subst (λ b. GetWent call.view.layout call.view.generation words0 (acted call.view.layout words (get_asks (get.Checking call hold old))) call (limit_in (get_stage (get.Checking call hold old)))
+    (Done (cond b (once.Done (record { old = old; place = hold.clock; hops = call.hops })) (once.Again (again.Moved call.node hold.locked x))))) (sym (eq-eqb x hold.locked same))
+    (stands.0, refl, refl)
 
 -- An answer of a machine: one that wrote had a place, and one that is turned back may be so.
 abbrev pub HasEnded : Layout → ℕ → List ℕ → List ℕ → Call → (Option ℕ → Type 0) → (Again → Type 0) → Option ℕ → Option ℕ → Once Placed → Type 0
@@ -200,10 +223,10 @@ module _ (l : Layout) (g : ℕ) (words0 words : List ℕ) (R : Again → Type 0)
   into_stands call found value (Some slot) stands = stands.0
   into_stands call found value None stands = full_stands call found found.hit value stands
 
-  put_looked_went : (call : Call) (value : ℕ) (place limit : Option ℕ) (turn : Turn Lookup Looked) → LookedStands l g words0 words call turn → PutWent call place limit (put_looked call value turn)
-  put_looked_went call value place limit (Go next) is = is
-  put_looked_went call value place limit (Done (looked.Early answer)) is = early l g words0 words call IsGiven R place limit answer is
-  put_looked_went call value place limit (Done (looked.Found found)) is = into_stands call found value (lowest_clear found.directory.bitmap call.view.layout.slots) is
+  put_looked_went : (call : Call) (value : ℕ) (place limit : Option ℕ) → IsSome call.limit → (turn : Turn Lookup Looked) → LookedStands l g words0 words call turn → PutWent call place limit (put_looked call value turn)
+  put_looked_went call value place limit some (Go next) is = is
+  put_looked_went call value place limit some (Done (looked.Early answer)) is = early l g words0 words call IsGiven R place limit answer is
+  put_looked_went call value place limit some (Done (looked.Found found)) is = into_stands call found value (lowest_clear found.directory.bitmap call.view.layout.slots) (came_locked l words0 words call found.hold.locked call.limit some is)
 
   slot_stands : (call : Call) (hold : Hold) (bitmap : ℕ) (hit : Hit) → IsAtNode l words0 call × IsUnmoved l words0 words call.node → DelIsThere l words0 words (del_slot call hold bitmap hit)
   slot_stands call hold bitmap hit stands = elim (nat_lt (call.view.layout.slots / 2) (names_left call bitmap hit)) as (λ b. DelIsThere l words0 words (cond b (del.Single (single_del.Clearing call hold bitmap hit None)) (del.Single (single_del.Next call hold bitmap hit)))) [
@@ -215,10 +238,10 @@ module _ (l : Layout) (g : ℕ) (words0 words : List ℕ) (R : Again → Type 0)
   hit_stands call found (Some hit) stands = slot_stands call found.hold found.directory.bitmap hit stands
   hit_stands call found None stands = (stands.0, tt)
 
-  del_looked_went : (call : Call) (place limit : Option ℕ) (turn : Turn Lookup Looked) → LookedStands l g words0 words call turn → DelWent call place limit (del_looked call turn)
-  del_looked_went call place limit (Go next) is = is
-  del_looked_went call place limit (Done (looked.Early answer)) is = early l g words0 words call IsGiven R place limit answer is
-  del_looked_went call place limit (Done (looked.Found found)) is = hit_stands call found found.hit is
+  del_looked_went : (call : Call) (place limit : Option ℕ) → IsSome call.limit → (turn : Turn Lookup Looked) → LookedStands l g words0 words call turn → DelWent call place limit (del_looked call turn)
+  del_looked_went call place limit some (Go next) is = is
+  del_looked_went call place limit some (Done (looked.Early answer)) is = early l g words0 words call IsGiven R place limit answer is
+  del_looked_went call place limit some (Done (looked.Found found)) is = hit_stands call found found.hit (came_locked l words0 words call found.hold.locked call.limit some is)
 
   -- a look for a line begins
   next_went : (call : Call) (hold : Hold) (bitmap : ℕ) (hit : Hit) (place limit : Option ℕ) (next : ℕ) → IsAtNode l words0 call × IsUnmoved l words0 words call.node
@@ -339,7 +362,7 @@ put_went : (machine : Put) (words0 words : List ℕ) (x : ℕ) → IsPut machine
     → PutIsThere (put_call machine).view.layout words0 words machine → x ≡ got (put_call machine).view.layout words (put_asks machine)
     → PutWent (put_call machine).view.layout (put_call machine).view.generation words0 (acted (put_call machine).view.layout words (put_asks machine)) (MayLack (Putting machine)) (put_call machine) (placed_in (put_stage machine)) (limit_in (put_stage machine)) (put_turned machine x)
 put_went (put.Single (single_put.Looking lookup value)) words0 words x sound still tells mine stands told =
-    put_looked_went _ _ words0 _ (MayLack (Putting (put.Single (single_put.Looking lookup value)))) lookup.call value (placed_in (put_stage (put.Single (single_put.Looking lookup value)))) (limit_in (put_stage (put.Single (single_put.Looking lookup value)))) (lookup_turned lookup x) (looks_come_there lookup words0 words x sound.0 still stands told)
+    put_looked_went _ _ words0 _ (MayLack (Putting (put.Single (single_put.Looking lookup value)))) lookup.call value (placed_in (put_stage (put.Single (single_put.Looking lookup value)))) (limit_in (put_stage (put.Single (single_put.Looking lookup value)))) sound.2 (lookup_turned lookup x) (looks_come_there lookup words0 words x sound.0 still stands told)
 put_went (put.Single (single_put.Filling fill)) words0 words x sound still tells mine stands told =
     put_filled_went _ _ words0 _ (MayLack (Putting (put.Single (single_put.Filling fill)))) fill.call None fill.call.limit (fill_turned fill x) (fill_went _ fill.call.view.generation words0 words (MayLack (Putting (put.Single (single_put.Filling fill)))) fill x stands)
 put_went (put.Single (single_put.Replacing call hold bitmap hit value)) words0 words x sound still tells mine stands told = stands
@@ -379,7 +402,7 @@ del_went : (machine : Del) (words0 words : List ℕ) (x : ℕ) → IsDel machine
     → DelIsThere (del_call machine).view.layout words0 words machine → x ≡ got (del_call machine).view.layout words (del_asks machine)
     → DelWent (del_call machine).view.layout (del_call machine).view.generation words0 (acted (del_call machine).view.layout words (del_asks machine)) (MayLack (Deleting machine)) (del_call machine) (placed_in (del_stage machine)) (limit_in (del_stage machine)) (del_turned machine x)
 del_went (del.Single (single_del.Looking lookup)) words0 words x sound still tells stands told =
-    del_looked_went _ _ words0 _ (MayLack (Deleting (del.Single (single_del.Looking lookup)))) lookup.call (placed_in (del_stage (del.Single (single_del.Looking lookup)))) (limit_in (del_stage (del.Single (single_del.Looking lookup)))) (lookup_turned lookup x) (looks_come_there lookup words0 words x sound still stands told)
+    del_looked_went _ _ words0 _ (MayLack (Deleting (del.Single (single_del.Looking lookup)))) lookup.call (placed_in (del_stage (del.Single (single_del.Looking lookup)))) (limit_in (del_stage (del.Single (single_del.Looking lookup)))) sound.1 (lookup_turned lookup x) (looks_come_there lookup words0 words x sound.0 still stands told)
 del_went (del.Single (single_del.Next call hold bitmap hit)) words0 words x sound still tells stands told =
     next_went call.view.layout call.view.generation words0 (acted call.view.layout words (Load (call_address call next_offset))) (MayLack (Deleting (del.Single (single_del.Next call hold bitmap hit)))) call hold bitmap hit None call.limit x
     (stands.0, loaded_unmoved call.view.layout words0 words call.node (call_address call next_offset) stands.1)
@@ -402,26 +425,33 @@ del_went (del.Merging call hold old place merge) words0 words x sound still tell
 abbrev PartWent : Layout → ℕ → List ℕ → List ℕ → Part → Turn Part (Once PartWords) → Type 0
 PartWent l g words0 words machine turn = Went l g words0 words (Parting machine) (wrapped_part turn)
 
-part_looked_went : (l : Layout) (g : ℕ) (words0 words : List ℕ) (lookup : Lookup) (count : ℕ) (before behind : Option Next) (turn : Turn Lookup Looked) → LookedStands l g words0 words lookup.call turn
+part_looked_went : (l : Layout) (g : ℕ) (words0 words : List ℕ) (lookup : Lookup) (count : ℕ) (before behind : Option Next) (turn : Turn Lookup Looked) → lookup.call.limit ≡ None → LookedStands l g words0 words lookup.call turn
     → PartWent l g words0 words (part.Looking lookup count before) (part_looked lookup.call count behind turn)
-part_looked_went l g words0 words lookup count before behind (Go next) is = is
-part_looked_went l g words0 words lookup count before behind (Done (looked.Early (once.Done placed))) is = absurd is
-part_looked_went l g words0 words lookup count before behind (Done (looked.Early (once.Worn node word))) is = is
-part_looked_went l g words0 words lookup count before behind (Done (looked.Early (once.Spent clock))) is = is
-part_looked_went l g words0 words lookup count before behind (Done (looked.Early (once.Again why))) is = absurd is
-part_looked_went l g words0 words lookup count before behind (Done (looked.Found found)) is = is.0
+part_looked_went l g words0 words lookup count before behind (Go next) read is = is
+part_looked_went l g words0 words lookup count before behind (Done (looked.Early (once.Done placed))) read is = absurd is
+part_looked_went l g words0 words lookup count before behind (Done (looked.Early (once.Worn node word))) read is = is
+part_looked_went l g words0 words lookup count before behind (Done (looked.Early (once.Spent clock))) read is = is
+part_looked_went l g words0 words lookup count before behind (Done (looked.Early (once.Again why))) read is = absurd is
+part_looked_went l g words0 words lookup count before behind (Done (looked.Found found)) read is = subst (λ (o : Option ℕ). HasCome o l words0 words lookup.call found.hold.locked) read is
 
-reading_went : (l : Layout) (g : ℕ) (words0 words : List ℕ) (reading : Reading) (x : ℕ) → IsAtNode l words0 reading.call → (at : ReadingAt) → PartWent l g words0 words (part.Reading reading) (reading_turned reading at x)
-reading_went l g words0 words reading x stands (reading_at.Load slot word) = stands
-reading_went l g words0 words reading x stands reading_at.Unlock = (stands, refl, tt, refl)
+reading_went : (words0 words : List ℕ) (reading : Reading) (x : ℕ) → IsReading reading → HasCome None reading.call.view.layout words0 words reading.call reading.hold.locked → (at : ReadingAt)
+    → x ≡ got reading.call.view.layout words (reading_at_asks reading.call at)
+    → PartWent reading.call.view.layout reading.call.view.generation words0 (acted reading.call.view.layout words (reading_at_asks reading.call at)) (part.Reading (record reading { at = at })) (reading_turned (record reading { at = at }) at x)
+reading_went words0 words reading x sound stands (reading_at.Load slot word) told = (stands.0, set-get_or words (call_address reading.call (slot_offset slot word)) 0 ∙ stands.1, stands.2)
+reading_went words0 words reading x sound stands reading_at.Check told =
+    let same : x ≡ reading.hold.locked = reads_again reading.call words0 words x reading.hold.locked sound.call.node stands told in
+    let whole = record reading { at = reading_at.Check } in
+    subst (λ b. PartWent reading.call.view.layout reading.call.view.generation words0 (acted reading.call.view.layout words (reading_at_asks reading.call reading_at.Check)) (part.Reading whole)
+    (Done (cond b (once.Done (part_words whole)) (once.Again (again.Moved reading.call.node reading.hold.locked x))))) (sym (eq-eqb x reading.hold.locked same))
+    (stands.0, refl, tt, refl)
 
 part_went : (machine : Part) (words0 words : List ℕ) (x : ℕ) → IsPart machine
     → CanWalk (part_call machine).view.layout (part_call machine).view.generation words0
     → PartIsThere (part_call machine).view.layout words0 words machine → x ≡ got (part_call machine).view.layout words (part_asks machine)
     → PartWent (part_call machine).view.layout (part_call machine).view.generation words0 (acted (part_call machine).view.layout words (part_asks machine)) machine (part_turned machine x)
 part_went (part.Looking lookup count behind) words0 words x sound still stands told =
-    part_looked_went _ _ words0 _ lookup count behind (behind_of lookup.at behind) (lookup_turned lookup x) (looks_come_there lookup words0 words x sound still stands told)
-part_went (part.Reading reading) words0 words x sound still stands told = reading_went _ _ words0 _ reading x stands reading.at
+    part_looked_went _ _ words0 _ lookup count behind (behind_of lookup.at behind) (lookup_turned lookup x) sound.1 (looks_come_there lookup words0 words x sound.0 still stands told)
+part_went (part.Reading reading) words0 words x sound still stands told = reading_went words0 words reading x sound stands reading.at told
 
 pub machine_went : (machine : Running) (words0 words : List ℕ) (x : ℕ) → IsRunning machine
     → CanWalk (running_call machine).view.layout (running_call machine).view.generation words0

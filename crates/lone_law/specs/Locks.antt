@@ -8,7 +8,7 @@ use Rattle.version_lock.specs.declared.TheConstants.{LAST_COUNT}
 use Rattle.version_lock.specs.Versions.{generation_of, kept_count, locked_word, IsWorn}
 use Rattle.call_stages.specs.declared.once.Once.{Once}
 use Rattle.call_stages.specs.declared.once.Placed.{Placed}
-use Rattle.call_stages.specs.Stages.{Stage, Idle, Saw, Wears, Holds, Eyes, Splits, Leaves, Meets, Joins}
+use Rattle.call_stages.specs.Stages.{Stage, Idle, Saw, Wears, Reads, Holds, Eyes, Splits, Leaves, Meets, Joins}
 use Rattle.call_stages.specs.AnySteps.{AnyStep}
 use Rattle.index_law.specs.Worlds.{Party, World, facts, stepped}
 use Rattle.index_law.specs.Lawful.{Lawful}
@@ -58,6 +58,7 @@ abbrev pub HasLocked : ℕ → (ℕ → ℕ) → (ℕ → ℕ) → Bool → Stag
 HasLocked g before now leaving Idle = (m : ℕ) → now m ≡ before m
 HasLocked g before now leaving (Saw n v w k) = (m : ℕ) → now m ≡ before m
 HasLocked g before now leaving (Wears n v) = (m : ℕ) → now m ≡ before m
+HasLocked g before now leaving (Reads n v sight told) = (m : ℕ) → now m ≡ before m
 HasLocked g before now leaving (Holds n w h) = HoldsLocked g before now leaving n w
 HasLocked g before now leaving (Eyes n w h m v u free) = IsLockedOnce g before now n w
 HasLocked g before now leaving (Splits left fresh phase) = AreLocked g before now left.node left.lock fresh.node

@@ -1,5 +1,5 @@
 -- A whole try of any call, with no other in flight.
-use Rattle.std.specs.Prelude.{◌≡◌, ℕ, ◌+◌, ◌<◌, ◌≤◌, ◌^◌, Bool, false, List, ◌++◌, length, Option, Some}
+use Rattle.std.specs.Prelude.{◌≡◌, ℕ, ◌+◌, ◌<◌, ◌≤◌, ◌^◌, Bool, false, List, ◌++◌, length, Option, Some, IsSome}
 use Rattle.std.specs.Prelude.{None, IfSome, IsTrue}
 use mathlib.Core.Option.{some}
 use lib.ListN.{get_elem?}
@@ -44,7 +44,7 @@ use Rattle.node_ops.specs.CallStages.{stage_of}
 use Rattle.index_law.specs.Facts.{map_now}
 use Rattle.index_law.specs.Worlds.{Party, World, facts, stepped, started, moved_on, written}
 use Rattle.index_law.specs.Laws.{IsAtRest}
-use Rattle.lone_law.specs.There.{CanWalk, WalksBy, IsAtNode, IsUnmoved, LookupStands}
+use Rattle.lone_law.specs.There.{CanWalk, WalksBy, IsAtNode, IsUnmoved, HasCome, LookupStands}
 use Rattle.lone_law.specs.Locks.{locks_of, HasLocked}
 use Rattle.lone_law.specs.Merging.{KeepsFew, TriesMerge, HasKeptList, LeavesShape}
 use Rattle.lone_law.specs.MergeStands.{merge_leaves, MergeForesees}
@@ -57,7 +57,7 @@ use Rattle.lone_law.specs.Rooms.{target_node, target_names}
 -- Where a get stands.
 abbrev pub GetIsThere : Layout → List ℕ → List ℕ → Get → Type 0
 GetIsThere l words0 words (get.Looking lookup) = LookupStands l words0 words lookup.call lookup.at
-GetIsThere l words0 words (get.Unlocking call hold old) = IsAtNode l words0 call
+GetIsThere l words0 words (get.Checking call hold old) = HasCome None l words0 words call hold.locked
 
 abbrev pub PutIsThere : Layout → List ℕ → List ℕ → Put → Type 0
 PutIsThere l words0 words (put.Single (single_put.Looking lookup value)) = LookupStands l words0 words lookup.call lookup.at
@@ -90,7 +90,7 @@ DelIsThere l words0 words (del.Merging call hold old place merge) =
 -- A part of a range scan stands where a get of its low name does.
 abbrev pub PartIsThere : Layout → List ℕ → List ℕ → Part → Type 0
 PartIsThere l words0 words (part.Looking lookup count behind) = LookupStands l words0 words lookup.call lookup.at
-PartIsThere l words0 words (part.Reading reading) = IsAtNode l words0 reading.call
+PartIsThere l words0 words (part.Reading reading) = HasCome None l words0 words reading.call reading.hold.locked
 
 abbrev pub IsThere : Layout → List ℕ → List ℕ → Running → Type 0
 IsThere l words0 words (Getting machine) = GetIsThere l words0 words machine
@@ -163,6 +163,12 @@ is_leaving (Putting machine) = false
 is_leaving (Deleting machine) = del_leaves machine
 is_leaving (Parting machine) = false
 
+-- A write has a limit, and a read has none.
+abbrev pub HasLimit : NameOp → Option ℕ → Type 0
+HasLimit (op.Get name) limit = limit ≡ None
+HasLimit (op.Put name value) limit = IsSome limit
+HasLimit (op.Del name) limit = IsSome limit
+
 -- A call of this op and limit is in flight, which the party makes as its own, as the index was w0 when it began, and no
 -- other.
 pub record LoneCall (w0 : World) (i : ℕ) (asked : NameOp) (limit : Option ℕ) (w : World) (p : Party)
@@ -173,15 +179,18 @@ pub record LoneCall (w0 : World) (i : ℕ) (asked : NameOp) (limit : Option ℕ)
   pub sound : Sound w.layout w.generation machine
   pub of : IsOf asked machine
   pub limited : (running_call machine).limit ≡ limit
+  pub limits : HasLimit asked limit
   pub own : (running_call machine).view.caller ≡ p.caller
   pub stands : IsThere w0.layout w0.words w.words machine
   pub foresees : Foresees w0 asked machine
   pub locks : HasLocked w.generation (facts w0).version (facts w).version (is_leaving machine) (stage_of machine)
   pub timely : IsPast machine → IsLate w0 limit → ⊥
 
--- No lock can be taken any more from the version word of the target of its name.
+-- It is a write, and no lock can be taken any more from the version word of the target of its name.
 abbrev pub FindsWorn : World → NameOp → Type 0
-FindsWorn w asked = IsWorn ((facts w).version (target_node w (name_asked asked))) w.generation
+FindsWorn w (op.Get name) = ⊥
+FindsWorn w (op.Put name value) = IsWorn ((facts w).version (target_node w name)) w.generation
+FindsWorn w (op.Del name) = IsWorn ((facts w).version (target_node w name)) w.generation
 
 -- How a try is answered, by its cause in the index before it, and what it leaves: of the causes exactly one holds.
 abbrev pub IsAnswered : World → NameOp → Option ℕ → World → Party → Once Placed → Type 0
@@ -250,7 +259,7 @@ LoneCallsBegin = (w0 : World) (i : ℕ) (asked : NameOp) (limit : Option ℕ) (p
     IsAtRest w0 → CanWalk w0.layout w0.generation w0.words → get_elem? w0.parties i ≡ some p →
     IsView view → view.layout ≡ w0.layout → view.generation ≡ w0.generation → view.caller ≡ p.caller →
     IsName (name_asked asked) →
-    IfSome limit (λ most. most ≤ 2 ^ 62) → ValueFits asked →
+    IfSome limit (λ most. most ≤ 2 ^ 62) → HasLimit asked limit → ValueFits asked →
     LoneCall w0 i asked limit (started w0 i p index) (begun_party w0 p index) (machine_for asked view limit)
 
 -- So does a part of a range scan, which is a call of a get of its low name.

@@ -1,5 +1,5 @@
 -- Where a call stands that nobody disturbs.
-use Rattle.std.specs.Prelude.{◌≡◌, ◌≢◌, ℕ, List, IsTrue, IsSomeAnd}
+use Rattle.std.specs.Prelude.{◌≡◌, ◌≢◌, ℕ, List, IsTrue, IsSomeAnd, IsSome, Option, Some, None}
 use Rattle.pm_words.specs.declared.layout.Layout.{Layout}
 use Rattle.pm_words.specs.declared.machine.Turn.{Turn}
 use Rattle.pm_words.specs.declared.machine.Turn.TheVariants.{Go, Done}
@@ -56,11 +56,11 @@ pub record WalksBy (l : Layout) (words name : List ℕ) (hops : ℕ) : Type 0 wh
   pub begins : StartsAt l words name start
   pub comes : Comes l (nodes_in l words) (key_of name) start hops
 
--- The call is at the target of its name, by as many hops as its walk made.
+-- The call is at the target of its name, by as many hops as its walk made; a write can lock that.
 pub record IsAtNode (l : Layout) (words : List ℕ) (call : Call) : Type 0 where
   pub node : call.node ≡ target_from 0 (list_in l words) (key_of (name_in call))
   pub hops : WalksBy l words (name_in call) call.hops
-  pub unworn : IsWorn (version_in l words call.node) call.view.generation → ⊥
+  pub unworn : IsSome call.limit → IsWorn (version_in l words call.node) call.view.generation → ⊥
 
 -- Since the call took the lock of this node nothing else has changed: no version word of another, no status, no node
 -- that one leads to, and no log line's state.
@@ -81,18 +81,31 @@ pub record IsUnderWay (l : Layout) (words : List ℕ) (call : Call) (walk : Walk
   pub walks : WalksBy l words (name_in call) hops
   pub way : IsOnWay l (nodes_in l words) hops walk
 
+-- It has come there: a read has seen the version word, and all words are as they were; a write holds the lock.
+abbrev pub HasCome : Option ℕ → Layout → List ℕ → List ℕ → Call → ℕ → Type 0
+HasCome None l words0 words call word = IsAtNode l words0 call × (words ≡ words0) ×
+    (word ≡ version_in l words0 call.node)
+HasCome (Some limit) l words0 words call word = IsAtNode l words0 call × IsUnmoved l words0 words call.node
+
 -- A look-up is on its way there, with the words as they were, or has come there.
 abbrev pub LookupStands : Layout → List ℕ → List ℕ → Call → LookupAt → Type 0
 LookupStands l words0 words call (at.Floor floor) = (words ≡ words0) × IsLanding l words0 call floor
 LookupStands l words0 words call (at.Walk walk) = (words ≡ words0) × IsUnderWay l words0 call walk
+LookupStands l words0 words call (at.Read seen) = (words ≡ words0) × IsAtNode l words0 call ×
+    (seen.version ≡ version_in l words0 call.node)
 LookupStands l words0 words call (at.Lock seen locked) = (words ≡ words0) × IsAtNode l words0 call ×
     (seen.version ≡ version_in l words0 call.node)
-LookupStands l words0 words call _ = IsAtNode l words0 call × IsUnmoved l words0 words call.node
+LookupStands l words0 words call (at.Clock locked) = IsAtNode l words0 call × IsUnmoved l words0 words call.node
+LookupStands l words0 words call (at.Spent hold) = IsAtNode l words0 call × IsUnmoved l words0 words call.node
+LookupStands l words0 words call (at.Bitmap hold) = HasCome call.limit l words0 words call hold.locked
+LookupStands l words0 words call (at.Prints hold bitmap prints k) = HasCome call.limit l words0 words call hold.locked
+LookupStands l words0 words call (at.Name hold directory left slot k) = HasCome call.limit l words0 words call hold.locked
+LookupStands l words0 words call (at.Value hold directory slot) = HasCome call.limit l words0 words call hold.locked
 
 -- It ends early only because its target is worn, or its limit is reached.
 abbrev pub EndsEarly : Layout → ℕ → List ℕ → Call → Once Placed → Type 0
 EndsEarly l g words0 call (once.Worn node word) =
-    (node ≡ target_from 0 (list_in l words0) (key_of (name_in call))) × (word ≡ version_in l words0 node) ×
+    IsSome call.limit × (node ≡ target_from 0 (list_in l words0) (key_of (name_in call))) × (word ≡ version_in l words0 node) ×
     IsWorn word g
 EndsEarly l g words0 call (once.Spent clock) = IsTrue (is_spent call.limit clock) × IsAtNode l words0 call
 EndsEarly l g words0 call (once.Again why) = ⊥
@@ -101,8 +114,7 @@ EndsEarly l g words0 call (once.Done placed) = ⊥
 abbrev pub LookedStands : Layout → ℕ → List ℕ → List ℕ → Call → Turn Lookup Looked → Type 0
 LookedStands l g words0 words call (Go lookup) = LookupStands l words0 words lookup.call lookup.at
 LookedStands l g words0 words call (Done (looked.Early answer)) = EndsEarly l g words0 call answer
-LookedStands l g words0 words call (Done (looked.Found found)) = IsAtNode l words0 call ×
-    IsUnmoved l words0 words call.node
+LookedStands l g words0 words call (Done (looked.Found found)) = HasCome call.limit l words0 words call found.hold.locked
 
 abbrev pub LooksComeThere : Type 0
 LooksComeThere = (lookup : Lookup) (words0 words : List ℕ) (x : ℕ) → IsLookup lookup →

@@ -1,5 +1,5 @@
 -- When a call makes its switch, and how it ends.
-use Rattle.std.proofs.Common.{◌≡◌, ◌≢◌, ℕ, ◌⊎◌, inl, inr, Bool, true, false, refl, sym, subst}
+use Rattle.std.proofs.Common.{◌≡◌, ◌≢◌, ℕ, ◌⊎◌, inl, inr, Bool, true, false, refl, sym, subst, ◌∙◌}
 use Rattle.std.specs.Prelude.{Option, Some, None}
 use Rattle.pm_words.specs.declared.layout.Layout.{Layout}
 use Rattle.pm_words.specs.declared.action.Action.{Action}
@@ -16,6 +16,9 @@ use Rattle.index_law.proofs.Loose.{out_unmerged, loose_out}
 use Rattle.lone_law.specs.Tries.{is_cut}
 use Rattle.lone_law.proofs.Cuts.{loose_uncut}
 use Rattle.lone_turn.specs.CallLogs.{HasNotSwitched}
+use Rattle.call_stages.specs.Kinds.{Read, views, views_live, views_word, views_next, dates, notes, finds, confirms, wavers, reads_on}
+use Rattle.call_stages.specs.Stages.{Reads}
+use Rattle.index_law.proofs.Moves.{read_before, read_after}
 
 loose_not : (s : Stage) → IsLoose s → HasNotSwitched s
 loose_not s loose = (loose_uncut s loose, out_unmerged s (loose_out s loose))
@@ -49,6 +52,7 @@ look_cut (misses other) = refl
 look_cut (times clean below) = refl
 look_cut (learns has positive unready learnt) = refl
 look_cut (decides has positive clean durable about learnt decided) = refl
+look_cut (reads_on {s = s} {t = t} k) = loose_uncut t (read_after k) ∙ sym (loose_uncut s (read_before k))
 look_cut (glances has unready) = refl
 
 split_cut : {l : Layout} {g : ℕ} {s : Stage} {a : Action} {x : ℕ} {t : Stage} → Split l g s a x t → (is_cut t ≡ is_cut s) ⊎ IsSwitch s t
@@ -114,6 +118,17 @@ gives_not (Some (once.Again again.NoFree)) answer s gives is not_switched = absu
 gives_not (Some (once.Again (again.Held word))) answer s gives is not_switched = absurd gives
 gives_not (Some (once.Again (again.Epoch first second))) answer s gives is not_switched = absurd gives
 
+read_told : {l : Layout} {g : ℕ} {s : Stage} {a : Action} {x : ℕ} {t : Stage} {r : Option (Once Placed)} → Read l g s a x t r → (answer : Once Placed) → r ≡ Some answer → Told answer s
+read_told (views loose here free) answer is = absurd (cc)
+read_told (views_live here live) answer is = absurd (cc)
+read_told (views_word has positive live next learnt) answer is = absurd (cc)
+read_told (views_next has low high some live still next leads learnt) answer is = absurd (cc)
+read_told (dates named live between kept) answer is = absurd (cc)
+read_told (notes has positive learnt) answer is = absurd (cc)
+read_told (finds has positive learnt decided) answer is = absurd (cc)
+read_told (confirms {n = n} {v = v} {k = k} {h = h} here same unplaced unlimited time old) answer is = subst (λ (d : Once Placed). Told d (Reads n v k (Some h))) (some_same is) refl
+read_told (wavers {n = n} {v = v} {k = k} {h = h} here other) answer is = subst (λ (d : Once Placed). Told d (Reads n v k h)) (some_same is) (refl, refl)
+
 look_told : {l : Layout} {g : ℕ} {s : Stage} {a : Action} {x : ℕ} {t : Stage} {r : Option (Once Placed)} → Look l g s a x t r → (answer : Once Placed) → r ≡ Some answer → Told answer s
 look_told (turns_back {s = s} loose here locked) answer is = subst (λ (d : Once Placed). Told d s) (some_same is) (loose_not s loose)
 look_told (wears loose here free worn) answer is = absurd (cc)
@@ -137,6 +152,7 @@ look_told (misses {n = n} {v = v} {w = w} {k = k} other) answer is = subst (λ (
 look_told (times clean below) answer is = absurd (cc)
 look_told (learns has positive unready learnt) answer is = absurd (cc)
 look_told (decides has positive clean durable about learnt decided) answer is = absurd (cc)
+look_told (reads_on k) answer is = read_told k answer is
 look_told (glances has unready) answer is = absurd (cc)
 
 -- a call without a place has merged nothing

@@ -28,7 +28,10 @@ use Rattle.split_merge.specs.Splits.{LeadsIn, split_asks, split_at_asks, split_t
 use Rattle.split_merge.specs.SplitStages.{split_footing, split_at_footing, done_footing}
 use Rattle.split_merge.specs.SplitLaws.{MayBegin, SplitsSo}
 use Rattle.split_merge.proofs.SplitLaw.{splits_are_steps}
-use Rattle.call_stages.specs.Kinds.{Told, LeadsWithin, Step, commits, unlocks, reads}
+use Rattle.call_stages.specs.Kinds.{Told, LeadsWithin, Step, looks, reads_on, confirms, wavers, commits}
+use Rattle.std.specs.Prelude.{IsSome}
+use Rattle.std.proofs.Common.{◌==◌, true, cond}
+use Rattle.std.proofs.lemmas.Bool.{eqb-true, eqb-false}
 use Rattle.node_ops.specs.declared.call.Call.{Call}
 use Rattle.node_ops.specs.declared.lookup.Hold.{Hold}
 use Rattle.node_ops.specs.declared.lookup.Hit.{Hit}
@@ -53,16 +56,16 @@ use Rattle.pm_words.specs.Fences.{line_of, fence_start}
 use Rattle.node_ops.specs.LookupSteps.{IsHit, IsFoundBy, lookup_turned}
 use Rattle.node_ops.specs.FinishSteps.{finish_turned}
 use Rattle.node_ops.specs.FillSteps.{fill_turned}
-use Rattle.node_ops.specs.GetSteps.{IsGet, get_call, get_asks, get_turned, get_looked}
+use Rattle.node_ops.specs.GetSteps.{IsGet, checked, get_call, get_asks, get_turned, get_looked}
 use Rattle.node_ops.specs.PutSteps.{IsPut, put_call, put_asks, put_turned, put_looked, put_into, put_full, put_filled, put_finished, replaced, put_split, IsSplitting}
 use Rattle.node_ops.specs.RunningSteps.{running_call, running_asks, running_turned, wrapped, wrapped_part, IsRunning}
 use Rattle.node_ops.specs.Laws.{TurnsAreFootSteps, TurnsAreSteps, LeadsAreTaken}
 use Rattle.node_ops.specs.CallStages.{words_from, nothing, knows, decided, fence_rest, seen_hit, seen_fill, get_stage, put_stage, part_stage, stage_of, stage_after, reply_of, found_full, footing_of, footing_after}
 use Rattle.node_ops.proofs.SeenLemmas.{Stand, seen_append, seen_front, stand_whole}
-use Rattle.node_ops.proofs.LookupLaw.{PlainStep, steps, hit_words, found_known, Leads_found, Leads, lookup_leads}
+use Rattle.node_ops.proofs.LookupLaw.{PlainStep, steps, hit_words, found_known, Writes_found, Found_by, written_found, Leads, Keeps, keeps_live, lookup_leads}
 use Rattle.node_ops.proofs.FinishLaw.{Finishes, finish_leads}
 use Rattle.node_ops.proofs.FillLaw.{Fills, fill_leads}
-use Rattle.node_ops.proofs.LookupSound.{SoundLooked, lookup_stays}
+use Rattle.node_ops.proofs.LookupSound.{SoundLooked, found_by, lookup_stays}
 use Rattle.node_ops.proofs.PlainSteps.{hit_words_known, part_hit, Plain, IsSingle, IsPlainAfter, plain, looks_single}
 use Rattle.node_ops.specs.declared.part.Part.{Part}
 use Rattle.node_ops.specs.declared.part.Part.TheVariants as part
@@ -70,6 +73,8 @@ use Rattle.node_ops.specs.declared.part.PartWords.{PartWords}
 use Rattle.node_ops.specs.PartSteps.{part_turned}
 use Rattle.node_ops.proofs.PartLaw.{part_steps}
 use Rattle.node_ops.proofs.DelLaw.{dels_are_steps, merge_leads}
+use Rattle.data_list.specs.WalkStages.{live_sight}
+use Rattle.node_ops.specs.CallStages.{behind_sight}
 
 -- the kind of step of a turn of a get
 abbrev Gets : Call → Stage → Action → ℕ → Turn Get (Once Placed) → Type 0
@@ -88,11 +93,12 @@ module _ (call : Call) (sound : IsCall call) where
   limit : slots ≤ 64
   limit = sound.view.layout.slots.1
 
-  get_looked_leads : (stage : Stage) (action : Action) (x : ℕ) (turn : Turn Lookup Looked) → Leads call stage action x turn → Gets call stage action x (get_looked call turn)
-  get_looked_leads stage action x (Go lookup) step = step
-  get_looked_leads stage action x (Done (looked.Early answer)) step = step
-  get_looked_leads stage action x (Done (looked.Found found)) leads =
-      steps (leads nothing None false tt (λ s known. record { seen = tt; left = tt }) (λ range s m in_range old means. means))
+  get_looked_leads : call.limit ≡ None → (stage : Stage) (action : Action) (x : ℕ) (turn : Turn Lookup Looked) → Leads (live_sight []) call stage action x turn → Gets call stage action x (get_looked call turn)
+  get_looked_leads read stage action x (Go lookup) step = step
+  get_looked_leads read stage action x (Done (looked.Early answer)) step = step
+  get_looked_leads read stage action x (Done (looked.Found found)) leads =
+      let so = subst (λ (o : Option ℕ). Found_by o (live_sight []) call stage action x found) read leads in
+      steps (so nothing (λ s known. record { seen = tt; left = tt }))
 
   -- what is known as the writing into a clear slot begins
   fill_known : (s : Spot) (found : Found) (value slot : ℕ) → length found.directory.prints ≡ 8 → slot < 64 → Knows (name_in call) (found_known call found) s
@@ -116,7 +122,7 @@ module _ (call : Call) (sound : IsCall call) where
       }
 
   put_full_leads : (stage : Stage) (action : Action) (x : ℕ) (found : Found) (hit : Option Hit) (value : ℕ)
-      → Leads_found call stage action x (record found { hit = hit }) → Puts call stage action x (Go (put_full call found.hold found.directory.bitmap hit value))
+      → Writes_found call stage action x (record found { hit = hit }) → Puts call stage action x (Go (put_full call found.hold found.directory.bitmap hit value))
   put_full_leads stage action x found (Some hit) value leads =
       steps (leads (knows (seen_hit call found.directory.bitmap (Some hit))) None false tt
       (λ s known. record { seen = part_hit s call (record found { hit = Some hit }) known; left = tt }) (λ range s m in_range old means. means))
@@ -124,7 +130,7 @@ module _ (call : Call) (sound : IsCall call) where
       steps (leads (knows ((bitmap_offset, found.directory.bitmap) ∷ [])) None false tt (λ s known. record { seen = (known.seen.0, tt); left = tt }) (λ range s m in_range old means. means))
 
   put_into_leads : (stage : Stage) (action : Action) (x : ℕ) (found : Found) (value : ℕ) (clear : Option ℕ) → lowest_clear found.directory.bitmap slots ≡ clear → IsFoundBy slots found
-      → Leads_found call stage action x found → Puts call stage action x (Go (put_into call found value clear))
+      → Writes_found call stage action x found → Puts call stage action x (Go (put_into call found value clear))
   put_into_leads stage action x found value (Some slot) is sound_found leads =
       let lowest = lowest_clear-some found.directory.bitmap slots slot sound_found.directory.bitmap limit is in
       let small : slot < 64 = let within : slot < slots = lowest.within in let few : slots ≤ 64 = limit in omega arith in
@@ -142,12 +148,13 @@ module _ (call : Call) (sound : IsCall call) where
       (λ s known. fill_known s found value slot sound_found.directory.prints small known) (λ range s m in_range old means. means))
   put_into_leads stage action x found value None is sound_found leads = put_full_leads stage action x found found.hit value leads
 
-  put_looked_leads : (stage : Stage) (action : Action) (x value : ℕ) (turn : Turn Lookup Looked) → SoundLooked call turn → Leads call stage action x turn
+  put_looked_leads : IsSome call.limit → (stage : Stage) (action : Action) (x value : ℕ) (turn : Turn Lookup Looked) → SoundLooked call turn → Leads (live_sight []) call stage action x turn
       → Puts call stage action x (put_looked call value turn)
-  put_looked_leads stage action x value (Go lookup) sound_turn step = step
-  put_looked_leads stage action x value (Done (looked.Early answer)) sound_turn step = step
-  put_looked_leads stage action x value (Done (looked.Found found)) sound_turn leads =
-      put_into_leads stage action x found value (lowest_clear found.directory.bitmap slots) refl sound_turn leads
+  put_looked_leads writes stage action x value (Go lookup) sound_turn step = step
+  put_looked_leads writes stage action x value (Done (looked.Early answer)) sound_turn step = step
+  put_looked_leads writes stage action x value (Done (looked.Found found)) sound_turn leads =
+      put_into_leads stage action x found value (lowest_clear found.directory.bitmap slots) refl (found_by call.limit slots found writes sound_turn)
+      (written_found call.limit (live_sight []) call stage action x found writes leads)
 
   put_filled_leads : (stage : Stage) (action : Action) (x : ℕ) (turn : Turn Fill Finish) → Fills call stage action x turn → Puts call stage action x (put_filled turn)
   put_filled_leads stage action x (Go fill) step = steps step
@@ -171,9 +178,20 @@ module _ (call : Call) (sound : IsCall call) where
       let here = hit_words_known s call bitmap hit sound before.seen is.live in
       means_valued slots range s m (name_in call) value hit.slot limit sound.packed.named here.0 here.1 means)
 
+-- the second load of the version word
+check_leads : (call : Call) → IsCall call → call.limit ≡ None → (hold : Hold) (old : Option ℕ) (x : ℕ)
+    → Step call.view.layout call.view.generation (get_stage (get.Checking call hold old)) (get_asks (get.Checking call hold old)) x Idle (Some (checked call hold old x))
+check_leads call sound read hold old x =
+    elim (x == hold.locked) as (λ b. (x == hold.locked) ≡ b → Step call.view.layout call.view.generation (get_stage (get.Checking call hold old)) (get_asks (get.Checking call hold old)) x Idle
+    (Some (cond b (once.Done (record { old = old; place = hold.clock; hops = call.hops })) (once.Again (again.Moved call.node hold.locked x))))) [
+      | true ↦ λ same. looks (reads_on (confirms sound.node (eqb-true x hold.locked same) refl read refl refl))
+      | false ↦ λ other. looks (reads_on (wavers sound.node (eqb-false x hold.locked other)))
+    ] refl
+
 get_leads : (get : Get) (x : ℕ) → IsGet get → Told (get_call get).view.layout (get_call get).view.generation (get_asks get) x → Gets (get_call get) (get_stage get) (get_asks get) x (get_turned get x)
-get_leads (get.Looking lookup) x sound told = get_looked_leads lookup.call sound.call _ _ x (lookup_turned lookup x) (lookup_leads lookup.call sound.call lookup.at x sound.here told)
-get_leads (get.Unlocking call hold old) x sound told = unlocks refl refl refl refl (reads refl refl refl)
+get_leads (get.Looking lookup) x sound told = get_looked_leads lookup.call sound.0.call sound.1 _ _ x (lookup_turned lookup x)
+    (lookup_leads (live_sight []) lookup.call sound.0.call lookup.at x sound.0.here (keeps_live lookup.at) told)
+get_leads (get.Checking call hold old) x sound told = check_leads call sound.0 sound.1 hold old x
 
 -- it doesn't split
 abbrev IsWhole : Put → Type 0
@@ -183,7 +201,7 @@ IsWhole _ = Unit {0}
 put_leads : (put : Put) (x : ℕ) → IsWhole put → IsPut put → Told (put_call put).view.layout (put_call put).view.generation (put_asks put) x
     → Puts (put_call put) (put_stage put) (put_asks put) x (put_turned put x)
 put_leads (put.Single (single_put.Looking lookup value)) x whole sound told =
-    put_looked_leads lookup.call sound.0.call _ _ x value (lookup_turned lookup x) (lookup_stays lookup x sound.0 told) (lookup_leads lookup.call sound.0.call lookup.at x sound.0.here told)
+    put_looked_leads lookup.call sound.0.call sound.2 _ _ x value (lookup_turned lookup x) (lookup_stays lookup x sound.0 told) (lookup_leads (live_sight []) lookup.call sound.0.call lookup.at x sound.0.here (keeps_live lookup.at) told)
 put_leads (put.Single (single_put.Filling fill)) x whole sound told = put_filled_leads fill.call sound.call _ _ x (fill_turned fill x) (fill_leads fill x sound told.fits)
 put_leads (put.Single (single_put.Replacing call hold bitmap hit value)) x whole sound told = steps (replacing_leads call sound.call hold bitmap hit value x sound.hit sound.value)
 put_leads (put.Single (single_put.Finishing finish)) x whole sound told = put_finished_leads finish.call sound.call _ _ x (finish_turned finish x) (finish_leads finish x sound told.fits)
@@ -201,11 +219,11 @@ as_put call stage action x (Go put) step = step
 as_put call stage action x (Done answer) step = steps step
 
 get_single : (get : Get) → IsSingle (get_stage get)
-get_single (get.Looking lookup) = looks_single lookup.call lookup.at
-get_single (get.Unlocking call hold old) = tt
+get_single (get.Looking lookup) = looks_single (live_sight []) lookup.call lookup.at
+get_single (get.Checking call hold old) = tt
 
 put_single : (put : Put) → IsWhole put → IsSingle (put_stage put)
-put_single (put.Single (single_put.Looking lookup value)) whole = looks_single lookup.call lookup.at
+put_single (put.Single (single_put.Looking lookup value)) whole = looks_single (live_sight []) lookup.call lookup.at
 put_single (put.Single (single_put.Filling fill)) whole = tt
 put_single (put.Single (single_put.Replacing call hold bitmap hit value)) whole = tt
 put_single (put.Single (single_put.Finishing finish)) whole = tt
@@ -283,7 +301,7 @@ put_steps put x whole sound told =
     plain _ _ _ None (put_stage put) _ x (running_turned (Putting put) x) (put_single put whole) (puts_plain put x whole) (as_put (put_call put) _ _ x (put_turned put x) (put_leads put x whole sound told))
 
 part_single : (p : Part) → IsSingle (part_stage p)
-part_single (part.Looking lookup count behind) = looks_single lookup.call lookup.at
+part_single (part.Looking lookup count behind) = looks_single (behind_sight behind) lookup.call lookup.at
 part_single (part.Reading reading) = tt
 
 parts_plain : (turn : Turn Part (Once PartWords)) → IsPlainAfter None (wrapped_part turn)

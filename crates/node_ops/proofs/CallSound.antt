@@ -67,7 +67,8 @@ use Rattle.node_ops.specs.Laws.{TurnsStaySound}
 use Rattle.node_ops.specs.declared.part.Part.{Part}
 use Rattle.node_ops.specs.PartSteps.{IsPart, part_call, placed_turn, part_turned}
 use Rattle.node_ops.proofs.PartSound.{part_stays}
-use Rattle.node_ops.proofs.LookupSound.{SoundLooked, lookup_stays, Stays}
+use Rattle.node_ops.proofs.LookupSound.{found_by, SoundLooked, lookup_stays, Stays}
+use Rattle.std.specs.Prelude.{is_some}
 
 -- the fields after a turn, and that the call is the same
 abbrev SoundFinish : Call → Turn Finish (Once Placed) → Type 0
@@ -128,13 +129,13 @@ fill_stays fill x sound fits = at fill.at sound.here
     at fill_at.Bitmap here = (record { call = sound.call; locked = sound.locked; here = (bitmap_inside fill.call, starts) }, refl)
 
 pub get_stays : (get : Get) (x : ℕ) → IsGet get → Told (get_call get).view.layout (get_call get).view.generation (get_asks get) x → Stays IsGet get_call (get_call get) (get_turned get x)
-get_stays (get.Looking lookup) x sound told = at (lookup_turned lookup x) (lookup_stays lookup x sound told)
+get_stays (get.Looking lookup) x sound told = at (lookup_turned lookup x) (lookup_stays lookup x sound.0 told)
   where
     at : (turn : Turn Lookup Looked) → SoundLooked lookup.call turn → Stays IsGet get_call lookup.call (get_looked lookup.call turn)
-    at (Go next) is = is
+    at (Go next) is = ((is.0, ap (λ (c : Call). c.limit) is.1 ∙ sound.1), is.1)
     at (Done (looked.Early answer)) is = tt
-    at (Done (looked.Found found)) is = ((sound.call, is.locked), refl)
-get_stays (get.Unlocking call hold old) x sound told = tt
+    at (Done (looked.Found found)) is = ((sound.0.call, sound.1), refl)
+get_stays (get.Checking call hold old) x sound told = tt
 
 pub put_stays : (put : Put) (x : ℕ) → IsPut put → Told (put_call put).view.layout (put_call put).view.generation (put_asks put) x → put_leads put x → Stays IsPut put_call (put_call put) (put_turned put x)
 put_stays (put.Single (single_put.Looking lookup value)) x sound told leads = at (lookup_turned lookup x) (lookup_stays lookup x sound.0 told)
@@ -163,9 +164,9 @@ put_stays (put.Single (single_put.Looking lookup value)) x sound told leads = at
     into found None same is = full found found.hit is.hit is (lowest_clear-none found.directory.bitmap lookup.call.view.layout.slots is.directory.bitmap same)
 
     at : (turn : Turn Lookup Looked) → SoundLooked lookup.call turn → Stays IsPut put_call lookup.call (put_looked lookup.call value turn)
-    at (Go next) is = ((is.0, sound.1), is.1)
+    at (Go next) is = ((is.0, sound.1, ap (λ (c : Call). is_some c.limit) is.1 ∙ sound.2), is.1)
     at (Done (looked.Early answer)) is = tt
-    at (Done (looked.Found found)) is = into found (lowest_clear found.directory.bitmap lookup.call.view.layout.slots) refl is
+    at (Done (looked.Found found)) is = into found (lowest_clear found.directory.bitmap lookup.call.view.layout.slots) refl (found_by lookup.call.limit lookup.call.view.layout.slots found sound.2 is)
 put_stays (put.Single (single_put.Filling fill)) x sound told leads = at (fill_turned fill x) (fill_stays fill x sound told.fits)
   where
     at : (turn : Turn Fill Finish) → SoundFill fill.call turn → Stays IsPut put_call fill.call (put_filled turn)
@@ -198,7 +199,7 @@ put_stays (put.Splitting call hold bitmap value split) x sound told leads = at (
     at (Done answer) is = tt
 
 pub del_is_call : (del : Del) → IsDel del → IsCall (del_call del)
-del_is_call (del.Single (single_del.Looking lookup)) is = is.call
+del_is_call (del.Single (single_del.Looking lookup)) is = is.0.call
 del_is_call (del.Single (single_del.Next call hold bitmap hit)) is = is.0.call
 del_is_call (del.Single (single_del.Taking call hold bitmap hit take)) is = is.0.call
 del_is_call (del.Single (single_del.Refusing call hold bitmap hit)) is = is.call
@@ -249,13 +250,13 @@ module _ (line : Option ℕ) where
       )
 
 pub del_stays : (del : Del) (x : ℕ) → IsDel del → Told (del_call del).view.layout (del_call del).view.generation (del_asks del) x → del_leads del x → Stays IsDel del_call (del_call del) (del_turned del x)
-del_stays (del.Single (single_del.Looking lookup)) x sound told leads = at (lookup_turned lookup x) (lookup_stays lookup x sound told)
+del_stays (del.Single (single_del.Looking lookup)) x sound told leads = at (lookup_turned lookup x) (lookup_stays lookup x sound.0 told)
   where
     slot : (found : Found) (h : Hit) → IsHit lookup.call.view.layout.slots found.directory.bitmap h → IsFoundBy lookup.call.view.layout.slots found
         → Stays IsDel del_call lookup.call (Go (del_slot lookup.call found.hold found.directory.bitmap h))
     slot found h is_hit is =
         let bitmap = found.directory.bitmap in
-        let clears : IsClearing lookup.call found.hold bitmap h = record { call = sound.call; locked = is.locked; fits = is.directory.bitmap; hit = is_hit } in
+        let clears : IsClearing lookup.call found.hold bitmap h = record { call = sound.0.call; locked = is.locked; fits = is.directory.bitmap; hit = is_hit } in
         elim (ltb (lookup.call.view.layout.slots / 2) (names_left lookup.call bitmap h)) as (λ b. ltb (lookup.call.view.layout.slots / 2) (names_left lookup.call bitmap h) ≡ b
         → Stays IsDel del_call lookup.call (Go (cond b (del.Single (single_del.Clearing lookup.call found.hold bitmap h None)) (del.Single (single_del.Next lookup.call found.hold bitmap h))))) [
           | true ↦ λ many. ((clears, tt), refl)
@@ -265,12 +266,12 @@ del_stays (del.Single (single_del.Looking lookup)) x sound told leads = at (look
     hit : (found : Found) (hit : Option Hit) → IfSome hit (IsHit lookup.call.view.layout.slots found.directory.bitmap) → IsFoundBy lookup.call.view.layout.slots found
         → Stays IsDel del_call lookup.call (Go (del_hit lookup.call found.hold found.directory.bitmap hit))
     hit found (Some h) is_hit is = slot found h is_hit is
-    hit found None is_hit is = ((record { here = record { call = sound.call; locked = is.locked; here = tt }; own = tt }, tt), refl)
+    hit found None is_hit is = ((record { here = record { call = sound.0.call; locked = is.locked; here = tt }; own = tt }, tt), refl)
 
     at : (turn : Turn Lookup Looked) → SoundLooked lookup.call turn → Stays IsDel del_call lookup.call (del_looked lookup.call turn)
-    at (Go next) is = is
+    at (Go next) is = ((is.0, ap (λ (c : Call). is_some c.limit) is.1 ∙ sound.1), is.1)
     at (Done (looked.Early answer)) is = tt
-    at (Done (looked.Found found)) is = hit found found.hit is.hit is
+    at (Done (looked.Found found)) is = let by = found_by lookup.call.limit lookup.call.view.layout.slots found sound.1 is in hit found found.hit by.hit by
 del_stays (del.Single (single_del.Next call hold bitmap hit)) x sound told leads =
     elim (x == 0) as (λ b. Stays IsDel del_call call (Go (cond b (del.Single (single_del.Clearing call hold bitmap hit None)) (del.Single (single_del.Taking call hold bitmap hit (take_from call.view.layout call.view.caller)))))) [
       | true ↦ ((sound.0, tt), refl)

@@ -64,9 +64,11 @@ use Rattle.node_ops.specs.DelSteps.{IsDel, IsTakeOf, IsUnplaced, IsMerging, name
 use Rattle.node_ops.proofs.MergeFacts.{placed_still, goes_on_stage}
 use Rattle.node_ops.specs.RunningSteps.{running_turned, wrapped}
 use Rattle.node_ops.specs.CallStages.{nothing, knows, decided, fence_rest, seen_hit, del_stage, stage_after, reply_of, finish_stage, has_place, found_in, line_taken, del_footing, footing_after}
-use Rattle.node_ops.proofs.LookupLaw.{PlainStep, steps, Leads_found, Leads, lookup_leads}
+use Rattle.node_ops.proofs.LookupLaw.{PlainStep, steps, Writes_found, written_found, Leads, keeps_live, lookup_leads}
 use Rattle.node_ops.proofs.FinishLaw.{Finishes, finish_leads}
 use Rattle.node_ops.proofs.PlainSteps.{hit_words_known, part_hit, Plain, IsSingle, IsPlainAfter, plain, looks_single}
+use Rattle.std.specs.Prelude.{IsSome}
+use Rattle.data_list.specs.WalkStages.{live_sight}
 
 -- the kind of step of a turn of a delete
 abbrev Dels : Call → Stage → Action → ℕ → Turn Del (Once Placed) → Type 0
@@ -81,7 +83,7 @@ module _ (call : Call) (sound : IsCall call) where
   limit = sound.view.layout.slots.1
 
   del_hit_leads : (stage : Stage) (action : Action) (x : ℕ) (found : Found) (hit : Option Hit)
-      → Leads_found call stage action x (record found { hit = hit }) → Dels call stage action x (Go (del_hit call found.hold found.directory.bitmap hit))
+      → Writes_found call stage action x (record found { hit = hit }) → Dels call stage action x (Go (del_hit call found.hold found.directory.bitmap hit))
   del_hit_leads stage action x found (Some hit) leads =
       let bitmap = found.directory.bitmap in
       let step = leads (knows (seen_hit call bitmap (Some hit))) None false tt
@@ -94,10 +96,11 @@ module _ (call : Call) (sound : IsCall call) where
       steps (leads nothing (Some (change.Del (name_in call))) true refl (λ s known. record { seen = tt; left = tt })
       (λ range s m in_range absent means. subst (Means slots range s) (sym (remove_absent m (name_in call) absent)) means))
 
-  del_looked_leads : (stage : Stage) (action : Action) (x : ℕ) (turn : Turn Lookup Looked) → Leads call stage action x turn → Dels call stage action x (del_looked call turn)
-  del_looked_leads stage action x (Go lookup) step = step
-  del_looked_leads stage action x (Done (looked.Early answer)) step = step
-  del_looked_leads stage action x (Done (looked.Found found)) leads = del_hit_leads stage action x found found.hit leads
+  del_looked_leads : IsSome call.limit → (stage : Stage) (action : Action) (x : ℕ) (turn : Turn Lookup Looked) → Leads (live_sight []) call stage action x turn
+      → Dels call stage action x (del_looked call turn)
+  del_looked_leads writes stage action x (Go lookup) step = step
+  del_looked_leads writes stage action x (Done (looked.Early answer)) step = step
+  del_looked_leads writes stage action x (Done (looked.Found found)) leads = del_hit_leads stage action x found found.hit (written_found call.limit (live_sight []) call stage action x found writes leads)
 
   del_finished_leads : (stage : Stage) (action : Action) (x : ℕ) (line : Option ℕ) (turn : Turn Finish (Once Placed)) → Finishes call stage action x turn
       → Dels call stage action x (del_finished line turn)
@@ -135,7 +138,8 @@ IsPlain _ = Unit {0}
 
 del_leads : (del : Del) (x : ℕ) → IsPlain del → IsDel del → Told (del_call del).view.layout (del_call del).view.generation (del_asks del) x
     → Dels (del_call del) (del_stage del) (del_asks del) x (del_turned del x)
-del_leads (del.Single (single_del.Looking lookup)) x is sound told = del_looked_leads lookup.call sound.call _ _ x (lookup_turned lookup x) (lookup_leads lookup.call sound.call lookup.at x sound.here told)
+del_leads (del.Single (single_del.Looking lookup)) x is sound told = del_looked_leads lookup.call sound.0.call sound.1 _ _ x (lookup_turned lookup x)
+    (lookup_leads (live_sight []) lookup.call sound.0.call lookup.at x sound.0.here (keeps_live lookup.at) told)
 del_leads (del.Single (single_del.Next call hold bitmap hit)) x is sound told = next_leads call sound.0.call hold bitmap hit x
 del_leads (del.Single (single_del.Taking call hold bitmap hit take)) x is sound told = absurd is
 del_leads (del.Single (single_del.Refusing call hold bitmap hit)) x is sound told = unlocks refl refl refl refl (refuses refl tt)
@@ -150,7 +154,7 @@ as_del call stage action x (Go del) step = step
 as_del call stage action x (Done answer) step = steps step
 
 del_single : (del : Del) → IsPlain del → IsSingle (del_stage del)
-del_single (del.Single (single_del.Looking lookup)) is = looks_single lookup.call lookup.at
+del_single (del.Single (single_del.Looking lookup)) is = looks_single (live_sight []) lookup.call lookup.at
 del_single (del.Single (single_del.Next call hold bitmap hit)) is = tt
 del_single (del.Single (single_del.Taking call hold bitmap hit take)) is = absurd is
 del_single (del.Single (single_del.Refusing call hold bitmap hit)) is = tt

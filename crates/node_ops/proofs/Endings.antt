@@ -1,5 +1,5 @@
 -- What an answer says of the call that it ends.
-use Rattle.std.proofs.Common.{◌≡◌, ◌≢◌, ℕ, ◌+◌, ◌/◌, ◌≤◌, ◌==◌, true, false, cond, ltb, Option, Some, None, refl, sym, subst, ap, ◌∙◌, arith}
+use Rattle.std.proofs.Common.{◌≡◌, ◌≢◌, ℕ, ◌+◌, ◌/◌, ◌≤◌, ◌==◌, true, false, cond, ltb, [], Option, Some, None, refl, sym, subst, ap, ◌∙◌, arith}
 use Rattle.std.specs.Prelude.{IsSomeAnd, ◌==◌}
 use Rattle.std.proofs.lemmas.Bool.{leb-true}
 use Rattle.pm_words.specs.declared.again.Again.{Again}
@@ -54,7 +54,7 @@ use Rattle.node_ops.specs.declared.running.Running.{Running}
 use Rattle.node_ops.specs.declared.running.Running.TheVariants.{Getting, Putting, Deleting, Parting}
 use Rattle.node_ops.specs.Calls.{at_node}
 use Rattle.pm_words.specs.Fences.{fence_next}
-use Rattle.node_ops.specs.LookupSteps.{value_of, is_spent, candidate_turned, came_to, floored, walked_on, goes_to, ends, lookup_turned, lookup_at_turned, IsLookupAt}
+use Rattle.node_ops.specs.LookupSteps.{value_of, is_spent, candidate_turned, came_by, came_to, floored, walked_on, goes_to, ends, lookup_turned, lookup_at_turned, IsLookupAt}
 use Rattle.node_ops.specs.FinishSteps.{finish_asks, finish_turned, finish_at_turned, finish_fenced}
 use Rattle.node_ops.specs.FillSteps.{fill_turned, fill_at_turned, slot_fenced, print_fenced}
 use Rattle.node_ops.specs.GetSteps.{get_looked}
@@ -73,7 +73,7 @@ use Rattle.node_ops.specs.declared.part.ReadingAt.{ReadingAt}
 use Rattle.node_ops.specs.declared.part.ReadingAt.TheVariants as read
 use Rattle.node_ops.specs.declared.part.Part.{Part}
 use Rattle.node_ops.specs.declared.part.Part.TheVariants as part
-use Rattle.node_ops.specs.PartSteps.{behind_of, part_found, part_looked, early_of, placed_of, reading_turned}
+use Rattle.node_ops.specs.PartSteps.{behind_of, part_found, part_words, part_looked, early_of, placed_of, reading_turned}
 use Rattle.node_ops.specs.Asked.{op_in, op_of_finish}
 use Rattle.node_ops.specs.CallStages.{stage_of, lookup_at_stage, lookup_stage, finish_at_held, finish_stage, found_full}
 use Rattle.split_merge.specs.declared.splitting.Split.{Split}
@@ -88,18 +88,27 @@ use Rattle.cat_history.specs.declared.op.Change.{Change}
 use Rattle.node_ops.specs.Endings.{place_for, limit_in, IsPutOp, IsDone, DoneIsCounted, IsSpent, SpentIsLate, NoFreeIsOfPuts, RefusedIsUncounted, GoesOn, TurnsKeepPlace, LastCountsNothing, PlacedIsInTime}
 use Rattle.index_law.proofs.Loose.{loose_unplaced}
 use Rattle.node_ops.proofs.OpLaw.{lookup_counts}
+use Rattle.call_stages.specs.Stages.{Known, Sight}
+use Rattle.data_list.specs.WalkStages.{live_sight}
+use Rattle.node_ops.specs.CallStages.{timed, held_by, walk_by, behind_sight}
+use Rattle.node_ops.proofs.PlainSteps.{walk_by_loose}
+
+held_unplaced : (limit : Option ℕ) (n word : ℕ) (kept : Sight) (call : Call) (hold : Hold) (known : Known) → placed_in (held_by limit n word kept (timed call hold known)) ≡ None
+held_unplaced None _ _ _ _ _ _ = refl
+held_unplaced (Some limit) _ _ _ _ _ _ = refl
 
 -- a look-up has no place
-lookup_placed : (call : Call) (at : LookupAt) → placed_in (lookup_at_stage call at) ≡ None
-lookup_placed call (look.Floor floor) = refl
-lookup_placed call (look.Walk walk) = loose_unplaced (walk_stage walk) (walk_loose walk.generation walk.node walk.at)
-lookup_placed call (look.Lock seen locked) = refl
-lookup_placed call (look.Clock locked) = refl
-lookup_placed call (look.Spent hold) = refl
-lookup_placed call (look.Bitmap hold) = refl
-lookup_placed call (look.Prints hold bitmap prints k) = refl
-lookup_placed call (look.Name hold directory left slot k) = refl
-lookup_placed call (look.Value hold directory slot) = refl
+pub lookup_placed : (kept : Sight) (call : Call) (at : LookupAt) → placed_in (lookup_at_stage kept call at) ≡ None
+lookup_placed kept call (look.Floor floor) = refl
+lookup_placed kept call (look.Walk walk) = loose_unplaced (walk_by call.limit walk) (walk_by_loose call.limit walk)
+lookup_placed kept call (look.Read seen) = refl
+lookup_placed kept call (look.Lock seen locked) = refl
+lookup_placed kept call (look.Clock locked) = refl
+lookup_placed kept call (look.Spent hold) = refl
+lookup_placed kept call (look.Bitmap hold) = held_unplaced call.limit _ _ _ call hold _
+lookup_placed kept call (look.Prints hold bitmap prints k) = held_unplaced call.limit _ _ _ call hold _
+lookup_placed kept call (look.Name hold directory left slot k) = held_unplaced call.limit _ _ _ call hold _
+lookup_placed kept call (look.Value hold directory slot) = held_unplaced call.limit _ _ _ call hold _
 
 pub reached : (limit : Option ℕ) (clock : ℕ) → is_spent limit clock ≡ true → IsSomeAnd limit (λ most. most ≤ clock)
 reached None clock e = absurd (cc)
@@ -110,7 +119,7 @@ abbrev pub EndsEarly : Option ℕ → Once Placed → Type 0
 EndsEarly limit (once.Done placed) = ⊥
 EndsEarly limit (once.Spent clock) = IsSomeAnd limit (λ most. most ≤ clock)
 EndsEarly limit (once.Worn node word) = Unit {0}
-EndsEarly limit (once.Again why) = why ≢ again.NoFree
+EndsEarly limit (once.Again why) = (why ≢ again.NoFree) × (why ≢ again.LogFull)
 
 abbrev pub LooksEnd : Option ℕ → Turn Lookup Looked → Type 0
 LooksEnd limit (Go lookup) = Unit {0}
@@ -124,10 +133,10 @@ early_placed limit (once.Spent clock) ends = refl
 early_placed limit (once.Worn node word) ends = refl
 early_placed limit (once.Again why) ends = refl
 
-not_no_free : (walk : Walk) (x : ℕ) (why : Again) → WalkGivesUp walk x why → why ≢ again.NoFree
+not_no_free : (walk : Walk) (x : ℕ) (why : Again) → WalkGivesUp walk x why → (why ≢ again.NoFree) × (why ≢ again.LogFull)
 not_no_free walk x again.NoFree gives = absurd gives
-not_no_free walk x (again.Locked node word) gives = λ is. cc
-not_no_free walk x (again.Hops count) gives = λ is. cc
+not_no_free walk x (again.Locked node word) gives = (λ is. cc, λ is. cc)
+not_no_free walk x (again.Hops count) gives = (λ is. cc, λ is. cc)
 not_no_free walk x (again.Moved node first second) gives = absurd gives
 not_no_free walk x (again.NeedsSplit node) gives = absurd gives
 not_no_free walk x again.LogFull gives = absurd gives
@@ -139,10 +148,14 @@ module _ (call : Call) where
   Ends = LooksEnd call.limit
 
   came : (target : Target) → Ends (came_to call target)
-  came target =
-      let g = call.view.generation in
-      elim (is_worn_word target.version g) as (λ b. Ends (cond b (ends (once.Worn target.node target.version))
-      (goes_to (at_node call target.node target.hops) (look.Lock (sighting_of target) (locked_word g (kept_count target.version g)))))) [ true ↦ tt | false ↦ tt ]
+  came target = came_at call.limit
+    where
+      came_at : (limit : Option ℕ) → Ends (came_by limit call target)
+      came_at None = tt
+      came_at (Some most) =
+          let g = call.view.generation in
+          elim (is_worn_word target.version g) as (λ b. Ends (cond b (ends (once.Worn target.node target.version))
+          (goes_to (at_node call target.node target.hops) (look.Lock (sighting_of target) (locked_word g (kept_count target.version g)))))) [ true ↦ tt | false ↦ tt ]
 
   floored_so : (turn : Turn Floor ℕ) → Ends (floored call turn)
   floored_so (Go floor) = tt
@@ -160,9 +173,10 @@ module _ (call : Call) where
   pub looks_end : (at : LookupAt) (x : ℕ) → IsLookupAt call at → Ends (lookup_at_turned call at x)
   looks_end (look.Floor floor) x here = floored_so (floor_turned floor x)
   looks_end (look.Walk walk) x here = walked_so walk walk.at x (walk_turned walk x) (walks_hop walk x here.sound)
+  looks_end (look.Read seen) x here = tt
   looks_end (look.Lock seen locked) x here = elim (x == seen.version) as (λ b. Ends (cond b (goes_to call (look.Clock locked)) (ends (once.Again (again.Moved call.node seen.version x))))) [
     | true ↦ tt
-    | false ↦ λ is. cc
+    | false ↦ (λ is. cc, λ is. cc)
   ]
   looks_end (look.Clock locked) x here =
       let hold : Hold = record { locked = locked; clock = x } in
@@ -195,22 +209,26 @@ ends_early running x limit (once.Done placed) uncounted unplaced same early = ab
 ends_early running x limit (once.Spent clock) uncounted unplaced same early =
     (record { unplaced = unplaced; reached = subst (λ (o : Option ℕ). IsSomeAnd o (λ most. most ≤ clock)) same early }, uncounted)
 ends_early running x limit (once.Worn node word) uncounted unplaced same early = (unplaced, uncounted)
-ends_early running x limit (once.Again why) uncounted unplaced same early = ((unplaced, λ is. absurd (early is)), uncounted)
+ends_early running x limit (once.Again why) uncounted unplaced same early = ((unplaced, λ is. absurd (early.0 is)), uncounted)
 
 lookup_uncounted : (lookup : Lookup) → counted (lookup_stage lookup) ≡ None
-lookup_uncounted lookup = lookup_counts lookup.call lookup.at
+lookup_uncounted lookup = lookup_counts (live_sight []) lookup.call lookup.at
 
 lookup_unplaced : (lookup : Lookup) → placed_in (lookup_stage lookup) ≡ None
-lookup_unplaced lookup = lookup_placed lookup.call lookup.at
+lookup_unplaced lookup = lookup_placed (live_sight []) lookup.call lookup.at
 
 get_turns : (get : Get) (x : ℕ) → IsRunning (Getting get) → Turns (Getting get) x (running_turned (Getting get) x)
-get_turns (get.Looking lookup) x is = at (lookup_turned lookup x) (looks_end lookup.call lookup.at x is.here)
+get_turns (get.Looking lookup) x is = at (lookup_turned lookup x) (looks_end lookup.call lookup.at x is.0.here)
   where
     at : (turn : Turn Lookup Looked) → LooksEnd lookup.call.limit turn → Turns (Getting (get.Looking lookup)) x (wrapped Getting (get_looked lookup.call turn))
     at (Go next) early = keeps_none (Getting (get.Looking lookup)) x (Getting (get.Looking next)) (lookup_uncounted lookup) (lookup_unplaced lookup) (lookup_unplaced next)
     at (Done (looked.Early answer)) early = ends_early (Getting (get.Looking lookup)) x lookup.call.limit answer (lookup_uncounted lookup) (lookup_unplaced lookup) refl early
-    at (Done (looked.Found found)) early = keeps_none (Getting (get.Looking lookup)) x (Getting (get.Unlocking lookup.call found.hold (value_of found.hit))) (lookup_uncounted lookup) (lookup_unplaced lookup) refl
-get_turns (get.Unlocking call hold old) x is = (record { place = refl; limit = refl; hops = refl }, refl)
+    at (Done (looked.Found found)) early = keeps_none (Getting (get.Looking lookup)) x (Getting (get.Checking lookup.call found.hold (value_of found.hit))) (lookup_uncounted lookup) (lookup_unplaced lookup) refl
+get_turns (get.Checking call hold old) x is = elim (x == hold.locked) as (λ b. Turns (Getting (get.Checking call hold old)) x
+    (Done (cond b (once.Done (record { old = old; place = hold.clock; hops = call.hops })) (once.Again (again.Moved call.node hold.locked x))))) [
+      | true ↦ (record { place = refl; limit = refl; hops = refl }, refl)
+      | false ↦ ((refl, λ same. absurd (cc)), refl)
+    ]
 
 -- what a write has left to do once its store is made
 abbrev FillTurns : Turn Fill Finish → Type 0
@@ -306,7 +324,7 @@ same_place finish x next other same None on = same ∙ on
 same_place finish x next other same (Some change) on = (on.0, on.1, same ∙ on.2)
 
 del_turns : (del : Del) (x : ℕ) → IsRunning (Deleting del) → Turns (Deleting del) x (running_turned (Deleting del) x)
-del_turns (del.Single (single_del.Looking lookup)) x is = at (lookup_turned lookup x) (looks_end lookup.call lookup.at x is.here)
+del_turns (del.Single (single_del.Looking lookup)) x is = at (lookup_turned lookup x) (looks_end lookup.call lookup.at x is.0.here)
   where
     hits : (found : Found) (hit : Option Hit) → placed_in (stage_of (Deleting (del_hit lookup.call found.hold found.directory.bitmap hit))) ≡ None
     hits found (Some hit) =
@@ -352,22 +370,26 @@ del_turns (del.Merging call hold old place merge) x is = at (merge_turned merge 
     at (Done merged) = (record { place = has_it merge; limit = merge_limited _ _ (merging_stage call old place merge); hops = refl }, uncounted)
 
 part_turns : (p : Part) (x : ℕ) → IsRunning (Parting p) → Turns (Parting p) x (running_turned (Parting p) x)
-part_turns (part.Looking lookup count behind) x is = at (lookup_turned lookup x) (looks_end lookup.call lookup.at x is.here)
+part_turns (part.Looking lookup count behind) x is = at (lookup_turned lookup x) (looks_end lookup.call lookup.at x is.0.here)
   where
     seen : Option Next
     seen = behind_of lookup.at behind
 
     at : (turn : Turn Lookup Looked) → LooksEnd lookup.call.limit turn → Turns (Parting (part.Looking lookup count behind)) x (wrapped_part (part_looked lookup.call count seen turn))
-    at (Go next) early = keeps_none (Parting (part.Looking lookup count behind)) x (Parting (part.Looking next count seen)) (lookup_uncounted lookup) (lookup_unplaced lookup) (lookup_unplaced next)
+    at (Go next) early = keeps_none (Parting (part.Looking lookup count behind)) x (Parting (part.Looking next count seen)) (lookup_counts (behind_sight behind) lookup.call lookup.at) (lookup_placed (behind_sight behind) lookup.call lookup.at) (lookup_placed (behind_sight seen) next.call next.at)
     at (Done (looked.Early answer)) early =
         subst (λ (a : Once Placed). Turns (Parting (part.Looking lookup count behind)) x (Done a)) (sym (early_placed lookup.call.limit answer early))
-        (ends_early (Parting (part.Looking lookup count behind)) x lookup.call.limit answer (lookup_uncounted lookup) (lookup_unplaced lookup) refl early)
-    at (Done (looked.Found found)) early = keeps_none (Parting (part.Looking lookup count behind)) x (Parting (part_found lookup.call found seen count)) (lookup_uncounted lookup) (lookup_unplaced lookup) refl
+        (ends_early (Parting (part.Looking lookup count behind)) x lookup.call.limit answer (lookup_counts (behind_sight behind) lookup.call lookup.at) (lookup_placed (behind_sight behind) lookup.call lookup.at) refl early)
+    at (Done (looked.Found found)) early = keeps_none (Parting (part.Looking lookup count behind)) x (Parting (part_found lookup.call found seen count)) (lookup_counts (behind_sight behind) lookup.call lookup.at) (lookup_placed (behind_sight behind) lookup.call lookup.at) refl
 part_turns (part.Reading reading) x is = at reading.at
   where
     at : (at : ReadingAt) → Turns (Parting (part.Reading (record reading { at = at }))) x (wrapped_part (reading_turned (record reading { at = at }) at x))
     at (read.Load slot word) = refl
-    at read.Unlock = (record { place = refl; limit = refl; hops = refl }, refl)
+    at read.Check = elim (x == reading.hold.locked) as (λ b. Turns (Parting (part.Reading (record reading { at = read.Check }))) x
+        (Done (placed_of (cond b (once.Done (part_words (record reading { at = read.Check }))) (once.Again (again.Moved reading.call.node reading.hold.locked x)))))) [
+          | true ↦ (record { place = refl; limit = refl; hops = refl }, refl)
+          | false ↦ ((refl, λ same. absurd (cc)), refl)
+        ]
 
 turns : (running : Running) (x : ℕ) → IsRunning running → Turns running x (running_turned running x)
 turns (Getting get) x is = get_turns get x is
@@ -407,7 +429,7 @@ finish_in_time finish (finish_at.Unlock place) = refl
 
 pub placed_is_in_time : PlacedIsInTime
 placed_is_in_time (Getting (get.Looking lookup)) placed = absurd (placed (lookup_unplaced lookup))
-placed_is_in_time (Getting (get.Unlocking call hold old)) placed = refl
+placed_is_in_time (Getting (get.Checking call hold old)) placed = refl
 placed_is_in_time (Putting (put.Single (single_put.Looking lookup value))) placed = absurd (placed (lookup_unplaced lookup))
 placed_is_in_time (Putting (put.Single (single_put.Filling fill))) placed = refl
 placed_is_in_time (Putting (put.Single (single_put.Replacing call hold bitmap hit value))) placed = refl
@@ -421,5 +443,5 @@ placed_is_in_time (Deleting (del.Single (single_del.Refusing call hold bitmap hi
 placed_is_in_time (Deleting (del.Single (single_del.Clearing call hold bitmap hit line))) placed = refl
 placed_is_in_time (Deleting (del.Single (single_del.Finishing finish line))) placed = finish_in_time finish finish.at
 placed_is_in_time (Deleting (del.Merging call hold old place merge)) placed = merge_limited _ _ (merging_stage call old place merge)
-placed_is_in_time (Parting (part.Looking lookup count behind)) placed = absurd (placed (lookup_unplaced lookup))
+placed_is_in_time (Parting (part.Looking lookup count behind)) placed = absurd (placed (lookup_placed (behind_sight behind) lookup.call lookup.at))
 placed_is_in_time (Parting (part.Reading reading)) placed = refl

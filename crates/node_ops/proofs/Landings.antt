@@ -44,7 +44,7 @@ use Rattle.node_ops.specs.declared.running.Running.{Running}
 use Rattle.node_ops.specs.declared.running.Running.TheVariants.{Getting, Putting, Deleting, Parting}
 use Rattle.node_ops.specs.Calls.{at_node}
 use Rattle.pm_words.specs.Fences.{fence_next}
-use Rattle.node_ops.specs.LookupSteps.{is_spent, candidate_turned, floored, walked_on, goes_to, ends, lookup_turned, lookup_at_turned}
+use Rattle.node_ops.specs.LookupSteps.{came_by, is_spent, candidate_turned, floored, walked_on, goes_to, ends, lookup_turned, lookup_at_turned}
 use Rattle.node_ops.specs.FinishSteps.{finish_turned, finish_at_turned, finish_fenced}
 use Rattle.node_ops.specs.FillSteps.{fill_turned, fill_at_turned, slot_fenced, print_fenced}
 use Rattle.node_ops.specs.GetSteps.{get_looked}
@@ -83,10 +83,14 @@ module _ (call : Call) where
   walks_land : (turn : Turn Walk Walked) → WalksLand call turn (walked_on call turn)
   walks_land (Go walk) = refl
   walks_land (Done (walked.Again why)) = tt
-  walks_land (Done (walked.Target target)) =
-      let g = call.view.generation in
-      elim (is_worn_word target.version g) as (λ b. WalksLand call (Done (walked.Target target)) (cond b (ends (once.Worn target.node target.version))
-      (goes_to (at_node call target.node target.hops) (look.Lock (sighting_of target) (locked_word g (kept_count target.version g)))))) [ true ↦ tt | false ↦ refl ]
+  walks_land (Done (walked.Target target)) = at call.limit
+    where
+      at : (limit : Option ℕ) → WalksLand call (Done (walked.Target target)) (came_by limit call target)
+      at None = refl
+      at (Some most) =
+          let g = call.view.generation in
+          elim (is_worn_word target.version g) as (λ b. WalksLand call (Done (walked.Target target)) (cond b (ends (once.Worn target.node target.version))
+          (goes_to (at_node call target.node target.hops) (look.Lock (sighting_of target) (locked_word g (kept_count target.version g)))))) [ true ↦ tt | false ↦ refl ]
 
   walked_land : (walk : Walk) (x : ℕ) (turn : Turn Lookup Looked) → WalksLand call (walk_turned walk x) turn → LooksLand call x (Some walk) turn
   walked_land walk x (Go lookup) lands = lands
@@ -104,6 +108,7 @@ module _ (call : Call) where
   looks_land : (at : LookupAt) (x : ℕ) → LooksLand call x (lookup_walk at) (lookup_at_turned call at x)
   looks_land (look.Floor floor) x = floor_lands x (floor_turned floor x)
   looks_land (look.Walk walk) x = walked_land walk x (walked_on call (walk_turned walk x)) (walks_land (walk_turned walk x))
+  looks_land (look.Read seen) x = refl
   looks_land (look.Lock seen locked) x = elim (x == seen.version) as (λ b. LooksLand call x None (cond b (goes_to call (look.Clock locked)) (ends (once.Again (Moved call.node seen.version x))))) [
     | true ↦ refl
     | false ↦ tt
@@ -166,7 +171,7 @@ get_lands (get.Looking lookup) x = at (lookup_turned lookup x) (looks_land looku
     at (Go next) lands = lands
     at (Done (looked.Early answer)) lands = tt
     at (Done (looked.Found found)) lands = lands
-get_lands (get.Unlocking call hold old) x = tt
+get_lands (get.Checking call hold old) x = tt
 
 put_lands : (put : Put) (x : ℕ) → LandsAfter (Putting put) x (running_turned (Putting put) x)
 put_lands (put.Single (single_put.Looking lookup value)) x = at (lookup_turned lookup x) (looks_land lookup.call lookup.at x)
@@ -257,7 +262,7 @@ part_lands (part.Reading reading) x = at reading.at
   where
     at : (at : ReadingAt) → LandsAfter (Parting (part.Reading reading)) x (wrapped_part (reading_turned reading at x))
     at (read.Load slot word) = refl
-    at read.Unlock = tt
+    at read.Check = tt
 
 pub turns_land : TurnsLand
 turns_land (Getting get) next x goes = subst (LandsAfter (Getting get) x) goes (get_lands get x)

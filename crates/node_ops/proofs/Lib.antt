@@ -10,6 +10,7 @@ pub mod CallLaw
 pub mod CallSound
 pub mod OpLaw
 pub mod Endings
+pub mod DelHeeding
 pub mod Landings
 pub mod SplitFacts
 pub mod MergeFacts

@@ -1,5 +1,6 @@
 -- A look-up's fields keep what they keep, and what it found is in order.
-use Rattle.std.proofs.Common.{◌≡◌, ◌≢◌, ℕ, ◌+◌, ◌<◌, ◌≤◌, ◌^◌, ◌==◌, true, false, cond, ltb, List, [], ◌∷◌, Option, Some, None, IfSome, get_or, set, inl, inr, refl, sym, subst, ◌∙◌, arith}
+use Rattle.std.proofs.Common.{◌≡◌, ◌≢◌, ℕ, ◌+◌, ◌<◌, ◌≤◌, ◌^◌, ◌==◌, true, false, cond, ltb, List, [], ◌∷◌, Option, Some, None, IfSome, get_or, ap, set, inl, inr, refl, sym, subst, ◌∙◌, arith}
+use Rattle.std.specs.Prelude.{IsSome, is_some}
 use Rattle.std.specs.Int.{bit_at}
 use Rattle.std.proofs.Math.ListN.{length-set}
 use Rattle.std.proofs.lemmas.Bool.{cases_eq, cases_lt, ltb-true}
@@ -28,7 +29,7 @@ use Rattle.node_ops.specs.declared.lookup.LookupAt.TheVariants as look
 use Rattle.node_ops.specs.declared.lookup.Lookup.{Lookup}
 use Rattle.node_ops.specs.Calls.{IsCall, at_node, IsSame}
 use Rattle.version_lock.specs.Versions.{IsLockWord}
-use Rattle.node_ops.specs.LookupSteps.{floored, walked_on, is_spent, goes_to, ends, saw_prints, saw_name, saw_directory, next_candidate, candidate_turned, lookup_asks, lookup_at_asks, lookup_turned, lookup_at_turned, IsLocking, IsDirectory, IsComparing, IsFoundBy, IsLookupAt, IsLookup}
+use Rattle.node_ops.specs.LookupSteps.{floored, came_by, walked_on, is_spent, goes_to, ends, saw_prints, saw_name, saw_directory, next_candidate, candidate_turned, lookup_asks, lookup_at_asks, lookup_turned, lookup_at_turned, IsLocking, IsDirectory, IsComparing, IsHeldBy, IsFoundIn, IsFoundBy, IsLookupAt, IsLookup}
 use Rattle.pm_words.specs.declared.action.Action.{Action}
 use Rattle.call_stages.specs.Stages.{Stage}
 use Rattle.data_list.specs.declared.target.Walked.{Walked}
@@ -56,7 +57,7 @@ use Rattle.search_layer.specs.Laws.{FloorAfter}
 abbrev pub SoundLooked : Call → Turn Lookup Looked → Type 0
 SoundLooked call (Go lookup) = IsLookup lookup × IsSame call lookup.call
 SoundLooked call (Done (looked.Early answer)) = Unit {0}
-SoundLooked call (Done (looked.Found found)) = IsFoundBy call.view.layout.slots found
+SoundLooked call (Done (looked.Found found)) = IsFoundIn call.limit call.view.layout.slots found
 
 -- a call of this layout and generation
 abbrev pub Stays : {M : Type 0} → (M → Type 0) → (M → Call) → Call → Turn M (Once Placed) → Type 0
@@ -111,6 +112,15 @@ lock_word generation version word small locking =
       fits = omega arith;
     }
 
+held_lock : (limit : Option ℕ) (word : ℕ) → IsLockWord word → IsHeldBy limit word
+held_lock None word locked = tt
+held_lock (Some most) word locked = locked
+
+-- what a write found
+pub found_by : (limit : Option ℕ) (slots : ℕ) (found : Found) → IsSome limit → IsFoundIn limit slots found → IsFoundBy slots found
+found_by None slots found some is = absurd (let no : false ≡ true = some in cc)
+found_by (Some most) slots found some is = record { locked = is.locked; directory = is.directory; hit = is.hit }
+
 some_leads : (l : Layout) (next : Option Next) → IfSome next (λ n. LeadsOn l n.node) → IfSome next (λ n. n.node ≢ 0)
 some_leads l None leads = tt
 some_leads l (Some next) leads = leads.some
@@ -122,7 +132,7 @@ module _ (call : Call) (sound : IsCall call) where
   limit : slots ≤ 64
   limit = sound.view.layout.slots.1
 
-  next_sound : (hold : Hold) (directory : Directory) (left : ℕ) → IsLockWord hold.locked → IsDirectory directory → left < 2 ^ 64
+  next_sound : (hold : Hold) (directory : Directory) (left : ℕ) → IsHeldBy call.limit hold.locked → IsDirectory directory → left < 2 ^ 64
       → ((slot : ℕ) → IsLive left slot → (slot < slots) × IsLive directory.bitmap slot) → SoundLooked call (next_candidate call hold directory left)
   next_sound hold directory left locked loaded fits live =
       elim (lowest_live left) as (λ o. lowest_live left ≡ o → SoundLooked call (candidate_turned call hold directory left o)) [
@@ -149,22 +159,36 @@ module _ (call : Call) (sound : IsCall call) where
       → SoundLooked call (walked_on call turn)
   walked_sound stage action x (Go walk) is = (record { call = sound; here = record { sound = is.1; layout = is.2; generation = is.3; key = is.4 } }, refl)
   walked_sound stage action x (Done (walked.Again why)) is = tt
-  walked_sound stage action x (Done (walked.Target target)) is =
-      let g = call.view.generation in
-      let t : IsTarget call.view.layout g (key_words call.name) target = is.1 in
-      elim (is_worn_word target.version g) as (λ b. is_worn_word target.version g ≡ b → SoundLooked call
-      (cond b (ends (once.Worn target.node target.version)) (goes_to (at_node call target.node target.hops) (look.Lock (sighting_of target) (locked_word g (kept_count target.version g)))))) [
-        | true ↦ λ worn. tt
-        | false ↦ λ fresh. (
-          record {
-            call = record { view = sound.view; node = t.here; packed = sound.packed; print = sound.print; limit = sound.limit };
-            here = record { locking = record { known = t.seen.free.known; free = t.seen.free.free; unworn = fresh_word target.version g fresh; locked = refl }; is = t.seen; leads = some_leads call.view.layout target.next t.next };
-          },
-          refl,
-        )
-      ] refl
+  walked_sound stage action x (Done (walked.Target target)) is = at call.limit refl
+    where
+      g : ℕ
+      g = call.view.generation
 
-  prints_sound : (hold : Hold) (bitmap : ℕ) (prints : List ℕ) (k x : ℕ) → IsLockWord hold.locked → IsDirectory (record { bitmap = bitmap; prints = prints })
+      t : IsTarget call.view.layout call.view.generation (key_words call.name) target
+      t = is.1
+
+      there : IsCall (at_node call target.node target.hops)
+      there = record { view = sound.view; node = t.here; packed = sound.packed; print = sound.print; limit = sound.limit }
+
+      at : (limit : Option ℕ) → call.limit ≡ limit → SoundLooked call (came_by limit call target)
+      at None reads = (record { call = there; here = record { reads = reads; is = t.seen; leads = some_leads call.view.layout target.next t.next } }, refl)
+      at (Some most) writes =
+          elim (is_worn_word target.version g) as (λ b. is_worn_word target.version g ≡ b → SoundLooked call
+          (cond b (ends (once.Worn target.node target.version)) (goes_to (at_node call target.node target.hops) (look.Lock (sighting_of target) (locked_word g (kept_count target.version g)))))) [
+            | true ↦ λ worn. tt
+            | false ↦ λ fresh. (
+              record {
+                call = there;
+                here = (
+                  ap is_some writes,
+                  record { locking = record { known = t.seen.free.known; free = t.seen.free.free; unworn = fresh_word target.version g fresh; locked = refl }; is = t.seen; leads = some_leads call.view.layout target.next t.next },
+                );
+              },
+              refl,
+            )
+          ] refl
+
+  prints_sound : (hold : Hold) (bitmap : ℕ) (prints : List ℕ) (k x : ℕ) → IsHeldBy call.limit hold.locked → IsDirectory (record { bitmap = bitmap; prints = prints })
       → SoundLooked call (saw_prints call hold bitmap prints k x)
   prints_sound hold bitmap prints k x locked loaded =
       let directory : Directory = record { bitmap = bitmap; prints = set prints k x } in
@@ -188,7 +212,7 @@ module _ (call : Call) (sound : IsCall call) where
         | inr above ↦ absurd (let zero_bit : bit_at (without_live left slot) other ≡ 0 = bit_at_above (without_live left slot) 64 other (without_live_below 64 left slot fits) above in omega arith)
       ]
 
-  name_sound : (hold : Hold) (directory : Directory) (left slot k x : ℕ) → IsLockWord hold.locked → IsDirectory directory → IsComparing slots directory.bitmap left slot
+  name_sound : (hold : Hold) (directory : Directory) (left slot k x : ℕ) → IsHeldBy call.limit hold.locked → IsDirectory directory → IsComparing slots directory.bitmap left slot
       → SoundLooked call (saw_name call hold directory left slot k x)
   name_sound hold directory left slot k x locked loaded comparing =
       let lowest = lowest_live-some left slot comparing.fits comparing.lowest in
@@ -207,16 +231,17 @@ module _ (call : Call) (sound : IsCall call) where
   lookup_at_stays : (at : LookupAt) (x : ℕ) → IsLookupAt call at → Told call.view.layout call.view.generation (lookup_at_asks call at) x → SoundLooked call (lookup_at_turned call at x)
   lookup_at_stays (look.Floor floor) x here told = floored_sound (floor_turned floor x) (floor_after call floor x here) (subst (λ (key : List ℕ). SameKey key (floor_turned floor x)) here.key (floor_same floor x))
   lookup_at_stays (look.Walk walk) x here told = walked_sound (walk_stage walk) (walk_asks walk) x (walk_turned walk x) (own_walks call walk x here told)
+  lookup_at_stays (look.Read seen) x here told = (record { call = sound; here = subst (λ (o : Option ℕ). IsHeldBy o seen.version) (sym here.reads) tt }, refl)
   lookup_at_stays (look.Lock seen word) x here told =
       elim (x == seen.version) as (λ b. SoundLooked call (cond b (goes_to call (look.Clock word)) (ends (once.Again (Moved call.node seen.version x))))) [
-        | true ↦ (record { call = sound; here = lock_word call.view.generation seen.version word sound.view.generation here.locking }, refl)
+        | true ↦ (record { call = sound; here = (here.0, lock_word call.view.generation seen.version word sound.view.generation here.1.locking) }, refl)
         | false ↦ tt
       ]
   lookup_at_stays (look.Clock word) x here told =
       let hold : Hold = record { locked = word; clock = x } in
       elim (is_spent call.limit x) as (λ b. is_spent call.limit x ≡ b → SoundLooked call (cond b (goes_to call (look.Spent hold)) (goes_to call (look.Bitmap hold)))) [
-        | true ↦ λ e. (record { call = sound; here = (here, e) }, refl)
-        | false ↦ λ e. (record { call = sound; here = here }, refl)
+        | true ↦ λ e. (record { call = sound; here = (here.1, e) }, refl)
+        | false ↦ λ e. (record { call = sound; here = held_lock call.limit word here.1 }, refl)
       ] refl
   lookup_at_stays (look.Spent hold) x here told = tt
   lookup_at_stays (look.Bitmap hold) x here told = (record { call = sound; here = (here, record { bitmap = told.fits; prints = refl }, omega arith) }, refl)
@@ -230,5 +255,5 @@ lookup_stays lookup x sound told = lookup_at_stays lookup.call sound.call lookup
 
 -- what it found
 pub found_sound : (lookup : Lookup) (x : ℕ) (found : Found) → IsLookup lookup → Told lookup.call.view.layout lookup.call.view.generation (lookup_asks lookup) x
-    → Done (looked.Found found) ≡ lookup_turned lookup x → IsFoundBy lookup.call.view.layout.slots found
+    → Done (looked.Found found) ≡ lookup_turned lookup x → IsFoundIn lookup.call.limit lookup.call.view.layout.slots found
 found_sound lookup x found sound told is = subst (SoundLooked lookup.call) (sym is) (lookup_stays lookup x sound told)

@@ -121,6 +121,7 @@ lookup_left_some lookup sound = at lookup.call lookup.at sound.here
     at : (call : Call) (at : LookupAt) → IsLookupAt call at → 0 < lookup_at_left call.view.layout.slots at
     at call (look.Floor floor) sound = omega arith
     at call (look.Walk walk) sound = omega arith
+    at call (look.Read seen) sound = omega arith
     at call (look.Lock target locked) sound = omega arith
     at call (look.Clock locked) sound = omega arith
     at call (look.Spent hold) sound = omega arith

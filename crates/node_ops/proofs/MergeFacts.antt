@@ -1,6 +1,6 @@
 -- What a delete is while it merges: it has its place, and no change that isn't counted.
 use Rattle.std.proofs.Common.{◌≡◌, ℕ, false, true, List, Option, Some, None, refl, sym, subst, ap, ◌∙◌}
-use Rattle.call_stages.specs.Stages.{Held, Stage, Idle, Saw, Wears, Holds, Eyes, Splits, Leaves, Meets, Joins, counted, pending_in, placed_in}
+use Rattle.call_stages.specs.Stages.{Held, Stage, Idle, Saw, Wears, Reads, Holds, Eyes, Splits, Leaves, Meets, Joins, counted, pending_in, placed_in}
 use Rattle.call_stages.specs.Kinds.{IsStill}
 use Rattle.split_merge.specs.declared.uniting.Union.{Union}
 use Rattle.split_merge.specs.declared.joining.JoinAt.{JoinAt}
@@ -72,6 +72,7 @@ merge_placed h (Joins k left right pace) is = is.placed
 merge_placed h Idle is = absurd is
 merge_placed h (Saw n v w k) is = absurd is
 merge_placed h (Wears n v) is = absurd is
+merge_placed h (Reads n v sight told) is = absurd is
 merge_placed h (Splits left fresh phase) is = absurd is
 merge_placed h (Leaves left) is = absurd is
 
@@ -83,6 +84,7 @@ merge_limited h (Joins k left right pace) is = is.limit
 merge_limited h Idle is = absurd is
 merge_limited h (Saw n v w k) is = absurd is
 merge_limited h (Wears n v) is = absurd is
+merge_limited h (Reads n v sight told) is = absurd is
 merge_limited h (Splits left fresh phase) is = absurd is
 merge_limited h (Leaves left) is = absurd is
 
@@ -95,6 +97,7 @@ merge_uncounted h (Joins k left right pace) still is = refl
 merge_uncounted h Idle still is = absurd is
 merge_uncounted h (Saw n v w k) still is = absurd is
 merge_uncounted h (Wears n v) still is = absurd is
+merge_uncounted h (Reads n v sight told) still is = absurd is
 merge_uncounted h (Splits left fresh phase) still is = absurd is
 merge_uncounted h (Leaves left) still is = absurd is
 
@@ -107,6 +110,7 @@ merge_unpending h (Joins k left right pace) still is = refl
 merge_unpending h Idle still is = absurd is
 merge_unpending h (Saw n v w k) still is = absurd is
 merge_unpending h (Wears n v) still is = absurd is
+merge_unpending h (Reads n v sight told) still is = absurd is
 merge_unpending h (Splits left fresh phase) still is = absurd is
 merge_unpending h (Leaves left) still is = absurd is
 
@@ -119,6 +123,7 @@ merge_about h (Joins k left right pace) is = is.name
 merge_about h Idle is = absurd is
 merge_about h (Saw n v w k) is = absurd is
 merge_about h (Wears n v) is = absurd is
+merge_about h (Reads n v sight told) is = absurd is
 merge_about h (Splits left fresh phase) is = absurd is
 merge_about h (Leaves left) is = absurd is
 

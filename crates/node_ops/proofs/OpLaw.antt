@@ -1,5 +1,5 @@
 -- A call stays one of its op, and makes no other change than the op's.
-use Rattle.std.proofs.Common.{◌≡◌, ℕ, ◌+◌, ◌/◌, ◌==◌, true, false, cond, ltb, List, Option, Some, None, IfSome, refl, sym, subst, ap, ◌∙◌}
+use Rattle.std.proofs.Common.{◌≡◌, ℕ, ◌+◌, ◌/◌, ◌==◌, true, false, cond, ltb, List, Option, Some, None, IfSome, refl, sym, subst, ap, ◌∙◌, []}
 use Rattle.pm_words.specs.declared.layout.Layout.{Layout}
 use Rattle.pm_words.specs.declared.machine.Turn.{Turn}
 use Rattle.pm_words.specs.declared.machine.Turn.TheVariants.{Go, Done}
@@ -10,7 +10,7 @@ use Rattle.cat_history.specs.declared.op.Change.TheVariants as change
 use Rattle.data_node.specs.Bits.{lowest_clear}
 use Rattle.call_stages.specs.declared.once.Once.{Once}
 use Rattle.call_stages.specs.declared.once.Placed.{Placed}
-use Rattle.call_stages.specs.Stages.{Stage, Idle, Saw, Wears, Holds, Eyes, Splits, Leaves, Meets, Joins, IsLoose, counted, pending_in, placed_in}
+use Rattle.call_stages.specs.Stages.{Stage, Idle, Saw, Wears, Reads, Holds, Eyes, Splits, Leaves, Meets, Joins, IsLoose, counted, pending_in, placed_in}
 use Rattle.data_list.specs.WalkStages.{walk_stage}
 use Rattle.data_list.proofs.WalkLaw.{walk_loose}
 use Rattle.call_stages.specs.Kinds.{Told}
@@ -74,6 +74,14 @@ use Rattle.node_ops.specs.declared.part.Part.TheVariants as part
 use Rattle.node_ops.specs.PartSteps.{IsPart, part_call, placed_turn, part_turned}
 use Rattle.node_ops.proofs.PartSound.{part_stays}
 use Rattle.node_ops.proofs.CallSound.{get_stays, put_stays, del_stays}
+use Rattle.call_stages.specs.Stages.{Known, Sight}
+use Rattle.call_stages.specs.Watches.{Watching, Nothing, Watches}
+use Rattle.version_lock.specs.Versions.{kept_count, locked_word, is_worn_word}
+use Rattle.data_list.specs.WalkStages.{walk_watching, view_stage, watching_stage, live_sight}
+use Rattle.data_list.specs.declared.walk.Walk.{Walk}
+use Rattle.node_ops.specs.declared.lookup.Hold.{Hold}
+use Rattle.node_ops.specs.CallStages.{timed, held_by, walk_by, behind_sight}
+use Rattle.node_ops.proofs.PlainSteps.{walk_by_loose}
 
 -- what a finish leaves under the name is the same after a turn
 abbrev NewAfter : Option ℕ → Turn Finish (Once Placed) → Type 0
@@ -235,21 +243,26 @@ turns_keep_op l g op running x sound told leads is =
     own_keep op running x sound.here (subst (λ (k : Layout). Told k (running_call running).view.generation (running_asks running) x) (sym sound.layout) at_generation) leads is
 
 -- a stage that holds no node
-loose_about : (name : List ℕ) (s : Stage) → IsLoose s → IsAbout name s
-loose_about name Idle loose = tt
-loose_about name (Saw n v w k) loose = tt
-loose_about name (Wears n v) loose = tt
-loose_about name (Holds n w h) loose = absurd loose
-loose_about name (Eyes n w h m v u free) loose = absurd loose
-loose_about name (Splits left fresh phase) loose = absurd loose
-loose_about name (Leaves left) loose = absurd loose
-loose_about name (Meets n w h right) loose = absurd loose
-loose_about name (Joins h left right pace) loose = absurd loose
+view_about : (name : List ℕ) (w : Watching) → IsAbout name (view_stage w)
+view_about name Nothing = tt
+view_about name (Watches n version sight) = tt
+
+saw_about : (name : List ℕ) (g : ℕ) (w : Watching) → IsAbout name (watching_stage g w)
+saw_about name g Nothing = tt
+saw_about name g (Watches n version sight) = elim (is_worn_word version g) as (λ b. IsAbout name (cond b (Wears n version) (Saw n version (locked_word g (kept_count version g)) sight))) [
+  | true ↦ tt
+  | false ↦ tt
+]
+
+walk_about : (name : List ℕ) (limit : Option ℕ) (walk : Walk) → IsAbout name (walk_by limit walk)
+walk_about name None walk = view_about name (walk_watching walk)
+walk_about name (Some limit) walk = saw_about name walk.generation (walk_watching walk)
 
 loose_pends : (s : Stage) → IsLoose s → pending_in s ≡ None
 loose_pends Idle loose = refl
 loose_pends (Saw n v w k) loose = refl
 loose_pends (Wears n v) loose = refl
+loose_pends (Reads n v sight told) loose = refl
 loose_pends (Holds n w h) loose = absurd loose
 loose_pends (Eyes n w h m v u free) loose = absurd loose
 loose_pends (Splits left fresh phase) loose = absurd loose
@@ -258,27 +271,41 @@ loose_pends (Meets n w h right) loose = absurd loose
 loose_pends (Joins h left right pace) loose = absurd loose
 
 -- a look-up counts nothing, and holds its node for its call's name
-pub lookup_counts : (call : Call) (at : LookupAt) → counted (lookup_at_stage call at) ≡ None
-lookup_counts call (look.Floor floor) = refl
-lookup_counts call (look.Walk walk) = loose_counted (walk_stage walk) (walk_loose walk.generation walk.node walk.at)
-lookup_counts call (look.Lock target locked) = refl
-lookup_counts call (look.Clock locked) = refl
-lookup_counts call (look.Spent hold) = refl
-lookup_counts call (look.Bitmap hold) = refl
-lookup_counts call (look.Prints hold bitmap prints k) = refl
-lookup_counts call (look.Name hold directory left slot k) = refl
-lookup_counts call (look.Value hold directory slot) = refl
+held_counts : (limit : Option ℕ) (n word : ℕ) (kept : Sight) (call : Call) (hold : Hold) (known : Known) → counted (held_by limit n word kept (timed call hold known)) ≡ None
+held_counts None _ _ _ _ _ _ = refl
+held_counts (Some limit) _ _ _ _ _ _ = refl
 
-lookup_about : (call : Call) (at : LookupAt) → IsAbout (name_in call) (lookup_at_stage call at)
-lookup_about call (look.Floor floor) = tt
-lookup_about call (look.Walk walk) = loose_about (name_in call) (walk_stage walk) (walk_loose walk.generation walk.node walk.at)
-lookup_about call (look.Lock target locked) = tt
-lookup_about call (look.Clock locked) = refl
-lookup_about call (look.Spent hold) = refl
-lookup_about call (look.Bitmap hold) = refl
-lookup_about call (look.Prints hold bitmap prints k) = refl
-lookup_about call (look.Name hold directory left slot k) = refl
-lookup_about call (look.Value hold directory slot) = refl
+held_about : (limit : Option ℕ) (n word : ℕ) (kept : Sight) (call : Call) (hold : Hold) (known : Known) → IsAbout (name_in call) (held_by limit n word kept (timed call hold known))
+held_about None _ _ _ _ _ _ = refl
+held_about (Some limit) _ _ _ _ _ _ = refl
+
+held_pends : (limit : Option ℕ) (n word : ℕ) (kept : Sight) (call : Call) (hold : Hold) (known : Known) → pending_in (held_by limit n word kept (timed call hold known)) ≡ None
+held_pends None _ _ _ _ _ _ = refl
+held_pends (Some limit) _ _ _ _ _ _ = refl
+
+pub lookup_counts : (kept : Sight) (call : Call) (at : LookupAt) → counted (lookup_at_stage kept call at) ≡ None
+lookup_counts kept call (look.Floor floor) = refl
+lookup_counts kept call (look.Walk walk) = loose_counted (walk_by call.limit walk) (walk_by_loose call.limit walk)
+lookup_counts kept call (look.Read seen) = refl
+lookup_counts kept call (look.Lock target locked) = refl
+lookup_counts kept call (look.Clock locked) = refl
+lookup_counts kept call (look.Spent hold) = refl
+lookup_counts kept call (look.Bitmap hold) = held_counts call.limit _ _ _ call hold _
+lookup_counts kept call (look.Prints hold bitmap prints k) = held_counts call.limit _ _ _ call hold _
+lookup_counts kept call (look.Name hold directory left slot k) = held_counts call.limit _ _ _ call hold _
+lookup_counts kept call (look.Value hold directory slot) = held_counts call.limit _ _ _ call hold _
+
+lookup_about : (kept : Sight) (call : Call) (at : LookupAt) → IsAbout (name_in call) (lookup_at_stage kept call at)
+lookup_about kept call (look.Floor floor) = tt
+lookup_about kept call (look.Walk walk) = walk_about (name_in call) call.limit walk
+lookup_about kept call (look.Read seen) = tt
+lookup_about kept call (look.Lock target locked) = tt
+lookup_about kept call (look.Clock locked) = refl
+lookup_about kept call (look.Spent hold) = refl
+lookup_about kept call (look.Bitmap hold) = held_about call.limit _ _ _ call hold _
+lookup_about kept call (look.Prints hold bitmap prints k) = held_about call.limit _ _ _ call hold _
+lookup_about kept call (look.Name hold directory left slot k) = held_about call.limit _ _ _ call hold _
+lookup_about kept call (look.Value hold directory slot) = held_about call.limit _ _ _ call hold _
 
 counts_nothing : (P : Change → Type 0) (o : Option Change) → o ≡ None → IfSome o P
 counts_nothing P o is = subst (λ (c : Option Change). IfSome c P) (sym is) tt
@@ -294,14 +321,14 @@ finish_about finish finish_at.Add = refl
 finish_about finish (finish_at.Unlock place) = refl
 
 pub counts_own_change : CountsOwnChange
-counts_own_change (op.Get name) (Getting (get.Looking lookup)) is = counts_nothing _ _ (lookup_counts lookup.call lookup.at)
-counts_own_change (op.Get name) (Getting (get.Unlocking call hold old)) is = tt
+counts_own_change (op.Get name) (Getting (get.Looking lookup)) is = counts_nothing _ _ (lookup_counts (live_sight []) lookup.call lookup.at)
+counts_own_change (op.Get name) (Getting (get.Checking call hold old)) is = tt
 counts_own_change (op.Get name) (Putting put) is = absurd is
 counts_own_change (op.Get name) (Deleting del) is = absurd is
-counts_own_change (op.Get name) (Parting (part.Looking lookup count behind)) is = counts_nothing _ _ (lookup_counts lookup.call lookup.at)
+counts_own_change (op.Get name) (Parting (part.Looking lookup count behind)) is = counts_nothing _ _ (lookup_counts (behind_sight behind) lookup.call lookup.at)
 counts_own_change (op.Get name) (Parting (part.Reading reading)) is = tt
 counts_own_change (op.Put name value) (Getting get) is = absurd is
-counts_own_change (op.Put name value) (Putting (put.Single (single_put.Looking lookup number))) is = counts_nothing _ _ (lookup_counts lookup.call lookup.at)
+counts_own_change (op.Put name value) (Putting (put.Single (single_put.Looking lookup number))) is = counts_nothing _ _ (lookup_counts (live_sight []) lookup.call lookup.at)
 counts_own_change (op.Put name value) (Putting (put.Single (single_put.Filling fill))) is = tt
 counts_own_change (op.Put name value) (Putting (put.Single (single_put.Replacing call hold bitmap hit number))) is = tt
 counts_own_change (op.Put name value) (Putting (put.Single (single_put.Finishing finish))) is =
@@ -313,7 +340,7 @@ counts_own_change (op.Put name value) (Deleting del) is = absurd is
 counts_own_change (op.Put name value) (Parting p) is = absurd is
 counts_own_change (op.Del name) (Getting get) is = absurd is
 counts_own_change (op.Del name) (Putting put) is = absurd is
-counts_own_change (op.Del name) (Deleting (del.Single (single_del.Looking lookup))) is = counts_nothing _ _ (lookup_counts lookup.call lookup.at)
+counts_own_change (op.Del name) (Deleting (del.Single (single_del.Looking lookup))) is = counts_nothing _ _ (lookup_counts (live_sight []) lookup.call lookup.at)
 counts_own_change (op.Del name) (Deleting (del.Single (single_del.Next call hold bitmap hit))) is = tt
 counts_own_change (op.Del name) (Deleting (del.Single (single_del.Taking call hold bitmap hit take))) is = tt
 counts_own_change (op.Del name) (Deleting (del.Single (single_del.Refusing call hold bitmap hit))) is = tt
@@ -326,14 +353,14 @@ counts_own_change (op.Del name) (Deleting (del.Single (single_del.Finishing fini
 counts_own_change (op.Del name) (Parting p) is = absurd is
 
 pub holds_own_name : HoldsOwnName
-holds_own_name (op.Get name) (Getting (get.Looking lookup)) is = subst (λ n. IsAbout n (lookup_at_stage lookup.call lookup.at)) is (lookup_about lookup.call lookup.at)
-holds_own_name (op.Get name) (Getting (get.Unlocking call hold old)) is = is
+holds_own_name (op.Get name) (Getting (get.Looking lookup)) is = subst (λ n. IsAbout n (lookup_at_stage (live_sight []) lookup.call lookup.at)) is (lookup_about (live_sight []) lookup.call lookup.at)
+holds_own_name (op.Get name) (Getting (get.Checking call hold old)) is = is
 holds_own_name (op.Get name) (Putting put) is = absurd is
 holds_own_name (op.Get name) (Deleting del) is = absurd is
-holds_own_name (op.Get name) (Parting (part.Looking lookup count behind)) is = subst (λ n. IsAbout n (lookup_at_stage lookup.call lookup.at)) is (lookup_about lookup.call lookup.at)
+holds_own_name (op.Get name) (Parting (part.Looking lookup count behind)) is = subst (λ n. IsAbout n (lookup_at_stage (behind_sight behind) lookup.call lookup.at)) is (lookup_about (behind_sight behind) lookup.call lookup.at)
 holds_own_name (op.Get name) (Parting (part.Reading reading)) is = is
 holds_own_name (op.Put name value) (Getting get) is = absurd is
-holds_own_name (op.Put name value) (Putting (put.Single (single_put.Looking lookup number))) is = subst (λ n. IsAbout n (lookup_at_stage lookup.call lookup.at)) is.0 (lookup_about lookup.call lookup.at)
+holds_own_name (op.Put name value) (Putting (put.Single (single_put.Looking lookup number))) is = subst (λ n. IsAbout n (lookup_at_stage (live_sight []) lookup.call lookup.at)) is.0 (lookup_about (live_sight []) lookup.call lookup.at)
 holds_own_name (op.Put name value) (Putting (put.Single (single_put.Filling fill))) is = is.0
 holds_own_name (op.Put name value) (Putting (put.Single (single_put.Replacing call hold bitmap hit number))) is = is.0
 holds_own_name (op.Put name value) (Putting (put.Single (single_put.Finishing finish))) is =
@@ -344,7 +371,7 @@ holds_own_name (op.Put name value) (Deleting del) is = absurd is
 holds_own_name (op.Put name value) (Parting p) is = absurd is
 holds_own_name (op.Del name) (Getting get) is = absurd is
 holds_own_name (op.Del name) (Putting put) is = absurd is
-holds_own_name (op.Del name) (Deleting (del.Single (single_del.Looking lookup))) is = subst (λ n. IsAbout n (lookup_at_stage lookup.call lookup.at)) is.0 (lookup_about lookup.call lookup.at)
+holds_own_name (op.Del name) (Deleting (del.Single (single_del.Looking lookup))) is = subst (λ n. IsAbout n (lookup_at_stage (live_sight []) lookup.call lookup.at)) is.0 (lookup_about (live_sight []) lookup.call lookup.at)
 holds_own_name (op.Del name) (Deleting (del.Single (single_del.Next call hold bitmap hit))) is = is.0
 holds_own_name (op.Del name) (Deleting (del.Single (single_del.Taking call hold bitmap hit take))) is = is.0
 holds_own_name (op.Del name) (Deleting (del.Single (single_del.Refusing call hold bitmap hit))) is = is.0
@@ -355,16 +382,17 @@ holds_own_name (op.Del name) (Deleting (del.Single (single_del.Finishing finish 
     subst (λ n. IsAbout n (Holds finish.call.node finish.hold.locked (finish_at_held finish finish.at))) is.0 (finish_about finish finish.at)
 holds_own_name (op.Del name) (Parting p) is = absurd is
 
-lookup_pends : (call : Call) (at : LookupAt) → pending_in (lookup_at_stage call at) ≡ None
-lookup_pends call (look.Floor floor) = refl
-lookup_pends call (look.Walk walk) = loose_pends (walk_stage walk) (walk_loose walk.generation walk.node walk.at)
-lookup_pends call (look.Lock target locked) = refl
-lookup_pends call (look.Clock locked) = refl
-lookup_pends call (look.Spent hold) = refl
-lookup_pends call (look.Bitmap hold) = refl
-lookup_pends call (look.Prints hold bitmap prints k) = refl
-lookup_pends call (look.Name hold directory left slot k) = refl
-lookup_pends call (look.Value hold directory slot) = refl
+lookup_pends : (kept : Sight) (call : Call) (at : LookupAt) → pending_in (lookup_at_stage kept call at) ≡ None
+lookup_pends kept call (look.Floor floor) = refl
+lookup_pends kept call (look.Walk walk) = loose_pends (walk_by call.limit walk) (walk_by_loose call.limit walk)
+lookup_pends kept call (look.Read seen) = refl
+lookup_pends kept call (look.Lock target locked) = refl
+lookup_pends kept call (look.Clock locked) = refl
+lookup_pends kept call (look.Spent hold) = refl
+lookup_pends kept call (look.Bitmap hold) = held_pends call.limit _ _ _ call hold _
+lookup_pends kept call (look.Prints hold bitmap prints k) = held_pends call.limit _ _ _ call hold _
+lookup_pends kept call (look.Name hold directory left slot k) = held_pends call.limit _ _ _ call hold _
+lookup_pends kept call (look.Value hold directory slot) = held_pends call.limit _ _ _ call hold _
 
 finish_pends : (P : Change → Type 0) (finish : Finish) (at : FinishAt) → P (change_to (name_in finish.call) finish.new) → IfSome (finish_at_held finish at).pending P
 finish_pends P finish (finish_at.Fence line fence) holds = holds
@@ -372,14 +400,14 @@ finish_pends P finish finish_at.Add holds = holds
 finish_pends P finish (finish_at.Unlock place) holds = tt
 
 pub pending_is_own : (op : NameOp) (running : Running) → IsOf op running → IfSome (pending_in (stage_of running)) (λ change. change_of op ≡ Some change)
-pending_is_own (op.Get name) (Getting (get.Looking lookup)) is = counts_nothing _ _ (lookup_pends lookup.call lookup.at)
-pending_is_own (op.Get name) (Getting (get.Unlocking call hold old)) is = tt
+pending_is_own (op.Get name) (Getting (get.Looking lookup)) is = counts_nothing _ _ (lookup_pends (live_sight []) lookup.call lookup.at)
+pending_is_own (op.Get name) (Getting (get.Checking call hold old)) is = tt
 pending_is_own (op.Get name) (Putting put) is = absurd is
 pending_is_own (op.Get name) (Deleting del) is = absurd is
-pending_is_own (op.Get name) (Parting (part.Looking lookup count behind)) is = counts_nothing _ _ (lookup_pends lookup.call lookup.at)
+pending_is_own (op.Get name) (Parting (part.Looking lookup count behind)) is = counts_nothing _ _ (lookup_pends (behind_sight behind) lookup.call lookup.at)
 pending_is_own (op.Get name) (Parting (part.Reading reading)) is = tt
 pending_is_own (op.Put name value) (Getting get) is = absurd is
-pending_is_own (op.Put name value) (Putting (put.Single (single_put.Looking lookup number))) is = counts_nothing _ _ (lookup_pends lookup.call lookup.at)
+pending_is_own (op.Put name value) (Putting (put.Single (single_put.Looking lookup number))) is = counts_nothing _ _ (lookup_pends (live_sight []) lookup.call lookup.at)
 pending_is_own (op.Put name value) (Putting (put.Single (single_put.Filling fill))) is = tt
 pending_is_own (op.Put name value) (Putting (put.Single (single_put.Replacing call hold bitmap hit number))) is = tt
 pending_is_own (op.Put name value) (Putting (put.Single (single_put.Finishing finish))) is =
@@ -391,7 +419,7 @@ pending_is_own (op.Put name value) (Deleting del) is = absurd is
 pending_is_own (op.Put name value) (Parting p) is = absurd is
 pending_is_own (op.Del name) (Getting get) is = absurd is
 pending_is_own (op.Del name) (Putting put) is = absurd is
-pending_is_own (op.Del name) (Deleting (del.Single (single_del.Looking lookup))) is = counts_nothing _ _ (lookup_pends lookup.call lookup.at)
+pending_is_own (op.Del name) (Deleting (del.Single (single_del.Looking lookup))) is = counts_nothing _ _ (lookup_pends (live_sight []) lookup.call lookup.at)
 pending_is_own (op.Del name) (Deleting (del.Single (single_del.Next call hold bitmap hit))) is = tt
 pending_is_own (op.Del name) (Deleting (del.Single (single_del.Taking call hold bitmap hit take))) is = tt
 pending_is_own (op.Del name) (Deleting (del.Single (single_del.Refusing call hold bitmap hit))) is = tt
@@ -410,15 +438,15 @@ finish_unplaced finish (finish_at.Unlock place) = tt
 
 -- a call has its change pending or its place, not both
 pub pending_is_unplaced : (running : Running) → IfSome (pending_in (stage_of running)) (λ change. placed_in (stage_of running) ≡ None)
-pending_is_unplaced (Getting (get.Looking lookup)) = counts_nothing _ _ (lookup_pends lookup.call lookup.at)
-pending_is_unplaced (Getting (get.Unlocking call hold old)) = tt
-pending_is_unplaced (Putting (put.Single (single_put.Looking lookup number))) = counts_nothing _ _ (lookup_pends lookup.call lookup.at)
+pending_is_unplaced (Getting (get.Looking lookup)) = counts_nothing _ _ (lookup_pends (live_sight []) lookup.call lookup.at)
+pending_is_unplaced (Getting (get.Checking call hold old)) = tt
+pending_is_unplaced (Putting (put.Single (single_put.Looking lookup number))) = counts_nothing _ _ (lookup_pends (live_sight []) lookup.call lookup.at)
 pending_is_unplaced (Putting (put.Single (single_put.Filling fill))) = tt
 pending_is_unplaced (Putting (put.Single (single_put.Replacing call hold bitmap hit number))) = tt
 pending_is_unplaced (Putting (put.Single (single_put.Finishing finish))) = finish_unplaced finish finish.at
 pending_is_unplaced (Putting (put.Splitting call hold bitmap number split)) =
     counts_nothing _ _ (split_unpending _ _ refl (stages_are_of_splits (found_full call hold bitmap) split))
-pending_is_unplaced (Deleting (del.Single (single_del.Looking lookup))) = counts_nothing _ _ (lookup_pends lookup.call lookup.at)
+pending_is_unplaced (Deleting (del.Single (single_del.Looking lookup))) = counts_nothing _ _ (lookup_pends (live_sight []) lookup.call lookup.at)
 pending_is_unplaced (Deleting (del.Single (single_del.Next call hold bitmap hit))) = tt
 pending_is_unplaced (Deleting (del.Single (single_del.Taking call hold bitmap hit take))) = tt
 pending_is_unplaced (Deleting (del.Single (single_del.Refusing call hold bitmap hit))) = tt
@@ -426,7 +454,7 @@ pending_is_unplaced (Deleting (del.Single (single_del.Clearing call hold bitmap 
 pending_is_unplaced (Deleting (del.Single (single_del.Finishing finish line))) = finish_unplaced finish finish.at
 pending_is_unplaced (Deleting (del.Merging call hold old place merge)) =
     counts_nothing _ _ (merge_unpending _ _ (placed_still call old place) (merging_stage call old place merge))
-pending_is_unplaced (Parting (part.Looking lookup count behind)) = counts_nothing _ _ (lookup_pends lookup.call lookup.at)
+pending_is_unplaced (Parting (part.Looking lookup count behind)) = counts_nothing _ _ (lookup_pends (behind_sight behind) lookup.call lookup.at)
 pending_is_unplaced (Parting (part.Reading reading)) = tt
 
 pub pends_own_change : PendingIsOwnChange

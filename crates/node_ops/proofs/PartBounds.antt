@@ -13,33 +13,33 @@ use Rattle.data_node.specs.Lists.{ListNode, IsMember, IsChain, IsBetween, next_o
 use Rattle.data_node.proofs.KeyLemmas.{key-number, anchor-number, named_anchor}
 use Rattle.data_node.proofs.ListLemmas.{between_target, target_between, chain_closed}
 use Rattle.data_list.specs.declared.target.Next.{Next}
-use Rattle.data_list.specs.declared.target.Sighting.{Sighting}
 use Rattle.data_list.specs.Keys.{IsNameOf, key_words, words_in, name_kept}
 use Rattle.data_list.specs.Walks.{high_of}
-use Rattle.data_list.specs.WalkStages.{sight_in, leads_on}
 use Rattle.data_list.proofs.KeyLemmas.{name_kept_so}
 use Rattle.shapes.proofs.NameLists.{all_by, filter-alike}
 use Rattle.index_law.specs.Facts.{Facts, range_of, IsListed}
-use Rattle.index_law.specs.Lawful.{IsList, Stands, SureSaw, Sure}
+use Rattle.node_ops.specs.Calls.{name_in}
+use Rattle.index_law.specs.Lawful.{IsList, Stands, SureReads, Sure}
 use Rattle.index_law.proofs.AnchorTexts.{key-order, named-text}
 use Rattle.index_law.proofs.Cutting.{all-named}
 use Rattle.index_law.proofs.Switch.{rise_from}
 use Rattle.call_stages.specs.declared.once.Once.{Once}
+use Rattle.call_stages.specs.declared.once.Once.TheVariants as once
+use Rattle.node_ops.proofs.PartTelling.{looked_on, done_words}
 use Rattle.node_ops.specs.declared.call.Call.{Call}
 use Rattle.node_ops.specs.declared.lookup.Looked.{Looked}
 use Rattle.node_ops.specs.declared.lookup.Looked.TheVariants as looked
 use Rattle.node_ops.specs.declared.lookup.Lookup.{Lookup}
-use Rattle.node_ops.specs.declared.lookup.LookupAt.{LookupAt}
 use Rattle.node_ops.specs.declared.part.PartWords.{PartWords}
 use Rattle.node_ops.specs.declared.part.Reading.{Reading}
 use Rattle.node_ops.specs.declared.part.ReadingAt.{ReadingAt}
 use Rattle.node_ops.specs.declared.part.ReadingAt.TheVariants as at
 use Rattle.node_ops.specs.declared.part.Part.{Part}
 use Rattle.node_ops.specs.declared.part.Part.TheVariants as part
-use Rattle.node_ops.specs.LookupSteps.{lookup_turned, IsLookupAt}
-use Rattle.node_ops.specs.CallStages.{lookup_at_stage}
-use Rattle.node_ops.specs.PartSteps.{part_behind, behind_of, part_looked, reading_turned}
-use Rattle.node_ops.specs.Parts.{from_name, IsBehind, HaveWords, PartsSeeBehind, PartsKeepBehind, EndsAt, PartsEndThere, EndsAreRanges}
+use Rattle.node_ops.specs.LookupSteps.{lookup_turned}
+use Rattle.node_ops.specs.CallStages.{behind_sight, reading_held}
+use Rattle.node_ops.specs.PartSteps.{behind_of, part_looked, IsReading, reading_turned}
+use Rattle.node_ops.specs.Parts.{from_name, IsBehind, HaveWords, PartsSeeBehind, EndsAt, PartsEndThere, EndsAreRanges}
 
 -- the anchor of a node behind is that of a name
 named_member : (now : ℕ → Spot) (here : ℕ) (list : List ListNode) → IsChain now here list → AllByRecursion (λ (m : ListNode). (name : List ℕ) × IsName name × (m.anchor ≡ key_of name)) list
@@ -132,42 +132,28 @@ ends_are_ranges in_range low high m named_low ends named =
     (all_by (λ (e : List ℕ × ℕ). IsName e.0) (λ (e : List ℕ × ℕ). from_name in_range low e.0 ≡ is_between low high e.0)
     (λ e is_name. from_between in_range low high ends e.0 is_name) (entries m) (all_keys IsName (entries m) (all-named m named))))
 
--- the next node after a turn
-abbrev behind_after : Turn Part (Once PartWords) → Option Next → Option Next
-behind_after (Go next) other = part_behind next
-behind_after (Done answer) other = other
+-- what it saw stands at the second load
+sees_behind : (f : Facts) (n : ℕ) (behind : Option Next) → Stands f n (behind_sight behind) → IfSome behind (λ next. next.node ≢ 0) → IsBehind f n behind
+sees_behind f n None is some = is.sees.seen.0
+sees_behind f n (Some next) is some =
+    let to : f.now n next_offset ≡ next.node = is.sees.seen.0 in
+    let beyond = is.sees.beyond some in
+    let a = beyond.0.2 in
+    let b = beyond.1.0.2 in
+    let c = beyond.1.1.0.2 in
+    (to, some, subst (λ k. anchor_words (f.now k) ≡ words_in (key_words next.anchor)) to (λ i. a i ∷ b i ∷ c i ∷ []))
 
-looked_keeps : (call : Call) (count : ℕ) (behind : Option Next) (turn : Turn Lookup Looked) (next : Part) → part_looked call count behind turn ≡ Go next → part_behind next ≡ behind
-looked_keeps call count behind (Go lookup) next is = sym (ap (λ (turn : Turn Part (Once PartWords)). behind_after turn behind) is)
-looked_keeps call count behind (Done (looked.Early answer)) next is = absurd (cc)
-looked_keeps call count behind (Done (looked.Found found)) next is = sym (ap (λ (turn : Turn Part (Once PartWords)). behind_after turn behind) is)
-
-reading_keeps : (reading : Reading) (at : ReadingAt) (x : ℕ) (next : Part) → reading_turned reading at x ≡ Go next → part_behind next ≡ reading.behind
-reading_keeps reading (at.Load slot word) x next is = sym (ap (λ (turn : Turn Part (Once PartWords)). behind_after turn reading.behind) is)
-reading_keeps reading at.Unlock x next is = absurd (cc)
-
-pub parts_keep_behind : PartsKeepBehind
-parts_keep_behind (part.Looking lookup count behind) next x is = looked_keeps lookup.call count (behind_of lookup.at behind) (lookup_turned lookup x) next is
-parts_keep_behind (part.Reading reading) next x is = reading_keeps reading reading.at x next is
-
--- what it saw stands at the lock
-sees_behind : (f : Facts) (n : ℕ) (seen : Sighting) → IfSome seen.next (λ next. next.node ≢ 0) → Stands f n (sight_in seen) → IsBehind f n seen.next
-sees_behind f n seen leads stands =
-    elim seen.next as (λ o. IfSome o (λ next. next.node ≢ 0) → Stands f n (leads_on (key_words seen.low) o) → IsBehind f n o) [
-      | None ↦ λ _ is. is.sees.seen.0
-      | Some next ↦ λ some is.
-          let to : f.now n next_offset ≡ next.node = is.sees.seen.0 in
-          let beyond = is.sees.beyond some in
-          let a = beyond.0.2 in
-          let b = beyond.1.0.2 in
-          let c = beyond.1.1.0.2 in
-          (to, some, subst (λ k. anchor_words (f.now k) ≡ words_in (key_words next.anchor)) to (λ i. a i ∷ b i ∷ c i ∷ []))
-    ] leads stands
+reading_sees : (l : Layout) (g : ℕ) (f : Facts) (since : ℕ) (reading : Reading) (at : ReadingAt) (x : ℕ) (words : PartWords) → IsReading (record reading { at = at })
+    → SureReads l g f since reading.call.node reading.hold.locked (behind_sight reading.behind) (Some (reading_held (record reading { at = at }))) → x ≡ f.version reading.call.node
+    → reading_turned (record reading { at = at }) at x ≡ Done (once.Done words) → IsListed f words.node × (range_of l f words.node (name_in reading.call) ≡ true) × IsBehind f words.node reading.behind
+reading_sees l g f since reading (at.Load slot word) x words sound knows gives is = absurd (cc)
+reading_sees l g f since reading at.Check x words sound knows gives is =
+    let whole = record reading { at = at.Check } in
+    let done = done_words whole x words is in
+    let still : f.version reading.call.node ≡ reading.hold.locked = sym gives ∙ done.0 in
+    subst (λ (w : PartWords). IsListed f w.node × (range_of l f w.node (name_in reading.call) ≡ true) × IsBehind f w.node reading.behind) done.1
+    ((knows.read still).listed, (knows.read still).inside, sees_behind f reading.call.node reading.behind (knows.stands still) sound.behind)
 
 pub parts_see_behind : PartsSeeBehind
-parts_see_behind l g f caller index since lookup count behind seen locked next sound knows is now goes =
-    let here = subst (IsLookupAt lookup.call) is sound.here.here in
-    let sure : SureSaw l g f lookup.call.node seen.version locked (sight_in seen) = subst (λ (at : LookupAt). Sure l g f caller index since (lookup_at_stage lookup.call at)) is knows in
-    let stands = sure.stands now in
-    let kept : part_behind next ≡ seen.next = parts_keep_behind (part.Looking lookup count behind) next seen.version goes ∙ ap (λ (at : LookupAt). behind_of at behind) is in
-    (stands.listed here.is.live, subst (IsBehind f lookup.call.node) (sym kept) (sees_behind f lookup.call.node seen here.leads stands))
+parts_see_behind l g f caller index since (part.Looking lookup count behind) x words sound knows gives is = absurd (looked_on lookup.call count (behind_of lookup.at behind) (lookup_turned lookup x) words is)
+parts_see_behind l g f caller index since (part.Reading reading) x words sound knows gives is = reading_sees l g f since reading reading.at x words sound.here knows gives is

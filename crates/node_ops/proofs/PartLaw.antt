@@ -1,7 +1,7 @@
 -- Each turn of a part of a range scan is a step of a get of its low name.
 use Rattle.std.proofs.Common.{◌≡◌, ℕ, zero, suc, ◌+◌, ◌-◌, ◌<◌, ◌≤◌, ◌==◌, ltb, true, false, cond, Option, Some, None, List, ◌∷◌, length, get_or, inl, inr, refl, sym, subst, ap, ◌∙◌, arith}
 use Rattle.std.specs.Int.{bit_at}
-use Rattle.std.proofs.lemmas.Bool.{cases_eq, eqb-true, eq-eqb, ltb-false}
+use Rattle.std.proofs.lemmas.Bool.{cases_eq, eqb-true, eqb-false, eq-eqb, ltb-false}
 use Rattle.std.proofs.lemmas.List.{get_or-set_same, get_or-set_other}
 use Rattle.pm_words.specs.declared.action.Action.{Action}
 use Rattle.pm_words.specs.declared.action.Action.TheVariants.{Load}
@@ -12,8 +12,14 @@ use Rattle.data_node.specs.Spots.{Spot, bitmap_offset, slot_offset}
 use Rattle.data_list.specs.declared.target.Next.{Next}
 use Rattle.call_stages.specs.declared.once.Once.{Once}
 use Rattle.call_stages.specs.declared.once.Placed.{Placed}
-use Rattle.call_stages.specs.Stages.{Stage, Idle, Holds}
-use Rattle.call_stages.specs.Kinds.{Told, Step, looks, learns, unlocks, reads}
+use Rattle.call_stages.specs.Stages.{Sees, Stage, Idle, Reads}
+use Rattle.call_stages.specs.Kinds.{Told, Step, looks, reads_on, notes, confirms, wavers}
+use Rattle.call_stages.specs.declared.once.Once.TheVariants as once
+use Rattle.pm_words.specs.declared.again.Again.TheVariants as again
+use Rattle.data_list.specs.Keys.{key_words}
+use Rattle.data_list.specs.WalkStages.{leads_on}
+use Rattle.node_ops.specs.declared.lookup.LookupAt.{LookupAt}
+use Rattle.node_ops.specs.declared.lookup.LookupAt.TheVariants as look
 use Rattle.node_ops.specs.declared.call.Call.{Call}
 use Rattle.node_ops.specs.declared.lookup.Looked.{Looked}
 use Rattle.node_ops.specs.declared.lookup.Looked.TheVariants as looked
@@ -25,12 +31,12 @@ use Rattle.node_ops.specs.declared.part.ReadingAt.TheVariants as at
 use Rattle.node_ops.specs.declared.part.Part.{Part}
 use Rattle.node_ops.specs.declared.part.Part.TheVariants as part
 use Rattle.node_ops.specs.Calls.{call_address}
-use Rattle.node_ops.specs.CallStages.{knows, decided, words_loaded, slots_loaded, loaded_at, reading_stage, part_stage, stage_after, reply_of}
+use Rattle.node_ops.specs.CallStages.{knows, decided, words_loaded, slots_loaded, loaded_at, lookup_at_stage, behind_sight, reading_stage, part_stage, stage_after, reply_of}
 use Rattle.node_ops.specs.LookupSteps.{lookup_turned}
-use Rattle.node_ops.specs.PartSteps.{no_entries, entry_in, with_word, load_from, next_at, behind_of, part_looked, after_at, after_word, part_call, reading_at_asks, part_asks, reading_turned, part_turned, IsReadingAt, IsReading, IsPart}
+use Rattle.node_ops.specs.PartSteps.{no_entries, entry_in, with_word, load_from, next_at, behind_of, part_looked, after_at, after_word, part_words, part_call, reading_at_asks, part_asks, reading_turned, part_turned, IsReadingAt, IsReading, IsPart}
 use Rattle.node_ops.specs.RunningSteps.{wrapped_part}
 use Rattle.node_ops.proofs.SeenLemmas.{Seen}
-use Rattle.node_ops.proofs.LookupLaw.{PlainStep, steps, Leads, lookup_leads}
+use Rattle.node_ops.proofs.LookupLaw.{PlainStep, steps, Found_by, Leads, Keeps, lookup_leads}
 use Rattle.node_ops.proofs.PartSound.{entry_here, entry_other, within}
 use Rattle.node_ops.proofs.Endings.{LooksEnd, looks_end, early_placed}
 
@@ -129,36 +135,73 @@ module _ (reading : Reading) (sound : IsReading reading) (slot word got : ℕ) (
             ])
       ] refl
 
-  word_leads : Step reading.call.view.layout reading.call.view.generation (Holds reading.call.node reading.hold.locked (decided reading.call reading.hold reading.old
-      (knows ((bitmap_offset, reading.bitmap) ∷ loaded_at reading.entries reading.bitmap slots (at.Load slot word))))) (Load (call_address reading.call (slot_offset slot word))) got
+  word_leads : Step reading.call.view.layout reading.call.view.generation (Reads reading.call.node reading.hold.locked (behind_sight reading.behind) (Some (decided reading.call reading.hold reading.old
+      (knows ((bitmap_offset, reading.bitmap) ∷ loaded_at reading.entries reading.bitmap slots (at.Load slot word)))))) (Load (call_address reading.call (slot_offset slot word))) got
       (reading_stage (after_word reading slot word got)) None
   word_leads =
       let below : slot < slots = here.0 in
       let small : word < 4 = here.2 in
-      looks (learns (sound.call.node, (omega arith)) (omega arith) refl (λ s tidy known is. record { seen = (known.seen.0, learnt s known.seen.1 is); left = tt }))
+      looks (reads_on (notes (sound.call.node, (omega arith)) (omega arith) (λ s tidy known is. record { seen = (known.seen.0, learnt s known.seen.1 is); left = tt })))
 
 abbrev Parts : Call → Stage → Action → ℕ → Turn Part (Once PartWords) → Type 0
 Parts call stage action x turn = PlainStep call.view.layout call.view.generation stage action x (stage_after (wrapped_part turn)) (reply_of (wrapped_part turn))
 
-looked_leads : (call : Call) (stage : Stage) (action : Action) (x count : ℕ) (behind : Option Next) (turn : Turn Lookup Looked) → LooksEnd call.limit turn → Leads call stage action x turn
-    → Parts call stage action x (part_looked call count behind turn)
-looked_leads call stage action x count behind (Go lookup) ends step = step
-looked_leads call stage action x count behind (Done (looked.Early answer)) ends step =
+looked_leads : (call : Call) (stage : Stage) (action : Action) (x count : ℕ) (behind : Option Next) (turn : Turn Lookup Looked) → call.limit ≡ None → LooksEnd call.limit turn
+    → Leads (behind_sight behind) call stage action x turn → Parts call stage action x (part_looked call count behind turn)
+looked_leads call stage action x count behind (Go lookup) read ends step = step
+looked_leads call stage action x count behind (Done (looked.Early answer)) read ends step =
     steps (subst (λ (a : Once Placed). Step call.view.layout call.view.generation stage action x Idle (Some a)) (sym (early_placed call.limit answer ends)) step)
-looked_leads call stage action x count behind (Done (looked.Found found)) ends leads =
+looked_leads call stage action x count behind (Done (looked.Found found)) read ends leads =
     let slots = call.view.layout.slots in
     let bitmap = found.directory.bitmap in
-    steps (leads (knows ((bitmap_offset, bitmap) ∷ loaded_at no_entries bitmap slots (next_at bitmap 0 slots))) None false tt
-    (λ s known. record { seen = (known.seen.0, next_at_loaded s no_entries bitmap slots 0 (omega arith) (λ other below live. absurd (omega arith))); left = tt })
-    (λ range s m in_range old means. means))
+    let so = subst (λ (o : Option ℕ). Found_by o (behind_sight behind) call stage action x found) read leads in
+    steps (so (knows ((bitmap_offset, bitmap) ∷ loaded_at no_entries bitmap slots (next_at bitmap 0 slots)))
+    (λ s known. record { seen = (known.seen.0, next_at_loaded s no_entries bitmap slots 0 (omega arith) (λ other below live. absurd (omega arith))); left = tt }))
 
 reading_leads : (reading : Reading) (at : ReadingAt) (x : ℕ) → IsReading (record reading { at = at })
-    → Parts reading.call (reading_stage (record reading { at = at })) (reading_at_asks reading.call reading.hold.locked at) x (reading_turned (record reading { at = at }) at x)
+    → Parts reading.call (reading_stage (record reading { at = at })) (reading_at_asks reading.call at) x (reading_turned (record reading { at = at }) at x)
 reading_leads reading (at.Load slot word) x sound = steps (word_leads (record reading { at = at.Load slot word }) sound slot word x sound.here)
-reading_leads reading at.Unlock x sound = steps (unlocks refl refl refl refl (reads refl refl refl))
+reading_leads reading at.Check x sound =
+    elim (x == reading.hold.locked) as (λ b. (x == reading.hold.locked) ≡ b → Parts reading.call (reading_stage (record reading { at = at.Check })) (reading_at_asks reading.call at.Check) x
+    (Done (cond b (once.Done (part_words (record reading { at = at.Check }))) (once.Again (again.Moved reading.call.node reading.hold.locked x))))) [
+      | true ↦ λ same. steps (looks (reads_on (confirms sound.call.node (eqb-true x reading.hold.locked same) refl sound.reads refl refl)))
+      | false ↦ λ other. steps (looks (reads_on (wavers sound.call.node (eqb-false x reading.hold.locked other))))
+    ] refl
+
+-- as it loads the clock it keeps where its node leads
+keeps_behind : (at : LookupAt) (behind : Option Next) → Keeps (behind_sight (behind_of at behind)) at
+keeps_behind (look.Floor floor) behind = tt
+keeps_behind (look.Walk walk) behind = tt
+keeps_behind (look.Read seen) behind = λ s t see. of seen.next s t see
+  where
+    of : (next : Option Next) (s t : Spot) → Sees (leads_on (key_words seen.low) next) s t → Sees (behind_sight next) s t
+    of None s t see = record { seen = (see.seen.0, tt); leads = λ ne. absurd (ne refl); beyond = λ ne. absurd (ne refl) }
+    of (Some next) s t see = record { seen = (see.seen.0, tt); leads = see.leads; beyond = see.beyond }
+keeps_behind (look.Lock seen locked) behind = tt
+keeps_behind (look.Clock locked) behind = tt
+keeps_behind (look.Spent hold) behind = tt
+keeps_behind (look.Bitmap hold) behind = tt
+keeps_behind (look.Prints hold bitmap prints k) behind = tt
+keeps_behind (look.Name hold directory left slot k) behind = tt
+keeps_behind (look.Value hold directory slot) behind = tt
+
+same_kept : (call : Call) (at : LookupAt) (behind : Option Next) → lookup_at_stage (behind_sight (behind_of at behind)) call at ≡ lookup_at_stage (behind_sight behind) call at
+same_kept call (look.Floor floor) behind = refl
+same_kept call (look.Walk walk) behind = refl
+same_kept call (look.Read seen) behind = refl
+same_kept call (look.Lock seen locked) behind = refl
+same_kept call (look.Clock locked) behind = refl
+same_kept call (look.Spent hold) behind = refl
+same_kept call (look.Bitmap hold) behind = refl
+same_kept call (look.Prints hold bitmap prints k) behind = refl
+same_kept call (look.Name hold directory left slot k) behind = refl
+same_kept call (look.Value hold directory slot) behind = refl
 
 pub part_steps : (p : Part) (x : ℕ) → IsPart p → Told (part_call p).view.layout (part_call p).view.generation (part_asks p) x → Parts (part_call p) (part_stage p) (part_asks p) x (part_turned p x)
 part_steps (part.Looking lookup count behind) x sound told =
-    looked_leads lookup.call (part_stage (part.Looking lookup count behind)) (part_asks (part.Looking lookup count behind)) x count (behind_of lookup.at behind) (lookup_turned lookup x)
-    (looks_end lookup.call lookup.at x sound.here) (lookup_leads lookup.call sound.call lookup.at x sound.here told)
+    let seen = behind_of lookup.at behind in
+    looked_leads lookup.call (part_stage (part.Looking lookup count behind)) (part_asks (part.Looking lookup count behind)) x count seen (lookup_turned lookup x) sound.1
+    (looks_end lookup.call lookup.at x sound.0.here)
+    (subst (λ (s : Stage). Leads (behind_sight seen) lookup.call s (part_asks (part.Looking lookup count behind)) x (lookup_turned lookup x)) (same_kept lookup.call lookup.at behind)
+    (lookup_leads (behind_sight seen) lookup.call sound.0.call lookup.at x sound.0.here (keeps_behind lookup.at behind) told))
 part_steps (part.Reading reading) x sound told = reading_leads reading reading.at x sound

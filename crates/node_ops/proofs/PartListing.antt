@@ -23,13 +23,22 @@ use Rattle.node_ops.specs.DelSteps.{del_turned}
 use Rattle.node_ops.specs.PartSteps.{part_turned, part_looked, early_of, listed_at, reading_turned, behind_of, words_placed}
 use Rattle.node_ops.specs.RunningSteps.{running_turned, wrapped, wrapped_part, count_in}
 use Rattle.node_ops.specs.Parts.{ListedIsTold, ListedIsAnswered, DoneIsListed, CountStays}
+use Rattle.std.proofs.Common.{◌==◌, cond, sym, ◌∙◌}
+use Rattle.std.specs.Prelude.{IsSomeAnd}
+use Rattle.std.proofs.lemmas.Bool.{eqb-true, eq-eqb}
+use Rattle.pm_words.specs.declared.again.Again.TheVariants as again
+use Rattle.node_ops.specs.PartSteps.{part_words}
 
 pub listed_is_told : ListedIsTold
-listed_is_told (part.Looking lookup count behind) words is x = cc
-listed_is_told (part.Reading reading) words is x =
+listed_is_told (part.Looking lookup count behind) words is x same = cc
+listed_is_told (part.Reading reading) words is x same =
     elim reading.at as (λ at. listed_at reading at ≡ Some words → reading_turned reading at x ≡ Done (once.Done words)) [
       | at.Load slot word ↦ λ none. cc
-      | at.Unlock ↦ λ some. cc
+      | at.Check ↦ λ some.
+          let words_are : part_words reading ≡ words = ap (λ (o : Option PartWords). elim o [ None ↦ words | Some w ↦ w ]) some in
+          let same_word : x ≡ reading.hold.locked = same ∙ ap (λ (w : PartWords). w.version) (sym words_are) in
+          ap (λ b. Done (cond b (once.Done (part_words reading)) (once.Again (again.Moved reading.call.node reading.hold.locked x)))) (eq-eqb x reading.hold.locked same_word)
+          ∙ ap (λ (w : PartWords). Done (once.Done w)) words_are
     ] is
 
 -- what its answer says of the whole call
@@ -38,10 +47,10 @@ wrapped_told : (t : Turn Part (Once PartWords)) (words : PartWords) → t ≡ Do
 wrapped_told t words is = ap wrapped_part is
 
 pub listed_is_answered : ListedIsAnswered
-listed_is_answered (Getting get) words is x = absurd (cc)
-listed_is_answered (Putting put) words is x = absurd (cc)
-listed_is_answered (Deleting del) words is x = absurd (cc)
-listed_is_answered (Parting p) words is x = wrapped_told (part_turned p x) words (listed_is_told p words is x)
+listed_is_answered (Getting get) words is x same = absurd (cc)
+listed_is_answered (Putting put) words is x same = absurd (cc)
+listed_is_answered (Deleting del) words is x same = absurd (cc)
+listed_is_answered (Parting p) words is x same = wrapped_told (part_turned p x) words (listed_is_told p words is x same)
 
 -- a look-up that ends early isn't done
 looked_done : (call : Call) (count : ℕ) (behind : Option Next) (turn : Turn Lookup Looked) (placed : Placed) → wrapped_part (part_looked call count behind turn) ≡ Done (once.Done placed) → ⊥
@@ -61,9 +70,14 @@ done_is_listed (Putting put) x placed counted is = absurd (let none : false ≡ 
 done_is_listed (Deleting del) x placed counted is = absurd (let none : false ≡ true = counted in cc)
 done_is_listed (Parting (part.Looking lookup count behind)) x placed counted is = absurd (looked_done lookup.call count (behind_of lookup.at behind) (lookup_turned lookup x) placed is)
 done_is_listed (Parting (part.Reading reading)) x placed counted is =
-    elim reading.at as (λ at. wrapped_part (reading_turned reading at x) ≡ Done (once.Done placed) → IsSome (listed_at reading at)) [
+    elim reading.at as (λ at. wrapped_part (reading_turned reading at x) ≡ Done (once.Done placed) → IsSomeAnd (listed_at reading at) (λ words. (x ≡ words.version) × (placed ≡ words_placed words))) [
       | at.Load slot word ↦ λ done. absurd (cc)
-      | at.Unlock ↦ λ done. refl
+      | at.Check ↦ λ done. elim (x == reading.hold.locked) as (λ b. (x == reading.hold.locked) ≡ b
+          → wrapped_part (Done (cond b (once.Done (part_words reading)) (once.Again (again.Moved reading.call.node reading.hold.locked x)))) ≡ Done (once.Done placed)
+          → (x ≡ (part_words reading).version) × (placed ≡ words_placed (part_words reading))) [
+            | true ↦ λ same now. (eqb-true x reading.hold.locked same, (cc))
+            | false ↦ λ other now. absurd (cc)
+          ] refl done
     ] is
 
 -- how many names it lists at most after a turn, if it goes on
@@ -88,7 +102,7 @@ counts_so (Deleting del) x = alone_stays (λ m. Deleting m) (λ m. refl) (del_tu
 counts_so (Parting (part.Looking lookup count behind)) x = looked_count lookup.call count (behind_of lookup.at behind) (lookup_turned lookup x)
 counts_so (Parting (part.Reading reading)) x = elim reading.at as (λ at. CountAfter (Some reading.count) (wrapped_part (reading_turned reading at x))) [
   | at.Load slot word ↦ refl
-  | at.Unlock ↦ tt
+  | at.Check ↦ tt
 ]
 
 pub count_stays : CountStays

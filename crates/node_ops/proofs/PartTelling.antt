@@ -5,7 +5,7 @@ use Rattle.std.specs.FinMap.{entries}
 use Rattle.std.specs.FinMap.Entries.{where_key}
 use Rattle.std.specs.List.{filter, fold, AllByRecursion}
 use Rattle.std.proofs.Math.Seq.{take-nil}
-use Rattle.std.proofs.lemmas.Bool.{ltb-true, ltb-false}
+use Rattle.std.proofs.lemmas.Bool.{eqb-true, ltb-true, ltb-false}
 use Rattle.std.proofs.lemmas.List.{take_more_set, take-map, length-map, append_assoc, length-set, length-replicate}
 use Rattle.pm_words.specs.declared.layout.Layout.{Layout}
 use Rattle.pm_words.specs.declared.machine.Turn.{Turn}
@@ -21,10 +21,11 @@ use Rattle.data_node.specs.Orders.{comes_before}
 use Rattle.data_node.proofs.KeyLemmas.{key-number}
 use Rattle.shapes.proofs.NameLists.{all_by, filter-twice}
 use Rattle.index_law.specs.Facts.{Facts, map_now, range_of}
-use Rattle.index_law.specs.Lawful.{HasNames, SureHolds}
+use Rattle.index_law.specs.Lawful.{HasNames, IsRead, SureReads}
 use Rattle.index_law.proofs.AnchorTexts.{key-order, named-text}
 use Rattle.call_stages.specs.declared.once.Once.{Once}
 use Rattle.call_stages.specs.declared.once.Once.TheVariants as once
+use Rattle.pm_words.specs.declared.again.Again.TheVariants as again
 use Rattle.call_stages.specs.declared.once.Placed.{Placed}
 use Rattle.split_merge.specs.Plans.{put_in}
 use Rattle.split_merge.proofs.Sorting.{put_size}
@@ -41,8 +42,8 @@ use Rattle.node_ops.specs.declared.part.ReadingAt.TheVariants as at
 use Rattle.node_ops.specs.declared.part.Part.TheVariants as part
 use Rattle.node_ops.specs.Calls.{name_in}
 use Rattle.node_ops.specs.LookupSteps.{lookup_turned}
-use Rattle.node_ops.specs.PartSteps.{no_entry, no_listing, entry_in, entry_name, live_order, is_from, order_in, lists, part_words, behind_of, part_looked, early_of, IsReading, reading_turned}
-use Rattle.node_ops.specs.CallStages.{reading_held}
+use Rattle.node_ops.specs.PartSteps.{no_entry, no_listing, entry_in, entry_name, live_order, is_from, order_in, lists, part_words, part_checked, behind_of, part_looked, early_of, IsReading, reading_turned}
+use Rattle.node_ops.specs.CallStages.{behind_sight, reading_held}
 use Rattle.node_ops.specs.Parts.{pair_of, IsPartOf, PartTells, IsHeard, PartsHear}
 use Rattle.node_ops.proofs.PartLaw.{slots_say}
 use Rattle.node_ops.proofs.PartNames.{pair_at, all_good, packed, names_are}
@@ -124,8 +125,8 @@ all_first P (suc n) (x ∷ xs) all = (all.0, all_first P n xs all.1)
 abbrev to_pair : List ℕ × ℕ → Pair
 to_pair e = record { name = e.0; value = e.1 }
 
-module _ (reading : Reading) (sound : IsReading reading) (f : Facts) (g caller index since : ℕ) (named : HasNames (map_now f))
-    (knows : SureHolds reading.call.view.layout g f caller index since reading.call.node reading.hold.locked (reading_held (record reading { at = at.Unlock }))) where
+module _ (reading : Reading) (sound : IsReading reading) (f : Facts) (since : ℕ) (named : HasNames (map_now f))
+    (knows : IsRead reading.call.view.layout f since reading.call.node (reading_held (record reading { at = at.Check }))) where
   abbrev slots : ℕ
   slots = reading.call.view.layout.slots
 
@@ -154,11 +155,11 @@ module _ (reading : Reading) (sound : IsReading reading) (f : Facts) (g caller i
 
     are : map own order ≡ where_key name_cmp range (entries m)
     are =
-        names_are reading.entries reading.bitmap slots sound.many sound.call.view.layout.slots.1 s knows.knows.seen.0 (slots_say s reading.entries reading.bitmap slots knows.knows.seen.1) range m means knows.stays names
+        names_are reading.entries reading.bitmap slots sound.many sound.call.view.layout.slots.1 s knows.knows.seen.0 (slots_say s reading.entries reading.bitmap slots knows.knows.seen.1) range m means knows.settled.stays names
 
     is_packed : (slot : ℕ) → (slot < slots) × (bit_at reading.bitmap slot ≡ 1) → IsPacked (entry_name (entry reading slot))
     is_packed slot good =
-        packed reading.entries reading.bitmap slots sound.many sound.call.view.layout.slots.1 s knows.knows.seen.0 (slots_say s reading.entries reading.bitmap slots knows.knows.seen.1) range m means knows.stays names slot good
+        packed reading.entries reading.bitmap slots sound.many sound.call.view.layout.slots.1 s knows.knows.seen.0 (slots_say s reading.entries reading.bitmap slots knows.knows.seen.1) range m means knows.settled.stays names slot good
 
     keeps_above : (slot : ℕ) → (slot < slots) × (bit_at reading.bitmap slot ≡ 1) → keeps reading slot ≡ above (own slot)
     keeps_above slot good =
@@ -205,10 +206,10 @@ module _ (reading : Reading) (sound : IsReading reading) (f : Facts) (g caller i
 
   pub tells_part : IsPartOf (map_now f) range low reading.count (part_words reading) × IsPartOf (after f.base f.history reading.hold.clock) range low reading.count (part_words reading)
   tells_part =
-      let same = knows.time.same in
+      let same = (λ (name : List ℕ) (inside : range name ≡ true). knows.time.same reading.hold.clock (omega arith) knows.time.within name inside) in
       let past = after f.base f.history reading.hold.clock in (
-        is_part (map_now f) knows.means (λ name value inside there. named name value there) knows.old,
-        is_part past (record { tidy = knows.means.tidy; agrees = λ name is_name inside. subst (Finds slots s name) (sym (same name inside)) (knows.means.agrees name is_name inside) })
+        is_part (map_now f) knows.settled.means (λ name value inside there. named name value there) knows.old,
+        is_part past (record { tidy = knows.settled.means.tidy; agrees = λ name is_name inside. subst (Finds slots s name) (sym (same name inside)) (knows.settled.means.agrees name is_name inside) })
             (λ name value inside there. named name value (sym (same name inside) ∙ there)) (same low knows.inside ∙ knows.old),
       )
 
@@ -219,33 +220,48 @@ not_early (once.Spent clock) words is = cc
 not_early (once.Worn node word) words is = cc
 not_early (once.Again why) words is = cc
 
-looked_on : (call : Call) (count : ℕ) (behind : Option Next) (turn : Turn Lookup Looked) (words : PartWords) → part_looked call count behind turn ≡ Done (once.Done words) → ⊥
+pub looked_on : (call : Call) (count : ℕ) (behind : Option Next) (turn : Turn Lookup Looked) (words : PartWords) → part_looked call count behind turn ≡ Done (once.Done words) → ⊥
 looked_on call count behind (Go lookup) words is = cc
 looked_on call count behind (Done (looked.Early answer)) words is = not_early answer words (cc)
 looked_on call count behind (Done (looked.Found found)) words is = cc
 
-done_words : (reading : Reading) (x : ℕ) (words : PartWords) → reading_turned reading at.Unlock x ≡ Done (once.Done words) → part_words reading ≡ words
-done_words reading x words is = cc
+-- the second load gives the version word that its walk saw
+pub done_checked : (reading : Reading) (x : ℕ) (words : PartWords) → part_checked reading x ≡ once.Done words → (x ≡ reading.hold.locked) × (part_words reading ≡ words)
+done_checked reading x words is =
+    elim (x == reading.hold.locked) as (λ b. (x == reading.hold.locked) ≡ b → cond b (once.Done (part_words reading)) (once.Again (again.Moved reading.call.node reading.hold.locked x)) ≡ once.Done words
+    → (x ≡ reading.hold.locked) × (part_words reading ≡ words)) [
+      | true ↦ λ same done. (eqb-true x reading.hold.locked same, (cc))
+      | false ↦ λ other done. absurd (cc)
+    ] refl is
+
+pub done_words : (reading : Reading) (x : ℕ) (words : PartWords) → reading_turned reading at.Check x ≡ Done (once.Done words) → (x ≡ reading.hold.locked) × (part_words reading ≡ words)
+done_words reading x words is = done_checked reading x words (cc)
 
 reading_tells : (l : Layout) (g : ℕ) (f : Facts) (caller index since : ℕ) (reading : Reading) (at : ReadingAt) (x : ℕ) (words : PartWords) → reading.call.view.layout ≡ l → IsReading (record reading { at = at })
-    → HasNames (map_now f) → SureHolds l g f caller index since reading.call.node reading.hold.locked (reading_held (record reading { at = at })) → reading_turned reading at x ≡ Done (once.Done words)
+    → HasNames (map_now f) → SureReads l g f since reading.call.node reading.hold.locked (behind_sight reading.behind) (Some (reading_held (record reading { at = at }))) → x ≡ f.version reading.call.node
+    → reading_turned (record reading { at = at }) at x ≡ Done (once.Done words)
     → IsPartOf (map_now f) (range_of l f words.node) (name_in reading.call) reading.count words × IsPartOf (after f.base f.history words.place) (range_of l f words.node) (name_in reading.call) reading.count words
 unfolding order_in
-reading_tells l g f caller index since reading (at.Load slot word) x words layout sound named knows is = absurd (cc)
-reading_tells l g f caller index since reading at.Unlock x words layout sound named knows is =
-    let own = subst (λ k. SureHolds k g f caller index since reading.call.node reading.hold.locked (reading_held (record reading { at = at.Unlock }))) (sym layout) knows in
-    let told = tells_part (record reading { at = at.Unlock }) sound f g caller index since named own in
-    subst (λ (w : PartWords). IsPartOf (map_now f) (range_of l f w.node) (name_in reading.call) reading.count w × IsPartOf (after f.base f.history w.place) (range_of l f w.node) (name_in reading.call) reading.count w)
-    (done_words reading x words is) told
+reading_tells l g f caller index since reading (at.Load slot word) x words layout sound named knows gives is = absurd (cc)
+reading_tells l g f caller index since reading at.Check x words layout sound named knows gives is =
+    let whole = record reading { at = at.Check } in
+    let done = done_words whole x words is in
+    let own = subst (λ k. IsRead k f since reading.call.node (reading_held whole)) (sym layout) (knows.read (sym gives ∙ done.0)) in
+    let told = tells_part whole sound f since named own in
+    subst (λ (k : Layout). IsPartOf (map_now f) (range_of k f words.node) (name_in reading.call) reading.count words × IsPartOf (after f.base f.history words.place) (range_of k f words.node) (name_in reading.call) reading.count words) layout
+    (subst (λ (w : PartWords). IsPartOf (map_now f) (range_of reading.call.view.layout f w.node) (name_in reading.call) reading.count w × IsPartOf (after f.base f.history w.place) (range_of reading.call.view.layout f w.node) (name_in reading.call) reading.count w)
+    done.1 told)
 
 pub part_tells : PartTells
-part_tells l g f caller index since (part.Looking lookup count behind) x words sound named knows is = absurd (looked_on lookup.call count (behind_of lookup.at behind) (lookup_turned lookup x) words is)
-part_tells l g f caller index since (part.Reading reading) x words sound named knows is = reading_tells l g f caller index since reading reading.at x words sound.layout sound.here named knows is
+part_tells l g f caller index since (part.Looking lookup count behind) x words sound named knows gives is = absurd (looked_on lookup.call count (behind_of lookup.at behind) (lookup_turned lookup x) words is)
+part_tells l g f caller index since (part.Reading reading) x words sound named knows gives is = reading_tells l g f caller index since reading reading.at x words sound.layout sound.here named knows gives is
 
 pub parts_hear : PartsHear
 parts_hear (part.Looking lookup count behind) x words is = absurd (looked_on lookup.call count (behind_of lookup.at behind) (lookup_turned lookup x) words is)
 parts_hear (part.Reading reading) x words is = hears reading.at is
   where
-    hears : (at : ReadingAt) → reading_turned reading at x ≡ Done (once.Done words) → IsHeard (part.Reading (record reading { at = at })) words
+    hears : (at : ReadingAt) → reading_turned (record reading { at = at }) at x ≡ Done (once.Done words) → IsHeard (part.Reading (record reading { at = at })) x words
     hears (at.Load slot word) is = absurd (cc)
-    hears at.Unlock is = subst (IsHeard (part.Reading (record reading { at = at.Unlock }))) (done_words reading x words is) (record { node = refl; hops = refl; version = refl; high = refl })
+    hears at.Check is =
+        let done = done_words (record reading { at = at.Check }) x words is in
+        subst (IsHeard (part.Reading (record reading { at = at.Check })) x) done.1 (record { node = refl; hops = refl; asks = refl; version = done.0; high = refl })

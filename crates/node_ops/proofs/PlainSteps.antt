@@ -9,11 +9,12 @@ use Rattle.data_node.specs.Slots.{IsLive}
 use Rattle.data_node.specs.Spots.{Spot, slot_offset, IsLiveIn, name_words}
 use Rattle.call_stages.specs.declared.once.Once.{Once}
 use Rattle.call_stages.specs.declared.once.Placed.{Placed}
-use Rattle.call_stages.specs.Stages.{Knows, Stage, Idle, Saw, Wears, Holds, Eyes, Splits, Leaves, Meets, Joins, IsLoose}
+use Rattle.call_stages.specs.Stages.{Knows, Sight, Held, Stage, Idle, Saw, Wears, Reads, Holds, Eyes, Splits, Leaves, Meets, Joins, IsLoose}
 use Rattle.call_stages.specs.Prevs.{no_debt, Deals, keeps}
 use Rattle.call_stages.specs.Footings.{Footing, Minds, FootStep, on_nodes, on_layer}
-use Rattle.data_list.specs.WalkStages.{walk_stage}
-use Rattle.data_list.proofs.WalkLaw.{walk_loose}
+use Rattle.data_list.specs.declared.walk.Walk.{Walk}
+use Rattle.data_list.specs.WalkStages.{walk_watching}
+use Rattle.data_list.proofs.WalkLaw.{walk_loose, view_loose}
 use Rattle.node_ops.specs.declared.lookup.LookupAt.{LookupAt}
 use Rattle.node_ops.specs.declared.lookup.LookupAt.TheVariants as look
 use Rattle.node_ops.specs.declared.call.Call.{Call}
@@ -22,7 +23,7 @@ use Rattle.node_ops.specs.declared.lookup.Found.{Found}
 use Rattle.node_ops.specs.declared.running.Running.{Running}
 use Rattle.node_ops.specs.Calls.{IsCall, name_in}
 use Rattle.call_stages.specs.Lines.{HeldLine}
-use Rattle.node_ops.specs.CallStages.{words_from, seen_hit, stage_after, reply_of, lookup_at_stage, footing_after}
+use Rattle.node_ops.specs.CallStages.{words_from, seen_hit, stage_after, reply_of, held_by, walk_by, lookup_at_stage, footing_after}
 use Rattle.node_ops.proofs.SeenLemmas.{Seen, Stand, seen_back, stand_whole, name_stands}
 use Rattle.node_ops.proofs.LookupLaw.{PlainStep, steps, reads_layer, hit_words, found_known}
 
@@ -61,6 +62,7 @@ single_minds : (s t : Stage) (line : Option HeldLine) → IsSingle s → Minds s
 single_minds Idle t line single = tt
 single_minds (Saw n v w k) t line single = tt
 single_minds (Wears n v) t line single = tt
+single_minds (Reads n v sight told) t line single = tt
 single_minds (Holds n w h) t line single = tt
 single_minds (Eyes n w h m v u free) t line single = tt
 single_minds (Splits left fresh phase) t line single = absurd single
@@ -88,6 +90,7 @@ pub loose_single : (s : Stage) → IsLoose s → IsSingle s
 loose_single Idle loose = tt
 loose_single (Saw n v w k) loose = tt
 loose_single (Wears n v) loose = tt
+loose_single (Reads n v sight told) loose = tt
 loose_single (Holds n w h) loose = tt
 loose_single (Eyes n w h m v u free) loose = tt
 loose_single (Splits left fresh phase) loose = absurd loose
@@ -95,13 +98,22 @@ loose_single (Leaves left) loose = tt
 loose_single (Meets n w h right) loose = tt
 loose_single (Joins h left right pace) loose = absurd loose
 
-pub looks_single : (call : Call) (at : LookupAt) → IsSingle (lookup_at_stage call at)
-looks_single call (look.Floor floor) = tt
-looks_single call (look.Walk walk) = loose_single (walk_stage walk) (walk_loose walk.generation walk.node walk.at)
-looks_single call (look.Lock seen locked) = tt
-looks_single call (look.Clock locked) = tt
-looks_single call (look.Spent hold) = tt
-looks_single call (look.Bitmap hold) = tt
-looks_single call (look.Prints hold bitmap prints k) = tt
-looks_single call (look.Name hold directory left slot k) = tt
-looks_single call (look.Value hold directory slot) = tt
+pub walk_by_loose : (limit : Option ℕ) (walk : Walk) → IsLoose (walk_by limit walk)
+walk_by_loose None walk = view_loose (walk_watching walk)
+walk_by_loose (Some limit) walk = walk_loose walk.generation walk.node walk.at
+
+held_single : (limit : Option ℕ) (n word : ℕ) (kept : Sight) (h : Held) → IsSingle (held_by limit n word kept h)
+held_single None _ _ _ _ = tt
+held_single (Some limit) _ _ _ _ = tt
+
+pub looks_single : (kept : Sight) (call : Call) (at : LookupAt) → IsSingle (lookup_at_stage kept call at)
+looks_single kept call (look.Floor floor) = tt
+looks_single kept call (look.Walk walk) = loose_single (walk_by call.limit walk) (walk_by_loose call.limit walk)
+looks_single kept call (look.Read seen) = tt
+looks_single kept call (look.Lock seen locked) = tt
+looks_single kept call (look.Clock locked) = tt
+looks_single kept call (look.Spent hold) = tt
+looks_single kept call (look.Bitmap hold) = held_single call.limit _ _ _ _
+looks_single kept call (look.Prints hold bitmap prints k) = held_single call.limit _ _ _ _
+looks_single kept call (look.Name hold directory left slot k) = held_single call.limit _ _ _ _
+looks_single kept call (look.Value hold directory slot) = held_single call.limit _ _ _ _

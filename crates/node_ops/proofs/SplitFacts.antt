@@ -1,6 +1,6 @@
 -- What a put is while it splits: it has no change, and no place.
 use Rattle.std.proofs.Common.{◌≡◌, false, true, None, refl, sym, ◌∙◌, subst}
-use Rattle.call_stages.specs.Stages.{Held, Stage, Idle, Saw, Wears, Holds, Eyes, Splits, Leaves, Meets, Joins, counted, pending_in, placed_in}
+use Rattle.call_stages.specs.Stages.{Held, Stage, Idle, Saw, Wears, Reads, Holds, Eyes, Splits, Leaves, Meets, Joins, counted, pending_in, placed_in}
 use Rattle.split_merge.specs.OfSplits.{IsOfSplit}
 use Rattle.node_ops.specs.Asked.{IsAbout}
 
@@ -13,6 +13,7 @@ split_uncounted h (Leaves left) unready is = refl
 split_uncounted h Idle unready is = absurd is
 split_uncounted h (Saw n v w k) unready is = absurd is
 split_uncounted h (Wears n v) unready is = absurd is
+split_uncounted h (Reads n v sight told) unready is = absurd is
 split_uncounted h (Meets n w k right) unready is = absurd is
 split_uncounted h (Joins k left right pace) unready is = absurd is
 
@@ -24,6 +25,7 @@ split_unplaced h (Leaves left) unplaced is = refl
 split_unplaced h Idle unplaced is = absurd is
 split_unplaced h (Saw n v w k) unplaced is = absurd is
 split_unplaced h (Wears n v) unplaced is = absurd is
+split_unplaced h (Reads n v sight told) unplaced is = absurd is
 split_unplaced h (Meets n w k right) unplaced is = absurd is
 split_unplaced h (Joins k left right pace) unplaced is = absurd is
 
@@ -36,6 +38,7 @@ split_unpending h (Leaves left) none is = refl
 split_unpending h Idle none is = absurd is
 split_unpending h (Saw n v w k) none is = absurd is
 split_unpending h (Wears n v) none is = absurd is
+split_unpending h (Reads n v sight told) none is = absurd is
 split_unpending h (Meets n w k right) none is = absurd is
 split_unpending h (Joins k left right pace) none is = absurd is
 
@@ -48,5 +51,6 @@ split_about h (Leaves left) is = tt
 split_about h Idle is = absurd is
 split_about h (Saw n v w k) is = absurd is
 split_about h (Wears n v) is = absurd is
+split_about h (Reads n v sight told) is = absurd is
 split_about h (Meets n w k right) is = absurd is
 split_about h (Joins k left right pace) is = absurd is

@@ -6,7 +6,7 @@ use Rattle.cat_history.specs.declared.op.NameOp.{NameOp}
 use Rattle.cat_history.specs.declared.op.NameOp.TheVariants as op
 use Rattle.call_stages.specs.declared.once.Once.{Once}
 use Rattle.call_stages.specs.declared.once.Placed.{Placed}
-use Rattle.call_stages.specs.Stages.{Stage, Holds, Eyes, Meets, Joins}
+use Rattle.call_stages.specs.Stages.{Stage, Reads, Holds, Eyes, Meets, Joins}
 use Rattle.node_ops.specs.declared.finish.Finish.{Finish}
 use Rattle.node_ops.specs.declared.put.Put.{Put}
 use Rattle.node_ops.specs.declared.put.Put.TheVariants as put
@@ -86,9 +86,10 @@ op_in (Putting put) = put_op put
 op_in (Deleting del) = del_op del
 op_in (Parting p) = op.Get (name_in (part_call p))
 
--- what is held is held for this name
+-- what is held or read is held or read for this name
 abbrev pub IsAbout : List ℕ → Stage → Type 0
 IsAbout name (Holds n w h) = h.name ≡ name
+IsAbout name (Reads n v k (Some h)) = h.name ≡ name
 IsAbout name (Eyes n w h m v u free) = h.name ≡ name
 IsAbout name (Meets n w h right) = h.name ≡ name
 IsAbout name (Joins h left right pace) = h.name ≡ name

@@ -12,7 +12,7 @@ use Rattle.data_node.specs.Bits.{printed}
 use Rattle.data_node.specs.Spots.{bitmap_offset, print_offset, slot_offset}
 use Rattle.call_stages.specs.declared.once.Once.{Once}
 use Rattle.call_stages.specs.declared.once.Placed.{Placed}
-use Rattle.call_stages.specs.Stages.{Known, Held, Stage, Idle, Saw, Holds, just_held}
+use Rattle.call_stages.specs.Stages.{Known, Held, Sight, Stage, Idle, Saw, Holds, Reads, just_held}
 use Rattle.call_stages.specs.Prevs.{no_debt}
 use Rattle.call_stages.specs.Lines.{HeldLine}
 use Rattle.call_stages.specs.Footings.{Footing}
@@ -50,7 +50,11 @@ use Rattle.node_ops.specs.declared.part.ReadingAt.TheVariants as at
 use Rattle.node_ops.specs.declared.part.Part.{Part}
 use Rattle.node_ops.specs.declared.part.Part.TheVariants as part
 use Rattle.node_ops.specs.PartSteps.{entry_in}
-use Rattle.data_list.specs.WalkStages.{walk_stage, sight_in}
+use Rattle.data_list.specs.declared.target.Next.{Next}
+use Rattle.data_list.specs.declared.walk.Walk.{Walk}
+use Rattle.data_list.specs.Keys.{key_words}
+use Rattle.data_list.specs.WalkStages.{walk_watching, walk_stage, view_stage, live_sight, anchor_seen, sight_in}
+use Rattle.data_node.specs.Lists.{next_offset}
 use Rattle.node_ops.specs.Calls.{name_in}
 use Rattle.node_ops.specs.LookupSteps.{value_of}
 use Rattle.node_ops.specs.FillSteps.{slot_line, print_line}
@@ -151,30 +155,45 @@ fence_hand line fence = hand_of (line + fence.word) fence.at
 abbrev pub fencing : Held → ℕ → Fence → List (ℕ × ℕ) → Held
 fencing held line fence others = record held { dirty = fence_rest line fence ∷ others; hand = fence_hand line fence }
 
-abbrev pub lookup_at_stage : Call → LookupAt → Stage
-lookup_at_stage call (look.Floor floor) = Idle
-lookup_at_stage call (look.Walk walk) = walk_stage walk
-lookup_at_stage call (look.Lock seen locked) = Saw call.node seen.version locked (sight_in seen)
-lookup_at_stage call (look.Clock locked) = Holds call.node locked (just_held (name_in call))
-lookup_at_stage call (look.Spent hold) =
+-- what a call has of its node: a write holds it, and a read has it as long as the version word stands that it saw
+abbrev pub held_by : Option ℕ → ℕ → ℕ → Sight → Held → Stage
+held_by None n word kept held = Reads n word kept (Some held)
+held_by (Some limit) n word kept held = Holds n word held
+
+abbrev pub walk_by : Option ℕ → Walk → Stage
+walk_by None walk = view_stage (walk_watching walk)
+walk_by (Some limit) walk = walk_stage walk
+
+abbrev pub at_hold : Sight → Call → Hold → Held → Stage
+at_hold kept call hold held = held_by call.limit call.node hold.locked kept held
+
+-- of what a read saw it keeps this
+abbrev pub lookup_at_stage : Sight → Call → LookupAt → Stage
+lookup_at_stage kept call (look.Floor floor) = Idle
+lookup_at_stage kept call (look.Walk walk) = walk_by call.limit walk
+lookup_at_stage kept call (look.Read seen) = Reads call.node seen.version (sight_in seen) None
+lookup_at_stage kept call (look.Lock seen locked) = Saw call.node seen.version locked (sight_in seen)
+lookup_at_stage kept call (look.Clock locked) = Holds call.node locked (just_held (name_in call))
+lookup_at_stage kept call (look.Spent hold) =
     Holds call.node hold.locked (record (just_held (name_in call)) { time = Some hold.clock })
-lookup_at_stage call (look.Bitmap hold) = Holds call.node hold.locked (timed call hold nothing)
-lookup_at_stage call (look.Prints hold bitmap prints k) =
-    Holds call.node hold.locked (timed call hold (knows ((bitmap_offset, bitmap) ∷ words_from 8 (take k prints))))
-lookup_at_stage call (look.Name hold directory left slot k) =
-    Holds call.node hold.locked (timed call hold (record {
+lookup_at_stage kept call (look.Bitmap hold) = at_hold kept call hold (timed call hold nothing)
+lookup_at_stage kept call (look.Prints hold bitmap prints k) =
+    at_hold kept call hold (timed call hold (knows ((bitmap_offset, bitmap) ∷ words_from 8 (take k prints))))
+lookup_at_stage kept call (look.Name hold directory left slot k) =
+    at_hold kept call hold (timed call hold (record {
       seen = (bitmap_offset, directory.bitmap) ∷ (words_from 8 directory.prints ++ words_from (slot_offset slot 0)
           (take k call.name));
       left = Some left;
     }))
-lookup_at_stage call (look.Value hold directory slot) =
-    Holds call.node hold.locked (timed call hold (knows ((
+lookup_at_stage kept call (look.Value hold directory slot) =
+    at_hold kept call hold (timed call hold (knows ((
       bitmap_offset,
       directory.bitmap,
     ) ∷ (words_from 8 directory.prints ++ words_from (slot_offset slot 0) call.name))))
 
+-- a read of one name needs no more of what it saw
 abbrev pub lookup_stage : Lookup → Stage
-lookup_stage lookup = lookup_at_stage lookup.call lookup.at
+lookup_stage lookup = lookup_at_stage (live_sight []) lookup.call lookup.at
 
 -- the words that a put has stored in its slot
 abbrev pub pair_words : Fill → List ℕ
@@ -241,7 +260,7 @@ finish_stage finish = Holds finish.call.node finish.hold.locked (finish_at_held 
 
 abbrev pub get_stage : Get → Stage
 get_stage (get.Looking lookup) = lookup_stage lookup
-get_stage (get.Unlocking call hold old) = Holds call.node hold.locked (decided call hold old nothing)
+get_stage (get.Checking call hold old) = Reads call.node hold.locked (live_sight []) (Some (decided call hold old nothing))
 
 -- no live slot has the name, and no slot is clear
 abbrev pub found_full : Call → Hold → ℕ → Held
@@ -286,21 +305,31 @@ slots_loaded entries bitmap (suc slot) =
 abbrev pub loaded_at : List (List ℕ) → ℕ → ℕ → ReadingAt → List (ℕ × ℕ)
 loaded_at entries bitmap slots (at.Load slot word) =
     words_loaded (entry_in entries slot) slot word (slots_loaded entries bitmap slot)
-loaded_at entries bitmap slots at.Unlock = slots_loaded entries bitmap slots
+loaded_at entries bitmap slots at.Check = slots_loaded entries bitmap slots
 
 abbrev pub loaded : Reading → List (ℕ × ℕ)
 loaded reading = loaded_at reading.entries reading.bitmap reading.call.view.layout.slots reading.at
 
--- it holds the node, as a get that knows what its name has
+-- what it keeps of what its walk saw: where its node leads
+abbrev pub behind_sight : Option Next → Sight
+behind_sight None = live_sight ((next_offset, 0) ∷ [])
+behind_sight (Some next) = record {
+  live = true;
+  seen = (next_offset, next.node) ∷ [];
+  next = next.node;
+  beyond = anchor_seen (key_words next.anchor);
+}
+
+-- it has the node as a get that knows what its name has
 abbrev pub reading_held : Reading → Held
 reading_held reading =
     decided reading.call reading.hold reading.old (knows ((bitmap_offset, reading.bitmap) ∷ loaded reading))
 
 abbrev pub reading_stage : Reading → Stage
-reading_stage reading = Holds reading.call.node reading.hold.locked (reading_held reading)
+reading_stage reading = Reads reading.call.node reading.hold.locked (behind_sight reading.behind) (Some (reading_held reading))
 
 abbrev pub part_stage : Part → Stage
-part_stage (part.Looking lookup count behind) = lookup_stage lookup
+part_stage (part.Looking lookup count behind) = lookup_at_stage (behind_sight behind) lookup.call lookup.at
 part_stage (part.Reading reading) = reading_stage reading
 
 abbrev pub stage_of : Running → Stage

@@ -1,5 +1,6 @@
 -- A delete, step by step.
 use Rattle.std.specs.Prelude.{◌≡◌, ℕ, ◌+◌, ◌/◌, ◌^◌, ◌<◌, ◌≤◌, ◌==◌, nat_lt, if◌then◌else◌, Option, Some, None, IfSome}
+use Rattle.std.specs.Prelude.{IsSome}
 use Rattle.pm_words.specs.declared.action.Action.{Action}
 use Rattle.pm_words.specs.declared.action.Action.TheVariants.{Load, Store}
 use Rattle.pm_words.specs.declared.again.Again.TheVariants.{LogFull}
@@ -200,7 +201,7 @@ pub record IsMerging (of : Call) (hold : Hold) (merge : Merge) : Type 0 where
 
 -- what its fields keep
 abbrev pub IsDel : Del → Type 0
-IsDel (Single (Looking lookup)) = IsLookup lookup
+IsDel (Single (Looking lookup)) = IsLookup lookup × IsSome lookup.call.limit
 IsDel (Single (Next call hold bitmap hit)) = IsClearing call hold bitmap hit × LeavesFew call bitmap hit
 IsDel (Single (Taking call hold bitmap hit take)) =
     IsClearing call hold bitmap hit × LeavesFew call bitmap hit × IsTakeOf call.view take

@@ -13,7 +13,7 @@ use Rattle.call_stages.specs.declared.once.Once.{Once}
 use Rattle.call_stages.specs.declared.once.Once.TheVariants as once
 use Rattle.call_stages.specs.declared.once.Placed.{Placed}
 use Rattle.call_stages.specs.Kinds.{clock_address}
-use Rattle.call_stages.specs.Stages.{Stage, Holds, Eyes, Meets, Joins, counted, placed_in}
+use Rattle.call_stages.specs.Stages.{Stage, Reads, Holds, Eyes, Meets, Joins, counted, placed_in}
 use Rattle.node_ops.specs.declared.running.Running.{Running}
 use Rattle.node_ops.specs.RunningSteps.{IsRunning, running_call, running_asks, running_turned}
 use Rattle.node_ops.specs.Asked.{op_in}
@@ -27,6 +27,7 @@ place_for (Some change) place = Some place
 -- The limit that a call holding its node knows its clock to be below.
 abbrev pub limit_in : Stage → Option ℕ
 limit_in (Holds n w h) = h.limit
+limit_in (Reads n v k (Some h)) = h.limit
 limit_in (Eyes n w h m v u free) = h.limit
 limit_in (Meets n w h right) = h.limit
 limit_in (Joins h left right pace) = h.limit

@@ -1,6 +1,6 @@
 -- Looking a name up under its node's lock, step by step.
 use Rattle.std.specs.Prelude.{◌≡◌, ◌≢◌, ℕ, ◌+◌, ◌-◌, ◌*◌, ◌^◌, ◌<◌, ◌≤◌, ◌==◌, Bool, false, nat_lt, nat_le, if◌then◌else◌}
-use Rattle.std.specs.Prelude.{List, length, Option, Some, None, IfSome, IsTrue, slice_index, slice_set, replicate}
+use Rattle.std.specs.Prelude.{List, length, Option, Some, None, IfSome, IsSome, IsTrue, slice_index, slice_set, replicate}
 use Rattle.cat_key.specs.declared.TheConstants.{WORDS}
 use Rattle.pm_words.specs.declared.action.Action.{Action}
 use Rattle.pm_words.specs.declared.action.Action.TheVariants.{Load, Store, Exchange}
@@ -51,6 +51,7 @@ starts call = record { call = call; at = at.Floor (floor_starts call.view.layout
 abbrev pub lookup_at_asks : Call → LookupAt → Action
 lookup_at_asks call (at.Floor floor) = floor_asks floor
 lookup_at_asks call (at.Walk walk) = walk_asks walk
+lookup_at_asks call (at.Read seen) = Load (clock_address call.view.layout)
 lookup_at_asks call (at.Lock seen locked) = Exchange (call_address call 0) seen.version locked
 lookup_at_asks call (at.Clock locked) = Load (clock_address call.view.layout)
 lookup_at_asks call (at.Spent hold) = Store (call_address call 0) (hold.locked + 1)
@@ -80,13 +81,17 @@ floored call (Go floor) = goes_to call (at.Floor floor)
 floored call (Done node) =
     goes_to call (at.Walk (walk_from call.view.layout call.view.generation node (key_words call.name)))
 
--- it is at its target, which it locks next
-abbrev pub came_to : Call → Target → Turn Lookup Looked
-came_to call target =
+-- it is at its target: a read takes no lock, and loads the clock next; a write, which has a limit, locks it next
+abbrev pub came_by : Option ℕ → Call → Target → Turn Lookup Looked
+came_by None call target = goes_to (at_node call target.node target.hops) (at.Read (sighting_of target))
+came_by (Some limit) call target =
     if is_worn_word target.version call.view.generation
     then ends (once.Worn target.node target.version)
     else goes_to (at_node call target.node target.hops)
     (at.Lock (sighting_of target) (locked_word call.view.generation (kept_count target.version call.view.generation)))
+
+abbrev pub came_to : Call → Target → Turn Lookup Looked
+came_to call target = came_by call.limit call target
 
 -- after a turn of the walk
 abbrev pub walked_on : Call → Turn Walk Walked → Turn Lookup Looked
@@ -144,6 +149,7 @@ saw_name call hold directory left slot k word =
 abbrev pub lookup_at_turned : Call → LookupAt → ℕ → Turn Lookup Looked
 lookup_at_turned call (at.Floor floor) got = floored call (floor_turned floor got)
 lookup_at_turned call (at.Walk walk) got = walked_on call (walk_turned walk got)
+lookup_at_turned call (at.Read seen) got = goes_to call (at.Bitmap (record { locked = seen.version; clock = got }))
 lookup_at_turned call (at.Lock seen locked) got = tried_lock call seen.version locked got
 lookup_at_turned call (at.Clock locked) got = saw_clock call (record { locked = locked; clock = got })
 lookup_at_turned call (at.Spent hold) got = ends (once.Spent hold.clock)
@@ -180,6 +186,17 @@ pub record IsHit (slots bitmap : ℕ) (hit : Hit) : Type 0 where
   pub live : IsLive bitmap hit.slot
   pub fits : hit.value < 2 ^ 64
 
+-- the version word of a write's node is locked; a read has the one that it saw
+abbrev pub IsHeldBy : Option ℕ → ℕ → Type 0
+IsHeldBy None word = Unit {0}
+IsHeldBy (Some limit) word = IsLockWord word
+
+pub record IsFoundIn (limit : Option ℕ) (slots : ℕ) (found : Found) : Type 0 where
+  pub locked : IsHeldBy limit found.hold.locked
+  pub directory : IsDirectory found.directory
+  pub hit : IfSome found.hit (IsHit slots found.directory.bitmap)
+
+-- what a write found
 pub record IsFoundBy (slots : ℕ) (found : Found) : Type 0 where
   pub locked : IsLockWord found.hold.locked
   pub directory : IsDirectory found.directory
@@ -204,20 +221,27 @@ pub record IsAtTarget (call : Call) (seen : Sighting) (locked : ℕ) : Type 0 wh
   pub is : IsSighting call.view.generation (key_words call.name) seen
   pub leads : IfSome seen.next (λ next. next.node ≢ 0)
 
+-- it is at its target, of which it takes no lock
+pub record IsAtSeen (call : Call) (seen : Sighting) : Type 0 where
+  pub reads : call.limit ≡ None
+  pub is : IsSighting call.view.generation (key_words call.name) seen
+  pub leads : IfSome seen.next (λ next. next.node ≢ 0)
+
 abbrev pub IsLookupAt : Call → LookupAt → Type 0
 IsLookupAt call (at.Floor floor) = IsFlooring call floor
 IsLookupAt call (at.Walk walk) = IsWalking call walk
-IsLookupAt call (at.Lock seen locked) = IsAtTarget call seen locked
-IsLookupAt call (at.Clock locked) = IsLockWord locked
+IsLookupAt call (at.Read seen) = IsAtSeen call seen
+IsLookupAt call (at.Lock seen locked) = IsSome call.limit × IsAtTarget call seen locked
+IsLookupAt call (at.Clock locked) = IsSome call.limit × IsLockWord locked
 IsLookupAt call (at.Spent hold) = IsLockWord hold.locked × IsTrue (is_spent call.limit hold.clock)
-IsLookupAt call (at.Bitmap hold) = IsLockWord hold.locked
-IsLookupAt call (at.Prints hold bitmap prints k) = IsLockWord hold.locked ×
+IsLookupAt call (at.Bitmap hold) = IsHeldBy call.limit hold.locked
+IsLookupAt call (at.Prints hold bitmap prints k) = IsHeldBy call.limit hold.locked ×
     IsDirectory (record { bitmap = bitmap; prints = prints }) × (k < PRINT_WORDS)
 IsLookupAt call (at.Name hold directory left slot k) =
-    IsLockWord hold.locked × IsDirectory directory × IsComparing call.view.layout.slots directory.bitmap left slot ×
+    IsHeldBy call.limit hold.locked × IsDirectory directory × IsComparing call.view.layout.slots directory.bitmap left slot ×
     (k < WORDS)
 IsLookupAt call (at.Value hold directory slot) =
-    IsLockWord hold.locked × IsDirectory directory × (slot < call.view.layout.slots) × IsLive directory.bitmap slot
+    IsHeldBy call.limit hold.locked × IsDirectory directory × (slot < call.view.layout.slots) × IsLive directory.bitmap slot
 
 -- what the fields of a look-up keep
 pub record IsLookup (lookup : Lookup) : Type 0 where
@@ -233,6 +257,7 @@ lookup_takes lookup got = IsLookup lookup ×
 abbrev pub lookup_at_left : ℕ → LookupAt → ℕ
 lookup_at_left slots (at.Floor floor) = floor_left floor + 20 * floor.layout.nodes + (3 * slots + 13)
 lookup_at_left slots (at.Walk walk) = walk_left walk + (3 * slots + 13)
+lookup_at_left slots (at.Read seen) = 3 * slots + 11
 lookup_at_left slots (at.Lock seen locked) = 3 * slots + 12
 lookup_at_left slots (at.Clock locked) = 3 * slots + 11
 lookup_at_left slots (at.Spent hold) = 1

@@ -1,12 +1,12 @@
 -- A part of a range scan, step by step.
-use Rattle.std.specs.Prelude.{◌≡◌, ℕ, zero, suc, ◌+◌, ◌-◌, ◌*◌, ◌<◌, ◌==◌, ◌&&◌, not, Bool, nat_lt, if◌then◌else◌, fold}
-use Rattle.std.specs.Prelude.{List, [], ◌∷◌, length, replicate, slice_index, slice_index_or, slice_set, Option, Some, None}
+use Rattle.std.specs.Prelude.{◌≡◌, ◌≢◌, ℕ, zero, suc, ◌+◌, ◌-◌, ◌*◌, ◌<◌, ◌==◌, ◌&&◌, not, Bool, nat_lt, if◌then◌else◌, fold}
+use Rattle.std.specs.Prelude.{List, [], ◌∷◌, length, replicate, slice_index, slice_index_or, slice_set, Option, Some, None, IfSome}
 use Rattle.std.specs.Int.{bit_at}
 use Rattle.pm_words.specs.declared.action.Action.{Action}
-use Rattle.pm_words.specs.declared.action.Action.TheVariants.{Load, Store}
+use Rattle.pm_words.specs.declared.action.Action.TheVariants.{Load}
+use Rattle.pm_words.specs.declared.again.Again.TheVariants.{Moved}
 use Rattle.pm_words.specs.declared.machine.Turn.{Turn}
 use Rattle.pm_words.specs.declared.machine.Turn.TheVariants.{Go, Done}
-use Rattle.version_lock.specs.Versions.{IsLockWord}
 use Rattle.data_node.specs.Slots.{IsLive}
 use Rattle.data_node.specs.Spots.{slot_offset}
 use Rattle.data_node.specs.Lists.{number_of}
@@ -50,12 +50,12 @@ abbrev pub part_behind : Part → Option Next
 part_behind (part.Looking lookup count behind) = behind
 part_behind (part.Reading reading) = reading.behind
 
-abbrev pub reading_at_asks : Call → ℕ → ReadingAt → Action
-reading_at_asks call locked (at.Load slot word) = Load (call_address call (slot_offset slot word))
-reading_at_asks call locked at.Unlock = Store (call_address call 0) (locked + 1)
+abbrev pub reading_at_asks : Call → ReadingAt → Action
+reading_at_asks call (at.Load slot word) = Load (call_address call (slot_offset slot word))
+reading_at_asks call at.Check = Load (call_address call 0)
 
 abbrev pub reading_asks : Reading → Action
-reading_asks reading = reading_at_asks reading.call reading.hold.locked reading.at
+reading_asks reading = reading_at_asks reading.call reading.at
 
 abbrev pub part_asks : Part → Action
 part_asks (part.Looking lookup count behind) = lookup_asks lookup
@@ -63,7 +63,7 @@ part_asks (part.Reading reading) = reading_asks reading
 
 -- on to the lowest live one of so many slots, of which this is the first
 abbrev pub load_from : ℕ → ℕ → ℕ → ReadingAt
-load_from bitmap slot zero = at.Unlock
+load_from bitmap slot zero = at.Check
 load_from bitmap slot (suc more) =
     if bit_at bitmap slot == 1 then at.Load slot 0 else load_from bitmap (slot + 1) more
 
@@ -71,9 +71,9 @@ load_from bitmap slot (suc more) =
 abbrev pub next_at : ℕ → ℕ → ℕ → ReadingAt
 next_at bitmap slot slots = load_from bitmap slot (slots - slot)
 
--- the next node as the walk saw it, which a look-up tells as it is about to take the lock
+-- the next node as the walk saw it, which a look-up tells as it is about to load the clock
 abbrev pub behind_of : LookupAt → Option Next → Option Next
-behind_of (look.Lock seen locked) behind = seen.next
+behind_of (look.Read seen) behind = seen.next
 behind_of _ behind = behind
 
 -- no slot is loaded yet
@@ -181,7 +181,7 @@ abbrev pub part_words : Reading → PartWords
 part_words reading =
     record {
       node = reading.call.node;
-      version = reading.hold.locked + 1;
+      version = reading.hold.locked;
       place = reading.hold.clock;
       old = reading.old;
       high = high_of reading.behind;
@@ -191,10 +191,10 @@ part_words reading =
       hops = reading.call.hops;
     }
 
--- where it gives the node back next
+-- where it loads the version word again next
 abbrev pub listed_at : Reading → ReadingAt → Option PartWords
 listed_at reading (at.Load slot word) = None
-listed_at reading at.Unlock = Some (part_words reading)
+listed_at reading at.Check = Some (part_words reading)
 
 abbrev pub part_listed : Part → Option PartWords
 part_listed (part.Looking lookup count behind) = None
@@ -215,9 +215,15 @@ abbrev pub placed_turn : Turn Part (Once PartWords) → Turn Part (Once Placed)
 placed_turn (Go p) = Go p
 placed_turn (Done answer) = Done (placed_of answer)
 
+-- the version word is still the one that its walk saw, or another one
+abbrev pub part_checked : Reading → ℕ → Once PartWords
+part_checked reading got =
+    if got == reading.hold.locked then once.Done (part_words reading)
+    else once.Again (Moved reading.call.node reading.hold.locked got)
+
 abbrev pub reading_turned : Reading → ReadingAt → ℕ → Turn Part (Once PartWords)
 reading_turned reading (at.Load slot word) got = Go (part.Reading (after_word reading slot word got))
-reading_turned reading at.Unlock got = Done (once.Done (part_words reading))
+reading_turned reading at.Check got = Done (part_checked reading got)
 
 abbrev pub part_turned : Part → ℕ → Turn Part (Once PartWords)
 part_turned (part.Looking lookup count behind) got =
@@ -227,18 +233,20 @@ part_turned (part.Reading reading) got = reading_turned reading reading.at got
 -- the slot whose word it loads is live
 abbrev pub IsReadingAt : ℕ → ℕ → ReadingAt → Type 0
 IsReadingAt slots bitmap (at.Load slot word) = (slot < slots) × IsLive bitmap slot × (word < 4)
-IsReadingAt slots bitmap at.Unlock = Unit {0}
+IsReadingAt slots bitmap at.Check = Unit {0}
 
 -- what its fields keep
 pub record IsReading (reading : Reading) : Type 0 where
   pub call : IsCall reading.call
-  pub locked : IsLockWord reading.hold.locked
+  pub reads : reading.call.limit ≡ None
+  pub behind : IfSome reading.behind (λ next. next.node ≢ 0)
   pub many : length reading.entries ≡ 64
   pub wide : (slot : ℕ) → slot < 64 → length (entry_in reading.entries slot) ≡ 4
   pub here : IsReadingAt reading.call.view.layout.slots reading.bitmap reading.at
 
 abbrev pub IsPart : Part → Type 0
-IsPart (part.Looking lookup count behind) = IsLookup lookup
+IsPart (part.Looking lookup count behind) =
+    IsLookup lookup × (lookup.call.limit ≡ None) × IfSome behind (λ next. next.node ≢ 0)
 IsPart (part.Reading reading) = IsReading reading
 
 abbrev pub part_takes : Part → ℕ → Type 0
@@ -247,7 +255,7 @@ part_takes p got = IsPart p × Told (part_call p).view.layout (part_call p).view
 -- the words of each slot that is left, and the store that gives the node back
 abbrev pub reading_left : ℕ → ReadingAt → ℕ
 reading_left slots (at.Load slot word) = 4 * (slots - slot) + 1 - word
-reading_left slots at.Unlock = 1
+reading_left slots at.Check = 1
 
 abbrev pub part_left : Part → ℕ
 part_left (part.Looking lookup count behind) = lookup_left lookup + (4 * lookup.call.view.layout.slots + 2)

@@ -1,6 +1,6 @@
 -- What a part of a range scan tells.
 use Rattle.std.specs.Prelude.{◌≡◌, ◌≢◌, ℕ, ◌<◌, ◌≤◌, ◌^◌, ◌&&◌, not, Bool, true, false}
-use Rattle.std.specs.Prelude.{List, length, map, take, slice_index, Option, Some, None, IsSome, IfSome}
+use Rattle.std.specs.Prelude.{List, length, map, take, slice_index, Option, Some, None, IsSome, IsSomeAnd, IfSome}
 use Rattle.std.specs.FinMap.{entries}
 use Rattle.std.specs.List.{filter, AllByRecursion}
 use Rattle.cat_key.specs.Names.{IsName, AreNameWords, bytes_of}
@@ -8,12 +8,11 @@ use Rattle.cat_key.specs.declared.Pair.{Pair}
 use Rattle.cat_history.specs.Maps.{Map, at as number_at}
 use Rattle.cat_history.specs.Scans.{is_below, is_under, range}
 use Rattle.cat_history.specs.Writes.{after}
-use Rattle.pm_words.specs.declared.action.Action.TheVariants.{Store}
+use Rattle.pm_words.specs.declared.action.Action.TheVariants.{Load}
 use Rattle.pm_words.specs.declared.layout.Layout.{Layout}
 use Rattle.pm_words.specs.declared.machine.Turn.TheVariants.{Go, Done}
 use Rattle.data_node.specs.Lists.{next_offset, anchor_words}
 use Rattle.data_list.specs.declared.target.Next.{Next}
-use Rattle.data_list.specs.declared.target.Sighting.{Sighting}
 use Rattle.data_list.specs.Keys.{key_words, words_in}
 use Rattle.data_list.specs.Walks.{high_of}
 use Rattle.call_stages.specs.declared.once.Once.TheVariants as once
@@ -21,8 +20,6 @@ use Rattle.call_stages.specs.declared.once.Placed.{Placed}
 use Rattle.call_stages.specs.Kinds.{version_address}
 use Rattle.index_law.specs.Facts.{Facts, map_now, range_of, IsListed}
 use Rattle.index_law.specs.Lawful.{HasNames, IsList, Sure}
-use Rattle.node_ops.specs.declared.lookup.Lookup.{Lookup}
-use Rattle.node_ops.specs.declared.lookup.LookupAt.TheVariants as look
 use Rattle.node_ops.specs.declared.part.PartWords.{PartWords}
 use Rattle.node_ops.specs.declared.part.Part.{Part}
 use Rattle.node_ops.specs.declared.part.Part.TheVariants as part
@@ -69,20 +66,20 @@ pub record IsPartOf (m : Map) (in_range : List ℕ → Bool) (low : List ℕ) (c
 abbrev pub PartTells : Type 0
 PartTells = (l : Layout) (g : ℕ) (f : Facts) (caller index since : ℕ) (p : Part) (x : ℕ) (words : PartWords) →
     Sound l g (Parting p) → HasNames (map_now f) → Sure l g f caller index since (part_stage p) →
-    part_turned p x ≡ Done (once.Done words) →
+    x ≡ f.version (part_call p).node → part_turned p x ≡ Done (once.Done words) →
     IsPartOf (map_now f) (range_of l f words.node) (name_in (part_call p)) (part_count p) words ×
     IsPartOf (after f.base f.history words.place) (range_of l f words.node) (name_in (part_call p)) (part_count p) words
 
--- its answer is what its call has, the version word with which it gives the node back, and the anchor of the next node
--- as it has it
-pub record IsHeard (p : Part) (words : PartWords) : Type 0 where
+-- its answer is what its call has, the version word that it loaded twice, and the anchor of the next node as it has it
+pub record IsHeard (p : Part) (x : ℕ) (words : PartWords) : Type 0 where
   pub node : words.node ≡ (part_call p).node
   pub hops : words.hops ≡ (part_call p).hops
-  pub version : part_asks p ≡ Store (version_address (part_call p).view.layout words.node) words.version
+  pub asks : part_asks p ≡ Load (version_address (part_call p).view.layout words.node)
+  pub version : x ≡ words.version
   pub high : words.high ≡ high_of (part_behind p)
 
 abbrev pub PartsHear : Type 0
-PartsHear = (p : Part) (x : ℕ) (words : PartWords) → part_turned p x ≡ Done (once.Done words) → IsHeard p words
+PartsHear = (p : Part) (x : ℕ) (words : PartWords) → part_turned p x ≡ Done (once.Done words) → IsHeard p x words
 
 -- The node leads to this one, whose anchor has these words, or to none.
 abbrev pub IsBehind : Facts → ℕ → Option Next → Type 0
@@ -90,18 +87,14 @@ IsBehind f n None = f.now n next_offset ≡ 0
 IsBehind f n (Some next) = (f.now n next_offset ≡ next.node) × (next.node ≢ 0) ×
     (anchor_words (f.now next.node) ≡ words_in (key_words next.anchor))
 
--- As it takes the lock, whose exchange gives the version word that the walk saw, it has the next node,
+-- Where its second load gives the version word that its walk saw, its node is listed, its range has the low name, and it
+-- leads to the next node as the part has it,
 abbrev pub PartsSeeBehind : Type 0
-PartsSeeBehind = (l : Layout) (g : ℕ) (f : Facts) (caller index since : ℕ) (lookup : Lookup) (count : ℕ)
-    (behind : Option Next) (seen : Sighting) (locked : ℕ) (next : Part) →
-    Sound l g (Parting (part.Looking lookup count behind)) → Sure l g f caller index since (lookup_stage lookup) →
-    lookup.at ≡ look.Lock seen locked → f.version lookup.call.node ≡ seen.version →
-    part_turned (part.Looking lookup count behind) seen.version ≡ Go next →
-    IsListed f lookup.call.node × IsBehind f lookup.call.node (part_behind next)
-
--- which the other turns leave to it.
-abbrev pub PartsKeepBehind : Type 0
-PartsKeepBehind = (p next : Part) (x : ℕ) → part_turned p x ≡ Go next → part_behind next ≡ behind_seen p
+PartsSeeBehind = (l : Layout) (g : ℕ) (f : Facts) (caller index since : ℕ) (p : Part) (x : ℕ) (words : PartWords) →
+    Sound l g (Parting p) → Sure l g f caller index since (part_stage p) → x ≡ f.version (part_call p).node →
+    part_turned p x ≡ Done (once.Done words) →
+    IsListed f words.node × (range_of l f words.node (name_in (part_call p)) ≡ true) ×
+    IsBehind f words.node (part_behind p)
 
 -- The words of all nodes have 64 bits.
 abbrev pub HaveWords : Facts → Type 0
@@ -123,20 +116,21 @@ abbrev pub EndsAreRanges : Type 0
 EndsAreRanges = (in_range : List ℕ → Bool) (low : List ℕ) (high : Option (List ℕ)) (m : Map) → IsName low →
     EndsAt in_range low high → HasNames m → pairs_in m (from_name in_range low) ≡ range m low high
 
--- A part that gives its node back next is answered with what it lists,
+-- A part that loads the version word again next is answered with what it lists, if that is still the one that it saw,
 abbrev pub ListedIsTold : Type 0
-ListedIsTold = (p : Part) (words : PartWords) → part_listed p ≡ Some words → (x : ℕ) →
+ListedIsTold = (p : Part) (words : PartWords) → part_listed p ≡ Some words → (x : ℕ) → x ≡ words.version →
     part_turned p x ≡ Done (once.Done words)
 
 -- to the law as a get of its low name.
 abbrev pub ListedIsAnswered : Type 0
 ListedIsAnswered = (running : Running) (words : PartWords) → listed_in running ≡ Some words → (x : ℕ) →
-    running_turned running x ≡ Done (once.Done (words_placed words))
+    x ≡ words.version → running_turned running x ≡ Done (once.Done (words_placed words))
 
 -- No part is done otherwise.
 abbrev pub DoneIsListed : Type 0
 DoneIsListed = (running : Running) (x : ℕ) (placed : Placed) → IsSome (count_in running) →
-    running_turned running x ≡ Done (once.Done placed) → IsSome (listed_in running)
+    running_turned running x ≡ Done (once.Done placed) →
+    IsSomeAnd (listed_in running) (λ words. (x ≡ words.version) × (placed ≡ words_placed words))
 
 -- As it goes on, a part lists as many names at most, and what is no part stays none.
 abbrev pub CountStays : Type 0

@@ -1,5 +1,6 @@
 -- A put, step by step.
 use Rattle.std.specs.Prelude.{◌≡◌, ℕ, ◌+◌, ◌/◌, ◌^◌, ◌<◌, Option, Some, None, slice_index}
+use Rattle.std.specs.Prelude.{IsSome}
 use Rattle.pm_words.specs.declared.action.Action.{Action}
 use Rattle.pm_words.specs.declared.action.Action.TheVariants.{Store}
 use Rattle.pm_words.specs.declared.again.Again.{Again}
@@ -158,7 +159,7 @@ pub record IsSplitting (of : Call) (hold : Hold) (bitmap : ℕ) (split : Split) 
 
 -- what its fields keep
 abbrev pub IsPut : Put → Type 0
-IsPut (Single (Looking lookup value)) = IsLookup lookup × (value < 2 ^ 64)
+IsPut (Single (Looking lookup value)) = IsLookup lookup × (value < 2 ^ 64) × IsSome lookup.call.limit
 IsPut (Single (Filling fill)) = IsFill fill
 IsPut (Single (Replacing call hold bitmap hit value)) = IsReplacing call hold bitmap hit value
 IsPut (Single (Finishing finish)) = IsFinish finish

@@ -1,5 +1,5 @@
-//! A get: `Looking`, then `Unlocking`, which gives the node back and is done at the clock that was loaded under the
-//! lock.
+//! A get: `Looking`, then `Checking`, which loads the version word again. If that is still the one that the walk saw, the
+//! get is done, at the clock that was loaded between the two. It takes no lock and changes no word.
 
 ghost use Rattle.std.specs.Prelude.{◌≡◌, ℕ};
 
@@ -8,17 +8,16 @@ use crate::lookup::{Hit, Hold, Looked, Lookup};
 use call_stages::{Once, Placed, View};
 use cat_key::Name;
 use pm_words::offsets::node;
-use pm_words::{Action, Machine, Turn};
-use version_lock::freed_of;
+use pm_words::{Action, Again, Machine, Turn};
 
-/// A get: what a name has, at the clock that was loaded under the lock of its node.
+/// A get: what a name has, at the clock that was loaded between two loads of its node's version word.
 #[derive(Clone, Copy)]
 pub enum Get {
     Looking {
         lookup: Lookup,
     },
-    /// It gives the node back.
-    Unlocking {
+    /// It loads the version word again.
+    Checking {
         call: Call,
         hold: Hold,
         old: Option<u64>,
@@ -54,7 +53,7 @@ impl Get {
     {
         match *self {
             Get::Looking { lookup } => lookup.call,
-            Get::Unlocking { call, .. } => call,
+            Get::Checking { call, .. } => call,
         }
     }
 }
@@ -77,9 +76,7 @@ impl Machine for Get {
     fn action(&self) -> Action {
         match *self {
             Get::Looking { lookup } => lookup.action(),
-            Get::Unlocking { call, hold, .. } => {
-                Action::Store(call.address(node::VERSION), freed_of(hold.locked))
-            }
+            Get::Checking { call, .. } => Action::Load(call.address(node::VERSION)),
         }
     }
 
@@ -108,7 +105,7 @@ impl Get {
             Get::Looking { lookup } => match lookup.advance(got)? {
                 Looked::Early(answer) => Some(answer),
                 Looked::Found(found) => {
-                    *self = Get::Unlocking {
+                    *self = Get::Checking {
                         call: lookup.call,
                         hold: found.hold,
                         old: Hit::value_of(found.hit),
@@ -116,11 +113,19 @@ impl Get {
                     None
                 }
             },
-            Get::Unlocking { call, hold, old } => Some(Once::Done(Placed {
-                old: *old,
-                place: hold.clock,
-                hops: call.hops,
-            })),
+            Get::Checking { call, hold, old } => Some(if got == hold.locked {
+                Once::Done(Placed {
+                    old: *old,
+                    place: hold.clock,
+                    hops: call.hops,
+                })
+            } else {
+                Once::Again(Again::Moved {
+                    node: call.node,
+                    first: hold.locked,
+                    second: got,
+                })
+            }),
         }
     }
 }

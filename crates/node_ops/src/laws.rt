@@ -85,7 +85,7 @@ pub fn deletes_heed()
     ensures { DelsHeed }
 {}
 
-ghost use Rattle.node_ops.specs.Parts.{PartTells, PartsHear, PartsSeeBehind, PartsKeepBehind, PartsEndThere};
+ghost use Rattle.node_ops.specs.Parts.{PartTells, PartsHear, PartsSeeBehind, PartsEndThere};
 ghost use Rattle.node_ops.specs.Parts.{EndsAreRanges, ListedIsTold, ListedIsAnswered, DoneIsListed, CountStays};
 
 /// A part that is answered lists the first names of its node's range from the low one on, with their numbers, as the
@@ -95,16 +95,16 @@ pub fn parts_tell()
     ensures hears { PartsHear }
 {}
 
-/// A part has the next node as its walk saw it, from the turn on that takes the lock. As long as that is the next node,
+/// A part that is answered has the next node as its walk saw it. As long as that is the next node,
 /// its node's range ends at the anchor that the part tells, so its names from the low one on are those below that anchor.
 pub fn parts_end_at_next()
     ensures sees { PartsSeeBehind }
-    ensures keeps { PartsKeepBehind }
     ensures there { PartsEndThere }
     ensures ranges { EndsAreRanges }
 {}
 
-/// A part that gives its node back next is answered with what it lists, and no part is done otherwise.
+/// A part that loads the version word again next is answered with what it lists, if that is still the one that it saw,
+/// and no part is done otherwise.
 pub fn listing_law()
     ensures told { ListedIsTold }
     ensures answered { ListedIsAnswered }

@@ -4,7 +4,9 @@
 //! is the same: only the walk says which node is its name's.
 //! - `Walk`: it walks from there to the node of its name; locked nodes and too many hops end it, and so does a target
 //! that is worn.
-//! - `Lock`: it exchanges the version word that the walk saw for a locked one; another word there ends it.
+//! - `Read`: a read takes no lock, and loads the clock. What it loads from there on may be torn by others, so whoever
+//! reads loads the version word again at last.
+//! - `Lock`: a write exchanges the version word that the walk saw for a locked one; another word there ends it.
 //! - `Clock`: it loads the clock. Where that has reached the limit, it gives the node back in `Spent` and ends.
 //! - `Bitmap`, `Prints`: it loads the bitmap and the eight words of fingerprints.
 //! - `Name`: it compares the words of the name with those of each live slot that has its fingerprint, one load each.
@@ -24,7 +26,8 @@ use pm_words::{Action, Again, Machine, Turn};
 use search_layer::Floor;
 use version_lock::{freed_of, locked_of};
 
-/// The lock that a call has on its node: the locked version word, and the clock that was loaded then.
+/// What a call has of its node: the version word, which a write has locked and a read has seen free, and the clock that
+/// was loaded then.
 #[derive(Clone, Copy)]
 pub struct Hold {
     pub locked: u64,
@@ -91,6 +94,10 @@ pub enum LookupAt {
     Walk {
         walk: Walk,
     },
+    /// It takes no lock, and loads the clock.
+    Read {
+        seen: Sighting,
+    },
     /// It takes the lock, by an exchange of the version word that the walk saw.
     Lock {
         seen: Sighting,
@@ -150,7 +157,7 @@ impl Machine for Lookup {
             LookupAt::Lock { seen, locked } => {
                 Action::Exchange(call.address(node::VERSION), seen.version, locked)
             }
-            LookupAt::Clock { .. } => Action::Load(CLOCK),
+            LookupAt::Read { .. } | LookupAt::Clock { .. } => Action::Load(CLOCK),
             LookupAt::Spent { hold } => {
                 Action::Store(call.address(node::VERSION), freed_of(hold.locked))
             }
@@ -214,6 +221,14 @@ impl Lookup {
             LookupAt::Walk { walk } => {
                 let turn = walk.resume(got);
                 self.walked(turn)
+            }
+            LookupAt::Read { seen } => {
+                let hold = Hold {
+                    locked: seen.version,
+                    clock: got,
+                };
+                self.at = LookupAt::Bitmap { hold };
+                None
             }
             LookupAt::Lock { seen, locked } => {
                 let (version, locked) = (seen.version, *locked);
@@ -285,7 +300,7 @@ impl Lookup {
         }
     }
 
-    /// It is at the node of its name, which it locks next.
+    /// It is at the node of its name, which a write locks next.
     fn came_to(&mut self, target: Target) -> Option<Looked>
         requires known { generation_of target.version ≤ self.old.call.view.generation }
         requires free { IsFree target.version self.old.call.view.generation }
@@ -295,6 +310,12 @@ impl Lookup {
     {
         let Target { node, hops, .. } = target;
         let seen = target.sighting();
+        if self.call.limit.is_none() {
+            self.call.node = node;
+            self.call.hops = hops;
+            self.at = LookupAt::Read { seen };
+            return None;
+        }
         let Some(locked) = locked_of(seen.version, self.call.view.generation) else {
             return Some(Looked::Early(Once::Worn {
                 node,

@@ -1,8 +1,8 @@
 //! A part of a range scan: the names of one node, from a low name on, as they were at one clock.
 //!
-//! - `Looking`: it looks the low name up, so it walks to that name's node, locks it, and loads the clock.
-//! - `Reading`: it loads the words of each live slot, in rising order of slots, and gives the node back. Then it sorts
-//! the names and lists the first of them.
+//! - `Looking`: it looks the low name up, so it walks to that name's node, and loads the clock.
+//! - `Reading`: it loads the words of each live slot, in rising order of slots, and the version word again. If that is
+//! still the one that the walk saw, it sorts the names and lists the first of them.
 //!
 //! To the law of the index it is a get of its low name.
 
@@ -16,8 +16,7 @@ use cat_key::{Name, WORDS};
 use data_list::Next;
 use data_node::{Order, is_below, is_live, sort_order};
 use pm_words::offsets::node;
-use pm_words::{Action, Machine, Turn};
-use version_lock::freed_of;
+use pm_words::{Action, Again, Machine, Turn};
 
 /// How many words stand in a slot: those of a name, and its number.
 const SLOT_WORDS: u64 = WORDS as u64 + 1;
@@ -26,7 +25,7 @@ const SLOT_WORDS: u64 = WORDS as u64 + 1;
 #[derive(Clone, Copy)]
 pub struct PartWords {
     pub node: u64,
-    /// The node's version word once the part has given it back.
+    /// The node's version word, which it loaded twice.
     pub version: u64,
     /// How many placed writes come before the part.
     pub place: u64,
@@ -52,7 +51,7 @@ pub struct Listing {
     pub entries: [[u64; 4]; 64],
 }
 
-/// A part that has the lock of its node: it loads the words of the live slots, and gives the node back.
+/// A part at its node: it loads the words of the live slots, and the version word again.
 #[derive(Clone, Copy)]
 pub struct Reading {
     pub call: Call,
@@ -74,8 +73,8 @@ pub struct Reading {
 pub enum ReadingAt {
     /// It loads a word of a live slot. Those of the live slots below are loaded.
     Load { slot: u64, word: u64 },
-    /// It gives the node back.
-    Unlock,
+    /// It loads the version word again.
+    Check,
 }
 
 /// A part of a range scan.
@@ -84,7 +83,7 @@ pub enum Part {
     Looking {
         lookup: Lookup,
         count: u64,
-        /// The next node, as the walk saw it, once the lock is taken.
+        /// The next node, as the walk saw it, once the clock is loaded.
         behind: Option<Next>,
     },
     Reading {
@@ -96,7 +95,7 @@ impl Part {
     ghost use Rattle.std.specs.Prelude.{◌≡◌, None};
     ghost use Rattle.call_stages.specs.Views.{IsView};
     ghost use Rattle.node_ops.specs.Calls.{IsCall, new_call};
-    ghost use Rattle.node_ops.specs.LookupSteps.{IsFoundBy, starts};
+    ghost use Rattle.node_ops.specs.LookupSteps.{IsFoundIn, starts};
     ghost use Rattle.node_ops.specs.PartSteps.{IsPart, IsEarly, behind_of, early_of, part_found, placed_of};
 
     /// The part that lists the first `count` names from this one on, of those that its node has.
@@ -112,12 +111,12 @@ impl Part {
         }
     }
 
-    /// The next node: as it is about to lock its target, that which the walk saw.
+    /// The next node: as it is about to load the clock, that which the walk saw.
     fn behind(at: LookupAt, behind: Option<Next>) -> Option<Next>
         ensures { result ≡ behind_of at behind }
     {
         match at {
-            LookupAt::Lock { seen, .. } => seen.next,
+            LookupAt::Read { seen } => seen.next,
             _ => behind,
         }
     }
@@ -154,7 +153,7 @@ impl Part {
     /// What it does once it has looked its low name up.
     fn found(call: Call, found: Found, behind: Option<Next>, count: u64) -> Part
         requires call { IsCall call }
-        requires found { IsFoundBy call.view.layout.slots found }
+        requires found { IsFoundIn call.limit call.view.layout.slots found }
         ensures { result ≡ part_found call found behind count }
     {
         let bitmap = found.directory.bitmap;
@@ -197,7 +196,7 @@ impl Part {
         }
     }
 
-    /// What it tells, where it gives the node back next.
+    /// What it tells, where it loads the version word again next.
     pub(crate) fn listed(&self) -> Option<PartWords>
         requires { IsPart self.now }
         ensures { result ≡ part_listed self.now }
@@ -208,7 +207,7 @@ impl Part {
         }
     }
 
-    /// It gives the node back next.
+    /// It loads the version word again next.
     pub(crate) fn has_listed(&self) -> bool
         ensures { IsTrue result ↔ IsSome (part_listed self.now) }
     {
@@ -286,7 +285,7 @@ impl Part {
                     reading.loaded(slot, word, got);
                     None
                 }
-                ReadingAt::Unlock => Some(Once::Done(reading.words())),
+                ReadingAt::Check => Some(reading.checked(got)),
             },
         }
     }
@@ -296,7 +295,7 @@ impl Reading {
     ghost use Rattle.std.specs.Prelude.{◌≡◌, ◌<◌, ◌≤◌, ◌↔◌, IsSome, IsTrue};
     ghost use Rattle.data_list.specs.Walks.{high_of};
     ghost use Rattle.data_node.specs.Orders.{listed};
-    ghost use Rattle.node_ops.specs.PartSteps.{IsReading, after_word, lists, listed_at, listing_in, part_words};
+    ghost use Rattle.node_ops.specs.PartSteps.{IsReading, after_word, lists, listed_at, listing_in, part_checked, part_words};
     ghost use Rattle.node_ops.specs.PartSteps.{reading_asks};
 
     fn action(&self) -> Action
@@ -307,10 +306,7 @@ impl Reading {
             ReadingAt::Load { slot, word } => {
                 Action::Load(self.call.address(slot_word(slot, word)))
             }
-            ReadingAt::Unlock => Action::Store(
-                self.call.address(node::VERSION),
-                freed_of(self.hold.locked),
-            ),
+            ReadingAt::Check => Action::Load(self.call.address(node::VERSION)),
         }
     }
 
@@ -332,24 +328,40 @@ impl Reading {
         };
     }
 
-    /// What it tells, where it gives the node back next.
+    /// What it comes to: what it tells, where the version word is still the one that the walk saw.
+    fn checked(&self, got: u64) -> Once<PartWords>
+        requires { IsReading self.now }
+        ensures { result ≡ part_checked self.now got }
+    {
+        if got == self.hold.locked {
+            Once::Done(self.words())
+        } else {
+            Once::Again(Again::Moved {
+                node: self.call.node,
+                first: self.hold.locked,
+                second: got,
+            })
+        }
+    }
+
+    /// What it tells, where it loads the version word again next.
     fn listed(&self) -> Option<PartWords>
         requires { IsReading self.now }
         ensures { result ≡ listed_at self.now self.now.at }
     {
         match self.at {
             ReadingAt::Load { .. } => None,
-            ReadingAt::Unlock => Some(self.words()),
+            ReadingAt::Check => Some(self.words()),
         }
     }
 
-    /// It gives the node back next.
+    /// It loads the version word again next.
     fn has_listed(&self) -> bool
         ensures { IsTrue result ↔ IsSome (listed_at self.now self.now.at) }
     {
         match self.at {
             ReadingAt::Load { .. } => false,
-            ReadingAt::Unlock => true,
+            ReadingAt::Check => true,
         }
     }
 
@@ -363,7 +375,7 @@ impl Reading {
         let Listing { len, entries } = self.listing(&order);
         PartWords {
             node: self.call.node,
-            version: freed_of(self.hold.locked),
+            version: self.hold.locked,
             place: self.hold.clock,
             old: self.old,
             high,
@@ -427,5 +439,5 @@ fn next_at(bitmap: u64, from: u64, slots: u64) -> ReadingAt
             return ReadingAt::Load { slot, word: 0 };
         }
     }
-    ReadingAt::Unlock
+    ReadingAt::Check
 }

@@ -1,7 +1,7 @@
 -- How a call goes on by one step, and what it is answered at its end.
 use Rattle.std.proofs.Common.{◌≡◌, ℕ, ◌+◌, ◌<◌, ◌≤◌, List, [], ◌∷◌, ◌++◌, length, refl, sym, ap, ◌∙◌, subst, arith}
 use Rattle.std.proofs.lemmas.List.{append_assoc, append-nil, length-append}
-use Rattle.std.specs.Prelude.{Option, Some, None, IfSome, IsSome}
+use Rattle.std.specs.Prelude.{Option, Some, None, IfSome, IsSome, IsSomeAnd}
 use Rattle.split_merge.specs.Advances.{turn_of}
 use Rattle.cat_history.specs.Maps.{Map, map_of}
 use Rattle.cat_history.specs.Writes.{after}
@@ -26,7 +26,7 @@ use Rattle.node_ops.specs.PartSteps.{IsEarly, early_of, part_turned, words_place
 use Rattle.node_ops.specs.RunningSteps.{running_call, running_left, running_turned, IsRunning, Sound, count_in, listed_in}
 use Rattle.node_ops.specs.CallStages.{stage_of, reply_of}
 use Rattle.node_ops.proofs.OpLaw.{counts_own_change, op_told}
-use Rattle.node_ops.proofs.PartListing.{listed_is_answered}
+use Rattle.node_ops.proofs.PartListing.{listed_is_answered, done_is_listed}
 use Rattle.index_law.specs.Worlds.{written}
 use Rattle.index_core.specs.declared.party.CoreCall.{CoreCall}
 use Rattle.index_core.specs.declared.party.CoreCall.TheVariants as call
@@ -199,22 +199,36 @@ part_stops low count n old v turn answer runs is early = record {
   lists = early_lists (λ words. ListsRange (after (map_of old.about.base) v.seen words.place) low count words) answer early;
 }
 
--- a part that gives its node back
-pub part_ends : (low : List ℕ) (count n : ℕ) (old v w : Member) (turn : Turn Running (Once Placed)) (m : Running) (x : ℕ) (words : PartWords) → Runs (call.Part low count) n old turn v → turn ≡ Go m → Goes m v x w → listed_in m ≡ Some words
-    → PartAnswers low count n old (once.Done words) w
-part_ends low count n old v w turn m x words runs is goes listed =
+-- a part that is done with what it lists: it was told its version word
+pub part_ends : (low : List ℕ) (count n : ℕ) (old v w : Member) (turn : Turn Running (Once Placed)) (m : Running) (x : ℕ) (words : PartWords) (placed : Placed) → Runs (call.Part low count) n old turn v → turn ≡ Go m → Goes m v x w → listed_in m ≡ Some words
+    → running_turned m x ≡ Done (once.Done placed) → PartAnswers low count n old (once.Done words) w
+part_ends low count n old v w turn m x words placed runs is goes listed done =
     let c = call.Part low count in
     let p = part_in old low count in
     let counts : count_in m ≡ Some count = run_counts count (Go (Parting p)) v.told m refl (runs.ran ∙ is) in
     let asked : op_in m ≡ op_of c = op_told (op_of c) m (subst (IsOfAfter (op_of c)) is runs.op) in
-    let now : IfSome (Some words) (λ words. IfSome (Some count) (λ count. ListsRange (after (map_of old.about.base) w.seen words.place) low count words)) =
-    subst (λ (q : About × NameOp × Option ℕ × Option PartWords). IfSome q.3 (λ words. IfSome q.2 (λ count. ListsRange (after (map_of q.0.base) w.seen words.place) (name_asked q.1) count words)))
+    let told : (x ≡ words.version) × (placed ≡ words_placed words) = subst (λ (o : Option PartWords). IsSomeAnd o (λ q. (x ≡ q.version) × (placed ≡ words_placed q))) listed (done_is_listed m x placed (subst IsSome (sym counts) refl) done) in
+    let now : IfSome (Some words) (λ words. IfSome (Some count) (λ count. x ≡ words.version → ListsRange (after (map_of old.about.base) w.seen words.place) low count words)) =
+    subst (λ (q : About × NameOp × Option ℕ × Option PartWords). IfSome q.3 (λ words. IfSome q.2 (λ count. x ≡ words.version → ListsRange (after (map_of q.0.base) w.seen words.place) (name_asked q.1) count words)))
     (λ k. (runs.about k, asked k, counts k, listed k)) goes.lists in
     record {
-      looks = ends_so c n old w (running_turned m x) (once.Done (words_placed words)) (runs_on c n old v w turn m x runs is goes) (listed_is_answered m words listed x);
-      ran = ap (run_of part_turned (Go p)) goes.told ∙ listed_ran p v.told m x words (runs.ran ∙ is) listed;
-      lists = now;
+      looks = ends_so c n old w (running_turned m x) (once.Done (words_placed words)) (runs_on c n old v w turn m x runs is goes) (listed_is_answered m words listed x told.0);
+      ran = ap (run_of part_turned (Go p)) goes.told ∙ listed_ran p v.told m x words (runs.ran ∙ is) listed told.0;
+      lists = now told.0;
     }
+
+-- one that was told another is turned back
+pub part_moved : (low : List ℕ) (count n : ℕ) (old v w : Member) (turn : Turn Running (Once Placed)) (m : Running) (x : ℕ) (answer : Once Placed) → Runs (call.Part low count) n old turn v → turn ≡ Go m → Goes m v x w
+    → running_turned m x ≡ Done answer → IsEarly answer → PartAnswers low count n old (early_of answer) w
+part_moved low count n old v w turn m x answer runs is goes done early =
+    part_stops low count n old w (running_turned m x) answer (runs_on (call.Part low count) n old v w turn m x runs is goes) done early
+
+-- what isn't Done is early
+pub not_done : (a : Once Placed) → ((x : Placed) → a ≡ once.Done x → ⊥) → IsEarly a
+not_done (once.Done placed) never = absurd (never placed refl)
+not_done (once.Spent clock) never = tt
+not_done (once.Worn node word) never = tt
+not_done (once.Again why) never = tt
 
 -- what a part is answered before it has listed its names has no place
 pub stops_early : (m next : Running) (x : ℕ) (answer : Option (Once Placed)) → IsSome (count_in m) → listed_in m ≡ None → running_turned m x ≡ turn_of next answer → IfSome answer IsEarly

@@ -20,7 +20,6 @@ use Rattle.index_law.proofs.Rows.{facts-elsewhere}
 use Rattle.index_law.proofs.Twins.{nearer, store_closer}
 use Rattle.index_core.specs.Indexes.{Index, IsIndex, footed, world}
 use Rattle.index_law.proofs.Footed.{stamp_footed}
-use Rattle.index_core.proofs.PartFacts.{running_listed}
 use Rattle.index_core.proofs.Layering.{stamp_layered}
 use Rattle.index_core.specs.Lone.{IsQuiet}
 use Rattle.index_core.specs.Weights.{weight_of}
@@ -62,7 +61,6 @@ keeps_index l words n here large s quiet is =
       ordered = is.ordered;
       bounded = is.bounded;
       named = is.named;
-      ends = λ i state at. IfSome_then state.machine (is.ends i state at) (λ (m : Running) held. running_listed l (facts (world (with_words s l words))) (facts (world (with_words s l (stamped l words n)))) m (ap (λ (f : Facts). f.list) same) held);
     }
 
 keeps_weight : (l : Layout) (words : List ℕ) (n : ℕ) → n < l.nodes → (s : Index) → weight_of (with_words s l (stamped l words n)) ≡ weight_of (with_words s l words)

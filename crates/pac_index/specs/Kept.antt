@@ -175,9 +175,10 @@ abbrev pub added_now : NameOp → Turn Running (Once Placed) → ℕ
 added_now op (Go m) = 0
 added_now op (Done answer) = added_by op answer
 
--- What the machine lists that gives its node back now, if it is a part of a range scan, is the map's at its place.
-abbrev pub ListsNow : Map → List Write → Running → Type 0
-ListsNow base history m = IfSome (listed_in m) (λ words. IfSome (count_in m) (λ count.
+-- What the machine lists that is told this number now, if that is its version word and it is a part of a range scan, is
+-- the map's at its place.
+abbrev pub ListsNow : Map → List Write → Running → ℕ → Type 0
+ListsNow base history m x = IfSome (listed_in m) (λ words. IfSome (count_in m) (λ count. x ≡ words.version →
     ListsRange (after base history words.place) (name_asked (op_in m)) count words))
 
 -- What a party's step with its machine, which is told this number, leaves and shows.
@@ -195,7 +196,7 @@ pub record Goes (m : Running) (v : Member) (x : ℕ) (w : Member) : Type 0 where
       (written v.state.caller v.state.index (counted (stage_of m)))
   pub says : SaysOf v.about.layout.slots (map_of v.about.base) w.seen v.state (op_in m) (running_call m).limit
       (reply_of (running_turned m x))
-  pub lists : ListsNow (map_of v.about.base) w.seen m
+  pub lists : ListsNow (map_of v.about.base) w.seen m x
   -- it goes on with the same call
   pub op_on : IsOfAfter (op_in m) (running_turned m x)
   pub call_on : MakesCall (running_call m) (running_turned m x)

@@ -131,8 +131,13 @@ impl Shared {
             }
             if machine.has_listed() {
                 let words = listing(&machine);
-                self.go_on(seat, &mut machine, pace);
-                return Once::Done(words);
+                let Some(last) = self.go_on(seat, &mut machine, pace) else {
+                    unreachable!()
+                };
+                return match last {
+                    Once::Done(_) => Once::Done(words),
+                    _ => Part::early(last),
+                };
             }
             answer = self.go_on(seat, &mut machine, pace);
         }
@@ -200,7 +205,7 @@ impl Shared {
     }
 }
 
-/// What a part lists that gives its node back next.
+/// What a part lists that loads its version word again next.
 fn listing(machine: &Running) -> PartWords
     requires sound { IsRunning machine.now }
     requires listed { IsSome (listed_in machine.now) }

@@ -16,7 +16,7 @@ use Rattle.data_node.specs.Lists.{next_offset}
 use Rattle.call_stages.specs.declared.once.Once.{Once}
 use Rattle.call_stages.specs.declared.once.Once.TheVariants as once
 use Rattle.call_stages.specs.declared.once.Placed.{Placed}
-use Rattle.call_stages.specs.Stages.{Tells, Held, Grip, Filling, Linked, Parted, Stage, Idle, Saw, Wears, Holds, Eyes, Splits, Leaves, Meets, Joins, full_grip, fresh_grip, counted}
+use Rattle.call_stages.specs.Stages.{Tells, Held, Grip, Filling, Linked, Parted, Stage, Idle, Saw, Wears, Reads, Holds, Eyes, Splits, Leaves, Meets, Joins, full_grip, fresh_grip, counted}
 use Rattle.call_stages.specs.Kinds.{IsRefusal, HasWordAt, Told, LeadsWithin, Look, learns, Answers, refuses, has_no_room, Step, looks, unlocks, splits, glances_left}
 use Rattle.call_stages.specs.Lines.{HeldLine, Notes}
 use Rattle.call_stages.specs.Prevs.{no_debt, Deals, keeps}
@@ -70,6 +70,7 @@ unfolding near
 minds_far Idle t line far = tt
 minds_far (Saw n v w k) t line far = tt
 minds_far (Wears n v) t line far = tt
+minds_far (Reads n v sight told) t line far = tt
 minds_far (Holds n w h) t line far = tt
 minds_far (Eyes n w h m v u free) t line far = tt
 minds_far (Splits left fresh (Filling true)) t line far = absurd (let no : true ≡ false = far in cc)

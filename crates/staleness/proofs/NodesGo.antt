@@ -16,7 +16,7 @@ use Rattle.data_node.specs.Spots.{Spot}
 use Rattle.data_node.specs.Lists.{ListNode, next_offset, IsMember, IsIn, IsChain, without_member}
 use Rattle.call_stages.specs.declared.once.Once.{Once}
 use Rattle.call_stages.specs.declared.once.Placed.{Placed}
-use Rattle.call_stages.specs.Stages.{Stage, Filling, Gathered, Gone, Idle, Saw, Wears, Holds, Eyes, Splits, Leaves, Meets, Joins, HoldsNode, counted}
+use Rattle.call_stages.specs.Stages.{Stage, Filling, Gathered, Gone, Idle, Saw, Wears, Reads, Holds, Eyes, Splits, Leaves, Meets, Joins, HoldsNode, counted}
 use Rattle.call_stages.specs.Kinds.{Step, Look, Split, Merge, free_status, live_status, gone_status, prev_address}
 use Rattle.call_stages.specs.Kinds as kinds
 use Rattle.call_stages.specs.AnySteps.{leaf_address, loads_leaf}
@@ -46,6 +46,8 @@ use Rattle.lone_law.proofs.Effects.{Effect, Keeps, stays, adds, cuts, drops, bur
 use Rattle.lone_law.proofs.Effects as effect
 use Rattle.staleness.specs.Ways.{StayGone}
 use Rattle.staleness.specs.LoneNodes.{nodes_of, IsOwn, HasLeftOut, NodesStand, NodesGo, NodesEnd}
+use Rattle.call_stages.specs.Stages.{IsLoose}
+use Rattle.index_law.proofs.Moves.{read_after}
 
 -- ---- by kinds
 
@@ -96,6 +98,18 @@ module _ {l : Layout} {g : ℕ} (f : Facts) (caller index since : ℕ) where
   gone_stays (kinds.splits k) knows n is = split_stays k knows n is
   gone_stays (kinds.merges k) knows n is = merge_stays k n is
 
+loose_own : (n m : ℕ) (s : Stage) → IsLoose s → IsOwn s n m
+loose_own n m Idle loose = tt
+loose_own n m (Saw o v w k) loose = tt
+loose_own n m (Wears o v) loose = tt
+loose_own n m (Reads o v k h) loose = tt
+loose_own n m (Holds o w h) loose = tt
+loose_own n m (Eyes o w h p v u free) loose = tt
+loose_own n m (Splits left fresh phase) loose = absurd loose
+loose_own n m (Leaves left) loose = absurd loose
+loose_own n m (Meets o w h right) loose = absurd loose
+loose_own n m (Joins h left right pace) loose = absurd loose
+
 -- the nodes that a merge holds stay its own
 look_own : {l : Layout} {g : ℕ} {s : Stage} {a : Action} {x : ℕ} {t : Stage} {r : Option (Once Placed)} (n m : ℕ) → Look l g s a x t r → IsOwn t n m
 look_own n m (kinds.turns_back loose here busy) = tt
@@ -120,6 +134,7 @@ look_own n m (kinds.misses other) = tt
 look_own n m (kinds.times clean below) = tt
 look_own n m (kinds.learns has positive unready learnt) = tt
 look_own n m (kinds.decides has positive clean durable about learnt decided) = tt
+look_own n m (kinds.reads_on {t = t} k) = loose_own n m t (read_after k)
 look_own n m (kinds.glances has unready) = tt
 
 step_own : {l : Layout} {g : ℕ} {s : Stage} {a : Action} {x : ℕ} {t : Stage} {r : Option (Once Placed)} (n m : ℕ) → Step l g s a x t r → has_merged s ≡ true → has_merged t ≡ true → IsOwn s n m → IsOwn t n m
@@ -166,6 +181,7 @@ answered_retired : (l : Layout) (g : ℕ) (f : Facts) (caller index since : ℕ)
 answered_retired l g f caller index since Idle answer legal is = absurd (let no : false ≡ true = is in cc)
 answered_retired l g f caller index since (Saw n v w k) answer legal is = absurd (let no : false ≡ true = is in cc)
 answered_retired l g f caller index since (Wears n v) answer legal is = absurd (let no : false ≡ true = is in cc)
+answered_retired l g f caller index since (Reads n v sight told) answer legal is = absurd (let no : false ≡ true = is in cc)
 answered_retired l g f caller index since (Holds n w h) answer legal is = is
 answered_retired l g f caller index since (Eyes n w h m v u free) answer legal is = is
 answered_retired l g f caller index since (Splits left fresh phase) answer legal is = absurd legal

@@ -168,7 +168,7 @@ returns-clause-turned g c =
       says = subst (λ (r : Option (Once Placed)). SaysOf new.layout.slots (map_of new.base) new.history e (op_in m) (running_call m).limit r) (sym (answers_at g c))
           (subst (λ (v : Index). SaysOf v.layout.slots (map_of v.base) v.history e (op_in m) (running_call m).limit (reply_of (running_turned m (told s m)))) (sym (left.same n))
           (says_of s.layout s.generation (facts (world (stepped_index s i e m n))) e m (told s m) at.of at.sound.here at.facts.owns (at.facts.legal n)));
-      lists = subst (λ (v : Index). ListsAt v.layout (facts (world v)) m) (sym (left.same n)) at.facts.lists;
+      lists = subst (λ (v : Index × Index). ListsAt v.0.layout (facts (world v.0)) m (told v.1 m)) (λ k. (sym (left.same n) k, c.self.view_is k)) at.facts.lists;
       fewer = subst (λ (v : Index). GoesBelow running_left (running_left m) (running_turned m (told v m))) c.self.view_is
           (subst (λ (n : ℕ). GoesBelow running_left (running_left m) (running_turned m n)) (told_at g c)
           (of_call g c (λ d q. GoesBelow running_left (running_left q) (running_turned q c.act-got.result)) c.advance.ensures.fewer));

@@ -9,7 +9,7 @@ use Rattle.node_ops.specs.declared.lookup.Looked.{Looked}
 use Rattle.node_ops.specs.declared.part.Part.{Part}
 use Rattle.node_ops.specs.declared.part.PartWords.{PartWords}
 use Rattle.node_ops.specs.declared.part.ReadingAt.{ReadingAt}
-use Rattle.node_ops.specs.LookupSteps.{IsFoundBy, lookup_left}
+use Rattle.node_ops.specs.LookupSteps.{IsFoundIn, lookup_left}
 use Rattle.node_ops.specs.PartSteps.{IsPart, IsReadingAt, behind_of, part_call, part_asks, part_turned, part_left, reading_left, reading_turned}
 use Rattle.node_ops.proofs.LookupSound.{found_sound}
 use Rattle.node_ops.proofs.PartLemmas.{looking_fewer, word_fewer}
@@ -18,17 +18,17 @@ use Rattle.node_ops.proofs.part.Part.advance.Goals as goal
 pub found-requires-clause-found : goal.found-requires-clause-found
 found-requires-clause-found c =
     let looked = c.in-Some-Found.ensures in
-    let found = found_sound c.in-Looking.lookup c.args.got c.in-Some-Found.found (subst IsPart c.in-Looking.is c.requires.0)
+    let found = found_sound c.in-Looking.lookup c.args.got c.in-Some-Found.found (subst IsPart c.in-Looking.is c.requires.0).0
     (subst (λ (part : Part). Told (part_call part).view.layout (part_call part).view.generation (part_asks part) c.args.got) c.in-Looking.is c.requires.1)
     (ap (λ (f : Looked). Done f) (sym c.in-Some-Found.field-0-is) ∙ sym looked.turned) in
-    subst (λ (q : Call × Found). IsFoundBy q.0.view.layout.slots q.1) (λ k. (sym looked.call k, sym c.in-Some-Found.found-is k)) found
+    subst (λ (q : Call × Found). IsFoundIn q.0.limit q.0.view.layout.slots q.1) (λ k. (sym looked.call k, sym c.in-Some-Found.found-is k)) found
 
 pub returns-in-None-clause-fewer : goal.returns-in-None-clause-fewer
 returns-in-None-clause-fewer c =
     let look = c.in-Looking in
     let looked = c.in-None.ensures in
     subst (λ (part : Part). GoesBelow {A = Once PartWords} part_left (part_left part) (part_turned part c.args.got)) (sym look.is)
-    (looking_fewer look.lookup c.advance.new.self c.args.got look.count (behind_of look.lookup.at look.behind) (subst IsPart look.is c.requires.0)
+    (looking_fewer look.lookup c.advance.new.self c.args.got look.count (behind_of look.lookup.at look.behind) (subst IsPart look.is c.requires.0).0
     (subst (λ (part : Part). Told (part_call part).view.layout (part_call part).view.generation (part_asks part) c.args.got) look.is c.requires.1)
     (sym looked.turned) (subst (GoesBelow {A = Looked} lookup_left (lookup_left look.lookup)) looked.turned looked.fewer))
 

@@ -27,7 +27,7 @@ returns c =
     let size = sym (length-take-le c.sort_order-order.result.len c.sort_order-order.result.slots (omega arith)) ∙ ap length same in
     λ i. record {
       node = reading.call.node;
-      version = c.freed_of.ensures.next i;
+      version = reading.hold.locked;
       place = reading.hold.clock;
       old = reading.old;
       high = c.high-high.ensures i;

@@ -15,17 +15,18 @@ use Rattle.node_ops.specs.declared.del.Del.TheVariants.{Single}
 use Rattle.node_ops.specs.declared.single_del.SingleDel.{SingleDel}
 use Rattle.node_ops.specs.LookupSteps.{IsFoundBy, lookup_left}
 use Rattle.node_ops.specs.DelSteps.{IsDel, del_call, del_asks, del_turned, del_looked, del_taken, del_left}
-use Rattle.node_ops.proofs.LookupSound.{found_sound}
+use Rattle.node_ops.proofs.LookupSound.{found_by, found_sound}
 use Rattle.node_ops.proofs.Measures.{found_fewer, taken_fewer}
 use Rattle.node_ops.proofs.single_del.SingleDel.advance.Goals as goal
 
 pub found-requires-clause-found : goal.found-requires-clause-found
 found-requires-clause-found c =
     let looked = c.in_ok-answer-in-Looking.ensures in
+    let sound = subst (λ (s : SingleDel). IsDel (Single s)) c.in-Looking.is c.requires.0 in
     subst (λ (call : Call). IsFoundBy call.view.layout.slots c.in-Found.found) (sym looked.call)
-    (found_sound c.in-Looking.lookup c.args.got c.in-Found.found (subst (λ (s : SingleDel). IsDel (Single s)) c.in-Looking.is c.requires.0)
+    (found_by c.in-Looking.lookup.call.limit c.in-Looking.lookup.call.view.layout.slots c.in-Found.found sound.1 (found_sound c.in-Looking.lookup c.args.got c.in-Found.found sound.0
     (subst (λ (s : SingleDel). Told (del_call (Single s)).view.layout (del_call (Single s)).view.generation (del_asks (Single s)) c.args.got) c.in-Looking.is c.requires.1)
-    (ap (λ (f : Looked). Done f) (sym c.in-Found.is) ∙ sym looked.turned))
+    (ap (λ (f : Looked). Done f) (sym c.in-Found.is) ∙ sym looked.turned)))
 
 pub returns-in-Found-clause-fewer : goal.returns-in-Found-clause-fewer
 returns-in-Found-clause-fewer c =

@@ -1,5 +1,5 @@
 use Rattle.std.proofs.Common.{sym, ap, ◌∙◌, subst}
-use Rattle.std.specs.Prelude.{IsSome, Option, IfSome}
+use Rattle.std.specs.Prelude.{IsSome, Option, Some, IfSome}
 use Rattle.split_merge.specs.Advances.{turn_of}
 use Rattle.call_stages.specs.declared.once.Once.{Once}
 use Rattle.call_stages.specs.declared.once.Placed.{Placed}
@@ -9,7 +9,7 @@ use Rattle.node_ops.specs.RunningSteps.{listed_in}
 use Rattle.index_core.specs.declared.party.CoreCall.TheVariants as call
 use Rattle.pac_index.specs.Kept.{party}
 use Rattle.pac_index.specs.Calls.{PartAnswers}
-use Rattle.pac_index.proofs.Running.{going, lists_none, part_ends, part_stops, runs_a_part, runs_stepped, stops_early}
+use Rattle.pac_index.proofs.Running.{going, lists_none, not_done, part_ends, part_moved, part_stops, runs_a_part, runs_stepped, stops_early}
 use Rattle.pac_index.proofs.shared.Shared.run_part.Goals as goal
 
 pub returns-in-Some-clause-answered : goal.returns-in-Some-clause-answered
@@ -19,11 +19,26 @@ returns-in-Some-clause-answered g c =
     subst (λ (r : Once PartWords). PartAnswers c.args.low c.args.count c.args.index old r (party c.steps.seat.me)) (sym c.early.ensures)
     (part_stops c.args.low c.args.count c.args.index old (party c.steps.seat.me) (turn_of c.steps.machine c.steps.answer) c.in-Some.answer c.steps.invariant.2 (ap (turn_of c.steps.machine) c.in-Some.is) early)
 
-pub returns-then-has_listed-clause-answered : goal.returns-then-has_listed-clause-answered
-returns-then-has_listed-clause-answered g c =
+pub returns-in-Done-clause-answered : goal.returns-in-Done-clause-answered
+returns-in-Done-clause-answered g c =
     let goes = going c.steps.machine c.steps.answer c.in_default.not-Some in
     let on = c.go_on.ensures.steps in
-    part_ends c.args.low c.args.count c.args.index (party c.args.seat.now.me) (party c.steps.seat.me) (party c.go_on.new.seat.me) (turn_of c.steps.machine c.steps.answer) c.steps.machine on.told c.listing-words.result c.steps.invariant.2 goes on.goes c.listing-words.ensures
+    let done = on.turned ∙ ap (turn_of c.go_on.new.machine) (c.in-Some-go_on.is ∙ ap (λ (a : Once Placed). Some a) c.in-Done.is) in
+    part_ends c.args.low c.args.count c.args.index (party c.args.seat.now.me) (party c.steps.seat.me) (party c.go_on.new.seat.me) (turn_of c.steps.machine c.steps.answer) c.steps.machine on.told c.listing-words.result c.in-Done.field-0 c.steps.invariant.2 goes on.goes c.listing-words.ensures done
+
+pub returns-in_default-last : goal.returns-in_default-last
+returns-in_default-last g c =
+    let old = party c.args.seat.now.me in
+    let goes = going c.steps.machine c.steps.answer c.in_default.not-Some in
+    let on = c.go_on.ensures.steps in
+    let done = on.turned ∙ ap (turn_of c.go_on.new.machine) c.in-Some-go_on.is in
+    let early : IsEarly c.in-Some-go_on.last = not_done c.in-Some-go_on.last c.in_default-last.not-Done in
+    record {
+      seat = (c.go_on.ensures.seat.0 ∙ c.steps.invariant.0.0, c.go_on.ensures.seat.1 ∙ c.steps.invariant.0.1);
+      lone = c.go_on.ensures.lone;
+      answered = subst (λ (r : Once PartWords). PartAnswers c.args.low c.args.count c.args.index old r (party c.go_on.new.seat.me)) (sym c.early-in_default-last.ensures)
+          (part_moved c.args.low c.args.count c.args.index old (party c.steps.seat.me) (party c.go_on.new.seat.me) (turn_of c.steps.machine c.steps.answer) c.steps.machine on.told c.in-Some-go_on.last c.steps.invariant.2 goes on.goes done early);
+    }
 
 pub steps-preserved : goal.steps-preserved
 steps-preserved g c =
