@@ -1,3 +1,4 @@
+pub mod SameRanges
 pub mod LoneRoundLemmas
 pub mod NameLemmas
 pub mod PairLemmas
