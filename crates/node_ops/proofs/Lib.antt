@@ -22,4 +22,5 @@ pub mod PartNames
 pub mod PartTelling
 pub mod PartBounds
 pub mod PartListing
+pub mod Rechecks
 pub mod FullSplits

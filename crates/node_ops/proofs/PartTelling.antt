@@ -49,7 +49,7 @@ use Rattle.node_ops.proofs.PartLaw.{slots_say}
 use Rattle.node_ops.proofs.PartNames.{pair_at, all_good, packed, names_are}
 
 -- no more slots are live than there are
-order_few : (before : ℕ → ℕ → Bool) (bitmap n : ℕ) → length (live_order before bitmap n) ≤ n
+pub order_few : (before : ℕ → ℕ → Bool) (bitmap n : ℕ) → length (live_order before bitmap n) ≤ n
 order_few before bitmap zero = omega arith
 order_few before bitmap (suc n) =
     let rest = order_few before bitmap n in

@@ -5,11 +5,13 @@ pub mod FillSteps
 pub mod GetSteps
 pub mod PutSteps
 pub mod PartSteps
+pub mod RecheckSteps
 pub mod DelSteps
 pub mod DelEvents
 pub mod RunningSteps
 pub mod CallStages
 pub mod Parts
+pub mod Rechecks
 pub mod Asked
 pub mod Endings
 pub mod Landings

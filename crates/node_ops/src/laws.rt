@@ -111,3 +111,26 @@ pub fn listing_law()
     ensures done { DoneIsListed }
     ensures count { CountStays }
 {}
+
+ghost use Rattle.node_ops.specs.Rechecks.{PartsAreKnown, PartsAreFew, KnownIsKept, StatusesLeaveKnown};
+ghost use Rattle.node_ops.specs.Rechecks.{RechecksAreTold, RechecksStaySure, RechecksOutlast, RechecksTell, SameTells};
+
+/// Of a part that is done it is known what the map has on its node's range while the version word is the one that it
+/// tells. Each step of a call keeps that, and each step of a turn.
+pub fn known_law()
+    ensures known { PartsAreKnown }
+    ensures few { PartsAreFew }
+    ensures kept { KnownIsKept }
+    ensures turned { StatusesLeaveKnown }
+{}
+
+/// A recheck is answered that all is the same exactly where it finds the version word that it was handed, at a place
+/// between its begin and its end. Then each known part that tells this version word of this node lists what the map has at
+/// each place from the part's on to that one.
+pub fn recheck_law()
+    ensures told { RechecksAreTold }
+    ensures sure { RechecksStaySure }
+    ensures outlasts { RechecksOutlast }
+    ensures tells { RechecksTell }
+    ensures same { SameTells }
+{}
