@@ -38,6 +38,7 @@ pub mod ShortWays
 pub mod Layering
 pub mod Busy
 pub mod Turning
+pub mod Rechecks
 pub mod TurnReading
 pub mod LoneTurning
 pub mod Opening

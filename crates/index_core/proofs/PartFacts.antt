@@ -68,7 +68,7 @@ use Rattle.index_law.proofs.Rows.{facts-version, version_in-here}
 use Rattle.index_core.specs.Listings.{IsPartAt, ListsRange}
 
 -- the words of nodes have 64 bits
-have_words : (l : Layout) (words : List ℕ) (base : Map) (history : List Write) → IsRow l words → HaveWords (facts_of l words base history)
+pub have_words : (l : Layout) (words : List ℕ) (base : Map) (history : List Write) → IsRow l words → HaveWords (facts_of l words base history)
 unfolding spot_in
 have_words l words base history row n offset =
     elim (nat_lt n l.nodes && (nat_lt 0 offset && nat_lt offset (node_words l))) as (λ b. (if b then slice_index words (word_address l n offset) else 0) < 2 ^ 64) [

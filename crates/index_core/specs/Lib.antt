@@ -20,3 +20,4 @@ pub mod Rounds
 pub mod Opened
 pub mod ScheduleCrashes
 pub mod Logs
+pub mod Rechecks

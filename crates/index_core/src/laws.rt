@@ -121,3 +121,27 @@ pub fn log_law()
     ensures counted { LogIsCounted }
     ensures room { RoomNeedsNoTurn }
 {}
+
+ghost use Rattle.index_core.specs.Rechecks.{PartsBecomeKnown, StepsKeepKnown, TurnsKeepKnown};
+ghost use Rattle.index_core.specs.Rechecks.{RechecksAct, RechecksGoOn, RechecksAreAnswered, SameTells};
+ghost use Rattle.index_core.specs.Rechecks.{SameIsSoon, SameOutlasts};
+
+/// A part that is done is known: while its node's version word is the one that it tells, the map is the same on its node's
+/// range. Each step of a call and each step of a turn keeps that.
+pub fn known_law()
+    ensures begins { PartsBecomeKnown }
+    ensures steps { StepsKeepKnown }
+    ensures turns { TurnsKeepKnown }
+{}
+
+/// A recheck, by whichever party, leaves the words as they are. It is answered that all is the same exactly where it
+/// finds the version word that it was handed, at a place between its begin and its end. Then each known part that tells
+/// this word of this node lists what the map has at each place from the part's on to that one.
+pub fn recheck_law()
+    ensures acts { RechecksAct }
+    ensures goes_on { RechecksGoOn }
+    ensures answered { RechecksAreAnswered }
+    ensures same { SameTells }
+    ensures soon { SameIsSoon }
+    ensures outlasts { SameOutlasts }
+{}

@@ -1,5 +1,5 @@
 -- What is known of a part, and what a recheck tells of it.
-use Rattle.std.proofs.Common.{◌≡◌, ◌≢◌, ℕ, ◌<◌, ◌≤◌, ◌==◌, Bool, true, false, not, cond, ◌&&◌, Option, List, length, map, take, refl, sym, subst, ap, ◌∙◌, arith}
+use Rattle.std.proofs.Common.{◌≡◌, ℕ, ◌<◌, ◌≤◌, ◌==◌, Bool, true, false, not, cond, ◌&&◌, List, length, map, take, refl, sym, subst, ap, ◌∙◌, arith}
 use Rattle.std.specs.Prelude.{Some, slice_index}
 use Rattle.std.specs.FinMap.{entries}
 use Rattle.std.specs.List.{filter}
@@ -14,34 +14,30 @@ use Rattle.cat_history.proofs.SameRanges.{same_pairs}
 use Rattle.shapes.proofs.NameLists.{filter-short, filter-twice}
 use Rattle.pm_words.specs.declared.again.Again.TheVariants as again
 use Rattle.pm_words.specs.declared.layout.Layout.{Layout}
-use Rattle.pm_words.specs.declared.machine.Turn.TheVariants.{Go, Done}
+use Rattle.pm_words.specs.declared.machine.Turn.TheVariants.{Done}
 use Rattle.data_node.specs.Orders.{comes_before}
-use Rattle.call_stages.specs.declared.once.Once.{Once}
 use Rattle.call_stages.specs.declared.once.Once.TheVariants as once
 use Rattle.call_stages.specs.Kinds.{clock_address, version_address}
-use Rattle.index_law.specs.Facts.{Facts, range_of, version_in}
+use Rattle.index_law.specs.Facts.{Facts, range_of}
 use Rattle.index_law.specs.Lawful.{HasNames, SureReads, Sure}
 use Rattle.index_law.specs.Standing.{IsUnchanged, StandsSince}
 use Rattle.index_law.specs.Worlds.{counted_write}
 use Rattle.index_law.proofs.Maps.{after-longer}
 use Rattle.index_law.proofs.Rows.{version_in-here}
 use Rattle.index_law.proofs.Standing.{standing_is_kept, reads_stand}
-use Rattle.node_ops.specs.declared.call.Call.{Call}
 use Rattle.node_ops.specs.declared.part.Part.{Part}
 use Rattle.node_ops.specs.declared.part.Part.TheVariants as part
 use Rattle.node_ops.specs.declared.part.PartWords.{PartWords}
 use Rattle.node_ops.specs.declared.part.Reading.{Reading}
 use Rattle.node_ops.specs.declared.part.ReadingAt.{ReadingAt}
 use Rattle.node_ops.specs.declared.part.ReadingAt.TheVariants as at
-use Rattle.node_ops.specs.declared.recheck.Recheck.{Recheck}
 use Rattle.node_ops.specs.declared.recheck.Recheck.TheVariants.{Dating, Checking}
-use Rattle.node_ops.specs.declared.recheck.Same.{Same}
 use Rattle.node_ops.specs.Calls.{IsCall, name_in}
 use Rattle.node_ops.specs.CallStages.{behind_sight, part_stage, reading_held}
 use Rattle.node_ops.specs.LookupSteps.{lookup_turned}
-use Rattle.node_ops.specs.Parts.{EndsAt, IsPartOf, from_name, pairs_in, pairs_of}
+use Rattle.node_ops.specs.Parts.{EndsAt, IsPartOf, from_name, pairs_in}
 use Rattle.node_ops.specs.PartSteps.{IsPart, behind_of, order_in, part_behind, part_call, part_turned, reading_turned}
-use Rattle.node_ops.specs.RecheckSteps.{recheck_turned, rechecked}
+use Rattle.node_ops.specs.RecheckSteps.{rechecked}
 use Rattle.node_ops.specs.Rechecks.{KnownPart, IsKnown, PartsAreKnown, PartsAreFew, KnownIsKept, StatusesLeaveKnown}
 use Rattle.node_ops.specs.Rechecks.{RecheckSure, RechecksAreTold, RechecksStaySure, RechecksOutlast, IsRechecked, RechecksTell, IsSameAt, SameTells}
 use Rattle.node_ops.proofs.PartBounds.{parts_see_behind, parts_end_there, ends_are_ranges}
