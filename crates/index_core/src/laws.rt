@@ -44,7 +44,8 @@ pub fn history_round_law()
     ensures limit { LegalHistoryKeepsLimit }
 {}
 
-/// How full an index may be. Its weight is half the slots for each listed node, and one for each name above that.
+/// How full an index may be. Its weight is half the slots for each listed node, one for each name above that, and half
+/// the slots for each GONE node.
 ///
 /// Along a schedule from an index with no call in flight, the weight is at most that of the first index, and one more
 /// for each put that was begun since then and added a name, or isn't answered. The image that a crash leaves weighs no
@@ -87,7 +88,7 @@ pub fn place_law()
 
 /// A whole put with no other call in flight, where a lock is left of each node, finds no room exactly where it is full
 /// in the shape: the map lacks its name, the target has as many names as a node has slots, and as many nodes are listed
-/// as may be. Each node is listed then, or was merged into another.
+/// as may be. Each node is listed then.
 pub fn full_law()
     ensures put { NoRoomIsFullPut }
     ensures each { NoRoomListsEach }

@@ -105,7 +105,7 @@ impl Core {
     }
 
     /// A whole part of a scan, as `run_alone` makes it: it lists the first `count` names from the low one on, of those
-    /// that belong to the low one's node. It is answered `Done` or `Worn`.
+    /// that belong to the low one's node. It is answered `Done`: it takes no lock, so no node is too worn for it.
     pub fn part_alone<L: Ledger>(
         &mut self,
         caller: u64,

@@ -68,7 +68,8 @@ pub enum Whole {
     Part(PartWords),
     /// What a turn of the updater has done: alone it is never held back.
     Turned(Turned),
-    /// A put found no room: the map lacks the name, its node has as many names as slots, and no FREE node can be locked.
+    /// A put found no room: the map lacks the name, its node has as many names as slots, no FREE node can be locked, and
+    /// no turn of the updater would make one FREE.
     Full,
     /// The clock had reached the call's limit.
     Spent { clock: u64 },
@@ -96,7 +97,7 @@ impl Whole {
         }
     }
 
-    /// A part of a scan that is alone is `Done` or `Worn`.
+    /// A part of a scan that is alone is `Done`.
     pub(crate) fn of_part(answer: Once<PartWords>) -> Whole
         ensures { result ≡ part_whole answer }
     {

@@ -1,4 +1,4 @@
--- Looking a name up under its node's lock, step by step.
+-- Looking a name up in its node, under the lock or without one, step by step.
 use Rattle.std.specs.Prelude.{◌≡◌, ◌≢◌, ℕ, ◌+◌, ◌-◌, ◌*◌, ◌^◌, ◌<◌, ◌≤◌, ◌==◌, Bool, false, nat_lt, nat_le, if◌then◌else◌}
 use Rattle.std.specs.Prelude.{List, length, Option, Some, None, IfSome, IsSome, IsTrue, slice_index, slice_set, replicate}
 use Rattle.cat_key.specs.declared.TheConstants.{WORDS}

@@ -2,8 +2,8 @@
 //!
 //! - `Floor`: it reads the search layer, for the node with which the walk is to begin. Whichever that is, what it finds
 //! is the same: only the walk says which node is its name's.
-//! - `Walk`: it walks from there to the node of its name; locked nodes and too many hops end it, and so does a target
-//! that is worn.
+//! - `Walk`: it walks from there to the node of its name; locked nodes and too many hops end it, and for a write so does
+//! a target that is worn.
 //! - `Read`: a read takes no lock, and loads the clock. What it loads from there on may be torn by others, so whoever
 //! reads loads the version word again at last.
 //! - `Lock`: a write exchanges the version word that the walk saw for a locked one; another word there ends it.
@@ -12,7 +12,7 @@
 //! - `Name`: it compares the words of the name with those of each live slot that has its fingerprint, one load each.
 //! - `Value`: it loads the value of the slot that has the name.
 //!
-//! It ends with what it found, and has the lock still.
+//! It ends with what it found. A write has the lock still; a read has the version word that it has to find again.
 
 ghost use Rattle.std.specs.Prelude.{◌≡◌, ℕ};
 
@@ -60,7 +60,8 @@ impl Hit {
     }
 }
 
-/// What a look-up found under the lock, which it still has.
+/// What a look-up found: under the lock, which it still has, or by words that count only where a read finds the version
+/// word again.
 #[derive(Clone, Copy)]
 pub struct Found {
     pub hold: Hold,
@@ -68,15 +69,15 @@ pub struct Found {
     pub hit: Option<Hit>,
 }
 
-/// How a look-up ended: the call is over without a place, or goes on under the lock.
+/// How a look-up ended: the call is over without a place, or goes on with what was found.
 #[derive(Clone, Copy)]
 pub enum Looked {
     Early(Once<Placed>),
     Found(Found),
 }
 
-/// It walks to the node of its name, locks it, loads the clock, and looks for the live slot with the call's name: it
-/// compares the name with those of the slots whose fingerprints agree.
+/// It walks to the node of its name, which a write locks, loads the clock, and looks for the live slot with the call's
+/// name: it compares the name with those of the slots whose fingerprints agree.
 ///
 /// The walk begins at the floor of the name in the search layer, which takes one load for each leaf that is not used and
 /// four for each that is; a row has four leaves more than nodes.

@@ -22,8 +22,8 @@ use std::thread::yield_now;
 use updater::Turned;
 
 impl Shared {
-    /// A get by one of the callers before the last, which is the updater's. It is tried again while it is turned back
-    /// or finds its node worn, so it may wait for as long as another caller holds the node.
+    /// A get by one of the callers before the last, which is the updater's. It takes no lock. It is tried again while it
+    /// is turned back, so it may wait for as long as others lock the node or change it under the get.
     pub fn get<R: Wait>(&self, rt: &R, caller: &mut Caller, name: &Name) -> Ended<Placed>
         requires caller { IsCallerOf self.now caller.old }
         requires worker { caller.old.number < self.now.about.layout.callers }
