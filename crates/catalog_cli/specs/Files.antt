@@ -72,6 +72,10 @@ HasFile files name = IfSome files (λ told. IsSome (get told name))
 abbrev pub HasNoFile : Option FileMap → List ℕ → Type 0
 HasNoFile files name = IfSome files (λ told. get told name ≡ None)
 
+-- There was no file of this name, it has these bytes now, and no other file changed.
+abbrev pub MakesFile : Option FileMap → Option FileMap → List ℕ → List ℕ → Type 0
+MakesFile files files' name bytes = HasNoFile files name × SavesFile files files' name bytes
+
 -- The file of this name has the bytes of this image, as far as the shelf tells its files.
 pub record HasImage (files : Option FileMap) (name : List ℕ) (image : Row) : Type 0 where
   pub bytes : List ℕ
@@ -93,7 +97,7 @@ pub record SavesImage (files files' : Option FileMap) (name : List ℕ) (image :
 abbrev pub IsFormatRefused : Option FileMap → Option FileMap → (shelves shelves' : ℕ) → List ℕ → Layout → Status →
     Type 0
 IsFormatRefused files files' shelves shelves' name layout status.Shelf = (shelves < shelves') ×
-    (KeepsFiles files files' ⊎ SavesFile files files' name (bytes_of (fresh_words layout)))
+    (KeepsFiles files files' ⊎ MakesFile files files' name (bytes_of (fresh_words layout)))
 IsFormatRefused files files' shelves shelves' name layout status.NoMemory = KeepsFiles files files'
 IsFormatRefused files files' shelves shelves' name layout (status.Image image.Exists) =
     HasFile files name × KeepsFiles files files'

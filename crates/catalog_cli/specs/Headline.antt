@@ -18,13 +18,13 @@ use Rattle.cat_script.specs.declared.fault.TheConstants.{MOST_BYTES}
 use Rattle.cat_script.specs.declared.script.Script.{Script}
 use Rattle.cat_text.specs.Summaries.{summary_line}
 use Rattle.cat_text.specs.declared.report.RoundReport.{RoundReport}
-use Rattle.cat_text.specs.Shelves.{FileMap, KeepsFiles, SavesFile}
+use Rattle.cat_text.specs.Shelves.{FileMap, KeepsFiles}
 use Rattle.pm_words.specs.Bytes.{HasNoFault, IsFault, bytes_of, words_in}
 use Rattle.pm_words.specs.Images.{Row, fresh_words}
 use Rattle.pm_words.specs.declared.layout.Layout.{Layout}
 use Rattle.catalog_cli.specs.Built.{unbuilt_command, IsCommandWord}
 use Rattle.catalog_cli.specs.Files.{Formats, FormatsSome, HasBytes, HasFile, HasImage, HasNoFile, ListsSome}
-use Rattle.catalog_cli.specs.Files.{ListsWords, NamesFile, RunsScript, file_of, formatted_line, lines_told}
+use Rattle.catalog_cli.specs.Files.{ListsWords, MakesFile, NamesFile, RunsScript, file_of, formatted_line, lines_told}
 use Rattle.catalog_cli.specs.Reports.{IsAccepted, IsRefusedBy, IsReportOf, empty_opening}
 use Rattle.core_rounds.specs.Rounds.{ArePaidFromEmpty}
 use Rattle.core_rounds.specs.Rounds.{IsPlayedRound}
@@ -143,10 +143,11 @@ LeavesSink words told status.NoMemory written written' =
 LeavesSink words told (status.Image refusal) written written' = Keeps written written'
 LeavesSink words told (status.NotBuilt verb) written written' = Keeps written written'
 
--- The file of this name is the image that a command with these words saves, and no other file changed.
+-- The file that the command names wasn't there, it is the fresh image of the command's layout now, and no other file
+-- changed.
 abbrev pub SavesFresh : List (List ℕ) → Option FileMap → Option FileMap → Type 0
 SavesFresh words files files' = (layout : Layout) × Formats words layout ×
-    SavesFile files files' (file_of words) (bytes_of (fresh_words layout))
+    MakesFile files files' (file_of words) (bytes_of (fresh_words layout))
 
 -- The file that the command names has what a run of the script leaves in it, and no other file changed.
 abbrev pub SavesRun : List (List ℕ) → Seen → Type 0

@@ -2,11 +2,11 @@
 
 ghost use Rattle.std.specs.Prelude.{◌≡◌, ◌≤◌, ℕ, List, IfErr, IfOk, OnOk, map};
 ghost use Rattle.std.specs.String.{string_bytes};
-ghost use Rattle.cat_text.specs.Shelves.{KeepsFiles, SavesFile};
+ghost use Rattle.cat_text.specs.Shelves.{KeepsFiles};
 ghost use Rattle.pm_words.specs.Bytes.{bytes_of, words_in, HasNoFault};
 ghost use Rattle.pm_words.specs.Images.{fresh_words};
 ghost use Rattle.pm_words.specs.Layouts.{IsLayout};
-ghost use Rattle.catalog_cli.specs.Files.{HasBytes, HasNoFile, IsFormatRefused, IsLoadRefused};
+ghost use Rattle.catalog_cli.specs.Files.{HasBytes, HasNoFile, IsFormatRefused, IsLoadRefused, MakesFile};
 ghost use Rattle.catalog_cli.specs.Files.{HasImage, IsSaveRefused, SavesImage, file_of, formatted_line, lines_told};
 
 use crate::status::{ImageRefusal, Status};
@@ -34,7 +34,7 @@ pub(crate) fn format_file<H: Shelf>(
 ) -> Result<Vec<u8>, Status>
     requires { IsLayout layout }
     ensures line { IfOk result (λ text. HasNoFile (H.files shelf.old) name.now × (text.items ≡ formatted_line layout)) }
-    ensures saved { IfOk result (λ _. SavesFile (H.files shelf.old) (H.files shelf.new) name.now
+    ensures made { IfOk result (λ _. MakesFile (H.files shelf.old) (H.files shelf.new) name.now
         (bytes_of (fresh_words layout))) }
     ensures refused { IfErr result (IsFormatRefused (H.files shelf.old) (H.files shelf.new) (H.faults shelf.old)
         (H.faults shelf.new) name.now layout) }
