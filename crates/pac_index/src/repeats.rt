@@ -133,11 +133,10 @@ impl Shared {
         unreachable!()
     }
 
-    /// A turn of the updater by its caller, the last one. It is tried again while another party has the updater lock, so it
-    /// may wait for as long as that one has it.
+    /// A turn of the updater by any caller. It is tried again while another party has the updater lock, so it may wait for
+    /// as long as that one has it.
     pub fn turn<R: Wait>(&self, rt: &R, caller: &mut Caller) -> Ended<Turned>
         requires caller { IsCallerOf self.now caller.old }
-        requires updater { caller.old.number ≡ self.now.about.layout.callers }
         ensures caller { IsCallerOf self.now caller.new }
         ensures same { (caller.new.number ≡ caller.old.number) × (caller.new.index ≡ caller.old.index) ×
             (caller.new.kept ≡ caller.old.kept) }
@@ -147,7 +146,7 @@ impl Shared {
         self.turn_at(rt, caller, &OpenGate)
     }
 
-    /// A turn of the updater by its caller with the gate in the same way.
+    /// A turn of the updater by any caller with the gate in the same way.
     pub(crate) fn turn_at<R: Wait, G: Gate>(
         &self,
         rt: &R,
@@ -155,7 +154,6 @@ impl Shared {
         gate: &G,
     ) -> Ended<Turned>
         requires caller { IsCallerOf self.now caller.old }
-        requires updater { caller.old.number ≡ self.now.about.layout.callers }
         ensures caller { IsCallerOf self.now caller.new }
         ensures same { (caller.new.number ≡ caller.old.number) × (caller.new.index ≡ caller.old.index) ×
             (caller.new.kept ≡ caller.old.kept) }

@@ -18,12 +18,12 @@ use pm_words::Machine;
 use updater::{MakeTurn, TurnReply};
 
 impl Shared {
-    /// One try of a turn of the updater by its caller, the last one, beside the calls of the others: it takes the READY log
-    /// lines to the search layer and empties them, and makes merged nodes FREE. `Held` comes exactly where its first
-    /// action finds the updater lock taken. It places no write and counts no call.
+    /// One try of a turn of the updater, beside the calls of the others: it takes the READY log lines to the search layer
+    /// and empties them, and makes merged nodes FREE. The last caller makes such turns alone, and each other caller may
+    /// make one too. `Held` comes exactly where its first action finds the updater lock taken. It places no write and
+    /// counts no call.
     pub fn turn_once(&self, caller: &mut Caller) -> TriedTurn
         requires caller { IsCallerOf self.now caller.old }
-        requires updater { caller.old.number ≡ self.now.about.layout.callers }
         ensures caller { IsCallerOf self.now caller.new }
         ensures same { (caller.new.number ≡ caller.old.number) × (caller.new.index ≡ caller.old.index) ×
             (caller.new.kept ≡ caller.old.kept) }
