@@ -289,6 +289,3 @@ fn as_str(text: &[u8]) -> &str
 {
     str::from_utf8(text).unwrap()
 }
-
-#[cfg(test)]
-mod tests;

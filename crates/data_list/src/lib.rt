@@ -13,6 +13,3 @@ mod walk;
 pub use key::KeyWords;
 pub use target::{Next, Sighting, Target, Walked};
 pub use walk::{Walk, WalkAt};
-
-#[cfg(test)]
-mod tests;

@@ -9,6 +9,3 @@ mod node;
 mod pairs;
 
 pub use pairs::image_pairs;
-
-#[cfg(test)]
-mod tests;

@@ -23,6 +23,3 @@ pub use planning::plan;
 pub use recovering::{Refused, make, make_all, recover, recovered, refusal};
 pub use stepping::{Begun, Recovery, begin};
 pub use storing::{Storing, StoringAt};
-
-#[cfg(test)]
-mod tests;

@@ -7,6 +7,3 @@ pub mod laws;
 
 pub use claim::{Claim, ClaimAt, Claimed};
 pub use gone::{Release, ReleaseAt, Retire};
-
-#[cfg(test)]
-mod tests;

@@ -114,6 +114,3 @@ fn word_in(bytes: &[u8], at: u64) -> u64
     let (chunks, _) = bytes.as_chunks::<8>();
     u64::from_le_bytes(chunks[at as usize])
 }
-
-#[cfg(test)]
-mod tests;

@@ -35,6 +35,3 @@ pub const LINE: u64 = 8;
 
 /// The log lines of one caller.
 pub const LINES: u64 = 8;
-
-#[cfg(test)]
-mod tests;

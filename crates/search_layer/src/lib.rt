@@ -19,6 +19,3 @@ pub use floor::{Entry, Floor};
 pub use key::Key;
 pub use reader::{Read, Reader, ReaderAt};
 pub use set::{Set, Unset};
-
-#[cfg(test)]
-mod tests;

@@ -16,6 +16,3 @@ pub use open::{Open, OpenAt};
 pub use read::{LineSeen, ReadLine};
 pub use state::{Clear, Ready, ReadyAt};
 pub use take::{Take, TakeAt, Taken};
-
-#[cfg(test)]
-mod tests;

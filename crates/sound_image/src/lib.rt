@@ -16,6 +16,3 @@ mod node_set;
 
 pub use broken::{Broken, first_broken};
 pub use map::{is_found, number_in};
-
-#[cfg(test)]
-mod tests;

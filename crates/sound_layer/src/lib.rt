@@ -17,6 +17,3 @@ mod marks;
 mod order;
 
 pub use broken::first_broken_of_all;
-
-#[cfg(test)]
-mod tests;

@@ -1,4 +1,0 @@
-use Rattle.search_layer.proofs.tests.the_layer_is_an_ordered_map_whenever_a_crash_comes.Given as goal
-
-abbrev pub ghosts-first_difference : goal.ghosts-first_difference
-ghosts-first_difference g a = record { name = a.blank.name; parts = a.blank.parts }

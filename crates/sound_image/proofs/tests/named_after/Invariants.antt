@@ -1,4 +1,0 @@
-use Rattle.sound_image.proofs.tests.named_after.Given as goal
-
-abbrev pub ghosts-image_with : goal.ghosts-image_with
-ghosts-image_with a = record { name = a.blank.name; parts = a.blank.parts }

@@ -1,0 +1,12 @@
+//! Tests of the list of nodes, of nodes that are not in use, of the log lines and of the search layer. They stand in a
+//! crate of their own, so that what they test is proved once.
+#![tactic(auto)]
+
+#[cfg(test)]
+mod claims;
+#[cfg(test)]
+mod layer;
+#[cfg(test)]
+mod lines;
+#[cfg(test)]
+mod walks;
