@@ -456,4 +456,3 @@ keeps_live (look.Bitmap hold) = tt
 keeps_live (look.Prints hold bitmap prints k) = tt
 keeps_live (look.Name hold directory left slot k) = tt
 keeps_live (look.Value hold directory slot) = tt
-

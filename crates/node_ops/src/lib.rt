@@ -39,10 +39,3 @@ pub use recheck::{Recheck, Same};
 pub use running::Running;
 pub use single_del::{CountedDel, SingleDel, SingleDelDone};
 pub use single_put::{FullNode, SinglePut, SinglePutDone};
-
-#[cfg(test)]
-mod merge_tests;
-#[cfg(test)]
-mod part_tests;
-#[cfg(test)]
-mod tests;

@@ -60,7 +60,8 @@ impl Recheck {
         requires node { node < view.layout.nodes }
         ensures { result ≡ version_at view node }
     {
-        view.layout.cached(view.layout.node_word(node, node::VERSION))
+        view.layout
+            .cached(view.layout.node_word(node, node::VERSION))
     }
 }
 

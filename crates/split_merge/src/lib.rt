@@ -17,8 +17,3 @@ pub use pairing::Pairs;
 pub use planning::{MAX_MOVED, NODE_WORDS, Plan};
 pub use splitting::{Share, Split, SplitAt, SplitDone};
 pub use uniting::{HEAD, OWN_PRINTS, Union};
-
-#[cfg(test)]
-mod merge_tests;
-#[cfg(test)]
-mod tests;

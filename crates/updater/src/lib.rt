@@ -15,6 +15,3 @@ pub use making::{MakeTurn, TurnReply};
 pub use taking::{TakeTurn, Took};
 pub use terms::{Found, Tally, Terms, Turned};
 pub use work::{Work, WorkAt};
-
-#[cfg(test)]
-mod tests;

@@ -1,0 +1,335 @@
+//! A row of words that is made by hand, on which machines run alone in the last generation: so any version word may be
+//! told.
+
+ghost use Rattle.std.specs.Prelude.{◌≡◌};
+ghost use Rattle.pm_words.specs.Layouts.{IsLayout};
+ghost use Rattle.call_stages.specs.Kinds.{Told};
+
+use pm_words::offsets::{line, node, volatile};
+use pm_words::{Action, KEY, Layout};
+use std::process::Abort;
+use version_lock::GENERATION_UNIT;
+
+/// Words enough for the rows of all tests.
+pub(crate) const ROW: usize = 8000;
+
+/// So many stores are noted.
+pub(crate) const STORES: usize = 32;
+
+/// The last generation there is.
+pub(crate) const RUN: u64 = (1 << 24) - 1;
+
+/// The first version word of that generation, which is free.
+pub(crate) const FREE: u64 = RUN * GENERATION_UNIT;
+
+/// The status of a node that is in use.
+pub(crate) const LIVE: u64 = 1;
+
+/// The status of a node that was merged into another.
+pub(crate) const GONE: u64 = 2;
+
+/// The state of a line whose change is done.
+pub(crate) const READY: u64 = 2;
+
+/// The first words of names of one letter.
+pub(crate) const A: u64 = 0x61 << 56;
+
+pub(crate) const B: u64 = 0x62 << 56;
+
+pub(crate) const C: u64 = 0x63 << 56;
+
+pub(crate) const D: u64 = 0x64 << 56;
+
+pub(crate) const E: u64 = 0x65 << 56;
+
+pub(crate) const G: u64 = 0x67 << 56;
+
+pub(crate) const M: u64 = 0x6d << 56;
+
+pub(crate) const P: u64 = 0x70 << 56;
+
+/// An address, and the word that is stored there.
+pub(crate) type Stored = (u64, u64);
+
+/// The words of a row, how many actions were done on it, and the first words that were stored, exchanged or counted; the
+/// loaded ones too, where those are noted.
+#[derive(Drop)]
+pub(crate) struct Row {
+    pub(crate) layout: Layout,
+    pub(crate) words: Vec<u64>,
+    pub(crate) actions: u64,
+    pub(crate) stores: [Stored; STORES],
+    pub(crate) stored: usize,
+    notes_loads: bool,
+    ghost in_range: { IsLayout layout },
+}
+
+impl Row {
+    pub(crate) fn new(layout: Layout, words: Vec<u64>) -> Row
+        requires { IsLayout layout }
+        ensures { result.layout ≡ layout }
+    {
+        Row {
+            layout,
+            words,
+            actions: 0,
+            stores: [(0, 0); STORES],
+            stored: 0,
+            notes_loads: false,
+        }
+    }
+
+    /// Another machine begins.
+    pub(crate) fn begin(&mut self)
+        ensures { self.new.layout ≡ self.old.layout }
+    {
+        self.actions = 0;
+        self.stores = [(0, 0); STORES];
+        self.stored = 0;
+    }
+
+    /// Loads are noted from now on.
+    pub(crate) fn note_loads(&mut self)
+        ensures { self.new.layout ≡ self.old.layout }
+    {
+        self.notes_loads = true;
+    }
+
+    /// The word at this address.
+    pub(crate) fn word(&self, rt: &impl Abort, address: u64) -> u64 {
+        let at = address as usize;
+        assert!(rt; at < self.words.len());
+        self.words[at]
+    }
+
+    /// The word at this address is as given.
+    pub(crate) fn put(&mut self, rt: &impl Abort, address: u64, word: u64)
+        ensures { self.new.layout ≡ self.old.layout }
+    {
+        let at = address as usize;
+        assert!(rt; at < self.words.len());
+        self.words[at] = word;
+    }
+
+    /// The address of the durable twin of a cached word.
+    fn durable(&self, address: u64) -> u64 {
+        address.wrapping_add(self.layout.image_words())
+    }
+
+    /// The cached word at this address and its durable twin are as given.
+    pub(crate) fn stand(&mut self, rt: &impl Abort, address: u64, word: u64)
+        ensures { self.new.layout ≡ self.old.layout }
+    {
+        let durable = self.durable(address);
+        self.put(rt, address, word);
+        self.put(rt, durable, word);
+    }
+
+    /// The cached word at this address, and its durable twin.
+    pub(crate) fn twins(&self, rt: &impl Abort, address: u64) -> (u64, u64) {
+        (self.word(rt, address), self.word(rt, self.durable(address)))
+    }
+
+    /// An action was about this address and word.
+    fn note(&mut self, address: u64, word: u64)
+        ensures { self.new.layout ≡ self.old.layout }
+    {
+        if self.stored < STORES {
+            self.stores[self.stored] = (address, word);
+            self.stored += 1;
+        }
+    }
+
+    /// This word is stored here by an action.
+    fn store(&mut self, rt: &impl Abort, address: u64, word: u64)
+        ensures { self.new.layout ≡ self.old.layout }
+    {
+        self.note(address, word);
+        self.put(rt, address, word);
+    }
+
+    /// The word here is loaded by an action.
+    fn load(&mut self, rt: &impl Abort, address: u64) -> u64
+        ensures { self.new.layout ≡ self.old.layout }
+    {
+        let found = self.word(rt, address);
+        if self.notes_loads {
+            self.note(address, found);
+        }
+        found
+    }
+
+    /// Does an action, and tells what it gives.
+    pub(crate) fn act(&mut self, rt: &impl Abort, action: Action) -> u64
+        ensures { self.new.layout ≡ self.old.layout }
+    {
+        self.actions = self.actions.wrapping_add(1);
+        match action {
+            Action::Load(address) => self.load(rt, address),
+            Action::Store(address, word) => {
+                self.store(rt, address, word);
+                0
+            }
+            Action::Drain(address, word) => {
+                let durable = self.durable(address);
+                self.put(rt, durable, word);
+                0
+            }
+            Action::Exchange(address, old, new) => {
+                let found = self.word(rt, address);
+                self.store(rt, address, if found == old { new } else { found });
+                found
+            }
+            Action::Add(address) => {
+                let found = self.word(rt, address);
+                self.store(rt, address, found.wrapping_add(1));
+                found
+            }
+        }
+    }
+}
+
+impl Row {
+    /// A word of a node, and its durable twin, are as given.
+    pub(crate) fn set(&mut self, rt: &impl Abort, number: u64, offset: u64, word: u64)
+        ensures { self.new.layout ≡ self.old.layout }
+    {
+        let address = node_at(rt, &self.layout, number, offset);
+        self.stand(rt, address, word);
+    }
+
+    /// A volatile word of a node is as given.
+    pub(crate) fn set_volatile(&mut self, rt: &impl Abort, number: u64, offset: u64, word: u64)
+        ensures { self.new.layout ≡ self.old.layout }
+    {
+        let address = volatile_at(rt, &self.layout, number, offset);
+        self.put(rt, address, word);
+    }
+
+    /// A node is in use, and leads to this one, or to none.
+    pub(crate) fn live(&mut self, rt: &impl Abort, number: u64, next: u64)
+        ensures { self.new.layout ≡ self.old.layout }
+    {
+        self.set_volatile(rt, number, volatile::STATUS, LIVE);
+        self.set(rt, number, node::NEXT, next);
+    }
+
+    /// A word of a node, and its durable twin.
+    pub(crate) fn of_node(&self, rt: &impl Abort, number: u64, offset: u64) -> (u64, u64) {
+        self.twins(rt, node_at(rt, &self.layout, number, offset))
+    }
+
+    /// The first of these words of nodes that hasn't these twins, each a node, an offset, a cached and a durable word:
+    /// its number, or that of all.
+    pub(crate) fn other_twins(&self, rt: &impl Abort, words: &[(u64, u64, u64, u64)]) -> usize {
+        for (k, (number, offset, cached, durable)) in words.iter().copied().enumerate() {
+            let (found, beneath) = self.of_node(rt, number, offset);
+            if found != cached || beneath != durable {
+                return k;
+            }
+        }
+        words.len()
+    }
+
+    /// The first word of a line that isn't this one in both twins: its number, or 8.
+    pub(crate) fn other_field(&self, rt: &impl Abort, number: u64, fields: [u64; 8]) -> u64 {
+        for offset in 0..8u64 {
+            let address = line_at(rt, &self.layout, number, offset);
+            let word = fields[offset as usize];
+            if self.twins(rt, address) != (word, word) {
+                return offset;
+            }
+        }
+        8
+    }
+
+    /// The state of a line, and its durable twin.
+    pub(crate) fn state(&self, rt: &impl Abort, number: u64) -> (u64, u64) {
+        self.twins(rt, line_at(rt, &self.layout, number, line::STATE))
+    }
+
+    /// A volatile word of a node.
+    pub(crate) fn volatile(&self, rt: &impl Abort, number: u64, offset: u64) -> u64 {
+        self.word(rt, volatile_at(rt, &self.layout, number, offset))
+    }
+
+    /// The first of these stores that wasn't made as one of so many, in this order: its number, or that of all.
+    pub(crate) fn other_store(&self, stores: &[Stored]) -> usize {
+        for (k, store) in stores.iter().enumerate() {
+            if self.stores.get(k).copied() != Some(*store) {
+                return k;
+            }
+        }
+        self.stored
+    }
+}
+
+impl Row {
+    /// The first of these addresses that isn't that of the noted action in its place: its number, or how many are noted.
+    pub(crate) fn other_address(&self, addresses: &[u64]) -> usize {
+        for (k, address) in addresses.iter().copied().enumerate() {
+            let (found, _) = self.stores.get(k).copied().unwrap_or((u64::MAX, 0));
+            if found != address {
+                return k;
+            }
+        }
+        self.stored
+    }
+}
+
+/// The cached address of a word of a node.
+pub(crate) fn node_at(rt: &impl Abort, layout: &Layout, number: u64, offset: u64) -> u64
+    requires { IsLayout layout.now }
+{
+    assert!(rt; number < layout.nodes() && offset < 16 + 4 * layout.slots());
+    layout.cached(layout.node_word(number, offset))
+}
+
+/// The address of a volatile word of a node.
+pub(crate) fn volatile_at(rt: &impl Abort, layout: &Layout, number: u64, offset: u64) -> u64
+    requires { IsLayout layout.now }
+{
+    assert!(rt; number < layout.nodes() && offset < 16);
+    layout.node_volatile(number, offset)
+}
+
+/// The cached address of a word of a line: of caller 0 they are the first eight.
+pub(crate) fn line_at(rt: &impl Abort, layout: &Layout, number: u64, offset: u64) -> u64
+    requires { IsLayout layout.now }
+{
+    assert!(rt; number < 8 * layout.callers() && offset < 8);
+    layout.cached(layout.line_word(number / 8, number % 8, offset))
+}
+
+/// The cached address of a leaf's word.
+pub(crate) fn leaf_at(rt: &impl Abort, layout: &Layout, number: u64, offset: u64) -> u64
+    requires { IsLayout layout.now }
+{
+    assert!(rt; number < layout.nodes() + 4 && offset < 8);
+    layout.cached(layout.leaf_word(number, offset))
+}
+
+/// In the last generation a machine may be told any word, but for some of node 0.
+pub(crate) fn may_tell(rt: &impl Abort, layout: &Layout, action: Action, got: u64)
+    requires { IsLayout layout.now }
+    ensures { Told layout.now RUN action got }
+{
+    let Action::Load(address) = action else {
+        return;
+    };
+    let anchor = layout.cached(layout.node_word(0, node::ANCHOR));
+    if address == layout.node_volatile(0, volatile::STATUS) {
+        assert!(rt; got == LIVE);
+    }
+    if address >= anchor && address < anchor + KEY as u64 {
+        assert!(rt; got == 0);
+    }
+    if address == layout.cached(layout.node_word(0, node::NEXT)) {
+        assert!(rt; got < layout.nodes());
+    }
+}
+
+/// The first word of a name of one letter.
+pub(crate) fn word_of(letter: u8) -> u64 {
+    u64::from(letter) << 56
+}
