@@ -1,7 +1,7 @@
 -- Whether a party's last call isn't answered.
-use Rattle.std.proofs.Common.{◌≡◌, ℕ, ◌||◌, inl, inr, true, false, refl, sym, ◌∙◌}
+use Rattle.std.proofs.Common.{◌≡◌, ℕ, ◌||◌, inl, inr, true, false, refl, sym, ap, ◌∙◌}
 use Rattle.std.specs.Prelude.{Option, Some, None, is_some}
-use mathlib.Core.Option.{some}
+use mathlib.Core.Option.{some, some-injective}
 use lib.ListN.{get_elem?}
 use Rattle.node_ops.specs.declared.running.Running.{Running}
 use Rattle.updater.specs.declared.making.MakeTurn.{MakeTurn}
@@ -29,3 +29,12 @@ idle_told e idle = by_calls e.machine e.turn idle
 pub quiet_is_idle : (s : Index) (i : ℕ) → IsQuiet s → IsBusy s i → ⊥
 quiet_is_idle s i quiet (inl f) = let both : None ≡ Some f.machine = sym (quiet.calls i f.state f.there) ∙ f.flies in cc
 quiet_is_idle s i quiet (inr f) = let both : None ≡ Some f.making = sym (quiet.turns i f.state f.there) ∙ f.turns in cc
+
+pub busy_tells : (s : Index) (i : ℕ) (e : PartyState) → get_elem? s.states i ≡ some e → IsBusy s i → is_busy e ≡ true
+busy_tells s i e there (inl f) =
+    ap (λ (m : Option Running). is_some m || is_some e.turn) (ap (λ (d : PartyState). d.machine) (some-injective _ _ (sym there ∙ f.there)) ∙ f.flies)
+busy_tells s i e there (inr f) = by_calls e.machine (ap (λ (d : PartyState). d.turn) (some-injective _ _ (sym there ∙ f.there)) ∙ f.turns)
+  where
+    by_calls : (m : Option Running) → (e.turn ≡ Some f.making) → (is_some m || is_some e.turn) ≡ true
+    by_calls (Some m) is = refl
+    by_calls None is = ap is_some is

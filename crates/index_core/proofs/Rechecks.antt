@@ -51,7 +51,7 @@ steps_keep_known s i state m k is there flies known =
     let turn = running_turned m (told s m) in
     let stage : machine_stage state.machine ≡ stage_of m = ap machine_stage flies in
     let kept = ops.known_is_kept (world s) i (party_of state) a (told s m) (stage_after turn) (reply_of turn) k is.lawful (map_there party_of s.states i state there)
-        (subst (λ (u : Stage). AnyStep s.layout s.generation u a (told s m) (stage_after turn) (reply_of turn)) (sym stage) step.is_step) refl known in
+    (subst (λ (u : Stage). AnyStep s.layout s.generation u a (told s m) (stage_after turn) (reply_of turn)) (sym stage) step.is_step) refl known in
     subst (λ (u : Stage). IsKnown s.layout s.generation (facts_of s.layout (acted s.layout s.words a) (map_of s.base) (s.history ++ written state.caller state.index (counted u))) k) stage kept
 
 pub turns_keep_known : TurnsKeepKnown
@@ -94,8 +94,11 @@ rechecks_act s r is of =
     action_law (world s) 0 (party_of first.0) (recheck_asks r) is.lawful (map_there party_of s.states 0 first.0 first.1) (may_load s.layout (party_of first.0).stage r of.layout here) (bounded_small s is) in
     record {
       can = act.can;
-      takes = (of.here, subst (λ (n : Layout). Told n (recheck_view r).generation (recheck_asks r) (recheck_told s r)) (sym of.layout)
-          (subst (λ (g : ℕ). Told s.layout g (recheck_asks r) (recheck_told s r)) (sym of.generation) act.told));
+      takes = (
+        of.here,
+        subst (λ (n : Layout). Told n (recheck_view r).generation (recheck_asks r) (recheck_told s r)) (sym of.layout)
+            (subst (λ (g : ℕ). Told s.layout g (recheck_asks r) (recheck_told s r)) (sym of.generation) act.told),
+      );
       leaves = leaves_words s.layout s.words r;
     }
   where

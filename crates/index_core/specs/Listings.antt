@@ -33,4 +33,4 @@ pub record IsPartAt (l : Layout) (f : Facts) (low : List ℕ) (count : ℕ) (wor
 abbrev pub ListsAt : Layout → Facts → Running → ℕ → Type 0
 ListsAt l f machine x =
     IfSome (listed_in machine) (λ words. IfSome (count_in machine) (λ count. x ≡ words.version →
-        IsPartAt l f (name_asked (op_in machine)) count words))
+    IsPartAt l f (name_asked (op_in machine)) count words))

@@ -199,6 +199,14 @@ impl Core {
         }
     }
 
+    /// Whether the party's last call isn't answered.
+    pub fn is_busy(&self, party: u64) -> bool
+        requires { party ≤ self.now.layout.callers }
+        ensures { IsTrue result ↔ IsBusy self.now party }
+    {
+        self.states[party as usize].is_busy()
+    }
+
     /// Whether the party has a call on a name in flight.
     fn flies(&self, party: u64) -> bool
         requires { IsBusy self.now party }

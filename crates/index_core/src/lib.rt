@@ -20,6 +20,3 @@ pub use flight::Flight;
 pub use index::{Core, Parts};
 pub use listing::listed_pairs;
 pub use party::{CoreCall, CoreReply, InFlight, PartyState, Stepped, Whole};
-
-#[cfg(test)]
-mod tests;

@@ -9,6 +9,3 @@ mod opening;
 mod telling;
 
 pub use opening::{OpenFault, recover};
-
-#[cfg(test)]
-mod tests;

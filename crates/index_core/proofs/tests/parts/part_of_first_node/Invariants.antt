@@ -1,5 +1,0 @@
-use Rattle.index_core.specs.Lone.{IsQuiet}
-use Rattle.index_core.proofs.tests.parts.part_of_first_node.Given as goal
-
-abbrev pub invariant-loop-number : goal.invariant-loop-number
-invariant-loop-number g l = IsQuiet l.core

@@ -1,0 +1,275 @@
+//! What the tests share: names by their numbers, calls, and the plain map of a history.
+
+ghost use Rattle.std.specs.Prelude.{◌≡◌, ℕ, ◌<◌, ◌≤◌, IfSome, IsTrue};
+ghost use Rattle.pm_words.specs.declared.layout.Layout.{Layout as IndexLayout};
+ghost use Rattle.index_core.specs.CoreCalls.{MayStart, most_writes};
+ghost use Rattle.index_core.specs.Indexes.{IsBusy};
+ghost use Rattle.index_core.specs.Lone.{IsQuiet};
+
+use call_stages::Once;
+use cat_history::Change;
+use cat_key::Name;
+use index_core::{Core, CoreCall, CoreReply, Stepped, Whole};
+use node_ops::PartWords;
+use pm_words::{Layout, Steps};
+use std::alloc::Global;
+use std::marker::Brand;
+use std::sync::ledger::{Blank, Ledger};
+use updater::TurnReply;
+
+/// How many callers the indexes of these tests have.
+pub(super) const CALLERS: u64 = 4;
+
+/// How many names they have, but for those of events and of drawn calls.
+pub(super) const NAMES: u64 = 12;
+
+/// No call or turn has as many steps.
+pub(super) const MANY: u64 = 10_000;
+
+/// No history here is as long.
+const LIMIT: u64 = 100_000;
+
+/// A call about the name of a number, or a turn of the updater.
+#[derive(Clone, Copy)]
+pub(super) enum Asked {
+    /// It has this value then.
+    Put(u64, u64),
+    Get(u64),
+    Del(u64),
+    /// At most so many names from this one on.
+    Part(u64, u64),
+    /// It gives merged nodes the stamp 1, and makes those FREE whose stamp is at most this number.
+    Turn(u64),
+}
+
+/// A name of two bytes. Names rise with their numbers, of which those below 752 are told apart; many of them have one
+/// fingerprint, but multiples of eight do not.
+pub(super) fn name_of(number: u64) -> Name {
+    let bytes = [(0x21 + number / 8 % 94) as u8, (0x21 + number % 8) as u8];
+    match Name::read(&bytes) {
+        Ok(name) => name,
+        Err(_) => unreachable!(),
+    }
+}
+
+/// The call.
+pub(super) fn call_of(asked: Asked) -> CoreCall
+    ensures may { (l : IndexLayout) (party : ℕ) → party < l.callers → MayStart l party result }
+    ensures writes { most_writes result ≤ 1 }
+{
+    match asked {
+        Asked::Put(number, value) => CoreCall::Put {
+            name: name_of(number),
+            value,
+            limit: LIMIT,
+        },
+        Asked::Get(number) => CoreCall::Get {
+            name: name_of(number),
+        },
+        Asked::Del(number) => CoreCall::Del {
+            name: name_of(number),
+            limit: LIMIT,
+        },
+        Asked::Part(low, count) => CoreCall::Part {
+            low: name_of(low),
+            count,
+        },
+        Asked::Turn(release) => CoreCall::Turn { stamp: 1, release },
+    }
+}
+
+/// An index without names.
+pub(super) fn fresh(alloc: Global, nodes: u64, slots: u64) -> Option<Core>
+    ensures { IfSome result IsQuiet }
+{
+    let Ok(layout) = Layout::new(nodes, slots, CALLERS) else {
+        return None;
+    };
+    match Core::fresh(alloc, layout) {
+        Ok(core) => Some(core),
+        Err(_) => None,
+    }
+}
+
+/// A whole call of caller 0, with nothing else in flight. It is answered `Full` where there is no memory.
+pub(super) fn alone(core: &mut Core, asked: Asked) -> Whole
+    requires { IsQuiet core.old }
+    ensures { IsQuiet core.new }
+{
+    alone_on::<Brand>(core, asked, Blank::new(1))
+}
+
+fn alone_on<L: Ledger>(core: &mut Core, asked: Asked, blank: Blank) -> Whole
+    requires name { blank.name ≡ L.name }
+    requires parts { (blank.parts ≡ L.parts) × (0 < L.parts) }
+    requires quiet { IsQuiet core.old }
+    ensures { IsQuiet core.new }
+{
+    let (book, share) = blank.open::<L>();
+    let mut steps = Steps::new(book, share);
+    let Ok(()) = core.reserve(1) else {
+        return Whole::Full;
+    };
+    if core.layout().callers() == 0 {
+        return Whole::Full;
+    }
+    core.run_alone(0, call_of(asked), &mut steps)
+}
+
+/// An index to begin with: how many nodes of four slots it has, how many names are put, each with its number as its
+/// value, and which are deleted then, a bit for each.
+#[derive(Clone, Copy)]
+pub(super) struct Scene {
+    pub nodes: u64,
+    pub names: u64,
+    pub without: u64,
+}
+
+/// The index of a scene.
+pub(super) fn made(alloc: Global, scene: Scene) -> Option<Core>
+    ensures { IfSome result IsQuiet }
+{
+    match fresh(alloc, scene.nodes, 4) {
+        Some(mut core) => {
+            fill(&mut core, scene);
+            Some(core)
+        }
+        None => None,
+    }
+}
+
+fn fill(core: &mut Core, scene: Scene)
+    requires { IsQuiet core.old }
+    ensures { IsQuiet core.new }
+{
+    for number in 0..scene.names {
+        alone(core, Asked::Put(number, number));
+    }
+    for other in 0..NAMES {
+        if scene.without >> other & 1 == 1 {
+            alone(core, Asked::Del(other));
+        }
+    }
+}
+
+/// Begins a call of a caller: whether it did, which it does if that one is idle.
+pub(super) fn begin(core: &mut Core, party: u64, asked: Asked) -> bool {
+    let Ok(()) = core.reserve(1) else {
+        return false;
+    };
+    if party >= core.layout().callers() {
+        return false;
+    }
+    core.start(party, call_of(asked)).is_ok()
+}
+
+/// Whether a party's call is in flight.
+fn flies(core: &Core, party: u64) -> bool
+    ensures { IsTrue result → IsBusy core.now party }
+{
+    party <= core.layout().callers() && core.is_busy(party)
+}
+
+/// At most so many steps of a party's call, and its reply if that is answered.
+pub(super) fn run(core: &mut Core, party: u64, most: u64) -> Option<CoreReply> {
+    run_on::<Brand>(core, party, most, Blank::new(1))
+}
+
+fn run_on<L: Ledger>(core: &mut Core, party: u64, most: u64, blank: Blank) -> Option<CoreReply>
+    requires name { blank.name ≡ L.name }
+    requires parts { (blank.parts ≡ L.parts) × (0 < L.parts) }
+{
+    let (book, share) = blank.open::<L>();
+    let mut steps = Steps::new(book, share);
+    for _ in 0..most {
+        if !flies(core, party) {
+            return None;
+        }
+        if let Stepped::Answered(reply) = core.step(party, &mut steps) {
+            return Some(reply);
+        }
+    }
+    None
+}
+
+/// What the plain map has of a name after so many writes of the history.
+pub(super) fn number_at(core: &Core, number: u64, place: u64) -> Option<u64> {
+    let wanted = name_of(number);
+    let mut found = None;
+    for write in core.history().iter().take(place as usize) {
+        match &write.change {
+            Change::Put { name, value } => {
+                if *name == wanted {
+                    found = Some(*value);
+                }
+            }
+            Change::Del { name } => {
+                if *name == wanted {
+                    found = None;
+                }
+            }
+        }
+    }
+    found
+}
+
+/// What it has of each name after all of them.
+pub(super) fn map_of(core: &Core) -> [Option<u64>; 12] {
+    let mut map = [None; 12];
+    for number in 0..NAMES {
+        map[number as usize] = number_at(core, number, u64::MAX);
+    }
+    map
+}
+
+/// Whether a name is past those that a part may list.
+fn is_past(words: &PartWords, name: &Name) -> bool {
+    match words.high {
+        Some(high) => *name >= high,
+        None => false,
+    }
+}
+
+/// Whether a part from the name of this number on, of so many names, lists those that the plain map has at the part's
+/// place, up to its high name.
+fn is_listed(core: &Core, low: u64, count: u64, words: &PartWords) -> bool {
+    let mut listed = 0;
+    for number in low..NAMES {
+        let name = name_of(number);
+        if listed >= count || is_past(words, &name) {
+            break;
+        }
+        if let Some(value) = number_at(core, number, words.place) {
+            let [first, second, third] = name.words();
+            if words.entries.get(listed as usize) != Some(&[first, second, third, value]) {
+                return false;
+            }
+            listed += 1;
+        }
+    }
+    words.len == listed && words.old == number_at(core, low, words.place)
+}
+
+/// Whether an answer has a place from this one on, and is what the plain map has there; None where the call is to be
+/// made again.
+pub(super) fn is_legal(core: &Core, asked: Asked, since: u64, reply: &CoreReply) -> Option<bool> {
+    match reply {
+        CoreReply::Placed(Once::Done(placed)) => {
+            let number = match asked {
+                Asked::Put(number, _) => number,
+                Asked::Get(number) => number,
+                Asked::Del(number) => number,
+                _ => return Some(false),
+            };
+            Some(placed.place >= since && placed.old == number_at(core, number, placed.place))
+        }
+        CoreReply::Part(Once::Done(words)) => {
+            let Asked::Part(low, count) = asked else {
+                return Some(false);
+            };
+            Some(words.place >= since && is_listed(core, low, count, words))
+        }
+        CoreReply::Turn(TurnReply::Turned(_)) => Some(true),
+        _ => None,
+    }
+}

@@ -1,0 +1,24 @@
+//! Tests of the core of the index, and of images that are opened as one, in a crate of their own, so that those are
+//! proved once.
+//!
+//! What a public call answers alone is proved, and so it is tried once here. These tests are of what no clause says:
+//! rows worked out by hand, calls that are drawn beside a slow model, calls of two callers at each step of the other,
+//! crashes after each step, and how many events calls take.
+#![tactic(auto)]
+
+#[cfg(test)]
+mod beside;
+#[cfg(test)]
+mod calls;
+#[cfg(test)]
+mod crashes;
+#[cfg(test)]
+mod drawn;
+#[cfg(test)]
+mod events;
+#[cfg(test)]
+mod images;
+#[cfg(test)]
+mod model;
+#[cfg(test)]
+mod rows;
