@@ -30,7 +30,7 @@ use Rattle.pac_index.specs.declared.rule.Member.{Member}
 use Rattle.pac_index.specs.Kept.{Begins, placed_by}
 use Rattle.pac_index.specs.Calls.{PartAnswers}
 use Rattle.pac_index.specs.Ends.{AtLast, HasOnlyRead}
-use Rattle.pac_index.specs.Scanned.{AreScanned, IsRead, ListsNames}
+use Rattle.pac_index.specs.Scanned.{AreScanned, IsNamed, IsRead}
 use Rattle.pac_index.proofs.Lists.{begins_self, begins_trans, begins_le}
 use Rattle.pac_index.proofs.Repeating.{back_self, back_trans}
 
@@ -63,7 +63,7 @@ module _ (low : List ℕ) (left n : ℕ) (old new : Member) (words : PartWords) 
   pub part_named : AllByRecursion (λ (entry : List ℕ). AreNameWords (entry_name entry)) (take words.len words.entries)
   part_named = lists.named
 
-  pub part_is : (pairs : List Pair) → pairs ≡ pairs_of words → All (λ (pair : Pair). IsName pair.name × (pair.value < 2 ^ 64)) pairs →
+  pub part_is : (pairs : List Pair) → pairs ≡ pairs_of words → IsNamed (record { low = low; high = words.high; place = words.place; pairs = pairs }) →
       IsRead low left old new (record { low = low; high = words.high; place = words.place; pairs = pairs })
   part_is pairs listed named = record {
     part_of = record {
@@ -86,7 +86,7 @@ pub record Scans (from : List ℕ) (count : ℕ) (old now : Member) (next : Opti
   pub reached : place ≤ length now.seen
   pub goes : (h : List Write) → Begins now.seen h → GoesOn (after (map_of old.about.base) h) from count (length old.seen) next left place parts
   pub within : All (λ (p : ScanPart). p.place ≤ length now.seen) parts
-  pub named : All ListsNames parts
+  pub named : All IsNamed parts
 
 none_yet : (P : ScanPart → Type 0) (parts : List ScanPart) → parts ≡ [] → All P parts
 none_yet P parts none = rw none (λ k d within. absurd (omega (arith, within)))
@@ -98,7 +98,7 @@ scans_first from count old parts none = record {
   reached = omega arith;
   goes = λ h begins. rw none (λ more are. are);
   within = none_yet (λ (p : ScanPart). p.place ≤ length old.seen) parts none;
-  named = none_yet ListsNames parts none;
+  named = none_yet IsNamed parts none;
 }
 
 module _ (from : List ℕ) (count : ℕ) (old now new : Member) (low : List ℕ) (left left' : ℕ) (parts parts' : List ScanPart) (part : ScanPart) where
@@ -125,7 +125,7 @@ module _ (from : List ℕ) (count : ℕ) (old now new : Member) (low : List ℕ)
     reached = is.within;
     goes = rw grown goes;
     within = rw grown (All-push (λ (p : ScanPart). p.place ≤ length new.seen) parts part (All-weaker (λ (p : ScanPart). p.place ≤ length now.seen) (λ (p : ScanPart). p.place ≤ length new.seen) (λ p here. let more = begins_le now.seen new.seen reads.seen in omega arith) parts was.within) is.within);
-    named = rw grown (All-push ListsNames parts part was.named is.named);
+    named = rw grown (All-push IsNamed parts part was.named is.named);
   }
 
   follows : (was : Scans from count old now (Some low) left parts) → HasOnlyRead now new → IsRead low left now new part → (h : List Write) → Begins new.seen h →

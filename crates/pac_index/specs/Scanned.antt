@@ -1,5 +1,5 @@
 -- What a whole range scan is answered.
-use Rattle.std.specs.Prelude.{ℕ, ◌<◌, ◌≤◌, ◌^◌, false, List, length, flat_map, All}
+use Rattle.std.specs.Prelude.{ℕ, ◌<◌, ◌≤◌, ◌^◌, false, List, length, flat_map, All, IfSome}
 use Rattle.cat_key.specs.Names.{IsName}
 use Rattle.cat_key.specs.declared.Pair.{Pair}
 use Rattle.cat_history.specs.Maps.{map_of}
@@ -15,15 +15,18 @@ abbrev pub IsScanned : Scanned → (List ScanPart → Type 0) → Type 0
 IsScanned (scanned.Done parts) holds = holds parts
 IsScanned (scanned.Cut parts) holds = ⊥
 
--- The part lists names, each with a number of 64 bits.
-abbrev pub ListsNames : ScanPart → Type 0
-ListsNames part = All (λ (pair : Pair). IsName pair.name × (pair.value < 2 ^ 64)) part.pairs
+-- The part begins at a name and ends below one, or nowhere; it lists names, each with a number. Numbers have 64 bits.
+pub record IsNamed (part : ScanPart) : Type 0 where
+  pub low : IsName part.low
+  pub high : IfSome part.high IsName
+  pub place : part.place < 2 ^ 64
+  pub pairs : All (λ (pair : Pair). IsName pair.name × (pair.value < 2 ^ 64)) part.pairs
 
 -- A part of a scan that was answered between two views, from this name on, with so many names left.
 pub record IsRead (low : List ℕ) (left : ℕ) (old new : Member) (part : ScanPart) : Type 0 where
   pub part_of : IsPart (after (map_of old.about.base) new.seen) low left (length old.seen) part
   pub within : part.place ≤ length new.seen
-  pub named : ListsNames part
+  pub named : IsNamed part
 
 -- The parts of a scan of so many names from this one on, each of the map at a place of its own: after as many writes of
 -- the history as the caller had seen before the scan at least, and as it has seen behind it at most. No place is before
@@ -32,4 +35,4 @@ pub record AreScanned (from : List ℕ) (count : ℕ) (old new : Member) (parts 
   pub scan : AreParts (after (map_of old.about.base) new.seen) from count (length old.seen) false parts
   pub within : All (λ part. part.place ≤ length new.seen) parts
   pub rise : Rise (flat_map (λ part. part.pairs) parts)
-  pub named : All ListsNames parts
+  pub named : All IsNamed parts

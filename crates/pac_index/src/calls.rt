@@ -97,12 +97,7 @@ impl Shared {
     }
 
     /// One try of a call on one name, with the gate before its first step and between its steps.
-    pub(crate) fn try_call<G: Gate>(
-        &self,
-        caller: &mut Caller,
-        call: CoreCall,
-        gate: &G,
-    ) -> Tried<Placed>
+    pub fn try_call<G: Gate>(&self, caller: &mut Caller, call: CoreCall, gate: &G) -> Tried<Placed>
         requires caller { IsCallerOf self.now caller.old }
         requires worker { caller.old.number < self.now.about.layout.callers }
         requires begins { MayBegin call }
@@ -205,6 +200,13 @@ impl Caller {
         ensures { result ≡ self.now.number }
     {
         self.number
+    }
+
+    /// The index of its next call.
+    pub fn index(&self) -> u64
+        ensures { result ≡ self.now.index }
+    {
+        self.index
     }
 
     /// For how many more writes it has room.

@@ -32,6 +32,3 @@ pub use rule::{
 pub use scans::Scanned;
 pub use shared::Shared;
 pub use tried::{Tried, TriedTurn};
-
-#[cfg(test)]
-mod tests;

@@ -38,7 +38,7 @@ impl Shared {
     }
 
     /// A get with the gate before its first step and between its steps, over all tries.
-    pub(crate) fn get_at<R: Wait, G: Gate>(
+    pub fn get_at<R: Wait, G: Gate>(
         &self,
         rt: &R,
         caller: &mut Caller,
@@ -85,7 +85,7 @@ impl Shared {
     }
 
     /// A part with the gate in the same way.
-    pub(crate) fn part_at<R: Wait, G: Gate>(
+    pub fn part_at<R: Wait, G: Gate>(
         &self,
         rt: &R,
         caller: &mut Caller,
@@ -147,12 +147,7 @@ impl Shared {
     }
 
     /// A turn of the updater by any caller with the gate in the same way.
-    pub(crate) fn turn_at<R: Wait, G: Gate>(
-        &self,
-        rt: &R,
-        caller: &mut Caller,
-        gate: &G,
-    ) -> Ended<Turned>
+    pub fn turn_at<R: Wait, G: Gate>(&self, rt: &R, caller: &mut Caller, gate: &G) -> Ended<Turned>
         requires caller { IsCallerOf self.now caller.old }
         ensures caller { IsCallerOf self.now caller.new }
         ensures same { (caller.new.number ≡ caller.old.number) × (caller.new.index ≡ caller.old.index) ×

@@ -55,7 +55,7 @@ impl Shared {
     }
 
     /// A scan with the gate before its first step and between its steps, over all tries of all parts.
-    pub(crate) fn scan_at<R: Wait, G: Gate>(
+    pub fn scan_at<R: Wait, G: Gate>(
         &self,
         rt: &R,
         alloc: Global,

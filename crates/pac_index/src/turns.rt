@@ -33,6 +33,20 @@ impl Shared {
         self.try_turn(caller, &mut pace)
     }
 
+    /// One try of a turn of the updater by its caller, the one of this number, with the gate before its first step and
+    /// between its steps.
+    pub fn turn_at_gate<G: Gate>(&self, caller: &mut Caller, turn: u64, gate: &G) -> TriedTurn
+        requires caller { IsCallerOf self.now caller.old }
+        requires updater { caller.old.number ≡ self.now.about.layout.callers }
+        ensures caller { IsCallerOf self.now caller.new }
+        ensures same { (caller.new.number ≡ caller.old.number) × (caller.new.index ≡ caller.old.index) ×
+            (caller.new.kept ≡ caller.old.kept) }
+        ensures told { IsTold result (λ answer. TurnAnswers (seen_by caller.old) answer (seen_by caller.new)) }
+    {
+        let mut pace = Pace::begin(gate, caller.number, turn);
+        self.try_turn(caller, &mut pace)
+    }
+
     /// One try of a turn by any of the callers, in a call that goes at this pace.
     pub(crate) fn try_turn<G: Gate>(&self, caller: &mut Caller, pace: &mut Pace<'_, G>) -> TriedTurn
         requires caller { IsCallerOf self.now caller.old }

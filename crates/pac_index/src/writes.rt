@@ -92,7 +92,7 @@ impl Shared {
     }
 
     /// A put or a delete, with the gate before its first step and between its steps, over all tries and turns.
-    pub(crate) fn write<R: Wait, G: Gate>(
+    pub fn write<R: Wait, G: Gate>(
         &self,
         rt: &R,
         caller: &mut Caller,

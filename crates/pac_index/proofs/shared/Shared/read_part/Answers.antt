@@ -1,4 +1,5 @@
-use Rattle.std.proofs.Common.{◌<◌, ◌^◌, ◌∙◌, All, sym, subst}
+use Rattle.std.proofs.Common.{rules, ◌<◌, ◌^◌, ◌∙◌, All, sym, subst, arith}
+use Rattle.std.specs.Prelude.{IfSome}
 use Rattle.cat_key.specs.Names.{IsName}
 use Rattle.cat_key.specs.declared.Pair.{Pair}
 use Rattle.pac_index.specs.Callers.{seen_by}
@@ -8,8 +9,17 @@ use Rattle.pac_index.proofs.shared.Shared.read_part.Goals as goal
 pub returns-clause-part : goal.returns-clause-part
 returns-clause-part g c =
     let told = c.in_ok-listed_pairs.ensures in
-    part_is c.args.low c.args.left c.args.caller.now.index (seen_by c.args.caller.now) (seen_by c.part_at_pace-ended.new.caller) c.in-Done.words c.in-Done.ensures.done c.of.result (c.of.ensures ∙ told.pairs)
-    (subst (All (λ (pair : Pair). IsName pair.name × (pair.value < 2 ^ 64))) (sym c.of.ensures) told.named)
+    let words = c.in-Done.words in
+    let low : IsName c.args.low = search rules in
+    let high : IfSome words.high IsName = search rules in
+    let place : words.place < 2 ^ 64 = search arith in
+    part_is c.args.low c.args.left c.args.caller.now.index (seen_by c.args.caller.now) (seen_by c.part_at_pace-ended.new.caller) words c.in-Done.ensures.done c.of.result (c.of.ensures ∙ told.pairs)
+    (record {
+      low = low;
+      high = high;
+      place = place;
+      pairs = subst (All (λ (pair : Pair). IsName pair.name × (pair.value < 2 ^ 64))) (sym c.of.ensures) told.named;
+    })
 
 pub returns-clause-reads : goal.returns-clause-reads
 returns-clause-reads g c = part_reads c.args.low c.args.left c.args.caller.now.index (seen_by c.args.caller.now) (seen_by c.part_at_pace-ended.new.caller) c.in-Done.words c.in-Done.ensures.done

@@ -3,7 +3,7 @@ use Rattle.std.proofs.lemmas.List.{length-append}
 use Rattle.pac_index.specs.declared.caller.Caller.{Caller}
 use Rattle.pac_index.specs.Callers.{HasCallers}
 use Rattle.pac_index.proofs.Handing.{pushed}
-use Rattle.pac_index.proofs.tests.put_back.Goals as goal
+use Rattle.tests_threads.proofs.meeting.put_back.Goals as goal
 
 pub returns : goal.returns
 returns c =

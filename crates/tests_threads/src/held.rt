@@ -1,0 +1,110 @@
+//! A get and a part of a range scan that stand still before one of their steps while another caller puts a name into their
+//! node, before each step in turn.
+
+use crate::meeting::{First, Seen, met};
+use crate::playing::{Habit, Kind, Plan};
+use crate::watch::Watch;
+use pm_words::Layout;
+use std::test::Fail;
+
+/// The reader's two calls, both of the same name.
+fn reads(habit: Habit) -> Plan {
+    Plan {
+        habit,
+        letter: b'a',
+        names: 1,
+        calls: 2,
+    }
+}
+
+/// The writer's three calls, each of another name, of which the first is the reader's.
+fn writes() -> Plan {
+    Plan {
+        habit: Habit::Tries(Kind::Puts),
+        letter: b'a',
+        names: 3,
+        calls: 3,
+    }
+}
+
+/// Others make no call.
+fn idle() -> Plan {
+    Plan {
+        calls: 0,
+        ..writes()
+    }
+}
+
+/// How many steps a read takes where its node has one live slot or two: of the floor, the walk, the clock, the bitmap and
+/// the fingerprints, of the name and its value, and the version word. A part loads four words of each live slot too.
+fn steps_of(habit: Habit, slots: u64) -> u64 {
+    let get = 8 + 6 + 1 + 1 + 8 + 4 + 1;
+    match habit {
+        Habit::Waits(Kind::Parts) => slots.saturating_mul(4).saturating_add(get),
+        _ => get,
+    }
+}
+
+/// How many steps the first read takes, over all its tries, and of which place it is, where it stands still before this
+/// step. A put before its first load of the version word is seen; from then on the read is turned back by it, and is of
+/// the next place once it is made again; and no put is seen that comes once it is over. A try that stands still before its
+/// bitmap is loaded sees two slots.
+fn by_the_rule(habit: Habit, step: u64) -> (u64, u64) {
+    let (one, two) = (steps_of(habit, 1), steps_of(habit, 2));
+    if step < 9 {
+        (two, 2)
+    } else if step < 16 {
+        (two.saturating_mul(2), 2)
+    } else if step < one {
+        (one.saturating_add(two), 2)
+    } else {
+        (one, 1)
+    }
+}
+
+/// Whether a get was turned back so or not at all, where it is of this place.
+fn is_back(first: First, step: u64) -> bool {
+    if step < 9 || first.place == 1 {
+        first.at_once
+    } else {
+        first.moved
+    }
+}
+
+/// Whether the read that stood still before this step came to what the rule says.
+fn is_by_the_rule(habit: Habit, step: u64, seen: &Seen, steps: u64) -> bool {
+    seen.told && (steps, seen.first.place) == by_the_rule(habit, step)
+}
+
+/// Parts, over all their tries.
+#[test]
+fn a_part_beside_a_put_lists_the_map_at_its_place(rt: HostRuntime) -> Result<(), Fail> {
+    let habit = Habit::Waits(Kind::Parts);
+    let layout = Layout::new(1, 4, 4)?;
+    for step in 0..=steps_of(habit, 1) {
+        let gate = Watch::new(Some(step));
+        let plans = [reads(habit), writes(), idle(), idle()];
+        let seen = met(&rt, rt.alloc(), layout, plans, false, &gate)?;
+        let [_, steps] = gate.counts();
+        let is_right = is_by_the_rule(habit, step, &seen, steps);
+        assert_eq!(rt; (step, is_right), (step, true));
+    }
+    Ok(())
+}
+
+/// Gets, by single tries: it is the steps of the last one that are counted.
+#[test]
+fn a_get_beside_a_put_is_of_its_place(rt: HostRuntime) -> Result<(), Fail> {
+    let habit = Habit::Tries(Kind::Gets);
+    let layout = Layout::new(1, 4, 4)?;
+    let steps = steps_of(habit, 1);
+    for step in 0..=steps {
+        let gate = Watch::new(Some(step));
+        let plans = [reads(habit), writes(), idle(), idle()];
+        let seen = met(&rt, rt.alloc(), layout, plans, false, &gate)?;
+        let place = if step < steps { 2 } else { 1 };
+        let is_right = seen.told && seen.first.place == place && is_back(seen.first, step);
+        assert_eq!(rt; (step, is_right), (step, true));
+    }
+    Ok(())
+}
