@@ -3,7 +3,7 @@
 use pm_words::Layout;
 
 /// What the words of the command line ask for. Where it names a file, that is the second word.
-#[derive(Clone, Copy, Debug, PartialEq, Eq)]
+#[derive(Clone, Copy)]
 pub enum Command {
     /// A fresh image of this layout, saved as a file.
     Format { layout: Layout },

@@ -3,8 +3,6 @@
 
 mod command;
 mod read;
-#[cfg(test)]
-mod tests;
 
 pub use command::Command;
 pub use read::read_command;

@@ -13,8 +13,6 @@ mod line;
 mod number;
 mod read;
 mod script;
-#[cfg(test)]
-mod tests;
 mod verb;
 
 pub use fault::{MOST_BYTES, ScriptFault};

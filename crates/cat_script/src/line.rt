@@ -37,7 +37,7 @@ pub enum Reason {
 }
 
 /// Why a line could not be read.
-#[derive(Clone, Copy, Debug, PartialEq, Eq)]
+#[derive(Clone, Copy)]
 pub enum LineFault {
     /// It is none of a script.
     Faulty(Reason),

@@ -6,8 +6,6 @@ mod outside;
 mod print;
 mod report;
 mod summary;
-#[cfg(test)]
-mod tests;
 mod word_line;
 
 pub use outside::file_shelf::FileShelf;
@@ -18,7 +16,7 @@ pub use outside::shelf::{LoadFault, SaveFault, Shelf};
 pub use outside::sink::{Sink, WriteFault, write_whole};
 pub use outside::source::{Failed, ReadFault, Source, read_whole};
 pub use outside::streams::{ReadSource, WriteSink};
-pub use print::print_report;
+pub use print::{print_report, print_rounds};
 pub use report::{Report, RoundReport};
 pub use summary::{Summary, print_summary};
 /// There was no memory.

@@ -25,7 +25,7 @@ pub fn print_report(alloc: Global, report: &Report) -> Result<Vec<u8>, NoMemory>
 }
 
 /// The same of any rounds, also where they are no report.
-pub(crate) fn print_rounds(alloc: Global, report: &Report) -> Result<Vec<u8>, NoMemory>
+pub fn print_rounds(alloc: Global, report: &Report) -> Result<Vec<u8>, NoMemory>
     ensures { IfOk result (λ text. text.items ≡ report_text report.now) }
 {
     let mut text = Vec::new(alloc);

@@ -8,7 +8,7 @@ use crate::print::add_number;
 use std::alloc::Global;
 
 /// What a round comes to in numbers.
-#[derive(Clone, Copy, Debug, PartialEq, Eq)]
+#[derive(Clone, Copy)]
 pub struct Summary {
     /// How many calls it has.
     pub calls: u64,
@@ -47,26 +47,4 @@ fn add_field(text: &mut Vec<u8>, word: &str, number: u64) -> Result<(), NoMemory
 {
     text.extend_from_slice(word.as_bytes())?;
     add_number(text, number)
-}
-
-#[cfg(test)]
-mod tests {
-    use super::*;
-    use std::test::Fail;
-
-    #[test]
-    fn line_of_a_summary(rt: HostRuntime) -> Result<(), Fail> {
-        let summary = Summary {
-            calls: 100,
-            puts: 52,
-            dels: 9,
-            names: 0,
-            sum: u64::MAX,
-            full: 1,
-        };
-        let text = print_summary(rt.alloc(), &summary)?;
-        let want = b"calls 100 puts 52 dels 9 names 0 sum 18446744073709551615 full 1\n";
-        assert_eq!(rt; text.as_slice(), want.as_slice());
-        Ok(())
-    }
 }

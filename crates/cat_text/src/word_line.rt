@@ -19,24 +19,3 @@ pub fn add_word(text: &mut Vec<u8>, number: u64, word: u64) -> Result<(), NoMemo
     text.extend_from_slice(&digits)?;
     text.extend_from_slice(b"\n")
 }
-
-#[cfg(test)]
-mod tests {
-    use super::*;
-    use std::test::Fail;
-
-    #[test]
-    fn lines_of_words(rt: HostRuntime) -> Result<(), Fail> {
-        let mut text = Vec::new(rt.alloc());
-        for (number, word) in [
-            (5, 1),
-            (0, u64::from_le_bytes(*b"PACCAT01")),
-            (2722351, 0xfedc_ba98_7654_3210),
-        ] {
-            add_word(&mut text, number, word)?;
-        }
-        let want = b"5 0000000000000001\n0 3130544143434150\n2722351 fedcba9876543210\n";
-        assert_eq!(rt; text.as_slice(), want.as_slice());
-        Ok(())
-    }
-}

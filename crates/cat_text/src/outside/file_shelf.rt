@@ -180,6 +180,3 @@ fn sync_folder<R: Files>(rt: &R, folder: Path<'_>) -> io::Result<()> {
         _ => Ok(()),
     }
 }
-
-#[cfg(test)]
-mod tests;

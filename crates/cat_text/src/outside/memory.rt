@@ -10,7 +10,7 @@ use std::alloc::Global;
 use std::marker::Model;
 
 /// A source over bytes in memory.
-#[derive(Debug, Drop)]
+#[derive(Drop)]
 pub struct MemorySource {
     bytes: Vec<u8>,
     place: usize,
@@ -88,7 +88,7 @@ impl Source for MemorySource {
 }
 
 /// A sink that keeps its bytes in memory.
-#[derive(Debug, Drop)]
+#[derive(Drop)]
 pub struct MemorySink {
     bytes: Vec<u8>,
     largest: usize,

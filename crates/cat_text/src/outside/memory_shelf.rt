@@ -89,28 +89,3 @@ impl Shelf for MemoryShelf {
         }
     }
 }
-
-#[cfg(test)]
-mod tests {
-    use super::*;
-    use std::test::Fail;
-
-    #[test]
-    fn files_and_faults(rt: HostRuntime) -> Result<(), Fail> {
-        let alloc = rt.alloc();
-        let failing = Vec::from_slice(alloc, &[2, 4])?;
-        let mut shelf = MemoryShelf::new(alloc, FaultPlan::failing_at(failing));
-        assert_eq!(rt; shelf.save("a", b"old"), Ok(()));
-        assert_eq!(rt; shelf.save("a", b"new"), Err(SaveFault::Failed));
-        let kept = shelf.load("a")?.ok_or("a")?;
-        assert_eq!(rt; kept.as_slice(), b"old".as_slice());
-        assert_eq!(rt; shelf.load("a").err(), Some(LoadFault::Failed));
-        assert_eq!(rt; shelf.save("a", b""), Ok(()));
-        assert_eq!(rt; shelf.save("b", b"other"), Ok(()));
-        let empty = shelf.load("a")?.ok_or("a")?;
-        assert!(rt; empty.is_empty());
-        assert!(rt; shelf.load("c")?.is_none());
-        assert_eq!(rt; (shelf.plan().calls(), shelf.plan().faults()), (8, 2));
-        Ok(())
-    }
-}

@@ -8,7 +8,7 @@ use std::marker::Model;
 /// The calls of an object in memory: how many were made, how many of them failed, and the numbers
 /// of those that are to fail. The first call has number 1. The count of calls stands still at
 /// `u64::MAX`, and no call past it fails.
-#[derive(Debug, Drop)]
+#[derive(Drop)]
 pub struct FaultPlan {
     calls: u64,
     faults: u64,
