@@ -11,7 +11,7 @@ use recovery::OpenFault;
 use std::fmt;
 
 /// The word of a command or of a script's line that isn't built yet.
-#[derive(Clone, Copy, Debug, PartialEq, Eq)]
+#[derive(Clone, Copy)]
 pub enum Verb {
     Gen,
     /// A put of another caller than that of its round's first call. So are a get, a delete and a scan.
@@ -38,7 +38,7 @@ impl fmt::Display for Verb {
 }
 
 /// Why a command was not done on a file.
-#[derive(Clone, Copy, Debug, PartialEq, Eq)]
+#[derive(Clone, Copy)]
 pub enum ImageRefusal {
     /// There is no file of this name.
     Missing,
@@ -75,7 +75,7 @@ impl fmt::Display for ImageRefusal {
 }
 
 /// How a command ended.
-#[derive(Clone, Copy, Debug, PartialEq, Eq)]
+#[derive(Clone, Copy)]
 pub enum Status {
     /// What the command prints was written whole.
     Done,

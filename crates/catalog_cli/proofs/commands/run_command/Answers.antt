@@ -3,7 +3,7 @@ use Rattle.catalog_cli.proofs.Outcomes.{printed, printed-part, printed-built}
 use Rattle.catalog_cli.specs.Headline.{seen}
 use Rattle.std.proofs.Common.{inr, ap}
 use Rattle.std.specs.Prelude.{Err}
-use Rattle.catalog_cli.proofs.catalog.run_command.Goals as goal
+use Rattle.catalog_cli.proofs.commands.run_command.Goals as goal
 
 pub returns-in-Ok-write_whole-clause-sink : goal.returns-in-Ok-write_whole-clause-sink
 returns-in-Ok-write_whole-clause-sink g c = printed _ _ _ _ _ _ c.in-Ok.ensures.prints c.deref.ensures.value c.in-Ok-write_whole.ensures.whole

@@ -6,7 +6,7 @@ use Rattle.catalog_cli.specs.Headline.Prints.{reports, sums_up, makes_file, list
 use Rattle.cat_command.specs.Commands.{IsCommand}
 use Rattle.catalog_cli.proofs.FileOutcomes.{not-run, not-told, run-not-of-words}
 use Rattle.catalog_cli.proofs.Outcomes.{not-of-words, makes-one}
-use Rattle.catalog_cli.proofs.catalog.text_of.Goals as goal
+use Rattle.catalog_cli.proofs.commands.text_of.Goals as goal
 
 pub returns-in_err-text-in-Gen-clause-cause : goal.returns-in_err-text-in-Gen-clause-cause
 returns-in_err-text-in-Gen-clause-cause g c =

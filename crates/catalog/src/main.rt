@@ -1,20 +1,8 @@
-//! `catalog`: plays scripts of calls on a catalogue of names, and reports what each call was answered.
+//! `catalog`: its words, its streams and its exit code.
 #![tactic(auto)]
 
-mod built;
-mod catalog;
-mod files;
-mod generated;
-mod play;
-mod reading;
-mod run_file;
-mod status;
-#[cfg(test)]
-mod tests;
-
 use cat_text::{FileShelf, ReadSource, WriteSink};
-pub use catalog::catalog;
-pub use status::{ImageRefusal, Status, Verb};
+use catalog_cli::{Status, catalog};
 use std::process::ExitCode;
 use std::rt::Env;
 use std::{env, io};
@@ -34,7 +22,7 @@ const VERSION: &str = "catalog 0.1.0";
 
 fn main(rt: HostRuntime) -> ExitCode {
     let status = run(&rt);
-    if status != Status::Done {
+    if !matches!(status, Status::Done) {
         // Where not even this can be written, the exit code still tells.
         let _ = eprintln!(rt; "catalog: {status}");
     }

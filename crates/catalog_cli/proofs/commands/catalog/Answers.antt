@@ -1,7 +1,7 @@
 use Rattle.catalog_cli.proofs.FileOutcomes.{finishes-on-file, tells-file, tells-run}
 use Rattle.catalog_cli.proofs.Outcomes.{tells, finishes, finishes-generated, usage-exactly, command-exactly}
 use Rattle.catalog_cli.specs.Headline.{Seen, seen}
-use Rattle.catalog_cli.proofs.catalog.catalog.Goals as goal
+use Rattle.catalog_cli.proofs.commands.catalog.Goals as goal
 
 -- what is told of source and shelf
 abbrev told : (g : _) → goal.After-run_command g → Seen

@@ -1,0 +1,14 @@
+//! What `catalog` does: plays scripts of calls on a catalogue of names, and reports what each call was answered.
+#![tactic(auto)]
+
+mod built;
+mod commands;
+mod files;
+mod generated;
+mod play;
+mod reading;
+mod run_file;
+mod status;
+
+pub use commands::catalog;
+pub use status::{ImageRefusal, Status, Verb};
