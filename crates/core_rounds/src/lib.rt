@@ -16,6 +16,3 @@ pub use playing::{calls_in, play_plans, play_rounds};
 pub use round::run_lone_round;
 pub use summary::summarize;
 pub use updated_map::UpdatedMap;
-
-#[cfg(test)]
-mod tests;
