@@ -1,0 +1,5 @@
+//! Tests of pins and release numbers.
+#![tactic(auto)]
+
+#[cfg(test)]
+mod tests;
