@@ -1,0 +1,14 @@
+mod Powers
+mod EntryForms
+mod IndexForm
+mod CellWords
+mod Heads
+mod Lookups
+mod KeyBytes
+mod Storing
+mod Adding
+mod Others
+mod Growing
+mod Pairing
+mod FillEnds
+mod FillLaw

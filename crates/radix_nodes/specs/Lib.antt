@@ -1,0 +1,9 @@
+pub mod Bytes
+pub mod Keys
+pub mod Cells
+pub mod Entries
+pub mod Changes
+pub mod Places
+pub mod Stores
+pub mod Fills
+pub mod FillLaws

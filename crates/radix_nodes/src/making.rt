@@ -1,0 +1,124 @@
+//! New cells: the next form of a full one, and a cell for two children.
+
+ghost use Rattle.std.specs.Prelude.{◌≡◌, ◌≢◌, ℕ, ◌+◌, ◌<◌, ◌≤◌, replicate, slice_index};
+ghost use Rattle.radix_nodes.specs.Keys.{key_bytes};
+ghost use Rattle.radix_nodes.specs.Cells.{IsReference, IsCell};
+ghost use Rattle.radix_nodes.specs.Places.{IsBare, IsHeaded, taken_in};
+ghost use Rattle.radix_nodes.specs.Changes.{IsGrown, IsPair};
+
+use crate::cell::{
+    Branch, CELL_WORDS, Cell, ENTRY, FIRST, FIRST_OF_4, FORM_4, FORM_16, PLACES, byte_set,
+};
+use crate::key::Key;
+use crate::lookup::child_word;
+use cat_key::WORDS;
+
+/// The cell of the next form with the same depth, prefix and children.
+pub fn grown(cell: &Cell) -> Cell
+    requires { (2 ≤ cell.now.kind) × (cell.now.kind ≤ 4) }
+    ensures { IsCell cell.now → IsGrown cell.now result }
+{
+    match cell.kind {
+        FORM_4 => grown_to_16(cell),
+        FORM_16 => grown_to_48(cell),
+        _ => grown_to_256(cell),
+    }
+}
+
+/// A cell without children, with the depth and the prefix of this one.
+fn bare(cell: &Cell, kind: u64) -> Cell
+    ensures { IsBare cell.now kind result }
+{
+    let mut words = no_words();
+    for at in 0..WORDS + 1 {
+        words[at] = cell.words[at];
+    }
+    Cell { kind, words }
+}
+
+/// The entries come into the first ones of form 16.
+fn grown_to_16(cell: &Cell) -> Cell
+    requires { cell.now.kind ≡ 2 }
+    ensures { IsCell cell.now → IsGrown cell.now result }
+{
+    let mut grown = bare(cell, 3);
+    for entry in 0..4 {
+        grown.set(FIRST + entry, cell.word(FIRST_OF_4 + entry));
+    }
+    grown
+}
+
+/// Each entry's reference comes into the place of the entry's number.
+fn grown_to_48(cell: &Cell) -> Cell
+    requires { cell.now.kind ≡ 3 }
+    ensures { IsCell cell.now → IsGrown cell.now result }
+{
+    let mut grown = bare(cell, 4);
+    for entry in 0..16 {
+        take_in(&mut grown, entry, cell.word(FIRST + entry));
+    }
+    grown
+}
+
+/// Form 48: an entry's reference comes into a place, and its byte gets the place.
+fn take_in(cell: &mut Cell, place: u64, entry: u64)
+    requires { place < 48 }
+    ensures { cell.new ≡ taken_in cell.old place entry }
+{
+    if entry == 0 {
+        return;
+    }
+    let byte = entry / ENTRY % 256;
+    cell.set(PLACES + place, entry % ENTRY);
+    let offset = FIRST + byte / 8;
+    let index = byte_set(cell.word(offset), byte % 8, place + 1);
+    cell.set(offset, index);
+}
+
+/// Each reference comes to its byte.
+fn grown_to_256(cell: &Cell) -> Cell
+    requires { cell.now.kind ≡ 4 }
+    ensures { IsCell cell.now → IsGrown cell.now result }
+{
+    let mut grown = bare(cell, 5);
+    for byte in 0..256 {
+        grown.set(FIRST + byte, child_word(cell, byte));
+    }
+    grown
+}
+
+/// A cell of form 4 with two children.
+pub fn paired(depth: u64, prefix: Key, one: Branch, two: Branch) -> Cell
+    requires depth { depth < key_bytes }
+    requires apart { one.byte ≢ two.byte }
+    requires one { IsReference one.reference }
+    requires two { IsReference two.reference }
+    ensures { IsPair depth (slice_index prefix) one two result }
+{
+    let mut words = headed(depth, prefix);
+    words[FIRST_OF_4 as usize] = one.entry();
+    words[FIRST_OF_4 as usize + 1] = two.entry();
+    Cell {
+        kind: FORM_4,
+        words,
+    }
+}
+
+/// A depth and a prefix, and zeros behind them.
+fn headed(depth: u64, prefix: Key) -> [u64; CELL_WORDS]
+    ensures { IsHeaded depth (slice_index prefix) (slice_index result) }
+{
+    let mut words = no_words();
+    words[0] = depth;
+    for at in 0..WORDS {
+        words[1 + at] = prefix[at];
+    }
+    words
+}
+
+/// Zeros.
+fn no_words() -> [u64; CELL_WORDS]
+    ensures { result ≡ replicate 264 0 }
+{
+    [0; CELL_WORDS]
+}
