@@ -1,0 +1,9 @@
+pub mod Parting
+pub mod Calling
+pub mod Meeting
+pub mod Rising
+pub mod Rooms
+pub mod Aparting
+pub mod Stands
+pub mod Told
+pub mod LoneOrder
