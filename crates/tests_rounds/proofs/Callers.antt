@@ -1,0 +1,10 @@
+-- Callers that a fresh core has.
+use Rattle.std.proofs.Common.{◌≡◌, ℕ, ◌<◌, List, sym, ap, subst, ◌∙◌}
+use Rattle.std.specs.Prelude.{All}
+use Rattle.cat_history.specs.declared.op.CallerOp.{CallerOp}
+use Rattle.pm_words.specs.declared.layout.Layout.{Layout}
+use Rattle.index_core.specs.Fresh.{IsFreshIndex}
+use Rattle.index_core.specs.Indexes.{Index}
+
+pub two-callers : (l : Layout) (s : Index) (ops : List CallerOp) → l.callers ≡ 2 → IsFreshIndex l s → All (λ (a : CallerOp). a.caller < 2) ops → All (λ (a : CallerOp). a.caller < s.layout.callers) ops
+two-callers l s ops two fresh few = subst (λ (n : ℕ). All (λ (a : CallerOp). a.caller < n) ops) (sym (ap (λ (k : Layout). k.callers) fresh.layout ∙ two)) few

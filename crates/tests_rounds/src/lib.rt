@@ -1,0 +1,7 @@
+//! Tests of rounds of several callers.
+#![tactic(auto)]
+
+#[cfg(test)]
+mod held;
+#[cfg(test)]
+mod placed;

@@ -1,0 +1,7 @@
+pub mod Own
+pub mod Making
+pub mod Playing
+pub mod Meeting
+pub mod Gathering
+pub mod Rows
+pub mod Turning

@@ -1,0 +1,14 @@
+use Rattle.std.proofs.Common.{◌≡◌, ◌∙◌}
+use Rattle.pac_index.specs.Callers.{seen_by}
+use Rattle.pac_index.proofs.Repeating.{back_self}
+use Rattle.thread_rounds.proofs.Turning.{turns-on}
+use Rattle.thread_rounds.proofs.worker.makes_turns.Goals as goal
+
+pub loop-turn-preserved : goal.loop-turn-preserved
+loop-turn-preserved g c =
+    let before = c.loop-turn.invariant in
+    let turned = c.turn_at_gate.ensures in (
+      turned.caller,
+      turned.same.0 ∙ before.1,
+      turns-on c.turn_at_gate.result (seen_by c.args.caller) (seen_by c.loop-turn.caller) (seen_by c.turn_at_gate.new.caller) before.2 turned.told,
+    )

@@ -1,0 +1,4 @@
+pub mod Gathered
+pub mod Made
+pub mod Played
+pub mod RunRounds
