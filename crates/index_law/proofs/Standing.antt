@@ -63,9 +63,9 @@ since_kept l g f f' later bounds n v place rises stays is = record {
   unchanged = λ now.
       let was = before now in
       let grow : IsUnchanged bounds f.base (f.history ++ later.more) place = grown f.base f.history later.more later.few bounds
-          (λ name within.
-          ap (λ (m : Map). at m name) (sym (λ i. after_all (later.base i) (later.history i)))
-          ∙ was.1.map name (is.inside was.0 name within)) place (is.unchanged was.0) in
+      (λ name within.
+      ap (λ (m : Map). at m name) (sym (λ i. after_all (later.base i) (later.history i)))
+      ∙ was.1.map name (is.inside was.0 name within)) place (is.unchanged was.0) in
       subst (λ (b : Map). IsUnchanged bounds b f'.history place) (sym later.base)
       (subst (λ (h : List Write). IsUnchanged bounds f.base h place) (sym later.history) grow);
 }
