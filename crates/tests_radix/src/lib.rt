@@ -1,0 +1,7 @@
+//! Tests of cells of a radix tree.
+#![tactic(auto)]
+
+#[cfg(test)]
+mod cells;
+#[cfg(test)]
+mod keys;
