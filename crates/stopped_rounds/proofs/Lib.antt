@@ -1,0 +1,6 @@
+pub mod MoreCutsLemmas
+pub mod LoneStopLemmas
+pub mod ScanStops
+pub mod Came
+pub mod Replying
+pub mod Stopping

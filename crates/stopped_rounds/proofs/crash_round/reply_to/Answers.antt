@@ -1,0 +1,68 @@
+use Rattle.std.proofs.Common.{◌<◌, refl, sym, subst, arith}
+use Rattle.cat_history.specs.declared.op.Op.{Op}
+use Rattle.cat_history.specs.declared.record.Reply.TheVariants.{Parts}
+use Rattle.stopped_rounds.specs.Replies.{IsLate, Replies}
+use Rattle.stopped_rounds.proofs.ScanStops.{parts-fit}
+use Rattle.stopped_rounds.proofs.Replying.{put_replies, del_replies, get_replies, scan_replies}
+use Rattle.stopped_rounds.proofs.crash_round.reply_to.Goals as goal
+
+pub put-requires-clause-calls : goal.put-requires-clause-calls
+put-requires-clause-calls g c = omega (arith, c.requires.calls, parts-fit _ _ _ _ c.in-Put.name c.has_shape.ensures)
+
+pub get-requires-clause-calls : goal.get-requires-clause-calls
+get-requires-clause-calls g c = omega (arith, c.requires.calls, parts-fit _ _ _ _ c.in-Get.name c.has_shape.ensures)
+
+pub del-requires-clause-calls : goal.del-requires-clause-calls
+del-requires-clause-calls g c = omega (arith, c.requires.calls, parts-fit _ _ _ _ c.in-Del.name c.has_shape.ensures)
+
+pub scan-requires-clause-calls : goal.scan-requires-clause-calls
+scan-requires-clause-calls g c = omega (arith, c.requires.calls, parts-fit _ _ _ _ c.in-Scan.from c.has_shape.ensures)
+
+pub returns-in_err-parts-in-Scan-clause-calls_left : goal.returns-in_err-parts-in-Scan-clause-calls_left
+returns-in_err-parts-in-Scan-clause-calls_left g c = omega (arith, c.scan.ensures.calls_left, parts-fit _ _ _ _ c.in-Scan.from c.has_shape.ensures)
+
+pub returns-in_ok-parts-in-Scan-clause-calls_left : goal.returns-in_ok-parts-in-Scan-clause-calls_left
+returns-in_ok-parts-in-Scan-clause-calls_left g c = omega (arith, c.scan.ensures.calls_left, parts-fit _ _ _ _ c.in-Scan.from c.has_shape.ensures)
+
+pub returns-in-Put-clause-calls_left : goal.returns-in-Put-clause-calls_left
+returns-in-Put-clause-calls_left g c = omega (arith, c.put.ensures.calls_left, parts-fit _ _ _ _ c.in-Put.name c.has_shape.ensures)
+
+pub returns-in-Get-clause-calls_left : goal.returns-in-Get-clause-calls_left
+returns-in-Get-clause-calls_left g c = omega (arith, c.get.ensures.calls_left, parts-fit _ _ _ _ c.in-Get.name c.has_shape.ensures)
+
+pub returns-in-Del-clause-calls_left : goal.returns-in-Del-clause-calls_left
+returns-in-Del-clause-calls_left g c = omega (arith, c.del.ensures.calls_left, parts-fit _ _ _ _ c.in-Del.name c.has_shape.ensures)
+
+pub returns-in-Put-clause-reply : goal.returns-in-Put-clause-reply
+returns-in-Put-clause-reply g c =
+    let M = g.M.BoundedMap in
+    let some : 0 < c.args.budget.now = omega (arith, c.if-budget-eq0.false) in
+    let timely : IsLate c.args.limit c.args.place c.args.op.now → ⊥ = λ late. let yes = c.comes_late.ensures.1 late in let no = c.if-comes_late.false in cc in
+    subst (λ (op : Op). Replies (M.slots c.args.map.now) (M.most c.args.map.now) c.args.limit (M.state c.args.map.now) c.args.place op c.args.budget.now c.put_reply.result c.put.new.budget (M.state c.put.new.self)) (sym c.in-Put.is)
+    (put_replies (M.slots c.args.map.now) (M.most c.args.map.now) c.args.limit (M.state c.args.map.now) (M.state c.put.new.self) c.args.place c.args.budget.now c.put.new.budget c.put_reply.result some (c.requires.uncut some)
+    c.in-Put.name c.in-Put.value c.put.result (subst (λ (op : Op). IsLate c.args.limit c.args.place op → ⊥) c.in-Put.is timely) c.put.ensures.ends c.put_reply.ensures)
+
+pub returns-in-Del-clause-reply : goal.returns-in-Del-clause-reply
+returns-in-Del-clause-reply g c =
+    let M = g.M.BoundedMap in
+    let some : 0 < c.args.budget.now = omega (arith, c.if-budget-eq0.false) in
+    let timely : IsLate c.args.limit c.args.place c.args.op.now → ⊥ = λ late. let yes = c.comes_late.ensures.1 late in let no = c.if-comes_late.false in cc in
+    subst (λ (op : Op). Replies (M.slots c.args.map.now) (M.most c.args.map.now) c.args.limit (M.state c.args.map.now) c.args.place op c.args.budget.now c.del_reply.result c.del.new.budget (M.state c.del.new.self)) (sym c.in-Del.is)
+    (del_replies (M.slots c.args.map.now) (M.most c.args.map.now) c.args.limit (M.state c.args.map.now) (M.state c.del.new.self) c.args.place c.args.budget.now c.del.new.budget c.del_reply.result some (c.requires.uncut some)
+    c.in-Del.name c.del.result (subst (λ (op : Op). IsLate c.args.limit c.args.place op → ⊥) c.in-Del.is timely) c.del.ensures.ends c.del_reply.ensures)
+
+pub returns-in-Get-clause-reply : goal.returns-in-Get-clause-reply
+returns-in-Get-clause-reply g c =
+    let M = g.M.BoundedMap in
+    let some : 0 < c.args.budget.now = omega (arith, c.if-budget-eq0.false) in
+    subst (λ (op : Op). Replies (M.slots c.args.map.now) (M.most c.args.map.now) c.args.limit (M.state c.args.map.now) c.args.place op c.args.budget.now c.get_reply.result c.get.new.budget (M.state c.get.new.self)) (sym c.in-Get.is)
+    (get_replies (M.slots c.args.map.now) (M.most c.args.map.now) c.args.limit (M.state c.args.map.now) (M.state c.get.new.self) c.args.place c.args.budget.now c.get.new.budget c.get_reply.result some (c.requires.uncut some)
+    c.in-Get.name c.get.result c.get.ensures.same c.get.ensures.ends c.get_reply.ensures)
+
+pub returns-in_ok-parts-in-Scan-clause-reply : goal.returns-in_ok-parts-in-Scan-clause-reply
+returns-in_ok-parts-in-Scan-clause-reply g c =
+    let M = g.M.BoundedMap in
+    let some : 0 < c.args.budget.now = omega (arith, c.if-budget-eq0.false) in
+    subst (λ (op : Op). Replies (M.slots c.args.map.now) (M.most c.args.map.now) c.args.limit (M.state c.args.map.now) c.args.place op c.args.budget.now (Parts c.in_ok-parts-in-Scan.parts c.in_ok-parts-in-Scan.cut) c.scan.new.budget (M.state c.scan.new.map)) (sym c.in-Scan.is)
+    (scan_replies (M.slots c.args.map.now) (M.most c.args.map.now) c.args.limit (M.state c.args.map.now) (M.state c.scan.new.map) c.args.place c.args.budget.now c.scan.new.budget (Parts c.in_ok-parts-in-Scan.parts c.in_ok-parts-in-Scan.cut) some (c.requires.uncut some)
+    c.in-Scan.from c.in-Scan.count c.in_ok-parts-in-Scan.parts c.in_ok-parts-in-Scan.cut c.scan.ensures.same c.in_ok-parts-in-Scan.ensures.read c.in_ok-parts-in-Scan.ensures.cut refl)

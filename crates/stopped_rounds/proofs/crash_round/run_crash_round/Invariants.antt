@@ -1,0 +1,19 @@
+use Rattle.std.proofs.Common.{◌≡◌, ◌+◌, ◌*◌, ◌≤◌, length, take, vec_len}
+use Rattle.std.specs.Vec.{vec_capacity}
+use Rattle.stopped_rounds.proofs.Stopping.{Stopping}
+use Rattle.stopped_rounds.proofs.crash_round.run_crash_round.Given as goal
+
+-- the records so far are those of a round of the calls so far
+abbrev pub invariant-loop-index : goal.invariant-loop-index
+invariant-loop-index g l =
+    let M = g.M.BoundedMap in
+    record {
+      stopping : Stopping (M.slots l.fn.map) (M.most l.fn.map) l.plan.limit l.budget l.left l.writes (M.state l.fn.map) (take l.index l.plan.ops) l.records.items (M.state l.map);
+      few : l.writes ≤ l.index;
+      slots_stay : M.slots l.map ≡ M.slots l.fn.map;
+      most_stays : M.most l.map ≡ M.most l.fn.map;
+      calls : M.calls_left l.fn.map ≤ M.calls_left l.map + l.index * M.most l.fn.map;
+      writes_left : M.writes_left l.fn.map ≤ M.writes_left l.map + l.index;
+      made : vec_len l.records ≡ l.index;
+      reserved : length l.asked ≤ vec_capacity l.records;
+    }

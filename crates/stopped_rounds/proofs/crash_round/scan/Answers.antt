@@ -1,0 +1,73 @@
+use Rattle.std.proofs.Common.{◌-◌, ◌∙◌, ap, refl, arith, length}
+use Rattle.stopped_rounds.proofs.Came.{none_else, of_some}
+use Rattle.stopped_rounds.proofs.ScanStops.{reads-first, reads-cut, reads-end, reads-more, reads-last, next-part, to_come, fewer-to-come}
+use Rattle.stopped_rounds.proofs.crash_round.scan.Goals as goal
+
+pub loop-next-init : goal.loop-next-init
+loop-next-init g c = record {
+  reads = reads-first _ c.args.from.now c.args.count c.args.place _ c.new-parts.ensures.items;
+  same = (refl, refl, refl);
+  slots = refl;
+  most = refl;
+  calls = omega arith;
+  writes = omega arith;
+}
+
+pub returns-then-budget-eq0-clause-read : goal.returns-then-budget-eq0-clause-read
+returns-then-budget-eq0-clause-read g c = rw c.of.ensures (reads-cut _ c.args.from.now c.args.count c.args.place c.loop-next.next c.in-Some.low c.loop-next.left _ c.in-Some.is c.loop-next.invariant.reads)
+
+pub returns-in_default-2-clause-read : goal.returns-in_default-2-clause-read
+returns-in_default-2-clause-read g c = rw c.of-in_default-2.ensures (reads-cut _ c.args.from.now c.args.count c.args.place c.loop-next.next c.in-Some.low c.loop-next.left _ c.in-Some.is c.loop-next.invariant.reads)
+
+pub loop-next-smaller-then-left-gt0 : goal.loop-next-smaller-then-left-gt0
+loop-next-smaller-then-left-gt0 g c =
+    let M = g.M.BoundedMap in
+    let shape = (M.state c.args.map.now).anchors in
+    let told = of_some _ _ c.in-Some-2.part c.in-Some-2.is c.in_ok-part.ensures.part in
+    let was = c.loop-next.invariant in
+    let is = next-part (M.state c.args.map.now) (M.state c.loop-next.map) c.in-Some.low c.loop-next.left c.args.place c.in-Some-2.part was.same.0 was.same.1 told.0 told.1 told.2 in
+    let come = ap (to_come shape) c.in-Some.is in
+    let less = fewer-to-come shape c.in-Some.low c.in-Some-2.part.high is.bound in
+    omega (arith, come, less)
+
+pub loop-next-preserved-then-left-gt0 : goal.loop-next-preserved-then-left-gt0
+loop-next-preserved-then-left-gt0 g c =
+    let M = g.M.BoundedMap in
+    let shape = (M.state c.args.map.now).anchors in
+    let told = of_some _ _ c.in-Some-2.part c.in-Some-2.is c.in_ok-part.ensures.part in
+    let was = c.loop-next.invariant in
+    let is = next-part (M.state c.args.map.now) (M.state c.loop-next.map) c.in-Some.low c.loop-next.left c.args.place c.in-Some-2.part was.same.0 was.same.1 told.0 told.1 told.2 in
+    let come = ap (to_come shape) c.in-Some.is in
+    let less = fewer-to-come shape c.in-Some.low c.in-Some-2.part.high is.bound in
+    let now = c.read_part.ensures.same in
+    let fewer = ap (λ ps. c.loop-next.left - length ps) c.as_slice.ensures in
+    record {
+      reads = reads-more (M.state c.args.map.now) c.args.from.now c.args.count c.args.place c.in-Some.low c.loop-next.left _ _ _ c.in-Some-2.part c.loop-next.next c.in-Some.is was.reads is fewer c.in_ok-push.ensures.items c.if-left-gt0.true;
+      same = (now.0 ∙ was.same.0, now.1 ∙ was.same.1, now.2 ∙ was.same.2);
+      slots = c.read_part.ensures.slots ∙ was.slots;
+      most = c.read_part.ensures.most ∙ was.most;
+      calls = omega (arith, less, come, was.calls, c.read_part.ensures.calls_left);
+      writes = omega (arith, was.writes, c.read_part.ensures.writes_left);
+    }
+
+pub loop-next-preserved : goal.loop-next-preserved
+loop-next-preserved g c =
+    let M = g.M.BoundedMap in
+    let shape = (M.state c.args.map.now).anchors in
+    let told = of_some _ _ c.in-Some-2.part c.in-Some-2.is c.in_ok-part.ensures.part in
+    let was = c.loop-next.invariant in
+    let is = next-part (M.state c.args.map.now) (M.state c.loop-next.map) c.in-Some.low c.loop-next.left c.args.place c.in-Some-2.part was.same.0 was.same.1 told.0 told.1 told.2 in
+    let come = ap (to_come shape) c.in-Some.is in
+    let now = c.read_part.ensures.same in
+    let fewer = ap (λ ps. c.loop-next.left - length ps) c.as_slice.ensures in
+    record {
+      reads = reads-last (M.state c.args.map.now) c.args.from.now c.args.count c.args.place c.in-Some.low c.loop-next.left _ _ _ c.in-Some-2.part c.loop-next.next c.in-Some.is was.reads is fewer c.in_ok-push.ensures.items (omega (arith, c.if-left-gt0.false));
+      same = (now.0 ∙ was.same.0, now.1 ∙ was.same.1, now.2 ∙ was.same.2);
+      slots = c.read_part.ensures.slots ∙ was.slots;
+      most = c.read_part.ensures.most ∙ was.most;
+      calls = omega (arith, come, was.calls, c.read_part.ensures.calls_left);
+      writes = omega (arith, was.writes, c.read_part.ensures.writes_left);
+    }
+
+pub returns-clause-read : goal.returns-clause-read
+returns-clause-read g c = rw c.of-2.ensures (reads-end _ c.args.from.now c.args.count c.args.place c.loop-next.next c.loop-next.left _ (none_else c.loop-next.next c.in_default.not-Some) c.loop-next.invariant.reads)

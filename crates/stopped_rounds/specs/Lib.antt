@@ -1,0 +1,5 @@
+pub mod MoreCuts
+pub mod LoneStops
+pub mod Bounded
+pub mod Stops
+pub mod Replies

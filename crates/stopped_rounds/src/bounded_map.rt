@@ -1,0 +1,129 @@
+//! A map of names whose calls have a budget of events.
+
+ghost use Rattle.std.specs.Prelude.{◌≡◌, ◌+◌, ◌<◌, ◌≤◌, [], ℕ, All, IfOk, take, MatchResult};
+ghost use Rattle.cat_key.specs.Names.{IsName};
+ghost use Rattle.cat_history.specs.Maps.{at};
+ghost use Rattle.cat_history.specs.Scans.{range};
+ghost use Rattle.cat_history.specs.declared.op.Change.TheVariants as change;
+ghost use Rattle.shapes.specs.Anchors.{next_of};
+ghost use Rattle.shapes.specs.Weights.{IsShape};
+ghost use Rattle.stopped_rounds.specs.Bounded.{ComesTo, DelGave, IsSame, PutGave, WasCut};
+
+use cat_history::NoMemory;
+use cat_key::Name;
+use shapes::{Full, MapPart};
+use std::alloc::Global;
+
+/// What a call comes to within a budget.
+#[derive(Drop)]
+pub enum Bounded<T> {
+    Answered(T),
+    /// The budget was used up before an event that it still had to make; and whether its write has a place.
+    Cut { placed: bool },
+}
+
+/// A map from names to numbers, as it is once all writes that have a place are done. A call takes events of its budget,
+/// which isn't 0 as it begins, and is cut off where that is used up. Then no call is made any more.
+pub trait BoundedMap {
+    ghost use Rattle.std.specs.Prelude.{ℕ};
+    ghost use Rattle.stopped_rounds.specs.Bounded.{MapState};
+
+    /// The map, however it is kept, where its members begin, and the changes that were cut off without a place.
+    ghost state: { Self → MapState };
+
+    /// How many names a member can have.
+    ghost slots: { Self → ℕ };
+
+    /// How many members there can be.
+    ghost most: { Self → ℕ };
+
+    /// How many more calls can be made of it.
+    ghost calls_left: { Self → ℕ };
+
+    /// How many more of them can be puts and removals.
+    ghost writes_left: { Self → ℕ };
+
+    /// Its members are of a shape that they can have. It does nothing.
+    fn has_shape(&self)
+        requires { (state self.now).cut ≡ [] }
+        ensures { IsShape (slots self.now) (most self.now) (state self.now).contents (state self.now).anchors };
+
+    /// The number of a name.
+    fn get(&mut self, name: &Name, budget: &mut u64) -> Bounded<Option<u64>>
+        requires uncut { (state self.old).cut ≡ [] }
+        requires calls { 0 < calls_left self.old }
+        requires some { 0 < budget.old }
+        ensures same { IsSame (state self.old) (state self.new) }
+        ensures ends { ComesTo result (λ number. number ≡ at (state self.old).contents name.now)
+            (λ placed. budget.new ≡ 0) }
+        ensures slots { slots self.new ≡ slots self.old }
+        ensures most { most self.new ≡ most self.old }
+        ensures calls_left { calls_left self.old ≤ calls_left self.new + 1 }
+        ensures writes_left { writes_left self.old ≤ writes_left self.new };
+
+    /// The first names of the member of this name that are at least it, so many at most, and where the next member
+    /// begins.
+    fn part(
+        &mut self,
+        alloc: Global,
+        low: &Name,
+        count: u64,
+        budget: &mut u64,
+    ) -> Result<Bounded<MapPart>, NoMemory>
+        requires uncut { (state self.old).cut ≡ [] }
+        requires calls { 0 < calls_left self.old }
+        requires some { 0 < budget.old }
+        ensures same { IsSame (state self.old) (state self.new) }
+        ensures ends { IfOk result (λ ended. ComesTo ended
+            (λ part. (part.high ≡ next_of (state self.old).anchors low.now) ×
+            (part.pairs ≡ take count (range (state self.old).contents low.now part.high)))
+            (λ placed. budget.new ≡ 0)) }
+        ensures slots { slots self.new ≡ slots self.old }
+        ensures most { most self.new ≡ most self.old }
+        ensures calls_left { calls_left self.old ≤ calls_left self.new + 1 }
+        ensures writes_left { writes_left self.old ≤ writes_left self.new };
+
+    /// Gives a name this number, and answers the one before. `Full` comes exactly where the put is full in the shape.
+    fn put(
+        &mut self,
+        name: &Name,
+        value: u64,
+        budget: &mut u64,
+    ) -> Bounded<Result<Option<u64>, Full>>
+        requires uncut { (state self.old).cut ≡ [] }
+        requires calls { 0 < calls_left self.old }
+        requires writes { 0 < writes_left self.old }
+        requires some { 0 < budget.old }
+        ensures ends { ComesTo result
+            (λ answer. PutGave (slots self.old) (most self.old) (state self.old) name.now value answer (state self.new))
+            (λ placed. (budget.new ≡ 0) ×
+            WasCut (state self.old) (change.Put name.now value) placed (state self.new)) }
+        ensures slots { slots self.new ≡ slots self.old }
+        ensures most { most self.new ≡ most self.old }
+        ensures calls_left { calls_left self.old ≤ calls_left self.new + 1 }
+        ensures writes_left { writes_left self.old ≤ writes_left self.new + 1 };
+
+    /// Removes a name, and answers the number that it had.
+    fn del(&mut self, name: &Name, budget: &mut u64) -> Bounded<Option<u64>>
+        requires uncut { (state self.old).cut ≡ [] }
+        requires calls { 0 < calls_left self.old }
+        requires writes { 0 < writes_left self.old }
+        requires some { 0 < budget.old }
+        ensures ends { ComesTo result
+            (λ answer. DelGave (slots self.old) (state self.old) name.now answer (state self.new))
+            (λ placed. (budget.new ≡ 0) ×
+            WasCut (state self.old) (change.Del name.now) placed (state self.new)) }
+        ensures slots { slots self.new ≡ slots self.old }
+        ensures most { most self.new ≡ most self.old }
+        ensures calls_left { calls_left self.old ≤ calls_left self.new + 1 }
+        ensures writes_left { writes_left self.old ≤ writes_left self.new + 1 };
+
+    /// A turn of the updater within its own budget. It may be cut off, and changes nothing but how the map is kept.
+    fn turn(&mut self, budget: &mut u64)
+        requires uncut { (state self.old).cut ≡ [] }
+        ensures same { IsSame (state self.old) (state self.new) }
+        ensures slots { slots self.new ≡ slots self.old }
+        ensures most { most self.new ≡ most self.old }
+        ensures calls_left { calls_left self.old ≤ calls_left self.new }
+        ensures writes_left { writes_left self.old ≤ writes_left self.new };
+}

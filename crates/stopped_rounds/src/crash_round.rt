@@ -1,0 +1,265 @@
+//! Running a round in which one caller alone has calls, within a budget.
+
+ghost use Rattle.std.specs.Prelude.{◌≡◌, ℕ, ◌+◌, ◌*◌, ◌<◌, ◌≤◌, ◌↔◌, [], if◌then◌else◌, is_some, length, All, IfOk, IfSome, IsTrue, MatchResult, None, true};
+ghost use Rattle.cat_history.specs.Records.{mark_place};
+ghost use Rattle.cat_history.specs.LoneRounds.{write_of};
+ghost use Rattle.cat_history.specs.Scans.{IsPart};
+ghost use Rattle.shapes.specs.Anchors.{next_of, past};
+ghost use Rattle.stopped_rounds.specs.Bounded.{ComesTo, IsSame};
+ghost use Rattle.stopped_rounds.specs.Replies.{IsLate, Replies, write_mark};
+ghost use Rattle.cat_history.specs.declared.record.Reply.TheVariants as Reply;
+ghost use Rattle.cat_history.specs.declared.record.CutMark.TheVariants as CutMark;
+ghost use Rattle.stopped_rounds.specs.Stops.{HasStopped, IsScanSoFar};
+
+use crate::bounded_map::{Bounded, BoundedMap};
+use cat_history::{
+    CutMark, Listed, NoMemory, Op, Parts, Record, Records, Reply, RoundPlan, ScanPart,
+};
+use cat_key::Name;
+use shapes::{Full, MapPart};
+use std::alloc::Global;
+
+/// Answers the calls of one caller in their order, each on the map as the earlier ones left it, as far as the budget
+/// goes. Where it is used up within a call, that is cut off, and no later call begins. Behind each so many calls as the
+/// plan says the updater makes a turn, within a budget of its own.
+///
+/// It takes memory for the records, before the first call, and for the parts of scans.
+pub fn run_crash_round<M: BoundedMap>(
+    alloc: Global,
+    map: &mut M,
+    plan: &RoundPlan,
+    budget: u64,
+    updater_budget: u64,
+) -> Result<Records, NoMemory>
+    requires caller { (caller : ℕ) × All (λ a. a.caller ≡ caller) plan.now.ops }
+    requires uncut { (M.state map.old).cut ≡ [] }
+    requires calls { length plan.now.ops * M.most map.old ≤ M.calls_left map.old }
+    requires writes { length plan.now.ops ≤ M.writes_left map.old }
+    ensures { IfOk result (λ records. HasStopped (M.slots map.old) (M.most map.old) plan.now.limit budget
+        (M.state map.old) plan.now.ops records (M.state map.new)) }
+{
+    let asked = plan.ops.as_slice();
+    let mut records = Vec::with_capacity(alloc, asked.len())?;
+    let mut writes = 0;
+    let mut left = budget;
+    let mut updater_left = updater_budget;
+    for (index, call) in asked.iter().enumerate() {
+        let reply = reply_to(alloc, map, &call.op, writes, plan.limit, &mut left)?;
+        turn_if_due(map, plan.updater, index as u64 + 1, left, &mut updater_left);
+        let record = Record {
+            caller: call.caller,
+            index: index as u64,
+            op: call.op,
+            reply,
+        };
+        if is_placed_write(&record) {
+            writes += 1;
+        }
+        // There is memory for a record of each call.
+        records.push_reserved(record);
+    }
+    Ok(Listed::of(records))
+}
+
+/// Makes a turn of the updater behind so many calls, where one is due and a call may still begin.
+fn turn_if_due<M: BoundedMap>(map: &mut M, turns: u64, calls: u64, left: u64, budget: &mut u64)
+    requires uncut { 0 < left → (M.state map.old).cut ≡ [] }
+    ensures same { IsSame (M.state map.old) (M.state map.new) }
+    ensures slots { M.slots map.new ≡ M.slots map.old }
+    ensures most { M.most map.new ≡ M.most map.old }
+    ensures calls_left { M.calls_left map.old ≤ M.calls_left map.new }
+    ensures writes_left { M.writes_left map.old ≤ M.writes_left map.new }
+{
+    if left == 0 {
+        return;
+    }
+    if turns != 0 && calls % turns == 0 {
+        map.turn(budget);
+    }
+}
+
+/// Answers one call at once, on the map as it is, as far as the budget goes. So many writes have a place by now, and so
+/// many may have one before a put or a delete is refused.
+fn reply_to<M: BoundedMap>(
+    alloc: Global,
+    map: &mut M,
+    op: &Op,
+    place: u64,
+    limit: u64,
+    budget: &mut u64,
+) -> Result<Reply, NoMemory>
+    requires uncut { 0 < budget.old → (M.state map.old).cut ≡ [] }
+    requires calls { M.most map.old ≤ M.calls_left map.old }
+    requires writes { 0 < M.writes_left map.old }
+    ensures reply { IfOk result (λ reply. Replies (M.slots map.old) (M.most map.old) limit (M.state map.old) place op.now
+        budget.old reply budget.new (M.state map.new)) }
+    ensures slots { M.slots map.new ≡ M.slots map.old }
+    ensures most { M.most map.new ≡ M.most map.old }
+    ensures calls_left { M.calls_left map.old ≤ M.calls_left map.new + M.most map.old }
+    ensures writes_left { M.writes_left map.old ≤ M.writes_left map.new + 1 }
+{
+    if *budget == 0 {
+        return Ok(Reply::Unstarted);
+    }
+    if comes_late(op, place, limit) {
+        return Ok(Reply::Spent { clock: place });
+    }
+    // So there are no more members than calls are left, and one member at least.
+    map.has_shape();
+    match op {
+        Op::Put { name, value } => Ok(put_reply(map.put(name, *value, budget), place)),
+        Op::Get { name } => Ok(get_reply(map.get(name, budget), place)),
+        Op::Del { name } => Ok(del_reply(map.del(name, budget), place)),
+        Op::Scan { from, count } => {
+            let (parts, cut) = scan(alloc, map, from, *count, place, budget)?;
+            Ok(Reply::Parts { parts, cut })
+        }
+    }
+}
+
+/// Whether a call is a put or a delete that comes when so many placed writes reach the limit.
+fn comes_late(op: &Op, place: u64, limit: u64) -> bool
+    ensures { IsTrue result ↔ IsLate limit place op.now }
+{
+    match op {
+        Op::Put { .. } | Op::Del { .. } => limit <= place,
+        Op::Get { .. } | Op::Scan { .. } => false,
+    }
+}
+
+/// The mark of a write that was cut off.
+fn write_mark(placed: bool, place: u64) -> CutMark
+    ensures { result ≡ write_mark placed place }
+{
+    if placed {
+        CutMark::At { place }
+    } else {
+        CutMark::Open
+    }
+}
+
+/// What a put is told.
+fn put_reply(ended: Bounded<Result<Option<u64>, Full>>, place: u64) -> Reply
+    ensures { ComesTo ended (λ answer. MatchResult answer (λ old. result ≡ Reply.Old old place) (λ _. result ≡ Reply.Full))
+        (λ placed. result ≡ Reply.Cut (write_mark placed place)) }
+{
+    match ended {
+        Bounded::Answered(Ok(old)) => Reply::Old { old, place },
+        Bounded::Answered(Err(Full)) => Reply::Full,
+        Bounded::Cut { placed } => Reply::Cut {
+            mark: write_mark(placed, place),
+        },
+    }
+}
+
+/// What a get is told.
+fn get_reply(ended: Bounded<Option<u64>>, place: u64) -> Reply
+    ensures { ComesTo ended (λ old. result ≡ Reply.Old old place) (λ placed. result ≡ Reply.Cut CutMark.Read) }
+{
+    match ended {
+        Bounded::Answered(old) => Reply::Old { old, place },
+        Bounded::Cut { .. } => Reply::Cut {
+            mark: CutMark::Read,
+        },
+    }
+}
+
+/// What a delete is told.
+fn del_reply(ended: Bounded<Option<u64>>, place: u64) -> Reply
+    ensures { ComesTo ended (λ old. result ≡ Reply.Old old place) (λ placed. result ≡ Reply.Cut (write_mark placed place)) }
+{
+    match ended {
+        Bounded::Answered(old) => Reply::Old { old, place },
+        Bounded::Cut { placed } => Reply::Cut {
+            mark: write_mark(placed, place),
+        },
+    }
+}
+
+/// Reads the parts of a scan, one after another, until there are as many names as were asked for, or no member is left, or
+/// the budget is used up; and whether it was.
+fn scan<M: BoundedMap>(
+    alloc: Global,
+    map: &mut M,
+    from: &Name,
+    count: u64,
+    place: u64,
+    budget: &mut u64,
+) -> Result<(Parts, bool), NoMemory>
+    requires uncut { (M.state map.old).cut ≡ [] }
+    requires calls { length (past (M.state map.old).anchors from.now) < M.calls_left map.old }
+    requires some { 0 < budget.old }
+    ensures read { IfOk result (λ read. IsScanSoFar (M.state map.old) from.now count place read.1 read.0) }
+    ensures cut { IfOk result (λ read. read.1 ≡ true → budget.new ≡ 0) }
+    ensures same { IsSame (M.state map.old) (M.state map.new) }
+    ensures slots { M.slots map.new ≡ M.slots map.old }
+    ensures most { M.most map.new ≡ M.most map.old }
+    ensures calls_left { M.calls_left map.old ≤ M.calls_left map.new + (length (past (M.state map.old).anchors from.now) + 1) }
+    ensures writes_left { M.writes_left map.old ≤ M.writes_left map.new }
+{
+    let mut parts = Vec::new(alloc);
+    let mut left = count;
+    let mut next = Some(*from);
+    while let Some(low) = next {
+        if *budget == 0 {
+            return Ok((Listed::of(parts), true));
+        }
+        let Some(part) = read_part(alloc, map, low, left, place, budget)? else {
+            return Ok((Listed::of(parts), true));
+        };
+        left -= part.pairs.as_slice().len() as u64;
+        let high = part.high;
+        parts.push(part)?;
+        next = if left > 0 { high } else { None };
+    }
+    Ok((Listed::of(parts), false))
+}
+
+/// Reads the part of a scan that begins at this name, with so many names left, as far as the budget goes.
+fn read_part<M: BoundedMap>(
+    alloc: Global,
+    map: &mut M,
+    low: Name,
+    left: u64,
+    place: u64,
+    budget: &mut u64,
+) -> Result<Option<ScanPart>, NoMemory>
+    requires uncut { (M.state map.old).cut ≡ [] }
+    requires calls { 0 < M.calls_left map.old }
+    requires some { 0 < budget.old }
+    ensures part { IfOk result (λ read. IfSome read (λ part. IsPart (λ _. (M.state map.old).contents) low left place part ×
+        (part.place ≡ place) × (part.high ≡ next_of (M.state map.old).anchors low))) }
+    ensures cut { IfOk result (λ read. read ≡ None → budget.new ≡ 0) }
+    ensures same { IsSame (M.state map.old) (M.state map.new) }
+    ensures slots { M.slots map.new ≡ M.slots map.old }
+    ensures most { M.most map.new ≡ M.most map.old }
+    ensures calls_left { M.calls_left map.old ≤ M.calls_left map.new + 1 }
+    ensures writes_left { M.writes_left map.old ≤ M.writes_left map.new }
+{
+    match map.part(alloc, &low, left, budget)? {
+        Bounded::Answered(MapPart { high, pairs }) => Ok(Some(ScanPart {
+            low,
+            high,
+            place,
+            pairs,
+        })),
+        Bounded::Cut { .. } => Ok(None),
+    }
+}
+
+/// Whether a record is of a write that has a place.
+fn is_placed_write(entry: &Record) -> bool
+    ensures { length (write_of entry.now) ≡ (if result then 1 else 0) }
+{
+    match (&entry.op, &entry.reply) {
+        (Op::Put { .. } | Op::Del { .. }, Reply::Old { .. }) => true,
+        (Op::Put { .. } | Op::Del { .. }, Reply::Cut { mark }) => mark_has_place(mark),
+        _ => false,
+    }
+}
+
+fn mark_has_place(mark: &CutMark) -> bool
+    ensures { result ≡ is_some (mark_place mark.now) }
+{
+    matches!(mark, CutMark::At { .. })
+}
