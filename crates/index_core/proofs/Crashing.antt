@@ -82,7 +82,7 @@ pending_cut (Some machine) change of told =
     (λ k. unplaced (own.1 k) (own.0 k))
 
 -- a call that has its place stands there, and got it after its start
-placed_since : (s : Index) → IsIndex s → (i place : ℕ) (state : PartyState) (machine : Running) → get_elem? s.states i ≡ some state → state.machine ≡ Some machine
+pub placed_since : (s : Index) → IsIndex s → (i place : ℕ) (state : PartyState) (machine : Running) → get_elem? s.states i ≡ some state → state.machine ≡ Some machine
     → placed_in (stage_of machine) ≡ Some place → IsPlaced s.history state.caller state.index state.since (name_asked (op_in machine)) place
 placed_since s is i place state machine there flies told =
     at (stage_of machine) (subst (Sure s.layout s.generation (facts (world s)) state.caller state.index state.since) (ap machine_stage flies) (is.lawful.sure i (party_of state) (map_there party_of s.states i state there)))

@@ -19,6 +19,7 @@ pub mod Indexed
 pub mod OneHistory
 pub mod LegalRounds
 pub mod Shown
+pub mod Epochless
 pub mod WeightLaw
 pub mod MachineLaw
 pub mod Quiet
@@ -46,3 +47,7 @@ pub mod RestImages
 pub mod InUse
 pub mod ScheduleCrashes
 pub mod Logs
+pub mod CrashLaws
+pub mod Withins
+pub mod Ends
+pub mod CutCrashes

@@ -40,7 +40,7 @@ write_end (op.Get _) place change asks = absurd cc
 write_end (op.Del _) place change asks = omega arith
 
 -- a call that has a place began below its limit
-began_below : (s : Index) → IsIndex s → (i place : ℕ) (state : PartyState) (machine : Running) → get_elem? s.states i ≡ some state → state.machine ≡ Some machine → placed_in (stage_of machine) ≡ Some place
+pub began_below : (s : Index) → IsIndex s → (i place : ℕ) (state : PartyState) (machine : Running) → get_elem? s.states i ≡ some state → state.machine ≡ Some machine → placed_in (stage_of machine) ≡ Some place
     → IfSome (running_call machine).limit (λ most. state.since < most)
 began_below s is i place state machine there flies told =
     subst (λ (limit : Option ℕ). IfSome limit (λ most. state.since < most)) (placed_is_in_time machine (λ none. let both : None ≡ Some place = sym none ∙ told in cc))

@@ -44,6 +44,7 @@ use Rattle.index_core.specs.Weights.{added_if}
 use Rattle.index_core.specs.MachineLaws.{IdleWeigh, shows, put_shows, showing, showing_after}
 use Rattle.index_core.proofs.Shown.{new_if, told_new, step_shows, adds_shows}
 use Rattle.index_core.proofs.Answering.{says_of}
+use Rattle.index_core.proofs.Epochless.{step_is_no_epoch}
 use Rattle.index_core.proofs.Lists.{map_from, map_there, map_set, set_twice}
 use Rattle.index_law.proofs.Footed.{rest_footed}
 use Rattle.index_core.proofs.Footings.{line_of, debt_of, free_states, may_do_names, swap_footed}
@@ -125,6 +126,7 @@ machine_law s i e m is there flies =
       counts = step.counts;
       lists = step.lists;
       says = says_of s.layout s.generation (facts (world new)) e m (told s m) of step.fits step.owns (step.legal s.spare);
+      no_epoch = step_is_no_epoch step.is_step;
       keeps_op = step.keeps_op (op_in m) of;
       keeps_call = step.keeps_call;
       ready = after new (step.kept s.spare) turn (set_here s.states i (state_after e turn) e there);

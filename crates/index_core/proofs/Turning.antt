@@ -26,6 +26,8 @@ use Rattle.updater.specs.declared.making.MakeTurn.{MakeTurn}
 use Rattle.updater.specs.declared.making.MakeTurn.TheVariants.{Taking, Working}
 use Rattle.updater.specs.declared.making.TurnReply.{TurnReply}
 use Rattle.updater.specs.declared.terms.Terms.{Terms}
+use Rattle.updater.specs.Takings.{untaken}
+use Rattle.updater.specs.Works.{work_from}
 use Rattle.updater.specs.Steps.{row_terms}
 use Rattle.updater.specs.Watches.{turning_at}
 use Rattle.updater.specs.Makings.{IsMaking, making_terms, making_asks, making_turned, making_takes, making_turning, turning_made, MakingStays, making_from}
@@ -38,10 +40,11 @@ use Rattle.layer_law.specs.Layers.{Layered, IsLayered}
 use Rattle.layer_law.specs.Laws.{turned, LeavesNodes}
 use Rattle.layer_law.proofs.TurnSteps.{turn_step_keeps, turn_step_leaves}
 use Rattle.layer_law.proofs.TurnRests.{turn_start_keeps}
+use Rattle.layer_law.proofs.TurnTerms.{terms_may_begin}
 use Rattle.index_core.specs.declared.party.PartyState.{PartyState}
 use Rattle.index_core.specs.PartyStates.{party_of, resting, turning_of, turn_after, IsTurnOf}
 use Rattle.index_core.specs.Indexes.{Index, IsIndex, world, footed, layered}
-use Rattle.index_core.specs.Turns.{turn_told, turned_index, FindsNoneFree, TurnLaw, TurnKeeps, TurnBegins}
+use Rattle.index_core.specs.Turns.{turn_told, turned_index, FindsNoneFree, TurnLaw, TurnKeeps, TurnBegins, with_terms, TermsLaw, TermsMayBeSet}
 use Rattle.index_core.proofs.Footings.{line_of, debt_of}
 use Rattle.index_core.proofs.InUse.{ends_counting, counted_none, in_use_weighs}
 use Rattle.index_core.proofs.Layering.{turn_of, map_own}
@@ -252,3 +255,19 @@ turn_begins s i state stamp release is there none some_stamp fits =
     turn_start_keeps (layered s) i resting stamp release layer at_turn refl (λ no. omega (arith, no, some_stamp)))
     (record { nodes = refl; frees = λ n. inl refl })
     (record { sound = record { layout = is.lawful.row.layout; stamp = some_stamp }; layout = refl; generation = refl; stamp = fits })
+
+pub terms_may_be_set : TermsMayBeSet
+terms_may_be_set s i state a b stamp release is there turns some_stamp fits =
+    let old : MakeTurn = Working (work_from s.layout s.generation a b) in
+    let making : MakeTurn = Working (work_from s.layout s.generation stamp release) in
+    let terms : Terms = record { layout = s.layout; generation = s.generation; stamp = stamp; release = release } in
+    let sound = makings_stay_sound (Taking terms) untaken (record { layout = is.lawful.row.layout; stamp = some_stamp }, omega arith) in
+    let at_turn : get_elem? (layered s).turns i ≡ some (making_turning old) = map_there turn_of s.states i state there ∙ ap (λ (o : Option MakeTurn). some (turning_of o)) turns in
+    let weight = ap (λ (ps : List Party). weight_sum (record (world s) { parties = ps })) (parties_same s i state (Some making) there) in
+    record {
+      kept = with_turn s i state (Some making) there s.words is
+          (terms_may_begin (layered s) i 0 (making_turning old) stamp release is.layered at_turn refl (λ no. omega (arith, no, some_stamp)))
+          (record { nodes = refl; frees = λ n. inl refl })
+          (record { sound = sound.0; layout = refl; generation = refl; stamp = fits });
+      weighs = weight;
+    }

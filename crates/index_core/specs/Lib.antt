@@ -21,3 +21,5 @@ pub mod Opened
 pub mod ScheduleCrashes
 pub mod Logs
 pub mod Rechecks
+pub mod Withins
+pub mod CrashLaws

@@ -6,6 +6,7 @@ use lib.ListN.{get_elem?}
 use Rattle.cat_history.specs.Maps.{map_of}
 use Rattle.cat_history.specs.Records.{change_of}
 use Rattle.cat_history.specs.declared.op.Change.{Change}
+use Rattle.pm_words.specs.declared.again.Again.TheVariants as again
 use Rattle.pm_words.specs.declared.layout.Layout.{Layout}
 use Rattle.pm_words.specs.declared.machine.Turn.{Turn}
 use Rattle.pm_words.specs.declared.machine.Turn.TheVariants.{Go, Done}
@@ -80,6 +81,11 @@ abbrev pub showing_after : NameOp → Turn Running (Once Placed) → ℕ
 showing_after op (Go m) = showing (Some m)
 showing_after op (Done answer) = added_by op answer
 
+-- A step isn't answered that the epoch has moved.
+abbrev pub IsNoEpoch : Option (Once Placed) → Type 0
+IsNoEpoch (Some (once.Again (again.Epoch first second))) = ⊥
+IsNoEpoch _ = Unit {0}
+
 -- What a step of a party with its machine needs and leaves.
 pub record MachineLaw (s : Index) (party : ℕ) (state : PartyState) (machine : Running) : Type 0 where
   pub can : CanAct s.layout s.words (running_asks machine)
@@ -93,6 +99,8 @@ pub record MachineLaw (s : Index) (party : ℕ) (state : PartyState) (machine : 
   pub says : SaysOf s.layout.slots (map_of s.base) (stepped_index s party state machine s.spare).history state
       (op_in machine) (running_call machine).limit
       (reply_of (running_turned machine (told s machine)))
+  -- no machine is turned back by the epoch, which it doesn't load
+  pub no_epoch : IsNoEpoch (reply_of (running_turned machine (told s machine)))
   -- the listing of a part, if it has one now and is told its version word again, is that of the map at its place
   pub lists : ListsAt s.layout (facts (world (stepped_index s party state machine s.spare))) machine (told s machine)
   -- it goes on with the same call

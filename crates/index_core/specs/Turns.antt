@@ -11,10 +11,12 @@ use Rattle.index_law.specs.Weights.{weight_sum}
 use Rattle.layer_law.specs.Laws.{LeavesNodes}
 use Rattle.lone_turn.specs.LoneTurns.{IsLoneTurn}
 use Rattle.updater.specs.declared.making.MakeTurn.{MakeTurn}
+use Rattle.updater.specs.declared.making.MakeTurn.TheVariants.{Working}
 use Rattle.updater.specs.declared.making.TurnReply.{TurnReply}
 use Rattle.updater.specs.declared.making.TurnReply.TheVariants as reply
 use Rattle.updater.specs.declared.terms.Turned.{Turned}
 use Rattle.updater.specs.Makings.{making_from, making_asks, making_turned, making_takes, making_left}
+use Rattle.updater.specs.Works.{work_from}
 use Rattle.index_core.specs.declared.party.PartyState.{PartyState}
 use Rattle.index_core.specs.declared.party.Stepped.{Stepped}
 use Rattle.index_core.specs.declared.party.Whole.{Whole}
@@ -95,6 +97,25 @@ abbrev pub TurnBegins : Type 0
 TurnBegins = (s : Index) (party : ℕ) (state : PartyState) (stamp release : ℕ) → IsIndex s →
     get_elem? s.states party ≡ some state → state.turn ≡ None → 1 ≤ stamp → stamp < 2 ^ 64 →
     IsIndex (turn_begun s party state stamp release)
+
+-- The index once the party's turn, which has the updater lock and has done nothing under it, has this stamp and release.
+abbrev pub with_terms : Index → ℕ → PartyState → ℕ → ℕ → Index
+with_terms s party state stamp release = record s {
+  states = slice_set s.states party (record state {
+    turn = Some (Working (work_from s.layout s.generation stamp release));
+  });
+}
+
+pub record TermsLaw (s : Index) (party : ℕ) (state : PartyState) (stamp release : ℕ) : Type 0 where
+  pub kept : IsIndex (with_terms s party state stamp release)
+  pub weighs : weight_sum (world (with_terms s party state stamp release)) ≡ weight_sum (world s)
+
+-- So the terms of a turn may be set once it has the lock, whichever it began with.
+abbrev pub TermsMayBeSet : Type 0
+TermsMayBeSet = (s : Index) (party : ℕ) (state : PartyState) (old_stamp old_release stamp release : ℕ) → IsIndex s →
+    get_elem? s.states party ≡ some state →
+    state.turn ≡ Some (Working (work_from s.layout s.generation old_stamp old_release)) → 1 ≤ stamp → stamp < 2 ^ 64 →
+    TermsLaw s party state stamp release
 
 -- A whole turn by the party with nothing else in flight: what it answers and leaves is told by `IsLoneTurn`, and beside
 -- words nothing has changed.

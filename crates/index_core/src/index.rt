@@ -4,6 +4,7 @@ ghost use Rattle.pm_words.specs.Layouts.{IsLayout};
 ghost use Rattle.index_law.specs.Worlds.{written};
 ghost use Rattle.index_core.specs.CoreCalls.{IfTurn, MayBegin, MayStart, most_writes};
 ghost use Rattle.index_core.specs.Indexes.{IsBusy, IsInFlight, IsIndex, KeepsRoom, Starts, StepsTo, TurnsTo};
+ghost use Rattle.index_core.specs.Indexes.{parties_of};
 ghost use Rattle.index_core.specs.Turns.{StartsTurn, TurnStepsTo};
 ghost use Rattle.index_core.specs.declared.party.Stepped.TheVariants.{Going};
 ghost use Rattle.index_core.specs.Fresh.{IsFreshIndex};
@@ -131,26 +132,27 @@ impl Core {
     }
 
     /// An index of these words, in the run that their header tells, with this base and this history. No call is in
-    /// flight, and each party's calls are counted from 0. `spare` is what room the history has.
+    /// flight, and each party's calls are counted from 0: `states` has the parties, as `idle_states` makes them. `spare`
+    /// is what room the history has.
     pub fn opened(
-        alloc: Global,
         memory: Memory,
         base: Listed<Pair>,
+        states: Vec<PartyState>,
         history: Vec<Write>,
-    ) -> Result<Core, NoMemory>
+    ) -> Core
         requires index { IsIndex (opened_index memory base history.items) }
-        ensures same { IfOk result (λ core.
-            core ≡ record (opened_index memory base history.items) { spare = core.spare }) }
-        ensures index { IfOk result IsIndex }
+        requires idle { states.items ≡ idle_states (parties_of memory.layout) }
+        ensures same { result ≡ record (opened_index memory base history.items) { spare = result.spare } }
+        ensures index { IsIndex result }
     {
         let layout = memory.layout();
-        Ok(Core {
+        Core {
             generation: memory.words()[layout.cached(header::GENERATION) as usize],
-            states: idle_states(alloc, layout.callers() + 1)?,
+            states,
             memory,
             base,
             history,
-        })
+        }
     }
 
     /// Begins a call of the party, of which a put or delete takes one of `spare`. The party may be a caller, or that of

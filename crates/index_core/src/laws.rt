@@ -8,6 +8,9 @@ ghost use Rattle.index_core.specs.WeightBounds.{WeightIsBounded};
 ghost use Rattle.index_core.specs.Rounds.{RoundBegins};
 ghost use Rattle.index_core.specs.Schedules.{OneLegalHistory, FreshIndexBegins};
 ghost use Rattle.index_core.specs.ScheduleCrashes.{CrashLeavesSound};
+ghost use Rattle.index_core.specs.CrashLaws.{ChosenKeep, ChosenWeigh, CrashKeepsGeneration, CrashLeaves};
+ghost use Rattle.index_core.specs.CrashLaws.{EvictionKeeps, PlacedAreTimely};
+ghost use Rattle.index_core.specs.Withins.{CutLeavesOne, CutTurnLeavesNone};
 
 /// All that a schedule answers is one legal history.
 ///
@@ -64,7 +67,7 @@ pub fn crash_law()
 ///
 /// The call's machine takes what its action gives. The action, done on its word, and the machine, told that number,
 /// leave an index. Its history is longer by the party's write exactly where the action adds to the clock. An answer is
-/// the map's at its place, or has its cause.
+/// the map's at its place, or has its cause; none is that the epoch has moved.
 pub fn machine_law()
     ensures { MachineKeeps }
 {}
@@ -94,13 +97,15 @@ pub fn full_law()
     ensures each { NoRoomListsEach }
 {}
 
-ghost use Rattle.index_core.specs.Turns.{TurnBegins, TurnKeeps};
+ghost use Rattle.index_core.specs.Turns.{TermsMayBeSet, TurnBegins, TurnKeeps};
 
 /// A step of a party's turn of the updater keeps the index, the words of its nodes, and so the list, the map and the
-/// history; some GONE nodes become FREE, and so it weighs no more. A party may begin a turn.
+/// history; some GONE nodes become FREE, and so it weighs no more. A party may begin a turn, and once that has the
+/// updater lock, and before it does more, it may have another stamp and another release.
 pub fn turn_law()
     ensures keeps { TurnKeeps }
     ensures begins { TurnBegins }
+    ensures terms { TermsMayBeSet }
 {}
 
 ghost use Rattle.index_core.specs.Opened.{OpeningIsIndex, OpeningIsUnused};
@@ -145,4 +150,31 @@ pub fn recheck_law()
     ensures same { SameTells }
     ensures soon { SameIsSoon }
     ensures outlasts { SameOutlasts }
+{}
+
+/// A word that becomes durable leaves an index. So do those that a seed chooses, and the sum of weights stays.
+pub fn evict_law()
+    ensures keeps { EvictionKeeps }
+    ensures chosen { ChosenKeep }
+    ensures weighs { ChosenWeigh }
+{}
+
+/// The durable words of an index, whatever is in flight, are an image that is sound by all rules, in the generation of
+/// its run. Its map is the one after the whole history and after those of the unplaced writes in flight that are found in
+/// it, and it weighs no more than the index.
+pub fn crash_image_law()
+    ensures leaves { CrashLeaves }
+    ensures generation { CrashKeepsGeneration }
+{}
+
+/// A call in flight whose write has its place began while the history was shorter than its limit.
+pub fn timely_law()
+    ensures { PlacedAreTimely }
+{}
+
+/// A crash behind a call that was cut off with no other in flight may find that call's own change, where it has no place
+/// yet, and behind a turn of the updater none.
+pub fn cut_law()
+    ensures call { CutLeavesOne }
+    ensures turn { CutTurnLeavesNone }
 {}

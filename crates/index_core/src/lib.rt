@@ -13,10 +13,13 @@ pub mod laws;
 mod listing;
 mod lone;
 mod party;
+mod seeds;
 mod turns;
+mod within;
 
 pub use crash::{Crashed, CutCall, Cuts};
 pub use flight::Flight;
 pub use index::{Core, Parts};
 pub use listing::listed_pairs;
-pub use party::{CoreCall, CoreReply, InFlight, PartyState, Stepped, Whole};
+pub use party::{CoreCall, CoreReply, InFlight, PartyState, Stepped, Whole, Within, idle_states};
+pub use seeds::{evict_chosen, is_chosen};

@@ -77,6 +77,16 @@ pub enum Whole {
     Worn { node: u64, word: u64 },
 }
 
+/// What a whole call comes to within a budget of events.
+#[derive(Clone, Copy)]
+pub enum Within {
+    Answered(Whole),
+    /// The budget was used up before an event that the call still had to make. It stays in flight.
+    Cut,
+    /// There was no budget, and nothing was done.
+    Unstarted,
+}
+
 /// The party has a call in flight already.
 #[derive(Clone, Copy, PartialEq, Eq, Debug)]
 pub struct InFlight;
@@ -268,7 +278,7 @@ pub(crate) fn needs_split(answer: &Once<Placed>) -> bool
 }
 
 /// So many parties that have made no call.
-pub(crate) fn idle_states(alloc: Global, callers: u64) -> Result<Vec<PartyState>, NoMemory>
+pub fn idle_states(alloc: Global, callers: u64) -> Result<Vec<PartyState>, NoMemory>
     ensures { IfOk result (λ states. states.items ≡ idle_states callers) }
 {
     let mut states = Vec::with_capacity(alloc, callers as usize)?;

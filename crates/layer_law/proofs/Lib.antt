@@ -20,6 +20,7 @@ pub mod TurnFrees
 pub mod TurnTouches
 pub mod TurnKept
 pub mod TurnRests
+pub mod TurnTerms
 pub mod TurnLocks
 pub mod TurnSteps
 pub mod LayerCover

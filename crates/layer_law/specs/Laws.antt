@@ -24,7 +24,7 @@ use Rattle.search_layer.specs.Leaves.{leaves_in, layer_in, layer_of}
 use Rattle.turn_law.specs.Covered.{IsCovered, IsTarget}
 use Rattle.turn_law.specs.Covers.{IsOpenFor}
 use Rattle.turn_row.specs.Columns.{lines_in}
-use Rattle.turn_row.specs.RowStages.{RowLine, RowTarget, Resting, HasTarget}
+use Rattle.turn_row.specs.RowStages.{RowLine, RowTarget, Resting, Between, HasTarget}
 use Rattle.turn_row.specs.RowLaw.{RowLawful}
 use Rattle.turn_row.specs.Turnings.{Turning, TurnFoot}
 use Rattle.layer_law.specs.Turnings.{terms_of, ghosts_of}
@@ -76,6 +76,15 @@ TurnStartKeeps = (z : Layered) (i : ℕ) (t : Turning) (stamp release : ℕ) →
     IsLayered (record {
       whole = z.whole;
       turns = slice_set z.turns i (record { stamp = stamp; release = release; stage = Resting; watch = Nothing });
+    })
+
+-- A party whose turn has the lock and comes to a line may have other terms for it from there on.
+abbrev pub TermsMayBegin : Type 0
+TermsMayBegin = (z : Layered) (i line : ℕ) (t : Turning) (stamp release : ℕ) → IsLayered z →
+    get_elem? z.turns i ≡ some t → t.stage ≡ Between line → stamp ≢ 0 →
+    IsLayered (record {
+      whole = z.whole;
+      turns = slice_set z.turns i (record { stamp = stamp; release = release; stage = Between line; watch = Nothing });
     })
 
 -- A word of the image that becomes durable keeps it all.

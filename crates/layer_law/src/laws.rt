@@ -1,6 +1,7 @@
 //! The laws. The functions do nothing: each names what is proved.
 
 ghost use Rattle.layer_law.specs.Laws.{CallStepKeeps, TurnStepKeeps, TurnStepLeavesNodes, TurnStartKeeps};
+ghost use Rattle.layer_law.specs.Laws.{TermsMayBegin};
 ghost use Rattle.layer_law.specs.Laws.{EvictionKeepsLayer};
 ghost use Rattle.layer_law.specs.Laws.{RestIsLayered, TargetsStand, LayerIsCovered, CrashLeadsAsListed};
 ghost use Rattle.layer_law.specs.Beginnings.{BeginningKeepsLayer, OtherTurnsMayRest, StampKeepsLayer, FreshIsLayered};
@@ -16,9 +17,11 @@ pub fn turn_step_law()
     ensures leaves { TurnStepLeavesNodes }
 {}
 
-/// A party may begin another turn.
+/// A party may begin another turn; and one whose turn has the lock and comes to a line may have another stamp and
+/// another release from there on.
 pub fn turn_start_law()
-    ensures { TurnStartKeeps }
+    ensures starts { TurnStartKeeps }
+    ensures terms { TermsMayBegin }
 {}
 
 /// A word of the image that becomes durable keeps an index with its search layer and its turns.

@@ -1,0 +1,54 @@
+-- What a whole call comes to within a budget, from what it was made of.
+use Rattle.std.proofs.Common.{◌≡◌, ℕ, ◌<◌, refl, sym, ◌∙◌, subst}
+use Rattle.std.specs.Prelude.{Option, Some, None}
+use Rattle.updater.specs.declared.terms.Turned.{Turned}
+use Rattle.index_core.specs.declared.party.CoreCall.{CoreCall}
+use Rattle.index_core.specs.declared.party.Whole.{Whole}
+use Rattle.index_core.specs.declared.party.Whole.TheVariants as whole
+use Rattle.index_core.specs.declared.party.Within.{Within}
+use Rattle.index_core.specs.declared.party.Within.TheVariants as within
+use Rattle.index_core.specs.CoreCalls.{IfTurn, MayBegin}
+use Rattle.index_core.specs.Indexes.{Index}
+use Rattle.index_core.specs.Turns.{IsTurnedAnd, TurnsAlone}
+use Rattle.index_core.specs.Withins.{ComesTo, CutsOff, CutsTurnOff, EndsWithin, RanAlone}
+use Rattle.index_core.proofs.Either.{IsNoTurn, no_turn, no_name}
+use Rattle.index_core.specs.declared.party.CoreCall.TheVariants as call
+
+ends_by : (T : Type 0) (answer : Option T) (to : T → Whole) (result : Within) (A : Whole → Type 0) (C U : Type 0) → ComesTo answer (λ given. result ≡ within.Answered (to given)) (result ≡ within.Cut) → ComesTo answer (λ given. A (to given)) C → EndsWithin result A C U
+ends_by T (Some given) to result A C U is runs = subst (λ (r : Within). EndsWithin r A C U) (sym is) runs
+ends_by T None to result A C U is runs = subst (λ (r : Within). EndsWithin r A C U) (sym is) runs
+
+comes_to : (T : Type 0) (A B : T → Type 0) (C D : Type 0) (answer : Option T) → ((given : T) → A given → B given) → (C → D) → ComesTo answer A C → ComesTo answer B D
+comes_to T A B C D (Some given) more cut comes = more given comes
+comes_to T A B C D None more cut comes = cut comes
+
+-- how a whole call ends
+abbrev pub Ran : Index → ℕ → CoreCall → Index → Whole → Type 0
+Ran s0 i c s answer = (MayBegin c → RanAlone s0 i c s answer) × (IfTurn c (λ stamp release. IsTurnedAnd answer (λ turned. TurnsAlone s0 stamp release turned s)))
+
+abbrev pub Cuts : Index → ℕ → CoreCall → Index → Type 0
+Cuts s0 i c s = (MayBegin c → CutsOff s0 i c s) × (IfTurn c (λ stamp release. CutsTurnOff s0 i s))
+
+-- one on a name, or a part of a scan
+pub name_ends : (T : Type 0) (answer : Option T) (to : T → Whole) (result : Within) (s0 s : Index) (i : ℕ) (c d : CoreCall) → d ≡ c → IsNoTurn d → ComesTo answer (λ given. result ≡ within.Answered (to given)) (result ≡ within.Cut)
+    → ComesTo answer (λ given. RanAlone s0 i c s (to given)) (CutsOff s0 i c s) → EndsWithin result (Ran s0 i d s) (Cuts s0 i d s) (s ≡ s0)
+name_ends T answer to result s0 s i c d same none is runs =
+    ends_by T answer to result (Ran s0 i d s) (Cuts s0 i d s) (s ≡ s0) is
+    (comes_to T (λ given. RanAlone s0 i c s (to given)) (λ given. Ran s0 i d s (to given)) (CutsOff s0 i c s) (Cuts s0 i d s) answer
+    (λ given ran. (λ _. subst (λ (e : CoreCall). RanAlone s0 i e s (to given)) (sym same) ran, no_turn d _ none))
+    (λ cut. (λ _. subst (λ (e : CoreCall). CutsOff s0 i e s) (sym same) cut, no_turn d _ none)) runs)
+
+-- a turn of the updater
+pub turn_ends : (answer : Option Turned) (result : Within) (s0 s : Index) (i stamp release : ℕ) (d : CoreCall) → d ≡ call.Turn stamp release → ComesTo answer (λ given. result ≡ within.Answered (whole.Turned given)) (result ≡ within.Cut)
+    → ComesTo answer (λ turned. TurnsAlone s0 stamp release turned s) (CutsTurnOff s0 i s) → EndsWithin result (Ran s0 i d s) (Cuts s0 i d s) (s ≡ s0)
+turn_ends answer result s0 s i stamp release d same is runs =
+    ends_by Turned answer (λ given. whole.Turned given) result (Ran s0 i d s) (Cuts s0 i d s) (s ≡ s0) is
+    (comes_to Turned (λ turned. TurnsAlone s0 stamp release turned s) (λ turned. Ran s0 i d s (whole.Turned turned)) (CutsTurnOff s0 i s) (Cuts s0 i d s) answer
+    (λ turned ran. (λ may. absurd (no_name d stamp release same may), subst (λ (e : CoreCall). IfTurn e (λ stamp release. TurnsAlone s0 stamp release turned s)) (sym same) ran))
+    (λ cut. (λ may. absurd (no_name d stamp release same may), subst (λ (e : CoreCall). IfTurn e (λ stamp release. CutsTurnOff s0 i s)) (sym same) cut)) runs)
+
+-- what is left of the budget
+pub spent_ends : (T : Type 0) (answer : Option T) (to : T → Whole) (result : Within) (before after : ℕ) → 0 < before → (answer ≡ None → after ≡ 0) → ComesTo answer (λ given. result ≡ within.Answered (to given)) (result ≡ within.Cut)
+    → EndsWithin result (λ _. 0 < before) ((0 < before) × (after ≡ 0)) (before ≡ 0)
+spent_ends T (Some given) to result before after some spent is = subst (λ (r : Within). EndsWithin r (λ _. 0 < before) ((0 < before) × (after ≡ 0)) (before ≡ 0)) (sym is) some
+spent_ends T None to result before after some spent is = subst (λ (r : Within). EndsWithin r (λ _. 0 < before) ((0 < before) × (after ≡ 0)) (before ≡ 0)) (sym is) (some, spent refl)

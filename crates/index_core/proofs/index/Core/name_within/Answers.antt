@@ -1,0 +1,319 @@
+use Rattle.std.proofs.Common.{◌≡◌, ◌+◌, ◌<◌, ℕ, length, sym, ap, ◌∙◌, subst, arith}
+use Rattle.call_stages.specs.declared.once.Once.{Once}
+use Rattle.call_stages.specs.declared.once.Placed.{Placed}
+use Rattle.pm_words.specs.declared.layout.Layout.{Layout}
+use Rattle.index_core.specs.Indexes.{Index, IsIndex}
+use Rattle.index_core.specs.Lone.{IsQuiet, whole_of}
+use Rattle.index_core.proofs.Alone.{ran_runs, ran_each, ran_locks, full_runs, full_again, counted_each, counted_locks, count_quiet}
+use Rattle.index_core.proofs.Retrying.{HasItsLine, HasItsNode, RanAll, tried_first, line_at_once, line_behind_turn, node_at_once, node_behind_turn, ran_once, ran_twice}
+use Rattle.index_core.proofs.Withins.{Stood, stood_first, stood_behind, stood_again, stood_spare, cut_behind, back_line, back_node, back_split}
+use Rattle.index_core.proofs.index.Core.name_within.Goals as goal
+use Rattle.index_core.proofs.index.Core.name_within.Goals.{then-lacks_line+in-Some-try_behind_turn_within, else-lacks_line, then-lacks_node+in-Some-try_behind_turn_within-2, else-lacks_node, then-needs_split+in-Some-try_within, else-needs_split}
+
+pub returns-in_default-try_behind_turn_within-clause-runs : goal.returns-in_default-try_behind_turn_within-clause-runs
+returns-in_default-try_behind_turn_within-clause-runs g c =
+    let s0 = c.args.self.now in
+    let i = c.args.caller in
+    let d = c.args.call in
+    let one = stood_first s0 c.try_within.new.self i d c.in-Some.answer c.in-Some.ensures.tries c.try_within.ensures.index in
+    let back = back_line c.in-Some.answer (sym c.lacks_line.ensures ∙ c.if-lacks_line.true) in
+    cut_behind s0 c.try_within.new.self c.try_behind_turn_within.new.self i d (one.back back.0 back.1) c.in_default-try_behind_turn_within.ensures.tries
+
+pub returns-in_default-try_behind_turn_within-2-clause-runs : goal.returns-in_default-try_behind_turn_within-2-clause-runs
+returns-in_default-try_behind_turn_within-2-clause-runs g c =
+    let s0 = c.args.self.now in
+    let i = c.args.caller in
+    let d = c.args.call in
+    let one = stood_first s0 c.try_within.new.self i d c.in-Some.answer c.in-Some.ensures.tries c.try_within.ensures.index in
+    let line : Stood s0 c.if-lacks_line.self i d c.if-lacks_line.answer =
+    elim c.if-lacks_line.branch [
+      | then-lacks_line+in-Some-try_behind_turn_within w ↦ subst (λ (q : Index × Once Placed). Stood s0 q.0 i d q.1) (λ k. (sym w.self-is k, sym w.answer-is k))
+          (let back = back_line c.in-Some.answer (sym c.lacks_line.ensures ∙ w.if-lacks_line.true) in
+          stood_behind s0 c.try_within.new.self w.try_behind_turn_within.new.self i d c.in-Some.answer w.in-Some-try_behind_turn_within.again back.0 one back.1 w.in-Some-try_behind_turn_within.ensures.tries w.try_behind_turn_within.ensures.index)
+      | else-lacks_line w ↦ subst (λ (q : Index × Once Placed). Stood s0 q.0 i d q.1) (λ k. (sym w.self-is k, sym w.answer-is k)) one
+    ] in
+    let back = back_node c.if-lacks_line.answer (sym c.lacks_node.ensures ∙ c.if-lacks_node.true) in
+    cut_behind s0 c.if-lacks_line.self c.try_behind_turn_within-then-lacks_node.new.self i d (line.back back.0 back.1) c.in_default-try_behind_turn_within-2.ensures.tries
+
+pub try_within-requires-then-needs_split-clause-spare : goal.try_within-requires-then-needs_split-clause-spare
+try_within-requires-then-needs_split-clause-spare g c =
+    let s0 = c.args.self.now in
+    let i = c.args.caller in
+    let d = c.args.call in
+    let one = stood_first s0 c.try_within.new.self i d c.in-Some.answer c.in-Some.ensures.tries c.try_within.ensures.index in
+    let line : Stood s0 c.if-lacks_line.self i d c.if-lacks_line.answer =
+    elim c.if-lacks_line.branch [
+      | then-lacks_line+in-Some-try_behind_turn_within w ↦ subst (λ (q : Index × Once Placed). Stood s0 q.0 i d q.1) (λ k. (sym w.self-is k, sym w.answer-is k))
+          (let back = back_line c.in-Some.answer (sym c.lacks_line.ensures ∙ w.if-lacks_line.true) in
+          stood_behind s0 c.try_within.new.self w.try_behind_turn_within.new.self i d c.in-Some.answer w.in-Some-try_behind_turn_within.again back.0 one back.1 w.in-Some-try_behind_turn_within.ensures.tries w.try_behind_turn_within.ensures.index)
+      | else-lacks_line w ↦ subst (λ (q : Index × Once Placed). Stood s0 q.0 i d q.1) (λ k. (sym w.self-is k, sym w.answer-is k)) one
+    ] in
+    let node : Stood s0 c.if-lacks_node.self i d c.if-lacks_node.answer =
+    elim c.if-lacks_node.branch [
+      | then-lacks_node+in-Some-try_behind_turn_within-2 w ↦ subst (λ (q : Index × Once Placed). Stood s0 q.0 i d q.1) (λ k. (sym w.self-is k, sym w.answer-is k))
+          (let back = back_node c.if-lacks_line.answer (sym c.lacks_node.ensures ∙ w.if-lacks_node.true) in
+          stood_behind s0 c.if-lacks_line.self w.try_behind_turn_within-then-lacks_node.new.self i d c.if-lacks_line.answer w.in-Some-try_behind_turn_within-2.again back.0 line back.1 w.in-Some-try_behind_turn_within-2.ensures.tries w.try_behind_turn_within-then-lacks_node.ensures.index)
+      | else-lacks_node w ↦ subst (λ (q : Index × Once Placed). Stood s0 q.0 i d q.1) (λ k. (sym w.self-is k, sym w.answer-is k)) line
+    ] in
+    let back = back_split c.if-lacks_node.answer (sym c.needs_split.ensures ∙ c.if-needs_split.true) in
+    stood_spare s0 c.if-lacks_node.self i d c.if-lacks_node.answer back.0 node back.1 c.requires.spare
+
+pub try_within-requires-then-needs_split-clause-quiet : goal.try_within-requires-then-needs_split-clause-quiet
+try_within-requires-then-needs_split-clause-quiet g c =
+    let s0 = c.args.self.now in
+    let i = c.args.caller in
+    let d = c.args.call in
+    let one = stood_first s0 c.try_within.new.self i d c.in-Some.answer c.in-Some.ensures.tries c.try_within.ensures.index in
+    let line : Stood s0 c.if-lacks_line.self i d c.if-lacks_line.answer =
+    elim c.if-lacks_line.branch [
+      | then-lacks_line+in-Some-try_behind_turn_within w ↦ subst (λ (q : Index × Once Placed). Stood s0 q.0 i d q.1) (λ k. (sym w.self-is k, sym w.answer-is k))
+          (let back = back_line c.in-Some.answer (sym c.lacks_line.ensures ∙ w.if-lacks_line.true) in
+          stood_behind s0 c.try_within.new.self w.try_behind_turn_within.new.self i d c.in-Some.answer w.in-Some-try_behind_turn_within.again back.0 one back.1 w.in-Some-try_behind_turn_within.ensures.tries w.try_behind_turn_within.ensures.index)
+      | else-lacks_line w ↦ subst (λ (q : Index × Once Placed). Stood s0 q.0 i d q.1) (λ k. (sym w.self-is k, sym w.answer-is k)) one
+    ] in
+    let node : Stood s0 c.if-lacks_node.self i d c.if-lacks_node.answer =
+    elim c.if-lacks_node.branch [
+      | then-lacks_node+in-Some-try_behind_turn_within-2 w ↦ subst (λ (q : Index × Once Placed). Stood s0 q.0 i d q.1) (λ k. (sym w.self-is k, sym w.answer-is k))
+          (let back = back_node c.if-lacks_line.answer (sym c.lacks_node.ensures ∙ w.if-lacks_node.true) in
+          stood_behind s0 c.if-lacks_line.self w.try_behind_turn_within-then-lacks_node.new.self i d c.if-lacks_line.answer w.in-Some-try_behind_turn_within-2.again back.0 line back.1 w.in-Some-try_behind_turn_within-2.ensures.tries w.try_behind_turn_within-then-lacks_node.ensures.index)
+      | else-lacks_node w ↦ subst (λ (q : Index × Once Placed). Stood s0 q.0 i d q.1) (λ k. (sym w.self-is k, sym w.answer-is k)) line
+    ] in
+    node.quiet
+
+pub returns-in_default-try_within-clause-runs : goal.returns-in_default-try_within-clause-runs
+returns-in_default-try_within-clause-runs g c =
+    let s0 = c.args.self.now in
+    let i = c.args.caller in
+    let d = c.args.call in
+    let one = stood_first s0 c.try_within.new.self i d c.in-Some.answer c.in-Some.ensures.tries c.try_within.ensures.index in
+    let line : Stood s0 c.if-lacks_line.self i d c.if-lacks_line.answer =
+    elim c.if-lacks_line.branch [
+      | then-lacks_line+in-Some-try_behind_turn_within w ↦ subst (λ (q : Index × Once Placed). Stood s0 q.0 i d q.1) (λ k. (sym w.self-is k, sym w.answer-is k))
+          (let back = back_line c.in-Some.answer (sym c.lacks_line.ensures ∙ w.if-lacks_line.true) in
+          stood_behind s0 c.try_within.new.self w.try_behind_turn_within.new.self i d c.in-Some.answer w.in-Some-try_behind_turn_within.again back.0 one back.1 w.in-Some-try_behind_turn_within.ensures.tries w.try_behind_turn_within.ensures.index)
+      | else-lacks_line w ↦ subst (λ (q : Index × Once Placed). Stood s0 q.0 i d q.1) (λ k. (sym w.self-is k, sym w.answer-is k)) one
+    ] in
+    let node : Stood s0 c.if-lacks_node.self i d c.if-lacks_node.answer =
+    elim c.if-lacks_node.branch [
+      | then-lacks_node+in-Some-try_behind_turn_within-2 w ↦ subst (λ (q : Index × Once Placed). Stood s0 q.0 i d q.1) (λ k. (sym w.self-is k, sym w.answer-is k))
+          (let back = back_node c.if-lacks_line.answer (sym c.lacks_node.ensures ∙ w.if-lacks_node.true) in
+          stood_behind s0 c.if-lacks_line.self w.try_behind_turn_within-then-lacks_node.new.self i d c.if-lacks_line.answer w.in-Some-try_behind_turn_within-2.again back.0 line back.1 w.in-Some-try_behind_turn_within-2.ensures.tries w.try_behind_turn_within-then-lacks_node.ensures.index)
+      | else-lacks_node w ↦ subst (λ (q : Index × Once Placed). Stood s0 q.0 i d q.1) (λ k. (sym w.self-is k, sym w.answer-is k)) line
+    ] in
+    let back = back_split c.if-lacks_node.answer (sym c.needs_split.ensures ∙ c.if-needs_split.true) in
+    cut_behind s0 c.if-lacks_node.self c.try_within-then-needs_split.new.self i d (node.back back.0 back.1) c.in_default-try_within.ensures.tries
+
+pub count_call-requires-clause-party : goal.count_call-requires-clause-party
+count_call-requires-clause-party g c =
+    let s0 = c.args.self.now in
+    let i = c.args.caller in
+    let d = c.args.call in
+    let one = stood_first s0 c.try_within.new.self i d c.in-Some.answer c.in-Some.ensures.tries c.try_within.ensures.index in
+    let line : Stood s0 c.if-lacks_line.self i d c.if-lacks_line.answer =
+    elim c.if-lacks_line.branch [
+      | then-lacks_line+in-Some-try_behind_turn_within w ↦ subst (λ (q : Index × Once Placed). Stood s0 q.0 i d q.1) (λ k. (sym w.self-is k, sym w.answer-is k))
+          (let back = back_line c.in-Some.answer (sym c.lacks_line.ensures ∙ w.if-lacks_line.true) in
+          stood_behind s0 c.try_within.new.self w.try_behind_turn_within.new.self i d c.in-Some.answer w.in-Some-try_behind_turn_within.again back.0 one back.1 w.in-Some-try_behind_turn_within.ensures.tries w.try_behind_turn_within.ensures.index)
+      | else-lacks_line w ↦ subst (λ (q : Index × Once Placed). Stood s0 q.0 i d q.1) (λ k. (sym w.self-is k, sym w.answer-is k)) one
+    ] in
+    let node : Stood s0 c.if-lacks_node.self i d c.if-lacks_node.answer =
+    elim c.if-lacks_node.branch [
+      | then-lacks_node+in-Some-try_behind_turn_within-2 w ↦ subst (λ (q : Index × Once Placed). Stood s0 q.0 i d q.1) (λ k. (sym w.self-is k, sym w.answer-is k))
+          (let back = back_node c.if-lacks_line.answer (sym c.lacks_node.ensures ∙ w.if-lacks_node.true) in
+          stood_behind s0 c.if-lacks_line.self w.try_behind_turn_within-then-lacks_node.new.self i d c.if-lacks_line.answer w.in-Some-try_behind_turn_within-2.again back.0 line back.1 w.in-Some-try_behind_turn_within-2.ensures.tries w.try_behind_turn_within-then-lacks_node.ensures.index)
+      | else-lacks_node w ↦ subst (λ (q : Index × Once Placed). Stood s0 q.0 i d q.1) (λ k. (sym w.self-is k, sym w.answer-is k)) line
+    ] in
+    let split : Stood s0 c.if-needs_split.self i d c.if-needs_split.answer =
+    elim c.if-needs_split.branch [
+      | then-needs_split+in-Some-try_within w ↦ subst (λ (q : Index × Once Placed). Stood s0 q.0 i d q.1) (λ k. (sym w.self-is k, sym w.answer-is k))
+          (let back = back_split c.if-lacks_node.answer (sym c.needs_split.ensures ∙ w.if-needs_split.true) in
+          stood_again s0 c.if-lacks_node.self w.try_within-then-needs_split.new.self i d c.if-lacks_node.answer w.in-Some-try_within.again back.0 node back.1 w.in-Some-try_within.ensures.tries w.try_within-then-needs_split.ensures.index)
+      | else-needs_split w ↦ subst (λ (q : Index × Once Placed). Stood s0 q.0 i d q.1) (λ k. (sym w.self-is k, sym w.answer-is k)) node
+    ] in
+    let same = ap (λ (l : Layout). l.callers) split.layout in
+    let low = c.requires.caller in
+    omega arith
+
+pub count_call-requires-clause-quiet : goal.count_call-requires-clause-quiet
+count_call-requires-clause-quiet g c =
+    let s0 = c.args.self.now in
+    let i = c.args.caller in
+    let d = c.args.call in
+    let one = stood_first s0 c.try_within.new.self i d c.in-Some.answer c.in-Some.ensures.tries c.try_within.ensures.index in
+    let line : Stood s0 c.if-lacks_line.self i d c.if-lacks_line.answer =
+    elim c.if-lacks_line.branch [
+      | then-lacks_line+in-Some-try_behind_turn_within w ↦ subst (λ (q : Index × Once Placed). Stood s0 q.0 i d q.1) (λ k. (sym w.self-is k, sym w.answer-is k))
+          (let back = back_line c.in-Some.answer (sym c.lacks_line.ensures ∙ w.if-lacks_line.true) in
+          stood_behind s0 c.try_within.new.self w.try_behind_turn_within.new.self i d c.in-Some.answer w.in-Some-try_behind_turn_within.again back.0 one back.1 w.in-Some-try_behind_turn_within.ensures.tries w.try_behind_turn_within.ensures.index)
+      | else-lacks_line w ↦ subst (λ (q : Index × Once Placed). Stood s0 q.0 i d q.1) (λ k. (sym w.self-is k, sym w.answer-is k)) one
+    ] in
+    let node : Stood s0 c.if-lacks_node.self i d c.if-lacks_node.answer =
+    elim c.if-lacks_node.branch [
+      | then-lacks_node+in-Some-try_behind_turn_within-2 w ↦ subst (λ (q : Index × Once Placed). Stood s0 q.0 i d q.1) (λ k. (sym w.self-is k, sym w.answer-is k))
+          (let back = back_node c.if-lacks_line.answer (sym c.lacks_node.ensures ∙ w.if-lacks_node.true) in
+          stood_behind s0 c.if-lacks_line.self w.try_behind_turn_within-then-lacks_node.new.self i d c.if-lacks_line.answer w.in-Some-try_behind_turn_within-2.again back.0 line back.1 w.in-Some-try_behind_turn_within-2.ensures.tries w.try_behind_turn_within-then-lacks_node.ensures.index)
+      | else-lacks_node w ↦ subst (λ (q : Index × Once Placed). Stood s0 q.0 i d q.1) (λ k. (sym w.self-is k, sym w.answer-is k)) line
+    ] in
+    let split : Stood s0 c.if-needs_split.self i d c.if-needs_split.answer =
+    elim c.if-needs_split.branch [
+      | then-needs_split+in-Some-try_within w ↦ subst (λ (q : Index × Once Placed). Stood s0 q.0 i d q.1) (λ k. (sym w.self-is k, sym w.answer-is k))
+          (let back = back_split c.if-lacks_node.answer (sym c.needs_split.ensures ∙ w.if-needs_split.true) in
+          stood_again s0 c.if-lacks_node.self w.try_within-then-needs_split.new.self i d c.if-lacks_node.answer w.in-Some-try_within.again back.0 node back.1 w.in-Some-try_within.ensures.tries w.try_within-then-needs_split.ensures.index)
+      | else-needs_split w ↦ subst (λ (q : Index × Once Placed). Stood s0 q.0 i d q.1) (λ k. (sym w.self-is k, sym w.answer-is k)) node
+    ] in
+    split.quiet
+
+pub returns-in-Again-clause-runs : goal.returns-in-Again-clause-runs
+returns-in-Again-clause-runs g c =
+    let s0 = c.args.self.now in
+    let i = c.args.caller in
+    let d = c.args.call in
+    let one = stood_first s0 c.try_within.new.self i d c.in-Some.answer c.in-Some.ensures.tries c.try_within.ensures.index in
+    let line : Stood s0 c.if-lacks_line.self i d c.if-lacks_line.answer =
+    elim c.if-lacks_line.branch [
+      | then-lacks_line+in-Some-try_behind_turn_within w ↦ subst (λ (q : Index × Once Placed). Stood s0 q.0 i d q.1) (λ k. (sym w.self-is k, sym w.answer-is k))
+          (let back = back_line c.in-Some.answer (sym c.lacks_line.ensures ∙ w.if-lacks_line.true) in
+          stood_behind s0 c.try_within.new.self w.try_behind_turn_within.new.self i d c.in-Some.answer w.in-Some-try_behind_turn_within.again back.0 one back.1 w.in-Some-try_behind_turn_within.ensures.tries w.try_behind_turn_within.ensures.index)
+      | else-lacks_line w ↦ subst (λ (q : Index × Once Placed). Stood s0 q.0 i d q.1) (λ k. (sym w.self-is k, sym w.answer-is k)) one
+    ] in
+    let node : Stood s0 c.if-lacks_node.self i d c.if-lacks_node.answer =
+    elim c.if-lacks_node.branch [
+      | then-lacks_node+in-Some-try_behind_turn_within-2 w ↦ subst (λ (q : Index × Once Placed). Stood s0 q.0 i d q.1) (λ k. (sym w.self-is k, sym w.answer-is k))
+          (let back = back_node c.if-lacks_line.answer (sym c.lacks_node.ensures ∙ w.if-lacks_node.true) in
+          stood_behind s0 c.if-lacks_line.self w.try_behind_turn_within-then-lacks_node.new.self i d c.if-lacks_line.answer w.in-Some-try_behind_turn_within-2.again back.0 line back.1 w.in-Some-try_behind_turn_within-2.ensures.tries w.try_behind_turn_within-then-lacks_node.ensures.index)
+      | else-lacks_node w ↦ subst (λ (q : Index × Once Placed). Stood s0 q.0 i d q.1) (λ k. (sym w.self-is k, sym w.answer-is k)) line
+    ] in
+    let split : Stood s0 c.if-needs_split.self i d c.if-needs_split.answer =
+    elim c.if-needs_split.branch [
+      | then-needs_split+in-Some-try_within w ↦ subst (λ (q : Index × Once Placed). Stood s0 q.0 i d q.1) (λ k. (sym w.self-is k, sym w.answer-is k))
+          (let back = back_split c.if-lacks_node.answer (sym c.needs_split.ensures ∙ w.if-needs_split.true) in
+          stood_again s0 c.if-lacks_node.self w.try_within-then-needs_split.new.self i d c.if-lacks_node.answer w.in-Some-try_within.again back.0 node back.1 w.in-Some-try_within.ensures.tries w.try_within-then-needs_split.ensures.index)
+      | else-needs_split w ↦ subst (λ (q : Index × Once Placed). Stood s0 q.0 i d q.1) (λ k. (sym w.self-is k, sym w.answer-is k)) node
+    ] in
+    let tried = tried_first s0 c.try_within.new.self i d c.in-Some.answer c.try_within.ensures.before c.requires.quiet c.in-Some.ensures.tries.tries c.in-Some.ensures.tries.each_lock c.in-Some.ensures.tries.locks in
+    let has_line : HasItsLine s0 c.if-lacks_line.self i d c.if-lacks_line.answer =
+    elim c.if-lacks_line.branch [
+      | then-lacks_line+in-Some-try_behind_turn_within w ↦ subst (λ (q : Index × Once Placed). HasItsLine s0 q.0 i d q.1) (λ k. (sym w.self-is k, sym w.answer-is k))
+          (line_behind_turn s0 _ _ i d _ _ tried (sym c.lacks_line.ensures ∙ w.if-lacks_line.true) w.in-Some-try_behind_turn_within.ensures.tries.tries c.requires.caller)
+      | else-lacks_line w ↦ subst (λ (q : Index × Once Placed). HasItsLine s0 q.0 i d q.1) (λ k. (sym w.self-is k, sym w.answer-is k))
+          (line_at_once s0 _ i d _ tried (sym c.lacks_line.ensures ∙ w.if-lacks_line.false))
+    ] in
+    let has_node : HasItsNode s0 c.if-lacks_node.self i d c.if-lacks_node.answer =
+    elim c.if-lacks_node.branch [
+      | then-lacks_node+in-Some-try_behind_turn_within-2 w ↦ subst (λ (q : Index × Once Placed). HasItsNode s0 q.0 i d q.1) (λ k. (sym w.self-is k, sym w.answer-is k))
+          (node_behind_turn s0 _ _ i d _ _ has_line (sym c.lacks_node.ensures ∙ w.if-lacks_node.true) w.in-Some-try_behind_turn_within-2.ensures.tries.tries c.requires.caller)
+      | else-lacks_node w ↦ subst (λ (q : Index × Once Placed). HasItsNode s0 q.0 i d q.1) (λ k. (sym w.self-is k, sym w.answer-is k))
+          (node_at_once s0 _ i d _ has_line (sym c.lacks_node.ensures ∙ w.if-lacks_node.false))
+    ] in
+    let all : RanAll s0 c.if-needs_split.self i d c.if-needs_split.answer =
+    elim c.if-needs_split.branch [
+      | then-needs_split+in-Some-try_within w ↦ subst (λ (q : Index × Once Placed). RanAll s0 q.0 i d q.1) (λ k. (sym w.self-is k, sym w.answer-is k))
+          (ran_twice s0 _ _ i d _ _ c.requires.name has_node (sym c.needs_split.ensures ∙ w.if-needs_split.true) node.index node.quiet w.in-Some-try_within.ensures.tries.tries w.in-Some-try_within.ensures.tries.each_lock w.in-Some-try_within.ensures.tries.locks)
+      | else-needs_split w ↦ subst (λ (q : Index × Once Placed). RanAll s0 q.0 i d q.1) (λ k. (sym w.self-is k, sym w.answer-is k))
+          (ran_once s0 _ i d _ c.requires.name has_node (sym c.needs_split.ensures ∙ w.if-needs_split.false))
+    ] in
+    record {
+      runs = full_runs s0 c.if-needs_split.self i d c.if-needs_split.answer all.tries all.ran all.few (ap whole_of c.in-Again.is) c.count_call.new.self c.count_call.ensures.counts;
+      quiet = count_quiet c.if-needs_split.self i c.count_call.new.self split.quiet c.count_call.ensures.counts;
+      spare = let same = ap (λ (s : Index). length s.history) c.count_call.ensures.counts.is in let left = split.spare in let kept = c.count_call.ensures.spare in omega arith;
+      each_lock = counted_each s0 c.if-needs_split.self i d c.count_call.new.self c.count_call.ensures.counts (ran_each _ _ _ _ _ all.tries all.ran all.few);
+      locks = counted_locks s0 c.if-needs_split.self i d c.count_call.new.self c.count_call.ensures.counts (ran_locks _ _ _ _ _ all.tries all.ran all.few);
+    }
+
+pub returns-in-Again-clause-events : goal.returns-in-Again-clause-events
+returns-in-Again-clause-events g c =
+    let e1 = c.try_within.ensures.events in
+    let e2 : c.if-lacks_line.steps + c.if-lacks_line.budget ≡ c.args.steps.now + c.args.budget.now =
+    elim c.if-lacks_line.branch [
+      | then-lacks_line+in-Some-try_behind_turn_within w ↦ omega (arith, w.steps-is, w.budget-is, w.try_behind_turn_within.ensures.events, e1)
+      | else-lacks_line w ↦ omega (arith, w.steps-is, w.budget-is, e1)
+    ] in
+    let e3 : c.if-lacks_node.steps + c.if-lacks_node.budget ≡ c.args.steps.now + c.args.budget.now =
+    elim c.if-lacks_node.branch [
+      | then-lacks_node+in-Some-try_behind_turn_within-2 w ↦ omega (arith, w.steps-is, w.budget-is, w.try_behind_turn_within-then-lacks_node.ensures.events, e2)
+      | else-lacks_node w ↦ omega (arith, w.steps-is, w.budget-is, e2)
+    ] in
+    let e4 : c.if-needs_split.steps + c.if-needs_split.budget ≡ c.args.steps.now + c.args.budget.now =
+    elim c.if-needs_split.branch [
+      | then-needs_split+in-Some-try_within w ↦ omega (arith, w.steps-is, w.budget-is, w.try_within-then-needs_split.ensures.events, e3)
+      | else-needs_split w ↦ omega (arith, w.steps-is, w.budget-is, e3)
+    ] in
+    e4
+
+pub returns-in_default-answer : goal.returns-in_default-answer
+returns-in_default-answer g c =
+    let s0 = c.args.self.now in
+    let i = c.args.caller in
+    let d = c.args.call in
+    let one = stood_first s0 c.try_within.new.self i d c.in-Some.answer c.in-Some.ensures.tries c.try_within.ensures.index in
+    let line : Stood s0 c.if-lacks_line.self i d c.if-lacks_line.answer =
+    elim c.if-lacks_line.branch [
+      | then-lacks_line+in-Some-try_behind_turn_within w ↦ subst (λ (q : Index × Once Placed). Stood s0 q.0 i d q.1) (λ k. (sym w.self-is k, sym w.answer-is k))
+          (let back = back_line c.in-Some.answer (sym c.lacks_line.ensures ∙ w.if-lacks_line.true) in
+          stood_behind s0 c.try_within.new.self w.try_behind_turn_within.new.self i d c.in-Some.answer w.in-Some-try_behind_turn_within.again back.0 one back.1 w.in-Some-try_behind_turn_within.ensures.tries w.try_behind_turn_within.ensures.index)
+      | else-lacks_line w ↦ subst (λ (q : Index × Once Placed). Stood s0 q.0 i d q.1) (λ k. (sym w.self-is k, sym w.answer-is k)) one
+    ] in
+    let node : Stood s0 c.if-lacks_node.self i d c.if-lacks_node.answer =
+    elim c.if-lacks_node.branch [
+      | then-lacks_node+in-Some-try_behind_turn_within-2 w ↦ subst (λ (q : Index × Once Placed). Stood s0 q.0 i d q.1) (λ k. (sym w.self-is k, sym w.answer-is k))
+          (let back = back_node c.if-lacks_line.answer (sym c.lacks_node.ensures ∙ w.if-lacks_node.true) in
+          stood_behind s0 c.if-lacks_line.self w.try_behind_turn_within-then-lacks_node.new.self i d c.if-lacks_line.answer w.in-Some-try_behind_turn_within-2.again back.0 line back.1 w.in-Some-try_behind_turn_within-2.ensures.tries w.try_behind_turn_within-then-lacks_node.ensures.index)
+      | else-lacks_node w ↦ subst (λ (q : Index × Once Placed). Stood s0 q.0 i d q.1) (λ k. (sym w.self-is k, sym w.answer-is k)) line
+    ] in
+    let split : Stood s0 c.if-needs_split.self i d c.if-needs_split.answer =
+    elim c.if-needs_split.branch [
+      | then-needs_split+in-Some-try_within w ↦ subst (λ (q : Index × Once Placed). Stood s0 q.0 i d q.1) (λ k. (sym w.self-is k, sym w.answer-is k))
+          (let back = back_split c.if-lacks_node.answer (sym c.needs_split.ensures ∙ w.if-needs_split.true) in
+          stood_again s0 c.if-lacks_node.self w.try_within-then-needs_split.new.self i d c.if-lacks_node.answer w.in-Some-try_within.again back.0 node back.1 w.in-Some-try_within.ensures.tries w.try_within-then-needs_split.ensures.index)
+      | else-needs_split w ↦ subst (λ (q : Index × Once Placed). Stood s0 q.0 i d q.1) (λ k. (sym w.self-is k, sym w.answer-is k)) node
+    ] in
+    let tried = tried_first s0 c.try_within.new.self i d c.in-Some.answer c.try_within.ensures.before c.requires.quiet c.in-Some.ensures.tries.tries c.in-Some.ensures.tries.each_lock c.in-Some.ensures.tries.locks in
+    let has_line : HasItsLine s0 c.if-lacks_line.self i d c.if-lacks_line.answer =
+    elim c.if-lacks_line.branch [
+      | then-lacks_line+in-Some-try_behind_turn_within w ↦ subst (λ (q : Index × Once Placed). HasItsLine s0 q.0 i d q.1) (λ k. (sym w.self-is k, sym w.answer-is k))
+          (line_behind_turn s0 _ _ i d _ _ tried (sym c.lacks_line.ensures ∙ w.if-lacks_line.true) w.in-Some-try_behind_turn_within.ensures.tries.tries c.requires.caller)
+      | else-lacks_line w ↦ subst (λ (q : Index × Once Placed). HasItsLine s0 q.0 i d q.1) (λ k. (sym w.self-is k, sym w.answer-is k))
+          (line_at_once s0 _ i d _ tried (sym c.lacks_line.ensures ∙ w.if-lacks_line.false))
+    ] in
+    let has_node : HasItsNode s0 c.if-lacks_node.self i d c.if-lacks_node.answer =
+    elim c.if-lacks_node.branch [
+      | then-lacks_node+in-Some-try_behind_turn_within-2 w ↦ subst (λ (q : Index × Once Placed). HasItsNode s0 q.0 i d q.1) (λ k. (sym w.self-is k, sym w.answer-is k))
+          (node_behind_turn s0 _ _ i d _ _ has_line (sym c.lacks_node.ensures ∙ w.if-lacks_node.true) w.in-Some-try_behind_turn_within-2.ensures.tries.tries c.requires.caller)
+      | else-lacks_node w ↦ subst (λ (q : Index × Once Placed). HasItsNode s0 q.0 i d q.1) (λ k. (sym w.self-is k, sym w.answer-is k))
+          (node_at_once s0 _ i d _ has_line (sym c.lacks_node.ensures ∙ w.if-lacks_node.false))
+    ] in
+    let all : RanAll s0 c.if-needs_split.self i d c.if-needs_split.answer =
+    elim c.if-needs_split.branch [
+      | then-needs_split+in-Some-try_within w ↦ subst (λ (q : Index × Once Placed). RanAll s0 q.0 i d q.1) (λ k. (sym w.self-is k, sym w.answer-is k))
+          (ran_twice s0 _ _ i d _ _ c.requires.name has_node (sym c.needs_split.ensures ∙ w.if-needs_split.true) node.index node.quiet w.in-Some-try_within.ensures.tries.tries w.in-Some-try_within.ensures.tries.each_lock w.in-Some-try_within.ensures.tries.locks)
+      | else-needs_split w ↦ subst (λ (q : Index × Once Placed). RanAll s0 q.0 i d q.1) (λ k. (sym w.self-is k, sym w.answer-is k))
+          (ran_once s0 _ i d _ c.requires.name has_node (sym c.needs_split.ensures ∙ w.if-needs_split.false))
+    ] in
+    let e1 = c.try_within.ensures.events in
+    let e2 : c.if-lacks_line.steps + c.if-lacks_line.budget ≡ c.args.steps.now + c.args.budget.now =
+    elim c.if-lacks_line.branch [
+      | then-lacks_line+in-Some-try_behind_turn_within w ↦ omega (arith, w.steps-is, w.budget-is, w.try_behind_turn_within.ensures.events, e1)
+      | else-lacks_line w ↦ omega (arith, w.steps-is, w.budget-is, e1)
+    ] in
+    let e3 : c.if-lacks_node.steps + c.if-lacks_node.budget ≡ c.args.steps.now + c.args.budget.now =
+    elim c.if-lacks_node.branch [
+      | then-lacks_node+in-Some-try_behind_turn_within-2 w ↦ omega (arith, w.steps-is, w.budget-is, w.try_behind_turn_within-then-lacks_node.ensures.events, e2)
+      | else-lacks_node w ↦ omega (arith, w.steps-is, w.budget-is, e2)
+    ] in
+    let e4 : c.if-needs_split.steps + c.if-needs_split.budget ≡ c.args.steps.now + c.args.budget.now =
+    elim c.if-needs_split.branch [
+      | then-needs_split+in-Some-try_within w ↦ omega (arith, w.steps-is, w.budget-is, w.try_within-then-needs_split.ensures.events, e3)
+      | else-needs_split w ↦ omega (arith, w.steps-is, w.budget-is, e3)
+    ] in
+    record {
+      runs = record {
+        runs = ran_runs s0 c.if-needs_split.self i d c.if-needs_split.answer all.tries all.ran all.few (λ full. let again = full_again c.if-needs_split.answer full in c.in_default-answer.not-Again again.0 again.1);
+        quiet = split.quiet;
+        spare = split.spare;
+        each_lock = ran_each _ _ _ _ _ all.tries all.ran all.few;
+        locks = ran_locks _ _ _ _ _ all.tries all.ran all.few;
+      };
+      spent = λ none. cc;
+      events = e4;
+      index = split.index;
+    }

@@ -1,0 +1,62 @@
+use Rattle.std.proofs.Common.{inl, suc, ◌≤◌, refl, sym, subst, arith}
+use Rattle.call_stages.specs.declared.once.Once.{Once}
+use Rattle.node_ops.specs.declared.part.PartWords.{PartWords}
+use Rattle.index_core.specs.Lone.{RunsAlone, part_whole}
+use Rattle.index_core.specs.declared.party.CoreCall.TheVariants as call
+use Rattle.index_core.proofs.PartTries.{part_ends, part_is_early, part_stops}
+use Rattle.index_core.proofs.Tries.{Lone, left_at, lone_start, lone_flies, lone_goes}
+use Rattle.index_core.proofs.Withins.{lone_cut}
+use Rattle.index_core.proofs.index.Core.part_within.Goals as goal
+
+pub steps-init : goal.steps-init
+steps-init g c =
+    (lone_start c.args.self.now c.start_name.new.self c.args.caller (call.Part c.args.low c.args.count) c.start_name.ensures.before c.requires.quiet c.in-Ok.ensures.started c.in-Ok.ensures.spare c.start_name.ensures.index, refl)
+
+pub returns-then-budget-eq0-clause-runs : goal.returns-then-budget-eq0-clause-runs
+returns-then-budget-eq0-clause-runs g c = lone_cut c.args.self.now c.steps.self c.args.caller (call.Part c.args.low c.args.count) c.steps.invariant.0
+
+pub has_listed-requires : goal.has_listed-requires
+has_listed-requires g c = lone_flies _ _ _ _ c.steps.invariant.0
+
+pub turn-requires : goal.turn-requires
+turn-requires g c = record { flies = lone_flies _ _ _ _ c.steps.invariant.0 }
+
+pub returns-then-has_listed-clause-runs : goal.returns-then-has_listed-clause-runs
+returns-then-has_listed-clause-runs g c =
+    let t = c.turn.ensures in
+    let e = part_ends c.args.self.now c.steps.self c.turn.new.self c.args.caller c.args.low c.args.count c.turn.result c.steps.invariant.0 t.turned t.index t.spare.all c.listing-words.result c.listing-words.ensures in
+    record { runs = e.runs; quiet = e.quiet; spare = e.spare; each_lock = inl e.each_lock; locks = inl e.locks }
+
+pub turn-requires-in-steps : goal.turn-requires-in-steps
+turn-requires-in-steps g c = record { flies = lone_flies _ _ _ _ c.steps.invariant.0 }
+
+pub early-requires : goal.early-requires
+early-requires g c =
+    let t = c.turn-in-steps.ensures in
+    part_is_early c.args.self.now c.steps.self c.turn-in-steps.new.self c.args.caller c.args.low c.args.count c.turn-in-steps.result c.steps.invariant.0 t.turned t.index t.spare.all c.in-Some.answer
+    (λ h. let yes = c.has_listed.ensures.1 h in let no = c.if-has_listed.false in cc) c.in-Some.is
+
+pub returns-in-Some-clause-runs : goal.returns-in-Some-clause-runs
+returns-in-Some-clause-runs g c =
+    let t = c.turn-in-steps.ensures in
+    let e = part_stops c.args.self.now c.steps.self c.turn-in-steps.new.self c.args.caller c.args.low c.args.count c.turn-in-steps.result c.steps.invariant.0 t.turned t.index t.spare.all c.in-Some.answer
+    (λ h. let yes = c.has_listed.ensures.1 h in let no = c.if-has_listed.false in cc) c.in-Some.is in
+    record {
+      runs = subst (λ (r : Once PartWords). RunsAlone c.args.self.now c.args.caller (call.Part c.args.low c.args.count) c.turn-in-steps.new.self (part_whole r)) (sym c.early.ensures) e.runs;
+      quiet = e.quiet;
+      spare = e.spare;
+      each_lock = inl e.each_lock;
+      locks = inl e.locks;
+    }
+
+pub steps-preserved : goal.steps-preserved
+steps-preserved g c =
+    let t = c.turn-in-steps.ensures in (
+      (lone_goes c.args.self.now c.steps.self c.turn-in-steps.new.self c.args.caller (call.Part c.args.low c.args.count) c.turn-in-steps.result c.steps.invariant.0 t.turned t.index t.spare.all c.in_default-turn.is).0,
+      omega (arith, t.tick, c.steps.invariant.1, c.if-budget-eq0.false),
+    )
+
+pub steps-smaller : goal.steps-smaller
+steps-smaller g c =
+    let t = c.turn-in-steps.ensures in
+    (lone_goes c.args.self.now c.steps.self c.turn-in-steps.new.self c.args.caller (call.Part c.args.low c.args.count) c.turn-in-steps.result c.steps.invariant.0 t.turned t.index t.spare.all c.in_default-turn.is).1

@@ -1,0 +1,42 @@
+use Rattle.std.proofs.Common.{refl, arith}
+use Rattle.index_core.proofs.Busy.{quiet_is_idle}
+use Rattle.index_core.proofs.Tries.{lone_start, lone_flies, lone_goes, lone_tries, lone_quiet, lone_locks, lone_each, spare_left}
+use Rattle.index_core.proofs.Withins.{lone_cut}
+use Rattle.index_core.proofs.index.Core.try_within.Goals as goal
+
+pub unreachable-requires : goal.unreachable-requires
+unreachable-requires g c =
+    absurd (quiet_is_idle c.args.self.now c.args.caller c.requires.quiet (c.in_default.ensures.in_flight.0 refl))
+
+pub steps-init : goal.steps-init
+steps-init g c =
+    (lone_start c.args.self.now c.start_name.new.self c.args.caller c.args.call.now c.start_name.ensures.before c.requires.quiet c.in-Ok.ensures.started c.in-Ok.ensures.spare c.start_name.ensures.index, refl)
+
+pub returns-then-budget-eq0-clause-tries : goal.returns-then-budget-eq0-clause-tries
+returns-then-budget-eq0-clause-tries g c = lone_cut c.args.self.now c.steps.self c.args.caller c.args.call.now c.steps.invariant.0
+
+pub turn-requires : goal.turn-requires
+turn-requires g c = record { flies = lone_flies _ _ _ _ c.steps.invariant.0 }
+
+pub returns-in-Some-clause-tries : goal.returns-in-Some-clause-tries
+returns-in-Some-clause-tries g c =
+    let o = c.steps.invariant.0 in
+    let t = c.turn.ensures in
+    let quiet = lone_quiet c.args.self.now c.steps.self c.turn.new.self c.args.caller c.args.call.now c.turn.result o t.turned t.index t.spare.all c.in-Some.answer c.in-Some.is in
+    record {
+      tries = lone_tries c.args.self.now c.steps.self c.turn.new.self c.args.caller c.args.call.now c.turn.result o t.turned t.index t.spare.all c.in-Some.answer c.in-Some.is;
+      quiet = quiet;
+      spare = spare_left c.args.self.now c.steps.self c.turn.new.self c.args.caller c.args.call.now o t.spare.all quiet;
+      each_lock = lone_each c.args.self.now c.steps.self c.turn.new.self c.args.caller c.args.call.now c.turn.result o t.turned t.index t.spare.all c.in-Some.answer c.in-Some.is;
+      locks = lone_locks c.args.self.now c.steps.self c.turn.new.self c.args.caller c.args.call.now c.turn.result o t.turned t.index t.spare.all c.in-Some.answer c.in-Some.is;
+    }
+
+pub steps-smaller : goal.steps-smaller
+steps-smaller g c =
+    (lone_goes c.args.self.now c.steps.self c.turn.new.self c.args.caller c.args.call.now c.turn.result c.steps.invariant.0 c.turn.ensures.turned c.turn.ensures.index c.turn.ensures.spare.all c.in_default-turn.is).1
+
+pub steps-preserved : goal.steps-preserved
+steps-preserved g c = (
+  (lone_goes c.args.self.now c.steps.self c.turn.new.self c.args.caller c.args.call.now c.turn.result c.steps.invariant.0 c.turn.ensures.turned c.turn.ensures.index c.turn.ensures.spare.all c.in_default-turn.is).0,
+  omega (arith, c.turn.ensures.tick, c.steps.invariant.1, c.if-budget-eq0.false),
+)

@@ -1,0 +1,108 @@
+-- Calls that are made with no other in flight, within a budget of events, and what is in flight where one is cut off.
+use Rattle.std.specs.Prelude.{◌≡◌, ℕ, ◌+◌, ◌≤◌, ◌⊎◌, List, [], ◌∷◌, ◌++◌, length, slice_set, Option, Some, None, IfSome}
+use mathlib.Core.Option.{some}
+use lib.ListN.{get_elem?}
+use Rattle.cat_history.specs.Records.{change_of}
+use Rattle.cat_history.specs.declared.op.Change.{Change}
+use Rattle.call_stages.specs.Stages.{placed_in}
+use Rattle.call_stages.specs.declared.once.Once.{Once}
+use Rattle.call_stages.specs.declared.once.Placed.{Placed}
+use Rattle.node_ops.specs.declared.part.PartWords.{PartWords}
+use Rattle.node_ops.specs.declared.running.Running.{Running}
+use Rattle.node_ops.specs.Asked.{op_in}
+use Rattle.node_ops.specs.CallStages.{stage_of}
+use Rattle.updater.specs.declared.making.MakeTurn.{MakeTurn}
+use Rattle.updater.specs.declared.terms.Turned.{Turned}
+use Rattle.index_core.specs.declared.party.CoreCall.{CoreCall}
+use Rattle.index_core.specs.declared.party.CoreCall.TheVariants as call
+use Rattle.index_core.specs.declared.party.PartyState.{PartyState}
+use Rattle.index_core.specs.declared.party.Whole.{Whole}
+use Rattle.index_core.specs.declared.party.Whole.TheVariants as whole
+use Rattle.index_core.specs.declared.party.Within.{Within}
+use Rattle.index_core.specs.declared.party.Within.TheVariants as within
+use Rattle.index_core.specs.CoreCalls.{op_of}
+use Rattle.index_core.specs.Crashes.{cut_change, cut_changes}
+use Rattle.index_core.specs.Indexes.{Index, IsBusy}
+use Rattle.index_core.specs.Lone.{IsQuiet, LoseAtMost, RunsAlone, TakesEachLock, TakesLocks, TriesAlone, TriesBehindTurn, locks_left}
+use Rattle.index_core.specs.Lone.{part_whole, whole_of}
+use Rattle.index_core.specs.Turns.{TurnsAlone}
+
+-- The place of the write of a call in flight, if it has one.
+abbrev pub flight_place : Option Running → Option ℕ
+flight_place None = None
+flight_place (Some machine) = placed_in (stage_of machine)
+
+-- The call has written nothing, and its flight has no place; or it has written its change, at the end of the history,
+-- and its flight has that place.
+abbrev pub HasWritten : Index → ℕ → ℕ → CoreCall → Option Running → Index → Type 0
+HasWritten old caller index c flight new =
+    ((flight_place flight ≡ None) × (new.history ≡ old.history))
+    ⊎ ((change : Change) × (change_of (op_of c) ≡ Some change) × (flight_place flight ≡ Some (length old.history)) ×
+    (new.history ≡ old.history ++ record { caller = caller; index = index; change = change } ∷ []))
+
+-- A call of this party is cut off: it is in flight, or a turn is that it wanted, and nothing else is.
+pub record CutsOff (old : Index) (caller : ℕ) (c : CoreCall) (new : Index) : Type 0 where
+  pub state : PartyState
+  pub there : get_elem? old.states caller ≡ some state
+  pub cut : PartyState
+  pub states : new.states ≡ slice_set old.states caller cut
+  pub own : cut.caller ≡ state.caller
+  pub index : cut.index ≡ state.index
+  pub makes : IfSome cut.machine (λ machine. op_in machine ≡ op_of c)
+  pub writes : HasWritten old state.caller state.index c cut.machine new
+  pub layout : new.layout ≡ old.layout
+  pub generation : new.generation ≡ old.generation
+  pub base : new.base ≡ old.base
+  pub busy : IsBusy new caller
+
+-- A turn of this party is cut off.
+pub record CutsTurnOff (old : Index) (party : ℕ) (new : Index) : Type 0 where
+  pub state : PartyState
+  pub there : get_elem? old.states party ≡ some state
+  pub making : MakeTurn
+  pub states : new.states ≡ slice_set old.states party (record state { turn = Some making })
+  pub history : new.history ≡ old.history
+  pub layout : new.layout ≡ old.layout
+  pub generation : new.generation ≡ old.generation
+  pub base : new.base ≡ old.base
+
+-- A try that was answered leaves room, and takes few locks.
+pub record TriedAlone (old : Index) (caller : ℕ) (c : CoreCall) (new : Index) (answer : Once Placed) : Type 0 where
+  pub tries : TriesAlone old caller c new answer
+  pub quiet : IsQuiet new
+  pub spare : old.spare + length old.history ≤ new.spare + length new.history
+  pub each_lock : LoseAtMost 1 old new
+  pub locks : locks_left old ≤ locks_left new + 1
+
+-- The same behind a turn.
+pub record TriedBehindTurn (old : Index) (caller : ℕ) (c : CoreCall) (new : Index) (answer : Once Placed) : Type 0 where
+  pub tries : TriesBehindTurn old caller c new answer
+  pub quiet : IsQuiet new
+  pub spare : old.spare + length old.history ≤ new.spare + length new.history
+
+-- And of a whole call.
+pub record RanAlone (old : Index) (caller : ℕ) (c : CoreCall) (new : Index) (result : Whole) : Type 0 where
+  pub runs : RunsAlone old caller c new result
+  pub quiet : IsQuiet new
+  pub spare : old.spare + length old.history ≤ new.spare + length new.history
+  pub each_lock : TakesEachLock caller c old new
+  pub locks : TakesLocks caller c old new
+
+-- What a call comes to within a budget: the first holds of its answer, or the second where it was cut off.
+abbrev pub ComesTo : {T : Type 0} → Option T → (T → Type 0) → Type 0 → Type 0
+ComesTo (Some answer) answered cut = answered answer
+ComesTo None answered cut = cut
+
+-- The same of a whole call of any kind, of which nothing holds but the third where it wasn't begun.
+abbrev pub EndsWithin : Within → (Whole → Type 0) → Type 0 → Type 0 → Type 0
+EndsWithin (within.Answered result) answered cut unstarted = answered result
+EndsWithin within.Cut answered cut unstarted = cut
+EndsWithin within.Unstarted answered cut unstarted = unstarted
+
+-- A crash behind a call that was cut off may find that call's own change, where it has no place yet, and behind a turn none.
+abbrev pub CutLeavesOne : Type 0
+CutLeavesOne = (old new : Index) (i : ℕ) (c : CoreCall) → IsQuiet old → (t : CutsOff old i c new) →
+    cut_changes new.states ≡ cut_change t.cut.machine
+
+abbrev pub CutTurnLeavesNone : Type 0
+CutTurnLeavesNone = (old new : Index) (i : ℕ) → IsQuiet old → CutsTurnOff old i new → cut_changes new.states ≡ []

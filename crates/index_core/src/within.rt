@@ -1,0 +1,276 @@
+//! Calls that are made with no other in flight, within a budget of events.
+//!
+//! Each event takes one of the budget. Where it is used up before an event that the call still has to make, the call
+//! stays in flight as it is, or the turn of the updater does that it wanted, which the party makes itself.
+
+ghost use Rattle.std.specs.Prelude.{◌≡◌, ◌+◌, ◌<◌, ◌≤◌, length, None, IfSome};
+ghost use Rattle.index_core.specs.declared.party.CoreCall.TheVariants as CoreCall;
+ghost use Rattle.index_core.specs.declared.party.Whole.TheVariants as Whole;
+ghost use Rattle.index_core.specs.declared.party.Within.TheVariants as Within;
+ghost use Rattle.index_core.specs.CoreCalls.{IfTurn, MayBegin, MayStart, count_of, most_writes};
+ghost use Rattle.index_core.specs.Indexes.{IsIndex};
+ghost use Rattle.index_core.specs.Lone.{IsQuiet, part_whole, whole_of};
+ghost use Rattle.index_core.specs.Turns.{IsTurnedAnd, TurnsAlone};
+ghost use Rattle.index_core.specs.Withins.{ComesTo, CutsOff, CutsTurnOff, EndsWithin, RanAlone, TriedAlone};
+ghost use Rattle.index_core.specs.Withins.{TriedBehindTurn};
+
+use crate::index::Core;
+use crate::party::{CoreCall, Whole, Within, lacks_line, lacks_node, needs_split};
+use call_stages::{Once, Placed};
+use cat_key::Name;
+use node_ops::{Part, PartWords};
+use pm_words::Steps;
+use std::sync::ledger::Ledger;
+use updater::{TurnReply, Turned};
+
+/// The stamp that a call's turns of the updater give to merged nodes, and the greatest that they release.
+const STAMP: u64 = 1;
+
+impl Core {
+    /// A whole call of a party, with no other in flight, as `run_alone` makes it, within a budget of events, of which it
+    /// takes one for each that it makes. It is `Unstarted` exactly where the budget was 0, and then nothing changes. It
+    /// is `Cut` only where the budget is used up: then the call is in flight, or a turn of the updater is that it wanted,
+    /// by the same party.
+    pub fn run_within<L: Ledger>(
+        &mut self,
+        caller: u64,
+        call: CoreCall,
+        budget: &mut u64,
+        steps: &mut Steps<L>,
+    ) -> Within
+        requires may { MayStart self.old.layout caller call }
+        requires spare { most_writes call ≤ self.old.spare }
+        requires quiet { IsQuiet self.old }
+        ensures ends { EndsWithin result
+            (λ whole. (MayBegin call → RanAlone self.old caller call self.new whole) × (IfTurn call
+            (λ stamp release. IsTurnedAnd whole (λ turned. TurnsAlone self.old stamp release turned self.new))))
+            ((MayBegin call → CutsOff self.old caller call self.new) ×
+            IfTurn call (λ stamp release. CutsTurnOff self.old caller self.new))
+            (self.new ≡ self.old) }
+        ensures budget { EndsWithin result (λ whole. 0 < budget.old) ((0 < budget.old) × (budget.new ≡ 0)) (budget.old ≡ 0) }
+        ensures events { steps.new + budget.new ≡ steps.old + budget.old }
+        ensures index { IsIndex self.new }
+    {
+        let _ = &self.memory;
+        if *budget == 0 {
+            return Within::Unstarted;
+        }
+        match call {
+            CoreCall::Part { low, count } => {
+                within_part(self.part_within(caller, low, count, budget, steps))
+            }
+            CoreCall::Turn { stamp, release } => {
+                within_turn(self.turn_within(caller, stamp, release, budget, steps))
+            }
+            _ => within_name(self.name_within(caller, call, budget, steps)),
+        }
+    }
+
+    /// A whole call on one name, as `name_alone` makes it, within a budget. `None` says that it was cut off.
+    pub fn name_within<L: Ledger>(
+        &mut self,
+        caller: u64,
+        call: CoreCall,
+        budget: &mut u64,
+        steps: &mut Steps<L>,
+    ) -> Option<Once<Placed>>
+        requires caller { caller < self.old.layout.callers }
+        requires begins { MayBegin call }
+        requires name { count_of call ≡ None }
+        requires spare { most_writes call ≤ self.old.spare }
+        requires quiet { IsQuiet self.old }
+        ensures runs { ComesTo result (λ answer. RanAlone self.old caller call self.new (whole_of answer))
+            (CutsOff self.old caller call self.new) }
+        ensures spent { result ≡ None → budget.new ≡ 0 }
+        ensures events { steps.new + budget.new ≡ steps.old + budget.old }
+        ensures index { IsIndex self.new }
+    {
+        let Some(mut answer) = self.try_within(caller, &call, budget, steps) else {
+            return None;
+        };
+        if lacks_line(&answer) {
+            let Some(again) = self.try_behind_turn_within(caller, &call, budget, steps) else {
+                return None;
+            };
+            answer = again;
+        }
+        if lacks_node(&answer) {
+            let Some(again) = self.try_behind_turn_within(caller, &call, budget, steps) else {
+                return None;
+            };
+            answer = again;
+        }
+        if needs_split(&answer) {
+            let Some(again) = self.try_within(caller, &call, budget, steps) else {
+                return None;
+            };
+            answer = again;
+        }
+        if let Once::Again(_) = answer {
+            self.count_call(caller);
+        }
+        Some(answer)
+    }
+
+    /// A whole part of a scan, as `part_alone` makes it, within a budget.
+    pub fn part_within<L: Ledger>(
+        &mut self,
+        caller: u64,
+        low: Name,
+        count: u64,
+        budget: &mut u64,
+        steps: &mut Steps<L>,
+    ) -> Option<Once<PartWords>>
+        requires caller { caller < self.old.layout.callers }
+        requires quiet { IsQuiet self.old }
+        ensures runs { ComesTo result
+            (λ answer. RanAlone self.old caller (CoreCall.Part low count) self.new (part_whole answer))
+            (CutsOff self.old caller (CoreCall.Part low count) self.new) }
+        ensures spent { result ≡ None → budget.new ≡ 0 }
+        ensures events { steps.new + budget.new ≡ steps.old + budget.old }
+        ensures index { IsIndex self.new }
+    {
+        let Ok(()) = self.start_name(caller, CoreCall::Part { low, count }) else {
+            unreachable!()
+        };
+        'steps: loop {
+            if *budget == 0 {
+                return None;
+            }
+            *budget -= 1;
+            if self.has_listed(caller) {
+                let words = self.listing(caller);
+                self.turn(caller, steps);
+                return Some(Once::Done(words));
+            }
+            if let Some(answer) = self.turn(caller, steps) {
+                return Some(Part::early(answer));
+            }
+        }
+    }
+
+    /// A whole turn of the updater, as `turn_alone` makes it, within a budget.
+    pub fn turn_within<L: Ledger>(
+        &mut self,
+        party: u64,
+        stamp: u64,
+        release: u64,
+        budget: &mut u64,
+        steps: &mut Steps<L>,
+    ) -> Option<Turned>
+        requires party { party ≤ self.old.layout.callers }
+        requires stamp { 1 ≤ stamp }
+        requires quiet { IsQuiet self.old }
+        ensures turns { ComesTo result (λ turned. TurnsAlone self.old stamp release turned self.new)
+            (CutsTurnOff self.old party self.new) }
+        ensures quiet { IfSome result (λ _. IsQuiet self.new) }
+        ensures spent { result ≡ None → budget.new ≡ 0 }
+        ensures events { steps.new + budget.new ≡ steps.old + budget.old }
+        ensures before { IsIndex self.old }
+        ensures index { IsIndex self.new }
+    {
+        let Ok(()) = self.start_turn(party, stamp, release) else {
+            unreachable!()
+        };
+        'steps: loop {
+            if *budget == 0 {
+                return None;
+            }
+            *budget -= 1;
+            if let Some(reply) = self.step_turn(party, steps) {
+                let TurnReply::Turned(turned) = reply else {
+                    unreachable!()
+                };
+                return Some(turned);
+            }
+        }
+    }
+
+    /// A turn of the updater by the caller itself, and one try of its call behind it, within a budget.
+    fn try_behind_turn_within<L: Ledger>(
+        &mut self,
+        caller: u64,
+        call: &CoreCall,
+        budget: &mut u64,
+        steps: &mut Steps<L>,
+    ) -> Option<Once<Placed>>
+        requires caller { caller < self.old.layout.callers }
+        requires begins { MayBegin call.now }
+        requires spare { most_writes call.now ≤ self.old.spare }
+        requires quiet { IsQuiet self.old }
+        ensures tries { ComesTo result (λ answer. TriedBehindTurn self.old caller call.now self.new answer)
+            (CutsOff self.old caller call.now self.new) }
+        ensures spent { result ≡ None → budget.new ≡ 0 }
+        ensures events { steps.new + budget.new ≡ steps.old + budget.old }
+        ensures before { IsIndex self.old }
+        ensures index { IsIndex self.new }
+    {
+        let Some(_) = self.turn_within(caller, STAMP, STAMP, budget, steps) else {
+            return None;
+        };
+        self.try_within(caller, call, budget, steps)
+    }
+
+    /// One try of a call, within a budget.
+    fn try_within<L: Ledger>(
+        &mut self,
+        caller: u64,
+        call: &CoreCall,
+        budget: &mut u64,
+        steps: &mut Steps<L>,
+    ) -> Option<Once<Placed>>
+        requires caller { caller < self.old.layout.callers }
+        requires begins { MayBegin call.now }
+        requires spare { most_writes call.now ≤ self.old.spare }
+        requires quiet { IsQuiet self.old }
+        ensures tries { ComesTo result (λ answer. TriedAlone self.old caller call.now self.new answer)
+            (CutsOff self.old caller call.now self.new) }
+        ensures spent { result ≡ None → budget.new ≡ 0 }
+        ensures events { steps.new + budget.new ≡ steps.old + budget.old }
+        ensures before { IsIndex self.old }
+        ensures index { IsIndex self.new }
+    {
+        let Ok(()) = self.start_name(caller, *call) else {
+            unreachable!()
+        };
+        'steps: loop {
+            if *budget == 0 {
+                return None;
+            }
+            *budget -= 1;
+            if let Some(answer) = self.turn(caller, steps) {
+                return Some(answer);
+            }
+        }
+    }
+}
+
+/// What a call on one name comes to.
+fn within_name(answer: Option<Once<Placed>>) -> Within
+    ensures { ComesTo answer (λ given. result ≡ Within.Answered (whole_of given)) (result ≡ Within.Cut) }
+{
+    match answer {
+        Some(answer) => Within::Answered(Whole::of(answer)),
+        None => Within::Cut,
+    }
+}
+
+/// What a part of a scan comes to.
+fn within_part(answer: Option<Once<PartWords>>) -> Within
+    ensures { ComesTo answer (λ given. result ≡ Within.Answered (part_whole given)) (result ≡ Within.Cut) }
+{
+    match answer {
+        Some(answer) => Within::Answered(Whole::of_part(answer)),
+        None => Within::Cut,
+    }
+}
+
+/// What a turn of the updater comes to.
+fn within_turn(answer: Option<Turned>) -> Within
+    ensures { ComesTo answer (λ given. result ≡ Within.Answered (Whole.Turned given)) (result ≡ Within.Cut) }
+{
+    match answer {
+        Some(turned) => Within::Answered(Whole::Turned(turned)),
+        None => Within::Cut,
+    }
+}
