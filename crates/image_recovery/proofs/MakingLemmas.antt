@@ -31,7 +31,7 @@ use Rattle.image_recovery.specs.declared.storing.StoringAt.TheVariants as at
 use Rattle.image_recovery.specs.Plans.{move_of}
 use Rattle.image_recovery.specs.Storings.{fenced_word, IsStoring, IsStoringAt, stores, storing_asks, storing_turned}
 use Rattle.image_recovery.specs.Makings.{IsMaking, MayMake, making_of, making_asks, making_turned, anchor_at, generation_at, of_storing}
-use Rattle.image_recovery.specs.MakingLaw.{IsClearBeside, SureMaking, sure_stores, sure_unsets, sure_sets, IsStoreOf, SureStoringAt, IsAtMove, IsAfterTurn, MakingsBegin, MakingsGo, MakingsEvict, MakingsAreSure}
+use Rattle.image_recovery.specs.MakingLaw.{IsBetweenMoves, IsClearBeside, SureMaking, sure_stores, sure_unsets, sure_sets, IsStoreOf, SureStoringAt, IsAtMove, IsAfterTurn, MakingsBegin, MakingsGo, MakingsEvict, MakingsAreSure}
 use Rattle.image_recovery.proofs.Evens.{even_still, hand_stays, clear_evicts}
 use Rattle.image_recovery.proofs.StoringLaw.{storing_goes}
 use Rattle.image_recovery.proofs.ChangingLaw.{unset_turn, set_turn}
@@ -186,6 +186,15 @@ makings_evict l list o rest words making word sound within here = record {
   clear = clear_evicts l words word here.row.whole within here.clear;
   fits = here.fits;
   sure = making_evicts l list o rest words word sound within here.row making here.fits here.sure;
+}
+
+pub between_evicts : (l : Layout) (list : List ListNode) (o : Columns) (rest : List law.Move) (words : List ℕ) (word : ℕ) → IsSound l list o → word < image_words l → IsBetweenMoves l list o rest words → IsBetweenMoves l list o rest (evicted l words word)
+between_evicts l list o rest words word sound within here = record {
+  row = evicted_row l words word here.row within;
+  clear = clear_evicts l words word here.row.whole within here.clear;
+  stage = here.stage;
+  sure = row_evicts l list o words here.stage word here.row.whole within sound here.sure;
+  plan = here.plan;
 }
 
 pub makings_are_sure : MakingsAreSure

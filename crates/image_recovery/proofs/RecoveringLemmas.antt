@@ -1,12 +1,12 @@
 -- A recovery from its beginning to its end: what is known of the rows between its moves, and after the last.
-use Rattle.std.proofs.Common.{Option, None, arith, ◌≡◌, ℕ, suc, ◌+◌, ◌<◌, ◌≤◌, List, [], ◌∷◌, map, drop, length, get_or, refl, sym, subst, ap, ◌∙◌}
+use Rattle.std.proofs.Common.{Option, Some, None, arith, ◌≡◌, ℕ, suc, ◌+◌, ◌<◌, ◌≤◌, List, [], ◌∷◌, map, drop, length, get_or, refl, sym, subst, ap, ◌∙◌}
 use Rattle.std.proofs.lemmas.List.{drop_more, drop_all}
 use Rattle.pm_words.specs.declared.layout.Layout.{Layout}
 use Rattle.pm_words.specs.declared.action.Action.{Action}
 use Rattle.pm_words.specs.declared.machine.Turn.{Turn}
 use Rattle.pm_words.specs.Images.{Row, IsImage}
 use Rattle.pm_words.specs.Locations.{Root, Cached, Durable}
-use Rattle.pm_words.specs.Rows.{CanAct, acted, got, row_of}
+use Rattle.pm_words.specs.Rows.{CanAct, acted, evicted, got, row_of}
 use Rattle.pm_words.proofs.Made.{row_of-row, row_of-at, row_of-at_volatile}
 use Rattle.version_lock.specs.Versions.{IsGeneration}
 use Rattle.sound_layer.specs.Sound.{IsSoundByAll}
@@ -25,12 +25,12 @@ use Rattle.image_recovery.specs.declared.moves.Move.{Move}
 use Rattle.image_recovery.specs.declared.moves.Move.TheVariants.{Raise}
 use Rattle.image_recovery.specs.Plans.{columns, list_of, move_of, IsPlanOf}
 use Rattle.image_recovery.specs.Makings.{IsMaking, MayMake, making_of, making_asks, making_turned}
-use Rattle.image_recovery.specs.MakingLaw.{IsAtMove, IsAfterTurn}
+use Rattle.image_recovery.specs.MakingLaw.{IsAtMove, IsAfterTurn, IsBetweenMoves}
 use Rattle.image_recovery.specs.Recovered.{IsRecoverable, IsUnderWay, IsRecoveredTo}
-use Rattle.image_recovery.specs.Recoveries.{IsRecoveringAt, IsRecovering, IsMakingOne, moves_left}
+use Rattle.image_recovery.specs.Recoveries.{IsRecoveringAt, IsRecovering, IsMakingOne, moves_left, EndIsRecovered, RecoveringEvicts}
 use Rattle.image_recovery.proofs.SoundColumns.{all_sound}
 use Rattle.image_recovery.proofs.CrashLemmas.{crash_between_leaves_sound}
-use Rattle.image_recovery.proofs.MakingLemmas.{makings_begin, makings_go}
+use Rattle.image_recovery.proofs.MakingLemmas.{between_evicts, makings_begin, makings_evict, makings_go}
 
 -- of one action: the number that it gave, and the words afterwards, where it is told what was asked
 pub told_by : (l : Layout) (row : Row) (asked done : Action) (number : ℕ) → row.layout ≡ l → done ≡ asked → number ≡ got row.layout row.words done → number ≡ got l row.words asked
@@ -137,3 +137,28 @@ next_begins image row next rest making recoverable under new fits = record {
   layout = under.layout;
   here = subst (λ (m : Making). IsAtMove image.layout (list_of image) (columns image) rest row.words m) (sym new) ((begins_move image recoverable row next rest under).1 (subst IsMaking new fits));
 }
+
+-- A word may become durable between any two actions.
+pub recovering_evicts : RecoveringEvicts
+recovering_evicts image recovery row word recoverable within here = at recovery.making here
+  where
+    words_are : row.layout ≡ image.layout → evicted row.layout row.words word ≡ evicted image.layout row.words word
+    words_are layout = ap (λ (l : Layout). evicted l row.words word) layout
+
+    at : (making : Option Making) → IsRecoveringAt image row (moves_left recovery) making → IsRecoveringAt image (record row { words = evicted row.layout row.words word }) (moves_left recovery) making
+    at None under = record {
+      layout = under.layout;
+      between = subst (λ (words : List ℕ). IsBetweenMoves image.layout (list_of image) (columns image) (moves_left recovery) words) (sym (words_are under.layout))
+          (between_evicts image.layout (list_of image) (columns image) (moves_left recovery) row.words word recoverable.sound within under.between);
+    }
+    at (Some making) one = record {
+      layout = one.layout;
+      here = subst (λ (words : List ℕ). IsAtMove image.layout (list_of image) (columns image) (moves_left recovery) words making) (sym (words_are one.layout))
+          (makings_evict image.layout (list_of image) (columns image) (moves_left recovery) row.words making word recoverable.sound within one.here);
+    }
+
+-- Once all moves are made, the image is recovered.
+pub end_is_recovered : EndIsRecovered
+end_is_recovered image recovery row recoverable here ended =
+    ends_plan image recoverable row (subst (IsUnderWay image row) (none_left recovery.moves.items recovery.begun ended.1)
+    (subst (λ (x : Option Making). IsRecoveringAt image row (moves_left recovery) x) ended.0 here))

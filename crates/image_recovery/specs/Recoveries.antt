@@ -1,15 +1,19 @@
 -- A recovery between any two of its actions.
-use Rattle.std.specs.Prelude.{◌≡◌, ◌<◌, ◌⊎◌, ℕ, suc, List, map, drop, Option, Some, None}
+use Rattle.std.specs.Prelude.{◌≡◌, ◌+◌, ◌<◌, ◌≤◌, ◌⊎◌, ℕ, suc, List, map, drop, get_or, length, Option, Some, None}
+use Rattle.pm_words.specs.declared.machine.Turn.{Turn}
+use Rattle.pm_words.specs.declared.machine.Turn.TheVariants.{Go, Done}
 use Rattle.pm_words.specs.Images.{Row}
-use Rattle.pm_words.specs.Rows.{durable_row}
+use Rattle.pm_words.specs.Locations.{image_words}
+use Rattle.pm_words.specs.Rows.{acted, durable_row, evicted, got, row_of}
 use Rattle.recovery_law.specs.Moves as law
 use Rattle.image_recovery.specs.declared.making.Making.{Making}
+use Rattle.image_recovery.specs.declared.moves.Move.TheVariants.{Raise}
 use Rattle.image_recovery.specs.declared.stepping.Begun.{Begun}
 use Rattle.image_recovery.specs.declared.stepping.Recovery.{Recovery}
 use Rattle.image_recovery.specs.Plans.{columns, list_of, move_of}
-use Rattle.image_recovery.specs.Makings.{making_left}
+use Rattle.image_recovery.specs.Makings.{making_asks, making_left, making_of, making_turned}
 use Rattle.image_recovery.specs.MakingLaw.{IsAtMove}
-use Rattle.image_recovery.specs.Recovered.{IsRecoverable, IsUnderWay, IsLeftOf}
+use Rattle.image_recovery.specs.Recovered.{IsRecoverable, IsUnderWay, IsRecoveredTo, IsLeftOf}
 
 -- The moves that have yet to begin.
 abbrev pub moves_left : Recovery → List law.Move
@@ -34,15 +38,43 @@ pub record MayStep (recovery : Recovery) (row : Row) : Type 0 where
   pub recoverable : IsRecoverable image
   pub recovering : IsRecovering image recovery row
 
--- A recovery of the image, and the memory on which it is made.
+-- It has a move at hand that is made for some image, and these are left behind it.
+pub record MayFinish (row : Row) (making : Making) : Type 0 where
+  pub image : Row
+  pub rest : List law.Move
+  pub recoverable : IsRecoverable image
+  pub one : IsMakingOne image row rest making
+
+-- A recovery of the image, and the memory on which it is made: no move has begun, and the words are the image's.
 pub record IsBegun (image : Row) (begun : Begun) : Type 0 where
   pub recoverable : IsRecoverable image
   pub recovering : IsRecovering image begun.recovery begun.memory
+  pub none : begun.recovery.begun ≡ 0
+  pub at_none : begun.recovery.making ≡ None
+  pub untouched : begun.memory ≡ record { layout = image.layout; words = row_of image.layout image.words }
 
--- The move that it was at is taken, or else a further one has begun.
-pub record IsTaken (old new : Recovery) (making : Making) : Type 0 where
+-- All moves are made.
+abbrev pub HasEnded : Recovery → Type 0
+HasEnded recovery = (recovery.making ≡ None) × (length recovery.moves.items ≤ recovery.begun)
+
+-- The move that it was at is taken, or else the next one of its moves has begun on these words.
+pub record IsTaken (old : Recovery) (row : Row) (new : Recovery) (making : Making) : Type 0 where
   pub moves : new.moves ≡ old.moves
-  pub which : ((new.begun ≡ old.begun) × (old.making ≡ Some making)) ⊎ (old.begun < new.begun)
+  pub which : ((new.begun ≡ old.begun) × (old.making ≡ Some making)) ⊎ ((new.begun ≡ old.begun + 1) ×
+      (old.making ≡ None) × (old.begun < length old.moves.items) ×
+      (making ≡ making_of row (get_or old.moves.items old.begun Raise)))
+
+-- the move at hand once it has come so far
+abbrev pub left_by : Turn Making (Unit {0}) → Option Making
+left_by (Go making) = Some making
+left_by (Done answer) = None
+
+-- It has made the one action that its move at hand asked for, and nothing else.
+pub record MakesOne (old : Recovery) (row : Row) (new : Recovery) (after : Row) : Type 0 where
+  pub making : Making
+  pub taken : IsTaken old row new making
+  pub acts : after ≡ record row { words = acted row.layout row.words (making_asks making) }
+  pub left : new.making ≡ left_by (making_turned making (got row.layout row.words (making_asks making)))
 
 -- how many actions the move at hand asks for at most
 abbrev pub actions_left : Option Making → ℕ
@@ -53,6 +85,17 @@ actions_left (Some making) = suc (making_left making)
 pub record IsNearer (old new : Recovery) : Type 0 where
   pub moves : new.moves ≡ old.moves
   pub nearer : (old.begun < new.begun) ⊎ ((new.begun ≡ old.begun) × (actions_left new.making < actions_left old.making))
+
+-- Once it has ended, the image is recovered.
+abbrev pub EndIsRecovered : Type 0
+EndIsRecovered = (image : Row) (recovery : Recovery) (row : Row) → IsRecoverable image →
+    IsRecovering image recovery row → HasEnded recovery → IsRecoveredTo image row
+
+-- A word may become durable at any time.
+abbrev pub RecoveringEvicts : Type 0
+RecoveringEvicts = (image : Row) (recovery : Recovery) (row : Row) (word : ℕ) → IsRecoverable image →
+    word < image_words image.layout → IsRecovering image recovery row →
+    IsRecovering image recovery (record row { words = evicted row.layout row.words word })
 
 -- Whenever it is stopped, a crash leaves an image that may be recovered again.
 abbrev pub StopLeavesSound : Type 0

@@ -21,5 +21,5 @@ pub use making::Making;
 pub use moves::Move;
 pub use planning::plan;
 pub use recovering::{Refused, make, make_all, recover, recovered, refusal};
-pub use stepping::{Begun, Recovery, begin};
+pub use stepping::{Begun, Recovery, begin, begin_sound};
 pub use storing::{Storing, StoringAt};

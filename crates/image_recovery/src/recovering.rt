@@ -7,6 +7,7 @@ ghost use Rattle.sound_layer.specs.Sound.{IsSoundByAll};
 ghost use Rattle.recovery_law.specs.Moves as law;
 ghost use Rattle.image_recovery.specs.Plans.{columns, move_of};
 ghost use Rattle.image_recovery.specs.Recovered.{IsRecoverable, IsUnderWay, MayGoOn, MayEnd, IsRecoveredTo, IsRefusedFor};
+ghost use Rattle.image_recovery.specs.Recoveries.{IsMakingOne, MayFinish};
 
 use crate::making::Making;
 use crate::moves::Move;
@@ -43,7 +44,17 @@ pub fn make<L: Ledger>(memory: &mut Memory, next: Move, steps: &mut Steps<L>)
     ensures { (image : Row) (rest : List law.Move) → IsRecoverable image →
         IsUnderWay image memory.old (move_of next ∷ rest) → IsUnderWay image memory.new rest }
 {
-    let mut making = Making::of(memory, next);
+    let making = Making::of(memory, next);
+    finish(memory, making, steps);
+}
+
+/// Makes all that is left of a move, with nobody else at the memory.
+pub(crate) fn finish<L: Ledger>(memory: &mut Memory, making: Making, steps: &mut Steps<L>)
+    requires { MayFinish memory.old making }
+    ensures { (image : Row) (rest : List law.Move) → IsRecoverable image →
+        IsMakingOne image memory.old rest making → IsUnderWay image memory.new rest }
+{
+    let mut making = making;
     'turns: loop {
         let got = memory.act(making.action(), steps);
         match making.resume(got) {

@@ -10,7 +10,7 @@ ghost use Rattle.image_recovery.specs.Recoveries.{IsBegun};
 use crate::making::Making;
 use crate::moves::Move;
 use crate::planning::plan;
-use crate::recovering::{Refused, refusal};
+use crate::recovering::{Refused, finish, refusal};
 use pm_words::{Image, Machine, Memory, NoMemory, Steps, Turn};
 use std::alloc::Global;
 use std::sync::ledger::Ledger;
@@ -31,8 +31,8 @@ pub struct Begun {
     pub memory: Memory,
 }
 
-/// The recovery of an image that is sound by all rules, and the memory with it.
-fn begin_sound(alloc: Global, image: Image) -> Result<Begun, NoMemory>
+/// The recovery of an image that is sound by all rules, and the memory with it. No action is made.
+pub fn begin_sound(alloc: Global, image: Image) -> Result<Begun, NoMemory>
     requires sound { IsSoundByAll image.layout image.words }
     requires next { IsGeneration (suc (columns image).generation) }
     ensures { IfOk result (IsBegun image) }
@@ -43,7 +43,7 @@ fn begin_sound(alloc: Global, image: Image) -> Result<Begun, NoMemory>
     Ok(Begun { recovery, memory })
 }
 
-/// Begins to recover an image; it refuses what `recover` does.
+/// Begins to recover an image, without an action; it refuses what `recover` does.
 pub fn begin(alloc: Global, image: Image) -> Result<Begun, Refused>
     ensures { MatchResult result
         (λ begun. IsSoundByAll image.layout image.words × IsBegun image begun) (IsRefusedFor image) }
@@ -58,15 +58,19 @@ pub fn begin(alloc: Global, image: Image) -> Result<Begun, Refused>
 }
 
 impl Recovery {
-    ghost use Rattle.std.specs.Prelude.{◌≡◌, ◌+◌, List, map, true, false, if◌then◌else◌, IfSome, MatchOption};
+    ghost use Rattle.std.specs.Prelude.{◌≡◌, ◌+◌, ◌↔◌, List, [], map, None, IsTrue, false, true, if◌then◌else◌};
+    ghost use Rattle.std.specs.Prelude.{MatchBool, MatchOption};
     ghost use Rattle.pm_words.specs.Images.{Row};
     ghost use Rattle.image_recovery.specs.Plans.{move_of};
     ghost use Rattle.image_recovery.specs.Recovered.{IsRecoverable, IsUnderWay, IsRecoveredTo};
-    ghost use Rattle.image_recovery.specs.Recoveries.{IsRecovering, MayStep, IsMakingOne, moves_left, IsTaken, IsNearer};
+    ghost use Rattle.image_recovery.specs.Recoveries.{HasEnded, IsRecovering, MayStep, IsMakingOne, moves_left, IsTaken};
+    ghost use Rattle.image_recovery.specs.Recoveries.{IsNearer, MakesOne};
 
     /// The recovery that makes these moves.
     pub fn new(moves: Vec<Move>) -> Recovery
-        ensures { (image row : Row) → IsUnderWay image row (map move_of moves.items) → IsRecovering image result row }
+        ensures recovering { (image row : Row) → IsUnderWay image row (map move_of moves.items) →
+            IsRecovering image result row }
+        ensures none { (result.begun ≡ 0) × (result.making ≡ None) }
     {
         Recovery {
             moves,
@@ -78,7 +82,8 @@ impl Recovery {
     /// The move that is made, or else the next one; None where all are made.
     fn current(&mut self, memory: &Memory) -> Option<Making>
         requires { MayStep self.old memory.now }
-        ensures taken { IfSome result (IsTaken self.old self.new) }
+        ensures taken { MatchOption result (HasEnded self.old × (self.new ≡ self.old))
+            (IsTaken self.old memory.now self.new) }
         ensures at { (image : Row) → IsRecoverable image → IsRecovering image self.old memory.now →
             MatchOption result (IsRecoveredTo image memory.now × IsRecovering image self.new memory.now)
             (IsMakingOne image memory.now (moves_left self.new)) }
@@ -94,13 +99,23 @@ impl Recovery {
         Some(Making::of(memory, next))
     }
 
-    /// Makes one action, with nobody else at the memory. False where all are made, and the image is recovered.
+    /// Whether all moves are made.
+    pub fn is_done(&self) -> bool
+        ensures { IsTrue result ↔ HasEnded self.now }
+    {
+        self.making.is_none() && self.moves.len() <= self.begun
+    }
+
+    /// Makes one action, with nobody else at the memory. False where all are made, and the image is recovered; then
+    /// nothing is done.
     pub fn step<L: Ledger>(&mut self, memory: &mut Memory, steps: &mut Steps<L>) -> bool
         requires { MayStep self.old memory.old }
         ensures goes { (image : Row) → IsRecoverable image → IsRecovering image self.old memory.old →
             IsRecovering image self.new memory.new }
         ensures ends { (image : Row) → IsRecoverable image → IsRecovering image self.old memory.old →
             result ≡ false → IsRecoveredTo image memory.new }
+        ensures acts { MatchBool result (MakesOne self.old memory.old self.new memory.new)
+            (HasEnded self.old × (self.new ≡ self.old) × (memory.new ≡ memory.old)) }
         ensures nearer { result ≡ true → IsNearer self.old self.new }
         ensures counts { steps.new ≡ (if result then steps.old + 1 else steps.old) }
     {
@@ -113,5 +128,18 @@ impl Recovery {
             Turn::Done(()) => None,
         };
         true
+    }
+
+    /// Makes all that is left, with nobody else at the memory.
+    pub fn run<L: Ledger>(&mut self, memory: &mut Memory, steps: &mut Steps<L>)
+        requires { MayStep self.old memory.old }
+        ensures goes { (image : Row) → IsRecoverable image → IsRecovering image self.old memory.old →
+            IsRecovering image self.new memory.new }
+        ensures ended { HasEnded self.new }
+    {
+        'moves: while let Some(making) = self.current(memory) {
+            self.making = None;
+            finish(memory, making, steps);
+        }
     }
 }

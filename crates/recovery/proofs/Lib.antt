@@ -1,3 +1,4 @@
 pub mod NodeMarks
 pub mod Opened
 pub mod Crashed
+pub mod Breaks

@@ -5,6 +5,7 @@ use Rattle.std.proofs.lemmas.Bool.{ne_eqb}
 use Rattle.cat_key.specs.declared.Pair.{Pair}
 use Rattle.cat_history.specs.Maps.{map_of}
 use Rattle.cat_history.specs.Replays.{pairs_of}
+use Rattle.cat_history.specs.declared.op.Write.{Write}
 use Rattle.pm_words.specs.declared.layout.Layout.{Layout}
 use Rattle.pm_words.specs.Images.{Row}
 use Rattle.pm_words.specs.Locations.{Word, Location, Root, Leaf, Cached, Durable, HasWord, at}
@@ -17,9 +18,10 @@ use Rattle.data_node.proofs.ListLemmas.{chain_is, members_few}
 use Rattle.call_stages.specs.Kinds.{gone_status}
 use Rattle.sound_image.specs.Nodes.{image_spot, image_list}
 use Rattle.sound_image.specs.Sound as image
-use Rattle.sound_image.specs.Sound.{image_map}
+use Rattle.sound_image.specs.Sound.{image_map, IsMapOf as IsImageMap}
+use Rattle.sound_image.proofs.MapLemmas.{sound_has_map}
 use Rattle.sound_image.specs.Weights.{image_weight}
-use Rattle.sound_layer.specs.Sound.{IsSoundByAll}
+use Rattle.sound_layer.specs.Sound.{IsSoundByAll, in_image}
 use Rattle.search_layer.specs.Leaves.{leaves_in}
 use Rattle.search_layer.proofs.LeafRows.{leaves_in-alike}
 use Rattle.index_law.specs.Facts.{Facts, list_in, spot_in}
@@ -194,3 +196,11 @@ with_room from s room is = record {
   locks = is.locks;
   short = is.short;
 }
+
+-- the words are those of the image's layout, and nothing is written
+pub same_index : (row : Row) (layout : Layout) (base : List Pair) (history : List Write) → row.layout ≡ layout → history ≡ [] → opened_index row base history ≡ opened_index (row_with layout row.words) base []
+same_index row layout base history same none = λ k. opened_index (row_with (same k) row.words) base (none k)
+
+-- the pairs have the map that the image keeps
+pub keeps_base : (image : Row) (base : List Pair) → map_of base ≡ image_map image.layout image.words → IsSoundByAll image.layout image.words → IsImageMap image.layout image.words (map_of base)
+keeps_base image base is sound = subst (IsImageMap image.layout image.words) (sym is) (sound_has_map image.layout image.words (λ rule position w breaks. sound rule position w (in_image breaks)))

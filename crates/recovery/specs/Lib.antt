@@ -1,3 +1,4 @@
 pub mod Tellings
 pub mod Opened
 pub mod Crashed
+pub mod Stops

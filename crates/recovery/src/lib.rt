@@ -1,11 +1,14 @@
 //! Opens the image of a catalogue as an index.
 //!
 //! An image that is sound by all rules, and of which there is a next generation, is recovered (`image_recovery`). Then
-//! its volatile words are made to tell its list, and it is an index of which nobody has made a call yet.
+//! its volatile words are made to tell its list, and it is an index of which nobody has made a call yet. `recover` does
+//! all of this; a `Recovery` makes one action at a time, and may be stopped by a crash.
 #![tactic(auto)]
 
 pub mod laws;
 mod opening;
+mod stopping;
 mod telling;
 
 pub use opening::{OpenFault, recover};
+pub use stopping::Recovery;

@@ -1,14 +1,10 @@
 //! An image opened as an index.
 
-ghost use Rattle.std.specs.Prelude.{◌≡◌, ◌<◌, IfOk, MatchResult, suc};
-ghost use Rattle.sound_layer.specs.Sound.{IsSoundByAll};
-ghost use Rattle.version_lock.specs.Versions.{IsGeneration};
-ghost use Rattle.image_recovery.specs.Plans.{columns};
+ghost use Rattle.std.specs.Prelude.{◌≡◌, ◌<◌, MatchResult};
 ghost use Rattle.recovery.specs.Opened.{IsOpenFault, IsOpenedFrom, fault_of};
 
-use crate::telling::tell_list;
-use image_pairs::image_pairs;
-use image_recovery::{Refused, recovered, refusal};
+use crate::stopping::Recovery;
+use image_recovery::Refused;
 use index_core::Core;
 use pm_words::{Image, NoMemory, Steps};
 use std::alloc::Global;
@@ -57,19 +53,15 @@ fn recover_on<L: Ledger>(alloc: Global, image: Image, blank: Blank) -> Result<Co
     requires parts { (blank.parts ≡ L.parts) × (0 < L.parts) }
     ensures { MatchResult result (IsOpenedFrom image) (IsOpenFault image) }
 {
-    if let Some(refused) = refusal(&image) {
-        return Err(fault_of(refused));
-    }
     let (book, share) = blank.open::<L>();
     let mut steps = Steps::new(book, share);
-    match opened(alloc, image, &mut steps) {
-        Ok(core) => Ok(core),
-        Err(_) => Err(OpenFault::NoMemory),
-    }
+    let mut recovery = Recovery::start(alloc, image)?;
+    recovery.run(&mut steps);
+    Ok(recovery.finish())
 }
 
 /// Why an image isn't opened that is refused so.
-fn fault_of(refused: Refused) -> OpenFault
+pub(crate) fn fault_of(refused: Refused) -> OpenFault
     ensures { result ≡ fault_of refused }
 {
     match refused {
@@ -80,16 +72,4 @@ fn fault_of(refused: Refused) -> OpenFault
         Refused::LastGeneration => OpenFault::Generations,
         Refused::NoMemory => OpenFault::NoMemory,
     }
-}
-
-/// The index of an image that isn't refused.
-fn opened<L: Ledger>(alloc: Global, image: Image, steps: &mut Steps<L>) -> Result<Core, NoMemory>
-    requires sound { IsSoundByAll image.layout image.words }
-    requires next { IsGeneration (suc (columns image).generation) }
-    ensures { IfOk result (IsOpenedFrom image) }
-{
-    let base = image_pairs(alloc, &image)?;
-    let mut memory = recovered(alloc, image, steps)?;
-    tell_list(&mut memory);
-    Core::opened(alloc, memory, base, Vec::new(alloc))
 }

@@ -184,6 +184,36 @@ fn catalogue(alloc: Global) -> Option<Vec<u8>> {
     }
 }
 
+/// How the catalogue ends with these words changed, each before its value; word 0 stands for no change.
+fn changed(alloc: Global, changes: [(u64, u64); 4]) -> Option<End> {
+    let mut bytes = catalogue(alloc)?;
+    for (word, value) in changes {
+        if word > 0 {
+            set_word(&mut bytes, word, value);
+        }
+    }
+    Some(end_of(alloc, &bytes))
+}
+
+#[test]
+fn a_catalogue_that_breaks_a_rule_is_refused_by_it(rt: HostRuntime) {
+    // Node 1 leads back to itself; a fingerprint; two names of node 0, with both fingerprints, are one; a state of the
+    // first log line that is none; three keys in leaves, of which the second and the third begin at words 344 and 352.
+    let none = (0, 0);
+    let [a, b] = [name_of(0).words()[0], name_of(2).words()[0]];
+    for (changes, rule, word) in [
+        ([(50, 1), none, none, none], 4, 50),
+        ([(24, 0), none, none, none], 7, 24),
+        ([(24, 132 + 256 * 132), (36, a), none, none], 8, 36),
+        ([(80, 3), none, none, none], 9, 80),
+        ([(344, b), (347, 2), (352, a), (355, 1)], 11, 8),
+    ] {
+        assert!(rt;
+            changed(rt.alloc(), changes) == Some(End::Refused(OpenFault::Damaged { rule, word }))
+        );
+    }
+}
+
 /// The first word of a catalogue that doesn't end as it has to with this value. Of its cells, which no index uses yet,
 /// few are tried.
 fn first_wrong(alloc: Global, value: u64) -> Option<u64> {

@@ -22,3 +22,5 @@ mod images;
 mod model;
 #[cfg(test)]
 mod rows;
+#[cfg(test)]
+mod stopped;

@@ -13,6 +13,9 @@ returns c =
     let recoverable = is_recoverable c.args.image is c.requires.sound c.requires.next in
     record {
       recoverable = recoverable;
-      recovering = c.new-recovery.ensures c.args.image c.in_ok-memory.memory
+      recovering = c.new-recovery.ensures.recovering c.args.image c.in_ok-memory.memory
           (begins_plan c.args.image recoverable c.in_ok-memory.memory c.in_ok-moves.moves.items c.in_ok-moves.moves.items is (c.in_ok-moves.ensures {u = tt}) (c.in_ok-memory.ensures {u = tt}) refl);
+      none = c.new-recovery.ensures.none.0;
+      at_none = c.new-recovery.ensures.none.1;
+      untouched = c.in_ok-memory.ensures {u = tt};
     }

@@ -1,4 +1,4 @@
-use Rattle.std.proofs.Common.{◌≡◌, ◌<◌, ◌⊎◌, suc, inl, inr, arith, Option, ◌∙◌, sym, subst, ap}
+use Rattle.std.proofs.Common.{◌≡◌, ◌+◌, ◌<◌, ◌⊎◌, suc, inl, inr, arith, Option, ◌∙◌, sym, subst, ap}
 use Rattle.pm_words.specs.declared.machine.Turn.TheVariants.{Go, Done}
 use Rattle.pm_words.specs.Images.{Row}
 use Rattle.image_recovery.specs.declared.making.Making.{Making}
@@ -43,6 +43,6 @@ returns-clause-nearer g c = λ _.
       moves = taken.moves;
       nearer = elim taken.which as (λ _. (old.begun < c.current.new.self.begun) ⊎ ((c.current.new.self.begun ≡ old.begun) × (actions_left c.match-resume.self < actions_left old.making))) [
         | inl same ↦ inr (same.0, subst (λ (m : Option Making). actions_left c.match-resume.self < actions_left m) (sym same.1) fewer)
-        | inr more ↦ inl more
+        | inr more ↦ inl (let up : c.current.new.self.begun ≡ old.begun + 1 = more.0 in omega arith)
       ];
     }
