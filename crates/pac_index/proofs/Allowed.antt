@@ -211,6 +211,7 @@ module _ (about : About) (id : ℕ) (v : Member) (m : Running) (f : ℕ → ℕ)
           seen = begins_more v.seen h more own.seen;
           own = placed ∙ ap (λ (l : List (ℕ × Write)). l ++ noted x more) own.own;
           says = subst (λ (b : About). SaysOf b.layout.slots (map_of b.base) (h ++ more) v.state (op_in m) (running_call m).limit (reply_of turn)) (sym own.same) step.says;
+          no_epoch = step.no_epoch;
           lists = subst (λ (b : About). ListsNow (map_of b.base) (h ++ more) m x) (sym own.same) (lists_now about.layout (facts (world (stepped_index old c v.state m 0))) m x sound.here step.kept.named step.lists);
           op_on = step.keeps_op;
           call_on = step.keeps_call;

@@ -1,5 +1,5 @@
 -- Callers as they are made.
-use Rattle.std.proofs.Common.{◌≡◌, ℕ, suc, ◌+◌, ◌<◌, ⊎_elim, List, [], ◌∷◌, ◌++◌, drop, length, refl, sym, ap, ◌∙◌, subst, arith}
+use Rattle.std.proofs.Common.{◌≡◌, ℕ, zero, suc, ◌+◌, ◌<◌, ⊎_elim, List, [], ◌∷◌, ◌++◌, drop, take, get_or, length, refl, sym, ap, ◌∙◌, subst, arith}
 use Rattle.std.proofs.lemmas.List.{length-append}
 use mathlib.Core.Option.{some}
 use lib.ListN.{get_elem?}
@@ -12,6 +12,8 @@ use Rattle.pac_index.specs.declared.caller.Caller.{Caller}
 use Rattle.pac_index.specs.declared.shared.Shared.{Shared}
 use Rattle.pac_index.specs.Kept.{IsLone, party, member_of, first_view, first_of, rest_of, placed_by}
 use Rattle.pac_index.specs.Callers.{IsCallerOf, HasCallers, AreNew, seen_by, pairs}
+use Rattle.epochs.specs.declared.seat.EpochSeat.{EpochSeat}
+use Rattle.epochs.specs.Seats.{IsSeatOf, IsUnpinned}
 use Rattle.pac_index.proofs.Seats.{next_first}
 use Rattle.pac_index.proofs.Gathered.{at_front}
 
@@ -26,10 +28,28 @@ lone_is me m e = e ∙ ap (λ (x : Member). (x ∷ [], [])) (sym (party_is me m 
 pub left_first : (s : Shared) (i : ℕ) → i < parties_of s.about.layout → rest_of (drop i (first_view s.about)) ≡ drop (suc i) (first_view s.about)
 left_first s i less = ap rest_of (next_first s.about (parties_of s.about.layout) i less)
 
+-- the first of the seats that are left, and those behind it
+next_of : {A : Type 0} (l : List A) (i : ℕ) (x : A) → i < length l → x ≡ get_or (drop i l) 0 x → get_elem? l i ≡ some x
+next_of [] i x less is = absurd (omega arith)
+next_of (y ∷ ys) zero x less is = ap some (sym is)
+next_of (y ∷ ys) (suc i) x less is = next_of ys i x (omega arith) is
+
+fewer_of : {A : Type 0} (l : List A) (i : ℕ) → drop 1 (drop i l) ≡ drop (suc i) l
+fewer_of [] zero = refl
+fewer_of [] (suc i) = refl
+fewer_of (y ∷ ys) zero = refl
+fewer_of (y ∷ ys) (suc i) = fewer_of ys i
+
+pub next_seat : (all : List EpochSeat) (i : ℕ) (left : List EpochSeat) (seat : EpochSeat) → left ≡ drop i all → i < length all → seat ≡ get_or left 0 seat → get_elem? all i ≡ some seat
+next_seat all i left seat is less first = next_of all i seat less (first ∙ ap (λ (l : List EpochSeat). get_or l 0 seat) is)
+
+pub fewer_seats : (all : List EpochSeat) (i : ℕ) (left : List EpochSeat) → left ≡ drop i all → take 0 left ++ drop (suc 0) left ≡ drop (i + 1) all
+fewer_seats all i left is = ap (λ (l : List EpochSeat). drop 1 l) is ∙ fewer_of all i ∙ ap (λ (n : ℕ). drop n all) (let e : suc i ≡ i + 1 = omega arith in e)
+
 -- one caller more
 pub handed : (s : Shared) (i : ℕ) (callers : List Caller) (c : Caller) → i < parties_of s.about.layout → HasCallers s i callers → AreNew callers → c.seat.table_id ≡ s.table.shared.table_id
-    → c.seat.me ≡ (first_of (drop i (first_view s.about)), []) → c.number ≡ i → c.index ≡ 0 → c.kept.items ≡ [] → HasCallers s (i + 1) (callers ++ c ∷ []) × AreNew (callers ++ c ∷ [])
-handed s i callers c less has fresh table me number index kept =
+    → c.seat.me ≡ (first_of (drop i (first_view s.about)), []) → c.number ≡ i → c.index ≡ 0 → c.kept.items ≡ [] → IsSeatOf s.epochs c.pins → IsUnpinned c.pins → c.pins.party ≡ i → HasCallers s (i + 1) (callers ++ c ∷ []) × AreNew (callers ++ c ∷ [])
+handed s i callers c less has fresh table me number index kept pins unpinned pinning =
     let m : Member = member_of s.about (idle_state i) in
     let is : c.seat.me ≡ (m ∷ [], []) = me ∙ ap (λ (v : List Member). (first_of v, [])) (next_first s.about (parties_of s.about.layout) i less) in
     let who : party c.seat.me ≡ m = party_is c.seat.me m is in
@@ -42,6 +62,9 @@ handed s i callers c less has fresh table me number index kept =
       number = ap (λ (x : Member). x.state.caller) who ∙ sym number;
       within = omega arith;
       kept = ap pairs kept ∙ ap (λ (x : Member). placed_by c.number x.seen) (sym who);
+      pins = pins;
+      unpinned = unpinned;
+      pinning = pinning ∙ sym number;
     } in
     let long = length-append callers (c ∷ []) in
     let count = has.count in (

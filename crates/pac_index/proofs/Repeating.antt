@@ -1,7 +1,8 @@
 -- Tries that are turned back, and the last one, which takes place.
-use Rattle.std.proofs.Common.{◌≡◌, ℕ, ◌||◌, Bool, true, List, refl, ap, ◌∙◌, subst, arith}
+use Rattle.std.proofs.Common.{◌≡◌, ℕ, ◌<◌, ◌||◌, ⊎_elim, Bool, true, List, refl, sym, ap, ◌∙◌, subst, arith}
 use Rattle.std.proofs.lemmas.List.{append-nil}
 use Rattle.std.specs.Prelude.{Option, Some, None}
+use Rattle.pm_words.specs.declared.again.Again.TheVariants as again
 use Rattle.call_stages.specs.declared.once.Once.{Once}
 use Rattle.call_stages.specs.declared.once.Once.TheVariants as once
 use Rattle.call_stages.specs.declared.once.Placed.{Placed}
@@ -18,13 +19,21 @@ use Rattle.updater.specs.declared.terms.Turned.{Turned}
 use Rattle.index_core.specs.declared.party.PartyState.{PartyState}
 use Rattle.pac_index.specs.declared.tried.TriedTurn.{TriedTurn}
 use Rattle.pac_index.specs.declared.tried.TriedTurn.TheVariants as turn
+use Rattle.pac_index.specs.declared.caller.Caller.{Caller}
+use Rattle.pac_index.specs.declared.shared.Shared.{Shared}
 use Rattle.pac_index.specs.declared.ended.Ended.{Ended}
 use Rattle.pac_index.specs.declared.ended.Ended.TheVariants as ended
 use Rattle.pac_index.specs.declared.rule.Member.{Member}
-use Rattle.pac_index.specs.Kept.{placed_by}
+use Rattle.pac_index.specs.Kept.{IsLone, placed_by}
 use Rattle.pac_index.specs.Calls.{Answers, PartAnswers, IsAnswered, counted_index}
+use Rattle.pac_index.specs.Callers.{IsCallerOf, pairs, pins_of, seen_by}
+use Rattle.pac_index.specs.Pinned.{Pinned, PinMoved, WasPinned}
 use Rattle.pac_index.specs.Ends.{ended_of, ended_by, turn_ended_by, IsDone, HasOnlyRead, AtLast}
-use Rattle.pac_index.specs.Turns.{noted_in, IsTold, TurnAnswers}
+use Rattle.pac_index.specs.Turns.{noted_in, HasTurned, IsTold, MadeTurn, TurnAnswers, TurnHeld, TurnedAtLast}
+use Rattle.epochs.specs.Kept.{first_epoch}
+use Rattle.epochs.specs.Seats.{IsSeatOf}
+use Rattle.index_core.specs.Indexes.{parties_of}
+use Rattle.epochs.specs.declared.rule.PinMember.{PinMember}
 use Rattle.pac_index.proofs.Lists.{begins_self, begins_trans}
 
 pub back_self : (v : Member) → HasOnlyRead v v
@@ -65,6 +74,22 @@ module _ (c : CoreCall) (n : ℕ) (v w : Member) where
     own = is.own ∙ append-nil (placed_by v.state.caller v.seen);
   }
 
+-- a try that the epoch turned back has seen nothing
+pub pinned_back : {T : Type 0} (holds : Member → Once T → Member → Type 0) (old new : Caller) (answer : Once T) → (holds (seen_by old) answer (seen_by new) → HasOnlyRead (seen_by old) (seen_by new)) → Pinned holds old answer new
+    → HasOnlyRead (seen_by old) (seen_by new)
+pinned_back holds old new answer back is = ⊎_elim
+    (λ (had : holds (seen_by old) answer (seen_by new) × WasPinned old new). back had.0)
+    (λ (moved : PinMoved old answer new). subst (λ (w : Member). HasOnlyRead (seen_by old) w) (sym moved.same) (back_self (seen_by old)))
+    is
+
+-- and one that is answered otherwise had its pin
+pub had_pin : {T : Type 0} (holds : Member → Once T → Member → Type 0) (old new : Caller) (answer : Once T) → ((first second : ℕ) → answer ≡ once.Again (again.Epoch first second) → ⊥) → Pinned holds old answer new
+    → holds (seen_by old) answer (seen_by new)
+had_pin holds old new answer other is = ⊎_elim
+    (λ (had : holds (seen_by old) answer (seen_by new) × WasPinned old new). had.0)
+    (λ (moved : PinMoved old answer new). absurd (other moved.first moved.second moved.is))
+    is
+
 none_of : (answer : Once PartWords) → ended_of answer ≡ None → ended_of (placed_of answer) ≡ None
 none_of (once.Done words) none = absurd (cc)
 none_of (once.Spent clock) none = absurd (cc)
@@ -82,17 +107,22 @@ pub record Tries (n : ℕ) (old : Member) (now_index : ℕ) (now : Member) : Typ
   pub index : now_index ≡ n
   pub back : HasOnlyRead old now
 
-pub get_again : (name : List ℕ) (n i j : ℕ) (old v w : Member) (t : Tried Placed) → Tries n old i v → ended_by t ≡ None → IsAnswered t (λ answer. j ≡ counted_index i answer) → IsAnswered t (λ answer. Answers (call.Get name) i v answer w)
-    → Tries n old j w
-get_again name n i j old v w (tried.Answered answer) tries none index is =
-    record { index = index ∙ same_index i answer none ∙ tries.index; back = back_trans old v w tries.back (back_by (call.Get name) i v w answer none is) }
-get_again name n i j old v w tried.Cut tries none index is = absurd is
+pub get_again : (name : List ℕ) (n i j : ℕ) (old : Member) (b a : Caller) (t : Tried Placed) → Tries n old i (seen_by b) → ended_by t ≡ None → IsAnswered t (λ answer. j ≡ counted_index i answer)
+    → IsAnswered t (λ answer. Pinned (Answers (call.Get name) i) b answer a) → Tries n old j (seen_by a)
+get_again name n i j old b a (tried.Answered answer) tries none index is = record {
+  index = index ∙ same_index i answer none ∙ tries.index;
+  back = back_trans old (seen_by b) (seen_by a) tries.back (pinned_back (Answers (call.Get name) i) b a answer (back_by (call.Get name) i (seen_by b) (seen_by a) answer none) is);
+}
+get_again name n i j old b a tried.Cut tries none index is = absurd is
 
-pub part_again : (low : List ℕ) (count n i j : ℕ) (old v w : Member) (t : Tried PartWords) → Tries n old i v → ended_by t ≡ None → IsAnswered t (λ answer. j ≡ counted_index i answer) → IsAnswered t (λ answer. PartAnswers low count i v answer w)
-    → Tries n old j w
-part_again low count n i j old v w (tried.Answered answer) tries none index is =
-    record { index = index ∙ same_index i answer none ∙ tries.index; back = back_trans old v w tries.back (back_by (call.Part low count) i v w (placed_of answer) (none_of answer none) is.looks) }
-part_again low count n i j old v w tried.Cut tries none index is = absurd is
+pub part_again : (low : List ℕ) (count n i j : ℕ) (old : Member) (b a : Caller) (t : Tried PartWords) → Tries n old i (seen_by b) → ended_by t ≡ None → IsAnswered t (λ answer. j ≡ counted_index i answer)
+    → IsAnswered t (λ answer. Pinned (PartAnswers low count i) b answer a) → Tries n old j (seen_by a)
+part_again low count n i j old b a (tried.Answered answer) tries none index is = record {
+  index = index ∙ same_index i answer none ∙ tries.index;
+  back = back_trans old (seen_by b) (seen_by a) tries.back
+      (pinned_back (PartAnswers low count i) b a answer (λ part. back_by (call.Part low count) i (seen_by b) (seen_by a) (placed_of answer) (none_of answer none) part.looks) is);
+}
+part_again low count n i j old b a tried.Cut tries none index is = absurd is
 
 pub none_else : {A : Type 0} (o : Option A) → ((x : A) → o ≡ Some x → ⊥) → o ≡ None
 none_else None never = refl
@@ -103,37 +133,39 @@ pub record GetEnds (name : List ℕ) (n : ℕ) (old : Member) (j : ℕ) (w : Mem
   pub index : j ≡ next_index n
   pub done : IsDone end (λ placed. AtLast (λ before after. Answers (call.Get name) n before (once.Done placed) after) old w)
 
-pub get_ends : (name : List ℕ) (n i j : ℕ) (old v w : Member) (t : Tried Placed) (end : Ended Placed) → Tries n old i v → ended_by t ≡ Some end → IsAnswered t (λ answer. j ≡ counted_index i answer) → IsAnswered t (λ answer. Answers (call.Get name) i v answer w)
-    → GetEnds name n old j w end
-get_ends name n i j old v w (tried.Answered (once.Done placed)) end tries ends index is =
+pub get_ends : (name : List ℕ) (n i j : ℕ) (old : Member) (b a : Caller) (t : Tried Placed) (end : Ended Placed) → Tries n old i (seen_by b) → ended_by t ≡ Some end → IsAnswered t (λ answer. j ≡ counted_index i answer)
+    → IsAnswered t (λ answer. Pinned (Answers (call.Get name) i) b answer a) → GetEnds name n old j (seen_by a) end
+get_ends name n i j old b a (tried.Answered (once.Done placed)) end tries ends index is =
     let gives : ended.Done placed ≡ end = cc in
+    let last = had_pin (Answers (call.Get name) i) b a (once.Done placed) (λ first second no. cc) is in
     record {
       index = index ∙ ap next_index tries.index;
-      done = subst (λ (e : Ended Placed). IsDone e (λ placed. AtLast (λ before after. Answers (call.Get name) n before (once.Done placed) after) old w)) gives
-          (record { before = v; back = tries.back; last = subst (λ (k : ℕ). Answers (call.Get name) k v (once.Done placed) w) tries.index is });
+      done = subst (λ (e : Ended Placed). IsDone e (λ placed. AtLast (λ before after. Answers (call.Get name) n before (once.Done placed) after) old (seen_by a))) gives
+          (record { before = seen_by b; back = tries.back; last = subst (λ (k : ℕ). Answers (call.Get name) k (seen_by b) (once.Done placed) (seen_by a)) tries.index last });
     }
-get_ends name n i j old v w (tried.Answered (once.Spent clock)) end tries ends index is = absurd is.says.reached
-get_ends name n i j old v w (tried.Answered (once.Worn node word)) end tries ends index is = absurd (cc)
-get_ends name n i j old v w (tried.Answered (once.Again why)) end tries ends index is = absurd (cc)
-get_ends name n i j old v w tried.Cut end tries ends index is = absurd is
+get_ends name n i j old b a (tried.Answered (once.Spent clock)) end tries ends index is = absurd (had_pin (Answers (call.Get name) i) b a (once.Spent clock) (λ first second no. cc) is).says.reached
+get_ends name n i j old b a (tried.Answered (once.Worn node word)) end tries ends index is = absurd (cc)
+get_ends name n i j old b a (tried.Answered (once.Again why)) end tries ends index is = absurd (cc)
+get_ends name n i j old b a tried.Cut end tries ends index is = absurd is
 
 pub record PartEnds (low : List ℕ) (count n : ℕ) (old : Member) (j : ℕ) (w : Member) (end : Ended PartWords) : Type 0 where
   pub index : j ≡ next_index n
   pub done : IsDone end (λ words. AtLast (λ before after. PartAnswers low count n before (once.Done words) after) old w)
 
-pub part_ends_so : (low : List ℕ) (count n i j : ℕ) (old v w : Member) (t : Tried PartWords) (end : Ended PartWords) → Tries n old i v → ended_by t ≡ Some end → IsAnswered t (λ answer. j ≡ counted_index i answer) → IsAnswered t (λ answer. PartAnswers low count i v answer w)
-    → PartEnds low count n old j w end
-part_ends_so low count n i j old v w (tried.Answered (once.Done words)) end tries ends index is =
+pub part_ends_so : (low : List ℕ) (count n i j : ℕ) (old : Member) (b a : Caller) (t : Tried PartWords) (end : Ended PartWords) → Tries n old i (seen_by b) → ended_by t ≡ Some end → IsAnswered t (λ answer. j ≡ counted_index i answer)
+    → IsAnswered t (λ answer. Pinned (PartAnswers low count i) b answer a) → PartEnds low count n old j (seen_by a) end
+part_ends_so low count n i j old b a (tried.Answered (once.Done words)) end tries ends index is =
     let gives : ended.Done words ≡ end = cc in
+    let last = had_pin (PartAnswers low count i) b a (once.Done words) (λ first second no. cc) is in
     record {
       index = index ∙ ap next_index tries.index;
-      done = subst (λ (e : Ended PartWords). IsDone e (λ words. AtLast (λ before after. PartAnswers low count n before (once.Done words) after) old w)) gives
-          (record { before = v; back = tries.back; last = subst (λ (k : ℕ). PartAnswers low count k v (once.Done words) w) tries.index is });
+      done = subst (λ (e : Ended PartWords). IsDone e (λ words. AtLast (λ before after. PartAnswers low count n before (once.Done words) after) old (seen_by a))) gives
+          (record { before = seen_by b; back = tries.back; last = subst (λ (k : ℕ). PartAnswers low count k (seen_by b) (once.Done words) (seen_by a)) tries.index last });
     }
-part_ends_so low count n i j old v w (tried.Answered (once.Spent clock)) end tries ends index is = absurd is.looks.says.reached
-part_ends_so low count n i j old v w (tried.Answered (once.Worn node word)) end tries ends index is = absurd (cc)
-part_ends_so low count n i j old v w (tried.Answered (once.Again why)) end tries ends index is = absurd (cc)
-part_ends_so low count n i j old v w tried.Cut end tries ends index is = absurd is
+part_ends_so low count n i j old b a (tried.Answered (once.Spent clock)) end tries ends index is = absurd (had_pin (PartAnswers low count i) b a (once.Spent clock) (λ first second no. cc) is).looks.says.reached
+part_ends_so low count n i j old b a (tried.Answered (once.Worn node word)) end tries ends index is = absurd (cc)
+part_ends_so low count n i j old b a (tried.Answered (once.Again why)) end tries ends index is = absurd (cc)
+part_ends_so low count n i j old b a tried.Cut end tries ends index is = absurd is
 
 -- what is noted stays so
 stays_noted : (noted : Bool) (answer : TurnReply) → noted ≡ true → noted_in noted answer ≡ true
@@ -141,8 +173,8 @@ stays_noted noted (reply.Turned turned) is = ap (λ (b : Bool). b || turned.none
 stays_noted noted (reply.Held word) is = is
 
 -- what a turn leaves
-pub turn_reads : (v w : Member) (answer : TurnReply) → TurnAnswers v answer w → HasOnlyRead v w
-turn_reads v w answer is = record {
+pub turn_reads : (epoch : ℕ) (v w : Member) (answer : TurnReply) → TurnAnswers epoch v answer w → HasOnlyRead v w
+turn_reads epoch v w answer is = record {
   about = is.about;
   caller = ap (λ (e : PartyState). e.caller) is.state;
   taken = let t = is.taken in omega arith;
@@ -152,16 +184,63 @@ turn_reads v w answer is = record {
   own = is.own;
 }
 
--- a turn that finds the updater lock taken, and the last one
-pub turn_again : (old v w : Member) (t : TriedTurn) → HasOnlyRead old v → turn_ended_by t ≡ None → IsTold t (λ answer. TurnAnswers v answer w) → HasOnlyRead old w
-turn_again old v w (turn.Turned turned) back none is = absurd (cc)
-turn_again old v w (turn.Held word) back none is = back_trans old v w back (turn_reads v w (reply.Held word) is)
-turn_again old v w turn.Cut back none is = absurd is
+pub held_reads : (word : ℕ) (v w : Member) → TurnHeld word v w → HasOnlyRead v w
+held_reads word v w is = turn_reads first_epoch v w (reply.Held word) (is first_epoch)
 
-pub turn_ends_so : (old v w : Member) (t : TriedTurn) (end : Ended Turned) → HasOnlyRead old v → turn_ended_by t ≡ Some end → IsTold t (λ answer. TurnAnswers v answer w)
-    → IsDone end (λ turned. AtLast (λ before after. TurnAnswers before (reply.Turned turned) after) old w)
-turn_ends_so old v w (turn.Turned turned) end back ends is =
+-- What a try of a turn comes to.
+abbrev pub TriesTurn : ℕ → Member → PinMember → TriedTurn → Member → PinMember → Type 0
+TriesTurn parties v pins t w pins_now = IsTold t (λ turned epoch advanced. MadeTurn parties v pins turned epoch advanced w pins_now) (λ word. TurnHeld word v w × (pins_now ≡ pins))
+
+-- a turn that finds the updater lock taken, and the last one
+pub turn_again : (parties : ℕ) (old v w : Member) (first pins pins_now : PinMember) (t : TriedTurn) → HasOnlyRead old v → pins ≡ first → turn_ended_by t ≡ None → TriesTurn parties v pins t w pins_now
+    → HasOnlyRead old w × (pins_now ≡ first)
+turn_again parties old v w first pins pins_now (turn.Turned turned epoch advanced) back same none is = absurd (cc)
+turn_again parties old v w first pins pins_now (turn.Held word) back same none is = (back_trans old v w back (held_reads word v w is.0), is.1 ∙ same)
+turn_again parties old v w first pins pins_now turn.Cut back same none is = absurd is
+
+pub turn_ends_so : (parties : ℕ) (old v w : Member) (first pins pins_now : PinMember) (t : TriedTurn) (end : Ended Turned) → HasOnlyRead old v → pins ≡ first → turn_ended_by t ≡ Some end → TriesTurn parties v pins t w pins_now
+    → IsDone end (λ turned. TurnedAtLast parties old first turned w pins_now)
+turn_ends_so parties old v w first pins pins_now (turn.Turned turned epoch advanced) end back same ends is =
     let gives : ended.Done turned ≡ end = cc in
-    subst (λ (e : Ended Turned). IsDone e (λ turned. AtLast (λ before after. TurnAnswers before (reply.Turned turned) after) old w)) gives (record { before = v; back = back; last = is })
-turn_ends_so old v w (turn.Held word) end back ends is = absurd (cc)
-turn_ends_so old v w turn.Cut end back ends is = absurd is
+    subst (λ (e : Ended Turned). IsDone e (λ turned. TurnedAtLast parties old first turned w pins_now)) gives
+    (record { epoch = epoch; advanced = advanced; last = record { before = v; back = back; last = subst (λ (p : PinMember). MadeTurn parties v p turned epoch advanced w pins_now) same is } })
+turn_ends_so parties old v w first pins pins_now (turn.Held word) end back same ends is = absurd (cc)
+turn_ends_so parties old v w first pins pins_now turn.Cut end back same ends is = absurd is
+
+-- of a turn that was tried until it was made
+pub turned_at_last : (parties : ℕ) (old w : Member) (pins pins_now : PinMember) (turned : Turned) → TurnedAtLast parties old pins turned w pins_now → AtLast (HasTurned turned) old w
+turned_at_last parties old w pins pins_now turned is = record { before = is.last.before; back = is.last.back; last = (is.epoch, is.last.last.answers) }
+
+pub turned_done : (parties : ℕ) (old w : Member) (pins pins_now : PinMember) (end : Ended Turned) (turned : Turned) → end ≡ ended.Done turned → IsDone end (λ turned. TurnedAtLast parties old pins turned w pins_now) → AtLast (HasTurned turned) old w
+turned_done parties old w pins pins_now end turned is done =
+    turned_at_last parties old w pins pins_now turned (subst (λ (e : Ended Turned). IsDone e (λ turned. TurnedAtLast parties old pins turned w pins_now)) is done)
+
+-- of whichever try of a turn: what it is answered, and that its caller is one still
+tried_answers : (parties : ℕ) (v w : Member) (pins pins_now : PinMember) (t : TriedTurn) → TriesTurn parties v pins t w pins_now → (epoch : ℕ) × (answer : TurnReply) × TurnAnswers epoch v answer w
+tried_answers parties v w pins pins_now (turn.Turned turned epoch advanced) is = (epoch, reply.Turned turned, is.answers)
+tried_answers parties v w pins pins_now (turn.Held word) is = (first_epoch, reply.Held word, is.0 first_epoch)
+tried_answers parties v w pins pins_now turn.Cut is = absurd is
+
+pub tried_reads : (parties : ℕ) (b a : Caller) (t : TriedTurn) → TriesTurn parties (seen_by b) (pins_of b) t (seen_by a) (pins_of a) → HasOnlyRead (seen_by b) (seen_by a)
+tried_reads parties b a t is =
+    let told = tried_answers parties (seen_by b) (seen_by a) (pins_of b) (pins_of a) t is in
+    turn_reads told.0 (seen_by b) (seen_by a) told.1 told.2
+
+pub turned_caller : (s : Shared) (b a : Caller) (t : TriedTurn) → IsCallerOf s b → a.number ≡ b.number → pairs a.kept.items ≡ pairs b.kept.items → a.seat.table_id ≡ b.seat.table_id → IsLone a.seat.me → IsSeatOf s.epochs a.pins → a.pins.party ≡ b.pins.party → (pins_of a).pin ≡ (pins_of b).pin
+    → TriesTurn s.epochs.parties (seen_by b) (pins_of b) t (seen_by a) (pins_of a) → IsCallerOf s a
+turned_caller s b a t is number kept table lone pins party pin tries =
+    let told = (tried_answers s.epochs.parties (seen_by b) (seen_by a) (pins_of b) (pins_of a) t tries).2 in
+    let own : placed_by b.number (seen_by a).seen ≡ placed_by b.number (seen_by b).seen = subst (λ (n : ℕ). placed_by n (seen_by a).seen ≡ placed_by n (seen_by b).seen) is.number told.own in
+    record {
+      table = table ∙ is.table;
+      lone = lone;
+      about = told.about ∙ is.about;
+      idle = ap (λ (e : PartyState). e.machine) told.state ∙ is.idle;
+      resting = ap (λ (e : PartyState). e.turn) told.state;
+      number = ap (λ (e : PartyState). e.caller) told.state ∙ is.number ∙ sym number;
+      within = subst (λ (n : ℕ). n < parties_of s.about.layout) (sym number) is.within;
+      kept = kept ∙ is.kept ∙ sym own ∙ ap (λ (n : ℕ). placed_by n (seen_by a).seen) (sym number);
+      pins = pins;
+      unpinned = pin ∙ is.unpinned;
+      pinning = party ∙ is.pinning ∙ sym number;
+    }

@@ -40,7 +40,7 @@ use Rattle.pac_index.specs.declared.rule.About.{About}
 use Rattle.pac_index.specs.declared.rule.Member.{Member}
 use Rattle.pac_index.specs.Kept.{placed_by, noted, Goes, view_in, machine_in, calling, added_now}
 use Rattle.pac_index.specs.Calls.{own_at, run_of, began, Runs, Answers, part_in, PartAnswers, StepsOn, turn_left}
-use Rattle.index_core.specs.MachineLaws.{IsReady, ReadyAfter, place_now, place_next}
+use Rattle.index_core.specs.MachineLaws.{IsNoEpoch, IsReady, ReadyAfter, place_now, place_next}
 use Rattle.index_core.proofs.MachineLaw.{first_ready, places_follow}
 use Rattle.index_core.proofs.Told.{is_early}
 use Rattle.pac_index.proofs.PartRuns.{run_more, run_counts, early_ran, listed_ran, early_placed, early_lists}
@@ -125,6 +125,7 @@ runs_first c n old since later here of = record {
   seen = begins_self old.seen;
   own = sym (append-nil (placed_by old.state.caller old.seen)) ∙ ap (λ (p : Option ℕ). placed_by old.state.caller old.seen ++ own_at old.state.caller n (change_of (op_of c)) p) (sym (first_unplaced old c));
   says = tt;
+  no_epoch = tt;
   ready = first_ready (view_in old) c here;
 }
 
@@ -168,6 +169,7 @@ runs_on c n old v w turn m x runs is goes =
           ∙ ap (λ (l : List (ℕ × Write)). placed_by i old.seen ++ l) (sym own);
       says = says_by old.about.layout.slots (map_of old.about.base) w.seen v.state (began c n old runs.since) op (limit_of c) turn' caller index (subst (λ (e : PartyState). runs.since ≤ e.since) (sym state) (let le : runs.since ≤ runs.since = omega arith in le))
           (subst (λ (q : NameOp × Option ℕ × About). SaysOf q.2.layout.slots (map_of q.2.base) w.seen v.state q.0 q.1 (reply_of turn')) (λ k. (same k, limit k, runs.about k)) goes.says);
+      no_epoch = goes.no_epoch;
       ready = subst (λ (b : About). ReadyAfter b.layout b.generation turn') runs.about goes.ready;
     }
 
@@ -189,6 +191,7 @@ ends_so c n old v turn answer runs is =
       own = runs.own ∙ ap (λ (t : Turn Running (Once Placed)). placed_by i old.seen ++ own_at i n (change_of (op_of c)) (place_now (change_of (op_of c)) t)) is;
       says = answer_by old.about.layout.slots (map_of old.about.base) v.seen (began c n old runs.since) (record old.state { index = n; since = length old.seen }) (op_of c) (limit_of c) answer refl refl runs.later
           (subst (λ (t : Turn Running (Once Placed)). SaysOf old.about.layout.slots (map_of old.about.base) v.seen (began c n old runs.since) (op_of c) (limit_of c) (reply_of t)) is runs.says);
+      no_epoch = subst (λ (t : Turn Running (Once Placed)). IsNoEpoch (reply_of t)) is runs.no_epoch;
     }
 
 -- a part that is done before it lists its names

@@ -10,10 +10,6 @@ use Rattle.pm_words.specs.Images.{Row}
 use Rattle.pm_words.specs.Rows.{IsRow, CanAct}
 use Rattle.pm_words.proofs.Apart.{at-set_same, at-set_other, addresses_within}
 use Rattle.pm_words.proofs.Kept.{acted_row, outside_header}
-use Rattle.std.proofs.lemmas.Option.{IfSome_then}
-use Rattle.node_ops.specs.declared.running.Running.{Running}
-use Rattle.index_law.specs.Facts.{Facts}
-use Rattle.index_law.specs.Worlds.{facts}
 use Rattle.index_law.specs.Weights.{index_weight}
 use Rattle.index_law.proofs.Noting.{beside_law}
 use Rattle.index_law.proofs.Rows.{facts-elsewhere}

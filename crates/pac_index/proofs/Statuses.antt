@@ -1,5 +1,5 @@
 -- What a turn is told of the statuses of nodes, by which it answers whether it found none FREE.
-use Rattle.std.proofs.Common.{◌≡◌, ◌≢◌, ◌↔◌, ℕ, ne_eqb, ◌+◌, ◌<◌, ◌==◌, Bool, true, false, cond, ltb, not, ◌&&◌, List, [], ◌∷◌, ◌++◌, length, refl, sym, ap, ◌∙◌, subst, arith, All}
+use Rattle.std.proofs.Common.{◌≡◌, ◌≢◌, ◌↔◌, ℕ, ne_eqb, ◌+◌, ◌-◌, ◌<◌, ◌==◌, Bool, true, false, cond, ltb, not, ◌&&◌, List, [], ◌∷◌, ◌++◌, length, refl, sym, ap, ◌∙◌, subst, arith, All}
 use Rattle.std.proofs.lemmas.Bool.{ltb-true, ltb-false}
 use Rattle.std.proofs.lemmas.List.Elements.{All-cons, All-head, All-nil, All-tail}
 use Rattle.pm_words.specs.declared.layout.Layout.{Layout}
@@ -220,9 +220,9 @@ found_on most answer some [] work same ran = absurd (cc)
 found_on most answer some (x ∷ xs) work same ran = step most answer some x xs (λ w same' ran'. found_on most answer some xs w same' ran') work same work.at ran
 
 -- A whole turn.
-pub turn_tells : (v : Member) (told : List ℕ) (answer : TurnReply) → 0 < v.about.layout.nodes → FoundLock told answer → run_of making_turned (Go (turn_in v)) told ≡ Done answer → TellsOfFree v.about.layout told answer
-turn_tells v told (reply.Held word) some lock ran = tt
-turn_tells v told (reply.Turned turned) some lock ran =
+pub turn_tells : (epoch : ℕ) (v : Member) (told : List ℕ) (answer : TurnReply) → 0 < v.about.layout.nodes → FoundLock told answer → run_of making_turned (Go (turn_in v epoch)) told ≡ Done answer → TellsOfFree v.about.layout told answer
+turn_tells epoch v told (reply.Held word) some lock ran = tt
+turn_tells epoch v told (reply.Turned turned) some lock ran =
     let most = v.about.layout in
-    let on : EndsTurned (Go (turn_in v)) (untaken ∷ lock.0) turned = subst (λ (all : List ℕ). EndsTurned (Go (turn_in v)) all turned) lock.1 ran in
-    subst (FoundStatuses most turned.none_free) (sym lock.1) (told_before most turned.none_free untaken lock.0 (found_on most turned some lock.0 (work_from most v.about.generation 1 1) refl on))
+    let on : EndsTurned (Go (turn_in v epoch)) (untaken ∷ lock.0) turned = subst (λ (all : List ℕ). EndsTurned (Go (turn_in v epoch)) all turned) lock.1 ran in
+    subst (FoundStatuses most turned.none_free) (sym lock.1) (told_before most turned.none_free untaken lock.0 (found_on most turned some lock.0 (work_from most v.about.generation epoch (epoch - 2)) refl on))

@@ -1,6 +1,6 @@
 -- How a turn goes on by one step, and what it is answered at its end.
-use Rattle.std.proofs.Common.{◌≡◌, ℕ, ◌+◌, ◌<◌, ◌==◌, Bool, cond, true, false, List, [], ◌∷◌, ◌++◌, length, refl, sym, ap, ◌∙◌, subst, arith}
-use Rattle.std.proofs.lemmas.Bool.{eqb-true, eqb-false}
+use Rattle.std.proofs.Common.{◌≡◌, ℕ, ◌≢◌, ◌+◌, ◌-◌, ◌<◌, ◌==◌, Bool, cond, true, false, List, [], ◌∷◌, ◌++◌, length, refl, sym, ap, ◌∙◌, subst, arith}
+use Rattle.std.proofs.lemmas.Bool.{eqb-true}
 use Rattle.std.proofs.lemmas.List.{length-append}
 use Rattle.std.specs.Prelude.{Option, Some, None}
 use Rattle.pm_words.specs.declared.machine.Turn.{Turn}
@@ -13,9 +13,10 @@ use Rattle.updater.specs.declared.making.TurnReply.TheVariants as reply
 use Rattle.updater.specs.declared.terms.Terms.{Terms}
 use Rattle.updater.specs.declared.terms.Turned.{Turned}
 use Rattle.updater.specs.declared.work.Work.{Work}
-use Rattle.updater.specs.Makings.{making_left, making_turned, worked}
+use Rattle.updater.specs.Makings.{making_turned, worked}
 use Rattle.updater.specs.Takings.{untaken}
-use Rattle.updater.specs.Works.{work_from, work_turned}
+use Rattle.updater.specs.Works.{work_from, work_left, work_turned}
+use Rattle.epochs.specs.Kept.{first_epoch}
 use Rattle.split_merge.specs.Advances.{turn_of}
 use Rattle.index_core.specs.PartyStates.{state_turned}
 use Rattle.index_core.specs.declared.party.PartyState.{PartyState}
@@ -23,18 +24,72 @@ use Rattle.pac_index.specs.declared.rule.About.{About}
 use Rattle.pac_index.specs.declared.rule.Member.{Member}
 use Rattle.pac_index.specs.Kept.{placed_by}
 use Rattle.pac_index.specs.Calls.{run_of}
-use Rattle.pac_index.specs.Turns.{turn_in, turning, TurnReady, TurnGoes, TurnRuns, HasLock, noted_by, TurnAnswers, TurnStepsOn, actions_left}
+use Rattle.pac_index.specs.Turns.{turn_in, turning, turning_at, work_in, TurnReady, TurnGoes, TurnRuns, HasLock, noted_by, TurnAnswers, TurnHeld, WorkStepsOn, actions_left}
 use Rattle.pac_index.proofs.Lists.{begins_trans}
 use Rattle.pac_index.proofs.PartRuns.{run_more}
 use Rattle.pac_index.proofs.Statuses.{turn_tells}
 
--- by the first number it has the lock, or is refused
-lock_first : (terms : Terms) (x : ℕ) → HasLock (x ∷ []) (making_turned (Taking terms) x)
-lock_first terms x =
-    elim (x == untaken) as (λ b. (x == untaken) ≡ b → HasLock (x ∷ []) (cond b (Go (Working (work_from terms.layout terms.generation terms.stamp terms.release))) (Done (reply.Held x)))) [
-      | true ↦ λ is. (tt, ([], ap (λ (n : ℕ). n ∷ []) (eqb-true _ _ is)))
-      | false ↦ λ other. (refl, eqb-false _ _ other)
+-- a turn of which the lock was found taken is so at whichever epoch
+refused_ran : (terms : Terms) (x : ℕ) → x ≢ untaken → run_of making_turned (Go (Taking terms)) (x ∷ []) ≡ Done (reply.Held x)
+refused_ran terms x other =
+    elim (x == untaken) as (λ b. (x == untaken) ≡ b → run_of making_turned (cond b (Go (Working (work_from terms.layout terms.generation terms.stamp terms.release))) (Done (reply.Held x))) [] ≡ Done (reply.Held x)) [
+      | true ↦ λ is. absurd (other (eqb-true _ _ is))
+      | false ↦ λ is. refl
     ] refl
+
+refused_turn : (terms : Terms) (x : ℕ) → x ≢ untaken → making_turned (Taking terms) x ≡ Done (reply.Held x)
+refused_turn terms x other =
+    elim (x == untaken) as (λ b. (x == untaken) ≡ b → cond b (Go (Working (work_from terms.layout terms.generation terms.stamp terms.release))) (Done (reply.Held x)) ≡ Done (reply.Held x)) [
+      | true ↦ λ is. absurd (other (eqb-true _ _ is))
+      | false ↦ λ is. refl
+    ] refl
+
+abbrev terms_in : Member → ℕ → Terms
+terms_in v epoch = record { layout = v.about.layout; generation = v.about.generation; stamp = epoch; release = epoch - 2 }
+
+pub turn_held : (old w : Member) (x : ℕ) → TurnGoes (turn_in old first_epoch) (turning old) x w → x ≢ untaken → TurnHeld x old w
+turn_held old w x goes other = λ epoch.
+    let ended = refused_turn (terms_in old first_epoch) x other in
+    record {
+      about = goes.about;
+      state = goes.state ∙ ap (state_turned old.state) ended;
+      ran = ap (run_of making_turned (Go (turn_in old epoch))) goes.told ∙ refused_ran (terms_in old epoch) x other;
+      lock = (goes.told, other);
+      free = tt;
+      taken = goes.taken ∙ ap (λ (l : List ℕ). old.taken + length l) (sym goes.told);
+      added = goes.added;
+      none_free = goes.none_free ∙ ap (noted_by old.none_free) ended;
+      seen = goes.seen;
+      own = goes.own;
+    }
+
+-- what holds of a party that has taken the lock
+pub took_lock : (old w : Member) (x : ℕ) → x ≡ untaken → TurnGoes (turn_in old first_epoch) (turning old) x w → TurnGoes (turn_in old first_epoch) (turning old) untaken w
+took_lock old w x is goes = subst (λ (n : ℕ). TurnGoes (turn_in old first_epoch) (turning old) n w) is goes
+
+module _ (old w : Member) (goes : TurnGoes (turn_in old first_epoch) (turning old) untaken w) where
+  pub lock_flies : w.state.turn ≡ Some (work_in w first_epoch)
+  lock_flies = ap (λ (e : PartyState). e.turn) goes.state ∙ ap (λ (b : About). Some (Working (work_from b.layout b.generation first_epoch (first_epoch - 2)))) (sym goes.about)
+
+  pub lock_ready : (about : About) → old.about ≡ about → TurnReady about.layout (Go (work_in w first_epoch))
+  lock_ready about same = subst (λ (q : About × About). TurnReady q.0.layout (Go (Working (work_from q.1.layout q.1.generation first_epoch (first_epoch - 2))))) (λ k. (same k, (sym goes.about) k)) goes.ready
+
+  -- and then has its epoch
+  pub lock_dated : (epoch : ℕ) → TurnReady old.about.layout (Go (work_in old epoch)) → TurnRuns epoch old (Go (work_in w epoch)) (turning_at w epoch)
+  lock_dated epoch ready =
+      let same : work_in old epoch ≡ work_in w epoch = ap (λ (b : About). Working (work_from b.layout b.generation epoch (epoch - 2))) (sym goes.about) in
+      subst (λ (m : MakeTurn). TurnRuns epoch old (Go m) (record w { state = record w.state { turn = Some m } })) same (record {
+        about = goes.about;
+        state = ap (λ (e : PartyState). record e { turn = Some (work_in old epoch) }) goes.state;
+        ran = ap (run_of making_turned (Go (turn_in old epoch))) goes.told;
+        lock = (tt, ([], goes.told));
+        taken = goes.taken ∙ ap (λ (l : List ℕ). old.taken + length l) (sym goes.told);
+        added = goes.added;
+        none_free = goes.none_free;
+        seen = goes.seen;
+        own = goes.own;
+        ready = ready;
+      })
 
 -- its work under the lock isn't refused
 lock_on : (told : List ℕ) (making : MakeTurn) (x : ℕ) → HasLock told (Go making) → HasLock (told ++ x ∷ []) (making_turned making x)
@@ -48,32 +103,15 @@ lock_on told (Working work) x has = at (work_turned work x)
     at (Go next) = (tt, (has.1.0 ++ x ∷ [], more))
     at (Done turned) = (has.1.0 ++ x ∷ [], more)
 
--- a turn after its first step
-pub turn_first : (old w : Member) (x : ℕ) → TurnGoes (turn_in old) (turning old) x w → TurnRuns old (making_turned (turn_in old) x) w
-turn_first old w x goes =
-    let terms : Terms = record { layout = old.about.layout; generation = old.about.generation; stamp = 1; release = 1 } in
-    record {
-      about = goes.about;
-      state = goes.state;
-      ran = ap (run_of making_turned (Go (turn_in old))) goes.told ∙ run_more making_turned (Go (turn_in old)) [] (turn_in old) x refl;
-      lock = subst (λ (l : List ℕ). HasLock l (making_turned (turn_in old) x)) (sym goes.told) (lock_first terms x);
-      taken = goes.taken ∙ ap (λ (l : List ℕ). old.taken + length l) (sym goes.told);
-      added = goes.added;
-      none_free = goes.none_free;
-      seen = goes.seen;
-      own = goes.own;
-      ready = goes.ready;
-    }
-
 -- a turn goes on by one step
-pub turn_on : (old v w : Member) (turn : Turn MakeTurn TurnReply) (making : MakeTurn) (x : ℕ) → TurnRuns old turn v → turn ≡ Go making → TurnGoes making v x w → TurnRuns old (making_turned making x) w
-turn_on old v w turn making x runs is goes =
+pub turn_on : (epoch : ℕ) (old v w : Member) (turn : Turn MakeTurn TurnReply) (making : MakeTurn) (x : ℕ) → TurnRuns epoch old turn v → turn ≡ Go making → TurnGoes making v x w → TurnRuns epoch old (making_turned making x) w
+turn_on epoch old v w turn making x runs is goes =
     let turn' = making_turned making x in
     let caller : v.state.caller ≡ old.state.caller = ap (λ (e : PartyState). e.caller) runs.state in
     record {
       about = goes.about ∙ runs.about;
       state = goes.state ∙ ap (λ (e : PartyState). state_turned e turn') runs.state;
-      ran = ap (run_of making_turned (Go (turn_in old))) goes.told ∙ run_more making_turned (Go (turn_in old)) v.told making x (runs.ran ∙ is);
+      ran = ap (run_of making_turned (Go (turn_in old epoch))) goes.told ∙ run_more making_turned (Go (turn_in old epoch)) v.told making x (runs.ran ∙ is);
       lock = subst (λ (l : List ℕ). HasLock l turn') (sym goes.told) (lock_on v.told making x (subst (HasLock v.told) is runs.lock));
       taken = let was = runs.taken in let one = goes.taken in let long = ap length goes.told ∙ length-append v.told (x ∷ []) in omega arith;
       added = goes.added ∙ runs.added;
@@ -83,34 +121,34 @@ turn_on old v w turn making x runs is goes =
       ready = subst (λ (b : About). TurnReady b.layout turn') runs.about goes.ready;
     }
 
--- without an answer the turn goes on
-pub turn_going : (making : MakeTurn) (answer : Option TurnReply) → ((told : TurnReply) → answer ≡ Some told → ⊥) → turn_of making answer ≡ Go making
-turn_going making None none = refl
-turn_going making (Some told) none = absurd (none told refl)
+-- without an answer the work goes on
+pub work_going : (work : Work) (answer : Option Turned) → ((told : Turned) → answer ≡ Some told → ⊥) → worked (turn_of work answer) ≡ Go (Working work)
+work_going work None none = refl
+work_going work (Some told) none = absurd (none told refl)
 
 -- the party of a turn in flight has it
-pub turn_flies : (old v : Member) (turn : Turn MakeTurn TurnReply) (making : MakeTurn) → TurnRuns old turn v → turn ≡ Go making → v.state.turn ≡ Some making
-turn_flies old v turn making runs is = ap (λ (e : PartyState). e.turn) (runs.state ∙ ap (state_turned old.state) is)
+pub turn_flies : (epoch : ℕ) (old v : Member) (turn : Turn MakeTurn TurnReply) (making : MakeTurn) → TurnRuns epoch old turn v → turn ≡ Go making → v.state.turn ≡ Some making
+turn_flies epoch old v turn making runs is = ap (λ (e : PartyState). e.turn) (runs.state ∙ ap (state_turned old.state) is)
 
 -- and may go on with it
-pub turn_ready : (old v : Member) (turn : Turn MakeTurn TurnReply) (making : MakeTurn) (about : About) → TurnRuns old turn v → turn ≡ Go making → old.about ≡ about → TurnReady about.layout (Go making)
-turn_ready old v turn making about runs is same = subst (λ (b : About). TurnReady b.layout (Go making)) same (subst (TurnReady old.about.layout) is runs.ready)
+pub turn_ready : (epoch : ℕ) (old v : Member) (turn : Turn MakeTurn TurnReply) (making : MakeTurn) (about : About) → TurnRuns epoch old turn v → turn ≡ Go making → old.about ≡ about → TurnReady about.layout (Go making)
+turn_ready epoch old v turn making about runs is same = subst (λ (b : About). TurnReady b.layout (Go making)) same (subst (TurnReady old.about.layout) is runs.ready)
 
-pub turn_stepped : (old v w : Member) (turn : Turn MakeTurn TurnReply) (making next : MakeTurn) (answer : Option TurnReply) → TurnRuns old turn v → turn ≡ Go making → TurnStepsOn making v w next answer → TurnRuns old (turn_of next answer) w
-turn_stepped old v w turn making next answer runs is on = subst (λ (t : Turn MakeTurn TurnReply). TurnRuns old t w) on.turned (turn_on old v w turn making on.told runs is on.goes)
+pub work_stepped : (epoch : ℕ) (old v w : Member) (turn : Turn MakeTurn TurnReply) (work next : Work) (answer : Option Turned) → TurnRuns epoch old turn v → turn ≡ Go (Working work) → WorkStepsOn work v w next answer → TurnRuns epoch old (worked (turn_of next answer)) w
+work_stepped epoch old v w turn work next answer runs is on = subst (λ (t : Turn Work Turned). TurnRuns epoch old (worked t) w) on.turned (turn_on epoch old v w turn (Working work) on.told runs is on.goes)
 
-pub turn_lessens : (making : MakeTurn) (turn : Turn MakeTurn TurnReply) → GoesBelow making_left (making_left making) turn → actions_left turn < actions_left (Go making)
-turn_lessens making (Go next) less = omega arith
-turn_lessens making (Done answer) less = omega arith
+pub work_lessens : (work : Work) (turn : Turn Work Turned) → GoesBelow work_left (work_left work) turn → actions_left (worked turn) < actions_left (Go (Working work))
+work_lessens work (Go next) less = omega arith
+work_lessens work (Done answer) less = omega arith
 
 -- the answer that it ends with
-pub turn_ends : (old v : Member) (turn : Turn MakeTurn TurnReply) (answer : TurnReply) → TurnRuns old turn v → turn ≡ Done answer → 0 < old.about.layout.nodes → TurnAnswers old answer v
-turn_ends old v turn answer runs is some = record {
+pub turn_ends : (epoch : ℕ) (old v : Member) (turn : Turn MakeTurn TurnReply) (answer : TurnReply) → TurnRuns epoch old turn v → turn ≡ Done answer → 0 < old.about.layout.nodes → TurnAnswers epoch old answer v
+turn_ends epoch old v turn answer runs is some = record {
   about = runs.about;
   state = runs.state ∙ ap (state_turned old.state) is;
   ran = runs.ran ∙ is;
   lock = subst (HasLock v.told) is runs.lock;
-  free = turn_tells old v.told answer some (subst (HasLock v.told) is runs.lock) (runs.ran ∙ is);
+  free = turn_tells epoch old v.told answer some (subst (HasLock v.told) is runs.lock) (runs.ran ∙ is);
   taken = runs.taken;
   added = runs.added;
   none_free = runs.none_free ∙ ap (noted_by old.none_free) is;

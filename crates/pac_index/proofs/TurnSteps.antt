@@ -1,5 +1,5 @@
 -- Each step of a turn keeps the table's rule, by the core's law on a step of a party's turn.
-use Rattle.std.proofs.Common.{◌≡◌, ℕ, ◌+◌, ◌<◌, ◌^◌, ◌⊎◌, inl, inr, ⊎_elim, Bool, true, false, List, [], ◌∷◌, ◌++◌, set, refl, sym, ap, ◌∙◌, subst, arith}
+use Rattle.std.proofs.Common.{◌≡◌, ℕ, ◌+◌, ◌-◌, ◌<◌, ◌≤◌, ◌^◌, ◌⊎◌, inl, inr, ⊎_elim, Bool, true, false, List, [], ◌∷◌, ◌++◌, set, refl, sym, ap, ◌∙◌, subst, arith}
 use Rattle.std.specs.Prelude.{Option, Some, None, IfSome, slice_index}
 use mathlib.Core.Option.{some}
 use lib.ListN.{get_elem?}
@@ -8,23 +8,26 @@ use Rattle.pm_words.specs.declared.machine.Turn.{Turn}
 use Rattle.pm_words.specs.declared.machine.Turn.TheVariants.{Go, Done}
 use Rattle.pm_words.specs.Rows.{given, action_address, word_after, CanChange}
 use Rattle.updater.specs.declared.making.MakeTurn.{MakeTurn}
+use Rattle.updater.specs.declared.making.MakeTurn.TheVariants.{Working}
 use Rattle.updater.specs.declared.making.TurnReply.{TurnReply}
 use Rattle.updater.specs.declared.making.TurnReply.TheVariants as reply
 use Rattle.updater.specs.Makings.{making_from, making_asks, making_turned}
+use Rattle.updater.specs.Works.{work_from}
+use Rattle.epochs.specs.Kept.{first_epoch}
 use Rattle.index_law.specs.Worlds.{Party}
 use Rattle.index_law.specs.Weights.{weight_sum}
 use Rattle.index_law.proofs.Parties.{set_here}
 use Rattle.index_core.specs.declared.party.PartyState.{PartyState}
 use Rattle.index_core.specs.PartyStates.{state_turned, turn_after, IsTurnOf}
 use Rattle.index_core.specs.Indexes.{Index, IsIndex, world}
-use Rattle.index_core.specs.Turns.{turn_begun, turned_index, FindsNoneFree}
+use Rattle.index_core.specs.Turns.{turn_begun, turned_index, with_terms, FindsNoneFree}
 use Rattle.index_core.proofs.Lists.{some_same}
-use Rattle.index_core.proofs.Turning.{parties_same, turns_keep, turn_begins}
+use Rattle.index_core.proofs.Turning.{parties_same, turns_keep, turn_begins, terms_may_be_set}
 use Rattle.atomic_table.specs.Table.{State, Me}
 use Rattle.pac_index.specs.declared.rule.About.{About}
 use Rattle.pac_index.specs.declared.rule.Member.{Member}
 use Rattle.pac_index.specs.Kept.{index_of, Fits, Kept, May, party, IsLone}
-use Rattle.pac_index.specs.Turns.{turn_in, turning, TurnReady, noted_by, TurnGoes, TellsTurn, StartsTurn}
+use Rattle.pac_index.specs.Turns.{turn_in, turning, turning_at, work_in, TurnReady, noted_by, TurnGoes, TellsTurn, StartsTurn, StartsWork}
 use Rattle.pac_index.proofs.Allowed.{Leaves, may, leaves_first, moved, stayed, place_inside}
 use Rattle.pac_index.proofs.Lists.{begins_self}
 
@@ -106,23 +109,53 @@ begun about id v s kept at rests =
     let own = kept.fits id (v ∷ []) at 0 v refl in
     let c = v.state.caller in
     let u = turning v in
-    let index = turn_begins old c v.state 1 1 kept.index own.there rests (omega arith) (omega arith) in
-    let path : Path Index (turn_begun old c v.state 1 1) (index_of about s.words (set kept.states c u.state) h) =
-    λ k. record { layout = about.layout; generation = about.generation; words = s.words; states = set kept.states c (record v.state { turn = Some (making_from (sym own.same k).layout (sym own.same k).generation 1 1) }); base = about.base; history = h; spare = 0 } in
+    let index = turn_begins old c v.state first_epoch (first_epoch - 2) kept.index own.there rests (omega arith) (omega arith) in
+    let path : Path Index (turn_begun old c v.state first_epoch (first_epoch - 2)) (index_of about s.words (set kept.states c u.state) h) =
+    λ k. record { layout = about.layout; generation = about.generation; words = s.words; states = set kept.states c (record v.state { turn = Some (making_from (sym own.same k).layout (sym own.same k).generation first_epoch (first_epoch - 2)) }); base = about.base; history = h; spare = 0 } in
     let fit : Fits about (set kept.states c u.state) h u = record { same = own.same; there = set_here kept.states c u.state v.state own.there; seen = own.seen; own = own.own } in
-    let weight = ap (λ (ps : List Party). weight_sum (record (world old) { parties = ps })) (parties_same old c v.state (Some (turn_in v)) own.there) in
+    let weight = ap (λ (ps : List Party). weight_sum (record (world old) { parties = ps })) (parties_same old c v.state (Some (turn_in v first_epoch)) own.there) in
     let same_weight : weight_sum (world (index_of about s.words (set kept.states c u.state) h)) ≡ weight_sum (world old) = weight in
     moved about id v u s.words h s kept at refl (subst IsIndex path index) fit (λ d other. stayed about kept.states h c u.state d other) (omega arith) (omega arith) (λ noted. inl noted)
 
 -- the same where the step begins the turn
-pub turn_allows_first : (about : About) (words slots id : ℕ) (me : Me (Unit {0}) (List Member)) → IsLone me → (party me).state.turn ≡ None → action_address about.layout (making_asks (turn_in (party me))) < words
-    → May about words slots id me (making_asks (turn_in (party me))) StartsTurn
+pub turn_allows_first : (about : About) (words slots id : ℕ) (me : Me (Unit {0}) (List Member)) → IsLone me → (party me).state.turn ≡ None → action_address about.layout (making_asks (turn_in (party me) first_epoch)) < words
+    → May about words slots id me (making_asks (turn_in (party me) first_epoch)) StartsTurn
 turn_allows_first about words slots id me lone rests within =
     let v = party me in
-    let making = turn_in v in
+    let making = turn_in v first_epoch in
     let u = turning v in
     may about words slots id me (making_asks making) (TurnGoes making u) StartsTurn lone within (λ found after alone goes. (alone, goes))
     (λ f same s kept at fits.
     leaves_first about s id (making_asks making) f u (TurnGoes making u) (TurnGoes making u) (λ x w goes. goes)
     (done about id u making f refl same (record { words = s.words; homes = s.homes; views = set s.views id (u ∷ []) })
     (begun about id v s kept at rests) (set_here s.views id (u ∷ []) (v ∷ []) at) fits))
+
+-- the parties and the views once a party that has the lock has the epoch of its turn
+dated : (about : About) (id : ℕ) (v : Member) (epoch : ℕ) (s : State (Unit {0}) (List Member)) (kept : Kept about s) → get_elem? s.views id ≡ some (v ∷ []) → v.state.turn ≡ Some (work_in v first_epoch) → 1 ≤ epoch → epoch < 2 ^ 64
+    → Kept about (record { words = s.words; homes = s.homes; views = set s.views id (turning_at v epoch ∷ []) })
+dated about id v epoch s kept at flies positive fits =
+    let h = kept.history in
+    let old = index_of about s.words kept.states h in
+    let own = kept.fits id (v ∷ []) at 0 v refl in
+    let c = v.state.caller in
+    let u = turning_at v epoch in
+    let was : v.state.turn ≡ Some (Working (work_from about.layout about.generation first_epoch (first_epoch - 2))) = flies ∙ ap (λ (b : About). Some (Working (work_from b.layout b.generation first_epoch (first_epoch - 2)))) own.same in
+    let law = terms_may_be_set old c v.state first_epoch (first_epoch - 2) epoch (epoch - 2) kept.index own.there was positive fits in
+    let path : Path Index (with_terms old c v.state epoch (epoch - 2)) (index_of about s.words (set kept.states c u.state) h) =
+    λ k. record { layout = about.layout; generation = about.generation; words = s.words; states = set kept.states c (record v.state { turn = Some (Working (work_from (sym own.same k).layout (sym own.same k).generation epoch (epoch - 2))) }); base = about.base; history = h; spare = 0 } in
+    let fit : Fits about (set kept.states c u.state) h u = record { same = own.same; there = set_here kept.states c u.state v.state own.there; seen = own.seen; own = own.own } in
+    let same_weight : weight_sum (world (index_of about s.words (set kept.states c u.state) h)) ≡ weight_sum (world old) = sym (ap (λ (q : Index). weight_sum (world q)) path) ∙ law.weighs in
+    moved about id v u s.words h s kept at refl (subst IsIndex path law.kept) fit (λ d other. stayed about kept.states h c u.state d other) (omega arith) (omega arith) (λ noted. inl noted)
+
+-- the same where the step is the first under the lock
+pub work_allows_first : (about : About) (words slots id : ℕ) (me : Me (Unit {0}) (List Member)) (epoch : ℕ) → IsLone me → (party me).state.turn ≡ Some (work_in (party me) first_epoch) → 1 ≤ epoch → epoch < 2 ^ 64
+    → action_address about.layout (making_asks (work_in (party me) epoch)) < words → May about words slots id me (making_asks (work_in (party me) epoch)) (StartsWork epoch)
+work_allows_first about words slots id me epoch lone flies positive fits within =
+    let v = party me in
+    let making = work_in v epoch in
+    let u = turning_at v epoch in
+    may about words slots id me (making_asks making) (TurnGoes making u) (StartsWork epoch) lone within (λ found after alone goes. (alone, goes))
+    (λ f same s kept at small.
+    leaves_first about s id (making_asks making) f u (TurnGoes making u) (TurnGoes making u) (λ x w goes. goes)
+    (done about id u making f refl same (record { words = s.words; homes = s.homes; views = set s.views id (u ∷ []) })
+    (dated about id v epoch s kept at flies positive fits) (set_here s.views id (u ∷ []) (v ∷ []) at) small))

@@ -28,17 +28,18 @@ use Rattle.pac_index.specs.declared.rule.About.{About}
 use Rattle.pac_index.specs.declared.rule.Member.{Member}
 use Rattle.pac_index.specs.Kept.{Begins}
 use Rattle.pac_index.specs.Calls.{Answers, IsAnswered, counted_index, own_at, own_of}
-use Rattle.pac_index.specs.Callers.{spare_of}
+use Rattle.pac_index.specs.Callers.{seen_by, spare_of}
+use Rattle.pac_index.specs.Pinned.{Pinned}
 use Rattle.pac_index.specs.Ends.{ended_by, HasOnlyRead, AtLast}
-use Rattle.pac_index.specs.Turns.{TurnAnswers}
+use Rattle.pac_index.specs.Turns.{HasTurned}
 use Rattle.pac_index.specs.Writes.{lacks_node, EndsSo, TurnedForRoom, HaveTurned, FoundFull}
 use Rattle.pac_index.proofs.Lists.{begins_le}
-use Rattle.pac_index.proofs.Repeating.{back_by, back_self, back_trans, same_index, turn_reads}
+use Rattle.pac_index.proofs.Repeating.{back_by, back_self, back_trans, had_pin, pinned_back, same_index, turn_reads}
 
 -- a try that is turned back
-pub tried_back : (c : CoreCall) (n : ℕ) (v w : Member) (t : Tried Placed) → ended_by t ≡ None → IsAnswered t (λ answer. Answers c n v answer w) → HasOnlyRead v w
-tried_back c n v w (tried.Answered answer) none is = back_by c n v w answer none is
-tried_back c n v w tried.Cut none is = absurd is
+pub tried_back : (c : CoreCall) (n : ℕ) (b a : Caller) (t : Tried Placed) → ended_by t ≡ None → IsAnswered t (λ answer. Pinned (Answers c n) b answer a) → HasOnlyRead (seen_by b) (seen_by a)
+tried_back c n b a (tried.Answered answer) none is = pinned_back (Answers c n) b a answer (back_by c n (seen_by b) (seen_by a) answer none) is
+tried_back c n b a tried.Cut none is = absurd is
 
 pub index_kept : (n j : ℕ) (t : Tried Placed) → ended_by t ≡ None → IsAnswered t (λ answer. j ≡ counted_index n answer) → j ≡ n
 index_kept n j (tried.Answered answer) none is = is ∙ same_index n answer none
@@ -52,7 +53,7 @@ spare_kept caller c a b (tried.Answered (once.Again why)) none is = omega arith
 spare_kept caller c a b tried.Cut none is = absurd is
 
 -- one that found no node
-pub lacked : (P : Once Placed → Type 0) (t : Tried Placed) → lacks_node t ≡ true → IsAnswered t P → P (once.Again again.NoFree)
+lacked : (P : Once Placed → Type 0) (t : Tried Placed) → lacks_node t ≡ true → IsAnswered t P → P (once.Again again.NoFree)
 lacked P (tried.Answered (once.Done placed)) lacks is = absurd (cc)
 lacked P (tried.Answered (once.Spent clock)) lacks is = absurd (cc)
 lacked P (tried.Answered (once.Worn node word)) lacks is = absurd (cc)
@@ -66,8 +67,11 @@ lacked P (tried.Answered (once.Again (again.Held word))) lacks is = absurd (cc)
 lacked P (tried.Answered (once.Again (again.Epoch first second))) lacks is = absurd (cc)
 lacked P tried.Cut lacks is = absurd is
 
+pub lacked_so : (c : CoreCall) (n : ℕ) (b a : Caller) (t : Tried Placed) → lacks_node t ≡ true → IsAnswered t (λ answer. Pinned (Answers c n) b answer a) → Answers c n (seen_by b) (once.Again again.NoFree) (seen_by a)
+lacked_so c n b a t lacks is = had_pin (Answers c n) b a (once.Again again.NoFree) (λ first second no. cc) (lacked (λ answer. Pinned (Answers c n) b answer a) t lacks is)
+
 -- one that ends the call
-pub tried_ends : (P : Once Placed → Type 0) (t : Tried Placed) (end : Ended Placed) → ended_by t ≡ Some end → IsAnswered t P → EndsSo end P ⊥
+tried_ends : (P : Once Placed → Type 0) (t : Tried Placed) (end : Ended Placed) → ended_by t ≡ Some end → IsAnswered t P → EndsSo end P ⊥
 tried_ends P (tried.Answered (once.Done placed)) end ends is = let gives : ended.Done placed ≡ end = cc in subst (λ (e : Ended Placed). EndsSo e P ⊥) gives is
 tried_ends P (tried.Answered (once.Spent clock)) end ends is = let gives : ended.Spent clock ≡ end = cc in subst (λ (e : Ended Placed). EndsSo e P ⊥) gives is
 tried_ends P (tried.Answered (once.Worn node word)) end ends is = absurd (cc)
@@ -82,8 +86,15 @@ ends_by P Q full full' (ended.Spent clock) done spent so is = spent clock is
 ends_by P Q full full' ended.Full done spent so is = so is
 ends_by P Q full full' ended.Cut done spent so is = absurd is
 
-pub turned_reads : (turned : Turned) (v w : Member) → AtLast (λ before after. TurnAnswers before (reply.Turned turned) after) v w → HasOnlyRead v w
-turned_reads turned v w is = back_trans v is.before w is.back (turn_reads is.before w (reply.Turned turned) is.last)
+pub ended_so : (c : CoreCall) (n : ℕ) (b a : Caller) (t : Tried Placed) (end : Ended Placed) → ended_by t ≡ Some end → IsAnswered t (λ answer. Pinned (Answers c n) b answer a) → EndsSo end (λ answer. Answers c n (seen_by b) answer (seen_by a)) ⊥
+ended_so c n b a t end ends is = ends_by (λ answer. Pinned (Answers c n) b answer a) (λ answer. Answers c n (seen_by b) answer (seen_by a)) ⊥ ⊥ end
+    (λ placed last. had_pin (Answers c n) b a (once.Done placed) (λ first second no. cc) last)
+    (λ clock last. had_pin (Answers c n) b a (once.Spent clock) (λ first second no. cc) last)
+    (λ no. no)
+    (tried_ends (λ answer. Pinned (Answers c n) b answer a) t end ends is)
+
+pub turned_reads : (turned : Turned) (v w : Member) → AtLast (HasTurned turned) v w → HasOnlyRead v w
+turned_reads turned v w is = back_trans v is.before w is.back (turn_reads is.last.0 is.before w (reply.Turned turned) is.last.1)
 
 room_reads : (c : CoreCall) (n : ℕ) (b : Bool) (v w : Member) → TurnedForRoom c n b v w → HasOnlyRead v w
 room_reads c n b v w is = back_trans v is.tried w (back_by c n v is.tried (once.Again again.NoFree) refl is.refused) (turned_reads is.turned is.tried w is.turn)
@@ -174,7 +185,7 @@ found_full c n turns i old v w so enough last =
       before = so.mid;
       turned = so.earlier;
       last = record { before = v; back = so.back; last = subst (λ (k : ℕ). TurnedForRoom c k true v w) so.index last };
-      none_free = last.turn.last.none_free ∙ ap (λ (b : Bool). last.turn.before.none_free || b) last.told ∙ noted_now last.turn.before.none_free;
+      none_free = last.turn.last.1.none_free ∙ ap (λ (b : Bool). last.turn.before.none_free || b) last.told ∙ noted_now last.turn.before.none_free;
       room = room_stays v.about.layout.slots old.about.layout.slots (map_of v.about.base) (map_of old.about.base) last.tried.seen w.seen (length v.seen) (length last.tried.seen) (length old.seen) (length w.seen) (name_asked (op_of c)) (ap (λ (a : About). a.layout.slots) back.about) (ap (λ (a : About). map_of a.base) back.about) turn.seen (omega arith) seen ends (last.refused.says refl).1;
     }
 

@@ -16,10 +16,16 @@ use Rattle.index_core.specs.Lone.{IsQuiet}
 use Rattle.pac_index.specs.Stamps.{stamp_in}
 use Rattle.pac_index.specs.Kept.{IsLone, party, placed_by, Begins, opening_weight}
 use Rattle.index_core.specs.Weights.{weight_of}
+use Rattle.epochs.specs.declared.rule.PinMember.{PinMember}
+use Rattle.epochs.specs.Seats.{IsSeatOf, IsUnpinned, known_by}
 
 -- What it knows.
 abbrev pub seen_by : Caller → Member
 seen_by c = party c.seat.me
+
+-- What it knows of the epoch and the pins.
+abbrev pub pins_of : Caller → PinMember
+pins_of c = known_by c.pins
 
 -- For how many more writes it has room.
 abbrev pub spare_of : Caller → ℕ
@@ -41,6 +47,10 @@ pub record IsCallerOf (s : Shared) (c : Caller) : Type 0 where
   pub number : (party c.seat.me).state.caller ≡ c.number
   pub within : c.number < parties_of s.about.layout
   pub kept : pairs c.kept.items ≡ placed_by c.number (party c.seat.me).seen
+  -- between its calls it has no pin
+  pub pins : IsSeatOf s.epochs c.pins
+  pub unpinned : IsUnpinned c.pins
+  pub pinning : c.pins.party ≡ c.number
 
 -- The callers of this index from number 0 on, each at the place of its number.
 pub record HasCallers (s : Shared) (n : ℕ) (callers : List Caller) : Type 0 where

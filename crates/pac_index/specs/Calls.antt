@@ -30,7 +30,7 @@ use Rattle.index_core.specs.CoreCalls.{op_of, limit_of}
 use Rattle.index_core.specs.Listings.{ListsRange}
 use Rattle.index_core.specs.PartyStates.{state_with, state_after, next_index, words_told}
 use Rattle.index_core.specs.Indexes.{MakesCall}
-use Rattle.index_core.specs.MachineLaws.{ReadyAfter, place_told, place_now}
+use Rattle.index_core.specs.MachineLaws.{IsNoEpoch, ReadyAfter, place_told, place_now}
 use Rattle.pac_index.specs.declared.tried.Tried.{Tried}
 use Rattle.pac_index.specs.declared.tried.Tried.TheVariants as tried
 use Rattle.pac_index.specs.declared.caller.Caller.{Caller}
@@ -68,7 +68,7 @@ run_of turned (Go m) (x ∷ xs) = run_of turned (turned m x) xs
 -- What a call of a caller is answered: what its machine ends with on the numbers that its steps on the table gave, of
 -- which the caller's count of steps tells how many there were. It has seen a longer history, in which of its own writes
 -- just that of this call is added, where it took place; the answer is the map's on the longer history, at a place
--- between the two lengths.
+-- between the two lengths. It is none that the epoch has moved, of which its machine knows nothing.
 pub record Answers (call : CoreCall) (index : ℕ) (old : Member) (answer : Once Placed) (new : Member) : Type 0 where
   pub about : new.about ≡ old.about
   pub idle : new.state.machine ≡ None
@@ -85,6 +85,7 @@ pub record Answers (call : CoreCall) (index : ℕ) (old : Member) (answer : Once
     index = index;
     since = length old.seen;
   }) (op_of call) (limit_of call) answer
+  pub no_epoch : IsNoEpoch (Some answer)
 
 -- The machine of a part of a range scan, before its first action.
 abbrev pub part_in : Member → List ℕ → ℕ → Part
@@ -121,6 +122,7 @@ pub record Runs (call : CoreCall) (index : ℕ) (old : Member) (turn : Turn Runn
       (change_of (op_of call)) (place_now (change_of (op_of call)) turn)
   pub says : SaysOf old.about.layout.slots (map_of old.about.base) new.seen (began call index old since) (op_of call)
       (limit_of call) (reply_of turn)
+  pub no_epoch : IsNoEpoch (reply_of turn)
   pub ready : ReadyAfter old.about.layout old.about.generation turn
 
 abbrev pub turn_left : Turn Running (Once Placed) → ℕ

@@ -25,7 +25,7 @@ ended_by tried.Cut = Some ended.Cut
 
 -- How a turn of the updater ends, unless it is made again.
 abbrev pub turn_ended_by : TriedTurn → Option (Ended Turned)
-turn_ended_by (turn.Turned turned) = Some (ended.Done turned)
+turn_ended_by (turn.Turned turned epoch advanced) = Some (ended.Done turned)
 turn_ended_by (turn.Held word) = None
 turn_ended_by turn.Cut = Some ended.Cut
 

@@ -26,7 +26,7 @@ use Rattle.index_core.specs.Listings.{ListsRange}
 use Rattle.index_core.specs.CoreCalls.{machine_of}
 use Rattle.index_core.specs.PartyStates.{idle_states, state_with, state_after}
 use Rattle.index_core.specs.Indexes.{Index, IsIndex, MakesCall, world, parties_of}
-use Rattle.index_core.specs.MachineLaws.{ReadyAfter, showing}
+use Rattle.index_core.specs.MachineLaws.{IsNoEpoch, ReadyAfter, showing}
 use Rattle.index_core.specs.Weights.{added_by}
 use Rattle.index_law.specs.Facts.{facts_of}
 use Rattle.index_law.specs.Weights.{index_weight, weight_sum}
@@ -196,6 +196,7 @@ pub record Goes (m : Running) (v : Member) (x : ℕ) (w : Member) : Type 0 where
       (written v.state.caller v.state.index (counted (stage_of m)))
   pub says : SaysOf v.about.layout.slots (map_of v.about.base) w.seen v.state (op_in m) (running_call m).limit
       (reply_of (running_turned m x))
+  pub no_epoch : IsNoEpoch (reply_of (running_turned m x))
   pub lists : ListsNow (map_of v.about.base) w.seen m x
   -- it goes on with the same call
   pub op_on : IsOfAfter (op_in m) (running_turned m x)

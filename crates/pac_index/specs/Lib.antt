@@ -6,3 +6,4 @@ pub mod Ends
 pub mod Scanned
 pub mod Turns
 pub mod Writes
+pub mod Pinned

@@ -1,6 +1,10 @@
 -- Turns of the updater by a seat's party: what each step tells, and what a turn is answered.
-use Rattle.std.specs.Prelude.{◌≡◌, ◌≢◌, ℕ, ◌+◌, ◌<◌, List, [], ◌∷◌, ◌++◌, length, Option, Some, None}
-use Rattle.std.specs.Prelude.{◌↔◌, ◌||◌, Bool, true, All}
+use Rattle.std.specs.Prelude.{◌≡◌, ◌≢◌, ℕ, ◌+◌, ◌-◌, ◌<◌, List, [], ◌∷◌, ◌++◌, length, Option, Some, None}
+use Rattle.std.specs.Prelude.{◌↔◌, ◌||◌, Bool, true, All, Result, MatchResult}
+use Rattle.epochs.specs.declared.answers.Advance.{Advance}
+use Rattle.epochs.specs.declared.rule.PinMember.{PinMember}
+use Rattle.epochs.specs.Answers.{HasAdvanced, IsRefused, IsReleased}
+use Rattle.epochs.specs.Kept.{first_epoch}
 use Rattle.pm_words.specs.declared.layout.Layout.{Layout}
 use Rattle.pm_words.specs.declared.machine.Turn.{Turn}
 use Rattle.pm_words.specs.declared.machine.Turn.TheVariants.{Go, Done}
@@ -11,8 +15,11 @@ use Rattle.updater.specs.declared.making.MakeTurn.{MakeTurn}
 use Rattle.updater.specs.declared.making.MakeTurn.TheVariants.{Taking, Working}
 use Rattle.updater.specs.declared.making.TurnReply.{TurnReply}
 use Rattle.updater.specs.declared.making.TurnReply.TheVariants as reply
+use Rattle.updater.specs.declared.terms.Turned.{Turned}
 use Rattle.updater.specs.Takings.{untaken}
-use Rattle.updater.specs.Makings.{IsMaking, making_from, making_asks, making_turned, making_takes, making_left}
+use Rattle.updater.specs.Makings.{IsMaking, making_from, making_asks, making_turned, making_takes, making_left, worked}
+use Rattle.updater.specs.Works.{work_from, work_turned}
+use Rattle.updater.specs.declared.work.Work.{Work}
 use Rattle.split_merge.specs.Advances.{AdvancesTo, turn_of}
 use Rattle.index_core.specs.PartyStates.{state_turned}
 use Rattle.atomic_table.specs.Table.{Me}
@@ -21,14 +28,25 @@ use Rattle.pac_index.specs.declared.tried.TriedTurn.{TriedTurn}
 use Rattle.pac_index.specs.declared.tried.TriedTurn.TheVariants as tried
 use Rattle.pac_index.specs.Kept.{Begins, placed_by, party, IsLone}
 use Rattle.pac_index.specs.Calls.{run_of}
+use Rattle.pac_index.specs.Ends.{AtLast}
 
--- The turn of a party, before its first action: it gives merged nodes the stamp 1, and makes those FREE that have it.
-abbrev pub turn_in : Member → MakeTurn
-turn_in v = making_from v.about.layout v.about.generation 1 1
+-- The turn of a party at this epoch, before its first action: it gives merged nodes the epoch as their stamp, and makes
+-- those FREE whose stamp is two less, or lower.
+abbrev pub turn_in : Member → ℕ → MakeTurn
+turn_in v epoch = making_from v.about.layout v.about.generation epoch (epoch - 2)
 
--- The party once it has begun its turn.
+-- Once it has the updater lock, before the next action.
+abbrev pub work_in : Member → ℕ → MakeTurn
+work_in v epoch = Working (work_from v.about.layout v.about.generation epoch (epoch - 2))
+
+-- The party once it has begun its turn. It loads the epoch only once it has the lock, so until then its turn is one at
+-- the first epoch, of which nothing comes.
 abbrev pub turning : Member → Member
-turning v = record v { state = record v.state { turn = Some (turn_in v) }; told = [] }
+turning v = record v { state = record v.state { turn = Some (turn_in v first_epoch) }; told = [] }
+
+-- The party once its turn, which has the lock, is one at this epoch.
+abbrev pub turning_at : Member → ℕ → Member
+turning_at v epoch = record v { state = record v.state { turn = Some (work_in v epoch) } }
 
 -- Where it goes on, its fields keep their law, and its next action is on a word of the row.
 abbrev pub TurnReady : Layout → Turn MakeTurn TurnReply → Type 0
@@ -64,8 +82,13 @@ TellsTurn me found after = (making : MakeTurn) → (party me).state.turn ≡ Som
 
 -- The first step of a turn.
 abbrev pub StartsTurn : Me (Unit {0}) (List Member) → ℕ → Me (Unit {0}) (List Member) → Type 0
-StartsTurn me found after = IsLone after ×
-    TurnGoes (turn_in (party me)) (turning (party me)) (given (making_asks (turn_in (party me))) found) (party after)
+StartsTurn me found after = IsLone after × TurnGoes (turn_in (party me) first_epoch) (turning (party me))
+    (given (making_asks (turn_in (party me) first_epoch)) found) (party after)
+
+-- The first step of a turn under the lock, which has its epoch from then on.
+abbrev pub StartsWork : ℕ → Me (Unit {0}) (List Member) → ℕ → Me (Unit {0}) (List Member) → Type 0
+StartsWork epoch me found after = IsLone after × TurnGoes (work_in (party me) epoch) (turning_at (party me) epoch)
+    (given (making_asks (work_in (party me) epoch)) found) (party after)
 
 -- The first number that a turn is told is what its exchange found at the updater lock: no party's word where it was
 -- done, and where it was refused another, which it answers and with which it ended.
@@ -82,11 +105,11 @@ abbrev pub HasLock : List ℕ → Turn MakeTurn TurnReply → Type 0
 HasLock told (Go making) = IsUnderLock making × ((rest : List ℕ) × (told ≡ untaken ∷ rest))
 HasLock told (Done answer) = FoundLock told answer
 
--- How far a turn is: it places no write.
-pub record TurnRuns (old : Member) (turn : Turn MakeTurn TurnReply) (new : Member) : Type 0 where
+-- How far a turn at this epoch is: it places no write.
+pub record TurnRuns (epoch : ℕ) (old : Member) (turn : Turn MakeTurn TurnReply) (new : Member) : Type 0 where
   pub about : new.about ≡ old.about
   pub state : new.state ≡ state_turned old.state turn
-  pub ran : run_of making_turned (Go (turn_in old)) new.told ≡ turn
+  pub ran : run_of making_turned (Go (turn_in old epoch)) new.told ≡ turn
   pub lock : HasLock new.told turn
   pub taken : new.taken ≡ old.taken + length new.told
   pub added : new.added ≡ old.added
@@ -110,13 +133,13 @@ abbrev pub TellsOfFree : Layout → List ℕ → TurnReply → Type 0
 TellsOfFree l told (reply.Turned turned) = FoundStatuses l turned.none_free told
 TellsOfFree l told (reply.Held word) = Unit {0}
 
--- What a turn is answered: what its machine ends with on the numbers that its steps on the table gave, of which the
--- caller's count of steps tells how many there were. The caller has seen a longer history, with no more writes of its
--- own, and has counted no call.
-pub record TurnAnswers (old : Member) (answer : TurnReply) (new : Member) : Type 0 where
+-- What a turn at this epoch is answered: what its machine ends with on the numbers that its steps on the table gave, of
+-- which the caller's count of steps tells how many there were. The caller has seen a longer history, with no more writes
+-- of its own, and has counted no call.
+pub record TurnAnswers (epoch : ℕ) (old : Member) (answer : TurnReply) (new : Member) : Type 0 where
   pub about : new.about ≡ old.about
   pub state : new.state ≡ record old.state { turn = None }
-  pub ran : run_of making_turned (Go (turn_in old)) new.told ≡ Done answer
+  pub ran : run_of making_turned (Go (turn_in old epoch)) new.told ≡ Done answer
   pub lock : FoundLock new.told answer
   pub free : TellsOfFree old.about.layout new.told answer
   pub taken : new.taken ≡ old.taken + length new.told
@@ -125,20 +148,55 @@ pub record TurnAnswers (old : Member) (answer : TurnReply) (new : Member) : Type
   pub seen : Begins old.seen new.seen
   pub own : placed_by old.state.caller new.seen ≡ placed_by old.state.caller old.seen
 
--- The try was answered, so that its caller wasn't cut, and this holds of the answer.
-abbrev pub IsTold : TriedTurn → (TurnReply → Type 0) → Type 0
-IsTold (tried.Turned turned) holds = holds (reply.Turned turned)
-IsTold (tried.Held word) holds = holds (reply.Held word)
-IsTold tried.Cut holds = ⊥
+-- One that was made, at some epoch.
+abbrev pub HasTurned : Turned → Member → Member → Type 0
+HasTurned turned old new = (epoch : ℕ) × TurnAnswers epoch old (reply.Turned turned) new
+
+-- What a turn is answered that found the updater lock taken: it is so at whichever epoch.
+abbrev pub TurnHeld : ℕ → Member → Member → Type 0
+TurnHeld word old new = (epoch : ℕ) → TurnAnswers epoch old (reply.Held word) new
+
+-- A party tried once to advance the epoch, among so many parties, with this answer. Then it loaded the epoch, as this
+-- number; so the release number that it read is two less.
+pub record IsDated (parties : ℕ) (pins : PinMember) (epoch : ℕ) (advanced : Result ℕ Advance) (pins_now : PinMember) :
+    Type 0 where
+  pub between : PinMember
+  pub advances : MatchResult advanced (HasAdvanced parties pins between) (IsRefused parties pins between)
+  pub release : ℕ
+  pub releases : IsReleased between pins_now (record { number = release })
+  pub two_less : release + 2 ≡ epoch
+
+-- What a turn is answered that was made: all that is said of one at this epoch, and its party dated it so, by its own
+-- steps on the epoch. That it did so between the first step on the index, which took the updater lock, and the next one
+-- no clause says, since none speaks of the order of steps on two tables.
+pub record MadeTurn (parties : ℕ) (old : Member) (pins : PinMember) (turned : Turned) (epoch : ℕ)
+    (advanced : Result ℕ Advance) (new : Member) (pins_now : PinMember) : Type 0 where
+  pub answers : TurnAnswers epoch old (reply.Turned turned) new
+  pub dated : IsDated parties pins epoch advanced pins_now
+
+-- The try was answered, so that its caller wasn't cut: the first holds of the answer where the turn was made, the second
+-- of the word where it found the updater lock taken.
+abbrev pub IsTold : TriedTurn → (Turned → ℕ → Result ℕ Advance → Type 0) → (ℕ → Type 0) → Type 0
+IsTold (tried.Turned turned epoch advanced) made held = made turned epoch advanced
+IsTold (tried.Held word) made held = held word
+IsTold tried.Cut made held = ⊥
+
+-- A turn that was tried until it was made: of its tries all found the updater lock taken but the last, and until then its
+-- party made no step on the epoch.
+pub record TurnedAtLast (parties : ℕ) (old : Member) (pins : PinMember) (turned : Turned) (new : Member)
+    (pins_now : PinMember) : Type 0 where
+  pub epoch : ℕ
+  pub advanced : Result ℕ Advance
+  pub last : AtLast (λ before after. MadeTurn parties before pins turned epoch advanced after pins_now) old new
 
 -- For how many actions a turn may go on.
 abbrev pub actions_left : Turn MakeTurn TurnReply → ℕ
 actions_left (Go making) = making_left making + 1
 actions_left (Done answer) = 0
 
--- A step of the turn in flight leaves it so, or it was answered.
-pub record TurnStepsOn (making : MakeTurn) (v w : Member) (next : MakeTurn) (answer : Option TurnReply) : Type 0 where
+-- A step of the turn in flight, which has the updater lock, leaves its work so, or it was answered.
+pub record WorkStepsOn (work : Work) (v w : Member) (next : Work) (answer : Option Turned) : Type 0 where
   pub told : ℕ
-  pub goes : TurnGoes making v told w
-  pub turned : AdvancesTo (making_turned making told) next answer
-  pub fewer : actions_left (turn_of next answer) < actions_left (Go making)
+  pub goes : TurnGoes (Working work) v told w
+  pub turned : AdvancesTo (work_turned work told) next answer
+  pub fewer : actions_left (worked (turn_of next answer)) < actions_left (Go (Working work))

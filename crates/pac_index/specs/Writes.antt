@@ -6,7 +6,6 @@ use Rattle.call_stages.specs.declared.once.Once.{Once}
 use Rattle.call_stages.specs.declared.once.Once.TheVariants as once
 use Rattle.call_stages.specs.declared.once.Placed.{Placed}
 use Rattle.node_ops.specs.Asked.{name_asked}
-use Rattle.updater.specs.declared.making.TurnReply.TheVariants as reply
 use Rattle.updater.specs.declared.terms.Turned.{Turned}
 use Rattle.index_core.specs.declared.party.CoreCall.{CoreCall}
 use Rattle.index_core.specs.Answers.{FoundNoRoom}
@@ -20,7 +19,7 @@ use Rattle.pac_index.specs.declared.writes.WriteTry.TheVariants as write
 use Rattle.pac_index.specs.declared.rule.Member.{Member}
 use Rattle.pac_index.specs.Calls.{Answers}
 use Rattle.pac_index.specs.Ends.{HasOnlyRead, AtLast}
-use Rattle.pac_index.specs.Turns.{TurnAnswers}
+use Rattle.pac_index.specs.Turns.{HasTurned}
 
 -- The try was turned back, since none of its caller's log lines is EMPTY; or since there is no node to split its own
 -- with.
@@ -45,7 +44,7 @@ pub record TurnedForRoom (call : CoreCall) (index : ℕ) (none_free : Bool) (old
   pub tried : Member
   pub refused : Answers call index old (once.Again NoFree) tried
   pub turned : Turned
-  pub turn : AtLast (λ before after. TurnAnswers before (reply.Turned turned) after) tried new
+  pub turn : AtLast (HasTurned turned) tried new
   pub told : turned.none_free ≡ none_free
 
 -- So many tries found no node and have a turn behind each. The tries between them were turned back for other causes.

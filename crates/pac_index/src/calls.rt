@@ -3,9 +3,13 @@ ghost use Rattle.std.specs.Prelude.{OnOk, IfSome, ◌≡◌, ◌+◌, ◌++◌, 
 ghost use Rattle.cat_history.specs.Records.{change_of};
 ghost use Rattle.index_core.specs.CoreCalls.{MayBegin, op_of, most_writes};
 ghost use Rattle.index_core.specs.declared.party.CoreCall.TheVariants as call;
+ghost use Rattle.pm_words.specs.declared.again.Again.TheVariants as again;
+ghost use Rattle.call_stages.specs.declared.once.Once.TheVariants as once;
 ghost use Rattle.index_core.specs.MachineLaws.{place_told};
+ghost use Rattle.pac_index.specs.declared.tried.Tried.TheVariants as tried;
 ghost use Rattle.pac_index.specs.Calls.{Answers, PartAnswers, IsAnswered, own_at, own_of, counted_index};
 ghost use Rattle.pac_index.specs.Callers.{IsCallerOf, spare_of, seen_by, pairs};
+ghost use Rattle.pac_index.specs.Pinned.{Pinned};
 
 use crate::caller::{Caller, PlacedWrite};
 use crate::gate::{Gate, OpenGate, Pace};
@@ -14,15 +18,20 @@ use crate::tried::Tried;
 use call_stages::{Once, Placed};
 use cat_history::{Change, Write};
 use cat_key::Name;
+use epochs::EpochMoved;
 use index_core::CoreCall;
 use node_ops::PartWords;
-use pm_words::NoMemory;
+use pm_words::{Again, NoMemory};
 use std::marker::Brand;
 
 impl Shared {
     /// One try of a put by one of the callers before the last, which is the updater's. It is refused as spent where the
     /// clock, loaded under the lock of its node, has reached `limit`, and takes one of `Caller::spare` where it is
     /// placed.
+    ///
+    /// As each single try of a call it takes a pin first, holds it over all its steps on the index, and gives it back
+    /// behind the last. Where the epoch moves as it takes the pin, it is answered `Again::Epoch` with the two numbers that
+    /// it loaded, and has made no step on the index; no try is answered so elsewhere.
     pub fn put_once(
         &self,
         caller: &mut Caller,
@@ -37,8 +46,8 @@ impl Shared {
         ensures caller { IsCallerOf self.now caller.new }
         ensures number { caller.new.number ≡ caller.old.number }
         ensures index { IsAnswered result (λ answer. caller.new.index ≡ counted_index caller.old.index answer) }
-        ensures answered { IsAnswered result (λ answer. Answers (call.Put name.now value limit) caller.old.index
-            (seen_by caller.old) answer (seen_by caller.new)) }
+        ensures answered { IsAnswered result (λ answer. Pinned (Answers (call.Put name.now value limit) caller.old.index)
+            caller.old answer caller.new) }
         ensures spare { IsAnswered result (λ answer. spare_of caller.old ≤ spare_of caller.new + length
             (own_of caller.old (call.Put name.now value limit) answer)) }
     {
@@ -46,22 +55,22 @@ impl Shared {
         self.try_call(caller, CoreCall::Put { name, value, limit }, &OpenGate)
     }
 
-    /// One try of a get by one of the callers before the last.
+    /// One try of a get by one of the callers before the last, with a pin as a put has one.
     pub fn get_once(&self, caller: &mut Caller, name: &Name) -> Tried<Placed>
         requires caller { IsCallerOf self.now caller.old }
         requires worker { caller.old.number < self.now.about.layout.callers }
         ensures caller { IsCallerOf self.now caller.new }
         ensures number { caller.new.number ≡ caller.old.number }
         ensures index { IsAnswered result (λ answer. caller.new.index ≡ counted_index caller.old.index answer) }
-        ensures answered { IsAnswered result (λ answer. Answers (call.Get name.now) caller.old.index
-            (seen_by caller.old) answer (seen_by caller.new)) }
+        ensures answered { IsAnswered result (λ answer. Pinned (Answers (call.Get name.now) caller.old.index)
+            caller.old answer caller.new) }
         ensures spare { spare_of caller.old ≤ spare_of caller.new }
     {
         self.try_call(caller, CoreCall::Get { name: *name }, &OpenGate)
     }
 
-    /// One try of a delete by one of the callers before the last, refused and placed as a put is. One that leaves few
-    /// names may merge its node with the next one.
+    /// One try of a delete by one of the callers before the last, with a pin, refused and placed as a put is. One that
+    /// leaves few names may merge its node with the next one.
     pub fn del_once(&self, caller: &mut Caller, name: &Name, limit: u64) -> Tried<Placed>
         requires caller { IsCallerOf self.now caller.old }
         requires worker { caller.old.number < self.now.about.layout.callers }
@@ -70,8 +79,8 @@ impl Shared {
         ensures caller { IsCallerOf self.now caller.new }
         ensures number { caller.new.number ≡ caller.old.number }
         ensures index { IsAnswered result (λ answer. caller.new.index ≡ counted_index caller.old.index answer) }
-        ensures answered { IsAnswered result (λ answer. Answers (call.Del name.now limit) caller.old.index
-            (seen_by caller.old) answer (seen_by caller.new)) }
+        ensures answered { IsAnswered result (λ answer. Pinned (Answers (call.Del name.now limit) caller.old.index)
+            caller.old answer caller.new) }
         ensures spare { IsAnswered result (λ answer. spare_of caller.old ≤ spare_of caller.new + length
             (own_of caller.old (call.Del name.now limit) answer)) }
     {
@@ -79,7 +88,7 @@ impl Shared {
         self.try_call(caller, CoreCall::Del { name, limit }, &OpenGate)
     }
 
-    /// One try of a part of a range scan by one of the callers before the last: it lists the first `count` names from
+    /// One try of a part of a range scan by one of the callers before the last, with a pin as a put has one: it lists the first `count` names from
     /// the low one on, of those that the low one's node has, with their numbers as the map has them at a place of the
     /// part's time, and tells where they end.
     pub fn part_once(&self, caller: &mut Caller, low: &Name, count: u64) -> Tried<PartWords>
@@ -88,15 +97,15 @@ impl Shared {
         ensures caller { IsCallerOf self.now caller.new }
         ensures number { caller.new.number ≡ caller.old.number }
         ensures index { IsAnswered result (λ answer. caller.new.index ≡ counted_index caller.old.index answer) }
-        ensures answered { IsAnswered result (λ answer. PartAnswers low.now count caller.old.index
-            (seen_by caller.old) answer (seen_by caller.new)) }
+        ensures answered { IsAnswered result (λ answer. Pinned (PartAnswers low.now count caller.old.index)
+            caller.old answer caller.new) }
         ensures spare { spare_of caller.old ≤ spare_of caller.new }
     {
         let mut pace = Pace::begin(&OpenGate, caller.number, caller.index);
         self.try_part(caller, *low, count, &mut pace)
     }
 
-    /// One try of a call on one name, with the gate before its first step and between its steps.
+    /// One try of a call on one name, with the gate before its first step and between its steps on the index.
     pub fn try_call<G: Gate>(&self, caller: &mut Caller, call: CoreCall, gate: &G) -> Tried<Placed>
         requires caller { IsCallerOf self.now caller.old }
         requires worker { caller.old.number < self.now.about.layout.callers }
@@ -105,8 +114,8 @@ impl Shared {
         ensures caller { IsCallerOf self.now caller.new }
         ensures number { caller.new.number ≡ caller.old.number }
         ensures index { IsAnswered result (λ answer. caller.new.index ≡ counted_index caller.old.index answer) }
-        ensures answered { IsAnswered result (λ answer. Answers call caller.old.index (seen_by caller.old) answer
-            (seen_by caller.new)) }
+        ensures answered { IsAnswered result (λ answer. Pinned (Answers call caller.old.index)
+            caller.old answer caller.new) }
         ensures spare { IsAnswered result (λ answer. spare_of caller.old ≤ spare_of caller.new + length
             (own_of caller.old call answer)) }
     {
@@ -114,7 +123,7 @@ impl Shared {
         self.try_at_pace(caller, call, &mut pace)
     }
 
-    /// One try of a call on one name, of a whole call that goes at this pace.
+    /// One try of a call on one name, of a whole call that goes at this pace, under a pin of its own.
     pub(crate) fn try_at_pace<G: Gate>(
         &self,
         caller: &mut Caller,
@@ -128,19 +137,26 @@ impl Shared {
         ensures caller { IsCallerOf self.now caller.new }
         ensures number { caller.new.number ≡ caller.old.number }
         ensures index { IsAnswered result (λ answer. caller.new.index ≡ counted_index caller.old.index answer) }
-        ensures answered { IsAnswered result (λ answer. Answers call caller.old.index (seen_by caller.old) answer
-            (seen_by caller.new)) }
+        ensures answered { IsAnswered result (λ answer. Pinned (Answers call caller.old.index)
+            caller.old answer caller.new) }
         ensures spare { IsAnswered result (λ answer. spare_of caller.old ≤ spare_of caller.new + length
             (own_of caller.old call answer)) }
     {
+        let pin = match self.epochs.pin_once(&mut caller.pins) {
+            Ok(pin) => pin,
+            Err(moved) => return turned_back(moved),
+        };
         let change = change_of(&call);
         let answer = self.run::<Brand, G>(
             &mut caller.seat,
             caller.number,
             caller.index,
             call,
+            &caller.pins,
+            &pin,
             pace,
         );
+        self.epochs.unpin(&mut caller.pins, pin);
         caller.keep(change, answer);
         Tried::Answered(answer)
     }
@@ -157,14 +173,14 @@ impl Shared {
         ensures caller { IsCallerOf self.now caller.new }
         ensures number { caller.new.number ≡ caller.old.number }
         ensures index { IsAnswered result (λ answer. caller.new.index ≡ counted_index caller.old.index answer) }
-        ensures answered { IsAnswered result (λ answer. Answers (call.Get name) caller.old.index
-            (seen_by caller.old) answer (seen_by caller.new)) }
+        ensures answered { IsAnswered result (λ answer. Pinned (Answers (call.Get name) caller.old.index)
+            caller.old answer caller.new) }
         ensures spare { spare_of caller.old ≤ spare_of caller.new }
     {
         self.try_at_pace(caller, CoreCall::Get { name }, pace)
     }
 
-    /// One try of a part of a range scan, of a whole call that goes at this pace.
+    /// One try of a part of a range scan, of a whole call that goes at this pace, under a pin of its own.
     pub(crate) fn try_part<G: Gate>(
         &self,
         caller: &mut Caller,
@@ -177,18 +193,25 @@ impl Shared {
         ensures caller { IsCallerOf self.now caller.new }
         ensures number { caller.new.number ≡ caller.old.number }
         ensures index { IsAnswered result (λ answer. caller.new.index ≡ counted_index caller.old.index answer) }
-        ensures answered { IsAnswered result (λ answer. PartAnswers low count caller.old.index (seen_by caller.old)
-            answer (seen_by caller.new)) }
+        ensures answered { IsAnswered result (λ answer. Pinned (PartAnswers low count caller.old.index)
+            caller.old answer caller.new) }
         ensures spare { spare_of caller.old ≤ spare_of caller.new }
     {
+        let pin = match self.epochs.pin_once(&mut caller.pins) {
+            Ok(pin) => pin,
+            Err(moved) => return turned_back(moved),
+        };
         let answer = self.run_part::<Brand, G>(
             &mut caller.seat,
             caller.number,
             caller.index,
             low,
             count,
+            &caller.pins,
+            &pin,
             pace,
         );
+        self.epochs.unpin(&mut caller.pins, pin);
         caller.index = index_after(caller.index, &answer);
         Tried::Answered(answer)
     }
@@ -222,6 +245,7 @@ impl Caller {
         ensures spare { spare_of self.old ≤ spare_of self.new }
         ensures same { (self.new.seat ≡ self.old.seat) × (self.new.number ≡ self.old.number) ×
             (self.new.index ≡ self.old.index) × (self.new.kept.items ≡ self.old.kept.items) }
+        ensures pins { self.new.pins ≡ self.old.pins }
         ensures caller { (s : Shared) → IsCallerOf s self.old → IsCallerOf s self.new }
     {
         self.kept.reserve(writes as usize)
@@ -230,7 +254,7 @@ impl Caller {
     /// Counts a call that was answered, and keeps its write if it was placed.
     fn keep(&mut self, change: Option<Change>, answer: Once<Placed>)
         requires { IfSome change (λ _. 1 ≤ spare_of self.old) }
-        ensures seat { (self.new.seat ≡ self.old.seat) × (self.new.number ≡ self.old.number) }
+        ensures seat { (self.new.seat ≡ self.old.seat) × (self.new.pins ≡ self.old.pins) × (self.new.number ≡ self.old.number) }
         ensures index { self.new.index ≡ counted_index self.old.index answer }
         ensures kept { pairs self.new.kept.items ≡ pairs self.old.kept.items ++ own_at self.old.number self.old.index
             change (place_told change answer) }
@@ -268,6 +292,14 @@ fn change_of(call: &CoreCall) -> Option<Change>
         CoreCall::Get { .. } | CoreCall::Part { .. } => None,
         CoreCall::Recheck { .. } | CoreCall::Turn { .. } => None,
     }
+}
+
+/// The try was turned back, since the epoch moved as it took its pin.
+fn turned_back<T>(moved: EpochMoved) -> Tried<T>
+    ensures { result ≡ tried.Answered (once.Again (again.Epoch moved.first moved.second)) }
+{
+    let EpochMoved { first, second } = moved;
+    Tried::Answered(Once::Again(Again::Epoch { first, second }))
 }
 
 /// The index of the next call: one that is turned back uses up none, nor one that finds the node worn.

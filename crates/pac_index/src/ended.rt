@@ -42,7 +42,7 @@ impl TriedTurn {
         ensures { result ≡ turn_ended_by self }
     {
         match self {
-            TriedTurn::Turned { turned } => Some(Ended::Done(turned)),
+            TriedTurn::Turned { turned, .. } => Some(Ended::Done(turned)),
             TriedTurn::Held { .. } => None,
             TriedTurn::Cut => Some(Ended::Cut),
         }

@@ -3,11 +3,13 @@ ghost use Rattle.index_core.specs.Indexes.{parties_of};
 ghost use Rattle.index_core.specs.Lone.{IsQuiet};
 ghost use Rattle.pac_index.specs.Kept.{first_view};
 ghost use Rattle.pac_index.specs.Callers.{Opened, HasCallers, AreNew};
+ghost use Rattle.epochs.specs.Seats.{HasSeats, AreNew as AreNewSeats};
 
 use crate::caller::Caller;
 use crate::rule::{About, Members, SplitFirst};
 use crate::shared::Shared;
 use atomic_table::{Seat, Table};
+use epochs::{EpochSeat, Epochs};
 use index_core::{Core, Parts};
 use pm_words::NoMemory;
 use std::alloc::Global;
@@ -36,8 +38,13 @@ impl Shared {
         };
         let (table, all) = Table::of_words(alloc, about.opened.words(), &about)?;
         let _count = table.word_count();
-        let shared = Shared { table, about };
-        let callers = shared.seat_callers(alloc, all)?;
+        let (epochs, seats) = Epochs::new(alloc, layout.callers() + 1)?;
+        let shared = Shared {
+            table,
+            about,
+            epochs,
+        };
+        let callers = shared.seat_callers(alloc, all, seats)?;
         Ok((shared, callers))
     }
 
@@ -46,9 +53,11 @@ impl Shared {
         &self,
         alloc: Global,
         mut all: Seat<(), Members>,
+        mut seats: Vec<EpochSeat>,
     ) -> Result<Vec<Caller>, NoMemory>
         requires table { all.table_id ≡ self.now.table.shared.table_id }
         requires all { all.me ≡ (first_view self.now.about, []) }
+        requires seats { HasSeats self.now.epochs self.now.epochs.parties seats.items × AreNewSeats seats.items }
         ensures callers { IfOk result (λ callers. HasCallers self.now (parties_of self.now.about.layout) callers.items) }
         ensures fresh { IfOk result (λ callers. AreNew callers.items) }
     {
@@ -56,9 +65,11 @@ impl Shared {
         let mut callers = Vec::with_capacity(alloc, count as usize)?;
         for number in 0..count {
             let seat = self.table.shared.split_seat::<SplitFirst>(&mut all);
+            let pins = seats.remove(0);
             let kept = Vec::new(alloc);
             callers.push(Caller {
                 seat,
+                pins,
                 number,
                 index: 0,
                 kept,

@@ -28,7 +28,11 @@ impl Shared {
         let states = idle_states(alloc, callers.as_slice())?;
         let kept = all_kept(alloc, callers.as_slice())?;
         let seat = self.gathered(callers);
-        let Shared { table, about } = self;
+        let Shared {
+            table,
+            about,
+            epochs: _,
+        } = self;
         let count = table.word_count();
         let closed = table.close_with(seat);
         let words = read_words(alloc, &closed, count);

@@ -2,13 +2,12 @@
 
 ghost use Rattle.std.specs.Prelude.{◌≡◌, ◌≤◌, ◌<◌};
 ghost use Rattle.call_stages.specs.declared.once.Once.TheVariants as once;
-ghost use Rattle.updater.specs.declared.making.TurnReply.TheVariants as reply;
 ghost use Rattle.index_core.specs.declared.party.CoreCall.TheVariants as call;
 ghost use Rattle.index_core.specs.PartyStates.{next_index};
 ghost use Rattle.pac_index.specs.Calls.{Answers, PartAnswers};
-ghost use Rattle.pac_index.specs.Callers.{IsCallerOf, spare_of, seen_by};
+ghost use Rattle.pac_index.specs.Callers.{IsCallerOf, pins_of, spare_of, seen_by};
 ghost use Rattle.pac_index.specs.Ends.{AtLast, IsDone};
-ghost use Rattle.pac_index.specs.Turns.{TurnAnswers};
+ghost use Rattle.pac_index.specs.Turns.{TurnedAtLast};
 
 use crate::caller::Caller;
 use crate::ended::Ended;
@@ -140,8 +139,8 @@ impl Shared {
         ensures caller { IsCallerOf self.now caller.new }
         ensures same { (caller.new.number ≡ caller.old.number) × (caller.new.index ≡ caller.old.index) ×
             (caller.new.kept ≡ caller.old.kept) }
-        ensures done { IsDone result (λ turned. AtLast (λ before after. TurnAnswers before (reply.Turned turned) after)
-            (seen_by caller.old) (seen_by caller.new)) }
+        ensures done { IsDone result (λ turned. TurnedAtLast self.now.epochs.parties (seen_by caller.old)
+            (pins_of caller.old) turned (seen_by caller.new) (pins_of caller.new)) }
     {
         self.turn_at(rt, caller, &OpenGate)
     }
@@ -152,8 +151,8 @@ impl Shared {
         ensures caller { IsCallerOf self.now caller.new }
         ensures same { (caller.new.number ≡ caller.old.number) × (caller.new.index ≡ caller.old.index) ×
             (caller.new.kept ≡ caller.old.kept) }
-        ensures done { IsDone result (λ turned. AtLast (λ before after. TurnAnswers before (reply.Turned turned) after)
-            (seen_by caller.old) (seen_by caller.new)) }
+        ensures done { IsDone result (λ turned. TurnedAtLast self.now.epochs.parties (seen_by caller.old)
+            (pins_of caller.old) turned (seen_by caller.new) (pins_of caller.new)) }
     {
         let mut pace = Pace::begin(gate, caller.number, caller.index);
         self.turn_at_pace(rt, caller, &mut pace)
@@ -170,8 +169,8 @@ impl Shared {
         ensures caller { IsCallerOf self.now caller.new }
         ensures same { (caller.new.number ≡ caller.old.number) × (caller.new.index ≡ caller.old.index) ×
             (caller.new.kept ≡ caller.old.kept) }
-        ensures done { IsDone result (λ turned. AtLast (λ before after. TurnAnswers before (reply.Turned turned) after)
-            (seen_by caller.old) (seen_by caller.new)) }
+        ensures done { IsDone result (λ turned. TurnedAtLast self.now.epochs.parties (seen_by caller.old)
+            (pins_of caller.old) turned (seen_by caller.new) (pins_of caller.new)) }
     {
         for _ in rt.forever() {
             if let Some(ended) = self.try_turn(caller, pace).ended() {

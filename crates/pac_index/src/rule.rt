@@ -111,6 +111,30 @@ impl Outcome for FirstTurnStep {
     ghost tells = { StartsTurn };
 }
 
+/// The epoch of a turn, which the proof of the turn picks.
+pub trait HasEpoch {
+    ghost use Rattle.std.specs.Prelude.{ℕ};
+
+    ghost epoch: { ℕ };
+}
+
+impl HasEpoch for Brand {
+    ghost use Rattle.epochs.specs.Kept.{first_epoch};
+
+    ghost epoch = { first_epoch };
+}
+
+/// The first step of a turn under the updater lock, at the epoch that was chosen.
+pub struct FirstWorkStep<E: HasEpoch> {
+    chosen: PhantomData<E>,
+}
+
+impl<E: HasEpoch> Outcome for FirstWorkStep<E> {
+    ghost use Rattle.pac_index.specs.Turns.{StartsWork};
+
+    ghost tells = { StartsWork E.epoch };
+}
+
 /// A step of the turn in flight.
 pub struct NextTurnStep;
 

@@ -8,6 +8,8 @@ ghost use Rattle.node_ops.specs.Asked.{IsOf};
 ghost use Rattle.node_ops.specs.RunningSteps.{IsRunning, listed_in};
 ghost use Rattle.index_core.specs.declared.party.CoreCall.TheVariants as call;
 ghost use Rattle.index_core.specs.CoreCalls.{MayBegin, op_of};
+ghost use Rattle.index_core.specs.Indexes.{parties_of};
+ghost use Rattle.epochs.specs.Seats.{Holds};
 ghost use Rattle.index_core.specs.MachineLaws.{IsReady};
 ghost use Rattle.pac_index.specs.Kept.{May, WasTold, IsLone, party, machine_in};
 ghost use Rattle.pac_index.specs.Calls.{Answers, PartAnswers, Runs, FirstTurn, StepsOn};
@@ -17,16 +19,19 @@ use crate::rule::{About, BeginsCall, ByOutcome, FirstStep, Members, NextStep, Ou
 use atomic_table::{Seat, Table};
 use call_stages::{Once, Placed, View};
 use cat_key::Name;
+use epochs::{EpochSeat, Epochs, Pin};
 use index_core::CoreCall;
 use node_ops::{Part, PartWords, Running};
 use pm_words::{Action, Layout, Machine};
 use std::alloc::Global;
 
-/// An index whose words threads share.
+/// An index whose words threads share, with an epoch and a pin for each caller on a table of their own.
 #[derive(Drop)]
 pub struct Shared {
     pub(crate) table: Table<(), Members, About, Ruled, Global>,
     pub(crate) about: About,
+    pub(crate) epochs: Epochs,
+    ghost parties: { epochs.parties ≡ parties_of about.layout },
     ghost key: { table.shared.key ≡ about },
     ghost words: { table.shared.table_id.words ≡ row_words about.layout },
     ghost slots: { table.shared.table_id.slots ≡ 0 },
@@ -71,15 +76,19 @@ impl Shared {
         }
     }
 
-    /// One call on one name by the seat's party, from its first step to its answer, with the gate before each step.
+    /// One call on one name by the seat's party, from its first step to its answer, with the gate before each step. Its
+    /// pin is held meanwhile, since it is lent with the seat that could give it back.
     pub(crate) fn run<C: BeginsCall, G: Gate>(
         &self,
         seat: &mut Seat<(), Members>,
         number: u64,
         index: u64,
         call: CoreCall,
+        pins: &EpochSeat,
+        pin: &Pin,
         pace: &mut Pace<'_, G>,
     ) -> Once<Placed>
+        requires pinned { Holds pins.now pin.now }
         requires table { seat.old.table_id ≡ self.now.table.shared.table_id }
         requires chosen { (call ≡ C.call) × (index ≡ C.index) }
         requires lone { IsLone seat.old.me }
@@ -110,8 +119,11 @@ impl Shared {
         index: u64,
         low: Name,
         count: u64,
+        pins: &EpochSeat,
+        pin: &Pin,
         pace: &mut Pace<'_, G>,
     ) -> Once<PartWords>
+        requires pinned { Holds pins.now pin.now }
         requires table { seat.old.table_id ≡ self.now.table.shared.table_id }
         requires chosen { (call.Part low count ≡ C.call) × (index ≡ C.index) }
         requires lone { IsLone seat.old.me }

@@ -1,47 +1,63 @@
 //! Turns of the updater beside calls.
 
-ghost use Rattle.std.specs.Prelude.{◌≡◌, None, Some};
+ghost use Rattle.std.specs.Prelude.{◌≡◌, ◌-◌, ◌<◌, ◌≤◌, ◌^◌, None, Some};
 ghost use Rattle.pm_words.specs.declared.machine.Turn.TheVariants.{Go};
-ghost use Rattle.split_merge.specs.Advances.{turn_of};
-ghost use Rattle.updater.specs.Makings.{IsMaking};
+ghost use Rattle.updater.specs.declared.making.MakeTurn.TheVariants.{Working};
+ghost use Rattle.updater.specs.Works.{IsWork, work_from};
+ghost use Rattle.epochs.specs.Kept.{first_epoch, last_epoch};
+ghost use Rattle.epochs.specs.Seats.{IsSeatOf, known_by};
 ghost use Rattle.pac_index.specs.Kept.{IsLone, party};
-ghost use Rattle.pac_index.specs.Callers.{IsCallerOf, seen_by};
-ghost use Rattle.pac_index.specs.Turns.{IsTold, TurnAnswers, TurnReady, TurnRuns, TurnStepsOn, turn_in};
+ghost use Rattle.pac_index.specs.Callers.{IsCallerOf, pins_of, seen_by};
+ghost use Rattle.pac_index.specs.Turns.{IsDated, IsTold, MadeTurn, TurnHeld, TurnReady, WorkStepsOn};
+ghost use Rattle.pac_index.specs.Turns.{turn_in, turning, turning_at, work_in, TurnGoes};
 
 use crate::caller::Caller;
 use crate::gate::{Gate, OpenGate, Pace};
-use crate::rule::{FirstTurnStep, Members, NextTurnStep};
+use crate::rule::{FirstTurnStep, FirstWorkStep, HasEpoch, Members, NextTurnStep};
 use crate::shared::Shared;
 use crate::tried::TriedTurn;
 use atomic_table::Seat;
+use epochs::{Advance, EpochSeat};
 use pm_words::Machine;
-use updater::{MakeTurn, TurnReply};
+use std::marker::Brand;
+use updater::{TakeTurn, Turned, Work};
+
+/// The word of the updater lock while no party has it.
+const UNTAKEN: u64 = 0;
 
 impl Shared {
     /// One try of a turn of the updater, beside the calls of the others: it takes the READY log lines to the search layer
-    /// and empties them, and makes merged nodes FREE. The last caller makes such turns alone, and each other caller may
-    /// make one too. `Held` comes exactly where its first action finds the updater lock taken. It places no write and
-    /// counts no call.
+    /// and empties them, and makes merged nodes FREE. Once it has the updater lock it tries to advance the epoch, and
+    /// loads it: that is the stamp for the nodes that it finds merged, and those are made FREE whose stamp is two less or
+    /// lower, so that each pin that is held was taken behind their stamp. The last caller makes such turns alone, and
+    /// each other caller may make one too. `Held` comes exactly where its first action finds the updater lock taken; then
+    /// the epoch isn't touched. It takes no pin, places no write and counts no call.
     pub fn turn_once(&self, caller: &mut Caller) -> TriedTurn
         requires caller { IsCallerOf self.now caller.old }
         ensures caller { IsCallerOf self.now caller.new }
         ensures same { (caller.new.number ≡ caller.old.number) × (caller.new.index ≡ caller.old.index) ×
             (caller.new.kept ≡ caller.old.kept) }
-        ensures told { IsTold result (λ answer. TurnAnswers (seen_by caller.old) answer (seen_by caller.new)) }
+        ensures told { IsTold result (λ turned epoch advanced. MadeTurn self.now.epochs.parties (seen_by caller.old)
+            (pins_of caller.old) turned epoch advanced (seen_by caller.new) (pins_of caller.new))
+            (λ word. TurnHeld word (seen_by caller.old) (seen_by caller.new) ×
+            (pins_of caller.new ≡ pins_of caller.old)) }
     {
         let mut pace = Pace::begin(&OpenGate, caller.number, caller.index);
         self.try_turn(caller, &mut pace)
     }
 
     /// One try of a turn of the updater by its caller, the one of this number, with the gate before its first step and
-    /// between its steps.
+    /// between its steps on the index.
     pub fn turn_at_gate<G: Gate>(&self, caller: &mut Caller, turn: u64, gate: &G) -> TriedTurn
         requires caller { IsCallerOf self.now caller.old }
         requires updater { caller.old.number ≡ self.now.about.layout.callers }
         ensures caller { IsCallerOf self.now caller.new }
         ensures same { (caller.new.number ≡ caller.old.number) × (caller.new.index ≡ caller.old.index) ×
             (caller.new.kept ≡ caller.old.kept) }
-        ensures told { IsTold result (λ answer. TurnAnswers (seen_by caller.old) answer (seen_by caller.new)) }
+        ensures told { IsTold result (λ turned epoch advanced. MadeTurn self.now.epochs.parties (seen_by caller.old)
+            (pins_of caller.old) turned epoch advanced (seen_by caller.new) (pins_of caller.new))
+            (λ word. TurnHeld word (seen_by caller.old) (seen_by caller.new) ×
+            (pins_of caller.new ≡ pins_of caller.old)) }
     {
         let mut pace = Pace::begin(gate, caller.number, turn);
         self.try_turn(caller, &mut pace)
@@ -53,73 +69,132 @@ impl Shared {
         ensures caller { IsCallerOf self.now caller.new }
         ensures same { (caller.new.number ≡ caller.old.number) × (caller.new.index ≡ caller.old.index) ×
             (caller.new.kept ≡ caller.old.kept) }
-        ensures told { IsTold result (λ answer. TurnAnswers (seen_by caller.old) answer (seen_by caller.new)) }
+        ensures told { IsTold result (λ turned epoch advanced. MadeTurn self.now.epochs.parties (seen_by caller.old)
+            (pins_of caller.old) turned epoch advanced (seen_by caller.new) (pins_of caller.new))
+            (λ word. TurnHeld word (seen_by caller.old) (seen_by caller.new) ×
+            (pins_of caller.new ≡ pins_of caller.old)) }
     {
-        match self.run_turn(&mut caller.seat, pace) {
-            TurnReply::Turned(turned) => TriedTurn::Turned { turned },
-            TurnReply::Held { word } => TriedTurn::Held { word },
-        }
+        self.run_turn(&mut caller.seat, &mut caller.pins, pace)
     }
 
-    /// A turn by the seat's party, from its first step to its answer, with the gate before each step.
-    fn run_turn<G: Gate>(&self, seat: &mut Seat<(), Members>, pace: &mut Pace<'_, G>) -> TurnReply
+    /// A turn by the seat's party, from its first step to its answer, with the gate before each step on the index. Between
+    /// the first step, by which it takes the updater lock, and the next one it steps on the epoch.
+    fn run_turn<G: Gate>(
+        &self,
+        seat: &mut Seat<(), Members>,
+        pins: &mut EpochSeat,
+        pace: &mut Pace<'_, G>,
+    ) -> TriedTurn
         requires table { seat.old.table_id ≡ self.now.table.shared.table_id }
         requires lone { IsLone seat.old.me }
         requires about { (party seat.old.me).about ≡ self.now.about }
         requires resting { (party seat.old.me).state.turn ≡ None }
+        requires pins { IsSeatOf self.now.epochs pins.old }
         ensures seat { (seat.new.table_id ≡ seat.old.table_id) × (seat.new.id ≡ seat.old.id) }
         ensures lone { IsLone seat.new.me }
-        ensures answered { TurnAnswers (party seat.old.me) result (party seat.new.me) }
+        ensures pins { IsSeatOf self.now.epochs pins.new × (pins.new.party ≡ pins.old.party) ×
+            ((known_by pins.new).pin ≡ (known_by pins.old).pin) }
+        ensures told { IsTold result (λ turned epoch advanced. MadeTurn self.now.epochs.parties (party seat.old.me)
+            (known_by pins.old) turned epoch advanced (party seat.new.me) (known_by pins.new))
+            (λ word. TurnHeld word (party seat.old.me) (party seat.new.me) × (known_by pins.new ≡ known_by pins.old)) }
     {
-        let mut making = MakeTurn::new(self.about.layout, self.about.generation, 1, 1);
-        let mut reply = self.begin_turn(seat, &mut making, pace);
+        let word = self.lock_turn(seat, pace);
+        if word != UNTAKEN {
+            return TriedTurn::Held { word };
+        }
+        let (epoch, advanced) = self.date_turn(seat, pins);
+        let mut work = Work::new(self.about.layout, self.about.generation, epoch, epoch - 2);
+        let mut turned = self.begin_work::<Brand, G>(seat, epoch, &mut work, pace);
         'steps: loop {
-            if let Some(reply) = reply {
-                return reply;
+            if let Some(turned) = turned {
+                return TriedTurn::Turned {
+                    turned,
+                    epoch,
+                    advanced,
+                };
             }
-            reply = self.go_on_turn(seat, &mut making, pace);
+            turned = self.go_on_work(seat, &mut work, pace);
         }
     }
 
-    /// The first step of a turn, with the gate before it.
-    fn begin_turn<G: Gate>(
-        &self,
-        seat: &mut Seat<(), Members>,
-        making: &mut MakeTurn,
-        pace: &mut Pace<'_, G>,
-    ) -> Option<TurnReply>
+    /// The first step of a turn, with the gate before it: the exchange of the updater lock, and the word that it found
+    /// there.
+    fn lock_turn<G: Gate>(&self, seat: &mut Seat<(), Members>, pace: &mut Pace<'_, G>) -> u64
         requires table { seat.old.table_id ≡ self.now.table.shared.table_id }
         requires lone { IsLone seat.old.me }
         requires about { (party seat.old.me).about ≡ self.now.about }
         requires resting { (party seat.old.me).state.turn ≡ None }
-        requires making { making.old ≡ turn_in (party seat.old.me) }
-        requires sound { IsMaking making.old }
         ensures seat { (seat.new.table_id ≡ seat.old.table_id) × (seat.new.id ≡ seat.old.id) }
         ensures lone { IsLone seat.new.me }
-        ensures runs { TurnRuns (party seat.old.me) (turn_of making.new result) (party seat.new.me) }
+        ensures goes { TurnGoes (turn_in (party seat.old.me) first_epoch) (turning (party seat.old.me)) result
+            (party seat.new.me) }
     {
         pace.step();
-        let got = self.act::<FirstTurnStep>(seat, making.action());
-        making.advance(got)
+        self.act::<FirstTurnStep>(seat, TakeTurn::new(self.about.layout).action())
     }
 
-    /// The next step of the turn in flight, with the gate before it.
-    fn go_on_turn<G: Gate>(
+    /// Tries once to advance the epoch, and loads it, for a turn that has the updater lock and has done nothing under it: so
+    /// the epoch stands still until that turn gives the lock back.
+    fn date_turn(
+        &self,
+        seat: &Seat<(), Members>,
+        pins: &mut EpochSeat,
+    ) -> (u64, Result<u64, Advance>)
+        requires locked { (party seat.now.me).state.turn ≡ Some (work_in (party seat.now.me) first_epoch) }
+        requires pins { IsSeatOf self.now.epochs pins.old }
+        ensures pins { IsSeatOf self.now.epochs pins.new × (pins.new.party ≡ pins.old.party) ×
+            ((known_by pins.new).pin ≡ (known_by pins.old).pin) }
+        ensures dated { IsDated self.now.epochs.parties (known_by pins.old) result.0 result.1 (known_by pins.new) }
+        ensures epoch { (first_epoch ≤ result.0) × (result.0 ≤ last_epoch) }
+    {
+        let advanced = self.epochs.advance_once(pins);
+        let epoch = self.epochs.released(pins).number + 2;
+        (epoch, advanced)
+    }
+
+    /// The first step of a turn that has the updater lock, with the gate before it. From here on it is one at this epoch.
+    fn begin_work<E: HasEpoch, G: Gate>(
         &self,
         seat: &mut Seat<(), Members>,
-        making: &mut MakeTurn,
+        epoch: u64,
+        work: &mut Work,
         pace: &mut Pace<'_, G>,
-    ) -> Option<TurnReply>
+    ) -> Option<Turned>
         requires table { seat.old.table_id ≡ self.now.table.shared.table_id }
+        requires chosen { epoch ≡ E.epoch }
         requires lone { IsLone seat.old.me }
-        requires flies { (party seat.old.me).state.turn ≡ Some making.old }
-        requires ready { TurnReady self.now.about.layout (Go making.old) }
+        requires about { (party seat.old.me).about ≡ self.now.about }
+        requires flies { (party seat.old.me).state.turn ≡ Some (work_in (party seat.old.me) first_epoch) }
+        requires ready { TurnReady self.now.about.layout (Go (work_in (party seat.old.me) first_epoch)) }
+        requires epoch { (first_epoch ≤ epoch) × (epoch ≤ last_epoch) }
+        requires work { work.old ≡ work_from self.now.about.layout self.now.about.generation epoch (epoch - 2) }
+        requires sound { IsWork work.old }
         ensures seat { (seat.new.table_id ≡ seat.old.table_id) × (seat.new.id ≡ seat.old.id) }
         ensures lone { IsLone seat.new.me }
-        ensures steps { TurnStepsOn making.old (party seat.old.me) (party seat.new.me) making.new result }
+        ensures steps { WorkStepsOn work.old (turning_at (party seat.old.me) epoch) (party seat.new.me) work.new result }
     {
         pace.step();
-        let got = self.act::<NextTurnStep>(seat, making.action());
-        making.advance(got)
+        let got = self.act::<FirstWorkStep<E>>(seat, work.action());
+        work.advance(got)
+    }
+
+    /// The next step of a turn under the updater lock, with the gate before it.
+    fn go_on_work<G: Gate>(
+        &self,
+        seat: &mut Seat<(), Members>,
+        work: &mut Work,
+        pace: &mut Pace<'_, G>,
+    ) -> Option<Turned>
+        requires table { seat.old.table_id ≡ self.now.table.shared.table_id }
+        requires lone { IsLone seat.old.me }
+        requires flies { (party seat.old.me).state.turn ≡ Some (Working work.old) }
+        requires ready { TurnReady self.now.about.layout (Go (Working work.old)) }
+        ensures seat { (seat.new.table_id ≡ seat.old.table_id) × (seat.new.id ≡ seat.old.id) }
+        ensures lone { IsLone seat.new.me }
+        ensures steps { WorkStepsOn work.old (party seat.old.me) (party seat.new.me) work.new result }
+    {
+        pace.step();
+        let got = self.act::<NextTurnStep>(seat, work.action());
+        work.advance(got)
     }
 }

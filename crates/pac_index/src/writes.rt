@@ -4,11 +4,10 @@ ghost use Rattle.std.specs.Prelude.{◌≡◌, ◌+◌, ◌≤◌, ◌<◌, ◌^
 ghost use Rattle.index_core.specs.declared.party.CoreCall.TheVariants as call;
 ghost use Rattle.index_core.specs.CoreCalls.{MayBegin, most_writes};
 ghost use Rattle.index_core.specs.PartyStates.{next_index};
-ghost use Rattle.updater.specs.declared.making.TurnReply.TheVariants as reply;
 ghost use Rattle.pac_index.specs.Calls.{Answers, own_of};
 ghost use Rattle.pac_index.specs.Callers.{IsCallerOf, spare_of, seen_by};
 ghost use Rattle.pac_index.specs.Ends.{AtLast, HasOnlyRead};
-ghost use Rattle.pac_index.specs.Turns.{TurnAnswers};
+ghost use Rattle.pac_index.specs.Turns.{HasTurned};
 ghost use Rattle.pac_index.specs.Writes.{EndsSo, FoundFull, TriedSo, TurnedForRoom, lacks_line, lacks_node};
 
 use crate::caller::Caller;
@@ -180,8 +179,7 @@ impl Shared {
         ensures caller { IsCallerOf self.now caller.new }
         ensures same { (caller.new.number ≡ caller.old.number) × (caller.new.index ≡ caller.old.index) ×
             (caller.new.kept ≡ caller.old.kept) }
-        ensures turned { AtLast (λ before after. TurnAnswers before (reply.Turned result) after) (seen_by caller.old)
-            (seen_by caller.new) }
+        ensures turned { AtLast (HasTurned result) (seen_by caller.old) (seen_by caller.new) }
     {
         let Ended::Done(turned) = self.turn_at_pace(rt, caller, pace) else {
             unreachable!()

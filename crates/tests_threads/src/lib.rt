@@ -16,4 +16,6 @@ mod scans;
 #[cfg(test)]
 mod telling;
 #[cfg(test)]
+mod turns;
+#[cfg(test)]
 mod watch;

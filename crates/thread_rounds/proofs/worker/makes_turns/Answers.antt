@@ -1,6 +1,5 @@
-use Rattle.std.proofs.Common.{◌≡◌, ◌∙◌}
+use Rattle.std.proofs.Common.{◌∙◌}
 use Rattle.pac_index.specs.Callers.{seen_by}
-use Rattle.pac_index.proofs.Repeating.{back_self}
 use Rattle.thread_rounds.proofs.Turning.{turns-on}
 use Rattle.thread_rounds.proofs.worker.makes_turns.Goals as goal
 
@@ -10,5 +9,5 @@ loop-turn-preserved g c =
     let turned = c.turn_at_gate.ensures in (
       turned.caller,
       turned.same.0 ∙ before.1,
-      turns-on c.turn_at_gate.result (seen_by c.args.caller) (seen_by c.loop-turn.caller) (seen_by c.turn_at_gate.new.caller) before.2 turned.told,
+      turns-on c.args.shared.now.epochs.parties c.turn_at_gate.result (seen_by c.args.caller) c.loop-turn.caller c.turn_at_gate.new.caller before.2 turned.told,
     )

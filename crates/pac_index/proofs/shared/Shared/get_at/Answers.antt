@@ -13,5 +13,5 @@ loop-preserved g c =
       on.caller,
       on.number ∙ c.loop.invariant.1,
       spare,
-      get_again c.args.name old.index before.index after.index (seen_by old) (seen_by before) (seen_by after) c.try_get.result c.loop.invariant.3 (sym c.ended.ensures ∙ none_else c.ended.result c.in_default.not-Some) on.index on.answered,
+      get_again c.args.name old.index before.index after.index (seen_by old) before after c.try_get.result c.loop.invariant.3 (sym c.ended.ensures ∙ none_else c.ended.result c.in_default.not-Some) on.index on.answered,
     )

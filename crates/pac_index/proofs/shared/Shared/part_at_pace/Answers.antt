@@ -13,5 +13,5 @@ loop-preserved g c =
       on.caller,
       on.number ∙ c.loop.invariant.1,
       spare,
-      part_again c.args.low c.args.count old.index before.index after.index (seen_by old) (seen_by before) (seen_by after) c.try_part.result c.loop.invariant.3 (sym c.ended.ensures ∙ none_else c.ended.result c.in_default.not-Some) on.index on.answered,
+      part_again c.args.low c.args.count old.index before.index after.index (seen_by old) before after c.try_part.result c.loop.invariant.3 (sym c.ended.ensures ∙ none_else c.ended.result c.in_default.not-Some) on.index on.answered,
     )

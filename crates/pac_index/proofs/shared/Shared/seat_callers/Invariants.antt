@@ -5,4 +5,4 @@ use Rattle.pac_index.specs.Callers.{HasCallers, AreNew}
 use Rattle.pac_index.proofs.shared.Shared.seat_callers.Given as goal
 
 abbrev pub invariant-loop-number : goal.invariant-loop-number
-invariant-loop-number l = (l.all.table_id ≡ l.fn.self.table.shared.table_id) × (l.all.me ≡ (drop l.number (first_view l.fn.self.about), [])) × HasCallers l.fn.self l.number l.callers.items × AreNew l.callers.items
+invariant-loop-number l = (l.all.table_id ≡ l.fn.self.table.shared.table_id) × (l.all.me ≡ (drop l.number (first_view l.fn.self.about), [])) × HasCallers l.fn.self l.number l.callers.items × AreNew l.callers.items × (l.seats.items ≡ drop l.number l.fn.seats.items)

@@ -10,4 +10,9 @@ returns-then-lacks_line-clause-tried g c =
     let tried = seen_by c.try_at_pace-tried.new.caller in
     let w = seen_by c.turned.new.caller in
     let none = sym c.ended.ensures ∙ none_else c.ended.result c.in_default.not-Some in
-    back_trans v tried w (tried_back c.args.call.now c.args.caller.now.index v tried c.try_at_pace-tried.result none c.try_at_pace-tried.ensures.answered) (turned_reads c.turned.result tried w c.turned.ensures.turned)
+    back_trans v tried w (tried_back c.args.call.now c.args.caller.now.index c.args.caller.now c.try_at_pace-tried.new.caller c.try_at_pace-tried.result none c.try_at_pace-tried.ensures.answered) (turned_reads c.turned.result tried w c.turned.ensures.turned)
+
+pub returns-clause-tried : goal.returns-clause-tried
+returns-clause-tried g c =
+    let none = sym c.ended.ensures ∙ none_else c.ended.result c.in_default.not-Some in
+    tried_back c.args.call.now c.args.caller.now.index c.args.caller.now c.try_at_pace-tried.new.caller c.try_at_pace-tried.result none c.try_at_pace-tried.ensures.answered
