@@ -1,20 +1,20 @@
 -- The index as a map of names: its names counted, its calls left, and its shape.
-use Rattle.std.proofs.Common.{◌≡◌, ◌≢◌, ℕ, ◌+◌, ◌-◌, ◌*◌, ◌/◌, ◌<◌, ◌≤◌, ◌==◌, ◌&&◌, Bool, true, false, cond, zero, suc, List, [], ◌∷◌, length, ◌⊎◌, ⊎_elim, refl, le_trans, inl, inr, sym, ap, ◌∙◌, subst, arith, length-append, ◌++◌, append-nil}
-use Rattle.std.specs.Prelude.{Option, ◌↔◌, ◌^◌, nat_lt, Some, None}
+use native.Mathlib.Nat.{mul-le-mul}
+use Rattle.std.proofs.Common.{◌≡◌, ◌≢◌, ℕ, ◌+◌, ◌-◌, ◌*◌, ◌<◌, ◌≤◌, ◌==◌, ◌&&◌, Bool, true, false, cond, zero, suc, List, [], ◌∷◌, length, ◌⊎◌, ⊎_elim, refl, le_trans, inl, inr, sym, ap, ◌∙◌, subst, arith, length-append, ◌++◌, append-nil}
+use Rattle.std.specs.Prelude.{Option, ◌↔◌, ◌^◌, is_none, nat_lt, Some, None, OnErr, Result, Ok, Err}
 use Rattle.std.specs.List.{flat_map, AllByRecursion}
 use Rattle.std.specs.Option.{is_some}
-use Rattle.std.specs.FinMap.{empty, insert, remove, len, len-insert, len-remove, empty_of_len, get-empty}
-use Rattle.std.proofs.lemmas.Bool.{cases_eq, eq-eqb, false≢true, lt-ltb}
+use Rattle.std.specs.FinMap.{insert, remove, len, len-insert, len-remove, empty_of_len, get-empty}
+use Rattle.std.proofs.lemmas.Bool.{cases_eq, cases_lt, eq-eqb, false≢true, le-ltb, lt-ltb}
 use Rattle.std.proofs.Math.Nat.{le-min, min-le_right}
 use Rattle.std.proofs.lemmas.Cmp.{nat_list_cmp_total}
 use Rattle.cat_key.specs.Names.{IsName, name_cmp}
 use Rattle.cat_history.specs.Maps.{Map, at, map_of}
 use Rattle.cat_history.specs.Writes.{after_all}
 use Rattle.pm_words.specs.declared.layout.Layout.{Layout}
-use Rattle.pm_words.specs.Layouts.{IsLayout}
 use Rattle.shapes.specs.Members.{Member, members}
 use Rattle.shapes.specs.ShapeRounds.{PutsFull}
-use Rattle.shapes.specs.Weights.{IsShape}
+use Rattle.shapes.specs.Weights.{IsShape, weight}
 use Rattle.cat_history.specs.Records.{as_op, change_of}
 use Rattle.cat_history.specs.declared.op.Change.{Change}
 use Rattle.cat_history.specs.declared.op.Write.{Write}
@@ -33,6 +33,7 @@ use Rattle.pm_words.specs.declared.again.Again.{Again}
 use Rattle.node_ops.specs.Asked.{name_asked}
 use Rattle.data_node.specs.Lists.{key_of}
 use Rattle.data_node.proofs.ListLemmas.{chain_closed, target_in}
+use Rattle.shapes.specs.ShapeRounds.{IsShapeWithin}
 use Rattle.index_law.specs.Anchors.{anchors_of, anchors_in}
 use Rattle.index_law.specs.Worlds.{World, facts}
 use Rattle.index_law.proofs.Holding.{idle_has_shape}
@@ -47,10 +48,13 @@ use Rattle.index_core.specs.declared.party.Whole.{Whole}
 use Rattle.index_core.specs.declared.party.Whole.TheVariants as whole
 use Rattle.index_core.specs.CoreCalls.{op_of, most_writes}
 use Rattle.index_core.specs.Fulls.{HasLowStamps}
-use Rattle.lone_turn.specs.CallLogs.{empty_lines, is_own_empty}
+use Rattle.index_core.specs.Weights.{added_if, added_whole, put_count, weight_of}
+use Rattle.cat_history.specs.declared.op.NameOp.{NameOp}
+use Rattle.cat_history.specs.declared.op.NameOp.TheVariants as op
+use Rattle.lone_turn.specs.CallLogs.{is_own_empty}
 use Rattle.lone_turn.specs.LoneTurns.{is_ready, line_state, stamp_in, stamp_then}
 use Rattle.turn_law.specs.Covers.{empty_state, ready_state}
-use Rattle.turn_row.specs.Columns.{line_count, line_word}
+use Rattle.turn_row.specs.Columns.{column, line_count, line_word}
 use Rattle.turn_row.proofs.RowColumns.{column-here}
 use Rattle.recovery_law.proofs.RowColumns.{word_if-here}
 use Rattle.updater.specs.Events.{how_many}
@@ -63,28 +67,14 @@ use Rattle.index_core.proofs.Fulls.{no_room_is_full_put}
 use Rattle.std.proofs.lemmas.List.{length-map}
 use Rattle.std.specs.FinMap.{entries, len-entries}
 use Rattle.cat_history.proofs.ReplayLemmas.{map_of-pairs_of}
-use Rattle.pm_words.specs.Images.{Row, fresh_words}
-use Rattle.pm_words.specs.Locations.{Cached, Header, Node}
+use Rattle.pm_words.specs.Images.{Row}
+use Rattle.pm_words.specs.Locations.{Cached}
 use Rattle.pm_words.specs.Locations as positions
-use Rattle.pm_words.proofs.Made.{fresh_at}
-use Rattle.version_lock.specs.Versions.{IsGeneration}
-use Rattle.data_node.specs.Lists.{next_offset}
-use Rattle.data_node.proofs.ListLemmas.{chain_is}
-use Rattle.sound_image.specs.Nodes.{image_list, image_spot}
-use Rattle.sound_image.specs.Rules.{header_generation}
-use Rattle.sound_image.proofs.FreshLemmas.{fresh_is_sound}
-use Rattle.sound_image.proofs.MapLemmas.{has_one_map}
-use Rattle.sound_image.proofs.WordLemmas.{image_spot-here}
-use Rattle.sound_layer.proofs.FreshLaw.{fresh_is_sound_by_all}
 use Rattle.sound_image.specs.Sound.{IsMapOf, image_map}
-use Rattle.sound_image.specs.Weights.{image_weight}
-use Rattle.shapes.specs.Anchors.{Anchors}
-use Rattle.shapes.specs.ShapeRounds.{IsShapeWithin}
 use Rattle.index_law.specs.Anchors.{image_anchors}
-use Rattle.core_rounds.specs.CoreMaps.{calls_left_of, writes_left_of, IsUnlimited, IsCoreMap, IsNextRun, IsOfRun, IsOpenedMap, Waits, anchors_made, fresh_image}
-use Rattle.recovery.specs.Opened.{IsOpenedFrom, IsOpenFault}
-use Rattle.recovery.specs.declared.opening.OpenFault.{OpenFault}
-use Rattle.recovery.specs.declared.opening.OpenFault.TheVariants as opening
+use Rattle.core_rounds.specs.CoreMaps.{calls_left_of, writes_left_of, IsUnlimited, HasNoLines, IsCoreMap, IsOfRun, OpenedIsMap, Waits, anchors_made}
+use Rattle.core_rounds.specs.Waiting.{one_if}
+use Rattle.recovery.specs.Opened.{IsOpenedFrom}
 use Rattle.recovery.proofs.Opened.{with_room}
 
 -- a put of a name that the map lacks adds one, and of one that it has adds none
@@ -364,7 +354,7 @@ part_goes_through s i low count new r is left answer = ⊎_elim
 -- ---- images
 
 -- an index that an image is opened as, once room for writes is made
-opened_core : (image : Row) (s s' : Index) → IsOpenedFrom image s → s' ≡ record s { spare = s'.spare } → IsOpenedFrom image s'
+pub opened_core : (image : Row) (s s' : Index) → IsOpenedFrom image s → s' ≡ record s { spare = s'.spare } → IsOpenedFrom image s'
 opened_core image s s' is kept = subst (IsOpenedFrom image) (sym kept) (with_room image s s'.spare is)
 
 -- it has the map of the image, each of whose names is counted once
@@ -376,30 +366,8 @@ opened_counted image s names is counts =
     counts ∙ ap length is.base ∙ length-map (entries (image_map image.layout image.words)) (λ (e : List ℕ × ℕ). record { name = e.0; value = e.1 })
     ∙ sym (len-entries (image_map image.layout image.words)) ∙ sym (ap len (opened_contents image s is))
 
-pub opened_map : (image : Row) (s s' : Index) (names : ℕ) → IsOpenedFrom image s → s' ≡ record s { spare = s'.spare } → names ≡ length s'.base → IsCoreMap s' names
-opened_map image s s' names from kept counts =
-    let is = opened_core image s s' from kept in
-    record { index = is.index; quiet = is.quiet; stamps = is.stamps; counted = opened_counted image s' names is counts }
-
-pub opened_run : (image : Row) (s s' : Index) {l : Layout} {number : ℕ} → IsNextRun image l number → IsOpenedFrom image s → s' ≡ record s { spare = s'.spare } → IsOfRun l number s'
-opened_run image s s' run from kept =
-    let is = opened_core image s s' from kept in
-    record { layout = is.layout ∙ sym run.layout; generation = is.generation ∙ sym run.generation }
-
--- its shape weighs what the image does
-opened_within : (image : Row) (s : Index) → IsOpenedFrom image s →
-    IsShapeWithin s.layout.slots s.layout.nodes (image_weight image.layout image.words) (len (map_of_index s)) (map_of_index s) (anchors_in (world s))
-opened_within image s is =
-    let w = world s in
-    let both = idle_has_shape w is.index.lawful (quiet_parties s is.quiet) in
-    let few = both.0.few in
-    let light = both.1 in
-    let weighs = is.weighs in
-    record {
-      shape = record { ordered = both.0.ordered; few = omega arith; fits = both.0.fits };
-      light = omega (arith, light, weighs);
-      few = omega arith;
-    }
+pub opened_map : (image : Row) (s : Index) (names : ℕ) → IsOpenedFrom image s → names ≡ length s.base → IsCoreMap s names
+opened_map image s names is counts = record { index = is.index; quiet = is.quiet; stamps = is.stamps; counted = opened_counted image s names is counts }
 
 -- its log is empty, and no node is GONE
 opened_line : (image : Row) (s : Index) (j : ℕ) → IsOpenedFrom image s → j < line_count s.layout → line_state (world s) j ≡ empty_state
@@ -422,72 +390,103 @@ none_many test (suc n) none = ap (λ b. cond b (how_many test n + 1) (how_many t
 
 opened_waits : (image : Row) (s : Index) → IsOpenedFrom image s → (lines puts : ℕ) → lines ≤ 8 → length (image_anchors image.layout image.words) + puts < image.layout.nodes → Waits s 0 lines puts
 opened_waits image s is lines puts few room =
-    let callers = is.index.lawful.row.layout.callers in
-    let all : empty_lines 0 (world s) ≡ 8 =
-    all_many (is_own_empty 0 (world s)) 8 (λ k small. eq-eqb (line_state (world s) (8 * 0 + k)) empty_state (opened_line image s (8 * 0 + k) is (omega arith))) in
     let size : length (anchors_in (world s)) ≡ length (image_anchors image.layout image.words) = ap length is.anchors in
     let gone = is.gone in
     let nodes : s.layout.nodes ≡ image.layout.nodes = ap (λ (l : Layout). l.nodes) is.layout in
     record {
       ready = none_many (is_ready (world s)) (line_count s.layout)
           (λ k small. ap (λ (state : ℕ). state == ready_state) (opened_line image s k is small));
-      lines = omega arith;
+      lines = λ caller here.
+          (let all = all_many (is_own_empty caller (world s)) 8 (λ k small. eq-eqb (line_state (world s) (8 * caller + k)) empty_state (opened_line image s (8 * caller + k) is (omega (arith, here, small)))) in
+          omega (arith, all, few));
       nodes = omega arith;
     }
 
-pub opened_so : (image : Row) (writes : ℕ) (s s' : Index) → IsOpenedFrom image s → s' ≡ record s { spare = s'.spare } → writes ≤ s'.spare → writes ≤ 2 ^ 62 → IsOpenedMap image writes s'
-opened_so image writes s s' from kept spare few =
-    let is = opened_core image s s' from kept in
-    let contents = opened_contents image s' is in
-    let weighs = image_weight image.layout image.words in
-    let empty_history : length s'.history ≡ 0 = ap length is.history in
+-- no line waits in it
+no_line : (s : Index) (j : ℕ) → line_count s.layout ≤ j → line_state (world s) j ≡ empty_state
+unfolding column
+no_line s j large = ap (λ b. cond b (positions.at s.layout s.words (Cached (line_word 0 j))) 0) (le-ltb j (line_count s.layout) large)
+
+pub opened_lines : (image : Row) (s : Index) → IsOpenedFrom image s → HasNoLines s
+opened_lines image s is j = elim (cases_lt j (line_count s.layout)) [
+  | inl small ↦ opened_line image s j is small
+  | inr large ↦ no_line s j large
+]
+
+-- with a shape that weighs no more than it does
+opened_within : (image : Row) (s : Index) → IsOpenedFrom image s →
+    IsShapeWithin s.layout.slots s.layout.nodes (weight_of s) (len (map_of_index s)) (map_of_index s) (anchors_in (world s))
+opened_within image s is =
+    let both = idle_has_shape (world s) is.index.lawful (quiet_parties s is.quiet) in
+    let few = both.0.few in
+    let light = both.1 in
     record {
-      sound = is.sound;
-      next = is.next;
-      layout = is.layout;
-      keeps = subst (IsMapOf image.layout image.words) (ap map_of is.base ∙ map_of-pairs_of (image_map image.layout image.words)) is.keeps;
-      contents = contents;
-      anchors = is.anchors;
-      within = subst (λ (l : Layout). IsShapeWithin l.slots l.nodes weighs (len (image_map image.layout image.words)) (image_map image.layout image.words) (image_anchors image.layout image.words)) is.layout
-          (subst (λ (a : Anchors). IsShapeWithin s'.layout.slots s'.layout.nodes weighs (len (image_map image.layout image.words)) (image_map image.layout image.words) a) is.anchors
-          (subst (λ (m : Map). IsShapeWithin s'.layout.slots s'.layout.nodes weighs (len m) m (anchors_in (world s'))) contents (opened_within image s' is)));
-      calls_left = ap (λ (n : ℕ). n / 4) is.locks;
-      writes_left = le-min spare (omega (arith, empty_history, few));
-      waits = opened_waits image s' is;
+      shape = record { ordered = both.0.ordered; few = omega (arith, few); fits = both.0.fits };
+      light = omega (arith, light);
+      few = omega arith;
     }
 
--- ---- fresh images
+pub opened_is_map : OpenedIsMap
+opened_is_map image s is = record {
+  contents = opened_contents image s is;
+  anchors = is.anchors;
+  weighs = is.weighs;
+  keeps = subst (IsMapOf image.layout image.words) (ap map_of is.base ∙ map_of-pairs_of (image_map image.layout image.words)) is.keeps;
+  counted = opened_counted image s (length s.base) is refl;
+  within = opened_within image s is;
+  lines = opened_lines image s is;
+  waits = opened_waits image s is;
+}
 
-fresh_generation : (l : Layout) → header_generation l (fresh_words l) ≡ 1
-fresh_generation l = fresh_at l (Header 5) (omega arith)
+-- its calls and its nodes are few enough for all locks, and its clock is 0
+pub opened_calls : (image : Row) (s : Index) (calls : ℕ) → IsOpenedFrom image s → calls ≤ 100000 → calls * s.layout.nodes ≤ calls_left_of s
+opened_calls image s calls is few =
+    let row = is.index.lawful.row.layout in
+    let nodes : s.layout.nodes ≤ 4096 = omega (arith, row.nodes) in
+    let product : calls * s.layout.nodes ≤ 100000 * 4096 = mul-le-mul few nodes in
+    let locks = is.locks in
+    omega (arith, product, locks)
 
--- one isn't refused
-pub fresh_is_opened : (l : Layout) (fault : OpenFault) → IsLayout l → IsOpenFault (fresh_image l) fault → fault ≡ opening.NoMemory
-fresh_is_opened l (opening.Damaged rule word) layout is =
-    let lowest = is.first.1.lowest.0 in
-    absurd (fresh_is_sound_by_all l layout rule is.first.0 lowest.word lowest.holds)
-fresh_is_opened l opening.Generations layout is = absurd (is.1 (subst (λ (n : ℕ). IsGeneration (suc n)) (sym (fresh_generation l)) (record { least = omega arith; fits = omega arith })))
-fresh_is_opened l opening.NoMemory layout is = refl
+pub opened_writes : (image : Row) (s : Index) (calls : ℕ) → IsOpenedFrom image s → calls ≤ s.spare → calls ≤ 100000 → calls ≤ writes_left_of s
+opened_writes image s calls is spare few = let none : length s.history ≡ 0 = ap length is.history in le-min spare (omega (arith, none, few))
 
--- the next generation is the second
-pub fresh_run : (image : Row) (l : Layout) {run_l : Layout} {number : ℕ} → image ≡ fresh_image l → (run_l ≡ l) × (number ≡ 2) → IsNextRun image run_l number
-fresh_run image l {run_l} {number} is run =
-    subst (λ (i : Row). IsNextRun i run_l number) (sym is) (record { layout = run.0; generation = run.1 ∙ sym (ap suc (fresh_generation l)) })
+-- ---- weights
 
--- it has no names,
-pub fresh_contents : (image : Row) (l : Layout) (writes : ℕ) (s : Index) → IsLayout l → image ≡ fresh_image l → IsOpenedMap image writes s → map_of_index s ≡ empty
-fresh_contents image l writes s layout same is =
-    let of_fresh : IsOpenedMap (fresh_image l) writes s = subst (λ (i : Row). IsOpenedMap i writes s) same is in
-    of_fresh.contents ∙ has_one_map l (fresh_words l) (image_map l (fresh_words l)) empty of_fresh.keeps (fresh_is_sound l layout).1
+-- what holds anyway holds at an error
+pub on-err : {A E : Type 0} (r : Result A E) (P : Type 0) → P → OnErr r P
+on-err (Ok a) P p = tt
+on-err (Err e) P p = p
 
--- and one member
-fresh_list : (l : Layout) → IsLayout l → image_list l (fresh_words l) ≡ []
-fresh_list l is =
-    let nodes = is.nodes in
-    chain_is (image_spot l (fresh_words l)) l.nodes 0 []
-    (image_spot-here l (fresh_words l) 0 next_offset (omega arith) (omega arith) (omega arith) ∙ fresh_at l (Node 0 next_offset) (omega arith, omega arith)) (omega arith)
+-- its members weigh no more than all of it
+pub core_light : (s : Index) (names : ℕ) → IsCoreMap s names → weight s.layout.slots (map_of_index s) (anchors_in (world s)) ≤ weight_of s
+core_light s names is = let both = (idle_has_shape (world s) is.index.lawful (quiet_parties s is.quiet)).1 in omega (arith, both)
 
-pub fresh_anchors : (image : Row) (l : Layout) (writes : ℕ) (s : Index) → IsLayout l → image ≡ fresh_image l → IsOpenedMap image writes s → anchors_in (world s) ≡ [] ∷ []
-fresh_anchors image l writes s layout same is =
-    let of_fresh : IsOpenedMap (fresh_image l) writes s = subst (λ (i : Row). IsOpenedMap i writes s) same is in
-    of_fresh.anchors ∙ ap anchors_of (fresh_list l layout)
+-- a call adds one at most, and only where it adds a name
+pub told_weighs : (s : Index) (c : CoreCall) (new : Index) (r : Whole) (placed : Placed) → r ≡ whole.Placed placed → {caller : ℕ} → RunsAlone s caller c new r →
+    weight_of new ≤ weight_of s + added_if (op_of c) placed.old
+told_weighs s c new r placed is {caller} runs = let run : RunsAlone s caller c new (whole.Placed placed) = subst (RunsAlone s caller c new) is runs in run.weighs
+
+pub full_weighs : (s : Index) (c : CoreCall) (new : Index) (r : Whole) → r ≡ whole.Full → {caller : ℕ} → RunsAlone s caller c new r → weight_of new ≤ weight_of s
+full_weighs s c new r is {caller} runs =
+    let run : RunsAlone s caller c new whole.Full = subst (RunsAlone s caller c new) is runs in
+    let weighs = run.weighs in
+    omega (arith, weighs)
+
+pub no_put_adds : (o : Option ℕ) (asked : NameOp) → put_count asked ≡ 0 → added_if asked o ≡ 0
+no_put_adds None asked none = none
+no_put_adds (Some old) asked none = refl
+
+pub put_adds : (o : Option ℕ) (name : List ℕ) (value : ℕ) → added_if (op.Put name value) o ≡ one_if (is_none o)
+put_adds None name value = refl
+put_adds (Some old) name value = refl
+
+listed_adds : (low : List ℕ) (count : ℕ) (r : Whole) → added_whole (op_of (call.Part low count)) r ≡ 0
+listed_adds low count (whole.Placed placed) = no_put_adds placed.old (op_of (call.Part low count)) refl
+listed_adds low count (whole.Part words) = refl
+listed_adds low count (whole.Spent clock) = refl
+listed_adds low count (whole.Turned turned) = refl
+listed_adds low count whole.Full = refl
+listed_adds low count (whole.Worn node word) = refl
+
+pub part_weighs : (s : Index) (low : List ℕ) (count : ℕ) (new : Index) (r : Whole) {caller : ℕ} → RunsAlone s caller (call.Part low count) new r → weight_of new ≤ weight_of s
+part_weighs s low count new r runs = let weighs = runs.weighs in let none = listed_adds low count r in omega (arith, weighs, none)

@@ -1,6 +1,8 @@
 pub mod CallCounts
 pub mod CoreMaps
+pub mod Crowding
 pub mod LoneRoundSteps
+pub mod OpenedCores
 pub mod Played
 pub mod RoundTurns
 pub mod RoundWaits

@@ -1,27 +1,139 @@
 -- Rounds that are played one after another.
-use Rattle.std.proofs.Common.{◌≡◌, ℕ, ◌+◌, ◌<◌, ◌≤◌, List, [], ◌∷◌, ◌++◌, length, take, ◌/◌, refl, sym, ap, ◌∙◌, subst, arith, append_assoc, append-nil, get_or}
+use Rattle.std.proofs.Common.{◌≡◌, ℕ, ◌+◌, ◌<◌, ◌≤◌, List, [], ◌∷◌, ◌++◌, length, take, get_or, refl, sym, ap, ◌∙◌, subst, arith}
 use Rattle.std.proofs.lemmas.List.{take_more, take_all}
 use Rattle.std.specs.Prelude.{All}
+use Rattle.std.specs.FinMap.{len}
 use Rattle.cat_history.specs.Maps.{Map}
 use Rattle.cat_history.specs.Writes.{after_all}
 use Rattle.cat_history.specs.LoneRounds.{writes_of}
-use Rattle.shapes.specs.Anchors.{Anchors}
-use Rattle.shapes.specs.ShapeRounds.{anchors_end, puts_added, IsShapeWithin}
-use Rattle.shapes.proofs.PaidRounds.{timely_rounds_are_paid}
-use Rattle.shapes.proofs.RoundLemmas.{goes_within}
-use Rattle.shapes.proofs.Shapes.{fresh_is_shape, len-keys}
-use Rattle.shapes.proofs.Targets.{all-between}
-use Rattle.cat_text.specs.declared.report.RoundReport.{RoundReport}
+use Rattle.cat_history.specs.Records.{numbered}
+use Rattle.cat_history.specs.Rounds.{IsJoinedRound}
 use Rattle.cat_history.specs.declared.plan.RoundPlan.{RoundPlan}
-use Rattle.pm_words.specs.Layouts.{IsLayout}
-use Rattle.pm_words.specs.declared.layout.Layout.{Layout}
-use Rattle.std.specs.FinMap.{empty, len, len-empty}
-use Rattle.cat_key.specs.Names.{name_cmp}
-use Rattle.core_rounds.specs.Rounds.{ArePaidFromEmpty, ArePaidRounds, ArePlayedRounds, map_end, shape_end}
+use Rattle.cat_history.specs.declared.record.Record.{Record}
+use Rattle.shapes.specs.Anchors.{Anchors}
+use Rattle.shapes.specs.ShapeRounds.{anchors_end, puts_added, FullIsPaid, IsShapeWithin}
+use Rattle.shapes.proofs.PaidRounds.{timely_rounds_are_paid}
+use Rattle.shapes.proofs.RoundLemmas.{goes_within, more-pays}
+use Rattle.cat_text.specs.declared.report.RoundReport.{RoundReport}
 use Rattle.core_rounds.specs.LoneCalls.{AreLoneCalls, AreReportCalls}
-use Rattle.core_rounds.specs.Rounds.{IsPlayedRound}
+use Rattle.core_rounds.specs.Rounds.{ArePaidRounds, ArePlayed, ends, lone, crowd, EachIsReported, IsPlayedRound, IsRoundTo, MorePays, OnlyRoundIsLegal, PlayedArePaid, RoundsGoOn, added_in}
 
--- one round more goes on from the map and the shape that those before it leave
+-- ---- laws
+
+module _ (slots nodes : ℕ) where
+  at-weights : {weighs weighs' names names' : ℕ} {base end : Map} {anchors shape : Anchors} {plans : List RoundPlan} {reports : List RoundReport} → weighs ≡ weighs' → names ≡ names' →
+      ArePlayed slots nodes weighs names base anchors plans reports end shape → ArePlayed slots nodes weighs' names' base anchors plans reports end shape
+  at-weights {base = base} {end = end} {anchors = anchors} {shape = shape} {plans = plans} {reports = reports} heavy many played =
+      subst (λ (q : ℕ × ℕ). ArePlayed slots nodes q.0 q.1 base anchors plans reports end shape) (λ k. (heavy k, many k)) played
+
+  go-on : (end : Map) (shape : Anchors) (later : List RoundPlan) (more : List RoundReport) {weighs names : ℕ} {base mid : Map} {anchors between : Anchors} {plans : List RoundPlan} {reports : List RoundReport} →
+      ArePlayed slots nodes weighs names base anchors plans reports mid between →
+      ArePlayed slots nodes (weighs + added_in reports) (names + added_in reports) mid between later more end shape →
+      ArePlayed slots nodes weighs names base anchors (plans ++ later) (reports ++ more) end shape
+  go-on end shape later more ends rest = at-weights (omega arith) (omega arith) rest
+  go-on end shape later more (lone callers round paid played) rest = lone callers round paid (go-on end shape later more played (at-weights (omega arith) (omega arith) rest))
+  go-on end shape later more (crowd several writes round next within played) rest =
+      crowd several writes round next within (go-on end shape later more played (at-weights (omega arith) (omega arith) rest))
+
+  pay-more : (weighs names weighs' names' : ℕ) (records : List Record) → weighs ≤ weighs' → names ≤ names' →
+      All (FullIsPaid slots nodes (weighs + puts_added records) (names + puts_added records)) records → All (FullIsPaid slots nodes (weighs' + puts_added records) (names' + puts_added records)) records
+  pay-more weighs names weighs' names' records heavier wider paid k r inside =
+      more-pays slots nodes (weighs + puts_added records) (names + puts_added records) (weighs' + puts_added records) (names' + puts_added records) (omega (arith, heavier)) (omega (arith, wider))
+      (get_or records k r) (paid k r inside)
+
+  all-pay : {weighs names : ℕ} {base end : Map} {anchors shape : Anchors} {plans : List RoundPlan} {reports : List RoundReport} → ArePlayed slots nodes weighs names base anchors plans reports end shape →
+      (weighs' names' : ℕ) → weighs ≤ weighs' → names ≤ names' → ArePlayed slots nodes weighs' names' base anchors plans reports end shape
+  all-pay ends weighs' names' heavier wider = ends
+  all-pay (lone {weighs = weighs} {names = names} {report = report} callers round paid played) weighs' names' heavier wider =
+      lone callers round (pay-more weighs names weighs' names' report.records heavier wider paid)
+      (all-pay played (weighs' + puts_added report.records) (names' + puts_added report.records) (omega (arith, heavier)) (omega (arith, wider)))
+  all-pay (crowd {weighs = weighs} {names = names} {report = report} several writes round next within played) weighs' names' heavier wider =
+      let light = within.light in
+      let few = within.few in
+      crowd several writes
+      (record {
+        legal = round.legal;
+        paid = pay-more weighs names weighs' names' report.records heavier wider round.paid;
+        apart = round.apart;
+        joined = round.joined;
+        placed = round.placed;
+        names_are = round.names_are;
+      }) next (record { shape = within.shape; light = omega (arith, light, heavier); few = omega (arith, few, wider) })
+      (all-pay played (weighs' + puts_added report.records) (names' + puts_added report.records) (omega (arith, heavier)) (omega (arith, wider)))
+
+  paid-rounds : {weighs names : ℕ} {base end : Map} {anchors shape : Anchors} {plans : List RoundPlan} {reports : List RoundReport} → ArePlayed slots nodes weighs names base anchors plans reports end shape →
+      ArePaidRounds slots nodes weighs names reports
+  paid-rounds ends = tt
+  paid-rounds (lone callers round paid played) = (paid, paid-rounds played)
+  paid-rounds (crowd several writes round next within played) = (round.paid, paid-rounds played)
+
+  as-many : {weighs names : ℕ} {base end : Map} {anchors shape : Anchors} {plans : List RoundPlan} {reports : List RoundReport} → ArePlayed slots nodes weighs names base anchors plans reports end shape →
+      length reports ≡ length plans
+  as-many ends = refl
+  as-many (lone callers round paid played) = let rest = as-many played in omega (arith, rest)
+  as-many (crowd several writes round next within played) = let rest = as-many played in omega (arith, rest)
+
+  -- where no round is left, the map stays
+  none-left : {weighs names : ℕ} {base end : Map} {anchors shape : Anchors} {plans : List RoundPlan} {reports : List RoundReport} → ArePlayed slots nodes weighs names base anchors plans reports end shape →
+      length plans ≡ 0 → end ≡ base
+  none-left ends none = refl
+  none-left (lone callers round paid played) none = absurd (omega (arith, none))
+  none-left (crowd several writes round next within played) none = absurd (omega (arith, none))
+
+  first-only : {weighs names : ℕ} {base end : Map} {anchors shape : Anchors} {plans : List RoundPlan} {reports : List RoundReport} → ArePlayed slots nodes weighs names base anchors plans reports end shape →
+      (plan : RoundPlan) (report : RoundReport) → plans ≡ plan ∷ [] → reports ≡ report ∷ [] → IsRoundTo base plan report end
+  first-only ends plan report is told = absurd (let none = ap length is in omega (arith, none))
+  first-only (lone {base = base} {end = end} {plan = p} {report = r} {plans = ps} callers round paid played) plan report is told =
+      let left = ap length is in
+      let same : p ≡ plan = ap (λ (qs : List RoundPlan). get_or qs 0 p) is in
+      let said : r ≡ report = ap (λ (qs : List RoundReport). get_or qs 0 r) told in
+      let last = none-left played (omega (arith, left)) in
+      subst (λ (q : RoundPlan). IsRoundTo base q report end) same
+      (subst (λ (q : RoundReport). IsRoundTo base p q end) said
+      (record {
+        writes = writes_of r.records;
+        legal = subst (IsJoinedRound base (numbered p.ops) p.limit r.records (writes_of r.records)) (sym last) round.legal;
+        names_are = round.names ∙ ap len (sym last);
+      }))
+  first-only (crowd {base = base} {end = end} {plan = p} {report = r} {plans = ps} several writes round next within played) plan report is told =
+      let left = ap length is in
+      let same : p ≡ plan = ap (λ (qs : List RoundPlan). get_or qs 0 p) is in
+      let said : r ≡ report = ap (λ (qs : List RoundReport). get_or qs 0 r) told in
+      let last = none-left played (omega (arith, left)) in
+      subst (λ (q : RoundPlan). IsRoundTo base q report end) same
+      (subst (λ (q : RoundReport). IsRoundTo base p q end) said
+      (record {
+        writes = writes;
+        legal = subst (IsJoinedRound base (numbered p.ops) p.limit r.records writes) (sym last) round.legal;
+        names_are = round.names_are ∙ ap len (sym last);
+      }))
+
+pub rounds_go_on : RoundsGoOn
+rounds_go_on slots nodes weighs names base mid end anchors between shape plans later reports more played rest = go-on slots nodes end shape later more played rest
+
+pub more_pays : MorePays
+more_pays slots nodes weighs names weighs' names' base end anchors shape plans reports heavier wider played = all-pay slots nodes played weighs' names' heavier wider
+
+pub played_are_paid : PlayedArePaid
+played_are_paid slots nodes weighs names base end anchors shape plans reports played = paid-rounds slots nodes played
+
+pub each_is_reported : EachIsReported
+each_is_reported slots nodes weighs names base end anchors shape plans reports played = as-many slots nodes played
+
+pub only_round_is_legal : OnlyRoundIsLegal
+only_round_is_legal slots nodes weighs names base end anchors shape plan report played = first-only slots nodes played plan report refl refl
+
+-- ---- rounds of one caller, as a loop over them plays them
+
+-- the map and the shape that they leave
+abbrev pub map_end : Map → List RoundReport → Map
+map_end base [] = base
+map_end base (report ∷ reports) = map_end (after_all base (writes_of report.records)) reports
+
+abbrev pub shape_end : ℕ → Map → Anchors → List RoundReport → Anchors
+shape_end slots base anchors [] = anchors
+shape_end slots base anchors (report ∷ reports) = shape_end slots (after_all base (writes_of report.records)) (anchors_end slots base anchors report.records) reports
+
 map_end-push : (base : Map) (reports : List RoundReport) (report : RoundReport) → map_end base (reports ++ report ∷ []) ≡ after_all (map_end base reports) (writes_of report.records)
 map_end-push base [] report = refl
 map_end-push base (first ∷ reports) report = map_end-push (after_all base (writes_of first.records)) reports report
@@ -32,50 +144,60 @@ shape_end-push slots base anchors [] report = refl
 shape_end-push slots base anchors (first ∷ reports) report =
     shape_end-push slots (after_all base (writes_of first.records)) (anchors_end slots base anchors first.records) reports report
 
--- Whatever is played of the rest from this map and shape is, behind what was played so far, played of all of them. They are
--- those that what was played so far leaves.
-pub record GoOn (slots nodes : ℕ) (base : Map) (anchors : Anchors) (plans : List RoundPlan) (reports : List RoundReport) (end : Map) (shape : Anchors) : Type 0 where
-  pub goes : (rest : List RoundPlan) (more : List RoundReport) → ArePlayedRounds slots nodes end shape rest more → ArePlayedRounds slots nodes base anchors (plans ++ rest) (reports ++ more)
+pub added_in-append : (reports more : List RoundReport) → added_in (reports ++ more) ≡ added_in reports + added_in more
+added_in-append [] more = omega arith
+added_in-append (report ∷ reports) more = let rest = added_in-append reports more in omega (arith, rest)
+
+-- The rounds so far are played, and left this map in this shape, within what pays for it.
+pub record SoFar (slots nodes weighs names : ℕ) (base : Map) (anchors : Anchors) (plans : List RoundPlan) (reports : List RoundReport) (end : Map) (shape : Anchors) : Type 0 where
+  pub played : ArePlayed slots nodes weighs names base anchors plans reports end shape
+  pub within : IsShapeWithin slots nodes (weighs + added_in reports) (names + added_in reports) end shape
   pub map_is : end ≡ map_end base reports
   pub shape_is : shape ≡ shape_end slots base anchors reports
 
-one-more : (slots nodes : ℕ) (base end : Map) (anchors shape : Anchors) (plans : List RoundPlan) (reports : List RoundReport) (plan : RoundPlan) (report : RoundReport) →
-    GoOn slots nodes base anchors plans reports end shape → IsPlayedRound slots nodes end shape plan report (writes_of report.records) →
-    GoOn slots nodes base anchors (plans ++ plan ∷ []) (reports ++ report ∷ []) (after_all end (writes_of report.records)) (anchors_end slots end shape report.records)
-one-more slots nodes base end anchors shape plans reports plan report on round = record {
-  goes = λ rest more played.
-      subst (λ (ps : List RoundPlan). ArePlayedRounds slots nodes base anchors ps ((reports ++ report ∷ []) ++ more)) (sym (append_assoc plans (plan ∷ []) rest))
-      (subst (λ (rs : List RoundReport). ArePlayedRounds slots nodes base anchors (plans ++ plan ∷ rest) rs) (sym (append_assoc reports (report ∷ []) more))
-      (on.goes (plan ∷ rest) (report ∷ more) (round, played)));
-  map_is = ap (λ (m : Map). after_all m (writes_of report.records)) on.map_is ∙ sym (map_end-push base reports report);
-  shape_is = (λ k. anchors_end slots (on.map_is k) (on.shape_is k) report.records) ∙ sym (shape_end-push slots base anchors reports report);
-}
+pub none-so-far-at : (slots nodes weighs names : ℕ) (base : Map) (anchors : Anchors) (reports : List RoundReport) → IsShapeWithin slots nodes weighs names base anchors → reports ≡ [] →
+    SoFar slots nodes weighs names base anchors [] reports base anchors
+none-so-far-at slots nodes weighs names base anchors reports within none =
+    let light = within.light in
+    let few = within.few in
+    subst (λ (rs : List RoundReport). SoFar slots nodes weighs names base anchors [] rs base anchors) (sym none)
+    (record { played = ends; within = record { shape = within.shape; light = omega (arith, light); few = omega (arith, few) }; map_is = refl; shape_is = refl })
 
-pub none-played-at : (slots nodes : ℕ) (base : Map) (anchors : Anchors) (reports : List RoundReport) → reports ≡ [] → GoOn slots nodes base anchors [] reports base anchors
-none-played-at slots nodes base anchors reports none =
-    subst (λ (rs : List RoundReport). GoOn slots nodes base anchors [] rs base anchors) (sym none) (record { goes = λ rest more played. played; map_is = refl; shape_is = refl })
+one-more : (slots nodes weighs names : ℕ) (base end : Map) (anchors shape : Anchors) (plans : List RoundPlan) (reports : List RoundReport) (plan : RoundPlan) (report : RoundReport) → 2 ≤ slots →
+    AreLoneCalls plan.ops → SoFar slots nodes weighs names base anchors plans reports end shape → IsPlayedRound slots nodes end shape plan report (writes_of report.records) →
+    SoFar slots nodes weighs names base anchors (plans ++ plan ∷ []) (reports ++ report ∷ []) (after_all end (writes_of report.records)) (anchors_end slots end shape report.records)
+one-more slots nodes weighs names base end anchors shape plans reports plan report enough callers so round =
+    let is = timely_rounds_are_paid slots nodes plan.limit end shape report.records enough so.within.shape round.answers round.spent round.full in
+    let next = goes_within slots nodes (weighs + added_in reports) (names + added_in reports) end shape report.records so.within is in
+    let light = next.1.light in
+    let few = next.1.few in
+    let added = added_in-append reports (report ∷ []) in
+    record {
+      played = go-on slots nodes (after_all end (writes_of report.records)) (anchors_end slots end shape report.records) (plan ∷ []) (report ∷ []) so.played (lone callers round next.0 ends);
+      within = record { shape = next.1.shape; light = omega (arith, light, added); few = omega (arith, few, added) };
+      map_is = ap (λ (m : Map). after_all m (writes_of report.records)) so.map_is ∙ sym (map_end-push base reports report);
+      shape_is = (λ k. anchors_end slots (so.map_is k) (so.shape_is k) report.records) ∙ sym (shape_end-push slots base anchors reports report);
+    }
 
 -- one more of a list of plans
-pub one-more-at : (slots nodes : ℕ) (base end end' : Map) (anchors shape shape' : Anchors) (all : List RoundPlan) (i : ℕ) (plan : RoundPlan) (reports reports' : List RoundReport)
-    (report : RoundReport) → GoOn slots nodes base anchors (take i all) reports end shape → i < length all → plan ≡ get_or all i plan →
+pub one-more-at : (slots nodes weighs names : ℕ) (base end end' : Map) (anchors shape shape' : Anchors) (all : List RoundPlan) (i : ℕ) (plan : RoundPlan) (reports reports' : List RoundReport)
+    (report : RoundReport) → 2 ≤ slots → AreLoneCalls plan.ops → SoFar slots nodes weighs names base anchors (take i all) reports end shape → i < length all → plan ≡ get_or all i plan →
     IsPlayedRound slots nodes end shape plan report (writes_of report.records) → end' ≡ after_all end (writes_of report.records) → shape' ≡ anchors_end slots end shape report.records →
-    reports' ≡ reports ++ report ∷ [] → GoOn slots nodes base anchors (take (i + 1) all) reports' end' shape'
-one-more-at slots nodes base end end' anchors shape shape' all i plan reports reports' report on less is round map_left shape_left told =
+    reports' ≡ reports ++ report ∷ [] → SoFar slots nodes weighs names base anchors (take (i + 1) all) reports' end' shape'
+one-more-at slots nodes weighs names base end end' anchors shape shape' all i plan reports reports' report enough callers so less is round map_left shape_left told =
     let longer : take (i + 1) all ≡ take i all ++ plan ∷ [] = take_more all i plan less ∙ ap (λ p. take i all ++ p ∷ []) (sym is) in
-    subst (λ (ps : List RoundPlan). GoOn slots nodes base anchors ps reports' end' shape') (sym longer)
-    (subst (λ (rs : List RoundReport). GoOn slots nodes base anchors (take i all ++ plan ∷ []) rs end' shape') (sym told)
-    (subst (λ (m : Map). GoOn slots nodes base anchors (take i all ++ plan ∷ []) (reports ++ report ∷ []) m shape') (sym map_left)
-    (subst (λ (a : Anchors). GoOn slots nodes base anchors (take i all ++ plan ∷ []) (reports ++ report ∷ []) (after_all end (writes_of report.records)) a) (sym shape_left)
-    (one-more slots nodes base end anchors shape (take i all) reports plan report on round))))
+    subst (λ (ps : List RoundPlan). SoFar slots nodes weighs names base anchors ps reports' end' shape') (sym longer)
+    (subst (λ (rs : List RoundReport). SoFar slots nodes weighs names base anchors (take i all ++ plan ∷ []) rs end' shape') (sym told)
+    (subst (λ (m : Map). SoFar slots nodes weighs names base anchors (take i all ++ plan ∷ []) (reports ++ report ∷ []) m shape') (sym map_left)
+    (subst (λ (a : Anchors). SoFar slots nodes weighs names base anchors (take i all ++ plan ∷ []) (reports ++ report ∷ []) (after_all end (writes_of report.records)) a) (sym shape_left)
+    (one-more slots nodes weighs names base end anchors shape (take i all) reports plan report enough callers so round))))
 
 -- all of a list of plans
-pub all-played : (slots nodes : ℕ) (base end : Map) (anchors shape : Anchors) (all plans : List RoundPlan) (i : ℕ) (reports told : List RoundReport) →
-    GoOn slots nodes base anchors (take i all) reports end shape → length all ≤ i → all ≡ plans → told ≡ reports → ArePlayedRounds slots nodes base anchors plans told
-all-played slots nodes base end anchors shape all plans i reports told on done same is =
-    let whole : take i all ++ [] ≡ plans = append-nil (take i all) ∙ take_all i all done ∙ same in
-    let each : reports ++ [] ≡ told = append-nil reports ∙ sym is in
-    subst (λ (ps : List RoundPlan). ArePlayedRounds slots nodes base anchors ps told) whole
-    (subst (λ (rs : List RoundReport). ArePlayedRounds slots nodes base anchors (take i all ++ []) rs) each (on.goes [] [] tt))
+pub all-so-far : (slots nodes weighs names : ℕ) (base end : Map) (anchors shape : Anchors) (all plans : List RoundPlan) (i : ℕ) (reports told : List RoundReport) →
+    SoFar slots nodes weighs names base anchors (take i all) reports end shape → length all ≤ i → all ≡ plans → told ≡ reports → SoFar slots nodes weighs names base anchors plans told end shape
+all-so-far slots nodes weighs names base end anchors shape all plans i reports told so done same is =
+    subst (λ (ps : List RoundPlan). SoFar slots nodes weighs names base anchors ps told end shape) (take_all i all done ∙ same)
+    (subst (λ (rs : List RoundReport). SoFar slots nodes weighs names base anchors (take i all) rs end shape) (sym is) so)
 
 -- each of the plans, as a loop over them comes to it, has calls of one caller
 pub caller-of-plan : (plans all : List RoundPlan) (i : ℕ) (plan : RoundPlan) → All (λ (p : RoundPlan). AreLoneCalls p.ops) plans → all ≡ plans → i < length all →
@@ -88,32 +210,3 @@ caller-of-plan plans all i plan callers same less is =
 pub told-of-plan : (plans : List RoundPlan) (i : ℕ) (plan : RoundPlan) → All (λ (p : RoundPlan). AreReportCalls p.ops) plans → i < length plans → plan ≡ get_or plans i plan →
     AreReportCalls plan.ops
 told-of-plan plans i plan told less is = subst (λ (p : RoundPlan). AreReportCalls p.ops) (sym is) (told i plan less)
-
--- ---- what full answers are paid for by
-
-pub rounds-paid : (slots nodes weighs names : ℕ) (base : Map) (anchors : Anchors) (plans : List RoundPlan) (reports : List RoundReport) → 2 ≤ slots →
-    IsShapeWithin slots nodes weighs names base anchors → ArePlayedRounds slots nodes base anchors plans reports → ArePaidRounds slots nodes weighs names reports
-rounds-paid slots nodes weighs names base anchors [] [] enough within played = tt
-rounds-paid slots nodes weighs names base anchors [] (report ∷ reports) enough within played = absurd played
-rounds-paid slots nodes weighs names base anchors (plan ∷ plans) [] enough within played = absurd played
-rounds-paid slots nodes weighs names base anchors (plan ∷ plans) (report ∷ reports) enough within played =
-    let round = played.0 in
-    let is = timely_rounds_are_paid slots nodes plan.limit base anchors report.records enough within.shape round.answers round.spent round.full in
-    let next = goes_within slots nodes weighs names base anchors report.records within is in (
-      next.0,
-      rounds-paid slots nodes (weighs + puts_added report.records) (names + puts_added report.records) (after_all base (writes_of report.records)) (anchors_end slots base anchors report.records) plans reports enough
-          next.1 played.1,
-    )
-
--- an empty catalogue weighs what its one member does
-pub empty-within : (slots nodes : ℕ) → 1 ≤ nodes → IsShapeWithin slots nodes (slots / 2) 0 empty ([] ∷ [])
-empty-within slots nodes some =
-    let none : len (empty {K = List ℕ} {X = ℕ} {R = name_cmp}) ≡ 0 = len-empty name_cmp ℕ in
-    let names = ap length (all-between empty) in
-    let size = len-keys empty in
-    record { shape = fresh_is_shape slots nodes empty some (omega (arith, none)); light = omega (arith, none, names, size); few = omega (arith, none) }
-
-pub paid-from-empty : (layout : Layout) (plans : List RoundPlan) (reports : List RoundReport) → IsLayout layout → ArePlayedRounds layout.slots layout.nodes empty ([] ∷ []) plans reports →
-    ArePaidFromEmpty layout.slots layout.nodes reports
-paid-from-empty layout plans reports is played =
-    rounds-paid layout.slots layout.nodes (layout.slots / 2) 0 empty ([] ∷ []) plans reports (omega (arith, is)) (empty-within layout.slots layout.nodes (omega (arith, is))) played

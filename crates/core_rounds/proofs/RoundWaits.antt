@@ -11,8 +11,8 @@ use Rattle.cat_text.specs.declared.report.RoundReport.{RoundReport}
 use Rattle.shapes.specs.Anchors.{Anchors}
 use Rattle.shapes.specs.ShapeRounds.{anchors_after, anchors_end}
 use Rattle.shapes.proofs.RoundLemmas.{after-cons}
-use Rattle.core_rounds.specs.Rounds.{map_end, shape_end}
 use Rattle.core_rounds.specs.Waiting.{changes_in, changes_made, one_change, one_put, one_write, puts_among, puts_asked, writes_among, writes_asked}
+use Rattle.core_rounds.proofs.Played.{map_end, shape_end}
 
 -- one record more
 pub changes_in-push : (slots : ℕ) (m : Map) (anchors : Anchors) (records : List Record) (r : Record) →

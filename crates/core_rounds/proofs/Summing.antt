@@ -1,28 +1,36 @@
--- The sum of the numbers of a map, as changes and the records of a round leave it.
-use Rattle.std.proofs.Common.{◌≡◌, ℕ, zero, suc, ◌+◌, ◌<◌, ◌≤◌, Bool, true, false, cond, ◌&&◌, T, Less, Equal, Greater, List, [], ◌∷◌, ◌++◌, length, take, get_or, sum_by, is_eq, refl, sym, ap, ◌∙◌, subst, arith}
-use Rattle.std.specs.Prelude.{Option, Some, None}
+-- The sum of the numbers of a map, and that of a round with small numbers is small.
+use Rattle.std.proofs.Common.{◌≡◌, ℕ, suc, ◌+◌, ◌*◌, ◌<◌, ◌≤◌, Bool, true, false, cond, ◌&&◌, T, Less, Equal, Greater, List, [], ◌∷◌, ◌++◌, length, map, drop, get_or, sum_by, is_eq, refl, sym, ap, ◌∙◌, subst, arith}
+use Rattle.std.specs.Prelude.{All, Option, Some, None, option_map}
+use Rattle.std.specs.List.{AllByRecursion, cons_option, enumerate_from}
 use Rattle.std.specs.Option.{unwrap_or}
 use Rattle.std.specs.Ordering.{is_lt, eq_by_cmp}
 use Rattle.std.specs.FinMap.{len-empty, len-entries, entries, entries_sorted, entries-insert, insert, remove, get, get-entries, get-insert, get-remove, same_map, empty}
 use Rattle.std.specs.FinMap.Entries.{put, find, below_all, is_sorted, by_order}
 use Rattle.std.specs.Cmp.{tied_itself}
 use Rattle.std.specs.Cmp.Lexicographic.{nat_list_cmp_total}
-use Rattle.std.proofs.lemmas.List.{take_more}
-use Rattle.std.proofs.lemmas.List.Sums.{fold-append, sum_by-cons}
+use Rattle.std.proofs.lemmas.List.{length-map}
+use Rattle.std.proofs.lemmas.List.Elements.{All-from_recursion, recursion_from_All}
+use Rattle.std.proofs.lemmas.List.FromFn.{length-enumerate_from}
+use Rattle.std.proofs.lemmas.List.Sorted.{All-permutation, length_permutation}
+use Rattle.std.proofs.lemmas.List.Sums.{sum_by-cons, sum_by-drop_more}
 use Rattle.std.proofs.lemmas.Map.Lookups.{exact_bytes}
 use Rattle.cat_key.specs.Names.{name_cmp}
-use Rattle.cat_history.specs.Maps.{Map, at}
+use Rattle.cat_key.specs.declared.Pair.{Pair}
+use Rattle.cat_history.specs.Maps.{Map, at, map_of}
+use Rattle.cat_history.specs.Records.{Call, call_of, change_asked, numbered, numbered_after, place_of, placed_write, placed_writes}
+use Rattle.cat_history.specs.Replays.{pairs_of}
 use Rattle.cat_history.specs.Writes.{after_all, changed}
-use Rattle.cat_history.proofs.LoneRoundLemmas.{writes_of-cons}
-use Rattle.cat_history.specs.declared.op.Write.{Write}
-use Rattle.core_rounds.proofs.LoneRoundSteps.{ends-push}
-use Rattle.cat_history.specs.LoneRounds.{write_of, writes_of, HoldsAlong, IsAnswerNow, IsLoneRound}
+use Rattle.cat_history.specs.declared.op.CallerOp.{CallerOp}
+use Rattle.cat_history.specs.declared.op.Change.{Change}
+use Rattle.cat_history.specs.declared.op.Change.TheVariants as change
 use Rattle.cat_history.specs.declared.op.Op.{Op}
 use Rattle.cat_history.specs.declared.op.Op.TheVariants.{Put, Get, Del, Scan}
+use Rattle.cat_history.specs.declared.op.Write.{Write}
+use Rattle.cat_history.specs.declared.plan.RoundPlan.{RoundPlan}
 use Rattle.cat_history.specs.declared.record.Record.{Record}
-use Rattle.cat_history.specs.declared.record.Reply.{Reply}
-use Rattle.cat_history.specs.declared.record.Reply.TheVariants.{Old, Parts, Full, Spent, Cut, Unstarted}
-use Rattle.core_rounds.specs.Summaries.{sum_of, sum_after, IsWithin}
+use Rattle.cat_text.specs.declared.report.RoundReport.{RoundReport}
+use Rattle.core_rounds.specs.Rounds.{IsRoundTo}
+use Rattle.core_rounds.specs.Summaries.{sum_of, IsWithin}
 
 abbrev Entries : Type 0
 Entries = List (List ℕ × ℕ)
@@ -123,114 +131,124 @@ sum-remove m n =
         tied : (q : List ℕ) → q ≡ n → eq_by_cmp name_cmp q n ≡ true
         tied q is = ap (λ (k : List ℕ). eq_by_cmp name_cmp k n) is ∙ ap is_eq (tied_itself nat_list_cmp_total n)
 
--- what an answered call takes from the sum is there
-pub put-takes : (m : Map) (place sum value : ℕ) (name : List ℕ) (old : Option ℕ) (at_place : ℕ) (op : Op) (reply : Reply) → sum ≡ sum_of m →
-    IsAnswerNow m place op reply → op ≡ Put name value → reply ≡ Old old at_place → unwrap_or old 0 ≤ sum + value
-put-takes m place sum value name old at_place op reply is answer asked told =
-    let told_old = (subst (λ (r : Reply). IsAnswerNow m place (Put name value) r) told (subst (λ (o : Op). IsAnswerNow m place o reply) asked answer)).0 in
-    let put = sum-insert m name value in
-    let same = ap (λ (o : Option ℕ). unwrap_or o 0) told_old in
-    omega arith
+-- ---- small sums
 
-pub del-takes : (m : Map) (place sum : ℕ) (name : List ℕ) (old : Option ℕ) (at_place : ℕ) (op : Op) (reply : Reply) → sum ≡ sum_of m →
-    IsAnswerNow m place op reply → op ≡ Del name → reply ≡ Old old at_place → unwrap_or old 0 ≤ sum
-del-takes m place sum name old at_place op reply is answer asked told =
-    let told_old = (subst (λ (r : Reply). IsAnswerNow m place (Del name) r) told (subst (λ (o : Op). IsAnswerNow m place o reply) asked answer)).0 in
-    let less = sum-remove m name in
-    let same = ap (λ (o : Option ℕ). unwrap_or o 0) told_old in
-    omega arith
+abbrev IsSmall : Change → Type 0
+IsSmall (change.Put name value) = value ≤ 100000
+IsSmall (change.Del name) = Unit {0}
 
--- the sum after a record
-pub sum-recorded : (m : Map) (place : ℕ) (r : Record) → IsAnswerNow m place r.op r.reply → sum_of (after_all m (write_of r)) ≡ sum_after (sum_of m) r.op r.reply
-sum-recorded m place r answer = by_op r.op r.reply answer where
-  told : Op → Reply → Record
-  told op reply = record { caller = r.caller; index = r.index; op = op; reply = reply }
+one-change : (m : Map) (c : Change) → IsSmall c → sum_of (changed m c) ≤ sum_of m + 100000
+one-change m (change.Put name value) small = let put = sum-insert m name value in omega (arith, put, small)
+one-change m (change.Del name) small = let less = sum-remove m name in omega (arith, less)
 
-  by_op : (op : Op) (reply : Reply) → IsAnswerNow m place op reply → sum_of (after_all m (write_of (told op reply))) ≡ sum_after (sum_of m) op reply
-  by_op (Put name value) (Old old at_place) answer =
-      let put = sum-insert m name value in
-      let same = ap (λ (o : Option ℕ). unwrap_or o 0) answer.0 in
-      omega arith
-  by_op (Get name) (Old old at_place) answer = refl
-  by_op (Del name) (Old old at_place) answer =
-      let less = sum-remove m name in
-      let same = ap (λ (o : Option ℕ). unwrap_or o 0) answer.0 in
-      omega arith
-  by_op (Scan from count) (Old old at_place) answer = refl
-  by_op (Put name value) (Parts parts cut) answer = refl
-  by_op (Get name) (Parts parts cut) answer = refl
-  by_op (Del name) (Parts parts cut) answer = refl
-  by_op (Scan from count) (Parts parts cut) answer = refl
-  by_op (Put name value) Full answer = refl
-  by_op (Get name) Full answer = refl
-  by_op (Del name) Full answer = refl
-  by_op (Scan from count) Full answer = refl
-  by_op (Put name value) (Spent clock) answer = refl
-  by_op (Get name) (Spent clock) answer = refl
-  by_op (Del name) (Spent clock) answer = refl
-  by_op (Scan from count) (Spent clock) answer = refl
-  by_op op (Cut mark) answer = absurd answer
-  by_op op Unstarted answer = absurd answer
+abbrev WritesSmall : Write → Type 0
+WritesSmall w = IsSmall w.change
 
--- and it rises by no more than a put's number
-pub rises-by-number : (sum most : ℕ) (op : Op) (reply : Reply) → IsWithin most op → sum_after sum op reply ≤ sum + most
-rises-by-number sum most (Put name value) (Old old place) within = omega arith
-rises-by-number sum most (Get name) (Old old place) within = omega arith
-rises-by-number sum most (Del name) (Old old place) within = omega arith
-rises-by-number sum most (Scan from count) (Old old place) within = omega arith
-rises-by-number sum most (Put name value) (Parts parts cut) within = omega arith
-rises-by-number sum most (Get name) (Parts parts cut) within = omega arith
-rises-by-number sum most (Del name) (Parts parts cut) within = omega arith
-rises-by-number sum most (Scan from count) (Parts parts cut) within = omega arith
-rises-by-number sum most op Full within = stays op where
-  stays : (op : Op) → sum_after sum op Full ≤ sum + most
-  stays (Put name value) = omega arith
-  stays (Get name) = omega arith
-  stays (Del name) = omega arith
-  stays (Scan from count) = omega arith
-rises-by-number sum most op (Spent clock) within = stays op where
-  stays : (op : Op) → sum_after sum op (Spent clock) ≤ sum + most
-  stays (Put name value) = omega arith
-  stays (Get name) = omega arith
-  stays (Del name) = omega arith
-  stays (Scan from count) = omega arith
-rises-by-number sum most op (Cut mark) within = stays op where
-  stays : (op : Op) → sum_after sum op (Cut mark) ≤ sum + most
-  stays (Put name value) = omega arith
-  stays (Get name) = omega arith
-  stays (Del name) = omega arith
-  stays (Scan from count) = omega arith
-rises-by-number sum most op Unstarted within = stays op where
-  stays : (op : Op) → sum_after sum op Unstarted ≤ sum + most
-  stays (Put name value) = omega arith
-  stays (Get name) = omega arith
-  stays (Del name) = omega arith
-  stays (Scan from count) = omega arith
+all-changes : (m : Map) (writes : List Write) → AllByRecursion WritesSmall writes → sum_of (after_all m writes) ≤ sum_of m + length writes * 100000
+all-changes m [] small = omega arith
+all-changes m (w ∷ writes) small =
+    let here = one-change m w.change small.0 in
+    let rest = all-changes (changed m w.change) writes small.1 in
+    omega (arith, here, rest)
 
--- what holds along records holds of each, on the map that those before it leave
-pub along-at : (P : Map → ℕ → Record → Type 0) (m : Map) (place : ℕ) (records : List Record) (i : ℕ) (r : Record) → HoldsAlong P m place records →
-    i < length records → r ≡ get_or records i r → (at_place : ℕ) × P (after_all m (writes_of (take i records))) at_place r
-along-at P m place [] i r along within is = absurd (omega (arith, within))
-along-at P m place (q ∷ records) zero r along within is = (place, subst (P m place) (sym is) along.0)
-along-at P m place (q ∷ records) (suc i) r along within is =
-    let rest = along-at P (after_all m (write_of q)) (place + length (write_of q)) records i r along.1 (omega (arith, within)) is in
-    let joined : after_all m (writes_of (q ∷ take i records)) ≡ after_all (after_all m (write_of q)) (writes_of (take i records)) =
-    ap (after_all m) (writes_of-cons q (take i records)) ∙ fold-append (λ n (w : Write). changed n w.change) m (write_of q) (writes_of (take i records)) in
-    (rest.0, subst (λ (n : Map). P n rest.0 r) (sym joined) rest.1)
+-- the calls of a round, its records, the writes that they tell, and those by place
+abbrev AsksSmall : CallerOp → Type 0
+AsksSmall a = IsWithin 100000 a.op
+
+abbrev CallsSmall : Call → Type 0
+CallsSmall c = IsWithin 100000 c.op
+
+abbrev TellsSmall : Record → Type 0
+TellsSmall r = IsWithin 100000 r.op
+
+abbrev PlacesSmall : ℕ × Write → Type 0
+PlacesSmall e = IsSmall e.1.change
+
+calls-small : (before : List ℕ) (asked : List CallerOp) → AllByRecursion AsksSmall asked → AllByRecursion CallsSmall (numbered_after before asked)
+calls-small before [] small = tt
+calls-small before (a ∷ asked) small = (small.0, calls-small (before ++ a.caller ∷ []) asked small.1)
+
+as-many-calls : (before : List ℕ) (asked : List CallerOp) → length (numbered_after before asked) ≡ length asked
+as-many-calls before [] = refl
+as-many-calls before (a ∷ asked) = ap suc (as-many-calls (before ++ a.caller ∷ []) asked)
+
+records-small : (records : List Record) → AllByRecursion CallsSmall (map call_of records) → AllByRecursion TellsSmall records
+records-small [] small = tt
+records-small (r ∷ records) small = (small.0, records-small records small.1)
+
+by-parts : (caller index : ℕ) (o : Option ℕ) (op : Op) (rest : List (ℕ × Write)) → IsWithin 100000 op → AllByRecursion PlacesSmall rest →
+    AllByRecursion PlacesSmall (cons_option (elim o [
+      | None ↦ None
+      | Some place ↦ option_map (λ c. (place, record { caller = caller; index = index; change = c })) (change_asked op)
+    ]) rest)
+by-parts caller index None op rest within small = small
+by-parts caller index (Some place) (Put name value) rest within small = (within, small)
+by-parts caller index (Some place) (Get name) rest within small = small
+by-parts caller index (Some place) (Del name) rest within small = (tt, small)
+by-parts caller index (Some place) (Scan from count) rest within small = small
+
+placed-small : (records : List Record) → AllByRecursion TellsSmall records → AllByRecursion PlacesSmall (placed_writes records)
+placed-small [] small = tt
+placed-small (r ∷ records) small = by-parts r.caller r.index (place_of r.reply) r.op (placed_writes records) small.0 (placed-small records small.1)
+
+one-at-most : (o : Option (ℕ × Write)) (rest : List (ℕ × Write)) → length (cons_option o rest) ≤ length rest + 1
+one-at-most None rest = omega arith
+one-at-most (Some e) rest = omega arith
+
+few-placed : (records : List Record) → length (placed_writes records) ≤ length records
+few-placed [] = omega arith
+few-placed (r ∷ records) =
+    let here = one-at-most (placed_write r) (placed_writes records) in
+    let rest = few-placed records in
+    omega (arith, here, rest)
+
+by-place-small : (place : ℕ) (writes : List Write) → AllByRecursion PlacesSmall (enumerate_from place writes) → AllByRecursion WritesSmall writes
+by-place-small place [] small = tt
+by-place-small place (w ∷ writes) small = (small.0, by-place-small (place + 1) writes small.1)
 
 no-entries : (es : Entries) → length es ≡ 0 → sum_in es ≡ 0
 no-entries [] none = refl
 no-entries (e ∷ es) none = absurd (omega (arith, none))
 
-pub sum-empty : 0 ≡ sum_of (empty {K = List ℕ} {X = ℕ} {R = name_cmp})
+sum-empty : 0 ≡ sum_of (empty {K = List ℕ} {X = ℕ} {R = name_cmp})
 sum-empty = sym (no-entries (entries empty) (sym (len-entries (empty {K = List ℕ} {X = ℕ} {R = name_cmp})) ∙ len-empty name_cmp ℕ))
 
--- the sum after one record more
-pub sum-more : (m : Map) (records : List Record) (i : ℕ) (r : Record) (sum sum' : ℕ) → IsLoneRound m records → i < length records → r ≡ get_or records i r →
-    sum ≡ sum_of (after_all m (writes_of (take i records))) → sum' ≡ sum_after sum r.op r.reply → sum' ≡ sum_of (after_all m (writes_of (take (i + 1) records)))
-sum-more m records i r sum sum' lone within is was now =
-    let before = after_all m (writes_of (take i records)) in
-    let answer = along-at (λ m place q. IsAnswerNow m place q.op q.reply) m 0 records i r lone within is in
-    let longer : take (i + 1) records ≡ take i records ++ r ∷ [] = take_more records i r within ∙ ap (λ (q : Record). take i records ++ q ∷ []) (sym is) in
-    now ∙ ap (λ (n : ℕ). sum_after n r.op r.reply) was ∙ sym (sum-recorded before answer.0 r answer.1)
-    ∙ ap sum_of (ends-push m before (after_all before (write_of r)) (take i records) r refl refl ∙ ap (λ (rs : List Record). after_all m (writes_of rs)) (sym longer))
+-- the numbers of few puts, each of which is small
+pub sum-small : (plan : RoundPlan) (report : RoundReport) (end : Map) → IsRoundTo empty plan report end → All (λ (a : CallerOp). IsWithin 100000 a.op) plan.ops → length plan.ops ≤ 100000 →
+    sum_of end ≤ 100000 * 100000
+sum-small plan report end round within few =
+    let legal = round.legal.legal in
+    let records = report.records in
+    let writes = round.writes in
+    let calls = All-from_recursion CallsSmall (numbered plan.ops) (calls-small [] plan.ops (recursion_from_All AsksSmall plan.ops within)) in
+    let told = recursion_from_All CallsSmall (map call_of records) (All-permutation CallsSmall (numbered plan.ops) (map call_of records) legal.each_call calls) in
+    let placed = All-from_recursion PlacesSmall (placed_writes records) (placed-small records (records-small records told)) in
+    let small = by-place-small 0 writes (recursion_from_All PlacesSmall (enumerate_from 0 writes) (All-permutation PlacesSmall (placed_writes records) (enumerate_from 0 writes) legal.by_place placed)) in
+    let many = length_permutation (numbered plan.ops) (map call_of records) legal.each_call in
+    let each = length-map records call_of in
+    let asked = as-many-calls [] plan.ops in
+    let places = length_permutation (placed_writes records) (enumerate_from 0 writes) legal.by_place in
+    let numbers = length-enumerate_from 0 writes in
+    let fewer = few-placed records in
+    let sum = all-changes empty writes small in
+    let none = sum-empty in
+    let leaves = ap sum_of round.legal.leaves in
+    omega (arith, few, many, each, asked, places, numbers, fewer, sum, none, leaves)
+
+sum-pairs : (es : Entries) → sum_by (λ (p : Pair). p.value) (map (λ (e : List ℕ × ℕ). record { name = e.0; value = e.1 }) es) ≡ sum_in es
+sum-pairs [] = refl
+sum-pairs (e ∷ es) =
+    let rest = sum-pairs es in
+    let one = sum_by-cons value_in e es in
+    let pair = sum_by-cons (λ (p : Pair). p.value) (record { name = e.0; value = e.1 }) (map (λ (e : List ℕ × ℕ). record { name = e.0; value = e.1 }) es) in
+    omega (arith, rest, one, pair)
+
+-- the pairs of a map have its sum
+pub pairs-sum : (pairs : List Pair) → pairs ≡ pairs_of (map_of pairs) → sum_by (λ (p : Pair). p.value) pairs ≡ sum_of (map_of pairs)
+pairs-sum pairs is = ap (sum_by (λ (p : Pair). p.value)) is ∙ sum-pairs (entries (map_of pairs))
+
+-- one pair fewer is to come
+pub pairs-to-come : (pairs : List Pair) (i : ℕ) (pair : Pair) → i < length pairs → pair ≡ get_or pairs i pair →
+    sum_by (λ (p : Pair). p.value) (drop i pairs) ≡ pair.value + sum_by (λ (p : Pair). p.value) (drop (i + 1) pairs)
+pairs-to-come pairs i pair less is =
+    sum_by-drop_more (λ (p : Pair). p.value) pairs i pair less ∙ ap (λ (p : Pair). p.value + sum_by (λ (p : Pair). p.value) (drop (i + 1) pairs)) (sym is)

@@ -1,12 +1,19 @@
 -- What calls on an index leave to the updater.
-use Rattle.std.proofs.Common.{◌≡◌, ℕ, ◌+◌, ◌<◌, ◌≤◌, ◌⊎◌, ⊎_elim, false, List, length, refl, sym, ap, ◌∙◌, subst, arith}
+use Rattle.std.proofs.Common.{◌≡◌, ℕ, zero, suc, ◌+◌, ◌*◌, ◌<◌, ◌≤◌, ◌==◌, ◌⊎◌, ⊎_elim, inl, inr, Bool, false, cond, List, length, refl, sym, ap, ◌∙◌, subst, arith}
+use Rattle.std.proofs.lemmas.Bool.{cases_eq}
 use Rattle.pm_words.specs.declared.layout.Layout.{Layout}
 use Rattle.shapes.specs.Anchors.{Anchors, merges}
 use Rattle.data_node.specs.Lists.{ListNode}
 use Rattle.call_stages.specs.declared.once.Placed.{Placed}
 use Rattle.index_law.specs.Anchors.{anchors_in, anchors_of}
 use Rattle.lone_law.specs.Merging.{NextIsWorn}
-use Rattle.lone_turn.specs.CallLogs.{empty_lines, ready_lines}
+use Rattle.index_law.specs.Worlds.{World}
+use Rattle.lone_turn.specs.CallLogs.{KeepsLines, MakesReady, empty_lines, is_own_empty}
+use Rattle.lone_turn.specs.LoneTurns.{line_state}
+use Rattle.lone_turn.proofs.ReadyCounts.{empty_are_counted, ready_are_counted}
+use Rattle.turn_law.specs.Covers.{empty_state, ready_state}
+use Rattle.turn_law.proofs.Columns.{other}
+use Rattle.updater.specs.Events.{how_many}
 use Rattle.index_core.specs.CoreCalls.{most_writes}
 use Rattle.index_core.specs.Indexes.{Index, IsIndex, map_of_index, world}
 use Rattle.index_core.specs.Lone.{HasSameList, IsQuiet, LeavesList, MergesFor, MergesNothing, NeedsNoTurn, RunsAlone, SplitsFor, SplitsNothing, taken_nodes}
@@ -14,30 +21,29 @@ use Rattle.index_core.specs.declared.party.CoreCall.{CoreCall}
 use Rattle.index_core.specs.declared.party.CoreCall.TheVariants as call
 use Rattle.index_core.specs.declared.party.Whole.{Whole}
 use Rattle.index_core.specs.declared.party.Whole.TheVariants as whole
-use Rattle.index_core.proofs.Logs.{log_is_counted, room_needs_no_turn}
+use Rattle.index_core.proofs.Logs.{room_needs_no_turn}
 use Rattle.index_core.proofs.Taken.{del_length, put_length}
 use Rattle.core_rounds.specs.CoreMaps.{Waits, calls_left_of, changes_for, puts_for}
 use Rattle.core_rounds.specs.Waiting.{one_if}
 use Rattle.core_rounds.proofs.CoreMaps.{locks_remain, next_unworn}
 
 -- a call for which there is room needs no turn
-needs_none : (s : Index) (c : CoreCall) (changes writes puts : ℕ) → IsIndex s → IsQuiet s → 0 < calls_left_of s → Waits s changes (writes + most_writes c) (puts + puts_for c) → NeedsNoTurn 0 c s
-needs_none s (call.Put name value limit) changes writes puts is quiet left waits =
-    let lines = waits.lines in
+needs_none : (caller : ℕ) (s : Index) (c : CoreCall) (changes writes puts : ℕ) → caller < s.layout.callers → IsIndex s → IsQuiet s → 0 < calls_left_of s →
+    Waits s changes (writes + most_writes c) (puts + puts_for c) → NeedsNoTurn caller c s
+needs_none caller s (call.Put name value limit) changes writes puts here is quiet left waits =
+    let lines = waits.lines caller here in
     let nodes = waits.nodes in
     let four = locks_remain s left in
-    let callers = is.lawful.row.layout.callers in
-    room_needs_no_turn s 0 (call.Put name value limit) is quiet (omega arith) (omega arith) (omega arith) (omega arith)
-needs_none s (call.Del name limit) changes writes puts is quiet left waits =
-    let lines = waits.lines in
+    room_needs_no_turn s caller (call.Put name value limit) is quiet (omega arith) (omega arith) (omega arith) (omega arith)
+needs_none caller s (call.Del name limit) changes writes puts here is quiet left waits =
+    let lines = waits.lines caller here in
     let nodes = waits.nodes in
     let four = locks_remain s left in
-    let callers = is.lawful.row.layout.callers in
-    room_needs_no_turn s 0 (call.Del name limit) is quiet (omega arith) (omega arith) (omega arith) (omega arith)
-needs_none s (call.Get name) changes writes puts is quiet left waits = tt
-needs_none s (call.Part low count) changes writes puts is quiet left waits = tt
-needs_none s (call.Recheck node version) changes writes puts is quiet left waits = tt
-needs_none s (call.Turn stamp release) changes writes puts is quiet left waits = tt
+    room_needs_no_turn s caller (call.Del name limit) is quiet (omega arith) (omega arith) (omega arith) (omega arith)
+needs_none caller s (call.Get name) changes writes puts here is quiet left waits = tt
+needs_none caller s (call.Part low count) changes writes puts here is quiet left waits = tt
+needs_none caller s (call.Recheck node version) changes writes puts here is quiet left waits = tt
+needs_none caller s (call.Turn stamp release) changes writes puts here is quiet left waits = tt
 
 -- puts split, and puts and deletes alone change the shape
 split_is_put : (s new : Index) (c : CoreCall) → SplitsFor c s new → 1 ≤ puts_for c
@@ -82,33 +88,67 @@ merge_is_other s new (call.Part low count) same merge = merge
 merge_is_other s new (call.Recheck node version) same merge = merge
 merge_is_other s new (call.Turn stamp release) same merge = merge
 
+-- a caller whose line is made READY has one EMPTY line fewer, and any other as many as it had
+count_same : (test then : ℕ → Bool) (n : ℕ) → ((k : ℕ) → k < n → then k ≡ test k) → how_many then n ≡ how_many test n
+count_same test then zero same = refl
+count_same test then (suc n) same =
+    let before : how_many then n ≡ how_many test n = count_same test then n (λ k small. same k (omega arith)) in
+    let last : then n ≡ test n = same n (omega arith) in
+    λ k. cond (last k) (before k + 1) (before k)
+
+one-fewer : (caller of : ℕ) (w0 w : World) → MakesReady caller w0 w → empty_lines of w0 ≤ empty_lines of w + 1
+one-fewer caller of w0 w made = elim (cases_eq of caller) [
+  | inl own ↦
+      let fewer = (empty_are_counted of w0 w).1 (subst (λ (k : ℕ). MakesReady k w0 w) (sym own) made) in
+      omega (arith, fewer)
+  | inr other_one ↦
+      let line = made.own in
+      let same = count_same (is_own_empty of w0) (is_own_empty of w) 8
+      (λ k small. ap (λ (state : ℕ). state == empty_state)
+      (ap (λ (state : ℕ → ℕ). state (8 * of + k)) made.is ∙ other (line_state w0) made.line (8 * of + k) ready_state (λ is. other_one (omega (arith, is, line, small))))) in
+      omega (arith, same)
+]
+
 -- what a call leaves that changes the shape so often
-module _ (s new : Index) (c : CoreCall) (r : Whole) (is : IsIndex s) (quiet : IsQuiet s) (left : 0 < calls_left_of s) (runs : RunsAlone s 0 c new r) where
+module _ (caller : ℕ) (s new : Index) (c : CoreCall) (r : Whole) (here : caller < s.layout.callers) (is : IsIndex s) (quiet : IsQuiet s) (left : 0 < calls_left_of s) (runs : RunsAlone s caller c new r) where
   leaves : (changes writes puts more : ℕ) → (HasSameList s new → more ≡ changes) → (SplitsFor c s new ⊎ MergesFor c s new → more ≡ changes + 1) →
       Waits s changes (writes + most_writes c) (puts + puts_for c) → Waits new more writes puts
   leaves changes writes puts more kept_so changed_so waits =
-      let needs = needs_none s c changes writes puts is quiet left waits in
+      let needs = needs_none caller s c changes writes puts here is quiet left waits in
       let ready = waits.ready in
-      let lines = waits.lines in
       let nodes = waits.nodes in
       let same_nodes : new.layout.nodes ≡ s.layout.nodes = ap (λ (l : Layout). l.nodes) runs.layout in
+      let same_callers : new.layout.callers ≡ s.layout.callers = ap (λ (l : Layout). l.callers) runs.layout in
       let taken : taken_nodes new ≤ taken_nodes s + puts_for c = ⊎_elim
       (λ (same : taken_nodes new ≡ taken_nodes s). omega arith)
       (λ (cut : SplitsFor c s new × (taken_nodes new ≡ taken_nodes s + 1)). let put = split_is_put s new c cut.0 in let one = cut.1 in omega arith)
       (runs.log needs).taken in
       let room : taken_nodes new + puts < new.layout.nodes = omega arith in
+      let counted = ready_are_counted caller (world s) (world new) runs.layout in
       ⊎_elim
-      (λ (kept : HasSameList s new × (ready_lines (world new) ≡ ready_lines (world s)) × (empty_lines 0 (world new) ≡ empty_lines 0 (world s))).
-      let same_lines = kept.2 in
-      record { ready = kept.1 ∙ ready ∙ sym (kept_so kept.0); lines = omega arith; nodes = room })
-      (λ (made : (SplitsFor c s new ⊎ MergesFor c s new) × (ready_lines (world new) ≡ ready_lines (world s) + 1) × (empty_lines 0 (world new) + 1 ≡ empty_lines 0 (world s))).
-      let fewer = made.2 in
+      (λ (kept : HasSameList s new × KeepsLines (world s) (world new)).
+      record {
+        ready = counted.0 kept.1 ∙ ready ∙ sym (kept_so kept.0);
+        lines = λ of there.
+            (let lines = waits.lines of (omega (arith, there, same_callers)) in
+            let same = (empty_are_counted of (world s) (world new)).0 kept.1 in
+            omega (arith, lines, same));
+        nodes = room;
+      })
+      (λ (made : (SplitsFor c s new ⊎ MergesFor c s new) × MakesReady caller (world s) (world new)).
       let write = change_is_write s new c made.0 in
-      record { ready = made.1 ∙ ap (λ (n : ℕ). n + 1) ready ∙ sym (changed_so made.0); lines = omega arith; nodes = room })
-      (log_is_counted s 0 c new r runs needs)
+      record {
+        ready = counted.1 made.1 ∙ ap (λ (n : ℕ). n + 1) ready ∙ sym (changed_so made.0);
+        lines = λ of there.
+            (let lines = waits.lines of (omega (arith, there, same_callers)) in
+            let fewer = one-fewer caller of (world s) (world new) made.1 in
+            omega (arith, lines, fewer, write));
+        nodes = room;
+      })
+      (runs.log needs).lines
 
   -- one that left the list
-  pub waits_kept : HasSameList s new → (changes writes puts : ℕ) → Waits s changes (writes + most_writes c) (puts + puts_for c) → Waits new changes writes puts
+  waits_kept : HasSameList s new → (changes writes puts : ℕ) → Waits s changes (writes + most_writes c) (puts + puts_for c) → Waits new changes writes puts
   waits_kept same changes writes puts =
       leaves changes writes puts changes (λ _. refl) (λ changed. absurd (⊎_elim (cut_is_other s new c same) (merge_is_other s new c same) changed))
 
@@ -146,36 +186,38 @@ kept_counts s new c placed is left list same = ⊎_elim
     (λ (changed : SplitsFor c s new ⊎ MergesFor c s new). absurd (⊎_elim (cut_is_other s new c same) (merge_is_other s new c same) changed))
     list
 
-pub waits_placed : (s new : Index) (c : CoreCall) (r : Whole) (placed : Placed) → IsIndex s → IsQuiet s → 0 < calls_left_of s → r ≡ whole.Placed placed → RunsAlone s 0 c new r → (changes writes puts : ℕ) →
-    Waits s changes (writes + most_writes c) (puts + puts_for c) → Waits new (changes + changes_for s c) writes puts
-waits_placed s new c r placed is quiet left answered runs changes writes puts =
-    let run : RunsAlone s 0 c new (whole.Placed placed) = subst (RunsAlone s 0 c new) answered runs in
-    leaves s new c (whole.Placed placed) is quiet left run changes writes puts (changes + changes_for s c)
+pub waits_placed : (caller : ℕ) (s new : Index) (c : CoreCall) (r : Whole) (placed : Placed) → caller < s.layout.callers → IsIndex s → IsQuiet s → 0 < calls_left_of s → r ≡ whole.Placed placed →
+    RunsAlone s caller c new r → (changes writes puts : ℕ) → Waits s changes (writes + most_writes c) (puts + puts_for c) → Waits new (changes + changes_for s c) writes puts
+waits_placed caller s new c r placed here is quiet left answered runs changes writes puts =
+    let run : RunsAlone s caller c new (whole.Placed placed) = subst (RunsAlone s caller c new) answered runs in
+    leaves caller s new c (whole.Placed placed) here is quiet left run changes writes puts (changes + changes_for s c)
     (λ same. let none = kept_counts s new c placed is left run.list same in omega (arith, none))
     (λ changed. ap (λ (n : ℕ). changes + n) (⊎_elim (split_counts s new c) (merge_counts s new c) changed))
 
 -- and one that found no room
-pub waits_full : (s new : Index) (c : CoreCall) (r : Whole) → IsIndex s → IsQuiet s → 0 < calls_left_of s → r ≡ whole.Full → RunsAlone s 0 c new r → (changes writes puts : ℕ) →
-    Waits s changes (writes + most_writes c) (puts + puts_for c) → Waits new changes writes puts
-waits_full s new c r is quiet left answered runs =
-    let run : RunsAlone s 0 c new whole.Full = subst (RunsAlone s 0 c new) answered runs in
-    waits_kept s new c whole.Full is quiet left run run.list
+pub waits_full : (caller : ℕ) (s new : Index) (c : CoreCall) (r : Whole) → caller < s.layout.callers → IsIndex s → IsQuiet s → 0 < calls_left_of s → r ≡ whole.Full → RunsAlone s caller c new r →
+    (changes writes puts : ℕ) → Waits s changes (writes + most_writes c) (puts + puts_for c) → Waits new changes writes puts
+waits_full caller s new c r here is quiet left answered runs =
+    let run : RunsAlone s caller c new whole.Full = subst (RunsAlone s caller c new) answered runs in
+    waits_kept caller s new c whole.Full here is quiet left run run.list
 
 -- a part of a scan changes nothing
-pub waits_listed : (s new : Index) (low : List ℕ) (count : ℕ) (r : Whole) → IsIndex s → IsQuiet s → 0 < calls_left_of s → RunsAlone s 0 (call.Part low count) new r → (changes writes puts : ℕ) →
-    Waits s changes writes puts → Waits new changes writes puts
-waits_listed s new low count r is quiet left runs changes writes puts waits =
-    let lines = waits.lines in
+pub waits_listed : (caller : ℕ) (s new : Index) (low : List ℕ) (count : ℕ) (r : Whole) → caller < s.layout.callers → IsIndex s → IsQuiet s → 0 < calls_left_of s →
+    RunsAlone s caller (call.Part low count) new r → (changes writes puts : ℕ) → Waits s changes writes puts → Waits new changes writes puts
+waits_listed caller s new low count r here is quiet left runs changes writes puts waits =
     let nodes = waits.nodes in
-    leaves s new (call.Part low count) r is quiet left runs changes writes puts changes (λ _. refl) (λ changed. absurd (⊎_elim (λ (none : ⊥). none) (λ (none : ⊥). none) changed))
-    (record { ready = waits.ready; lines = omega arith; nodes = omega arith })
+    leaves caller s new (call.Part low count) r here is quiet left runs changes writes puts changes (λ _. refl)
+    (λ changed. absurd (⊎_elim (λ (none : ⊥). none) (λ (none : ⊥). none) changed))
+    (record { ready = waits.ready; lines = λ of there. (let lines = waits.lines of there in omega (arith, lines)); nodes = omega (arith, nodes) })
 
 -- nothing more
 pub no_more : (s : Index) {changes writes puts : ℕ} → Waits s changes writes puts → Waits s changes (writes + 0) (puts + 0)
-no_more s waits = let lines = waits.lines in let nodes = waits.nodes in record { ready = waits.ready; lines = omega arith; nodes = omega arith }
+no_more s waits =
+    let nodes = waits.nodes in
+    record { ready = waits.ready; lines = λ of there. (let lines = waits.lines of there in omega (arith, lines)); nodes = omega (arith, nodes) }
 
 pub no_put_more : (s : Index) {changes writes puts : ℕ} → Waits s changes writes puts → Waits s changes writes (puts + 0)
-no_put_more s waits = let nodes = waits.nodes in record { ready = waits.ready; lines = waits.lines; nodes = omega arith }
+no_put_more s waits = let nodes = waits.nodes in record { ready = waits.ready; lines = waits.lines; nodes = omega (arith, nodes) }
 
 pub none_changed : (s : Index) {changes writes puts : ℕ} → Waits s (changes + 0) writes puts → Waits s changes writes puts
-none_changed s waits = let ready = waits.ready in record { ready = omega arith; lines = waits.lines; nodes = waits.nodes }
+none_changed s waits = let ready = waits.ready in record { ready = omega (arith, ready); lines = waits.lines; nodes = waits.nodes }

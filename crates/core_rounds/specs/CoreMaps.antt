@@ -1,7 +1,7 @@
 -- The index, called by one caller with no other call in flight, as a map of names.
-use Rattle.std.specs.Prelude.{◌≡◌, ℕ, suc, ◌+◌, ◌-◌, ◌*◌, ◌/◌, ◌%◌, ◌^◌, ◌<◌, ◌≤◌, ◌==◌, ◌⊎◌, min, length}
+use Rattle.std.specs.Prelude.{◌≡◌, ℕ, ◌+◌, ◌-◌, ◌*◌, ◌/◌, ◌%◌, ◌^◌, ◌<◌, ◌≤◌, ◌==◌, ◌⊎◌, min, length}
 use Rattle.std.specs.FinMap.{len}
-use Rattle.pm_words.specs.Images.{Row, fresh_words}
+use Rattle.pm_words.specs.Images.{Row}
 use Rattle.pm_words.specs.Locations.{Line, word_at}
 use Rattle.pm_words.specs.Rows.{cached_row}
 use Rattle.pm_words.specs.declared.layout.Layout.{Layout}
@@ -11,8 +11,6 @@ use Rattle.sound_image.specs.Rules.{header_generation}
 use Rattle.sound_image.specs.Sound.{IsMapOf, image_map}
 use Rattle.sound_image.specs.Weights.{image_weight}
 use Rattle.sound_layer.specs.Sound.{IsSoundByAll}
-use Rattle.version_lock.specs.Versions.{IsGeneration}
-use Rattle.version_lock.specs.declared.TheConstants.{LAST_COUNT}
 use Rattle.index_law.specs.Anchors.{anchors_in, image_anchors}
 use Rattle.lone_turn.specs.CallLogs.{empty_lines, ready_lines}
 use Rattle.lone_turn.specs.LoneTurns.{line_state}
@@ -23,6 +21,8 @@ use Rattle.index_core.specs.declared.party.CoreCall.TheVariants as call
 use Rattle.index_core.specs.Indexes.{Index, IsIndex, map_of_index, world}
 use Rattle.index_core.specs.Lone.{IsQuiet, locks_left, taken_nodes}
 use Rattle.index_core.specs.Fulls.{HasLowStamps}
+use Rattle.index_core.specs.Weights.{weight_of}
+use Rattle.recovery.specs.Opened.{IsOpenedFrom}
 use Rattle.core_rounds.specs.Waiting.{one_if}
 
 -- How many more calls it can have: each takes four locks of each node at most.
@@ -71,11 +71,11 @@ changes_for s (call.Part low count) = 0
 changes_for s (call.Recheck node version) = 0
 changes_for s (call.Turn stamp release) = 0
 
--- So many log lines are READY, each of which waits for the updater. So many more puts and deletes of the first caller, of
--- which so many are puts, have an EMPTY line and a FREE node each.
+-- So many log lines are READY, each of which waits for the updater. So many more puts and deletes of each caller, of which
+-- so many are puts, have an EMPTY line and a FREE node each.
 pub record Waits (s : Index) (changes writes puts : ℕ) : Type 0 where
   pub ready : ready_lines (world s) ≡ changes
-  pub lines : writes ≤ empty_lines 0 (world s)
+  pub lines : (caller : ℕ) → caller < s.layout.callers → writes ≤ empty_lines caller (world s)
   pub nodes : taken_nodes s + puts < s.layout.nodes
 
 -- Between two calls none is in flight, no node has a stamp that turns don't release, and the names are counted.
@@ -90,37 +90,28 @@ pub record IsOfRun (l : Layout) (number : ℕ) (s : Index) : Type 0 where
   pub layout : s.layout ≡ l
   pub generation : s.generation ≡ number
 
-abbrev pub fresh_image : Layout → Row
-fresh_image l = record { layout = l; words = fresh_words l }
-
--- The numbers of the run that opens this image: its layout, and its next generation.
-pub record IsNextRun (image : Row) (l : Layout) (number : ℕ) : Type 0 where
-  pub layout : l ≡ image.layout
-  pub generation : number ≡ suc (header_generation image.layout image.words)
-
--- The map that a sound image opens as which has a next generation: with the names, the shape and the weight of the
--- image, all its calls left, and room for so many writes. No line waits, and the first caller's eight are EMPTY; all
--- nodes but those of the list are FREE.
-pub record IsOpenedMap (image : Row) (writes : ℕ) (s : Index) : Type 0 where
-  pub sound : IsSoundByAll image.layout image.words
-  pub next : IsGeneration (suc (header_generation image.layout image.words))
-  pub layout : s.layout ≡ image.layout
-  pub keeps : IsMapOf image.layout image.words (image_map image.layout image.words)
-  pub contents : map_of_index s ≡ image_map image.layout image.words
-  pub anchors : anchors_in (world s) ≡ image_anchors image.layout image.words
-  pub within : IsShapeWithin image.layout.slots image.layout.nodes (image_weight image.layout image.words)
-      (len (image_map image.layout image.words)) (image_map image.layout image.words)
-      (image_anchors image.layout image.words)
-  pub calls_left : calls_left_of s ≡ LAST_COUNT / 4
-  pub writes_left : writes ≤ writes_left_of s
-  pub waits : (lines puts : ℕ) → lines ≤ 8 →
-      length (image_anchors image.layout image.words) + puts < image.layout.nodes → Waits s 0 lines puts
-
 -- Each of its log lines is EMPTY, and so none waits for a turn.
 abbrev pub HasNoLines : Index → Type 0
 HasNoLines s = (j : ℕ) → line_state (world s) j ≡ empty_state
 
--- So it is of the image.
+-- What is known of an index that an image was opened as, before anything is done with it: the names, the shape and the
+-- weight of the image. Its base has each name once. No line waits, and the first caller's eight are EMPTY; all nodes but those of the list are FREE.
+pub record IsOpenedMap (image : Row) (s : Index) : Type 0 where
+  pub contents : map_of_index s ≡ image_map image.layout image.words
+  pub anchors : anchors_in (world s) ≡ image_anchors image.layout image.words
+  pub weighs : weight_of s ≡ image_weight image.layout image.words
+  pub keeps : IsMapOf image.layout image.words (image_map image.layout image.words)
+  pub counted : length s.base ≡ len (map_of_index s)
+  pub within : IsShapeWithin s.layout.slots s.layout.nodes (weight_of s) (len (map_of_index s)) (map_of_index s)
+      (anchors_in (world s))
+  pub lines : HasNoLines s
+  pub waits : (lines puts : ℕ) → lines ≤ 8 →
+      length (image_anchors image.layout image.words) + puts < image.layout.nodes → Waits s 0 lines puts
+
+abbrev pub OpenedIsMap : Type 0
+OpenedIsMap = (image : Row) (s : Index) → IsOpenedFrom image s → IsOpenedMap image s
+
+-- So it is of an image.
 abbrev pub ImageHasNoLines : Row → Type 0
 ImageHasNoLines image = (c j : ℕ) → c < image.layout.callers → j < 8 →
     word_at image.layout image.words (Line c j 0) ≡ empty_state

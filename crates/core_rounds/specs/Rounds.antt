@@ -1,6 +1,7 @@
--- What a round of one caller comes to, and what such rounds do, one after another.
-use Rattle.std.specs.Prelude.{◌≡◌, ℕ, ◌+◌, ◌/◌, ◌%◌, ◌<◌, false, List, [], ◌∷◌, All, length, map, take}
+-- What a round of one caller comes to, and one of several, and what rounds do, one after another.
+use Rattle.std.specs.Prelude.{◌≡◌, ℕ, ◌+◌, ◌%◌, ◌<◌, ◌≤◌, false, List, [], ◌∷◌, ◌++◌, All, length, map, take}
 use Rattle.std.specs.FinMap.{len}
+use Rattle.cat_history.specs.CrashEnds.{after_changes}
 use Rattle.cat_history.specs.Maps.{Map}
 use Rattle.cat_history.specs.Writes.{after_all}
 use Rattle.cat_history.specs.LoneRounds.{writes_of, IsLoneRound, IsSpentExactly}
@@ -12,7 +13,9 @@ use Rattle.cat_history.specs.declared.record.Record.{Record}
 use Rattle.cat_text.specs.declared.report.RoundReport.{RoundReport}
 use Rattle.shapes.specs.Anchors.{Anchors}
 use Rattle.shapes.specs.Runs.{opening, IsFullInTime}
-use Rattle.shapes.specs.ShapeRounds.{anchors_end, puts_added, FullIsPaid, IsBoundedByShape}
+use Rattle.shapes.specs.ShapeRounds.{anchors_end, puts_added, FullIsPaid, IsBoundedByShape, IsShapeWithin}
+use Rattle.caller_rounds.specs.Apart.{AreApart, TookPlace, changes_asked}
+use Rattle.core_rounds.specs.LoneCalls.{AreLoneCalls}
 
 -- A legal round of the plan's calls under the plan's limit, from the base map and shape, joined and reported: each call
 -- answered on the map as the earlier ones left it, its records in the order of the script, `spent` exactly where a put
@@ -63,29 +66,79 @@ RoundsEndWithTurn [] = ⊥
 RoundsEndWithTurn (plan ∷ []) = EndsWithTurn plan
 RoundsEndWithTurn (plan ∷ next ∷ plans) = RoundsEndWithTurn (next ∷ plans)
 
+-- ---- rounds of several callers
+
+-- A legal round of the plan's calls under the plan's limit, by several callers at once, from the base map on, joined and
+-- reported: with these writes, in the order of their places. Each full answer is paid for by so much weight and so many
+-- names, and the puts of the round that added a name. At its end the report has the number of placed writes and of
+-- names. Where calls of different callers are about different names, and each took place, the map is that of the calls
+-- in the order of the script.
+pub record IsCrowdRound (slots nodes weighs names : ℕ) (base : Map) (plan : RoundPlan) (report : RoundReport)
+    (writes : List Write) : Type 0 where
+  pub legal : IsJoinedRound base (numbered plan.ops) plan.limit report.records writes (after_all base writes)
+  pub paid : All (FullIsPaid slots nodes (weighs + puts_added report.records) (names + puts_added report.records))
+      report.records
+  pub apart : AreApart plan.ops → All (λ r. TookPlace r.reply) report.records →
+      after_all base writes ≡ after_changes base (changes_asked plan.ops)
+  pub joined : report.crashed ≡ false
+  pub placed : report.writes ≡ length writes
+  pub names_are : report.names ≡ len (after_all base writes)
+
 -- ---- rounds, one after another
 
--- Each round of the plan is played and reported, the first on the base and its shape, and each later one on the map and
--- the shape that the calls of the one before it made of them. In each there can be as many members as nodes.
-abbrev pub ArePlayedRounds : ℕ → ℕ → Map → Anchors → List RoundPlan → List RoundReport → Type 0
-ArePlayedRounds slots nodes base anchors [] [] = Unit {0}
-ArePlayedRounds slots nodes base anchors [] (report ∷ reports) = ⊥
-ArePlayedRounds slots nodes base anchors (plan ∷ plans) [] = ⊥
-ArePlayedRounds slots nodes base anchors (plan ∷ plans) (report ∷ reports) =
-    IsPlayedRound slots nodes base anchors plan report (writes_of report.records) ×
-    ArePlayedRounds slots nodes (after_all base (writes_of report.records))
-    (anchors_end slots base anchors report.records) plans reports
+-- Rounds of these plans were played and reported, each on the map and the shape that the one before it left, the first
+-- on this map and these anchors; at the end the map and the anchors are those. The members have so many slots each, and
+-- there can be as many members as nodes. The first two numbers are what the opening weighed and how many names it had,
+-- each with the puts since then that added a name: they pay for each full answer.
+--
+-- Behind a round in which one caller at most has calls, the shape is what its calls made of the one before. Behind any
+-- other round it has the names of the map that the round left, and no more weight than is paid for.
+pub data ArePlayed (slots nodes : ℕ) : ℕ → ℕ → Map → Anchors → List RoundPlan → List RoundReport → Map → Anchors →
+    Type 0 where
+  ends : {weighs names : ℕ} {base : Map} {anchors : Anchors} →
+      ArePlayed slots nodes weighs names base anchors [] [] base anchors
+  lone : {weighs names : ℕ} {base end : Map} {anchors shape : Anchors} {plan : RoundPlan} {report : RoundReport}
+      {plans : List RoundPlan} {reports : List RoundReport} →
+      AreLoneCalls plan.ops →
+      IsPlayedRound slots nodes base anchors plan report (writes_of report.records) →
+      All (FullIsPaid slots nodes (weighs + puts_added report.records) (names + puts_added report.records))
+      report.records →
+      ArePlayed slots nodes (weighs + puts_added report.records) (names + puts_added report.records)
+      (after_all base (writes_of report.records)) (anchors_end slots base anchors report.records) plans reports end
+      shape →
+      ArePlayed slots nodes weighs names base anchors (plan ∷ plans) (report ∷ reports) end shape
+  crowd : {weighs names : ℕ} {base end : Map} {anchors shape : Anchors} {plan : RoundPlan} {report : RoundReport}
+      {plans : List RoundPlan} {reports : List RoundReport} →
+      ¬ AreLoneCalls plan.ops →
+      (writes : List Write) → IsCrowdRound slots nodes weighs names base plan report writes →
+      (next : Anchors) →
+      IsShapeWithin slots nodes (weighs + puts_added report.records) (names + puts_added report.records)
+      (after_all base writes) next →
+      ArePlayed slots nodes (weighs + puts_added report.records) (names + puts_added report.records)
+      (after_all base writes) next plans reports end shape →
+      ArePlayed slots nodes weighs names base anchors (plan ∷ plans) (report ∷ reports) end shape
 
--- The map once the writes of all these rounds are done on the base, in their order,
-abbrev pub map_end : Map → List RoundReport → Map
-map_end base [] = base
-map_end base (report ∷ reports) = map_end (after_all base (writes_of report.records)) reports
+-- How many puts added a name in all these rounds.
+abbrev pub added_in : List RoundReport → ℕ
+added_in [] = 0
+added_in (report ∷ reports) = puts_added report.records + added_in reports
 
--- and the shape that follows the last one.
-abbrev pub shape_end : ℕ → Map → Anchors → List RoundReport → Anchors
-shape_end slots base anchors [] = anchors
-shape_end slots base anchors (report ∷ reports) =
-    shape_end slots (after_all base (writes_of report.records)) (anchors_end slots base anchors report.records) reports
+-- ---- laws
+
+-- Rounds that go on where others ended are played behind them.
+abbrev pub RoundsGoOn : Type 0
+RoundsGoOn = (slots nodes weighs names : ℕ) (base mid end : Map) (anchors between shape : Anchors)
+    (plans later : List RoundPlan) (reports more : List RoundReport) →
+    ArePlayed slots nodes weighs names base anchors plans reports mid between →
+    ArePlayed slots nodes (weighs + added_in reports) (names + added_in reports) mid between later more end shape →
+    ArePlayed slots nodes weighs names base anchors (plans ++ later) (reports ++ more) end shape
+
+-- With more weight and more names at the opening all is paid for, too.
+abbrev pub MorePays : Type 0
+MorePays = (slots nodes weighs names weighs' names' : ℕ) (base end : Map) (anchors shape : Anchors)
+    (plans : List RoundPlan) (reports : List RoundReport) → weighs ≤ weighs' → names ≤ names' →
+    ArePlayed slots nodes weighs names base anchors plans reports end shape →
+    ArePlayed slots nodes weighs' names' base anchors plans reports end shape
 
 -- In each round a call is answered full only where all nodes are paid for by the weight at the opening, and the slots
 -- of one by the names then, together with the puts since then, up to the end of that round, that added a name.
@@ -95,6 +148,26 @@ ArePaidRounds slots nodes weighs names (report ∷ reports) =
     All (FullIsPaid slots nodes (weighs + puts_added report.records) (names + puts_added report.records)) report.records
     × ArePaidRounds slots nodes (weighs + puts_added report.records) (names + puts_added report.records) reports
 
--- The same from an empty catalogue: its one member weighs half as many as a node has slots.
-abbrev pub ArePaidFromEmpty : ℕ → ℕ → List RoundReport → Type 0
-ArePaidFromEmpty slots nodes reports = ArePaidRounds slots nodes (slots / 2) 0 reports
+abbrev pub PlayedArePaid : Type 0
+PlayedArePaid = (slots nodes weighs names : ℕ) (base end : Map) (anchors shape : Anchors) (plans : List RoundPlan)
+    (reports : List RoundReport) → ArePlayed slots nodes weighs names base anchors plans reports end shape →
+    ArePaidRounds slots nodes weighs names reports
+
+-- There are as many reports as plans.
+abbrev pub EachIsReported : Type 0
+EachIsReported = (slots nodes weighs names : ℕ) (base end : Map) (anchors shape : Anchors) (plans : List RoundPlan)
+    (reports : List RoundReport) → ArePlayed slots nodes weighs names base anchors plans reports end shape →
+    length reports ≡ length plans
+
+-- A legal round of the plan's calls, whoever makes them, that was joined and leaves this map.
+pub record IsRoundTo (base : Map) (plan : RoundPlan) (report : RoundReport) (end : Map) : Type 0 where
+  pub writes : List Write
+  pub legal : IsJoinedRound base (numbered plan.ops) plan.limit report.records writes end
+  pub names_are : report.names ≡ len end
+
+-- The only round is such a one.
+abbrev pub OnlyRoundIsLegal : Type 0
+OnlyRoundIsLegal = (slots nodes weighs names : ℕ) (base end : Map) (anchors shape : Anchors) (plan : RoundPlan)
+    (report : RoundReport) →
+    ArePlayed slots nodes weighs names base anchors (plan ∷ []) (report ∷ []) end shape →
+    IsRoundTo base plan report end

@@ -1,8 +1,7 @@
 -- What a round of one caller comes to in numbers.
-use Rattle.std.specs.Prelude.{ℕ, ◌+◌, ◌-◌, ◌≤◌, Bool, true, false, List, length, count_by}
+use Rattle.std.specs.Prelude.{ℕ, ◌≤◌, Bool, true, false, List, length, count_by}
 use Rattle.std.specs.FinMap.{entries, len}
 use Rattle.std.specs.List.{sum_by}
-use Rattle.std.specs.Option.{unwrap_or}
 use Rattle.cat_history.specs.Maps.{Map}
 use Rattle.cat_history.specs.declared.op.CallerOp.{CallerOp}
 use Rattle.cat_history.specs.declared.op.Op.{Op}
@@ -50,13 +49,6 @@ summary_of asked records end = record {
   sum = sum_of end;
   full = full_in records;
 }
-
--- The sum of the numbers of a map once a call is done on it, if the sum was this one before it: a put puts its number
--- in the place of the old one, a delete takes that away.
-abbrev pub sum_after : ℕ → Op → Reply → ℕ
-sum_after sum (Put name value) (Old old place) = sum + value - unwrap_or old 0
-sum_after sum (Del name) (Old old place) = sum - unwrap_or old 0
-sum_after sum op reply = sum
 
 -- The number of a put is no greater than this.
 abbrev pub IsWithin : ℕ → Op → Type 0

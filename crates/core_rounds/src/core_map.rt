@@ -1,25 +1,22 @@
-//! The core of the index as a map of names: each call is a whole call of one caller, with no other in flight.
+//! The core of the index as a map of names: each call is a whole call of its caller, with no other in flight.
 
-ghost use Rattle.std.specs.Prelude.{◌≡◌, ℕ, ◌+◌, ◌/◌, ◌^◌, ◌<◌, ◌≤◌, ◌↔◌, [], ◌∷◌, IfOk, OnOk, OnErr, IsErr};
-ghost use Rattle.std.specs.Prelude.{MatchResult};
-ghost use Rattle.std.specs.FinMap.{empty};
+ghost use Rattle.std.specs.Prelude.{◌≡◌, ℕ, ◌+◌, ◌<◌, ◌≤◌, ◌↔◌, IfOk, OnOk, OnErr, IsErr};
 ghost use Rattle.cat_history.specs.Maps.{at};
 ghost use Rattle.cat_history.specs.Records.{as_op, change_of};
 ghost use Rattle.call_stages.specs.Stages.{pended};
-ghost use Rattle.pm_words.specs.Layouts.{IsLayout};
-ghost use Rattle.version_lock.specs.declared.TheConstants.{LAST_COUNT};
+ghost use Rattle.pm_words.specs.Images.{Row};
 ghost use Rattle.node_ops.specs.Asked.{name_asked};
 ghost use Rattle.index_core.specs.CoreCalls.{most_writes, op_of};
 ghost use Rattle.index_core.specs.Indexes.{IsIndex, map_of_index, world};
 ghost use Rattle.index_core.specs.Listings.{ListsRange};
 ghost use Rattle.index_core.specs.Fulls.{HasLowStamps};
 ghost use Rattle.index_core.specs.Lone.{IsQuiet};
+ghost use Rattle.index_core.specs.Weights.{added_if, weight_of};
 ghost use Rattle.index_law.specs.Anchors.{anchors_in};
 ghost use Rattle.shapes.specs.Anchors.{next_of};
 ghost use Rattle.shapes.specs.ShapeRounds.{PutsFull};
-ghost use Rattle.recovery.specs.Opened.{IsOpenFault};
-ghost use Rattle.recovery.specs.declared.opening.OpenFault.TheVariants.{NoMemory as OutOfMemory};
-ghost use Rattle.core_rounds.specs.CoreMaps.{IsImageOf, IsNextRun, IsOfRun, IsOpenedMap, IsUnlimited};
+ghost use Rattle.recovery.specs.Opened.{IsOpenedFrom};
+ghost use Rattle.core_rounds.specs.CoreMaps.{IsImageOf, IsOfRun, IsUnlimited};
 ghost use Rattle.core_rounds.specs.CoreMaps.{Waits, anchors_made, calls_left_of, changes_for, puts_for, writes_left_of};
 
 use crate::updated_map::UpdatedMap;
@@ -28,15 +25,11 @@ use cat_history::{Listed, NoMemory};
 use cat_key::Name;
 use index_core::{Core, CoreCall, listed_pairs};
 use node_ops::PartWords;
-use pm_words::{Image, Layout, Steps};
-use recovery::{OpenFault, recover};
+use pm_words::{Image, Steps};
 use shapes::{Full, MapPart};
 use std::alloc::Global;
 use std::marker::{Brand, Model, PhantomData};
 use std::sync::ledger::Ledger;
-
-/// The caller that makes the calls.
-const CALLER: u64 = 0;
 
 /// The stamp that turns of the updater give to merged nodes, and the greatest that they release.
 const STAMP: u64 = 1;
@@ -82,74 +75,45 @@ impl<L: Ledger, K: RunOf> Model for CoreMap<L, K> {
 }
 
 impl<L: Ledger, K: RunOf> CoreMap<L, K> {
-    /// A map without names, that can have so many puts and removals: that of a fresh image, in its next generation.
-    pub fn new(
-        alloc: Global,
-        layout: Layout,
-        writes: u64,
-        steps: Steps<L>,
-    ) -> Result<CoreMap<L, K>, NoMemory>
-        requires layout { IsLayout layout }
-        requires writes { writes ≤ 2 ^ 62 }
-        requires run { (K.layout ≡ layout) × (K.generation ≡ 2) }
-        ensures empty { IfOk result (λ map. map_of_index map ≡ empty) }
-        ensures anchors { IfOk result (λ map. anchors_in (world map) ≡ [] ∷ []) }
-        ensures slots { IfOk result (λ map. map.layout.slots ≡ layout.slots) }
-        ensures most { IfOk result (λ map. map.layout.nodes ≡ layout.nodes) }
-        ensures calls_left { IfOk result (λ map. calls_left_of map ≡ LAST_COUNT / 4) }
-        ensures writes_left { IfOk result (λ map. writes ≤ writes_left_of map) }
+    /// The map of a core that an image was opened as, in which its calls are counted.
+    pub(crate) fn of_core(core: Core, steps: Steps<L>) -> CoreMap<L, K>
+        requires opened { (image : Row) × IsOpenedFrom image core }
+        requires run { IsOfRun K.layout K.generation core }
+        ensures { result ≡ core }
     {
-        let image = Image::fresh(alloc, layout)?;
-        match CoreMap::opened(alloc, image, writes, steps) {
-            Ok(map) => Ok(map),
-            Err(fault) => Err(fresh_fault(fault)),
-        }
-    }
-
-    /// The map that an image keeps, that can have so many puts and removals. It is that of the image's next generation.
-    pub fn opened(
-        alloc: Global,
-        image: Image,
-        writes: u64,
-        steps: Steps<L>,
-    ) -> Result<CoreMap<L, K>, OpenFault>
-        requires writes { writes ≤ 2 ^ 62 }
-        requires run { IsNextRun image K.layout K.generation }
-        ensures opened { MatchResult result (IsOpenedMap image writes) (IsOpenFault image) }
-    {
-        let mut core = recover(alloc, image)?;
-        core.reserve(writes)?;
         let names = core.base().as_slice().len() as u64;
-        Ok(CoreMap {
+        CoreMap {
             core,
             names,
             steps,
             run: PhantomData,
-        })
+        }
     }
 
-    /// The image of the index as it is.
-    pub fn image(&self, alloc: Global) -> Result<Image, NoMemory>
-        ensures image { IfOk result (IsImageOf self.now) }
-        ensures run { IsOfRun K.layout K.generation self.now }
+    /// The core as calls left it.
+    pub(crate) fn into_core(self) -> Core
+        ensures core { result ≡ self }
+        ensures index { IsIndex result }
+        ensures quiet { IsQuiet result }
+        ensures run { IsOfRun K.layout K.generation result }
     {
-        self.core.image(alloc)
+        self.core
     }
 }
 
-/// Why a fresh image isn't opened, which is sound, and has a next generation.
-fn fresh_fault(fault: OpenFault) -> NoMemory
-    requires { fault ≡ OutOfMemory }
+/// The image of a core with no call in flight.
+pub fn image_of(alloc: Global, core: &Core) -> Result<Image, NoMemory>
+    requires index { IsIndex core.now }
+    requires quiet { IsQuiet core.now }
+    ensures { IfOk result (IsImageOf core.now) }
 {
-    match fault {
-        OpenFault::NoMemory => NoMemory,
-        OpenFault::Damaged { .. } | OpenFault::Generations => unreachable!(),
-    }
+    core.image(alloc)
 }
 
 impl<L: Ledger, K: RunOf> UpdatedMap for CoreMap<L, K> {
     ghost use Rattle.index_core.specs.Indexes.{map_of_index, world};
     ghost use Rattle.index_law.specs.Anchors.{anchors_in};
+    ghost use Rattle.index_core.specs.Weights.{weight_of};
     ghost use Rattle.core_rounds.specs.CoreMaps.{HasNoLines, Waits, calls_left_of, writes_left_of};
 
     ghost contents = { map_of_index };
@@ -160,6 +124,8 @@ impl<L: Ledger, K: RunOf> UpdatedMap for CoreMap<L, K> {
 
     ghost most = { λ map. map.layout.nodes };
 
+    ghost callers = { λ map. map.layout.callers };
+
     ghost calls_left = { calls_left_of };
 
     ghost writes_left = { writes_left_of };
@@ -168,46 +134,54 @@ impl<L: Ledger, K: RunOf> UpdatedMap for CoreMap<L, K> {
 
     ghost waits = { Waits };
 
+    ghost weighs = { weight_of };
+
     fn has_shape(&self) {
         // Its fields have what is known of it.
         let _names = self.names;
     }
 
-    fn get(&mut self, name: &Name) -> Option<u64> {
+    fn get(&mut self, caller: u64, name: &Name) -> Option<u64> {
         let call = CoreCall::Get { name: *name };
-        match call_alone(&mut self.core, call, &mut self.steps) {
+        match call_alone(&mut self.core, caller, call, &mut self.steps) {
             Ok(old) => old,
             Err(Full) => unreachable!(),
         }
     }
 
-    fn part(&mut self, alloc: Global, low: &Name, count: u64) -> Result<MapPart, NoMemory> {
-        let words = list_alone(&mut self.core, low, count, &mut self.steps);
+    fn part(
+        &mut self,
+        alloc: Global,
+        caller: u64,
+        low: &Name,
+        count: u64,
+    ) -> Result<MapPart, NoMemory> {
+        let words = list_alone(&mut self.core, caller, low, count, &mut self.steps);
         Ok(MapPart {
             high: words.high,
             pairs: Listed::of(listed_pairs(alloc, &words)?),
         })
     }
 
-    fn put(&mut self, name: &Name, value: u64) -> Result<Option<u64>, Full> {
+    fn put(&mut self, caller: u64, name: &Name, value: u64) -> Result<Option<u64>, Full> {
         let call = CoreCall::Put {
             name: *name,
             value,
             limit: LIMIT,
         };
-        let old = call_alone(&mut self.core, call, &mut self.steps)?;
+        let old = call_alone(&mut self.core, caller, call, &mut self.steps)?;
         if old.is_none() {
             self.names += 1;
         }
         Ok(old)
     }
 
-    fn del(&mut self, name: &Name) -> Option<u64> {
+    fn del(&mut self, caller: u64, name: &Name) -> Option<u64> {
         let call = CoreCall::Del {
             name: *name,
             limit: LIMIT,
         };
-        match call_alone(&mut self.core, call, &mut self.steps) {
+        match call_alone(&mut self.core, caller, call, &mut self.steps) {
             Ok(old) => {
                 if old.is_some() {
                     self.names -= 1;
@@ -232,12 +206,14 @@ impl<L: Ledger, K: RunOf> UpdatedMap for CoreMap<L, K> {
 /// the shape, and then nothing changes; else the answer is the number that the name had.
 fn call_alone<L: Ledger>(
     core: &mut Core,
+    caller: u64,
     call: CoreCall,
     steps: &mut Steps<L>,
 ) -> Result<Option<u64>, Full>
     requires index { IsIndex core.old }
     requires quiet { IsQuiet core.old }
     requires stamps { HasLowStamps core.old }
+    requires caller { caller < core.old.layout.callers }
     requires unlimited { IsUnlimited call }
     requires calls_left { 0 < calls_left_of core.old }
     requires writes_left { most_writes call ≤ writes_left_of core.old }
@@ -252,6 +228,8 @@ fn call_alone<L: Ledger>(
     ensures generation { core.new.generation ≡ core.old.generation }
     ensures calls_left { calls_left_of core.old ≤ calls_left_of core.new + 1 }
     ensures writes_left { writes_left_of core.old ≤ writes_left_of core.new + most_writes call }
+    ensures weighs { IfOk result (λ old. weight_of core.new ≤ weight_of core.old + added_if (op_of call) old) }
+    ensures err_weighs { OnErr result (weight_of core.new ≤ weight_of core.old) }
     ensures waits { OnOk result ((changes writes puts : ℕ) →
         Waits core.old changes (writes + most_writes call) (puts + puts_for call) →
         Waits core.new (changes + changes_for core.old call) writes puts) }
@@ -262,7 +240,7 @@ fn call_alone<L: Ledger>(
     ensures stamps { HasLowStamps core.old → HasLowStamps core.new }
     ensures index { IsIndex core.new }
 {
-    match core.name_alone(CALLER, call, steps) {
+    match core.name_alone(caller, call, steps) {
         Once::Done(placed) => Ok(placed.old),
         // A call that is alone is turned back for want of room only.
         Once::Again(_) => Err(Full),
@@ -273,9 +251,16 @@ fn call_alone<L: Ledger>(
 
 /// A whole part of a scan on an index that has calls left, with no call in flight: it lists the first names from the low
 /// one on, so many at most, of those that belong to its member.
-fn list_alone<L: Ledger>(core: &mut Core, low: &Name, count: u64, steps: &mut Steps<L>) -> PartWords
+fn list_alone<L: Ledger>(
+    core: &mut Core,
+    caller: u64,
+    low: &Name,
+    count: u64,
+    steps: &mut Steps<L>,
+) -> PartWords
     requires index { IsIndex core.old }
     requires quiet { IsQuiet core.old }
+    requires caller { caller < core.old.layout.callers }
     requires calls_left { 0 < calls_left_of core.old }
     ensures high { result.high ≡ next_of (anchors_in (world core.old)) low.now }
     ensures lists { ListsRange (map_of_index core.old) low.now count result }
@@ -285,13 +270,14 @@ fn list_alone<L: Ledger>(core: &mut Core, low: &Name, count: u64, steps: &mut St
     ensures generation { core.new.generation ≡ core.old.generation }
     ensures calls_left { calls_left_of core.old ≤ calls_left_of core.new + 1 }
     ensures writes_left { writes_left_of core.old ≤ writes_left_of core.new }
+    ensures weighs { weight_of core.new ≤ weight_of core.old }
     ensures waits { (changes writes puts : ℕ) → Waits core.old changes writes puts →
         Waits core.new changes writes puts }
     ensures quiet { IsQuiet core.new }
     ensures stamps { HasLowStamps core.old → HasLowStamps core.new }
     ensures index { IsIndex core.new }
 {
-    match core.part_alone(CALLER, *low, count, steps) {
+    match core.part_alone(caller, *low, count, steps) {
         Once::Done(words) => words,
         // There is a lock left.
         Once::Spent { .. } | Once::Worn { .. } | Once::Again(_) => unreachable!(),

@@ -1,18 +1,21 @@
-//! Plays rounds of calls on the index.
+//! Plays rounds of one caller on the index, and says what rounds come to, those of several callers among them.
 //!
-//! `CoreMap` is the index as a map of names, each call of which is a whole call of one caller with no other in flight.
-//! A round is the calls of one caller, answered in their order, with turns of the updater among them; rounds are played
-//! one after another, and a round is summed up.
+//! `CoreMap` is the index as a map of names, each call of which is a whole call of its caller with no other in flight. A
+//! round of one caller is its calls, answered in their order, with turns of the updater among them; such rounds are played
+//! one after another. A core is opened for them, of a fresh image or of its own, and a round is summed up.
 #![tactic(auto)]
 
 mod core_map;
+pub mod laws;
+mod opening;
 mod playing;
 mod round;
 mod summary;
 mod updated_map;
 
-pub use core_map::{CoreMap, RunOf};
-pub use playing::{calls_in, play_plans, play_rounds};
+pub use core_map::{CoreMap, RunOf, image_of};
+pub use opening::{open_fresh, reopen};
+pub use playing::{LoneRounds, calls_in, crowds, is_crowd, play_lone};
 pub use round::run_lone_round;
 pub use summary::summarize;
 pub use updated_map::UpdatedMap;

@@ -1,86 +1,138 @@
-//! Playing rounds on the index, one after another.
+//! Playing rounds of one caller on the index, one after another.
 
-ghost use Rattle.std.specs.Prelude.{◌≡◌, ℕ, ◌+◌, ◌*◌, ◌<◌, ◌≤◌, [], ◌∷◌, All, IfOk};
-ghost use Rattle.std.specs.FinMap.{empty};
-ghost use Rattle.pm_words.specs.Layouts.{IsLayout};
+ghost use Rattle.std.specs.Prelude.{◌≡◌, ℕ, ◌+◌, ◌*◌, ◌<◌, ◌≤◌, All, IfOk, IsTrue};
+ghost use Rattle.std.specs.FinMap.{len};
+ghost use Rattle.pm_words.specs.Images.{Row};
 ghost use Rattle.cat_text.specs.ReportGrammar.{IsReportRound};
-ghost use Rattle.core_rounds.specs.LoneCalls.{AreLoneCalls, AreReportCalls, calls_in};
-ghost use Rattle.core_rounds.specs.Rounds.{ArePaidFromEmpty, ArePlayedRounds, RoundsEndWithTurn, map_end, shape_end};
+ghost use Rattle.recovery.specs.Opened.{IsOpenedFrom};
+ghost use Rattle.index_law.specs.Anchors.{anchors_in};
+ghost use Rattle.index_core.specs.Indexes.{IsIndex, map_of_index, world};
+ghost use Rattle.index_core.specs.Lone.{IsQuiet};
+ghost use Rattle.index_core.specs.Weights.{weight_of};
+ghost use Rattle.core_rounds.specs.CoreMaps.{HasNoLines, IsOfRun, Waits};
+ghost use Rattle.core_rounds.specs.LoneCalls.{AreLoneCalls, AreLoneRounds, AreReportCalls, calls_in, crowds};
+ghost use Rattle.core_rounds.specs.LoneCalls.{has_other, is_crowd};
+ghost use Rattle.core_rounds.specs.Rounds.{ArePlayed, RoundsEndWithTurn, added_in};
 ghost use Rattle.core_rounds.specs.Waiting.{HaveNoTurns, changes_made, puts_asked, writes_asked};
 
 use crate::core_map::{CoreMap, RunOf};
 use crate::round::run_lone_round;
 use crate::updated_map::UpdatedMap;
-use cat_history::{NoMemory, RoundPlan};
-use cat_text::Report;
-use pm_words::{Layout, Steps};
+use cat_history::{CallerOp, NoMemory, RoundPlan};
+use cat_text::RoundReport;
+use index_core::Core;
+use pm_words::Steps;
 use std::alloc::Global;
 use std::marker::Brand;
 use std::sync::ledger::{Blank, Ledger};
 
-/// Plays rounds of one caller each, one after another, from an empty catalogue of this layout.
-pub fn play_plans(alloc: Global, layout: &Layout, plans: &[RoundPlan]) -> Result<Report, NoMemory>
-    requires layout { IsLayout layout.now }
-    requires callers { All (λ plan. AreLoneCalls plan.ops) plans.now }
-    requires told { All (λ plan. AreReportCalls plan.ops) plans.now }
-    requires calls { calls_in plans.now ≤ 100000 }
-    ensures played { IfOk result (ArePlayedRounds layout.now.slots layout.now.nodes empty ([] ∷ []) plans.now) }
-    ensures paid { IfOk result (ArePaidFromEmpty layout.now.slots layout.now.nodes) }
-    ensures report { IfOk result (All IsReportRound) }
-{
-    play_on_core::<Brand, Brand>(alloc, layout, plans, Blank::new(1))
+/// Rounds of one caller each that were played: what is reported of each, and the core that they leave.
+#[derive(Drop)]
+pub struct LoneRounds {
+    pub reports: Vec<RoundReport>,
+    pub core: Core,
 }
 
-/// The same, with a ledger for the steps of the calls, which nobody reads.
+/// Plays rounds of one caller each, one after another, on a core that an image was opened as, with nothing done with it
+/// since. Memory that runs out is the only refusal.
+pub fn play_lone(alloc: Global, core: Core, plans: &[RoundPlan]) -> Result<LoneRounds, NoMemory>
+    requires opened { (image : Row) × IsOpenedFrom image core }
+    requires lone { AreLoneRounds plans.now }
+    requires callers { All (λ plan. All (λ a. a.caller < core.layout.callers) plan.ops) plans.now }
+    requires told { All (λ plan. AreReportCalls plan.ops) plans.now }
+    requires calls { calls_in plans.now ≤ 100000 }
+    ensures played { IfOk result (λ done. ArePlayed core.layout.slots core.layout.nodes (weight_of core)
+        (len (map_of_index core)) (map_of_index core) (anchors_in (world core)) plans.now done.reports.items
+        (map_of_index done.core) (anchors_in (world done.core))) }
+    ensures report { IfOk result (λ done. All IsReportRound done.reports.items) }
+    ensures weighs { IfOk result (λ done. weight_of done.core ≤ weight_of core + added_in done.reports.items) }
+    ensures names { IfOk result (λ done. len (map_of_index done.core) ≤ len (map_of_index core) +
+        added_in done.reports.items) }
+    ensures layout { IfOk result (λ done. done.core.layout ≡ core.layout) }
+    ensures generation { IfOk result (λ done. done.core.generation ≡ core.generation) }
+    ensures index { IfOk result (λ done. IsIndex done.core) }
+    ensures quiet { IfOk result (λ done. IsQuiet done.core) }
+    ensures settled { IfOk result (λ done. RoundsEndWithTurn plans.now → HasNoLines done.core) }
+    ensures waits { IfOk result (λ done. HaveNoTurns plans.now → (changes lines puts : ℕ) →
+        Waits core changes (lines + writes_asked plans.now) (puts + puts_asked plans.now) →
+        Waits done.core (changes + changes_made core.layout.slots (map_of_index core) (anchors_in (world core))
+        done.reports.items) lines puts) }
+{
+    play_on_core::<Brand, Brand>(alloc, core, plans, Blank::new(1))
+}
+
+/// The same, with a ledger for the steps of the calls, which nobody reads, and the numbers of the run.
 fn play_on_core<L: Ledger, K: RunOf>(
     alloc: Global,
-    layout: &Layout,
+    core: Core,
     plans: &[RoundPlan],
     blank: Blank,
-) -> Result<Report, NoMemory>
-    requires layout { IsLayout layout.now }
-    requires callers { All (λ plan. AreLoneCalls plan.ops) plans.now }
+) -> Result<LoneRounds, NoMemory>
+    requires opened { (image : Row) × IsOpenedFrom image core }
+    requires lone { AreLoneRounds plans.now }
+    requires callers { All (λ plan. All (λ a. a.caller < core.layout.callers) plan.ops) plans.now }
     requires told { All (λ plan. AreReportCalls plan.ops) plans.now }
     requires calls { calls_in plans.now ≤ 100000 }
     requires name { blank.name ≡ L.name }
     requires parts { (blank.parts ≡ L.parts) × (0 < L.parts) }
-    requires run { (K.layout ≡ layout.now) × (K.generation ≡ 2) }
-    ensures played { IfOk result (ArePlayedRounds layout.now.slots layout.now.nodes empty ([] ∷ []) plans.now) }
-    ensures report { IfOk result (All IsReportRound) }
+    requires run { IsOfRun K.layout K.generation core }
+    ensures played { IfOk result (λ done. ArePlayed core.layout.slots core.layout.nodes (weight_of core)
+        (len (map_of_index core)) (map_of_index core) (anchors_in (world core)) plans.now done.reports.items
+        (map_of_index done.core) (anchors_in (world done.core))) }
+    ensures report { IfOk result (λ done. All IsReportRound done.reports.items) }
+    ensures weighs { IfOk result (λ done. weight_of done.core ≤ weight_of core + added_in done.reports.items) }
+    ensures names { IfOk result (λ done. len (map_of_index done.core) ≤ len (map_of_index core) +
+        added_in done.reports.items) }
+    ensures run { IfOk result (λ done. IsOfRun K.layout K.generation done.core) }
+    ensures index { IfOk result (λ done. IsIndex done.core) }
+    ensures quiet { IfOk result (λ done. IsQuiet done.core) }
+    ensures settled { IfOk result (λ done. RoundsEndWithTurn plans.now → HasNoLines done.core) }
+    ensures waits { IfOk result (λ done. HaveNoTurns plans.now → (changes lines puts : ℕ) →
+        Waits core changes (lines + writes_asked plans.now) (puts + puts_asked plans.now) →
+        Waits done.core (changes + changes_made core.layout.slots (map_of_index core) (anchors_in (world core))
+        done.reports.items) lines puts) }
 {
+    let mut core = core;
+    core.reserve(calls_in(plans))?;
     let (book, share) = blank.open::<L>();
     let steps = Steps::new(book, share);
-    let mut map = CoreMap::<L, K>::new(alloc, *layout, calls_in(plans), steps)?;
-    play_rounds(alloc, &mut map, plans)
+    let mut map = CoreMap::<L, K>::of_core(core, steps);
+    let reports = play_on_map(alloc, &mut map, plans)?;
+    Ok(LoneRounds {
+        reports,
+        core: map.into_core(),
+    })
 }
 
 /// Plays the rounds, one after another, on a map that has calls left for all of them.
-pub fn play_rounds<M: UpdatedMap>(
+fn play_on_map<M: UpdatedMap>(
     alloc: Global,
     map: &mut M,
     plans: &[RoundPlan],
-) -> Result<Report, NoMemory>
-    requires callers { All (λ plan. AreLoneCalls plan.ops) plans.now }
+) -> Result<Vec<RoundReport>, NoMemory>
+    requires lone { AreLoneRounds plans.now }
+    requires callers { All (λ plan. All (λ a. a.caller < M.callers map.old) plan.ops) plans.now }
     requires told { All (λ plan. AreReportCalls plan.ops) plans.now }
     requires calls { calls_in plans.now * M.most map.old ≤ M.calls_left map.old }
     requires writes { calls_in plans.now ≤ M.writes_left map.old }
-    ensures played { IfOk result (ArePlayedRounds (M.slots map.old) (M.most map.old) (M.contents map.old)
-        (M.anchors map.old) plans.now) }
-    ensures contents { IfOk result (λ reports. M.contents map.new ≡ map_end (M.contents map.old) reports) }
-    ensures anchors { IfOk result (λ reports. M.anchors map.new ≡ shape_end (M.slots map.old) (M.contents map.old)
-        (M.anchors map.old) reports) }
+    ensures played { IfOk result (λ reports. ArePlayed (M.slots map.old) (M.most map.old) (M.weighs map.old)
+        (len (M.contents map.old)) (M.contents map.old) (M.anchors map.old) plans.now reports.items (M.contents map.new)
+        (M.anchors map.new)) }
+    ensures report { IfOk result (λ reports. All IsReportRound reports.items) }
+    ensures weighs { IfOk result (λ reports. M.weighs map.new ≤ M.weighs map.old + added_in reports.items) }
+    ensures names { IfOk result (λ reports. len (M.contents map.new) ≤ len (M.contents map.old) + added_in reports.items) }
     ensures settled { IfOk result (λ _. RoundsEndWithTurn plans.now → M.is_settled map.new) }
     ensures waits { IfOk result (λ reports. HaveNoTurns plans.now → (changes writes puts : ℕ) →
         M.waits map.old changes (writes + writes_asked plans.now) (puts + puts_asked plans.now) →
-        M.waits map.new (changes + changes_made (M.slots map.old) (M.contents map.old) (M.anchors map.old) reports)
+        M.waits map.new (changes + changes_made (M.slots map.old) (M.contents map.old) (M.anchors map.old) reports.items)
         writes puts) }
-    ensures report { IfOk result (All IsReportRound) }
 {
+    map.has_shape();
     let mut rounds = Vec::with_capacity(alloc, plans.len())?;
     for plan in plans {
         rounds.push(run_lone_round(alloc, map, plan)?)?;
     }
-    Ok(Report::of(rounds))
+    Ok(rounds)
 }
 
 /// How many calls the rounds have in all.
@@ -93,4 +145,40 @@ pub fn calls_in(plans: &[RoundPlan]) -> u64
         calls += plan.ops.as_slice().len() as u64;
     }
     calls
+}
+
+/// How many of the rounds have calls of several callers.
+pub fn crowds(plans: &[RoundPlan]) -> u64
+    requires { calls_in plans.now ≤ 100000 }
+    ensures { result ≡ crowds plans.now }
+{
+    let mut crowds = 0;
+    for plan in plans {
+        if is_crowd(plan.ops.as_slice()) {
+            crowds += 1;
+        }
+    }
+    crowds
+}
+
+/// Whether several callers have calls.
+pub fn is_crowd(asked: &[CallerOp]) -> bool
+    ensures { result ≡ is_crowd asked.now }
+{
+    match asked.first() {
+        Some(first) => has_other(first.caller, asked),
+        None => false,
+    }
+}
+
+/// Whether some call is of another caller than this one.
+fn has_other(caller: u64, asked: &[CallerOp]) -> bool
+    ensures { result ≡ has_other caller asked.now }
+{
+    for call in asked {
+        if call.caller != caller {
+            return true;
+        }
+    }
+    false
 }

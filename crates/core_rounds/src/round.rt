@@ -11,6 +11,7 @@ ghost use Rattle.cat_text.specs.ReportGrammar.{IsReportPart, IsReportReply, IsRe
 ghost use Rattle.shapes.specs.Anchors.{next_of, past};
 ghost use Rattle.shapes.specs.Laws.{IsScanByShape};
 ghost use Rattle.shapes.specs.ShapeRounds.{anchors_after, anchors_end, EndsWithMembers, PutsFull};
+ghost use Rattle.shapes.specs.ShapeRounds.{one_added, puts_added};
 ghost use Rattle.core_rounds.specs.LoneCalls.{AreLoneCalls, AreReportCalls, IsLeftBy};
 ghost use Rattle.core_rounds.specs.Rounds.{EndsWithTurn, IsPlayedRound, IsTurnDue, StopsWithin};
 ghost use Rattle.core_rounds.specs.Waiting.{changes_in, one_change, one_put, one_write, puts_among, writes_among};
@@ -34,6 +35,7 @@ pub fn run_lone_round<M: UpdatedMap>(
     plan: &RoundPlan,
 ) -> Result<RoundReport, NoMemory>
     requires caller { AreLoneCalls plan.now.ops }
+    requires callers { All (λ a. a.caller < M.callers map.old) plan.now.ops }
     requires told { AreReportCalls plan.now.ops }
     // A scan has no more parts than the map can have members.
     requires calls { length plan.now.ops * M.most map.old ≤ M.calls_left map.old }
@@ -48,8 +50,11 @@ pub fn run_lone_round<M: UpdatedMap>(
         (M.anchors map.old) report.records) }
     ensures slots { M.slots map.new ≡ M.slots map.old }
     ensures most { M.most map.new ≡ M.most map.old }
+    ensures callers { M.callers map.new ≡ M.callers map.old }
     ensures calls_left { M.calls_left map.old ≤ M.calls_left map.new + length plan.now.ops * M.most map.old }
     ensures writes_left { M.writes_left map.old ≤ M.writes_left map.new + length plan.now.ops }
+    // The map is heavier by no more than the puts that added a name.
+    ensures weighs { IfOk result (λ report. M.weighs map.new ≤ M.weighs map.old + puts_added report.records) }
     // Where it ends with a turn, that has done all that its calls left to the updater.
     ensures settled { IfOk result (λ _. EndsWithTurn plan.now → M.is_settled map.new) }
     // Without turns the changes of the shape that its calls make wait.
@@ -69,7 +74,15 @@ pub fn run_lone_round<M: UpdatedMap>(
             caller: call.caller,
             index: index as u64,
             op: call.op,
-            reply: answer(alloc, map, &call.op, writes, plan.limit, is_due)?,
+            reply: answer(
+                alloc,
+                map,
+                call.caller,
+                &call.op,
+                writes,
+                plan.limit,
+                is_due,
+            )?,
         };
         if is_placed_write(&record) {
             writes += 1;
@@ -91,11 +104,13 @@ pub fn run_lone_round<M: UpdatedMap>(
 fn answer<M: UpdatedMap>(
     alloc: Global,
     map: &mut M,
+    caller: u64,
     op: &Op,
     place: u64,
     limit: u64,
     is_due: bool,
 ) -> Result<Reply, NoMemory>
+    requires caller { caller < M.callers map.old }
     requires calls { M.most map.old ≤ M.calls_left map.old }
     requires writes { 0 < M.writes_left map.old }
     ensures answer { IfOk result (IsAnswerNow (M.contents map.old) place op.now) }
@@ -109,8 +124,10 @@ fn answer<M: UpdatedMap>(
         (M.anchors map.old) op.now reply) }
     ensures slots { M.slots map.new ≡ M.slots map.old }
     ensures most { M.most map.new ≡ M.most map.old }
+    ensures callers { M.callers map.new ≡ M.callers map.old }
     ensures calls_left { M.calls_left map.old ≤ M.calls_left map.new + M.most map.old }
     ensures writes_left { M.writes_left map.old ≤ M.writes_left map.new + 1 }
+    ensures weighs { IfOk result (λ reply. M.weighs map.new ≤ M.weighs map.old + one_added op.now reply) }
     ensures settled { IfOk result (λ _. IsTrue is_due → M.is_settled map.new) }
     ensures waits { IfOk result (λ reply. ¬ IsTrue is_due → (changes writes puts : ℕ) →
         M.waits map.old changes (writes + one_write op.now) (puts + one_put op.now) →
@@ -124,7 +141,7 @@ fn answer<M: UpdatedMap>(
     let reply = if comes_late(op, place, limit) {
         Reply::Spent { clock: place }
     } else {
-        answer_in_time(alloc, map, op, place)?
+        answer_in_time(alloc, map, caller, op, place)?
     };
     if is_due {
         map.turn();
@@ -154,9 +171,11 @@ fn comes_late(op: &Op, place: u64, limit: u64) -> bool
 fn answer_in_time<M: UpdatedMap>(
     alloc: Global,
     map: &mut M,
+    caller: u64,
     op: &Op,
     place: u64,
 ) -> Result<Reply, NoMemory>
+    requires caller { caller < M.callers map.old }
     requires calls { M.most map.old ≤ M.calls_left map.old }
     requires writes { 0 < M.writes_left map.old }
     ensures answer { IfOk result (IsAnswerNow (M.contents map.old) place op.now) }
@@ -170,8 +189,10 @@ fn answer_in_time<M: UpdatedMap>(
         (M.anchors map.old) op.now reply) }
     ensures slots { M.slots map.new ≡ M.slots map.old }
     ensures most { M.most map.new ≡ M.most map.old }
+    ensures callers { M.callers map.new ≡ M.callers map.old }
     ensures calls_left { M.calls_left map.old ≤ M.calls_left map.new + M.most map.old }
     ensures writes_left { M.writes_left map.old ≤ M.writes_left map.new + 1 }
+    ensures weighs { IfOk result (λ reply. M.weighs map.new ≤ M.weighs map.old + one_added op.now reply) }
     ensures waits { IfOk result (λ reply. (changes writes puts : ℕ) →
         M.waits map.old changes (writes + one_write op.now) (puts + one_put op.now) →
         M.waits map.new (changes + one_change (M.slots map.old) (M.contents map.old) (M.anchors map.old) op.now reply)
@@ -182,20 +203,20 @@ fn answer_in_time<M: UpdatedMap>(
     // So there are no more members than calls are left, and one member at least.
     map.has_shape();
     match op {
-        Op::Put { name, value } => match map.put(name, *value) {
+        Op::Put { name, value } => match map.put(caller, name, *value) {
             Ok(old) => Ok(Reply::Old { old, place }),
             Err(Full) => Ok(Reply::Full),
         },
         Op::Get { name } => Ok(Reply::Old {
-            old: map.get(name),
+            old: map.get(caller, name),
             place,
         }),
         Op::Del { name } => Ok(Reply::Old {
-            old: map.del(name),
+            old: map.del(caller, name),
             place,
         }),
         Op::Scan { from, count } => Ok(Reply::Parts {
-            parts: scan(alloc, map, from, *count, place)?,
+            parts: scan(alloc, map, caller, from, *count, place)?,
             cut: false,
         }),
     }
@@ -205,11 +226,13 @@ fn answer_in_time<M: UpdatedMap>(
 fn scan<M: UpdatedMap>(
     alloc: Global,
     map: &mut M,
+    caller: u64,
     from: &Name,
     count: u64,
     place: u64,
 ) -> Result<Parts, NoMemory>
-    requires { length (past (M.anchors map.old) from.now) < M.calls_left map.old }
+    requires caller { caller < M.callers map.old }
+    requires calls { length (past (M.anchors map.old) from.now) < M.calls_left map.old }
     ensures answer { IfOk result (IsScanByShape (M.contents map.old) (M.anchors map.old) from.now count place) }
     ensures report { IfOk result (All IsReportPart) }
     ensures few { IfOk result (λ parts. length parts < 2 ^ 64) }
@@ -217,9 +240,11 @@ fn scan<M: UpdatedMap>(
     ensures anchors { M.anchors map.new ≡ M.anchors map.old }
     ensures slots { M.slots map.new ≡ M.slots map.old }
     ensures most { M.most map.new ≡ M.most map.old }
+    ensures callers { M.callers map.new ≡ M.callers map.old }
     ensures calls_left { M.calls_left map.old
         ≤ M.calls_left map.new + (length (past (M.anchors map.old) from.now) + 1) }
     ensures writes_left { M.writes_left map.old ≤ M.writes_left map.new }
+    ensures weighs { M.weighs map.new ≤ M.weighs map.old }
     ensures waits { (changes writes puts : ℕ) → M.waits map.old changes writes puts →
         M.waits map.new changes writes puts }
 {
@@ -227,7 +252,7 @@ fn scan<M: UpdatedMap>(
     let mut left = count;
     let mut next = Some(*from);
     while let Some(low) = next {
-        let part = read_part(alloc, map, low, left, place)?;
+        let part = read_part(alloc, map, caller, low, left, place)?;
         left -= part.pairs.as_slice().len() as u64;
         let high = part.high;
         parts.push(part)?;
@@ -240,11 +265,13 @@ fn scan<M: UpdatedMap>(
 fn read_part<M: UpdatedMap>(
     alloc: Global,
     map: &mut M,
+    caller: u64,
     low: Name,
     left: u64,
     place: u64,
 ) -> Result<ScanPart, NoMemory>
-    requires { 0 < M.calls_left map.old }
+    requires caller { caller < M.callers map.old }
+    requires calls { 0 < M.calls_left map.old }
     ensures part { IfOk result (IsPart (λ _. M.contents map.old) low left place) }
     ensures place { IfOk result (λ part. part.place ≡ place) }
     ensures high { IfOk result (λ part. part.high ≡ next_of (M.anchors map.old) low) }
@@ -253,12 +280,14 @@ fn read_part<M: UpdatedMap>(
     ensures anchors { M.anchors map.new ≡ M.anchors map.old }
     ensures slots { M.slots map.new ≡ M.slots map.old }
     ensures most { M.most map.new ≡ M.most map.old }
+    ensures callers { M.callers map.new ≡ M.callers map.old }
     ensures calls_left { M.calls_left map.old ≤ M.calls_left map.new + 1 }
     ensures writes_left { M.writes_left map.old ≤ M.writes_left map.new }
+    ensures weighs { M.weighs map.new ≤ M.weighs map.old }
     ensures waits { (changes writes puts : ℕ) → M.waits map.old changes writes puts →
         M.waits map.new changes writes puts }
 {
-    let MapPart { high, pairs } = map.part(alloc, &low, left)?;
+    let MapPart { high, pairs } = map.part(alloc, caller, &low, left)?;
     Ok(ScanPart {
         low,
         high,

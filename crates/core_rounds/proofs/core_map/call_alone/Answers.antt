@@ -4,7 +4,7 @@ use Rattle.index_law.specs.Anchors.{anchors_in}
 use Rattle.index_core.specs.Indexes.{world}
 use Rattle.index_core.specs.Lone.{FindsNoRoom, whole_of}
 use Rattle.core_rounds.specs.CoreMaps.{anchors_made}
-use Rattle.core_rounds.proofs.CoreMaps.{goes_through, full_exactly, stays_low, told_placed, told_full, writes_fall, told_map}
+use Rattle.core_rounds.proofs.CoreMaps.{full_exactly, full_weighs, goes_through, stays_low, told_full, told_map, told_placed, told_weighs, writes_fall}
 use Rattle.core_rounds.proofs.Waiting.{waits_full, waits_placed}
 use Rattle.core_rounds.proofs.core_map.call_alone.Goals as goal
 
@@ -49,9 +49,15 @@ returns-in-Again-clause-stamps g c = stays_low _ _ _ _ _ c.name_alone.ensures.ru
 
 pub returns-in-Done-clause-waits : goal.returns-in-Done-clause-waits
 returns-in-Done-clause-waits g c =
-    waits_placed c.args.core.now c.name_alone.new.self c.args.call (whole_of c.name_alone.result) c.in-Done.placed c.requires.index c.requires.quiet c.requires.calls_left (ap whole_of c.in-Done.is)
+    waits_placed c.args.caller c.args.core.now c.name_alone.new.self c.args.call (whole_of c.name_alone.result) c.in-Done.placed c.requires.caller c.requires.index c.requires.quiet c.requires.calls_left (ap whole_of c.in-Done.is)
     c.name_alone.ensures.runs
 
 pub returns-in-Again-clause-err_waits : goal.returns-in-Again-clause-err_waits
 returns-in-Again-clause-err_waits g c =
-    waits_full c.args.core.now c.name_alone.new.self c.args.call (whole_of c.name_alone.result) c.requires.index c.requires.quiet c.requires.calls_left (ap whole_of c.in-Again.is) c.name_alone.ensures.runs
+    waits_full c.args.caller c.args.core.now c.name_alone.new.self c.args.call (whole_of c.name_alone.result) c.requires.caller c.requires.index c.requires.quiet c.requires.calls_left (ap whole_of c.in-Again.is) c.name_alone.ensures.runs
+
+pub returns-in-Done-clause-weighs : goal.returns-in-Done-clause-weighs
+returns-in-Done-clause-weighs g c = told_weighs c.args.core.now c.args.call c.name_alone.new.self (whole_of c.name_alone.result) c.in-Done.placed (ap whole_of c.in-Done.is) c.name_alone.ensures.runs
+
+pub returns-in-Again-clause-err_weighs : goal.returns-in-Again-clause-err_weighs
+returns-in-Again-clause-err_weighs g c = full_weighs c.args.core.now c.args.call c.name_alone.new.self (whole_of c.name_alone.result) (ap whole_of c.in-Again.is) c.name_alone.ensures.runs

@@ -12,6 +12,7 @@ use Rattle.cat_history.proofs.LoneRoundLemmas.{lone_rounds_are_legal}
 use Rattle.cat_text.proofs.LoneReports.{lone_stand}
 use Rattle.shapes.specs.Runs.{Standing, opening}
 use Rattle.shapes.specs.ShapeRounds.{PutsFull, anchors_after}
+use Rattle.caller_rounds.proofs.Rooms.{added-append}
 use Rattle.core_rounds.proofs.LoneRoundSteps.{one_at_most, recorded, writes_of-push, calls-push, calls-whole, along-push, ends-push, full-push, stands-push, anchors-push, bounds-push, told-push, none-so-far}
 use Rattle.std.proofs.lemmas.List.{take_all}
 use Rattle.core_rounds.specs.Waiting.{changes_in, one_change, puts_among, writes_among}
@@ -24,6 +25,15 @@ returns-in_err-records-clause-err g c =
     let M = g.M.UpdatedMap in
     let none = none-so-far (M.slots c.args.map.now) (M.most c.args.map.now) (M.contents c.args.map.now) (M.anchors c.args.map.now) c.args.plan.now in
     search (rules, none)
+
+pub answer-requires-clause-caller : goal.answer-requires-clause-caller
+answer-requires-clause-caller g c =
+    let M = g.M.UpdatedMap in
+    let asked = c.as_slice-asked.result.now in
+    let call = c.index-asked-index.result in
+    let each = subst (λ (ops : List CallerOp). All (λ a. a.caller < M.callers c.args.map.now) ops) (sym c.as_slice-asked.ensures) c.requires.callers in
+    subst (λ k. call.caller < k) (sym c.loop-index.invariant.callers_stay)
+    (subst (λ (a : CallerOp). a.caller < M.callers c.args.map.now) (sym c.index-asked-index.is) (each c.loop-index.index call c.loop-index-test.true))
 
 pub loop-index-preserved : goal.loop-index-preserved
 loop-index-preserved g c =
@@ -77,8 +87,10 @@ loop-index-preserved g c =
       few = omega (arith, counted, was.few, one_at_most c.is_placed_write.result (length (write_of r)) c.is_placed_write.ensures);
       slots_stay = c.answer.ensures.slots ∙ was.slots_stay;
       most_stays = c.answer.ensures.most ∙ was.most_stays;
+      callers_stay = c.answer.ensures.callers ∙ was.callers_stay;
       calls = omega (arith, was.calls, was.most_stays, c.answer.ensures.calls_left);
       writes_left = omega (arith, was.writes_left, c.answer.ensures.writes_left);
+      weighs_so = rw grown (let one = added-append records (r ∷ []) in omega (arith, was.weighs_so, answer.weighs, one));
       made = c.push_reserved.ensures.len ∙ omega (arith, was.made);
       reserved = omega (arith, was.reserved, c.push_reserved.ensures.capacity);
       waits = λ none.
@@ -121,6 +133,9 @@ returns-clause-report g c =
       writes = search arith;
       names = search arith;
     }
+
+pub returns-clause-weighs : goal.returns-clause-weighs
+returns-clause-weighs g c = rw c.of.ensures c.loop-index.invariant.weighs_so
 
 pub returns-clause-settled : goal.returns-clause-settled
 returns-clause-settled g c ends =

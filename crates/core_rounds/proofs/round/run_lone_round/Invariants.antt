@@ -3,6 +3,7 @@ use Rattle.std.specs.Vec.{vec_capacity}
 use Rattle.cat_history.specs.LoneRounds.{writes_of}
 use Rattle.cat_text.specs.ReportGrammar.{IsReportRecord}
 use Rattle.shapes.specs.Runs.{opening, stands_after}
+use Rattle.shapes.specs.ShapeRounds.{puts_added}
 use Rattle.core_rounds.specs.Rounds.{IsPlayedSoFar, IsTurnDue}
 use Rattle.core_rounds.specs.Waiting.{changes_in, puts_among, writes_among}
 use Rattle.core_rounds.proofs.round.run_lone_round.Given as goal
@@ -24,8 +25,10 @@ invariant-loop-index g l =
       few : l.writes ≤ l.index;
       slots_stay : slots l.map ≡ slots l.fn.map;
       most_stays : most l.map ≡ most l.fn.map;
+      callers_stay : g.M.UpdatedMap.callers l.map ≡ g.M.UpdatedMap.callers l.fn.map;
       calls : g.M.UpdatedMap.calls_left l.fn.map ≤ g.M.UpdatedMap.calls_left l.map + l.index * most l.fn.map;
       writes_left : g.M.UpdatedMap.writes_left l.fn.map ≤ g.M.UpdatedMap.writes_left l.map + l.index;
+      weighs_so : g.M.UpdatedMap.weighs l.map ≤ g.M.UpdatedMap.weighs l.fn.map + puts_added records;
       made : vec_len l.records ≡ l.index;
       reserved : length l.asked ≤ vec_capacity l.records;
       waits : l.plan.updater ≡ 0 → (changes writes puts : ℕ) →

@@ -10,8 +10,10 @@ loop-next-init g c = record {
   anchors = refl;
   slots = refl;
   most = refl;
+  callers = refl;
   calls = omega arith;
   writes = omega arith;
+  weighs_so = omega arith;
   waits = λ changes writes puts waits. waits;
 }
 
@@ -38,8 +40,10 @@ loop-next-preserved-then-left-gt0 g c =
       anchors = c.read_part.ensures.anchors ∙ was.anchors;
       slots = c.read_part.ensures.slots ∙ was.slots;
       most = c.read_part.ensures.most ∙ was.most;
+      callers = c.read_part.ensures.callers ∙ was.callers;
       calls = omega (arith, less, come, was.calls, c.read_part.ensures.calls_left);
       writes = omega (arith, was.writes, c.read_part.ensures.writes_left);
+      weighs_so = omega (arith, was.weighs_so, c.read_part.ensures.weighs);
       waits = λ changes writes puts waits. c.read_part.ensures.waits changes writes puts (was.waits changes writes puts waits);
     }
 
@@ -61,7 +65,9 @@ loop-next-preserved g c =
       anchors = c.read_part.ensures.anchors ∙ was.anchors;
       slots = c.read_part.ensures.slots ∙ was.slots;
       most = c.read_part.ensures.most ∙ was.most;
+      callers = c.read_part.ensures.callers ∙ was.callers;
       calls = omega (arith, less, come, was.calls, c.read_part.ensures.calls_left);
       writes = omega (arith, was.writes, c.read_part.ensures.writes_left);
+      weighs_so = omega (arith, was.weighs_so, c.read_part.ensures.weighs);
       waits = λ changes writes puts waits. c.read_part.ensures.waits changes writes puts (was.waits changes writes puts waits);
     }

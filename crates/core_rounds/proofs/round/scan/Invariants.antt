@@ -14,8 +14,10 @@ invariant-loop-next g l =
       anchors : M.anchors l.map ≡ shape;
       slots : M.slots l.map ≡ M.slots l.fn.map;
       most : M.most l.map ≡ M.most l.fn.map;
+      callers : M.callers l.map ≡ M.callers l.fn.map;
       calls : M.calls_left l.fn.map + to_come shape l.next ≤ M.calls_left l.map + (length (past shape l.from) + 1);
       writes : M.writes_left l.fn.map ≤ M.writes_left l.map;
+      weighs_so : M.weighs l.map ≤ M.weighs l.fn.map;
       waits : (changes writes puts : ℕ) → M.waits l.fn.map changes writes puts → M.waits l.map changes writes puts;
     }
 

@@ -1,13 +1,7 @@
-use Rattle.std.proofs.Common.{◌≡◌, ◌≤◌, ◌*◌, take}
-use Rattle.std.specs.FinMap.{empty}
-use Rattle.cat_history.specs.Writes.{after_all}
-use Rattle.cat_history.specs.LoneRounds.{writes_of}
-use Rattle.core_rounds.specs.Summaries.{sum_of}
+use Rattle.std.proofs.Common.{◌≡◌, ◌+◌, drop, sum_by}
+use Rattle.cat_key.specs.declared.Pair.{Pair}
 use Rattle.core_rounds.proofs.summary.sum_of.Given as goal
 
--- the sum of the map after the records so far
-abbrev pub invariant-loop-entry : goal.invariant-loop-entry
-invariant-loop-entry l = record {
-  sum : l.sum ≡ sum_of (after_all empty (writes_of (take l.entry-index l.records)));
-  small : l.sum ≤ 100000 * l.entry-index;
-}
+-- the sum so far, and that of the pairs to come
+abbrev pub invariant-loop-pair : goal.invariant-loop-pair
+invariant-loop-pair l = l.sum + sum_by (λ (p : Pair). p.value) (drop l.pair-index l.pairs) ≡ sum_by (λ (p : Pair). p.value) l.pairs

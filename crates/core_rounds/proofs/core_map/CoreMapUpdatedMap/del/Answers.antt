@@ -1,4 +1,4 @@
-use Rattle.std.proofs.Common.{ℕ, ◌+◌, refl, sym, subst}
+use Rattle.std.proofs.Common.{ℕ, ◌+◌, ◌≤◌, refl, sym, subst, arith}
 use Rattle.shapes.specs.Anchors.{merges}
 use Rattle.index_law.specs.Anchors.{anchors_in}
 use Rattle.index_core.specs.Indexes.{Index, map_of_index, world}
@@ -6,6 +6,9 @@ use Rattle.core_rounds.specs.CoreMaps.{Waits}
 use Rattle.core_rounds.specs.Waiting.{one_if}
 use Rattle.core_rounds.proofs.Waiting.{no_put_more}
 use Rattle.core_rounds.proofs.CoreMaps.{told_name, removal_counted, same_run}
+use Rattle.index_core.specs.Weights.{weight_of}
+use Rattle.core_rounds.proofs.CoreMaps.{no_put_adds}
+use Rattle.cat_history.specs.declared.op.NameOp.TheVariants as op
 use Rattle.core_rounds.proofs.core_map.CoreMapUpdatedMap.del.Goals as goal
 
 pub overflow_sub-self : goal.overflow_sub-self
@@ -36,3 +39,13 @@ returns-else-is_some-clause-waits g c =
     subst (λ (s : Index). (changes writes puts : ℕ) → Waits s changes (writes + 1) puts →
     Waits c.call_alone.new.core (changes + one_if (merges s.layout.slots (map_of_index s) (anchors_in (world s)) c.args.name.now)) writes puts) c.self.view_is
     (λ changes writes puts waits. c.in-Ok.ensures.waits changes writes puts (no_put_more c.self.inside.core waits))
+
+pub returns-then-is_some-clause-weighs : goal.returns-then-is_some-clause-weighs
+returns-then-is_some-clause-weighs g c =
+    subst (λ (s : Index). weight_of c.call_alone.new.core ≤ weight_of s) c.self.view_is
+    (let none = no_put_adds c.in-Ok.old (op.Del c.args.name.now) refl in omega (arith, none, c.in-Ok.ensures.weighs))
+
+pub returns-else-is_some-clause-weighs : goal.returns-else-is_some-clause-weighs
+returns-else-is_some-clause-weighs g c =
+    subst (λ (s : Index). weight_of c.call_alone.new.core ≤ weight_of s) c.self.view_is
+    (let none = no_put_adds c.in-Ok.old (op.Del c.args.name.now) refl in omega (arith, none, c.in-Ok.ensures.weighs))

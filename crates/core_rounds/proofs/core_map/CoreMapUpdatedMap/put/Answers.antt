@@ -1,4 +1,4 @@
-use Rattle.std.proofs.Common.{ℕ, ◌+◌, refl, sym, ap, subst, ◌∙◌, arith}
+use Rattle.std.proofs.Common.{ℕ, ◌+◌, ◌≤◌, refl, sym, ap, subst, ◌∙◌, arith}
 use Rattle.std.specs.FinMap.{len}
 use Rattle.shapes.specs.Anchors.{splits}
 use Rattle.index_law.specs.Anchors.{anchors_in}
@@ -6,6 +6,9 @@ use Rattle.index_core.specs.Indexes.{Index, map_of_index, world}
 use Rattle.core_rounds.specs.CoreMaps.{Waits}
 use Rattle.core_rounds.specs.Waiting.{one_if}
 use Rattle.core_rounds.proofs.CoreMaps.{few_names, put_counted, same_run}
+use Rattle.std.specs.Prelude.{is_none}
+use Rattle.index_core.specs.Weights.{weight_of}
+use Rattle.core_rounds.proofs.CoreMaps.{on-err, put_adds}
 use Rattle.core_rounds.proofs.core_map.CoreMapUpdatedMap.put.Goals as goal
 
 pub overflow_add-self : goal.overflow_add-self
@@ -46,3 +49,17 @@ pub returns-else-is_none-clause-waits : goal.returns-else-is_none-clause-waits
 returns-else-is_none-clause-waits g c =
     subst (λ (s : Index). (changes writes puts : ℕ) → Waits s changes (writes + 1) (puts + 1) →
     Waits c.call_alone.new.core (changes + one_if (splits s.layout.slots (map_of_index s) (anchors_in (world s)) c.args.name.now)) writes puts) c.self.view_is c.in_ok-old.ensures.waits
+
+pub returns-in_err-old-clause-err_weighs : goal.returns-in_err-old-clause-err_weighs
+returns-in_err-old-clause-err_weighs g c =
+    on-err c.from_residual.result _ (subst (λ (s : Index). weight_of c.call_alone.new.core ≤ weight_of s) c.self.view_is c.in_err-old.ensures.err_weighs)
+
+pub returns-then-is_none-clause-weighs : goal.returns-then-is_none-clause-weighs
+returns-then-is_none-clause-weighs g c =
+    subst (λ (s : Index). weight_of c.call_alone.new.core ≤ weight_of s + one_if (is_none c.in_ok-old.old)) c.self.view_is
+    (let adds = put_adds c.in_ok-old.old c.args.name.now c.args.value in omega (arith, adds, c.in_ok-old.ensures.weighs))
+
+pub returns-else-is_none-clause-weighs : goal.returns-else-is_none-clause-weighs
+returns-else-is_none-clause-weighs g c =
+    subst (λ (s : Index). weight_of c.call_alone.new.core ≤ weight_of s + one_if (is_none c.in_ok-old.old)) c.self.view_is
+    (let adds = put_adds c.in_ok-old.old c.args.name.now c.args.value in omega (arith, adds, c.in_ok-old.ensures.weighs))

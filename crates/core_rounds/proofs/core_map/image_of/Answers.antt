@@ -14,7 +14,7 @@ use Rattle.index_core.specs.Indexes.{Index, IsIndex, world}
 use Rattle.index_core.specs.Lone.{IsQuiet}
 use Rattle.index_core.proofs.Logs.{quiet_has_none_open}
 use Rattle.core_rounds.specs.CoreMaps.{IsImageOf}
-use Rattle.core_rounds.proofs.core_map.CoreMap.image.Goals as goal
+use Rattle.core_rounds.proofs.core_map.image_of.Goals as goal
 
 -- the state of a caller's log line, by its number among those of all callers
 line_is : (s : Index) (c j : ℕ) → c < s.layout.callers → j < 8 → at s.layout s.words (Cached (Line c j 0)) ≡ line_state (world s) (8 * c + j)
@@ -59,6 +59,5 @@ keeps s image is index quiet rest = subst (IsImageOf s) (sym is) (record {
   };
 })
 
-pub returns-clause-image : goal.returns-clause-image
-returns-clause-image g c =
-    IfOk-weaker c.image.result _ _ (λ image is. subst (λ (s : Index). IsImageOf s image) c.self.view_is (keeps c.self.inside.core image is c.self.invariant.0.index c.self.invariant.0.quiet c.image.ensures.rest)) c.image.ensures.words
+pub returns : goal.returns
+returns c = IfOk-weaker c.image.result _ _ (λ image is. keeps c.args.core.now image is c.requires.index c.requires.quiet c.image.ensures.rest) c.image.ensures.words

@@ -1,26 +1,27 @@
-use Rattle.std.proofs.Common.{◌≡◌, ℕ, List, ◌+◌, ◌*◌, ◌≤◌, ◌∙◌, length, drop, ap, sym, subst, refl, arith}
+use Rattle.std.proofs.Common.{◌≡◌, ℕ, List, [], ◌∷◌, ◌+◌, ◌*◌, ◌<◌, ◌≤◌, All, ◌∙◌, length, drop, ap, sym, subst, refl, arith}
 use Rattle.std.proofs.lemmas.List.{take_all}
 use Rattle.std.proofs.lemmas.List.Elements.{All-push}
 use Rattle.cat_history.specs.LoneRounds.{writes_of}
 use Rattle.cat_text.specs.ReportGrammar.{IsReportRound}
 use Rattle.shapes.specs.ShapeRounds.{anchors_end}
-use Rattle.core_rounds.specs.Rounds.{map_end, shape_end}
-use Rattle.core_rounds.specs.Rounds.{IsPlayedRound, RoundsEndWithTurn}
-use Rattle.core_rounds.proofs.Played.{none-played-at, one-more-at, all-played, caller-of-plan, told-of-plan}
+use Rattle.core_rounds.specs.Rounds.{IsPlayedRound, RoundsEndWithTurn, added_in}
+use Rattle.core_rounds.proofs.Played.{none-so-far-at, one-more-at, all-so-far, caller-of-plan, told-of-plan, added_in-append}
 use Rattle.core_rounds.specs.LoneCalls.{calls_in}
 use Rattle.core_rounds.proofs.CallCounts.{calls-to-come, calls-of-one, calls-of-rest}
 use Rattle.core_rounds.proofs.RoundTurns.{last-ends}
 use Rattle.cat_history.specs.declared.plan.RoundPlan.{RoundPlan}
 use Rattle.core_rounds.specs.Waiting.{changes_in, changes_made, puts_asked, writes_asked}
 use Rattle.core_rounds.proofs.RoundWaits.{changes_made-push, waits-first, waits-round}
-use Rattle.core_rounds.proofs.playing.play_rounds.Goals as goal
+use Rattle.core_rounds.proofs.playing.play_on_map.Goals as goal
 
 pub loop-plan-init : goal.loop-plan-init
 loop-plan-init g c =
     record {
       slots_stay = refl;
       most_stays = refl;
-      played = none-played-at _ _ _ _ _ c.in_ok-rounds.ensures.items;
+      callers_stay = refl;
+      so_far = none-so-far-at _ _ _ _ _ _ _ (record { shape = c.has_shape.ensures.shape; light = c.has_shape.ensures.light; few = omega arith }) c.in_ok-rounds.ensures.items;
+      weighs_so = omega arith;
       told = rw c.in_ok-rounds.ensures.items (λ k d within. absurd (omega (arith, within)));
       waits = λ none. rw c.in_ok-rounds.ensures.items (waits-first (g.M.UpdatedMap.waits c.args.map.now));
       settled = λ none. absurd none;
@@ -34,7 +35,9 @@ run_lone_round-requires g c =
     let was = c.loop-plan.invariant in
     let come = calls-to-come plans c.loop-plan.plan-index c.plan-item.result c.loop-plan-test.true c.plan-item.is in
     record {
-      caller = caller-of-plan c.args.plans.now plans c.loop-plan.plan-index c.plan-item.result c.requires.callers refl c.loop-plan-test.true c.plan-item.is;
+      caller = caller-of-plan c.args.plans.now plans c.loop-plan.plan-index c.plan-item.result c.requires.lone refl c.loop-plan-test.true c.plan-item.is;
+      callers = subst (λ k. All (λ a. a.caller < k) c.plan-item.result.ops) (sym was.callers_stay)
+          (subst (λ (p : RoundPlan). All (λ a. a.caller < g.M.UpdatedMap.callers c.args.map.now) p.ops) (sym c.plan-item.is) (c.requires.callers c.loop-plan.plan-index c.plan-item.result c.loop-plan-test.true));
       told = told-of-plan plans c.loop-plan.plan-index c.plan-item.result c.requires.told c.loop-plan-test.true c.plan-item.is;
       calls = subst (λ k. length c.plan-item.result.ops * k ≤ g.M.UpdatedMap.calls_left c.loop-plan.map) (sym was.most_stays)
           (calls-of-one (length c.plan-item.result.ops) (calls_in (drop (c.loop-plan.plan-index + 1) plans)) (g.M.UpdatedMap.most c.args.map.now) _
@@ -60,7 +63,13 @@ loop-plan-preserved g c =
     record {
       slots_stay = c.run_lone_round.ensures.slots ∙ was.slots_stay;
       most_stays = c.run_lone_round.ensures.most ∙ was.most_stays;
-      played = one-more-at _ _ _ _ _ _ _ _ _ _ _ _ _ _ was.played c.loop-plan-test.true c.plan-item.is round told.after
+      callers_stay = c.run_lone_round.ensures.callers ∙ was.callers_stay;
+      weighs_so =
+          let added = ap added_in c.in_ok-push.ensures.items ∙ added_in-append c.loop-plan.rounds.items (report ∷ []) in
+          omega (arith, was.weighs_so, told.weighs, added);
+      so_far = one-more-at _ _ _ _ _ _ _ _ _ _ _ _ _ _ _ _ c.has_shape.ensures.enough
+          (caller-of-plan c.args.plans.now plans c.loop-plan.plan-index c.plan-item.result c.requires.lone refl c.loop-plan-test.true c.plan-item.is)
+          was.so_far c.loop-plan-test.true c.plan-item.is round told.after
           (told.anchors ∙ ap (λ (k : ℕ). anchors_end k now shape report.records) was.slots_stay) c.in_ok-push.ensures.items;
       told = rw c.in_ok-push.ensures.items (All-push IsReportRound c.loop-plan.rounds.items report was.told told.report);
       waits = λ none.
@@ -72,7 +81,7 @@ loop-plan-preserved g c =
           (was.waits none) (told.waits (subst (λ (p : RoundPlan). p.updater ≡ 0) (sym c.plan-item.is) (none c.loop-plan.plan-index c.plan-item.result c.loop-plan-test.true)))
           c.loop-plan-test.true c.plan-item.is
           (ap (changes_made slots base anchors) c.in_ok-push.ensures.items ∙ changes_made-push slots base anchors rounds report
-          ∙ (λ k. changes_made slots base anchors rounds + changes_in (sym was.slots_stay k) (sym was.played.map_is k) (sym was.played.shape_is k) report.records));
+          ∙ (λ k. changes_made slots base anchors rounds + changes_in (sym was.slots_stay k) (sym was.so_far.map_is k) (sym was.so_far.shape_is k) report.records));
       settled = λ ends. told.settled (last-ends plans c.loop-plan.plan-index c.plan-item.result c.loop-plan-test.true c.plan-item.is ends);
       calls = calls-of-rest (length c.plan-item.result.ops) (calls_in (drop (c.loop-plan.plan-index + 1) plans)) most _ _
           (subst (λ n. n * most ≤ g.M.UpdatedMap.calls_left c.loop-plan.map) come was.calls) taken;
@@ -80,18 +89,16 @@ loop-plan-preserved g c =
     }
 
 pub returns-clause-played : goal.returns-clause-played
-returns-clause-played g c = all-played _ _ _ _ _ _ _ _ _ _ _ c.loop-plan.invariant.played c.loop-plan-test.false refl c.of.ensures
+returns-clause-played g c = (all-so-far _ _ _ _ _ _ _ _ _ _ _ _ _ c.loop-plan.invariant.so_far c.loop-plan-test.false refl refl).played
 
 pub returns-clause-report : goal.returns-clause-report
-returns-clause-report g c = rw c.of.ensures c.loop-plan.invariant.told
+returns-clause-report g c = c.loop-plan.invariant.told
 
-pub returns-clause-contents : goal.returns-clause-contents
-returns-clause-contents g c = c.loop-plan.invariant.played.map_is ∙ ap (map_end (g.M.UpdatedMap.contents c.args.map.now)) (sym c.of.ensures)
+pub returns-clause-weighs : goal.returns-clause-weighs
+returns-clause-weighs g c = c.loop-plan.invariant.weighs_so
 
-pub returns-clause-anchors : goal.returns-clause-anchors
-returns-clause-anchors g c =
-    c.loop-plan.invariant.played.shape_is
-    ∙ ap (shape_end (g.M.UpdatedMap.slots c.args.map.now) (g.M.UpdatedMap.contents c.args.map.now) (g.M.UpdatedMap.anchors c.args.map.now)) (sym c.of.ensures)
+pub returns-clause-names : goal.returns-clause-names
+returns-clause-names g c = c.loop-plan.invariant.so_far.within.few
 
 pub returns-clause-settled : goal.returns-clause-settled
 returns-clause-settled g c ends =
@@ -101,6 +108,5 @@ pub returns-clause-waits : goal.returns-clause-waits
 returns-clause-waits g c none changes writes puts waits =
     let M = g.M.UpdatedMap in
     let all = take_all c.loop-plan.plan-index c.args.plans.now (omega (arith, c.loop-plan-test.false)) in
-    rw c.of.ensures
-    (c.loop-plan.invariant.waits none changes writes puts
-    (subst (λ (plans : List RoundPlan). M.waits c.args.map.now changes (writes + writes_asked plans) (puts + puts_asked plans)) (sym all) waits))
+    c.loop-plan.invariant.waits none changes writes puts
+    (subst (λ (plans : List RoundPlan). M.waits c.args.map.now changes (writes + writes_asked plans) (puts + puts_asked plans)) (sym all) waits)

@@ -1,0 +1,28 @@
+//! Laws of rounds and of cores, each named by the contract of a function. The functions do nothing.
+
+ghost use Rattle.core_rounds.specs.CoreMaps.{OpenedIsMap};
+ghost use Rattle.core_rounds.specs.LoneCalls.{CrowdsAddUp, CrowdsAreFew, IsCrowdOrLone, LoneRoundsAreNoCrowds};
+ghost use Rattle.core_rounds.specs.Rounds.{EachIsReported, MorePays, OnlyRoundIsLegal, PlayedArePaid, RoundsGoOn};
+
+/// What rounds come to that are played one after another: some behind others, what their full answers are paid for by,
+/// and how many there are.
+pub fn rounds_law()
+    ensures go_on { RoundsGoOn }
+    ensures more { MorePays }
+    ensures paid { PlayedArePaid }
+    ensures reported { EachIsReported }
+    ensures only { OnlyRoundIsLegal }
+{}
+
+/// Which rounds are of several callers, and how many there are.
+pub fn crowds_law()
+    ensures either { IsCrowdOrLone }
+    ensures none { LoneRoundsAreNoCrowds }
+    ensures few { CrowdsAreFew }
+    ensures add { CrowdsAddUp }
+{}
+
+/// What is known of an index that an image was opened as.
+pub fn opened_law()
+    ensures { OpenedIsMap }
+{}

@@ -1,0 +1,59 @@
+//! Opening cores: that of an empty catalogue, and that of a core's own image.
+
+ghost use Rattle.std.specs.Prelude.{◌≡◌, ◌/◌, ◌≤◌, [], ◌∷◌, IfOk, suc};
+ghost use Rattle.std.specs.FinMap.{empty};
+ghost use Rattle.pm_words.specs.Layouts.{IsLayout};
+ghost use Rattle.version_lock.specs.Versions.{IsGeneration};
+ghost use Rattle.index_law.specs.Anchors.{anchors_in};
+ghost use Rattle.index_core.specs.Indexes.{map_of_index, world};
+ghost use Rattle.index_core.specs.Lone.{IsQuiet};
+ghost use Rattle.index_core.specs.Weights.{weight_of};
+ghost use Rattle.recovery.specs.Opened.{IsOpenedFrom};
+ghost use Rattle.recovery.specs.declared.opening.OpenFault.TheVariants.{NoMemory as OutOfMemory};
+ghost use Rattle.core_rounds.specs.Openings.{IsReopened, fresh_image};
+
+use cat_history::NoMemory;
+use index_core::Core;
+use pm_words::{Image, Layout};
+use recovery::{OpenFault, recover};
+use std::alloc::Global;
+
+/// The core of a catalogue without names: a fresh image, opened in the second generation. Its one member weighs half as
+/// many as a node has slots.
+pub fn open_fresh(alloc: Global, layout: Layout) -> Result<Core, NoMemory>
+    requires { IsLayout layout }
+    ensures opened { IfOk result (IsOpenedFrom (fresh_image layout)) }
+    ensures empty { IfOk result (λ core. map_of_index core ≡ empty) }
+    ensures anchors { IfOk result (λ core. anchors_in (world core) ≡ [] ∷ []) }
+    ensures weighs { IfOk result (λ core. weight_of core ≤ layout.slots / 2) }
+    ensures generation { IfOk result (λ core. core.generation ≡ 2) }
+{
+    let image = Image::fresh(alloc, layout)?;
+    match recover(alloc, image) {
+        Ok(core) => Ok(core),
+        Err(fault) => Err(no_memory(fault)),
+    }
+}
+
+/// Opens the image of a core again, in the next generation: each version word begins anew, and no log line waits.
+pub fn reopen(alloc: Global, core: Core) -> Result<Core, NoMemory>
+    requires quiet { IsQuiet core }
+    requires next { IsGeneration (suc core.generation) }
+    ensures { IfOk result (IsReopened core) }
+{
+    let image = core.image(alloc)?;
+    match recover(alloc, image) {
+        Ok(next) => Ok(next),
+        Err(fault) => Err(no_memory(fault)),
+    }
+}
+
+/// Why an image isn't opened that is sound, and of which there is a next generation.
+fn no_memory(fault: OpenFault) -> NoMemory
+    requires { fault ≡ OutOfMemory }
+{
+    match fault {
+        OpenFault::NoMemory => NoMemory,
+        OpenFault::Damaged { .. } | OpenFault::Generations => unreachable!(),
+    }
+}
