@@ -1,0 +1,2 @@
+pub mod CrowdRounds
+pub mod Segmenting

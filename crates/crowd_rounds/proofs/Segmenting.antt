@@ -1,0 +1,239 @@
+-- Rounds that are played in stretches, each behind an opening of the index.
+use Rattle.std.proofs.Common.{◌≡◌, ℕ, suc, ◌+◌, ◌<◌, ◌≤◌, List, [], ◌∷◌, ◌++◌, length, take, drop, get_or, true, false, refl, sym, ap, ◌∙◌, subst, arith, All, length-append}
+use Rattle.std.proofs.Math.Seq.{take-add}
+use Rattle.std.proofs.lemmas.List.{get_or-drop, length-drop, length-take-le, take-append-drop, take_all, take_more}
+use Rattle.std.proofs.lemmas.List.Elements.{All-append, All-from_recursion, All-push}
+use Rattle.std.proofs.lemmas.List.Sums.{sum_by-take-drop}
+use Rattle.std.specs.FinMap.{len}
+use Rattle.cat_history.specs.Maps.{Map}
+use Rattle.cat_history.specs.declared.plan.RoundPlan.{RoundPlan}
+use Rattle.cat_text.specs.ReportGrammar.{IsReportRound}
+use Rattle.cat_text.specs.declared.report.RoundReport.{RoundReport}
+use Rattle.pm_words.specs.Images.{Row}
+use Rattle.pm_words.specs.declared.layout.Layout.{Layout}
+use Rattle.version_lock.specs.Versions.{IsGeneration}
+use Rattle.index_law.specs.Anchors.{anchors_in}
+use Rattle.index_core.specs.Indexes.{Index, IsIndex, map_of_index, world}
+use Rattle.index_core.specs.Lone.{IsQuiet}
+use Rattle.index_core.specs.Weights.{weight_of}
+use Rattle.recovery.specs.Opened.{IsOpenedFrom}
+use Rattle.core_rounds.specs.CoreMaps.{HasNoLines}
+use Rattle.core_rounds.specs.LoneCalls.{AreLoneCalls, AreLoneRounds, calls_in, crowds, is_crowd}
+use Rattle.core_rounds.specs.Rounds.{ArePlayed, RoundsEndWithTurn, added_in, crowd, ends}
+use Rattle.core_rounds.specs.Waiting.{one_if}
+use Rattle.core_rounds.proofs.CoreMaps.{opened_is_map}
+use Rattle.core_rounds.proofs.Crowding.{crowd_or_lone, crowds_add_up, lone_rounds_are_no_crowds}
+use Rattle.core_rounds.proofs.Played.{each_is_reported, more_pays, rounds_go_on}
+use Rattle.crowd_rounds.specs.Crowds.{IsPlayedCrowd}
+use Rattle.crowd_rounds.specs.Segments.{AreFirstLone, AreFirstPlayed, ArePlayedOn}
+
+-- the last of rounds behind others is the last of all
+ends-behind : (plans more : List RoundPlan) → 0 < length more → RoundsEndWithTurn (plans ++ more) → RoundsEndWithTurn more
+ends-behind [] more some turned = turned
+ends-behind (plan ∷ []) [] some turned = absurd (omega (arith, some))
+ends-behind (plan ∷ []) (last ∷ more) some turned = turned
+ends-behind (plan ∷ next ∷ plans) more some turned = ends-behind (next ∷ plans) more some turned
+
+added-append : (reports more : List RoundReport) → added_in (reports ++ more) ≡ added_in reports + added_in more
+added-append [] more = omega arith
+added-append (report ∷ reports) more = let rest = added-append reports more in omega (arith, rest)
+
+-- no round is played yet
+pub none-played : (image : Row) (s : Index) (plans : List RoundPlan) (reports : List RoundReport) → IsOpenedFrom image s → reports ≡ [] → AreFirstPlayed s plans reports s
+none-played image s plans reports is none = subst (λ (rs : List RoundReport). AreFirstPlayed s plans rs s) (sym none) (record {
+  few = omega arith;
+  played = ends;
+  told = All-from_recursion IsReportRound [] tt;
+  weighs = omega arith;
+  names = omega arith;
+  layout = refl;
+  generation = omega arith;
+  index = is.index;
+  quiet = is.quiet;
+  settled = λ turned. absurd turned;
+})
+
+-- some more are played, behind those that were
+pub goes-on : (s mid new : Index) (plans : List RoundPlan) (reports more : List RoundReport) → AreFirstPlayed s plans reports mid → AreFirstPlayed mid (drop (length reports) plans) more new →
+    0 < length more → AreFirstPlayed s plans (reports ++ more) new
+goes-on s mid new plans reports more first second some =
+    let n = length reports in
+    let m = length more in
+    let left = drop n plans in
+    let long = length-append reports more in
+    let rest = length-drop n plans in
+    let fits = second.few in
+    let before = first.few in
+    let parts : take (length (reports ++ more)) plans ≡ take n plans ++ take m left = ap (λ (k : ℕ). take k plans) long ∙ take-add n m plans in
+    let added = added-append reports more in
+    let lighter = first.weighs in
+    let light = second.weighs in
+    let fewer = first.names in
+    let few = second.names in
+    let there : ArePlayed s.layout.slots s.layout.nodes (weight_of mid) (len (map_of_index mid)) (map_of_index mid) (anchors_in (world mid)) (take m left) more (map_of_index new) (anchors_in (world new)) =
+    subst (λ (l : Layout). ArePlayed l.slots l.nodes (weight_of mid) (len (map_of_index mid)) (map_of_index mid) (anchors_in (world mid)) (take m left) more (map_of_index new) (anchors_in (world new)))
+    first.layout second.played in
+    let raised = more_pays s.layout.slots s.layout.nodes (weight_of mid) (len (map_of_index mid)) (weight_of s + added_in reports) (len (map_of_index s) + added_in reports) (map_of_index mid) (map_of_index new)
+    (anchors_in (world mid)) (anchors_in (world new)) (take m left) more lighter fewer there in
+    let all = rounds_go_on s.layout.slots s.layout.nodes (weight_of s) (len (map_of_index s)) (map_of_index s) (map_of_index mid) (map_of_index new) (anchors_in (world s)) (anchors_in (world mid))
+    (anchors_in (world new)) (take n plans) (take m left) reports more first.played raised in
+    let gone = first.generation in
+    let going = second.generation in
+    let crowded = ap crowds parts ∙ crowds_add_up (take n plans) (take m left) in
+    let size = length-take-le m left fits in
+    record {
+      few = omega (arith, long, rest, fits, before);
+      played = subst (λ (ps : List RoundPlan). ArePlayed s.layout.slots s.layout.nodes (weight_of s) (len (map_of_index s)) (map_of_index s) (anchors_in (world s)) ps (reports ++ more) (map_of_index new)
+          (anchors_in (world new))) (sym parts) all;
+      told = All-append IsReportRound reports more first.told second.told;
+      weighs = omega (arith, added, lighter, light);
+      names = omega (arith, added, fewer, few);
+      layout = second.layout ∙ first.layout;
+      generation = omega (arith, gone, going, crowded);
+      index = second.index;
+      quiet = second.quiet;
+      settled = λ turned. second.settled (ends-behind (take n plans) (take m left) (omega (arith, size, some)) (subst RoundsEndWithTurn parts turned));
+    }
+
+-- and at the end all are
+pub all-played : (s new : Index) (plans : List RoundPlan) (reports told : List RoundReport) → AreFirstPlayed s plans reports new → length plans ≤ length reports → told ≡ reports → ArePlayedOn s plans told new
+all-played s new plans reports told first done is =
+    let whole : take (length reports) plans ≡ plans = take_all (length reports) plans done in
+    subst (λ (rs : List RoundReport). ArePlayedOn s plans rs new) (sym is) (record {
+      played = subst (λ (ps : List RoundPlan). ArePlayed s.layout.slots s.layout.nodes (weight_of s) (len (map_of_index s)) (map_of_index s) (anchors_in (world s)) ps reports (map_of_index new)
+          (anchors_in (world new))) whole first.played;
+      told = first.told;
+      layout = first.layout;
+      generation = first.generation ∙ ap (λ (ps : List RoundPlan). s.generation + crowds ps) whole;
+      index = first.index;
+      quiet = first.quiet;
+      settled = λ turned. first.settled (subst RoundsEndWithTurn (sym whole) turned);
+    })
+
+-- ---- a stretch: rounds of one caller each, and one of several
+
+-- What rounds of one caller come to on a core.
+pub record LoneDone (s : Index) (plans : List RoundPlan) (reports : List RoundReport) (new : Index) : Type 0 where
+  pub played : ArePlayed s.layout.slots s.layout.nodes (weight_of s) (len (map_of_index s)) (map_of_index s) (anchors_in (world s)) plans reports (map_of_index new) (anchors_in (world new))
+  pub told : All IsReportRound reports
+  pub weighs : weight_of new ≤ weight_of s + added_in reports
+  pub names : len (map_of_index new) ≤ len (map_of_index s) + added_in reports
+  pub layout : new.layout ≡ s.layout
+  pub generation : new.generation ≡ s.generation
+  pub index : IsIndex new
+  pub quiet : IsQuiet new
+  pub settled : RoundsEndWithTurn plans → HasNoLines new
+
+-- as many are reported as were played
+pub as-many : (s new : Index) (plans : List RoundPlan) (count : ℕ) (reports : List RoundReport) → LoneDone s (take count plans) reports new → count ≤ length plans → length reports ≡ count
+as-many s new plans count reports done within =
+    each_is_reported s.layout.slots s.layout.nodes (weight_of s) (len (map_of_index s)) (map_of_index s) (map_of_index new) (anchors_in (world s)) (anchors_in (world new)) (take count plans) reports
+    done.played ∙ length-take-le count plans within
+
+pub lone-first : (s new : Index) (plans : List RoundPlan) (count : ℕ) (reports : List RoundReport) → LoneDone s (take count plans) reports new → AreFirstLone plans count →
+    AreFirstPlayed s plans reports new
+lone-first s new plans count reports done first =
+    let many = as-many s new plans count reports done first.few in
+    let within = first.few in
+    let none = (lone_rounds_are_no_crowds (take count plans)).0 first.lone in
+    let same : take count plans ≡ take (length reports) plans = ap (λ (k : ℕ). take k plans) (sym many) in
+    let crowded = ap crowds same in
+    let gone = done.generation in
+    record {
+      few = omega (arith, many, within);
+      played = subst (λ (ps : List RoundPlan). ArePlayed s.layout.slots s.layout.nodes (weight_of s) (len (map_of_index s)) (map_of_index s) (anchors_in (world s)) ps reports (map_of_index new)
+          (anchors_in (world new))) same done.played;
+      told = done.told;
+      weighs = done.weighs;
+      names = done.names;
+      layout = done.layout;
+      generation = omega (arith, none, crowded, gone);
+      index = done.index;
+      quiet = done.quiet;
+      settled = λ turned. done.settled (subst RoundsEndWithTurn (sym same) turned);
+    }
+
+one-crowd : (plan : RoundPlan) → is_crowd plan.ops ≡ true → crowds (plan ∷ []) ≡ 1
+one-crowd plan is = ap (λ b. one_if b + 0) is
+
+-- the round of several callers that comes first
+crowd-first : (mid next : Index) (plans : List RoundPlan) (plan : RoundPlan) (report : RoundReport) → 0 < length plans → plan ≡ get_or plans 0 plan → is_crowd plan.ops ≡ true →
+    IsPlayedCrowd mid plan report next → AreFirstPlayed mid plans (report ∷ []) next
+crowd-first mid next plans plan report some is several round =
+    let one : plan ∷ [] ≡ take 1 plans = ap (λ (p : RoundPlan). p ∷ []) is ∙ sym (take_more plans 0 plan some) in
+    let opened = opened_is_map round.image next round.opened in
+    let all : ArePlayed mid.layout.slots mid.layout.nodes (weight_of mid) (len (map_of_index mid)) (map_of_index mid) (anchors_in (world mid)) (plan ∷ []) (report ∷ []) (map_of_index next)
+    (anchors_in (world next)) =
+    subst (λ (m : Map). ArePlayed mid.layout.slots mid.layout.nodes (weight_of mid) (len (map_of_index mid)) (map_of_index mid) (anchors_in (world mid)) (plan ∷ []) (report ∷ []) m
+    (anchors_in (world next))) (sym round.map)
+    (crowd ((crowd_or_lone plan.ops).0 several) round.writes round.round (anchors_in (world next)) round.within ends) in
+    let weighs = round.weighs in
+    let few = round.within.few in
+    let names = ap len round.map in
+    let gone = round.generation in
+    let crowded = ap crowds (sym one) ∙ one-crowd plan several in
+    record {
+      few = omega (arith, some);
+      played = subst (λ (ps : List RoundPlan). ArePlayed mid.layout.slots mid.layout.nodes (weight_of mid) (len (map_of_index mid)) (map_of_index mid) (anchors_in (world mid)) ps (report ∷ [])
+          (map_of_index next) (anchors_in (world next))) one all;
+      told = All-from_recursion IsReportRound (report ∷ []) (round.told, tt);
+      weighs = omega (arith, weighs);
+      names = omega (arith, few, names);
+      layout = round.layout;
+      generation = omega (arith, gone, crowded);
+      index = round.opened.index;
+      quiet = round.opened.quiet;
+      settled = λ turned. opened.lines;
+    }
+
+-- behind those of one caller
+pub lone-then-crowd : (s mid next : Index) (plans : List RoundPlan) (count : ℕ) (reports told : List RoundReport) (plan : RoundPlan) (report : RoundReport) → LoneDone s (take count plans) reports mid →
+    AreFirstLone plans count → count < length plans → plan ≡ get_or plans count plan → IsPlayedCrowd mid plan report next → told ≡ reports ++ report ∷ [] → AreFirstPlayed s plans told next
+lone-then-crowd s mid next plans count reports told plan report done first less is round pushed =
+    let many = as-many s mid plans count reports done first.few in
+    let rest = length-drop (length reports) plans in
+    let several : is_crowd plan.ops ≡ true = ap (λ (p : RoundPlan). is_crowd p.ops) is ∙ first.next plan less in
+    let there : plan ≡ get_or (drop (length reports) plans) 0 plan =
+    is ∙ ap (λ (k : ℕ). get_or plans k plan) (omega (arith, many)) ∙ sym (get_or-drop (length reports) plans 0 plan) in
+    subst (λ (rs : List RoundReport). AreFirstPlayed s plans rs next) (sym pushed)
+    (goes-on s mid next plans reports (report ∷ []) (lone-first s mid plans count reports done first)
+    (crowd-first mid next (drop (length reports) plans) plan report (omega (arith, many, rest, less)) there several round) (omega arith))
+
+-- ---- generations and calls
+
+-- there is one more for the round of several callers
+pub next-there : (number : ℕ) (plans : List RoundPlan) (count : ℕ) → IsGeneration (number + crowds plans) → AreFirstLone plans count → count < length plans → (plan : RoundPlan) →
+    IsGeneration (suc number)
+next-there number plans count is first less plan =
+    let longer = ap crowds (take_more plans count plan less) ∙ crowds_add_up (take count plans) (get_or plans count plan ∷ []) in
+    let one = one-crowd (get_or plans count plan) (first.next plan less) in
+    let rest = crowds-split (count + 1) plans in
+    let fits = is.fits in
+    record { least = omega arith; fits = omega (arith, longer, one, rest, fits) }
+  where
+    crowds-split : (n : ℕ) (ps : List RoundPlan) → crowds ps ≡ crowds (take n ps) + crowds (drop n ps)
+    crowds-split n ps = ap crowds (sym (take-append-drop n ps)) ∙ crowds_add_up (take n ps) (drop n ps)
+
+-- as there are for the rounds that are left
+pub generations-left : (number now : ℕ) (plans : List RoundPlan) (n : ℕ) → IsGeneration (number + crowds plans) → now ≡ number + crowds (take n plans) → IsGeneration (now + crowds (drop n plans))
+generations-left number now plans n is so =
+    let both = ap crowds (sym (take-append-drop n plans)) ∙ crowds_add_up (take n plans) (drop n plans) in
+    subst IsGeneration (omega (arith, both, so)) is
+
+-- no more calls are left than there were
+pub calls-left : (plans : List RoundPlan) (n : ℕ) → calls_in (drop n plans) ≤ calls_in plans
+calls-left plans n = let both = sum_by-take-drop (λ (p : RoundPlan). length p.ops) plans n in omega (arith, both)
+
+pub calls-first : (plans : List RoundPlan) (n : ℕ) → calls_in (take n plans) ≤ calls_in plans
+calls-first plans n = let both = sum_by-take-drop (λ (p : RoundPlan). length p.ops) plans n in omega (arith, both)
+
+-- ---- rounds of one caller that come first
+
+pub none-first : (plans : List RoundPlan) → AreLoneRounds (take 0 plans)
+none-first plans = All-from_recursion (λ (p : RoundPlan). AreLoneCalls p.ops) [] tt
+
+pub one-first : (plans : List RoundPlan) (count : ℕ) (plan : RoundPlan) → count < length plans → plan ≡ get_or plans count plan → is_crowd plan.ops ≡ false → AreLoneRounds (take count plans) →
+    AreLoneRounds (take (count + 1) plans)
+one-first plans count plan less is none lone =
+    let longer : take (count + 1) plans ≡ take count plans ++ plan ∷ [] = take_more plans count plan less ∙ ap (λ (p : RoundPlan). take count plans ++ p ∷ []) (sym is) in
+    subst AreLoneRounds (sym longer) (All-push (λ (p : RoundPlan). AreLoneCalls p.ops) (take count plans) plan lone ((crowd_or_lone plan.ops).1 none))

@@ -1,0 +1,10 @@
+//! Rounds of one caller and of several, one after another.
+//!
+//! A round in which one caller at most has calls is played by that caller alone. In any other round each caller makes its
+//! calls in a thread of its own, and behind it the index is opened again, so that no later round finds a worn node.
+#![tactic(auto)]
+
+mod crowd;
+mod playing;
+
+pub use playing::{PlayedRounds, play_plans, play_rounds};

@@ -1,0 +1,185 @@
+//! Playing the rounds of a script.
+
+ghost use Rattle.std.specs.Prelude.{◌≡◌, ℕ, ◌+◌, ◌/◌, ◌<◌, ◌≤◌, ◌^◌, [], ◌∷◌, None, All, IfOk, length};
+ghost use Rattle.std.specs.FinMap.{empty, len};
+ghost use Rattle.cat_text.specs.ReportGrammar.{IsReportRound};
+ghost use Rattle.pm_words.specs.Images.{Row};
+ghost use Rattle.pm_words.specs.Layouts.{IsLayout};
+ghost use Rattle.version_lock.specs.Versions.{IsGeneration};
+ghost use Rattle.index_law.specs.Anchors.{anchors_in};
+ghost use Rattle.index_core.specs.Indexes.{IsIndex, map_of_index, world};
+ghost use Rattle.index_core.specs.Lone.{IsQuiet};
+ghost use Rattle.index_core.specs.Weights.{weight_of};
+ghost use Rattle.recovery.specs.Opened.{IsOpenedFrom};
+ghost use Rattle.core_rounds.specs.CoreMaps.{HasNoLines, Waits};
+ghost use Rattle.core_rounds.specs.LoneCalls.{AreLoneRounds, AreReportCalls, calls_in, crowds};
+ghost use Rattle.core_rounds.specs.Rounds.{ArePlayed, RoundsEndWithTurn};
+ghost use Rattle.core_rounds.specs.Waiting.{HaveNoTurns, changes_made, puts_asked, writes_asked};
+ghost use Rattle.crowd_rounds.specs.Segments.{AreFirstLone, AreFirstPlayed, ArePlayedOn};
+
+use crate::crowd::{Crowd, play_crowd};
+use cat_history::{Listed, NoMemory, RoundPlan};
+use cat_text::Report;
+use core_rounds::{LoneRounds, crowds, is_crowd, open_fresh, play_lone};
+use index_core::Core;
+use pac_index::Gate;
+use pm_words::Layout;
+use std::alloc::Global;
+use std::sync::Wait;
+use std::thread::Threads;
+
+/// Rounds that were played: their report, and the core that they leave, with no call in flight.
+#[derive(Drop)]
+pub struct PlayedRounds {
+    pub report: Report,
+    pub core: Core,
+}
+
+/// Plays the rounds, one after another, from an empty catalogue of this layout.
+///
+/// In a round of several callers each waits for nodes that others hold, and `gate` is called before each call and before
+/// each of its steps. Memory that runs out is the only refusal.
+pub fn play_plans<R: Threads + Wait + Sync, G: Gate>(
+    rt: &R,
+    alloc: Global,
+    layout: &Layout,
+    plans: &[RoundPlan],
+    gate: &G,
+) -> Result<PlayedRounds, NoMemory>
+    requires layout { IsLayout layout.now }
+    requires callers { All (λ plan. All (λ a. a.caller < layout.now.callers) plan.ops) plans.now }
+    requires told { All (λ plan. AreReportCalls plan.ops) plans.now }
+    requires limits { All (λ plan. plan.limit ≤ 2 ^ 62) plans.now }
+    requires joined { All (λ plan. plan.crash ≡ None) plans.now }
+    requires calls { calls_in plans.now ≤ 100000 }
+    ensures played { IfOk result (λ done. ArePlayed layout.now.slots layout.now.nodes (layout.now.slots / 2) 0 empty
+        ([] ∷ []) plans.now done.report (map_of_index done.core) (anchors_in (world done.core))) }
+    ensures report { IfOk result (λ done. All IsReportRound done.report) }
+{
+    let core = open_fresh(alloc, *layout)?;
+    play_rounds(rt, alloc, core, plans, gate)
+}
+
+/// Plays the rounds, one after another, on a core that an image was opened as, with nothing done with it since.
+///
+/// Behind each round of several callers the image is opened again, which takes the next generation. Memory that runs out
+/// is the only refusal.
+pub fn play_rounds<R: Threads + Wait + Sync, G: Gate>(
+    rt: &R,
+    alloc: Global,
+    core: Core,
+    plans: &[RoundPlan],
+    gate: &G,
+) -> Result<PlayedRounds, NoMemory>
+    requires opened { (image : Row) × IsOpenedFrom image core }
+    // There are as many generations behind its own as rounds of several callers.
+    requires generations { IsGeneration (core.generation + crowds plans.now) }
+    requires callers { All (λ plan. All (λ a. a.caller < core.layout.callers) plan.ops) plans.now }
+    requires told { All (λ plan. AreReportCalls plan.ops) plans.now }
+    requires limits { All (λ plan. plan.limit ≤ 2 ^ 62) plans.now }
+    requires joined { All (λ plan. plan.crash ≡ None) plans.now }
+    requires calls { calls_in plans.now ≤ 100000 }
+    // Each round is legal and reported, and the core has the map and the shape that follow the last one.
+    ensures played { IfOk result (λ done. ArePlayed core.layout.slots core.layout.nodes (weight_of core)
+        (len (map_of_index core)) (map_of_index core) (anchors_in (world core)) plans.now done.report
+        (map_of_index done.core) (anchors_in (world done.core))) }
+    ensures report { IfOk result (λ done. All IsReportRound done.report) }
+    ensures layout { IfOk result (λ done. done.core.layout ≡ core.layout) }
+    ensures generation { IfOk result (λ done. done.core.generation ≡ core.generation + crowds plans.now) }
+    ensures index { IfOk result (λ done. IsIndex done.core) }
+    ensures quiet { IfOk result (λ done. IsQuiet done.core) }
+    // Where the last round ends with a turn, no log line waits.
+    ensures settled { IfOk result (λ done. RoundsEndWithTurn plans.now → HasNoLines done.core) }
+    // Without turns the changes of the shape wait that the calls of one caller's rounds make.
+    ensures waits { IfOk result (λ done. AreLoneRounds plans.now → HaveNoTurns plans.now → (changes lines puts : ℕ) →
+        Waits core changes (lines + writes_asked plans.now) (puts + puts_asked plans.now) →
+        Waits done.core (changes + changes_made core.layout.slots (map_of_index core) (anchors_in (world core))
+        done.report) lines puts) }
+{
+    if crowds(plans) == 0 {
+        let LoneRounds { reports, core } = play_lone(alloc, core, plans)?;
+        return Ok(PlayedRounds {
+            report: Listed::of(reports),
+            core,
+        });
+    }
+    play_mixed(rt, alloc, core, plans, gate)
+}
+
+/// Plays rounds some of which are of several callers: the ones between two openings of the index, and so on.
+fn play_mixed<R: Threads + Wait + Sync, G: Gate>(
+    rt: &R,
+    alloc: Global,
+    core: Core,
+    plans: &[RoundPlan],
+    gate: &G,
+) -> Result<PlayedRounds, NoMemory>
+    requires opened { (image : Row) × IsOpenedFrom image core }
+    requires generations { IsGeneration (core.generation + crowds plans.now) }
+    requires callers { All (λ plan. All (λ a. a.caller < core.layout.callers) plan.ops) plans.now }
+    requires told { All (λ plan. AreReportCalls plan.ops) plans.now }
+    requires limits { All (λ plan. plan.limit ≤ 2 ^ 62) plans.now }
+    requires joined { All (λ plan. plan.crash ≡ None) plans.now }
+    requires calls { calls_in plans.now ≤ 100000 }
+    ensures { IfOk result (λ done. ArePlayedOn core plans.now done.report done.core) }
+{
+    let mut core = core;
+    let mut reports = Vec::new(alloc);
+    let mut at = 0;
+    while at < plans.len() {
+        let LoneRounds {
+            reports: mut told,
+            core: next,
+        } = play_segment(rt, alloc, core, &plans[at..], gate)?;
+        at += told.len();
+        reports.append(&mut told)?;
+        core = next;
+    }
+    Ok(PlayedRounds {
+        report: Listed::of(reports),
+        core,
+    })
+}
+
+/// Plays the rounds up to the first one of several callers and that one, or all of them, where none is. Where some are
+/// left, an image was opened as the core.
+fn play_segment<R: Threads + Wait + Sync, G: Gate>(
+    rt: &R,
+    alloc: Global,
+    core: Core,
+    plans: &[RoundPlan],
+    gate: &G,
+) -> Result<LoneRounds, NoMemory>
+    requires opened { (image : Row) × IsOpenedFrom image core }
+    requires generations { IsGeneration (core.generation + crowds plans.now) }
+    requires callers { All (λ plan. All (λ a. a.caller < core.layout.callers) plan.ops) plans.now }
+    requires told { All (λ plan. AreReportCalls plan.ops) plans.now }
+    requires limits { All (λ plan. plan.limit ≤ 2 ^ 62) plans.now }
+    requires joined { All (λ plan. plan.crash ≡ None) plans.now }
+    requires calls { calls_in plans.now ≤ 100000 }
+    ensures first { IfOk result (λ done. AreFirstPlayed core plans.now done.reports.items done.core) }
+    ensures some { IfOk result (λ done. 0 < length plans.now → 0 < length done.reports.items) }
+    ensures opened { IfOk result (λ done. length done.reports.items < length plans.now →
+        (image : Row) × IsOpenedFrom image done.core) }
+{
+    let count = lone_at_first(plans);
+    let LoneRounds { mut reports, core } = play_lone(alloc, core, &plans[..count])?;
+    if count == plans.len() {
+        return Ok(LoneRounds { reports, core });
+    }
+    let Crowd { report, core } = play_crowd(rt, alloc, core, &plans[count], gate)?;
+    reports.push(report)?;
+    Ok(LoneRounds { reports, core })
+}
+
+/// How many rounds of one caller come before the first one of several.
+fn lone_at_first(plans: &[RoundPlan]) -> usize
+    ensures { AreFirstLone plans.now result }
+{
+    for count in 0..plans.len() {
+        if is_crowd(plans[count].ops.as_slice()) {
+            return count;
+        }
+    }
+    plans.len()
+}
