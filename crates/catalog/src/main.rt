@@ -3,6 +3,7 @@
 
 use cat_text::{FileShelf, ReadSource, WriteSink};
 use catalog_cli::{Status, catalog};
+use pac_index::Gate;
 use std::process::ExitCode;
 use std::rt::Env;
 use std::{env, io};
@@ -10,41 +11,54 @@ use std::{env, io};
 /// What is built of the forms of the command line.
 const BUILT: &str = "\
     built so far: catalog play NODES SLOTS CALLERS, which reads a script on standard input,\n\
-    catalog run FILE, which plays one on a file and saves it,\n\
-    catalog gen SEED COUNT 1, which plays COUNT calls that are made from SEED and sums them up,\n\
+    catalog run FILE, which reads one to its end, plays it on a file and saves that,\n\
+    catalog gen SEED COUNT CALLERS, which plays COUNT calls that are made from SEED and sums them up,\n\
     catalog format FILE NODES SLOTS CALLERS, which makes a file of an empty catalogue,\n\
     and catalog words FILE FROM COUNT, which prints COUNT words of one from number FROM on\n\
     lines built so far: CALLER put NAME NUMBER, CALLER get NAME, CALLER del NAME, CALLER scan NAME COUNT, join, \
     updater CALLS, limit WRITES\n\
-    the calls of a round are those of one caller";
+    the callers of a round make their calls at once, each in a thread of its own: a report of several callers differs \
+    from run to run";
 
 const VERSION: &str = "catalog 0.1.0";
 
+/// A gate that holds no caller.
+struct OpenGate;
+
+impl Gate for OpenGate {
+    fn before(&self, _caller: u64, _index: u64) {}
+
+    fn within(&self, _caller: u64, _step: u64) {}
+}
+
+/// Answers `--help` and `--version`, and hands every other command on.
 fn main(rt: HostRuntime) -> ExitCode {
-    let status = run(&rt);
+    let status = match arguments(&rt) {
+        Err(status) => status,
+        Ok(words) => match only_word(&words) {
+            Some("--help") => shown(println!(rt; "{}\n{BUILT}", Status::Usage)),
+            Some("--version") => shown(println!(rt; "{VERSION}")),
+            _ => {
+                let mut script = ReadSource::new(rt.stdin());
+                let mut out = WriteSink::new(rt.stdout());
+                let mut shelf = FileShelf::new(&rt);
+                catalog(
+                    &rt,
+                    rt.alloc(),
+                    &words,
+                    &mut script,
+                    &mut out,
+                    &mut shelf,
+                    &OpenGate,
+                )
+            }
+        },
+    };
     if !matches!(status, Status::Done) {
         // Where not even this can be written, the exit code still tells.
         let _ = eprintln!(rt; "catalog: {status}");
     }
     ExitCode::from(status.code())
-}
-
-/// Answers `--help` and `--version`, and hands every other command on.
-fn run(rt: &HostRuntime) -> Status {
-    let words = match arguments(rt) {
-        Ok(words) => words,
-        Err(status) => return status,
-    };
-    match only_word(&words) {
-        Some("--help") => shown(println!(rt; "{}\n{BUILT}", Status::Usage)),
-        Some("--version") => shown(println!(rt; "{VERSION}")),
-        _ => {
-            let mut script = ReadSource::new(rt.stdin());
-            let mut out = WriteSink::new(rt.stdout());
-            let mut shelf = FileShelf::new(rt);
-            catalog(rt.alloc(), &words, &mut script, &mut out, &mut shelf)
-        }
-    }
 }
 
 /// How an answer of `main`'s own ends.

@@ -2,7 +2,7 @@
 use Rattle.std.proofs.Common.{◌≡◌, ℕ, ◌<◌, ◌⊎◌, true, List, refl, sym, ap, subst, ◌∙◌, arith, inl, inr}
 use Rattle.std.specs.Prelude.{Option, Some, None, IsSome, is_some}
 use Rattle.std.proofs.lemmas.Option.{same_Some}
-use Rattle.cat_script.proofs.ScriptLaws.{fault_is_no_script}
+use Rattle.cat_script.proofs.ScriptLaws.{fault_is_no_script, one_script}
 use Rattle.cat_script.specs.Scripts.{IsFirstFault, IsScript}
 use Rattle.cat_script.specs.declared.fault.ScriptFault.{ScriptFault}
 use Rattle.cat_script.specs.declared.script.Script.{Script}
@@ -18,13 +18,13 @@ use Rattle.catalog_cli.specs.Files.{FormatsSome, HasBytes, HasFile, HasImage, Ha
 use Rattle.catalog_cli.specs.Headline.{CanBeDone, CanBeRun, Comes, FinishesOnFile, HasNoText, IsCauseOf, IsFileCause, IsOfWords, IsScriptCause, LeavesFiles, LeavesOldOrNew, LeavesShelf, LeavesSink, Prints, ReachesFile, ReadsFile, Seen, TellsFile, TellsRunRefusal, TellsSource}
 use Rattle.catalog_cli.specs.Headline.Prints.{reports, runs, sums_up, makes_file, lists_words}
 use Rattle.catalog_cli.specs.Reports.{HasFault, IsRefusedBy}
-use Rattle.catalog_cli.specs.Runs.{AreBytesLeft, HasScript, IsNoScript, IsOpenable, IsRefusedOnFile, IsRunFileCause, IsRunLeft, IsRunOnFile, IsRunRefusal, IsRunRefused}
+use Rattle.catalog_cli.specs.Runs.{AreBytesLeft, HasScript, IsNoScript, IsOpenable, IsRefusedOnFile, IsRunFileCause, IsRunLeft, IsRunOnFile, IsRunRefusal, IsRunRefused, IsTooLate}
 use Rattle.catalog_cli.specs.declared.status.ImageRefusal.{ImageRefusal}
 use Rattle.catalog_cli.specs.declared.status.ImageRefusal.TheVariants as image
 use Rattle.catalog_cli.specs.declared.status.Status.{Status}
 use Rattle.catalog_cli.specs.declared.status.Status.TheVariants as status
 use Rattle.catalog_cli.proofs.ImageFaults.{one-image-fault}
-use Rattle.catalog_cli.proofs.Outcomes.{file-cause-names, no-file-made, no-file-read, no-form, no-name, not-formatted, not-formatted-read, not-listed, not-listed-run, one-fault, of-run, one-refusal, unrefused}
+use Rattle.catalog_cli.proofs.Outcomes.{file-cause-names, no-file-made, no-file-read, no-form, not-formatted, not-formatted-read, not-listed, not-listed-run, one-fault, one-refusal, unrefused}
 
 -- ---- what a shelf has
 
@@ -79,39 +79,39 @@ not-broken image a sound first = sound a.rule first.first.0 first.first.1.lowest
 -- ---- why a file is refused
 
 -- a file is refused in one way for a run
-one-run-cause : (files : FileMap) (name : List ℕ) (a b : ImageRefusal) → IsRunFileCause (Some files) name a → IsRunFileCause (Some files) name b → a ≡ b
-one-run-cause files name image.Missing image.Missing is is' = refl
-one-run-cause files name image.Missing image.Exists is is' = absurd is'
-one-run-cause files name image.Missing (image.Bytes fault) is is' = absurd (some-none files name (has-some files name is'.0 is'.1) is)
-one-run-cause files name image.Missing (image.Damaged rule word) is is' = absurd (some-none files name (image-some files name is'.0 is'.1) is)
-one-run-cause files name image.Missing image.Generations is is' = absurd (some-none files name (image-some files name is'.0 is'.1) is)
-one-run-cause files name image.Exists b is is' = absurd is
-one-run-cause files name (image.Bytes fault) image.Missing is is' = absurd (some-none files name (has-some files name is.0 is.1) is')
-one-run-cause files name (image.Bytes fault) image.Exists is is' = absurd is'
-one-run-cause files name (image.Bytes fault) (image.Bytes other) is is' =
+one-run-cause : (left left' : Option (List ℕ)) (files : FileMap) (name : List ℕ) (a b : ImageRefusal) → IsRunFileCause left (Some files) name a → IsRunFileCause left' (Some files) name b → a ≡ b
+one-run-cause left left' files name image.Missing image.Missing is is' = refl
+one-run-cause left left' files name image.Missing image.Exists is is' = absurd is'
+one-run-cause left left' files name image.Missing (image.Bytes fault) is is' = absurd (some-none files name (has-some files name is'.0 is'.1) is)
+one-run-cause left left' files name image.Missing (image.Damaged rule word) is is' = absurd (some-none files name (image-some files name is'.0 is'.1) is)
+one-run-cause left left' files name image.Missing image.Generations is is' = absurd (some-none files name (image-some files name is'.old is'.had) is)
+one-run-cause left left' files name image.Exists b is is' = absurd is
+one-run-cause left left' files name (image.Bytes fault) image.Missing is is' = absurd (some-none files name (has-some files name is.0 is.1) is')
+one-run-cause left left' files name (image.Bytes fault) image.Exists is is' = absurd is'
+one-run-cause left left' files name (image.Bytes fault) (image.Bytes other) is is' =
     ap image.Bytes (one-image-fault is.0 fault other is.2 (subst (λ (bs : List ℕ). IsFault bs other) (one-bytes files name is'.0 is.0 is'.1 is.1) is'.2))
-one-run-cause files name (image.Bytes fault) (image.Damaged rule word) is is' = absurd (no-image files name is'.0 fault is'.1 is)
-one-run-cause files name (image.Bytes fault) image.Generations is is' = absurd (no-image files name is'.0 fault is'.1 is)
-one-run-cause files name (image.Damaged rule word) image.Missing is is' = absurd (some-none files name (image-some files name is.0 is.1) is')
-one-run-cause files name (image.Damaged rule word) image.Exists is is' = absurd is'
-one-run-cause files name (image.Damaged rule word) (image.Bytes fault) is is' = absurd (no-image files name is.0 fault is.1 is')
-one-run-cause files name (image.Damaged rule word) (image.Damaged rule' word') is is' =
+one-run-cause left left' files name (image.Bytes fault) (image.Damaged rule word) is is' = absurd (no-image files name is'.0 fault is'.1 is)
+one-run-cause left left' files name (image.Bytes fault) image.Generations is is' = absurd (no-image files name is'.old fault is'.had is)
+one-run-cause left left' files name (image.Damaged rule word) image.Missing is is' = absurd (some-none files name (image-some files name is.0 is.1) is')
+one-run-cause left left' files name (image.Damaged rule word) image.Exists is is' = absurd is'
+one-run-cause left left' files name (image.Damaged rule word) (image.Bytes fault) is is' = absurd (no-image files name is.0 fault is.1 is')
+one-run-cause left left' files name (image.Damaged rule word) (image.Damaged rule' word') is is' =
     let broken = one-broken is'.0.layout is'.0.words (record { rule = rule; word = word }) (record { rule = rule'; word = word' })
     (subst (λ (r : Row). IsFirstOfAll r.layout r.words (record { rule = rule; word = word })) (one-image files name is.0 is'.0 is.1 is'.1) is.2) is'.2 in
     λ k. image.Damaged ((broken k).rule) ((broken k).word)
-one-run-cause files name (image.Damaged rule word) image.Generations is is' =
-    absurd (not-broken is'.0 (record { rule = rule; word = word }) is'.2.0
-    (subst (λ (r : Row). IsFirstOfAll r.layout r.words (record { rule = rule; word = word })) (one-image files name is.0 is'.0 is.1 is'.1) is.2))
-one-run-cause files name image.Generations image.Missing is is' = absurd (some-none files name (image-some files name is.0 is.1) is')
-one-run-cause files name image.Generations image.Exists is is' = absurd is'
-one-run-cause files name image.Generations (image.Bytes fault) is is' = absurd (no-image files name is.0 fault is.1 is')
-one-run-cause files name image.Generations (image.Damaged rule word) is is' =
-    absurd (not-broken is.0 (record { rule = rule; word = word }) is.2.0
-    (subst (λ (r : Row). IsFirstOfAll r.layout r.words (record { rule = rule; word = word })) (one-image files name is'.0 is.0 is'.1 is.1) is'.2))
-one-run-cause files name image.Generations image.Generations is is' = refl
+one-run-cause left left' files name (image.Damaged rule word) image.Generations is is' =
+    absurd (not-broken is'.old (record { rule = rule; word = word }) is'.late.0
+    (subst (λ (r : Row). IsFirstOfAll r.layout r.words (record { rule = rule; word = word })) (one-image files name is.0 is'.old is.1 is'.had) is.2))
+one-run-cause left left' files name image.Generations image.Missing is is' = absurd (some-none files name (image-some files name is.old is.had) is')
+one-run-cause left left' files name image.Generations image.Exists is is' = absurd is'
+one-run-cause left left' files name image.Generations (image.Bytes fault) is is' = absurd (no-image files name is.old fault is.had is')
+one-run-cause left left' files name image.Generations (image.Damaged rule word) is is' =
+    absurd (not-broken is.old (record { rule = rule; word = word }) is.late.0
+    (subst (λ (r : Row). IsFirstOfAll r.layout r.words (record { rule = rule; word = word })) (one-image files name is'.0 is.old is'.1 is.had) is'.2))
+one-run-cause left left' files name image.Generations image.Generations is is' = refl
 
 -- what a file that is read is refused for, it is refused for by a run
-as-run : (words : List (List ℕ)) (left : Option (List ℕ)) (files : Option FileMap) (a : ImageRefusal) → (FormatsSome words → ⊥) → IsFileCause words left files a → IsRunFileCause files (file_of words) a
+as-run : (words : List (List ℕ)) (left : Option (List ℕ)) (files : Option FileMap) (a : ImageRefusal) → (FormatsSome words → ⊥) → IsFileCause words left files a → IsRunFileCause left files (file_of words) a
 as-run words left files image.Missing other cause = cause.1
 as-run words left files image.Exists other cause = absurd (other cause.0)
 as-run words left files (image.Bytes fault) other cause = cause.1
@@ -135,35 +135,48 @@ one-file-cause words left left' files a b is is' = elim (read-cause words left (
   ]
   | inr read ↦
       let other : FormatsSome words → ⊥ = λ formats. not-formatted-read words left formats read in
-      one-run-cause files (file_of words) a b (as-run words left (Some files) a other is) (as-run words left' (Some files) b other is')
+      one-run-cause left left' files (file_of words) a b (as-run words left (Some files) a other is) (as-run words left' (Some files) b other is')
 ]
 
--- an image on which rounds can be played isn't refused
-not-openable : (files : FileMap) (name : List ℕ) (old : Row) (a : ImageRefusal) → HasImage (Some files) name old → IsOpenable old → IsRunFileCause (Some files) name a → ⊥
-not-openable files name old image.Missing had openable cause = some-none files name (image-some files name old had) cause
-not-openable files name old image.Exists had openable cause = cause
-not-openable files name old (image.Bytes fault) had openable cause = no-image files name old fault had cause
-not-openable files name old (image.Damaged rule word) had openable cause =
+-- where the source tells its bytes, they are known
+source-is : (bytes told : List ℕ) (left : Option (List ℕ)) → left ≡ Some bytes → AreBytesLeft left told → bytes ≡ told
+source-is bytes told left same source = subst (λ (l : Option (List ℕ)). AreBytesLeft l told) same source
+
+-- two scripts that the source had are one
+one-script-left : (left : Option (List ℕ)) (bytes a b : List ℕ) (script other : Script) → left ≡ Some bytes → AreBytesLeft left a → AreBytesLeft left b → IsScript a script → IsScript b other → script ≡ other
+one-script-left left bytes a b script other same source source' is is' =
+    let sources = sym (source-is bytes a left same source) ∙ source-is bytes b left same source' in
+    one_script b script other (subst (λ (bs : List ℕ). IsScript bs script) sources is) is'
+
+-- an image on which a script's rounds can be played isn't refused
+not-openable : (left : Option (List ℕ)) (bytes read : List ℕ) (script : Script) (files : FileMap) (name : List ℕ) (old : Row) (a : ImageRefusal) → left ≡ Some bytes → AreBytesLeft left read → IsScript read script →
+    HasImage (Some files) name old → IsOpenable old script.rounds → IsRunFileCause left (Some files) name a → ⊥
+not-openable left bytes read script files name old image.Missing same source is had openable cause = some-none files name (image-some files name old had) cause
+not-openable left bytes read script files name old image.Exists same source is had openable cause = cause
+not-openable left bytes read script files name old (image.Bytes fault) same source is had openable cause = no-image files name old fault had cause
+not-openable left bytes read script files name old (image.Damaged rule word) same source is had openable cause =
     not-broken old (record { rule = rule; word = word }) openable.sound
     (subst (λ (r : Row). IsFirstOfAll r.layout r.words (record { rule = rule; word = word })) (one-image files name cause.0 old cause.1 had) cause.2)
-not-openable files name old image.Generations had openable cause =
-    let same = one-image files name cause.0 old cause.1 had in
-    subst (λ (r : Row). (IsOpenable r → ⊥)) same (λ (can : IsOpenable cause.0). cause.2.1 can.next) openable
+not-openable left bytes read script files name old image.Generations same source is had openable cause =
+    let images = one-image files name cause.old old cause.had had in
+    let scripts = one-script-left left bytes cause.bytes read cause.script script same cause.source source cause.is_script is in
+    (subst (λ (r : Row). IsTooLate r script.rounds) images (subst (λ (s : Script). IsTooLate cause.old s.rounds) scripts cause.late)).1 openable.next
 
 -- a file on which the command can be done isn't refused
-not-refused : (words : List (List ℕ)) (left left' : Option (List ℕ)) (files : FileMap) (refusal : ImageRefusal) → CanBeDone words left (Some files) → IsFileCause words left' (Some files) refusal → ⊥
-not-refused words left left' files refusal (inl can) cause = elim (read-cause words left' (Some files) refusal cause) [
-  | inl made ↦ some-none files (file_of words) (subst (λ (r : ImageRefusal). IsFileCause words left' (Some files) r) made.1 cause).1 can.1
-  | inr read ↦ not-formatted-read words left' can.0 read
+not-refused : (words : List (List ℕ)) (told : Seen) (files : FileMap) (refusal : ImageRefusal) → (RunsScript words → TellsSource told) → CanBeDone words told.left (Some files) → IsFileCause words told.left (Some files) refusal → ⊥
+not-refused words told files refusal source (inl can) cause = elim (read-cause words told.left (Some files) refusal cause) [
+  | inl made ↦ some-none files (file_of words) (subst (λ (r : ImageRefusal). IsFileCause words told.left (Some files) r) made.1 cause).1 can.1
+  | inr read ↦ not-formatted-read words told.left can.0 read
 ]
-not-refused words left left' files refusal (inr (inr can)) cause =
-    not-openable files (file_of words) can.1.old refusal can.1.had can.1.openable (as-run words left' (Some files) refusal (not-formatted words can.0) cause)
-not-refused words left left' files image.Missing (inr (inl can)) cause = some-none files (file_of words) (has-some files (file_of words) can.1.0 can.1.1) cause.1
-not-refused words left left' files image.Exists (inr (inl can)) cause = not-listed words cause.0 can.0
-not-refused words left left' files (image.Bytes fault) (inr (inl can)) cause =
+not-refused words told files refusal source (inr (inr can)) cause =
+    not-openable told.left (source can.0).bytes can.1.bytes can.1.script files (file_of words) can.1.old refusal (source can.0).left can.1.source can.1.accepted.is_script can.1.had can.1.openable
+    (as-run words told.left (Some files) refusal (not-formatted words can.0) cause)
+not-refused words told files image.Missing source (inr (inl can)) cause = some-none files (file_of words) (has-some files (file_of words) can.1.0 can.1.1) cause.1
+not-refused words told files image.Exists source (inr (inl can)) cause = not-listed words cause.0 can.0
+not-refused words told files (image.Bytes fault) source (inr (inl can)) cause =
     can.1.2 fault (subst (λ (bs : List ℕ). IsFault bs fault) (one-bytes files (file_of words) cause.1.0 can.1.0 cause.1.1 can.1.1) cause.1.2)
-not-refused words left left' files (image.Damaged rule word) (inr (inl can)) cause = not-listed-run words cause.0.0 can.0
-not-refused words left left' files image.Generations (inr (inl can)) cause = not-listed-run words cause.0.0 can.0
+not-refused words told files (image.Damaged rule word) source (inr (inl can)) cause = not-listed-run words cause.0.0 can.0
+not-refused words told files image.Generations source (inr (inl can)) cause = not-listed-run words cause.0.0 can.0
 
 can-names : (words : List (List ℕ)) (left : Option (List ℕ)) (files : Option FileMap) → CanBeDone words left files → NamesFile words
 can-names words left files (inl can) = inl can.0
@@ -180,21 +193,17 @@ printed-on-file words told text files same (runs is run) names = inr (inr (
     source = run.source;
     old = run.old;
     had = subst (λ (fs : Option FileMap). HasImage fs (file_of words) run.old) same run.had;
-    openable = run.run.openable;
     script = run.run.report.script;
+    openable = run.run.openable;
     accepted = run.run.report.accepted;
   },
 ))
-printed-on-file words told text files same (sums_up seed count makes sum) names = absurd (no-file-made words (seed, count, makes) names)
+printed-on-file words told text files same (sums_up seed count callers makes sum) names = absurd (no-file-made words (seed, count, callers, makes) names)
 printed-on-file words told text files same (makes_file layout is none line) names = inl ((layout, is), subst (λ (fs : Option FileMap). HasNoFile fs (file_of words)) same none)
 printed-on-file words told text files same (lists_words from count bytes is has sound lines) names =
     inr (inl ((from, count, is), (bytes, subst (λ (fs : Option FileMap). HasBytes fs (file_of words) bytes) same has, sound)))
 
 -- ---- what a run reads
-
--- where the source tells its bytes, they are known
-source-is : (bytes told : List ℕ) (left : Option (List ℕ)) → left ≡ Some bytes → AreBytesLeft left told → bytes ≡ told
-source-is bytes told left same source = subst (λ (l : Option (List ℕ)). AreBytesLeft l told) same source
 
 -- they are a script, or none
 script-or-none : (bytes : List ℕ) (script : Script) (fault : ScriptFault) → IsScript bytes script → IsNoScript (Some bytes) fault → ⊥
@@ -245,13 +254,14 @@ no-script-cause words told answer files refusal is source (inr (run, inl none)) 
   | inr (inr ran) ↦ has-no-script told.left (source run).bytes none.0 (source run).left ran.1 none.1
 ]
 no-script-cause words told answer files refusal is source (inr (run, inr on_file)) refused =
-    not-openable files (file_of words) on_file.old refusal (subst (λ (fs : Option FileMap). HasImage fs (file_of words) on_file.old) is on_file.had) on_file.openable
+    not-openable told.left (source run).bytes on_file.bytes on_file.script files (file_of words) on_file.old refusal (source run).left on_file.source on_file.is_script
+    (subst (λ (fs : Option FileMap). HasImage fs (file_of words) on_file.old) is on_file.had) on_file.openable
     (as-run words told.left (Some files) refusal (not-formatted words run) refused)
 
 pub tells-file : (words : List (List ℕ)) (told : Seen) (written written' : Option (List ℕ)) (writes writes' : ℕ) (answer : Status) → LeavesSink words told answer written written' →
     IsCauseOf words told writes writes' answer → TellsFile words told answer
 tells-file words told written written' writes writes' status.Done sink cause files refusal is same source refused =
-    absurd (not-refused words told.left told.left files refusal (printed-on-file words told sink.text files is sink.prints (file-cause-names words told.left (Some files) refusal refused)) refused)
+    absurd (not-refused words told files refusal source (printed-on-file words told sink.text files is sink.prints (file-cause-names words told.left (Some files) refusal refused)) refused)
 tells-file words told written written' writes writes' status.Usage sink cause files refusal is same source refused =
     absurd (no-form words (inr (file-cause-names words told.left (Some files) refusal refused)) cause)
 tells-file words told written written' writes writes' (status.Script what) sink cause files refusal is same source refused =
@@ -260,14 +270,12 @@ tells-file words told written written' writes writes' status.Read sink (inl play
     absurd (no-file-read words plays (file-cause-names words told.left (Some files) refusal refused))
 tells-file words told written written' writes writes' status.Read sink (inr run, rose) files refusal is same source refused = let kept = (source run).reads in absurd (omega (arith, rose, kept))
 tells-file words told written written' writes writes' status.Write sink cause files refusal is same source refused =
-    absurd (not-refused words told.left told.left files refusal (printed-on-file words told sink.text files is sink.prints (file-cause-names words told.left (Some files) refusal refused)) refused)
+    absurd (not-refused words told files refusal source (printed-on-file words told sink.text files is sink.prints (file-cause-names words told.left (Some files) refusal refused)) refused)
 tells-file words told written written' writes writes' status.Shelf sink cause files refusal is same source refused = absurd (omega (arith, cause.1, same))
 tells-file words told written written' writes writes' status.NoMemory sink cause files refusal is same source refused = inr refl
 tells-file words told written written' writes writes' (status.Image other) sink cause files refusal is same source refused =
     inl (ap status.Image (one-file-cause words told.left told.left files other refusal (subst (λ (fs : Option FileMap). IsFileCause words told.left fs other) is cause) refused))
-tells-file words told written written' writes writes' (status.NotBuilt verb) sink (inl names) files refusal is same source refused =
-    absurd (no-name words verb (inr (file-cause-names words told.left (Some files) refusal refused)) names)
-tells-file words told written written' writes writes' (status.NotBuilt verb) sink (inr cause) files refusal is same source refused =
+tells-file words told written written' writes writes' (status.NotBuilt verb) sink cause files refusal is same source refused =
     absurd (no-script-cause words told (status.NotBuilt verb) files refusal is source cause refused)
 
 -- a command that can be done on its file isn't refused for a script
@@ -291,9 +299,8 @@ finishes-on-file words told writes writes' status.Write cause files is same sour
 finishes-on-file words told writes writes' status.Shelf cause files is same source same' can = absurd (omega (arith, cause.1, same))
 finishes-on-file words told writes writes' status.NoMemory cause files is same source same' can = inr refl
 finishes-on-file words told writes writes' (status.Image refusal) cause files is same source same' can =
-    absurd (not-refused words told.left told.left files refusal can (subst (λ (fs : Option FileMap). IsFileCause words told.left fs refusal) is cause))
-finishes-on-file words told writes writes' (status.NotBuilt verb) (inl names) files is same source same' can = absurd (no-name words verb (inr (can-names words told.left (Some files) can)) names)
-finishes-on-file words told writes writes' (status.NotBuilt verb) (inr cause) files is same source same' can = absurd (not-script-cause words told (status.NotBuilt verb) files is source cause can)
+    absurd (not-refused words told files refusal source can (subst (λ (fs : Option FileMap). IsFileCause words told.left fs refusal) is cause))
+finishes-on-file words told writes writes' (status.NotBuilt verb) cause files is same source same' can = absurd (not-script-cause words told (status.NotBuilt verb) files is source cause can)
 
 -- ---- a script that is refused for a run
 
@@ -304,7 +311,7 @@ runs-file words run = inr (inr run)
 printed-run : (words : List (List ℕ)) (told : Seen) (text : List ℕ) → RunsScript words → Prints words told text → IsRunOnFile told.left told.files told.files' (file_of words) text
 printed-run words told text run (reports layout bytes reads source report) = absurd (no-file-read words (layout, reads) (runs-file words run))
 printed-run words told text run (runs is played) = played
-printed-run words told text run (sums_up seed count makes sum) = absurd (no-file-made words (seed, count, makes) (runs-file words run))
+printed-run words told text run (sums_up seed count callers makes sum) = absurd (no-file-made words (seed, count, callers, makes) (runs-file words run))
 printed-run words told text run (makes_file layout is none line) = absurd (not-formatted words run (layout, is))
 printed-run words told text run (lists_words from count bytes is has sound lines) = absurd (not-listed-run words run (from, count, is))
 
@@ -373,8 +380,7 @@ no-script-told words told written written' writes writes' status.Shelf sink caus
 no-script-told words told written written' writes writes' status.NoMemory sink cause bytes fault run left same none = inr refl
 no-script-told words told written written' writes writes' (status.Image refusal) sink cause bytes fault run left same none =
     absurd (had-script words told run bytes left fault none (image-has words told.left told.files refusal run cause))
-no-script-told words told written written' writes writes' (status.NotBuilt verb) sink (inl names) bytes fault run left same none = absurd (no-name words verb (inr (runs-file words run)) names)
-no-script-told words told written written' writes writes' (status.NotBuilt verb) sink (inr cause) bytes fault run left same none =
+no-script-told words told written written' writes writes' (status.NotBuilt verb) sink cause bytes fault run left same none =
     refused-first words told run bytes left fault (status.NotBuilt verb) none (run-cause words told (status.NotBuilt verb) run cause)
 
 on-file-told : (words : List (List ℕ)) (told : Seen) (written written' : Option (List ℕ)) (writes writes' : ℕ) (answer : Status) → LeavesSink words told answer written written' →
@@ -391,10 +397,9 @@ on-file-told words told written written' writes writes' status.Write sink cause 
 on-file-told words told written written' writes writes' status.Shelf sink cause bytes files wanted run left same is same' refused = absurd (omega (arith, cause.1, same'))
 on-file-told words told written written' writes writes' status.NoMemory sink cause bytes files wanted run left same is same' refused = inr refl
 on-file-told words told written written' writes writes' (status.Image refusal) sink cause bytes files wanted run left same is same' refused =
-    absurd (not-openable files (file_of words) refused.old refusal refused.had refused.openable
-    (as-run words told.left (Some files) refusal (not-formatted words run) (subst (λ (fs : Option FileMap). IsFileCause words told.left fs refusal) is cause)))
-on-file-told words told written written' writes writes' (status.NotBuilt verb) sink (inl names) bytes files wanted run left same is same' refused = absurd (no-name words verb (inr (runs-file words run)) names)
-on-file-told words told written written' writes writes' (status.NotBuilt verb) sink (inr cause) bytes files wanted run left same is same' refused =
+    absurd (not-openable told.left bytes refused.bytes refused.script files (file_of words) refused.old refusal left (subst (λ (l : Option (List ℕ)). AreBytesLeft l refused.bytes) (sym left) refused.source) refused.is_script
+    refused.had refused.openable (as-run words told.left (Some files) refusal (not-formatted words run) (subst (λ (fs : Option FileMap). IsFileCause words told.left fs refusal) is cause)))
+on-file-told words told written written' writes writes' (status.NotBuilt verb) sink cause bytes files wanted run left same is same' refused =
     refused-then words told run bytes left files wanted (status.NotBuilt verb) is refused (run-cause words told (status.NotBuilt verb) run cause)
 
 pub tells-run : (words : List (List ℕ)) (told : Seen) (written written' : Option (List ℕ)) (writes writes' : ℕ) (answer : Status) → LeavesSink words told answer written written' →
@@ -425,7 +430,7 @@ not-told words told from count name (status.Image image.Generations) is same ref
 not-told words told from count name (status.NotBuilt verb) is same refused = absurd refused
 
 -- a run that is refused
-run-file-cause : (words : List (List ℕ)) (told : Seen) (refusal : ImageRefusal) → RunsScript words → HasScript told.left → IsRunFileCause told.files (file_of words) refusal → IsFileCause words told.left told.files refusal
+run-file-cause : (words : List (List ℕ)) (told : Seen) (refusal : ImageRefusal) → RunsScript words → HasScript told.left → IsRunFileCause told.left told.files (file_of words) refusal → IsFileCause words told.left told.files refusal
 run-file-cause words told image.Missing run has cause = (inr (run, has), cause)
 run-file-cause words told image.Exists run has cause = absurd cause
 run-file-cause words told (image.Bytes fault) run has cause = (inr (run, has), cause)
@@ -444,7 +449,7 @@ not-run words told name answer run same refused = by_case answer (subst (λ (n :
   by_case status.Shelf refused = (inr (inr (run, refused.0)), refused.1)
   by_case status.NoMemory refused = inr (inr (inr run))
   by_case (status.Image refusal) refused = run-file-cause words told refusal run refused.0 refused.1
-  by_case (status.NotBuilt verb) refused = inr (inr (run, refused))
+  by_case (status.NotBuilt verb) refused = inr (run, refused)
 
 -- it isn't refused as words alone are
 pub run-not-of-words : (left : Option (List ℕ)) (files : Option FileMap) (name : List ℕ) (reads reads' shelves shelves' : ℕ) (answer : Status) → IsRunRefused left files name reads reads' shelves shelves' answer → IsOfWords answer → ⊥
@@ -456,7 +461,7 @@ run-not-of-words left files name reads reads' shelves shelves' status.Write refu
 run-not-of-words left files name reads reads' shelves shelves' status.Shelf refused of_words = of_words
 run-not-of-words left files name reads reads' shelves shelves' status.NoMemory refused of_words = of_words
 run-not-of-words left files name reads reads' shelves shelves' (status.Image refusal) refused of_words = of_words
-run-not-of-words left files name reads reads' shelves shelves' (status.NotBuilt verb) refused of_words = of-run left files name verb refused of_words
+run-not-of-words left files name reads reads' shelves shelves' (status.NotBuilt verb) refused of_words = of_words
 
 -- and what it leaves
 pub run-leaves : (words : List (List ℕ)) (told : Seen) (name : List ℕ) (answer : Status) → RunsScript words → name ≡ file_of words → IsRunRefused told.left told.files name told.reads told.reads' told.shelves told.shelves' answer →

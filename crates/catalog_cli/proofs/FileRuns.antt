@@ -25,7 +25,7 @@ image-after files between files' name new kept saves = record { bytes = saves.by
 
 -- a script that isn't played to its end on the image of a file
 pub not-played-on : (left : Option (List ℕ)) (files : Option FileMap) (name bytes : List ℕ) (script : Script) (old : Row) (reads reads' shelves shelves' : ℕ) (answer : Status) → AreBytesLeft left bytes → IsScript bytes script →
-    HasImage files name old → IsPlayRefused old bytes answer → IsRunRefused left files name reads reads' shelves shelves' answer
+    HasImage files name old → IsPlayRefused old bytes script.rounds answer → IsRunRefused left files name reads reads' shelves shelves' answer
 not-played-on left files name bytes script old reads reads' shelves shelves' status.Done source is had refused = absurd refused
 not-played-on left files name bytes script old reads reads' shelves shelves' status.Usage source is had refused = absurd refused
 not-played-on left files name bytes script old reads reads' shelves shelves' (status.Script what) source is had refused =
@@ -38,7 +38,8 @@ not-played-on left files name bytes script old reads reads' shelves shelves' (st
 not-played-on left files name bytes script old reads reads' shelves shelves' (status.Image image.Exists) source is had refused = absurd refused
 not-played-on left files name bytes script old reads reads' shelves shelves' (status.Image (image.Bytes fault)) source is had refused = absurd refused
 not-played-on left files name bytes script old reads reads' shelves shelves' (status.Image (image.Damaged rule word)) source is had refused = ((bytes, script, source, is), (old, had, refused))
-not-played-on left files name bytes script old reads reads' shelves shelves' (status.Image image.Generations) source is had refused = ((bytes, script, source, is), (old, had, refused))
+not-played-on left files name bytes script old reads reads' shelves shelves' (status.Image image.Generations) source is had refused =
+    ((bytes, script, source, is), record { bytes = bytes; source = source; script = script; is_script = is; old = old; had = had; late = refused })
 not-played-on left files name bytes script old reads reads' shelves shelves' (status.NotBuilt verb) source is had refused =
     inr (record { bytes = bytes; source = source; script = script; is_script = is; old = old; had = had; openable = refused.0; refused = refused.1 })
 

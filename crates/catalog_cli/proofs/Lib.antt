@@ -1,8 +1,7 @@
 pub mod SeededCalls
-pub mod LonePlans
 pub mod Outcomes
+pub mod Playable
 pub mod PlayedReports
-pub mod ReportCalls
 pub mod RunEnds
 pub mod ScriptCalls
 pub mod ImageFaults

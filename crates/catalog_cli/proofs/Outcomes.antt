@@ -1,11 +1,10 @@
 -- How a run ended, by its causes: of the causes no two are given together.
-use Rattle.std.proofs.Common.{◌≡◌, ℕ, ◌==◌, ◌<◌, ◌⊎◌, ◌↔◌, Bool, true, false, cond, T, List, [], ◌∷◌, ◌++◌, length, get_or, refl, sym, ap, subst, ◌∙◌, arith, inl, inr}
-use Rattle.std.specs.Prelude.{Option, Some, None, All, IfSome}
+use Rattle.std.proofs.Common.{◌≡◌, ℕ, ◌==◌, ◌<◌, ◌↔◌, T, List, [], ◌∷◌, ◌++◌, length, get_or, refl, sym, ap, subst, ◌∙◌, arith, inl, inr}
+use Rattle.std.specs.Prelude.{Option, Some, All, IfSome}
 use Rattle.std.specs.Io.KnownBytes.{Appends, Keeps}
 use Rattle.std.specs.List.{AllByRecursion}
 use Rattle.std.specs.Str.Parse.{digits_value}
 use Rattle.std.proofs.lemmas.List.Elements.{recursion_from_All}
-use Rattle.std.proofs.lemmas.Bool.{cases_eq, ne_eqb}
 use Rattle.std.proofs.lemmas.Option.{none-some, same_Some}
 use Rattle.cat_command.specs.Commands.{IsCommand}
 use Rattle.cat_command.specs.declared.command.Command.{Command}
@@ -20,24 +19,20 @@ use Rattle.cat_script.specs.declared.script.Form.{Form}
 use Rattle.cat_script.specs.declared.script.Form.TheVariants as form
 use Rattle.cat_script.specs.declared.script.Script.{Script}
 use Rattle.cat_script.specs.declared.script.ScriptLine.{ScriptLine}
-use Rattle.cat_script.specs.declared.verb.Verb.{Verb as LineVerb}
-use Rattle.cat_script.specs.declared.verb.Verb.TheVariants as line
 use Rattle.pm_words.specs.declared.layout.Layout.{Layout}
 use Rattle.cat_text.specs.Outside.{AppendsPart}
-use Rattle.catalog_cli.specs.Built.{unbuilt_command, unbuilt_call, unbuilt_form, is_of_other, first_behind, first_word, first_unbuilt, IsCommandWord}
+use Rattle.catalog_cli.specs.Built.{first_unbuilt}
 use Rattle.catalog_cli.specs.Headline.{IsFileCause}
-use Rattle.catalog_cli.specs.Files.{FormatsSome, ListsSome, NamesFile, RunsScript, file_of}
-use Rattle.catalog_cli.specs.Headline.{ReadsScript, NamesCommand, LeavesShelf, LeavesSink, IsBuilt, IsRefusalOf, IsScriptCause, IsCauseOf, HasNoReport, HasNoText, IsOfWords, Seen, TellsRefusal, FinishesAccepted, FinishesGenerated, PlaysScript, ReadsSome, Generates, GeneratesSome, PlaysSome, Prints, PrintsAll, PrintsPart, ReachesFile, ReadsFile, IsFileCause}
+use Rattle.catalog_cli.specs.Files.{FormatsSome, ListsSome, NamesFile, RunsScript}
+use Rattle.catalog_cli.specs.Headline.{ReadsScript, NamesCommand, LeavesShelf, LeavesSink, IsRefusalOf, IsScriptCause, IsCauseOf, HasNoReport, HasNoText, IsOfWords, Seen, TellsRefusal, FinishesAccepted, FinishesGenerated, PlaysScript, ReadsSome, GeneratesSome, PlaysSome, Prints, PrintsAll, PrintsPart, ReachesFile, ReadsFile, IsFileCause}
 use Rattle.catalog_cli.specs.Reports.{IsAccepted, HasFault, IsRefusedBy}
-use Rattle.catalog_cli.specs.Runs.{AreBytesLeft, IsRunRefusal}
+use Rattle.catalog_cli.specs.Runs.{AreBytesLeft}
 use Rattle.catalog_cli.specs.Headline.Prints.{reports, runs, sums_up, makes_file, lists_words}
 use Rattle.catalog_cli.specs.declared.status.ImageRefusal.{ImageRefusal}
 use Rattle.catalog_cli.specs.declared.status.ImageRefusal.TheVariants as image
 use Rattle.cat_text.specs.Shelves.{FileMap, KeepsFiles}
 use Rattle.catalog_cli.specs.Refused.{IsOfNoCommand}
 use Rattle.catalog_cli.specs.Statuses.{status_of_script}
-use Rattle.catalog_cli.specs.declared.status.Verb.{Verb}
-use Rattle.catalog_cli.specs.declared.status.Verb.TheVariants as word
 use Rattle.catalog_cli.specs.declared.status.Status.{Status}
 use Rattle.catalog_cli.specs.declared.status.Status.TheVariants as status
 
@@ -61,39 +56,13 @@ letter-is words (Play layout) is = ap first_letter is.4
 letter-is words (Gen seed count callers) is = ap first_letter is.7
 letter-is words (Words from count) is = ap first_letter is.6
 
-abbrev word_by : ℕ → ℕ → Option Verb
-word_by n callers = cond (n == 103) (cond (callers == 1) None (Some word.Gen)) None
-
--- the number of callers of a command that tells it in its fourth word
-abbrev callers_told : List (List ℕ) → ℕ
-callers_told words = digits_value 10 (get_or words 3 [])
-
-word-is : (words : List (List ℕ)) (c : Command) → IsCommand words c → unbuilt_command c ≡ word_by (letter c) (callers_told words)
-word-is words (Format layout) is = refl
-word-is words Run is = refl
-word-is words (Play layout) is = refl
-word-is words (Gen seed count callers) is = ap (λ (n : ℕ). cond (n == 1) None (Some word.Gen)) (sym is.5.value ∙ ap callers_told (sym is.7))
-word-is words (Words from count) is = refl
-
-one-word : (words : List (List ℕ)) (a b : Command) → IsCommand words a → IsCommand words b → unbuilt_command a ≡ unbuilt_command b
-one-word words a b is is' =
-    word-is words a is ∙ ap (λ (n : ℕ). word_by n (callers_told words)) (sym (letter-is words a is) ∙ letter-is words b is') ∙ sym (word-is words b is')
-
--- a command that is built has a form, whose word isn't that of one that isn't
-built-command : (words : List (List ℕ)) → IsBuilt words → (command : Command) × IsCommand words command × (unbuilt_command command ≡ None)
-built-command words (inl (inl reads)) = (Play reads.0, reads.1, refl)
-built-command words (inl (inr makes)) = (Gen makes.0 makes.1 1, makes.2, refl)
-built-command words (inr (inl formats)) = (Format formats.0, formats.1, refl)
-built-command words (inr (inr (inl lists))) = (Words lists.0 lists.1, lists.2, refl)
-built-command words (inr (inr (inr ran))) = (Run, ran, refl)
-
-pub no-name : (words : List (List ℕ)) (verb : Verb) → IsBuilt words → NamesCommand words verb → ⊥
-no-name words verb built names =
-    let is = built-command words built in
-    none-some verb (sym is.2 ∙ one-word words is.0 names.0 is.1 names.1 ∙ names.2)
-
-pub no-form : (words : List (List ℕ)) → IsBuilt words → ((command : Command) → ¬ IsCommand words command) → ⊥
-no-form words built none = let is = built-command words built in none is.0 is.1
+-- words that name a command have a form
+pub no-form : (words : List (List ℕ)) → NamesCommand words → ((command : Command) → ¬ IsCommand words command) → ⊥
+no-form words (inl (inl reads)) none = none (Play reads.0) reads.1
+no-form words (inl (inr makes)) none = none (Gen makes.0 makes.1 makes.2) makes.3
+no-form words (inr (inl formats)) none = none (Format formats.0) formats.1
+no-form words (inr (inr (inl lists))) none = none (Words lists.0 lists.1) lists.2
+no-form words (inr (inr (inr ran))) none = none Run ran
 
 -- two commands of the same words begin with one letter
 letters : (words : List (List ℕ)) (a b : Command) → IsCommand words a → IsCommand words b → letter a ≡ letter b
@@ -101,7 +70,7 @@ letters words a b is is' = sym (letter-is words a is) ∙ letter-is words b is'
 
 -- a command that plays a script makes no calls from a seed
 pub not-both : (words : List (List ℕ)) → PlaysScript words → GeneratesSome words → ⊥
-not-both words reads makes = subst (λ (n : ℕ). T (n == 112)) (letters words (Play reads.0) (Gen makes.0 makes.1 1) reads.1 makes.2) tt
+not-both words reads makes = subst (λ (n : ℕ). T (n == 112)) (letters words (Play reads.0) (Gen makes.0 makes.1 makes.2) reads.1 makes.3) tt
 
 -- neither is a command on a file
 pub no-file-read : (words : List (List ℕ)) → PlaysScript words → NamesFile words → ⊥
@@ -110,9 +79,9 @@ no-file-read words reads (inr (inl lists)) = subst (λ (n : ℕ). T (n == 112)) 
 no-file-read words reads (inr (inr ran)) = subst (λ (n : ℕ). T (n == 112)) (letters words (Play reads.0) Run reads.1 ran) tt
 
 pub no-file-made : (words : List (List ℕ)) → GeneratesSome words → NamesFile words → ⊥
-no-file-made words makes (inl formats) = subst (λ (n : ℕ). T (n == 103)) (letters words (Gen makes.0 makes.1 1) (Format formats.0) makes.2 formats.1) tt
-no-file-made words makes (inr (inl lists)) = subst (λ (n : ℕ). T (n == 103)) (letters words (Gen makes.0 makes.1 1) (Words lists.0 lists.1) makes.2 lists.2) tt
-no-file-made words makes (inr (inr ran)) = subst (λ (n : ℕ). T (n == 103)) (letters words (Gen makes.0 makes.1 1) Run makes.2 ran) tt
+no-file-made words makes (inl formats) = subst (λ (n : ℕ). T (n == 103)) (letters words (Gen makes.0 makes.1 makes.2) (Format formats.0) makes.3 formats.1) tt
+no-file-made words makes (inr (inl lists)) = subst (λ (n : ℕ). T (n == 103)) (letters words (Gen makes.0 makes.1 makes.2) (Words lists.0 lists.1) makes.3 lists.2) tt
+no-file-made words makes (inr (inr ran)) = subst (λ (n : ℕ). T (n == 103)) (letters words (Gen makes.0 makes.1 makes.2) Run makes.3 ran) tt
 
 pub not-played : (words : List (List ℕ)) → PlaysSome words → NamesFile words → ⊥
 not-played words (inl reads) names = no-file-read words reads names
@@ -145,13 +114,6 @@ reaches-names words left (inr reads) = reads-names words left reads
 pub not-formatted-read : (words : List (List ℕ)) (left : Option (List ℕ)) → FormatsSome words → ReadsFile words left → ⊥
 not-formatted-read words left formats (inl lists) = not-listed words formats lists
 not-formatted-read words left formats (inr ran) = not-formatted words ran.0 formats
-
--- of a command that makes calls from a seed and is built the callers are one
-one-caller : (callers : ℕ) → cond (callers == 1) None (Some word.Gen) ≡ None → callers ≡ 1
-one-caller callers is = elim (cases_eq callers 1) [
-  | inl one ↦ one
-  | inr other ↦ absurd (none-some word.Gen (sym (sym (ap (λ (b : Bool). cond b None (Some word.Gen)) (ne_eqb callers 1 other)) ∙ is)))
-]
 
 same-callers : (words : List (List ℕ)) (a b : Layout) → ReadsScript words a → ReadsScript words b → a.callers ≡ b.callers
 same-callers words a b is is' =
@@ -239,7 +201,7 @@ unrefused callers bytes script status.Shelf is refused = refused
 unrefused callers bytes script status.NoMemory is refused = refused
 unrefused callers bytes script (status.Image refusal) is refused = refused
 unrefused callers bytes script (status.NotBuilt verb) is refused =
-    none-some verb (sym is.built ∙ ap (λ (s : Script). first_unbuilt None s.lines) (one_script bytes script refused.0 is.is_script refused.1) ∙ refused.3)
+    none-some verb (sym is.built ∙ ap (λ (s : Script). first_unbuilt s.lines) (one_script bytes script refused.0 is.is_script refused.1) ∙ refused.3)
 
 -- bytes are refused in one way
 pub one-refusal : (callers : ℕ) (bytes : List ℕ) (a b : Status) → IsRefusedBy callers bytes a → IsRefusedBy callers bytes b → a ≡ b
@@ -268,74 +230,18 @@ one-refusal callers bytes (status.NotBuilt verb) status.NoMemory is is' = absurd
 one-refusal callers bytes (status.NotBuilt verb) (status.Image refusal) is is' = absurd is'
 one-refusal callers bytes (status.NotBuilt verb) (status.Script what) is is' = absurd (faultless callers bytes is.0 what is.1 is.2 is')
 one-refusal callers bytes (status.NotBuilt verb) (status.NotBuilt other) is is' =
-    ap status.NotBuilt (same_Some verb other (sym is.3 ∙ ap (λ (s : Script). first_unbuilt None s.lines) (one_script bytes is.0 is'.0 is.1 is'.1) ∙ is'.3))
-
--- ---- the words of lines are none of commands
-
-of-call : (first : Option ℕ) (caller : ℕ) (verb : LineVerb) (w : Verb) → unbuilt_call first caller verb ≡ Some w → IsCommandWord w → ⊥
-of-call first caller line.Join w is command = none-some w is
-of-call first caller line.Crash w is command = none-some w is
-of-call first caller line.Updater w is command = none-some w is
-of-call first caller line.Limit w is command = none-some w is
-of-call first caller line.Put w is command = by_case (is_of_other first caller) is where
-  by_case : (b : Bool) → cond b (Some word.Put) None ≡ Some w → ⊥
-  by_case true is = subst IsCommandWord (sym (same_Some word.Put w is)) command
-  by_case false is = none-some w is
-of-call first caller line.Get w is command = by_case (is_of_other first caller) is where
-  by_case : (b : Bool) → cond b (Some word.Get) None ≡ Some w → ⊥
-  by_case true is = subst IsCommandWord (sym (same_Some word.Get w is)) command
-  by_case false is = none-some w is
-of-call first caller line.Del w is command = by_case (is_of_other first caller) is where
-  by_case : (b : Bool) → cond b (Some word.Del) None ≡ Some w → ⊥
-  by_case true is = subst IsCommandWord (sym (same_Some word.Del w is)) command
-  by_case false is = none-some w is
-of-call first caller line.Scan w is command = by_case (is_of_other first caller) is where
-  by_case : (b : Bool) → cond b (Some word.Scan) None ≡ Some w → ⊥
-  by_case true is = subst IsCommandWord (sym (same_Some word.Scan w is)) command
-  by_case false is = none-some w is
-
-of-form : (first : Option ℕ) (f : Form) (w : Verb) → unbuilt_form first f ≡ Some w → IsCommandWord w → ⊥
-of-form first (form.Call caller verb) w is command = of-call first caller verb w is command
-of-form first form.Join w is command = none-some w is
-of-form first (form.Crash callers) w is command = subst IsCommandWord (sym (same_Some word.Crash w is)) command
-of-form first form.Updater w is command = none-some w is
-of-form first form.Limit w is command = none-some w is
-
-either : (a b : Option Verb) (w : Verb) → first_word a b ≡ Some w → (a ≡ Some w) ⊎ (b ≡ Some w)
-either None b w is = inr is
-either (Some v) b w is = inl is
-
-of-lines : (first : Option ℕ) (lines : List ScriptLine) (w : Verb) → first_unbuilt first lines ≡ Some w → IsCommandWord w → ⊥
-of-lines first [] w is command = none-some w is
-of-lines first (l ∷ lines) w is command =
-    elim (either (unbuilt_form first l.form) (first_unbuilt (first_behind first l.form) lines) w is) [
-      | inl here ↦ of-form first l.form w here command
-      | inr later ↦ of-lines (first_behind first l.form) lines w later command
-    ]
-
--- no script is refused with the word of a command
-pub of-script : (callers : ℕ) (left : Option (List ℕ)) (w : Verb) → IsRefusalOf callers left (status.NotBuilt w) → IsCommandWord w → ⊥
-of-script callers left w (inl long) command = let is : status.NotBuilt w ≡ status.Script fault.Bytes = long.0 in cc
-of-script callers left w (inr refused) command = of-lines None refused.2.0.lines w refused.2.3 command
-
-pub of-run : (left : Option (List ℕ)) (files : Option FileMap) (name : List ℕ) (w : Verb) → IsRunRefusal left files name (status.NotBuilt w) → IsCommandWord w → ⊥
-of-run left files name w (inl none) command = let is : status.NotBuilt w ≡ status.Script none.0 = none.2 in cc
-of-run left files name w (inr refused) command = of-lines None refused.refused.0.lines w refused.refused.3 command
-
-pub of-cause : (words : List (List ℕ)) (told : Seen) (w : Verb) → IsScriptCause words told (status.NotBuilt w) → IsCommandWord w → ⊥
-of-cause words told w (inl plays) command = of-script plays.0.callers told.left w plays.2 command
-of-cause words told w (inr run) command = of-run told.left told.files (file_of words) w run.1 command
+    ap status.NotBuilt (same_Some verb other (sym is.3 ∙ ap (λ (s : Script). first_unbuilt s.lines) (one_script bytes is.0 is'.0 is.1 is'.1) ∙ is'.3))
 
 -- such a cause is that of a command that reads a script
 pub cause-reads : (words : List (List ℕ)) (told : Seen) (answer : Status) → IsScriptCause words told answer → ReadsSome words
 cause-reads words told answer (inl plays) = inl (plays.0, plays.1)
 cause-reads words told answer (inr run) = inr run.0
 
-pub reads-built : (words : List (List ℕ)) → ReadsSome words → IsBuilt words
-reads-built words (inl plays) = inl (inl plays)
-reads-built words (inr ran) = inr (inr (inr ran))
+pub reads-named : (words : List (List ℕ)) → ReadsSome words → NamesCommand words
+reads-named words (inl plays) = inl (inl plays)
+reads-named words (inr ran) = inr (inr (inr ran))
 
--- and so none is refused as words alone are
+-- none is refused as words alone are
 pub not-of-words : (callers : ℕ) (left : Option (List ℕ)) (reads reads' : ℕ) (answer : Status) → HasNoReport callers left reads reads' answer → IsOfWords answer → ⊥
 not-of-words callers left reads reads' status.Done cause of_words = of_words
 not-of-words callers left reads reads' status.Usage cause of_words = cause
@@ -345,7 +251,7 @@ not-of-words callers left reads reads' status.Write cause of_words = of_words
 not-of-words callers left reads reads' status.Shelf cause of_words = of_words
 not-of-words callers left reads reads' status.NoMemory cause of_words = of_words
 not-of-words callers left reads reads' (status.Image refusal) cause of_words = of_words
-not-of-words callers left reads reads' (status.NotBuilt verb) cause of_words = of-script callers left verb cause of_words
+not-of-words callers left reads reads' (status.NotBuilt verb) cause of_words = of_words
 
 -- why no report was made is why there is nothing to print
 pub no-report : (words : List (List ℕ)) (layout : Layout) (told : Seen) (answer : Status) → ReadsScript words layout →
@@ -358,9 +264,9 @@ no-report words layout told status.Write is cause = cause
 no-report words layout told status.Shelf is cause = absurd cause
 no-report words layout told status.NoMemory is cause = inl (inl (layout, is))
 no-report words layout told (status.Image refusal) is cause = absurd cause
-no-report words layout told (status.NotBuilt verb) is cause = inr (inl (layout, is, cause))
+no-report words layout told (status.NotBuilt verb) is cause = inl (layout, is, cause)
 
--- neither do words that name no command that is built
+-- nor is there for words that name no command
 pub no-command : (words : List (List ℕ)) (told : Seen) (answer : Status) → IsOfNoCommand words answer → HasNoText words told answer
 no-command words told status.Done cause = cause
 no-command words told status.Usage cause = cause
@@ -370,7 +276,7 @@ no-command words told status.Write cause = cause
 no-command words told status.Shelf cause = absurd cause
 no-command words told status.NoMemory cause = absurd cause
 no-command words told (status.Image refusal) cause = absurd cause
-no-command words told (status.NotBuilt verb) cause = inl cause
+no-command words told (status.NotBuilt verb) cause = absurd cause
 
 -- they leave the files as they were
 pub no-command-keeps : (words : List (List ℕ)) (told : Seen) (answer : Status) → IsOfNoCommand words answer → KeepsFiles told.files told.files' → LeavesShelf words told answer
@@ -382,7 +288,7 @@ no-command-keeps words told status.Write cause keeps = absurd cause
 no-command-keeps words told status.Shelf cause keeps = absurd cause
 no-command-keeps words told status.NoMemory cause keeps = absurd cause
 no-command-keeps words told (status.Image refusal) cause keeps = keeps
-no-command-keeps words told (status.NotBuilt verb) cause keeps = keeps
+no-command-keeps words told (status.NotBuilt verb) cause keeps = absurd cause
 
 -- so does a script for which there is no report
 pub no-report-keeps : (words : List (List ℕ)) (callers : ℕ) (told : Seen) (answer : Status) → HasNoReport callers told.left told.reads told.reads' answer → KeepsFiles told.files told.files' →
@@ -421,13 +327,13 @@ writes-none words told written status.NoMemory cause keeps = inl keeps
 writes-none words told written (status.Image refusal) cause keeps = keeps
 writes-none words told written (status.NotBuilt verb) cause keeps = keeps
 
--- what is printed is that of a command that is built
-pub printed-built : (words : List (List ℕ)) (told : Seen) (text : List ℕ) → Prints words told text → IsBuilt words
-printed-built words told text (reports layout bytes reads source report) = inl (inl (layout, reads))
-printed-built words told text (runs is run) = inr (inr (inr is))
-printed-built words told text (sums_up seed count makes sum) = inl (inr (seed, count, makes))
-printed-built words told text (makes_file layout is none line) = inr (inl (layout, is))
-printed-built words told text (lists_words from count bytes is has image lines) = inr (inr (inl (from, count, is)))
+-- what is printed is that of a command
+pub printed-named : (words : List (List ℕ)) (told : Seen) (text : List ℕ) → Prints words told text → NamesCommand words
+printed-named words told text (reports layout bytes reads source report) = inl (inl (layout, reads))
+printed-named words told text (runs is run) = inr (inr (inr is))
+printed-named words told text (sums_up seed count callers makes sum) = inl (inr (seed, count, callers, makes))
+printed-named words told text (makes_file layout is none line) = inr (inl (layout, is))
+printed-named words told text (lists_words from count bytes is has image lines) = inr (inr (inl (from, count, is)))
 
 -- a script that doesn't fit is refused for its fault
 pub unfit-refused : (callers : ℕ) (bytes : List ℕ) (script : Script) (what : ScriptFault) → IsScript bytes script → IsUnfitBy callers script.lines what → IsRefusedBy callers bytes (status_of_script what)
@@ -460,7 +366,7 @@ printed-unrefused : (words : List (List ℕ)) (layout : Layout) (bytes text : Li
 printed-unrefused words layout bytes text told wanted is same (reports other read reads source report) refused =
     unrefused layout.callers bytes report.script wanted (report-is words layout other bytes read report.script told.left is reads same source report.accepted) refused
 printed-unrefused words layout bytes text told wanted is same (runs run_is run) refused = no-file-read words (layout, is) (inr (inr run_is))
-printed-unrefused words layout bytes text told wanted is same (sums_up seed count makes sum) refused = not-both words (layout, is) (seed, count, makes)
+printed-unrefused words layout bytes text told wanted is same (sums_up seed count callers makes sum) refused = not-both words (layout, is) (seed, count, callers, makes)
 printed-unrefused words layout bytes text told wanted is same (makes_file other formatted none line) refused = no-file-read words (layout, is) (inl (other, formatted))
 printed-unrefused words layout bytes text told wanted is same (lists_words from count read listed has image lines) refused = no-file-read words (layout, is) (inr (inl (from, count, listed)))
 
@@ -492,8 +398,7 @@ tells words told written written' writes writes' status.Shelf sink cause layout 
 tells words told written written' writes writes' status.NoMemory sink cause layout bytes wanted is left same refused = inr refl
 tells words told written written' writes writes' (status.Image refusal) sink cause layout bytes wanted is left same refused =
     absurd (no-file-read words (layout, is) (file-cause-names words told.left told.files refusal cause))
-tells words told written written' writes writes' (status.NotBuilt verb) sink (inl names) layout bytes wanted is left same refused = absurd (no-name words verb (inl (inl (layout, is))) names)
-tells words told written written' writes writes' (status.NotBuilt verb) sink (inr cause) layout bytes wanted is left same refused =
+tells words told written written' writes writes' (status.NotBuilt verb) sink cause layout bytes wanted is left same refused =
     inl (one-refusal layout.callers bytes (status.NotBuilt verb) wanted (plays-cause words told layout bytes (status.NotBuilt verb) is left cause) refused)
 
 pub finishes : (words : List (List ℕ)) (told : Seen) (writes writes' : ℕ) (answer : Status) → IsCauseOf words told writes writes' answer → FinishesAccepted words told writes writes' answer
@@ -507,8 +412,7 @@ finishes words told writes writes' status.Shelf cause layout bytes script is lef
 finishes words told writes writes' status.NoMemory cause layout bytes script is left same same' accepted = inr refl
 finishes words told writes writes' (status.Image refusal) cause layout bytes script is left same same' accepted =
     absurd (no-file-read words (layout, is) (file-cause-names words told.left told.files refusal cause))
-finishes words told writes writes' (status.NotBuilt verb) (inl names) layout bytes script is left same same' accepted = absurd (no-name words verb (inl (inl (layout, is))) names)
-finishes words told writes writes' (status.NotBuilt verb) (inr cause) layout bytes script is left same same' accepted =
+finishes words told writes writes' (status.NotBuilt verb) cause layout bytes script is left same same' accepted =
     absurd (unrefused layout.callers bytes script (status.NotBuilt verb) accepted (plays-cause words told layout bytes (status.NotBuilt verb) is left cause))
 
 -- a generated round is played to its end
@@ -521,51 +425,25 @@ finishes-generated words told writes writes' status.Write cause makes same = abs
 finishes-generated words told writes writes' status.Shelf cause makes same = absurd (no-file-made words makes (reaches-names words told.left cause.0))
 finishes-generated words told writes writes' status.NoMemory cause makes same = inr refl
 finishes-generated words told writes writes' (status.Image refusal) cause makes same = absurd (no-file-made words makes (file-cause-names words told.left told.files refusal cause))
-finishes-generated words told writes writes' (status.NotBuilt verb) (inl names) makes same = absurd (no-name words verb (inl (inr makes)) names)
-finishes-generated words told writes writes' (status.NotBuilt verb) (inr cause) makes same = absurd (not-read-made words (cause-reads words told (status.NotBuilt verb) cause) makes)
+finishes-generated words told writes writes' (status.NotBuilt verb) cause makes same = absurd (not-read-made words (cause-reads words told (status.NotBuilt verb) cause) makes)
 
 -- words of no form come to their status
 of-no-form : (words : List (List ℕ)) (told : Seen) (writes writes' : ℕ) (answer : Status) → IsCauseOf words told writes writes' answer →
     ((command : Command) → ¬ IsCommand words command) → answer ≡ status.Usage
 of-no-form words told writes writes' status.Done cause none = absurd (no-form words cause none)
 of-no-form words told writes writes' status.Usage cause none = refl
-of-no-form words told writes writes' (status.Script what) cause none = absurd (no-form words (reads-built words (cause-reads words told (status.Script what) cause)) none)
-of-no-form words told writes writes' status.Read cause none = absurd (no-form words (reads-built words cause.0) none)
+of-no-form words told writes writes' (status.Script what) cause none = absurd (no-form words (reads-named words (cause-reads words told (status.Script what) cause)) none)
+of-no-form words told writes writes' status.Read cause none = absurd (no-form words (reads-named words cause.0) none)
 of-no-form words told writes writes' status.Write cause none = absurd (no-form words cause.0 none)
 of-no-form words told writes writes' status.Shelf cause none = absurd (no-form words (inr (reaches-names words told.left cause.0)) none)
 of-no-form words told writes writes' status.NoMemory cause none = absurd (no-form words cause none)
 of-no-form words told writes writes' (status.Image refusal) cause none = absurd (no-form words (inr (file-cause-names words told.left told.files refusal cause)) none)
-of-no-form words told writes writes' (status.NotBuilt verb) (inl names) none = absurd (none names.0 names.1)
-of-no-form words told writes writes' (status.NotBuilt verb) (inr cause) none = absurd (no-form words (reads-built words (cause-reads words told (status.NotBuilt verb) cause)) none)
+of-no-form words told writes writes' (status.NotBuilt verb) cause none = absurd (no-form words (reads-named words (cause-reads words told (status.NotBuilt verb) cause)) none)
 
 pub usage-exactly : (words : List (List ℕ)) (told : Seen) (writes writes' : ℕ) (answer : Status) → IsCauseOf words told writes writes' answer →
     (answer ≡ status.Usage) ↔ ((command : Command) → ¬ IsCommand words command)
 usage-exactly words told writes writes' answer cause =
     (λ is. subst (IsCauseOf words told writes writes') is cause, of-no-form words told writes writes' answer cause)
-
--- a command that isn't built comes to its word
-of-name : (words : List (List ℕ)) (told : Seen) (writes writes' : ℕ) (verb : Verb) (answer : Status) → IsCauseOf words told writes writes' answer →
-    NamesCommand words verb → answer ≡ status.NotBuilt verb
-of-name words told writes writes' verb status.Done cause names = absurd (no-name words verb cause names)
-of-name words told writes writes' verb status.Usage cause names = absurd (cause names.0 names.1)
-of-name words told writes writes' verb (status.Script what) cause names = absurd (no-name words verb (reads-built words (cause-reads words told (status.Script what) cause)) names)
-of-name words told writes writes' verb status.Read cause names = absurd (no-name words verb (reads-built words cause.0) names)
-of-name words told writes writes' verb status.Write cause names = absurd (no-name words verb cause.0 names)
-of-name words told writes writes' verb status.Shelf cause names = absurd (no-name words verb (inr (reaches-names words told.left cause.0)) names)
-of-name words told writes writes' verb status.NoMemory cause names = absurd (no-name words verb cause names)
-of-name words told writes writes' verb (status.Image refusal) cause names = absurd (no-name words verb (inr (file-cause-names words told.left told.files refusal cause)) names)
-of-name words told writes writes' verb (status.NotBuilt other) (inl named) names =
-    ap status.NotBuilt (same_Some other verb (sym named.2 ∙ one-word words named.0 names.0 named.1 names.1 ∙ names.2))
-of-name words told writes writes' verb (status.NotBuilt other) (inr cause) names = absurd (no-name words verb (reads-built words (cause-reads words told (status.NotBuilt other) cause)) names)
-
-names-it : (words : List (List ℕ)) (told : Seen) (verb : Verb) → IsCommandWord verb → NamesCommand words verb ⊎ IsScriptCause words told (status.NotBuilt verb) → NamesCommand words verb
-names-it words told verb command (inl names) = names
-names-it words told verb command (inr cause) = absurd (of-cause words told verb cause command)
-
-pub command-exactly : (words : List (List ℕ)) (told : Seen) (writes writes' : ℕ) (answer : Status) → IsCauseOf words told writes writes' answer →
-    (verb : Verb) → IsCommandWord verb → (answer ≡ status.NotBuilt verb) ↔ NamesCommand words verb
-command-exactly words told writes writes' answer cause verb command =
-    (λ is. names-it words told verb command (subst (IsCauseOf words told writes writes') is cause), of-name words told writes writes' verb answer cause)
 
 -- ---- what is printed
 
@@ -578,9 +456,3 @@ pub printed-part : (words : List (List ℕ)) (told : Seen) (written written' : O
 printed-part words told written written' text sent prints same part =
     let of_text = subst (AppendsPart written written') same part in
     record { text = text; count = of_text.0; short = of_text.1; prints = prints; sink = of_text.2 }
-
--- a command that is built and makes calls from a seed makes them for one caller
-pub makes-one : (words : List (List ℕ)) (c : Command) (seed count callers : ℕ) → IsCommand words c → unbuilt_command c ≡ None → c ≡ Gen seed count callers → Generates words seed count
-makes-one words c seed count callers is built same =
-    let one = one-caller callers (ap unbuilt_command (sym same) ∙ built) in
-    subst (IsCommand words) (same ∙ ap (Gen seed count) one) is

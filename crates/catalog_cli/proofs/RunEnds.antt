@@ -1,122 +1,142 @@
 -- What a script comes to that is played on an image.
-use native.Mathlib.Nat.{mul-le-mul}
-use Rattle.std.proofs.Common.{◌≡◌, ℕ, ◌+◌, ◌*◌, ◌≤◌, List, sym, ap, subst, ◌∙◌, arith, zero-add}
+use Rattle.std.proofs.Common.{◌≡◌, ℕ, suc, ◌+◌, ◌<◌, ◌≤◌, List, sym, ap, subst, ◌∙◌, arith, zero-add}
+use Rattle.std.specs.FinMap.{len}
 use Rattle.cat_history.specs.Maps.{Map}
 use Rattle.cat_history.specs.declared.plan.RoundPlan.{RoundPlan}
 use Rattle.cat_script.specs.declared.script.Script.{Script}
 use Rattle.cat_text.specs.ReportGrammar.{IsReportText}
 use Rattle.cat_text.specs.declared.report.RoundReport.{RoundReport}
 use Rattle.pm_words.specs.Images.{Row}
-use Rattle.pm_words.specs.Layouts.{IsLayout}
 use Rattle.pm_words.specs.declared.layout.Layout.{Layout}
 use Rattle.shapes.specs.Anchors.{Anchors}
-use Rattle.sound_image.specs.Sound.{IsMapOf, image_map}
+use Rattle.sound_image.specs.Rules.{header_generation}
+use Rattle.sound_image.specs.Sound.{image_map}
 use Rattle.sound_image.specs.Weights.{image_weight}
-use Rattle.std.specs.FinMap.{len}
+use Rattle.version_lock.specs.Versions.{IsGeneration}
 use Rattle.index_law.specs.Anchors.{anchors_in, image_anchors}
 use Rattle.index_core.specs.Indexes.{Index, map_of_index, world}
-use Rattle.core_rounds.specs.CoreMaps.{HasNoLines, ImageWaits, IsImageOf, IsNextRun, IsOfRun, IsOpenedMap, Waits, calls_left_of}
-use Rattle.core_rounds.specs.Waiting.{HaveNoTurns, changes_made, puts_asked, writes_asked}
-use Rattle.recovery.specs.Opened.{IsOpenFault}
-use Rattle.catalog_cli.specs.Reports.{IsAccepted, IsRefusedBy}
-use Rattle.core_rounds.specs.Rounds.{ArePlayedRounds, map_end, shape_end}
-use Rattle.core_rounds.specs.Rounds.{RoundsEndWithTurn}
-use Rattle.catalog_cli.specs.Runs.{IsImageAfter, IsOpenable, IsPlayRefused, IsRunOn, LinesWait, NeedNoTurns}
-use Rattle.catalog_cli.specs.Statuses.{status_of_open}
+use Rattle.index_core.specs.Weights.{weight_of}
+use Rattle.recovery.specs.Opened.{IsOpenedFrom, IsOpenFault}
 use Rattle.recovery.specs.declared.opening.OpenFault.{OpenFault}
 use Rattle.recovery.specs.declared.opening.OpenFault.TheVariants as opening
+use Rattle.core_rounds.specs.CoreMaps.{HasNoLines, ImageWaits, IsImageOf, Waits}
+use Rattle.core_rounds.specs.LoneCalls.{AreLoneRounds, crowds}
+use Rattle.core_rounds.specs.Rounds.{ArePlayed, RoundsEndWithTurn}
+use Rattle.core_rounds.specs.Waiting.{HaveNoTurns, changes_made, puts_asked, writes_asked}
+use Rattle.core_rounds.proofs.CoreMaps.{opened_is_map}
+use Rattle.catalog_cli.specs.Reports.{IsAccepted, IsRefusedBy}
+use Rattle.catalog_cli.specs.Runs.{IsOpenable, IsPlayRefused, IsRunOn, IsTooLate, LinesWait, NeedNoTurns, generation_after}
+use Rattle.catalog_cli.specs.Statuses.{status_of_open}
 use Rattle.catalog_cli.specs.declared.status.Status.{Status}
 use Rattle.catalog_cli.specs.declared.status.Status.TheVariants as status
-use Rattle.core_rounds.proofs.Played.{rounds-paid}
 
-pub opened-openable : (image : Row) (writes : ℕ) (s : Index) → IsOpenedMap image writes s → IsOpenable image
-opened-openable image writes s is = record { sound = is.sound; keeps = is.keeps; next = is.next }
+-- ---- refusals
+
+-- without a next generation there is none later
+no-later : (n more : ℕ) → ¬ IsGeneration (suc n) → ¬ IsGeneration (suc (n + more))
+no-later n more none is =
+    let fits = is.fits in
+    none (record { least = omega arith; fits = omega (arith, fits) })
 
 -- an image that isn't opened is refused so
-pub not-opened : (image : Row) (bytes : List ℕ) (fault : OpenFault) → IsOpenFault image fault → IsPlayRefused image bytes (status_of_open fault)
-not-opened image bytes (opening.Damaged rule word) is = is
-not-opened image bytes opening.Generations is = is
-not-opened image bytes opening.NoMemory is = tt
+pub not-opened : (image : Row) (bytes : List ℕ) (plans : List RoundPlan) (fault : OpenFault) → IsOpenFault image fault → IsPlayRefused image bytes plans (status_of_open fault)
+not-opened image bytes plans (opening.Damaged rule word) is = is
+not-opened image bytes plans opening.Generations is = (is.0, no-later (header_generation image.layout image.words) (crowds plans) is.1)
+not-opened image bytes plans opening.NoMemory is = tt
 
--- and so is a script that isn't accepted on one that is
-pub not-accepted : (image : Row) (bytes : List ℕ) (answer : Status) → IsOpenable image → IsRefusedBy image.layout.callers bytes answer → IsPlayRefused image bytes answer
-not-accepted image bytes status.Done openable refused = absurd refused
-not-accepted image bytes status.Usage openable refused = absurd refused
-not-accepted image bytes (status.Script what) openable refused = (openable, refused)
-not-accepted image bytes status.Read openable refused = absurd refused
-not-accepted image bytes status.Write openable refused = absurd refused
-not-accepted image bytes status.Shelf openable refused = absurd refused
-not-accepted image bytes status.NoMemory openable refused = absurd refused
-not-accepted image bytes (status.Image refusal) openable refused = absurd refused
-not-accepted image bytes (status.NotBuilt verb) openable refused = (openable, refused)
+-- so is one that is opened in too late a generation for the rounds
+pub too-late : (image : Row) (plans : List RoundPlan) (s : Index) (generation limit : ℕ) → IsOpenedFrom image s → generation ≡ header_generation image.layout image.words → limit ≡ 16777216 →
+    limit ≤ generation + crowds plans + 1 → IsTooLate image plans
+too-late image plans s generation limit is same limit_is late = (is.sound, λ next. let fits = next.fits in omega (arith, fits, same, limit_is, late))
+
+-- else they can be played
+pub can-be-played : (image : Row) (plans : List RoundPlan) (s : Index) (generation limit : ℕ) → IsOpenedFrom image s → generation ≡ header_generation image.layout image.words → limit ≡ 16777216 →
+    generation + crowds plans + 1 < limit → IsOpenable image plans
+can-be-played image plans s generation limit is same limit_is early =
+    record { sound = is.sound; keeps = (opened_is_map image s is).keeps; next = record { least = omega arith; fits = omega (arith, same, limit_is, early) } }
+
+-- a script that isn't accepted is refused so on an image that is opened
+pub not-accepted : (image : Row) (bytes : List ℕ) (plans : List RoundPlan) (answer : Status) → IsOpenable image plans → IsRefusedBy image.layout.callers bytes answer → IsPlayRefused image bytes plans answer
+not-accepted image bytes plans status.Done openable refused = absurd refused
+not-accepted image bytes plans status.Usage openable refused = absurd refused
+not-accepted image bytes plans (status.Script what) openable refused = (openable, refused)
+not-accepted image bytes plans status.Read openable refused = absurd refused
+not-accepted image bytes plans status.Write openable refused = absurd refused
+not-accepted image bytes plans status.Shelf openable refused = absurd refused
+not-accepted image bytes plans status.NoMemory openable refused = absurd refused
+not-accepted image bytes plans (status.Image refusal) openable refused = absurd refused
+not-accepted image bytes plans (status.NotBuilt verb) openable refused = (openable, refused)
+
+-- ---- rounds that were played
+
+-- the generations of the index are as many as the image's
+pub generations-left : (image : Row) (plans : List RoundPlan) (s : Index) → IsOpenedFrom image s → IsOpenable image plans → IsGeneration (s.generation + crowds plans)
+generations-left image plans s is openable =
+    let same = is.generation in
+    let all : generation_after image plans ≡ s.generation + crowds plans = omega (arith, same) in
+    subst IsGeneration all openable.next
+
+-- What was played on the index that an image is opened as: its last one, with the map and the shape that follow the last
+-- round, in which so many lines wait.
+pub record IsPlayedTo (s : Index) (plans : List RoundPlan) (reports : List RoundReport) (s' : Index) : Type 0 where
+  pub played : ArePlayed s.layout.slots s.layout.nodes (weight_of s) (len (map_of_index s)) (map_of_index s) (anchors_in (world s)) plans reports (map_of_index s') (anchors_in (world s'))
+  pub layout : s'.layout ≡ s.layout
+  pub generation : s'.generation ≡ s.generation + crowds plans
+  pub settled : RoundsEndWithTurn plans → HasNoLines s'
+  pub waits : AreLoneRounds plans → HaveNoTurns plans → (changes lines puts : ℕ) → Waits s changes (lines + writes_asked plans) (puts + puts_asked plans) →
+      Waits s' (changes + changes_made s.layout.slots (map_of_index s) (anchors_in (world s)) reports) lines puts
 
 -- the rounds that are played on an opened image are played on its map and its shape
-on-image : (image : Row) (writes : ℕ) (s : Index) (plans : List RoundPlan) (reports : List RoundReport) → IsOpenedMap image writes s →
-    ArePlayedRounds s.layout.slots s.layout.nodes (map_of_index s) (anchors_in (world s)) plans reports →
-    ArePlayedRounds image.layout.slots image.layout.nodes (image_map image.layout image.words) (image_anchors image.layout image.words) plans reports
-on-image image writes s plans reports is played =
-    subst (λ (a : Anchors). ArePlayedRounds image.layout.slots image.layout.nodes (image_map image.layout image.words) a plans reports) is.anchors
-    (subst (λ (m : Map). ArePlayedRounds image.layout.slots image.layout.nodes m (anchors_in (world s)) plans reports) is.contents
-    (subst (λ (l : Layout). ArePlayedRounds l.slots l.nodes (map_of_index s) (anchors_in (world s)) plans reports) is.layout played))
-
--- the image of the index that they leave is that of the next generation
-after-rounds : (image new : Row) (writes number : ℕ) (l : Layout) (s s' : Index) (reports : List RoundReport) → IsNextRun image l number → IsOpenedMap image writes s →
-    map_of_index s' ≡ map_end (map_of_index s) reports → anchors_in (world s') ≡ shape_end s.layout.slots (map_of_index s) (anchors_in (world s)) reports →
-    IsImageOf s' new → IsOfRun l number s' → IsImageAfter image reports new
-after-rounds image new writes number l s s' reports run is map_left shape_left kept of_run = record {
-  layout = kept.layout ∙ of_run.layout ∙ run.layout;
-  sound = kept.sound;
-  generation = kept.generation ∙ of_run.generation ∙ run.generation;
-  keeps = subst (IsMapOf new.layout new.words) (map_left ∙ ap (λ (m : Map). map_end m reports) is.contents) kept.keeps;
-  anchors = kept.anchors ∙ shape_left ∙ (λ k. shape_end ((is.layout k).slots) (is.contents k) (is.anchors k) reports);
-}
-
--- what the rounds leave to the updater, as the calls of the map tell it
-abbrev pub LeavesWaiting : Index → Index → List RoundPlan → List RoundReport → Type 0
-LeavesWaiting s s' plans reports = HaveNoTurns plans → (changes lines puts : ℕ) → Waits s changes (lines + writes_asked plans) (puts + puts_asked plans) →
-    Waits s' (changes + changes_made s.layout.slots (map_of_index s) (anchors_in (world s)) reports) lines puts
+on-image : (image : Row) (s : Index) (plans : List RoundPlan) (reports : List RoundReport) (end : Map) (shape : Anchors) → IsOpenedFrom image s →
+    ArePlayed s.layout.slots s.layout.nodes (weight_of s) (len (map_of_index s)) (map_of_index s) (anchors_in (world s)) plans reports end shape →
+    ArePlayed image.layout.slots image.layout.nodes (image_weight image.layout image.words) (len (image_map image.layout image.words)) (image_map image.layout image.words)
+    (image_anchors image.layout image.words) plans reports end shape
+on-image image s plans reports end shape is played =
+    let opened = opened_is_map image s is in
+    subst (λ (a : Anchors). ArePlayed image.layout.slots image.layout.nodes (image_weight image.layout image.words) (len (image_map image.layout image.words)) (image_map image.layout image.words) a plans reports end shape)
+    opened.anchors
+    (subst (λ (m : Map). ArePlayed image.layout.slots image.layout.nodes (image_weight image.layout image.words) (len m) m (anchors_in (world s)) plans reports end shape) opened.contents
+    (subst (λ (w : ℕ). ArePlayed image.layout.slots image.layout.nodes w (len (map_of_index s)) (map_of_index s) (anchors_in (world s)) plans reports end shape) opened.weighs
+    (subst (λ (l : Layout). ArePlayed l.slots l.nodes (weight_of s) (len (map_of_index s)) (map_of_index s) (anchors_in (world s)) plans reports end shape) is.layout played)))
 
 -- where they make no turn, so many lines of the image wait
-lines-wait : (image new : Row) (writes : ℕ) (s s' : Index) (plans : List RoundPlan) (reports : List RoundReport) → IsOpenedMap image writes s → IsImageOf s' new → LeavesWaiting s s' plans reports →
+lines-wait : (image new : Row) (s s' : Index) (plans : List RoundPlan) (reports : List RoundReport) → IsOpenedFrom image s → IsImageOf s' new → IsPlayedTo s plans reports s' →
     NeedNoTurns image plans → LinesWait image reports new
-lines-wait image new writes s s' plans reports is kept waits needs =
+lines-wait image new s s' plans reports is kept done needs =
+    let opened = opened_is_map image s is in
     let few = needs.lines in
     let nodes = needs.nodes in
-    let left = waits needs.none 0 0 0 (is.waits (0 + writes_asked plans) (0 + puts_asked plans) (omega (arith, few)) (omega (arith, nodes))) in
+    let left = done.waits needs.lone needs.none 0 0 0 (opened.waits (0 + writes_asked plans) (0 + puts_asked plans) (omega (arith, few)) (omega (arith, nodes))) in
     subst (ImageWaits new)
-    (left.ready ∙ zero-add (changes_made s.layout.slots (map_of_index s) (anchors_in (world s)) reports) ∙ (λ k. changes_made ((is.layout k).slots) (is.contents k) (is.anchors k) reports))
+    (left.ready ∙ zero-add (changes_made s.layout.slots (map_of_index s) (anchors_in (world s)) reports) ∙ (λ k. changes_made ((is.layout k).slots) (opened.contents k) (opened.anchors k) reports))
     kept.waits
 
 -- and all of it is a run on the image
-pub run-ends : (image new : Row) (writes number : ℕ) (l : Layout) (s s' : Index) (bytes text : List ℕ) (script : Script) (plans : List RoundPlan) (reports : List RoundReport) → IsLayout image.layout →
-    IsNextRun image l number → IsOpenedMap image writes s → IsAccepted image.layout.callers bytes script → plans ≡ script.rounds →
-    ArePlayedRounds s.layout.slots s.layout.nodes (map_of_index s) (anchors_in (world s)) plans reports → map_of_index s' ≡ map_end (map_of_index s) reports →
-    anchors_in (world s') ≡ shape_end s.layout.slots (map_of_index s) (anchors_in (world s)) reports → IsReportText text reports → IsImageOf s' new → IsOfRun l number s' →
-    (RoundsEndWithTurn plans → HasNoLines s') → LeavesWaiting s s' plans reports → IsRunOn image bytes text new
-run-ends image new writes number l s s' bytes text script plans reports layout run is accepted same played map_left shape_left told kept of_run settled waits =
-    let slots = layout in
-    let all = subst (λ (ps : List RoundPlan). ArePlayedRounds image.layout.slots image.layout.nodes (image_map image.layout image.words) (image_anchors image.layout image.words) ps reports) same
-    (on-image image writes s plans reports is played) in
+pub run-ends : (image new : Row) (s s' : Index) (bytes text : List ℕ) (script : Script) (plans : List RoundPlan) (reports : List RoundReport) → IsOpenedFrom image s → IsOpenable image plans →
+    IsAccepted image.layout.callers bytes script → plans ≡ script.rounds → IsPlayedTo s plans reports s' → IsReportText text reports → IsImageOf s' new → IsRunOn image bytes text new
+run-ends image new s s' bytes text script plans reports is openable accepted same done told kept =
+    let generation = is.generation in
+    let all : s.generation + crowds plans ≡ generation_after image plans = omega (arith, generation) in
     record {
-      openable = opened-openable image writes s is;
       report = record {
         script = script;
         reports = reports;
+        end = map_of_index s';
+        shape = anchors_in (world s');
         accepted = accepted;
-        played = all;
-        paid = rounds-paid image.layout.slots image.layout.nodes (image_weight image.layout image.words) (len (image_map image.layout image.words)) (image_map image.layout image.words)
-            (image_anchors image.layout image.words) script.rounds reports (omega (arith, slots)) is.within all;
+        played = subst (λ (ps : List RoundPlan). ArePlayed image.layout.slots image.layout.nodes (image_weight image.layout image.words) (len (image_map image.layout image.words))
+            (image_map image.layout image.words) (image_anchors image.layout image.words) ps reports (map_of_index s') (anchors_in (world s'))) same
+            (on-image image s plans reports (map_of_index s') (anchors_in (world s')) is done.played);
         told = told;
       };
-      after = after-rounds image new writes number l s s' reports run is map_left shape_left kept of_run;
-      turned = λ ends. kept.lines (settled (subst RoundsEndWithTurn (sym same) ends));
-      waits = λ needs. lines-wait image new writes s s' plans reports is kept waits (subst (NeedNoTurns image) (sym same) needs);
+      openable = subst (IsOpenable image) same openable;
+      after = record {
+        layout = kept.layout ∙ done.layout ∙ is.layout;
+        sound = kept.sound;
+        generation = kept.generation ∙ done.generation ∙ all ∙ ap (generation_after image) same;
+        keeps = kept.keeps;
+        anchors = kept.anchors;
+      };
+      turned = λ ends. kept.lines (done.settled (subst RoundsEndWithTurn (sym same) ends));
+      waits = λ needs. lines-wait image new s s' plans reports is kept done (subst (NeedNoTurns image) (sym same) needs);
     }
-
--- nodes and calls are few enough for all locks
-pub calls-enough : (image : Row) (writes : ℕ) (s : Index) (calls : ℕ) → IsLayout image.layout → IsOpenedMap image writes s → calls ≤ 100000 → calls * s.layout.nodes ≤ calls_left_of s
-calls-enough image writes s calls layout is few =
-    let nodes : s.layout.nodes ≤ 4096 = subst (λ (l : Layout). l.nodes ≤ 4096) (sym is.layout) (omega (arith, layout)) in
-    let product : calls * s.layout.nodes ≤ 100000 * 4096 = mul-le-mul few nodes in
-    let left = is.calls_left in
-    omega (arith, product, left)

@@ -1,25 +1,30 @@
--- Generated calls are those of one caller and of a report; and what a round does of them where none is refused.
-use Rattle.std.proofs.Common.{◌≡◌, ℕ, suc, ◌+◌, ◌*◌, ◌%◌, ◌<◌, ◌≤◌, ◌^◌, Bool, true, false, cond, nat_lt, List, [], ◌∷◌, ◌++◌, length, map, get_or, refl, sym, ap, ◌∙◌, subst, arith}
-use Rattle.std.specs.Prelude.{Option, Some, None, All, ◌↔◌}
-use Rattle.std.specs.List.{AllByRecursion}
-use Rattle.std.specs.Option.{option_to_list}
-use Rattle.std.specs.FinMap.{empty, len}
+-- Generated calls are those of a report, each caller's about names of its own; and what a round does of them where none is
+-- refused.
+use Rattle.std.proofs.Common.{◌≡◌, ℕ, suc, ◌+◌, ◌*◌, ◌/◌, ◌%◌, ◌<◌, ◌≤◌, ◌^◌, Bool, true, false, cond, nat_lt, List, [], ◌∷◌, ◌++◌, length, get_or, refl, sym, ap, ◌∙◌, subst, arith}
+use Rattle.std.specs.Prelude.{Option, Some, None, All, IfSome}
+use Rattle.std.specs.List.{AllByRecursion, cons_option}
+use Rattle.std.specs.FinMap.{empty}
+use Rattle.std.proofs.Math.Nat.{mod-lt}
 use Rattle.std.proofs.lemmas.Bool.{false≢true}
 use Rattle.std.proofs.lemmas.List.{length-map}
-use Rattle.std.proofs.lemmas.List.Elements.{All-from_recursion, recursion_from_All}
-use Rattle.std.proofs.lemmas.List.FromFn.{get_or-map-range_with_len, length-map-range_with_len}
-use Rattle.std.proofs.lemmas.List.Sums.{fold-append, sum_by-cons}
+use Rattle.std.proofs.lemmas.List.Elements.{All-contains, All-from_recursion}
+use Rattle.std.proofs.lemmas.List.FromFn.{get_or-map-range_with_len, length-enumerate_from, length-map-range_with_len}
+use Rattle.std.proofs.lemmas.List.Sorted.{length_permutation}
+use Rattle.std.proofs.lemmas.List.Sums.{sum_by-cons}
+use Rattle.std.proofs.lemmas.Option.{none-some, same_Some}
 use Rattle.cat_key.specs.Names.{IsName, IsNameByte}
+use Rattle.cat_history.specs.CrashEnds.{after_changes}
 use Rattle.cat_history.specs.Maps.{Map}
-use Rattle.cat_history.specs.Writes.{after_all, changed}
-use Rattle.cat_history.specs.LoneRounds.{write_of, writes_of, HoldsAlong, IsAnswerNow, IsLoneRound, IsSpent, IsSpentExactly}
-use Rattle.cat_history.specs.Records.{Call, call_of, numbered, numbered_after, placed_write}
-use Rattle.cat_history.specs.Rounds.{IsWriter}
-use Rattle.cat_history.proofs.LoneRoundLemmas.{writes_of-cons}
+use Rattle.cat_history.specs.Writes.{name_of}
+use Rattle.cat_history.specs.Records.{call_of, change_asked, interval_told, numbered, numbered_after, placed_write, placed_writes}
+use Rattle.cat_history.specs.Rounds.{IsAnswer, IsAnswered, IsJoinedRound}
 use Rattle.cat_history.specs.declared.op.CallerOp.{CallerOp}
+use Rattle.cat_history.specs.declared.op.Change.{Change}
+use Rattle.cat_history.specs.declared.op.Change.TheVariants as change
 use Rattle.cat_history.specs.declared.op.Op.{Op}
 use Rattle.cat_history.specs.declared.op.Op.TheVariants.{Put, Get, Del, Scan}
 use Rattle.cat_history.specs.declared.op.Write.{Write}
+use Rattle.cat_history.specs.declared.plan.RoundPlan.{RoundPlan}
 use Rattle.cat_history.specs.declared.record.Record.{Record}
 use Rattle.cat_history.specs.declared.record.Reply.{Reply}
 use Rattle.cat_history.specs.declared.record.Reply.TheVariants.{Old, Parts, Full, Spent, Cut, Unstarted}
@@ -28,21 +33,23 @@ use Rattle.cat_text.specs.ReportGrammar.{IsReportOp}
 use Rattle.cat_text.specs.Summaries.{summary_line}
 use Rattle.cat_text.specs.declared.report.RoundReport.{RoundReport}
 use Rattle.cat_text.specs.declared.summary.Summary.{Summary}
-use Rattle.cat_history.specs.declared.plan.RoundPlan.{RoundPlan}
-use Rattle.catalog_cli.specs.Headline.{done, all_done, IsSummaryOf}
-use Rattle.core_rounds.specs.Rounds.{ArePlayedRounds}
-use Rattle.core_rounds.specs.Rounds.{IsPlayedRound}
-use Rattle.catalog_cli.proofs.PlayedReports.{only-round, paid-round}
-use Rattle.core_rounds.specs.LoneCalls.{AreLoneCalls, AreReportCalls, IsReportCall, calls_in}
+use Rattle.shapes.specs.Anchors.{Anchors}
+use Rattle.caller_rounds.specs.Apart.{AreApart, TookPlace, changes_asked}
+use Rattle.caller_rounds.proofs.LoneOrder.{lone_is_in_order}
+use Rattle.core_rounds.specs.LoneCalls.{AreReportCalls, IsReportCall, calls_in}
+use Rattle.core_rounds.specs.Rounds.{ArePlayed, IsRoundTo}
+use Rattle.core_rounds.specs.Rounds.ArePlayed.{ends, lone, crowd}
 use Rattle.core_rounds.specs.Summaries.{IsWithin, full_in, is_full, summary_of}
+use Rattle.core_rounds.proofs.Played.{each_is_reported, only_round_is_legal}
+use Rattle.catalog_cli.specs.Headline.{done, all_done, IsSummaryOf}
 
 -- ---- what the calls are
 
-name-bytes : (key : ℕ) → key < 64 → AllByRecursion IsNameByte (generated_name 0 key)
-name-bytes key small = ((omega arith, omega arith), ((omega arith, omega arith), ((omega arith, omega arith), tt)))
+name-bytes : (caller key : ℕ) → caller < 16 → key < 64 → AllByRecursion IsNameByte (generated_name caller key)
+name-bytes caller key few small = ((omega arith, omega arith), ((omega arith, omega arith), ((omega arith, omega arith), tt)))
 
-is-name : (key : ℕ) → key < 64 → IsName (generated_name 0 key)
-is-name key small = record { some = omega arith; fits = omega arith; bytes = All-from_recursion IsNameByte (generated_name 0 key) (name-bytes key small) }
+is-name : (caller key : ℕ) → caller < 16 → key < 64 → IsName (generated_name caller key)
+is-name caller key few small = record { some = omega arith; fits = omega arith; bytes = All-from_recursion IsNameByte (generated_name caller key) (name-bytes caller key few small) }
 
 op-told : (choice number : ℕ) (name : List ℕ) → IsName name → number < 2 ^ 64 → IsReportOp (chosen_op choice name number)
 op-told choice number name named small = by_test (nat_lt choice 4) (nat_lt choice 6) (nat_lt choice 7) where
@@ -60,148 +67,174 @@ op-within choice number most name small = by_test (nat_lt choice 4) (nat_lt choi
   by_test false false true = tt
   by_test false false false = tt
 
--- what holds of each generated call holds of all
-each-call : (P : CallerOp → Type 0) (seed count : ℕ) → ((i : ℕ) → i < count → P (generated_call seed 1 i)) → All P (generated_calls seed count 1)
-each-call P seed count holds i d within =
-    let few : i < count = omega (arith, within, length-map-range_with_len (generated_call seed 1) 0 count) in
-    subst P (sym (get_or-map-range_with_len (generated_call seed 1) 0 count i i d few (omega arith))) (holds i few)
+-- a change that is asked for is one of its name
+op-names : (choice number : ℕ) (name : List ℕ) (c : Change) → change_asked (chosen_op choice name number) ≡ Some c → name_of c ≡ name
+op-names choice number name c = by_test (nat_lt choice 4) (nat_lt choice 6) (nat_lt choice 7) where
+  by_test : (a b d : Bool) → change_asked (cond a (Put name number) (cond b (Get name) (cond d (Del name) (Scan name 5)))) ≡ Some c → name_of c ≡ name
+  by_test true b d is = sym (ap name_of (same_Some (change.Put name number) c is))
+  by_test false true d is = absurd (none-some c is)
+  by_test false false true is = sym (ap name_of (same_Some (change.Del name) c is))
+  by_test false false false is = absurd (none-some c is)
 
-pub one-caller-calls : (seed count : ℕ) → AreLoneCalls (generated_calls seed count 1)
-one-caller-calls seed count = (0, each-call (λ (a : CallerOp). a.caller ≡ 0) seed count (λ i few. omega arith))
+-- the names of a caller's changes begin with its letter
+abbrev HasOwnLetter : CallerOp → Type 0
+HasOwnLetter a = (c : Change) → change_asked a.op ≡ Some c → get_or (name_of c) 0 0 ≡ 97 + a.caller
 
-pub calls-told : (seed count : ℕ) → count ≤ 100000 → AreReportCalls (generated_calls seed count 1)
-calls-told seed count few = each-call IsReportCall seed count (λ i less.
-    let caller : i % 1 ≡ 0 = omega arith in
-    let key = drawn seed (2 * i + 1) % 64 in
-    let named = subst (λ (n : ℕ). IsName (generated_name n key)) (sym caller) (is-name key (omega arith)) in
-    (omega (arith, caller), op-told (drawn seed (2 * i + 2) % 8) i (generated_name (i % 1) key) named (omega (arith, less, few))))
+module _ (seed count callers : ℕ) where
+  -- what holds of each generated call holds of all
+  each-call : (P : CallerOp → Type 0) → ((i : ℕ) → i < count → P (generated_call seed callers i)) → All P (generated_calls seed count callers)
+  each-call P holds i d within =
+      let few : i < count = omega (arith, within, length-map-range_with_len (generated_call seed callers) 0 count) in
+      subst P (sym (get_or-map-range_with_len (generated_call seed callers) 0 count i i d few (omega arith))) (holds i few)
 
-pub calls-within : (seed count : ℕ) → count ≤ 100000 → All (λ (a : CallerOp). IsWithin 100000 a.op) (generated_calls seed count 1)
-calls-within seed count few = each-call (λ (a : CallerOp). IsWithin 100000 a.op) seed count (λ i less.
-    op-within (drawn seed (2 * i + 2) % 8) i 100000 (generated_name (i % 1) (drawn seed (2 * i + 1) % 64)) (omega (arith, less, few)))
+  pub calls-fit : 1 ≤ callers → All (λ (a : CallerOp). a.caller < callers) (generated_calls seed count callers)
+  calls-fit some = each-call (λ (a : CallerOp). a.caller < callers) (λ i few. mod-lt i some)
 
--- one plan of them has no more calls than a script may
-pub one-plan-few : (seed count : ℕ) (plans : List RoundPlan) (plan : RoundPlan) → count ≤ 100000 → plan ≡ generated_plan seed count 1 → plans ≡ plan ∷ [] → calls_in plans ≤ 100000
-one-plan-few seed count plans plan few is one =
-    let all = ap calls_in one ∙ sum_by-cons (λ (p : RoundPlan). length p.ops) plan [] in
-    let each = ap (λ (p : RoundPlan). length p.ops) is ∙ length-map-range_with_len (generated_call seed 1) 0 count in
-    omega (arith, all, each, few)
+  pub calls-told : count ≤ 100000 → 1 ≤ callers → callers ≤ 16 → AreReportCalls (generated_calls seed count callers)
+  calls-told few some most = each-call IsReportCall (λ i less.
+      let below : i % callers < callers = mod-lt i some in
+      let caller : i % callers < 16 = omega (arith, below, most) in
+      let key = drawn seed (2 * i + 1) % 64 in
+      (caller, op-told (drawn seed (2 * i + 2) % 8) i (generated_name (i % callers) key) (is-name (i % callers) key caller (omega arith)) (omega (arith, less, few))))
 
--- ---- records of calls
+  pub calls-within : count ≤ 100000 → All (λ (a : CallerOp). IsWithin 100000 a.op) (generated_calls seed count callers)
+  calls-within few = each-call (λ (a : CallerOp). IsWithin 100000 a.op) (λ i less.
+      op-within (drawn seed (2 * i + 2) % 8) i 100000 (generated_name (i % callers) (drawn seed (2 * i + 1) % 64)) (omega (arith, less, few)))
 
--- what holds of the ops of calls holds of those of their records
-along-records : (P : Op → Type 0) (before : List ℕ) (asked : List CallerOp) (records : List Record) → map call_of records ≡ numbered_after before asked →
-    AllByRecursion (λ (a : CallerOp). P a.op) asked → AllByRecursion (λ (r : Record). P r.op) records
-along-records P before asked [] same all = tt
-along-records P before [] (r ∷ records) same all = let none = ap length same in absurd (omega (arith, none))
-along-records P before (a ∷ asked) (r ∷ records) same all =
-    let head : r.op ≡ a.op = ap (λ (cs : List Call). (get_or cs 0 (call_of r)).op) same in
-    let tails : map call_of records ≡ numbered_after (before ++ a.caller ∷ []) asked = cc in
-    (subst P (sym head) all.0, along-records P (before ++ a.caller ∷ []) asked records tails all.1)
+  pub calls-are : length (generated_calls seed count callers) ≡ count
+  calls-are = length-map-range_with_len (generated_call seed callers) 0 count
 
-pub records-within : (asked : List CallerOp) (records : List Record) → map call_of records ≡ numbered asked → All (λ (a : CallerOp). IsWithin 100000 a.op) asked →
-    All (λ (r : Record). IsWithin 100000 r.op) records
-records-within asked records same all =
-    All-from_recursion (λ (r : Record). IsWithin 100000 r.op) records
-    (along-records (IsWithin 100000) [] asked records same (recursion_from_All (λ (a : CallerOp). IsWithin 100000 a.op) asked all))
+  have-letters : All HasOwnLetter (generated_calls seed count callers)
+  have-letters = each-call HasOwnLetter (λ i less c is.
+      ap (λ (n : List ℕ). get_or n 0 0) (op-names (drawn seed (2 * i + 2) % 8) i (generated_name (i % callers) (drawn seed (2 * i + 1) % 64)) c is))
 
--- ---- calls done in their order
+  are-apart : AreApart (generated_calls seed count callers)
+  are-apart a b c d has has' is is' same =
+      let one = All-contains HasOwnLetter (generated_calls seed count callers) a have-letters has c is in
+      let other = All-contains HasOwnLetter (generated_calls seed count callers) b have-letters has' d is' in
+      omega (arith, one, other, ap (λ (n : List ℕ). get_or n 0 0) same)
 
--- a call that is neither full nor spent is done
-call-done : (place : ℕ) (m : Map) (caller index : ℕ) (op : Op) (reply : Reply) → IsAnswerNow m place op reply → is_full reply ≡ false → (IsSpent reply → ⊥) →
-    after_all m (write_of (record { caller = caller; index = index; op = op; reply = reply })) ≡ done m op
-call-done place m caller index (Put name value) (Old old at_place) answer full spent = refl
-call-done place m caller index (Get name) (Old old at_place) answer full spent = refl
-call-done place m caller index (Del name) (Old old at_place) answer full spent = refl
-call-done place m caller index (Scan from count) (Old old at_place) answer full spent = refl
-call-done place m caller index (Put name value) (Parts parts cut) answer full spent = absurd answer.1
-call-done place m caller index (Get name) (Parts parts cut) answer full spent = refl
-call-done place m caller index (Del name) (Parts parts cut) answer full spent = absurd answer.1
-call-done place m caller index (Scan from count) (Parts parts cut) answer full spent = refl
-call-done place m caller index op Full answer full spent = absurd (false≢true (sym full))
-call-done place m caller index op (Spent clock) answer full spent = absurd (spent tt)
-call-done place m caller index op (Cut mark) answer full spent = absurd answer
-call-done place m caller index op Unstarted answer full spent = absurd answer
+  -- one plan of them has no more calls than a script may
+  pub one-plan-few : (plans : List RoundPlan) (plan : RoundPlan) → count ≤ 100000 → plan ≡ generated_plan seed count callers → plans ≡ plan ∷ [] → calls_in plans ≤ 100000
+  one-plan-few plans plan few is one =
+      let all = ap calls_in one ∙ sum_by-cons (λ (p : RoundPlan). length p.ops) plan [] in
+      let each = ap (λ (p : RoundPlan). length p.ops) is ∙ calls-are in
+      omega (arith, all, each, few)
 
-one-write : (r : Record) → length (write_of r) ≤ 1
-one-write r = at_most (placed_write r) where
-  at_most : (w : Option (ℕ × Write)) → length (map (λ (w : ℕ × Write). w.1) (option_to_list w)) ≤ 1
-  at_most None = omega arith
-  at_most (Some w) = omega arith
+-- what holds of one plan holds of the list of it
+pub all-of-one : (P : RoundPlan → Type 0) (plans : List RoundPlan) (plan : RoundPlan) → plans ≡ plan ∷ [] → P plan → All P plans
+all-of-one P plans plan is holds = subst (All P) (sym is) (All-from_recursion P (plan ∷ []) (holds, tt))
+
+-- ---- calls that took place
 
 not-full : (b : Bool) (n : ℕ) → cond b 1 0 + n ≡ 0 → (b ≡ false) × (n ≡ 0)
 not-full true n none = absurd (omega (arith, none))
 not-full false n none = (refl, omega (arith, none))
 
--- so where none is full, and the places stay below the limit, the calls are done in their order
-in-order : (limit place : ℕ) (before : List ℕ) (m : Map) (asked : List CallerOp) (records : List Record) → HoldsAlong (λ m place r. IsAnswerNow m place r.op r.reply) m place records →
-    HoldsAlong (λ m place r. IsSpent r.reply ↔ (IsWriter r.op × (limit ≤ place))) m place records → map call_of records ≡ numbered_after before asked → full_in records ≡ 0 →
-    place + length records ≤ limit → after_all m (writes_of records) ≡ all_done m asked
-in-order limit place before m [] [] lone spent same none early = refl
-in-order limit place before m (a ∷ asked) [] lone spent same none early = let less = ap length same in absurd (omega (arith, less))
-in-order limit place before m [] (r ∷ records) lone spent same none early = let less = ap length same in absurd (omega (arith, less))
-in-order limit place before m (a ∷ asked) (r ∷ records) lone spent same none early =
-    let head : r.op ≡ a.op = ap (λ (cs : List Call). (get_or cs 0 (call_of r)).op) same in
-    let tails : map call_of records ≡ numbered_after (before ++ a.caller ∷ []) asked = cc in
+none-full : (records : List Record) → full_in records ≡ 0 → AllByRecursion (λ (r : Record). is_full r.reply ≡ false) records
+none-full [] none = tt
+none-full (r ∷ records) none =
     let counts = not-full (is_full r.reply) (full_in records) (sym (sum_by-cons (λ (q : Record). cond (is_full q.reply) 1 0) r records) ∙ none) in
-    let here = call-done place m r.caller r.index r.op r.reply lone.0 counts.0 (λ is. let late = (spent.0.0 is).1 in omega (arith, late, early)) in
-    let rest = in-order limit (place + length (write_of r)) (before ++ a.caller ∷ []) (after_all m (write_of r)) asked records lone.1 spent.1 tails counts.1 (omega (arith, one-write r, early)) in
-    ap (after_all m) (writes_of-cons r records) ∙ fold-append (λ n (w : Write). changed n w.change) m (write_of r) (writes_of records) ∙ rest
-    ∙ ap (λ (n : Map). all_done n asked) (here ∙ ap (done m) head)
+    (counts.0, none-full records counts.1)
 
-pub calls-done : (limit : ℕ) (m : Map) (asked : List CallerOp) (records : List Record) → IsLoneRound m records → IsSpentExactly limit m records → map call_of records ≡ numbered asked →
-    length records ≤ limit → full_in records ≡ 0 → after_all m (writes_of records) ≡ all_done m asked
-calls-done limit m asked records lone spent same early none = in-order limit 0 [] m asked records lone spent same none (omega (arith, early))
+one-more : (w : Option (ℕ × Write)) (ws : List (ℕ × Write)) → length (cons_option w ws) ≤ suc (length ws)
+one-more None ws = omega arith
+one-more (Some w) ws = omega arith
 
--- ---- the round
-
--- what is known of the round of such a plan
-pub record IsSeededRound (seed count : ℕ) (plan : RoundPlan) (report : RoundReport) : Type 0 where
-  pub lone : IsLoneRound empty report.records
-  pub within : All (λ (r : Record). IsWithin 100000 r.op) report.records
-  pub few : length report.records ≤ 100000
-  pub names : report.names ≡ len (after_all empty (writes_of report.records))
-  pub played : IsPlayedRound 64 1024 empty ([] ∷ []) (generated_plan seed count 1) report (writes_of report.records)
-  pub in_order : full_in report.records ≡ 0 → after_all empty (writes_of report.records) ≡ all_done empty (generated_calls seed count 1)
+few-placed : (records : List Record) → length (placed_writes records) ≤ length records
+few-placed [] = omega arith
+few-placed (r ∷ records) = omega (arith, one-more (placed_write r) (placed_writes records), few-placed records)
 
 numbered-length : (before : List ℕ) (asked : List CallerOp) → length (numbered_after before asked) ≡ length asked
 numbered-length before [] = refl
 numbered-length before (a ∷ asked) = ap suc (numbered-length (before ++ a.caller ∷ []) asked)
 
-seeded-round : (seed count : ℕ) (plan : RoundPlan) (report : RoundReport) → count ≤ 100000 → plan ≡ generated_plan seed count 1 →
-    IsPlayedRound 64 1024 empty ([] ∷ []) plan report (writes_of report.records) → IsSeededRound seed count plan report
-seeded-round seed count plan report few is round =
-    let asked = generated_calls seed count 1 in
-    let played = subst (λ (p : RoundPlan). IsPlayedRound 64 1024 empty ([] ∷ []) p report (writes_of report.records)) is round in
-    let calls : map call_of report.records ≡ numbered asked = played.in_script_order in
-    let as_many : length report.records ≡ count =
-    sym (length-map report.records call_of) ∙ ap length calls ∙ numbered-length [] asked ∙ length-map-range_with_len (generated_call seed 1) 0 count in
-    record {
-      lone = round.answers;
-      within = records-within asked report.records calls (calls-within seed count few);
-      few = omega (arith, as_many, few);
-      names = round.names;
-      played = played;
-      in_order = calls-done (2 ^ 62) empty asked report.records played.answers played.spent calls (omega (arith, as_many, few));
-    }
+-- a joined round has no more writes than calls
+few-writes : (base end : Map) (asked : List CallerOp) (limit : ℕ) (records : List Record) (writes : List Write) → IsJoinedRound base (numbered asked) limit records writes end → length writes ≤ length asked
+few-writes base end asked limit records writes is =
+    let calls = length_permutation _ _ is.legal.each_call in
+    let places = length_permutation _ _ is.legal.by_place in
+    omega (arith, calls, places, length-map records call_of, numbered-length [] asked, length-enumerate_from 0 writes, few-placed records)
 
-pub seeded : (seed count slots nodes : ℕ) (plans : List RoundPlan) (plan : RoundPlan) (reports told : List RoundReport) (report : RoundReport) → count ≤ 100000 →
-    plan ≡ generated_plan seed count 1 → plans ≡ plan ∷ [] → slots ≡ 64 → nodes ≡ 1024 → ArePlayedRounds slots nodes empty ([] ∷ []) plans reports → told ≡ reports →
-    report ≡ get_or told 0 report → IsSeededRound seed count plan report
-seeded seed count slots nodes plans plan reports told report few is one slots_are nodes_are played same first =
-    let first_of = first ∙ ap (λ (rs : List RoundReport). get_or rs 0 report) same in
-    let round = only-round slots nodes empty ([] ∷ []) plans plan reports report one played first_of in
-    seeded-round seed count plan report few is
-    (subst (λ (n : ℕ). IsPlayedRound n 1024 empty ([] ∷ []) plan report (writes_of report.records)) slots_are
-    (subst (λ (n : ℕ). IsPlayedRound slots n empty ([] ∷ []) plan report (writes_of report.records)) nodes_are round))
+-- one that is neither full nor spent took place
+took : (base : Map) (writes : List Write) (limit : ℕ) (op : Op) (reply : Reply) → length writes < limit → IsAnswer base writes limit op reply → IsAnswered reply →
+    IfSome (interval_told op reply) (λ i. i.end ≤ length writes) → is_full reply ≡ false → TookPlace reply
+took base writes limit op (Old old place) few answer answered within full = tt
+took base writes limit op (Parts parts cut) few answer answered within full = tt
+took base writes limit op Full few answer answered within full = absurd (false≢true (sym full))
+took base writes limit op (Spent clock) few answer answered within full = let late = answer.1 in absurd (omega (arith, late, within, few))
+took base writes limit op (Cut mark) few answer answered within full = absurd answered
+took base writes limit op Unstarted few answer answered within full = absurd answered
+
+all-took : (base end : Map) (asked : List CallerOp) (limit : ℕ) (records : List Record) (writes : List Write) → IsJoinedRound base (numbered asked) limit records writes end → length asked < limit →
+    full_in records ≡ 0 → All (λ (r : Record). TookPlace r.reply) records
+all-took base end asked limit records writes is early none i d inside =
+    let r = get_or records i d in
+    took base writes limit r.op r.reply (omega (arith, early, few-writes base end asked limit records writes is)) (is.legal.answers i d inside) (is.answered i d inside) (is.legal.within i d inside)
+    (All-from_recursion (λ (q : Record). is_full q.reply ≡ false) records (none-full records none) i d inside)
+
+-- ---- calls done in their order
+
+one-done : (m : Map) (op : Op) (rest : List Change) → after_changes m (cons_option (change_asked op) rest) ≡ after_changes (done m op) rest
+one-done m (Put name value) rest = refl
+one-done m (Get name) rest = refl
+one-done m (Del name) rest = refl
+one-done m (Scan from count) rest = refl
+
+changes-done : (m : Map) (asked : List CallerOp) → after_changes m (changes_asked asked) ≡ all_done m asked
+changes-done m [] = refl
+changes-done m (a ∷ asked) = one-done m a.op (changes_asked asked) ∙ changes-done (done m a.op) asked
+
+-- ---- the round
+
+abbrev IsSeeded : (seed count callers : ℕ) → RoundReport → Map → Anchors → Type 0
+IsSeeded seed count callers report end shape = ArePlayed 64 1024 32 0 empty ([] ∷ []) (generated_plan seed count callers ∷ []) (report ∷ []) end shape
+
+in-order : (seed count callers : ℕ) (report : RoundReport) (end : Map) (shape : Anchors) → count ≤ 100000 → IsSeeded seed count callers report end shape → full_in report.records ≡ 0 →
+    end ≡ all_done empty (generated_calls seed count callers)
+in-order seed count callers report end shape few (lone one round paid ends) none =
+    let asked = generated_calls seed count callers in
+    lone_is_in_order empty asked report.records round.answers round.in_script_order
+    (all-took empty end asked (2 ^ 62) report.records _ round.legal (omega (arith, calls-are seed count callers, few)) none) ∙ changes-done empty asked
+in-order seed count callers report end shape few (crowd some writes round next within ends) none =
+    let asked = generated_calls seed count callers in
+    round.apart (are-apart seed count callers) (all-took empty end asked (2 ^ 62) report.records writes round.legal (omega (arith, calls-are seed count callers, few)) none) ∙ changes-done empty asked
+
+one-report : (reports : List RoundReport) (report : RoundReport) → length reports ≡ 1 → report ≡ get_or reports 0 report → reports ≡ report ∷ []
+one-report [] report one first = absurd (omega (arith, one))
+one-report (r ∷ []) report one first = ap (λ (q : RoundReport). q ∷ []) (sym first)
+one-report (r ∷ s ∷ reports) report one first = absurd (omega (arith, one))
+
+-- what is played of one plan of such calls
+pub seeded : (seed count callers slots nodes : ℕ) (plans : List RoundPlan) (plan : RoundPlan) (reports told : List RoundReport) (report : RoundReport) (end : Map) (shape : Anchors) →
+    plan ≡ generated_plan seed count callers → plans ≡ plan ∷ [] → slots ≡ 64 → nodes ≡ 1024 → ArePlayed slots nodes (slots / 2) 0 empty ([] ∷ []) plans reports end shape → told ≡ reports →
+    report ≡ get_or told 0 report → IsSeeded seed count callers report end shape
+seeded seed count callers slots nodes plans plan reports told report end shape is one slots_are nodes_are played same first =
+    let plans_are : plans ≡ generated_plan seed count callers ∷ [] = one ∙ ap (λ (p : RoundPlan). p ∷ []) is in
+    let as_many : length reports ≡ 1 = each_is_reported slots nodes (slots / 2) 0 empty end ([] ∷ []) shape plans reports played ∙ ap length plans_are in
+    let only : reports ≡ report ∷ [] = one-report reports report as_many (first ∙ ap (λ (rs : List RoundReport). get_or rs 0 report) same) in
+    subst (λ (rs : List RoundReport). ArePlayed 64 1024 32 0 empty ([] ∷ []) (generated_plan seed count callers ∷ []) rs end shape) only
+    (subst (λ (ps : List RoundPlan). ArePlayed 64 1024 32 0 empty ([] ∷ []) ps reports end shape) plans_are
+    (subst (λ (n : ℕ). ArePlayed 64 n 32 0 empty ([] ∷ []) plans reports end shape) nodes_are
+    (subst (λ (n : ℕ). ArePlayed n nodes (n / 2) 0 empty ([] ∷ []) plans reports end shape) slots_are played)))
+
+-- a legal round of the plan that leaves what the pairs tell
+pub seeded-round : (seed count callers : ℕ) (plan : RoundPlan) (report : RoundReport) (end told : Map) (shape : Anchors) → plan ≡ generated_plan seed count callers → IsSeeded seed count callers report end shape →
+    told ≡ end → IsRoundTo empty plan report told
+seeded-round seed count callers plan report end told shape is played same =
+    subst (λ (p : RoundPlan). IsRoundTo empty p report told) (sym is)
+    (subst (IsRoundTo empty (generated_plan seed count callers) report) (sym same)
+    (only_round_is_legal 64 1024 32 0 empty end ([] ∷ []) shape (generated_plan seed count callers) report played))
 
 -- its summary
-pub summed-up : (seed count : ℕ) (plan : RoundPlan) (report : RoundReport) (summary : Summary) (text : List ℕ) → plan ≡ generated_plan seed count 1 → IsSeededRound seed count plan report →
-    summary ≡ summary_of plan.ops report.records (after_all empty (writes_of report.records)) → text ≡ summary_line summary → IsSummaryOf seed count text
-summed-up seed count plan report summary text is round sums told = record {
+pub summed-up : (seed count callers : ℕ) (plan : RoundPlan) (report : RoundReport) (end told : Map) (shape : Anchors) (summary : Summary) (text : List ℕ) → count ≤ 100000 →
+    plan ≡ generated_plan seed count callers → IsSeeded seed count callers report end shape → told ≡ end → summary ≡ summary_of plan.ops report.records told → text ≡ summary_line summary →
+    IsSummaryOf seed count callers text
+summed-up seed count callers plan report end told shape summary text few is played same sums printed = record {
   report = report;
-  played = round.played;
-  paid = paid-round 64 1024 (generated_plan seed count 1) report (omega arith) (omega arith) round.played;
-  told = told ∙ ap summary_line (sums ∙ ap (λ (p : RoundPlan). summary_of p.ops report.records (after_all empty (writes_of report.records))) is);
-  in_order = round.in_order;
+  end = end;
+  shape = shape;
+  played = played;
+  told = printed ∙ ap summary_line (sums ∙ (λ k. summary_of ((is k).ops) report.records (same k)));
+  in_order = in-order seed count callers report end shape few played;
 }

@@ -6,8 +6,6 @@ use Rattle.cat_command.specs.Commands.{IsCommand}
 use Rattle.cat_command.specs.declared.command.Command.{Command}
 use Rattle.cat_command.specs.declared.command.Command.TheVariants.{Play, Gen}
 use Rattle.cat_history.specs.Maps.{Map}
-use Rattle.cat_history.specs.Writes.{after_all}
-use Rattle.cat_history.specs.LoneRounds.{writes_of}
 use Rattle.cat_history.specs.declared.op.CallerOp.{CallerOp}
 use Rattle.cat_history.specs.declared.op.Op.{Op}
 use Rattle.cat_history.specs.declared.op.Op.TheVariants.{Put, Get, Del, Scan}
@@ -22,18 +20,16 @@ use Rattle.cat_text.specs.Shelves.{FileMap, KeepsFiles}
 use Rattle.pm_words.specs.Bytes.{HasNoFault, IsFault, bytes_of, words_in}
 use Rattle.pm_words.specs.Images.{Row, fresh_words}
 use Rattle.pm_words.specs.declared.layout.Layout.{Layout}
-use Rattle.catalog_cli.specs.Built.{unbuilt_command, IsCommandWord}
 use Rattle.catalog_cli.specs.Files.{Formats, FormatsSome, HasBytes, HasFile, HasImage, HasNoFile, ListsSome}
 use Rattle.catalog_cli.specs.Files.{ListsWords, MakesFile, NamesFile, RunsScript, file_of, formatted_line, lines_told}
 use Rattle.catalog_cli.specs.Reports.{IsAccepted, IsRefusedBy, IsReportOf, empty_opening}
-use Rattle.core_rounds.specs.Rounds.{ArePaidFromEmpty}
-use Rattle.core_rounds.specs.Rounds.{IsPlayedRound}
+use Rattle.core_rounds.specs.Rounds.{ArePlayed}
+use Rattle.shapes.specs.Anchors.{Anchors}
 use Rattle.catalog_cli.specs.Runs.{AreBytesLeft, HasScript, IsFileAfterRun, IsNoScript, IsOpenable}
 use Rattle.catalog_cli.specs.Runs.{IsRefusedOnFile, IsRunFileCause, IsRunOnFile, IsRunRefusal}
 use Rattle.core_rounds.specs.Summaries.{full_in, summary_of}
 use Rattle.catalog_cli.specs.declared.status.ImageRefusal.{ImageRefusal}
 use Rattle.catalog_cli.specs.declared.status.ImageRefusal.TheVariants as image
-use Rattle.catalog_cli.specs.declared.status.Verb.{Verb}
 use Rattle.catalog_cli.specs.declared.status.Status.{Status}
 use Rattle.catalog_cli.specs.declared.status.Status.TheVariants as status
 
@@ -44,13 +40,9 @@ use Rattle.catalog_cli.specs.declared.status.Status.TheVariants as status
 abbrev pub ReadsScript : List (List ℕ) → Layout → Type 0
 ReadsScript words layout = IsCommand words (Play layout)
 
--- The words of a command that plays the calls of one caller that a seed makes, so many.
-abbrev pub Generates : List (List ℕ) → ℕ → ℕ → Type 0
-Generates words seed count = IsCommand words (Gen seed count 1)
-
--- The words of a command that isn't built, whose word is this one.
-abbrev pub NamesCommand : List (List ℕ) → Verb → Type 0
-NamesCommand words verb = (command : Command) × IsCommand words command × (unbuilt_command command ≡ Some verb)
+-- The words of a command that plays the calls that a seed makes, so many, for so many callers.
+abbrev pub Generates : List (List ℕ) → ℕ → ℕ → ℕ → Type 0
+Generates words seed count callers = IsCommand words (Gen seed count callers)
 
 -- ---- generated rounds
 
@@ -65,17 +57,16 @@ done m (Scan from count) = m
 abbrev pub all_done : Map → List CallerOp → Map
 all_done m asked = fold (λ now (a : CallerOp). done now a.op) m asked
 
--- The text is the summary of a legal round of the calls that a seed makes for one caller, from an empty catalogue of
--- 1024 nodes of 64 slots. Where no call was answered that there is no room, the map at its end is that of the calls
--- done in their order.
-pub record IsSummaryOf (seed count : ℕ) (text : List ℕ) : Type 0 where
+-- The text is the summary of a legal round of the calls that a seed makes for so many callers, from an empty catalogue
+-- of 1024 nodes of 64 slots, whose one member weighs 32. Where no call was answered that there is no room, the map at
+-- its end is that of the calls done in their order.
+pub record IsSummaryOf (seed count callers : ℕ) (text : List ℕ) : Type 0 where
   pub report : RoundReport
-  pub played : IsPlayedRound 64 1024 empty ([] ∷ []) (generated_plan seed count 1) report (writes_of report.records)
-  pub paid : ArePaidFromEmpty 64 1024 (report ∷ [])
-  pub told : text ≡ summary_line (summary_of (generated_calls seed count 1) report.records
-      (after_all empty (writes_of report.records)))
-  pub in_order : full_in report.records ≡ 0 →
-      after_all empty (writes_of report.records) ≡ all_done empty (generated_calls seed count 1)
+  pub end : Map
+  pub shape : Anchors
+  pub played : ArePlayed 64 1024 32 0 empty ([] ∷ []) (generated_plan seed count callers ∷ []) (report ∷ []) end shape
+  pub told : text ≡ summary_line (summary_of (generated_calls seed count callers) report.records end)
+  pub in_order : full_in report.records ≡ 0 → end ≡ all_done empty (generated_calls seed count callers)
 
 -- ---- source and sink
 
@@ -108,7 +99,8 @@ pub data Prints (words : List (List ℕ)) (told : Seen) (text : List ℕ) : Type
   reports : (layout : Layout) (bytes : List ℕ) → ReadsScript words layout → AreBytesLeft told.left bytes →
       IsReportOf (empty_opening layout) bytes text → Prints words told text
   runs : RunsScript words → IsRunOnFile told.left told.files told.files' (file_of words) text → Prints words told text
-  sums_up : (seed count : ℕ) → Generates words seed count → IsSummaryOf seed count text → Prints words told text
+  sums_up : (seed count callers : ℕ) → Generates words seed count callers → IsSummaryOf seed count callers text →
+      Prints words told text
   makes_file : (layout : Layout) → Formats words layout → HasNoFile told.files (file_of words) →
       text ≡ formatted_line layout → Prints words told text
   lists_words : (from count : ℕ) (bytes : List ℕ) → ListsWords words from count →
@@ -199,7 +191,7 @@ IsOfWords status.Write = ⊥
 IsOfWords status.Shelf = ⊥
 IsOfWords status.NoMemory = ⊥
 IsOfWords (status.Image refusal) = ⊥
-IsOfWords (status.NotBuilt verb) = IsCommandWord verb
+IsOfWords (status.NotBuilt verb) = ⊥
 
 -- The status comes only when the source was read to its end, where a script is read.
 abbrev pub IsAfterReading : Status → Type 0
@@ -211,7 +203,7 @@ IsAfterReading status.Write = Unit {0}
 IsAfterReading status.Shelf = Unit {0}
 IsAfterReading status.NoMemory = ⊥
 IsAfterReading (status.Image refusal) = Unit {0}
-IsAfterReading (status.NotBuilt verb) = IsCommandWord verb → ⊥
+IsAfterReading (status.NotBuilt verb) = Unit {0}
 
 -- ---- causes
 
@@ -225,15 +217,15 @@ ReadsSome words = PlaysScript words ⊎ RunsScript words
 
 -- Some command that plays a generated round has these words.
 abbrev pub GeneratesSome : List (List ℕ) → Type 0
-GeneratesSome words = (seed count : ℕ) × Generates words seed count
+GeneratesSome words = (seed count callers : ℕ) × Generates words seed count callers
 
 -- Some command that plays rounds in memory alone has these words.
 abbrev pub PlaysSome : List (List ℕ) → Type 0
 PlaysSome words = PlaysScript words ⊎ GeneratesSome words
 
--- Some command that is built has these words.
-abbrev pub IsBuilt : List (List ℕ) → Type 0
-IsBuilt words = PlaysSome words ⊎ NamesFile words
+-- Some command has these words.
+abbrev pub NamesCommand : List (List ℕ) → Type 0
+NamesCommand words = PlaysSome words ⊎ NamesFile words
 
 -- The bytes that the source had left are refused so. Where they are too many for a script, that is all that is known of
 -- those of a source that doesn't tell them.
@@ -257,26 +249,26 @@ abbrev pub ReachesFile : List (List ℕ) → Option (List ℕ) → Type 0
 ReachesFile words left = FormatsSome words ⊎ ReadsFile words left
 
 -- Why a file is refused: one to be made is there, one to be read isn't, its bytes are no image, with this fault, or one
--- on which a script is to be run has a rule broken, this one first, or the last generation.
+-- on which a script is to be run has a rule broken, this one first, or is too late for it.
 abbrev pub IsFileCause : List (List ℕ) → Option (List ℕ) → Option FileMap → ImageRefusal → Type 0
 IsFileCause words left files image.Missing = ReadsFile words left × HasNoFile files (file_of words)
 IsFileCause words left files image.Exists = FormatsSome words × HasFile files (file_of words)
 IsFileCause words left files (image.Bytes fault) =
     ReadsFile words left × ((bytes : List ℕ) × HasBytes files (file_of words) bytes × IsFault bytes fault)
 IsFileCause words left files (image.Damaged rule word) = (RunsScript words × HasScript left) ×
-    IsRunFileCause files (file_of words) (image.Damaged rule word)
+    IsRunFileCause left files (file_of words) (image.Damaged rule word)
 IsFileCause words left files image.Generations = (RunsScript words × HasScript left) ×
-    IsRunFileCause files (file_of words) image.Generations
+    IsRunFileCause left files (file_of words) image.Generations
 
--- A run can be done on the file of this name with what the source had left: there is an image on which rounds can be
--- played, and a script that fits its layout and is built.
+-- A run can be done on the file of this name with what the source had left: there is an image, and a script that fits
+-- its layout, is built, and has rounds that can be played on it.
 pub record CanBeRun (left : Option (List ℕ)) (files : Option FileMap) (name : List ℕ) : Type 0 where
   pub bytes : List ℕ
   pub source : AreBytesLeft left bytes
   pub old : Row
   pub had : HasImage files name old
-  pub openable : IsOpenable old
   pub script : Script
+  pub openable : IsOpenable old script.rounds
   pub accepted : IsAccepted old.layout.callers bytes script
 
 -- The file is one that the command can be done on: there is none yet, or it has the bytes of an image, or a run can be
@@ -288,17 +280,16 @@ CanBeDone words left files = (FormatsSome words × HasNoFile files (file_of word
 
 -- Why a run ended so. Of the sink it is told how many of its calls failed before it and after it.
 abbrev pub IsCauseOf : List (List ℕ) → Seen → (writes writes' : ℕ) → Status → Type 0
-IsCauseOf words told writes writes' status.Done = IsBuilt words
+IsCauseOf words told writes writes' status.Done = NamesCommand words
 IsCauseOf words told writes writes' status.Usage = (command : Command) → ¬ IsCommand words command
 IsCauseOf words told writes writes' (status.Script fault) = IsScriptCause words told (status.Script fault)
 IsCauseOf words told writes writes' status.Read = ReadsSome words × (told.reads < told.reads')
-IsCauseOf words told writes writes' status.Write = IsBuilt words × (writes < writes')
+IsCauseOf words told writes writes' status.Write = NamesCommand words × (writes < writes')
 IsCauseOf words told writes writes' status.Shelf =
     ReachesFile words told.left × (told.shelves < told.shelves')
-IsCauseOf words told writes writes' status.NoMemory = IsBuilt words
+IsCauseOf words told writes writes' status.NoMemory = NamesCommand words
 IsCauseOf words told writes writes' (status.Image refusal) = IsFileCause words told.left told.files refusal
-IsCauseOf words told writes writes' (status.NotBuilt verb) =
-    NamesCommand words verb ⊎ IsScriptCause words told (status.NotBuilt verb)
+IsCauseOf words told writes writes' (status.NotBuilt verb) = IsScriptCause words told (status.NotBuilt verb)
 
 -- Why a command has nothing to print.
 abbrev pub HasNoText : List (List ℕ) → Seen → Status → Type 0
@@ -309,10 +300,9 @@ HasNoText words told status.Read = ReadsSome words × (told.reads < told.reads')
 HasNoText words told status.Write = ⊥
 HasNoText words told status.Shelf =
     ReachesFile words told.left × (told.shelves < told.shelves')
-HasNoText words told status.NoMemory = IsBuilt words
+HasNoText words told status.NoMemory = NamesCommand words
 HasNoText words told (status.Image refusal) = IsFileCause words told.left told.files refusal
-HasNoText words told (status.NotBuilt verb) =
-    NamesCommand words verb ⊎ IsScriptCause words told (status.NotBuilt verb)
+HasNoText words told (status.NotBuilt verb) = IsScriptCause words told (status.NotBuilt verb)
 
 -- Why no report was made of what a source had left, on a layout of so many callers.
 abbrev pub HasNoReport : ℕ → Option (List ℕ) → (reads reads' : ℕ) → Status → Type 0

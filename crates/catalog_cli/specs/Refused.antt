@@ -2,13 +2,12 @@
 use Rattle.std.specs.Prelude.{◌≡◌, ℕ, ◌<◌, ◌⊎◌, List, Option}
 use Rattle.cat_command.specs.Commands.{IsCommand}
 use Rattle.cat_command.specs.declared.command.Command.{Command}
-use Rattle.catalog_cli.specs.Headline.{NamesCommand}
 use Rattle.catalog_cli.specs.Reports.{IsRefusedBy}
 use Rattle.catalog_cli.specs.Runs.{IsNoScript}
 use Rattle.catalog_cli.specs.declared.status.Status.{Status}
 use Rattle.catalog_cli.specs.declared.status.Status.TheVariants as status
 
--- The words are those of no command that is built: of none at all, or of one that isn't.
+-- The words are those of no command.
 abbrev pub IsOfNoCommand : List (List ℕ) → Status → Type 0
 IsOfNoCommand words status.Done = ⊥
 IsOfNoCommand words status.Usage = (command : Command) → ¬ IsCommand words command
@@ -18,7 +17,7 @@ IsOfNoCommand words status.Write = ⊥
 IsOfNoCommand words status.Shelf = ⊥
 IsOfNoCommand words status.NoMemory = ⊥
 IsOfNoCommand words (status.Image refusal) = ⊥
-IsOfNoCommand words (status.NotBuilt verb) = NamesCommand words verb
+IsOfNoCommand words (status.NotBuilt verb) = ⊥
 
 -- The bytes are refused so, unless memory ran out.
 abbrev pub IsRefusedText : ℕ → List ℕ → Status → Type 0

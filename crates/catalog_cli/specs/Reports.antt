@@ -1,10 +1,7 @@
 -- What a script plays, and what is reported of it: from what its rounds begin, how they go on, and where they end.
-use Rattle.std.specs.Prelude.{◌≡◌, ℕ, ◌+◌, ◌/◌, ◌<◌, ◌⊎◌, List, [], ◌∷◌, Some, None, All, length}
+use Rattle.std.specs.Prelude.{◌≡◌, ℕ, ◌/◌, ◌<◌, ◌⊎◌, List, [], ◌∷◌, Some, None, All, length}
 use Rattle.std.specs.FinMap.{empty, len}
 use Rattle.cat_history.specs.Maps.{Map}
-use Rattle.cat_history.specs.Writes.{after_all}
-use Rattle.cat_history.specs.LoneRounds.{writes_of}
-use Rattle.cat_history.specs.declared.plan.RoundPlan.{RoundPlan}
 use Rattle.cat_script.specs.Fits.{FitsCallers, IsUnfitBy}
 use Rattle.cat_script.specs.Scripts.{IsScript, IsFirstFault}
 use Rattle.cat_script.specs.declared.fault.ScriptFault.{ScriptFault}
@@ -18,10 +15,9 @@ use Rattle.pm_words.specs.declared.layout.Layout.{Layout}
 use Rattle.sound_image.specs.Sound.{image_map}
 use Rattle.sound_image.specs.Weights.{image_weight}
 use Rattle.shapes.specs.Anchors.{Anchors}
-use Rattle.shapes.specs.ShapeRounds.{anchors_end, puts_added, FullIsPaid}
 use Rattle.index_law.specs.Anchors.{image_anchors}
 use Rattle.catalog_cli.specs.Built.{first_unbuilt}
-use Rattle.core_rounds.specs.Rounds.{ArePaidRounds, ArePlayedRounds}
+use Rattle.core_rounds.specs.Rounds.{ArePlayed}
 use Rattle.catalog_cli.specs.declared.status.Verb.{Verb}
 use Rattle.catalog_cli.specs.declared.status.Status.{Status}
 use Rattle.catalog_cli.specs.declared.status.Status.TheVariants as status
@@ -32,7 +28,7 @@ use Rattle.catalog_cli.specs.declared.status.Status.TheVariants as status
 pub record IsAccepted (callers : ℕ) (bytes : List ℕ) (script : Script) : Type 0 where
   pub is_script : IsScript bytes script
   pub fits : All (FitsCallers callers) script.lines
-  pub built : first_unbuilt None script.lines ≡ None
+  pub built : first_unbuilt script.lines ≡ None
 
 -- The bytes are a script that doesn't fit so many callers, for this fault.
 abbrev pub IsUnfitScript : ℕ → List ℕ → ScriptFault → Type 0
@@ -46,7 +42,7 @@ HasFault callers bytes fault =
 -- The bytes are a script that fits so many callers, and the first of its lines that isn't built has this word.
 abbrev pub IsUnbuiltScript : ℕ → List ℕ → Verb → Type 0
 IsUnbuiltScript callers bytes verb = (script : Script) × IsScript bytes script ×
-    All (FitsCallers callers) script.lines × (first_unbuilt None script.lines ≡ Some verb)
+    All (FitsCallers callers) script.lines × (first_unbuilt script.lines ≡ Some verb)
 
 -- The bytes are refused so: in this order for their fault, or for a line that isn't built.
 abbrev pub IsRefusedBy : ℕ → List ℕ → Status → Type 0
@@ -91,14 +87,15 @@ image_opening image = record {
   names = len (image_map image.layout image.words);
 }
 
--- The text is that of a report of legal rounds that the bytes, read as a script, ask for, from this opening. Each full
--- answer is paid for by its weight and its names and the puts since then. The report is one of the grammar, so that its
--- text tells it alone.
+-- The text is that of a report of legal rounds that the bytes, read as a script, ask for, from this opening, of one
+-- caller each or of several. Each full answer is paid for by its weight and its names and the puts since then. The
+-- rounds leave this map in this shape. The report is one of the grammar, so that its text tells it alone.
 pub record IsReportOf (opening : Opening) (bytes text : List ℕ) : Type 0 where
   pub script : Script
   pub reports : List RoundReport
+  pub end : Map
+  pub shape : Anchors
   pub accepted : IsAccepted opening.layout.callers bytes script
-  pub played : ArePlayedRounds opening.layout.slots opening.layout.nodes opening.map opening.anchors script.rounds
-      reports
-  pub paid : ArePaidRounds opening.layout.slots opening.layout.nodes opening.weighs opening.names reports
+  pub played : ArePlayed opening.layout.slots opening.layout.nodes opening.weighs opening.names opening.map
+      opening.anchors script.rounds reports end shape
   pub told : IsReportText text reports

@@ -19,8 +19,10 @@ use Rattle.core_rounds.specs.Waiting.{HaveNoTurns, changes_made, puts_asked, wri
 use Rattle.cat_history.specs.declared.plan.RoundPlan.{RoundPlan}
 use Rattle.catalog_cli.specs.Files.{HasBytes, HasImage, HasNoFile, SavesImage}
 use Rattle.catalog_cli.specs.Reports.{IsRefusedBy, IsReportOf, image_opening}
-use Rattle.core_rounds.specs.Rounds.{map_end, shape_end}
+use Rattle.core_rounds.specs.LoneCalls.{AreLoneRounds, crowds}
 use Rattle.core_rounds.specs.Rounds.{RoundsEndWithTurn}
+use Rattle.cat_history.specs.Maps.{Map}
+use Rattle.shapes.specs.Anchors.{Anchors}
 use Rattle.catalog_cli.specs.declared.status.ImageRefusal.{ImageRefusal}
 use Rattle.catalog_cli.specs.declared.status.ImageRefusal.TheVariants as image
 use Rattle.catalog_cli.specs.declared.status.Status.{Status}
@@ -32,43 +34,47 @@ AreBytesLeft left bytes = IfSome left (λ told. told ≡ bytes)
 
 -- ---- files
 
--- Rounds can be played on this image: it is sound by all rules, keeps the map that its nodes have, and there is a next
--- generation.
-pub record IsOpenable (image : Row) : Type 0 where
+-- The generation in which these rounds leave an image: it is opened in its next one, and opened again, in one more,
+-- behind each round of several callers.
+abbrev pub generation_after : Row → List RoundPlan → ℕ
+generation_after image plans = suc (header_generation image.layout image.words + crowds plans)
+
+-- These rounds can be played on this image: it is sound by all rules, keeps the map that its nodes have, and there are
+-- generations enough.
+pub record IsOpenable (image : Row) (plans : List RoundPlan) : Type 0 where
   pub sound : IsSoundByAll image.layout image.words
   pub keeps : IsMapOf image.layout image.words (image_map image.layout image.words)
-  pub next : IsGeneration (suc (header_generation image.layout image.words))
+  pub next : IsGeneration (generation_after image plans)
 
--- The new image is what these rounds leave that were played on the old one: it is of the same layout, sound by all
--- rules, and of the next generation; its map is the old one's after the writes of all rounds, and its shape the one that
--- follows the last round.
-pub record IsImageAfter (old : Row) (reports : List RoundReport) (new : Row) : Type 0 where
+-- The new image is what these rounds leave that were played on the old one, to this map and this shape: it is of the
+-- same layout, sound by all rules, and of the generation of the last opening; and it has that map in that shape.
+pub record IsImageAfter (old : Row) (plans : List RoundPlan) (end : Map) (shape : Anchors) (new : Row) : Type 0 where
   pub layout : new.layout ≡ old.layout
   pub sound : IsSoundByAll new.layout new.words
-  pub generation : header_generation new.layout new.words ≡ suc (header_generation old.layout old.words)
-  pub keeps : IsMapOf new.layout new.words (map_end (image_map old.layout old.words) reports)
-  pub anchors : image_anchors new.layout new.words ≡
-      shape_end old.layout.slots (image_map old.layout old.words) (image_anchors old.layout old.words) reports
+  pub generation : header_generation new.layout new.words ≡ generation_after old plans
+  pub keeps : IsMapOf new.layout new.words end
+  pub anchors : image_anchors new.layout new.words ≡ shape
 
 -- So many log lines of the new image wait as calls of these rounds split and merged members of the old one.
 abbrev pub LinesWait : Row → List RoundReport → Row → Type 0
 LinesWait old reports new = ImageWaits new
     (changes_made old.layout.slots (image_map old.layout old.words) (image_anchors old.layout old.words) reports)
 
--- Rounds make no turn, of the updater or of their own: at most eight of their calls are puts or deletes, as many as the
--- first caller has log lines, and their puts and the members of the image are fewer than its nodes.
+-- Rounds of one caller each make no turn, of the updater or of their own: at most eight of their calls are puts or
+-- deletes, as many as a caller has log lines, and their puts and the members of the image are fewer than its nodes.
 pub record NeedNoTurns (old : Row) (plans : List RoundPlan) : Type 0 where
+  pub lone : AreLoneRounds plans
   pub none : HaveNoTurns plans
   pub lines : writes_asked plans ≤ 8
   pub nodes : length (image_anchors old.layout old.words) + puts_asked plans < old.layout.nodes
 
 -- The bytes, read as a script, are played on the old image: the text is that of the report, and the new image is what
--- those very rounds leave. Where the last round has a turn of the updater behind its last call, no log line waits there;
--- and where no turn is made, a line waits for each split and each merge.
+-- those very rounds leave. Where a turn of the updater is due behind the last call of the last round, no log line waits
+-- there; and where no round is of several callers and no turn is made, a line waits for each split and each merge.
 pub record IsRunOn (old : Row) (bytes text : List ℕ) (new : Row) : Type 0 where
-  pub openable : IsOpenable old
   pub report : IsReportOf (image_opening old) bytes text
-  pub after : IsImageAfter old report.reports new
+  pub openable : IsOpenable old report.script.rounds
+  pub after : IsImageAfter old report.script.rounds report.end report.shape new
   pub turned : RoundsEndWithTurn report.script.rounds → ImageHasNoLines new
   pub waits : NeedNoTurns old report.script.rounds → LinesWait old report.reports new
 
@@ -99,8 +105,8 @@ abbrev pub IsNoScript : Option (List ℕ) → ScriptFault → Type 0
 IsNoScript left fault = ((fault ≡ Bytes) × IfSome left (λ bytes. MOST_BYTES < length bytes)) ⊎
     ((bytes : List ℕ) × AreBytesLeft left bytes × IsFirstFault bytes fault)
 
--- A script is refused so on a file: the file is one on which rounds can be played, and the script doesn't fit its layout,
--- or has a line that isn't built.
+-- A script is refused so on a file: the file is one on which its rounds could be played, and the script doesn't fit its
+-- layout, or has a line that isn't built.
 pub record IsRefusedOnFile (left : Option (List ℕ)) (files : Option FileMap) (name : List ℕ) (answer : Status) : Type 0
   where
     pub bytes : List ℕ
@@ -109,7 +115,7 @@ pub record IsRefusedOnFile (left : Option (List ℕ)) (files : Option FileMap) (
     pub is_script : IsScript bytes script
     pub old : Row
     pub had : HasImage files name old
-    pub openable : IsOpenable old
+    pub openable : IsOpenable old script.rounds
     pub refused : IsRefusedBy old.layout.callers bytes answer
 
 -- A run is refused so for what the source had left: that comes before all that concerns the file where it is no script,
@@ -119,31 +125,41 @@ IsRunRefusal left files name answer =
     ((fault : ScriptFault) × IsNoScript left fault × (answer ≡ status.Script fault)) ⊎
     IsRefusedOnFile left files name answer
 
--- The image is sound, and of the last generation.
-abbrev pub IsLastGeneration : Row → Type 0
-IsLastGeneration image = IsSoundByAll image.layout image.words ×
-    ¬ IsGeneration (suc (header_generation image.layout image.words))
+-- The image is sound, and there is no generation in which these rounds could leave it.
+abbrev pub IsTooLate : Row → List RoundPlan → Type 0
+IsTooLate image plans = IsSoundByAll image.layout image.words × ¬ IsGeneration (generation_after image plans)
 
--- Why rounds can't be played on what the file of this name has: there is no such file, its bytes are no image, with this
--- first fault, or they are one that breaks this rule first, at this word, or has the last generation.
-abbrev pub IsRunFileCause : Option FileMap → List ℕ → ImageRefusal → Type 0
-IsRunFileCause files name image.Missing = HasNoFile files name
-IsRunFileCause files name image.Exists = ⊥
-IsRunFileCause files name (image.Bytes fault) = (bytes : List ℕ) × HasBytes files name bytes × IsFault bytes fault
-IsRunFileCause files name (image.Damaged rule word) = (old : Row) × HasImage files name old ×
-    IsFirstOfAll old.layout old.words (record { rule = rule; word = word })
-IsRunFileCause files name image.Generations = (old : Row) × HasImage files name old × IsLastGeneration old
+-- The file of this name has an image that is so for the rounds of the script that the source had left.
+pub record IsTooLateOnFile (left : Option (List ℕ)) (files : Option FileMap) (name : List ℕ) : Type 0 where
+  pub bytes : List ℕ
+  pub source : AreBytesLeft left bytes
+  pub script : Script
+  pub is_script : IsScript bytes script
+  pub old : Row
+  pub had : HasImage files name old
+  pub late : IsTooLate old script.rounds
 
--- Why a script isn't played on an image to its end, and its report made.
-abbrev pub IsPlayRefused : Row → List ℕ → Status → Type 0
-IsPlayRefused old bytes (status.Script fault) = IsOpenable old × IsRefusedBy old.layout.callers bytes (status.Script fault)
-IsPlayRefused old bytes status.NoMemory = Unit {0}
-IsPlayRefused old bytes (status.Image (image.Damaged rule word)) =
+-- Why the script that the source had left can't be played on what the file of this name has: there is no such file, its
+-- bytes are no image, with this first fault, or they are one that breaks this rule first, at this word, or is too late.
+abbrev pub IsRunFileCause : Option (List ℕ) → Option FileMap → List ℕ → ImageRefusal → Type 0
+IsRunFileCause left files name image.Missing = HasNoFile files name
+IsRunFileCause left files name image.Exists = ⊥
+IsRunFileCause left files name (image.Bytes fault) = (bytes : List ℕ) × HasBytes files name bytes × IsFault bytes fault
+IsRunFileCause left files name (image.Damaged rule word) = (old : Row) × HasImage files name old ×
     IsFirstOfAll old.layout old.words (record { rule = rule; word = word })
-IsPlayRefused old bytes (status.Image image.Generations) = IsLastGeneration old
-IsPlayRefused old bytes (status.NotBuilt verb) =
-    IsOpenable old × IsRefusedBy old.layout.callers bytes (status.NotBuilt verb)
-IsPlayRefused old bytes other = ⊥
+IsRunFileCause left files name image.Generations = IsTooLateOnFile left files name
+
+-- Why the bytes, which are a script of these rounds, aren't played on an image to their end, and their report made.
+abbrev pub IsPlayRefused : Row → List ℕ → List RoundPlan → Status → Type 0
+IsPlayRefused old bytes plans (status.Script fault) =
+    IsOpenable old plans × IsRefusedBy old.layout.callers bytes (status.Script fault)
+IsPlayRefused old bytes plans status.NoMemory = Unit {0}
+IsPlayRefused old bytes plans (status.Image (image.Damaged rule word)) =
+    IsFirstOfAll old.layout old.words (record { rule = rule; word = word })
+IsPlayRefused old bytes plans (status.Image image.Generations) = IsTooLate old plans
+IsPlayRefused old bytes plans (status.NotBuilt verb) =
+    IsOpenable old plans × IsRefusedBy old.layout.callers bytes (status.NotBuilt verb)
+IsPlayRefused old bytes plans other = ⊥
 
 -- Why a run on a file came to no report. As many calls of the source and of the shelf had failed before as the first
 -- number says, and now as the second.
@@ -155,7 +171,7 @@ IsRunRefused left files name reads reads' shelves shelves' status.Read = reads <
 IsRunRefused left files name reads reads' shelves shelves' status.Shelf = HasScript left × (shelves < shelves')
 IsRunRefused left files name reads reads' shelves shelves' status.NoMemory = Unit {0}
 IsRunRefused left files name reads reads' shelves shelves' (status.Image refusal) =
-    HasScript left × IsRunFileCause files name refusal
+    HasScript left × IsRunFileCause left files name refusal
 IsRunRefused left files name reads reads' shelves shelves' (status.NotBuilt verb) =
     IsRunRefusal left files name (status.NotBuilt verb)
 IsRunRefused left files name reads reads' shelves shelves' other = ⊥

@@ -17,8 +17,7 @@ use Rattle.recovery.specs.declared.opening.OpenFault.TheVariants as opening
 use Rattle.catalog_cli.specs.declared.status.ImageRefusal.{ImageRefusal}
 use Rattle.catalog_cli.specs.declared.status.ImageRefusal.TheVariants as image
 use Rattle.catalog_cli.specs.declared.status.Verb.{Verb}
-use Rattle.catalog_cli.specs.declared.status.Verb.TheVariants.{Gen}
-use Rattle.catalog_cli.specs.declared.status.Verb.TheVariants.{Put, Get, Del, Scan, Crash}
+use Rattle.catalog_cli.specs.declared.status.Verb.TheVariants.{Crash}
 use Rattle.catalog_cli.specs.declared.status.Status.{Status}
 use Rattle.catalog_cli.specs.declared.status.Status.TheVariants.{Done, Usage, Script, Read, Write, Shelf, NoMemory, Image, NotBuilt}
 
@@ -34,13 +33,8 @@ code_of NoMemory = 7
 code_of (Image refusal) = 8
 code_of (NotBuilt verb) = 9
 
--- The word of a command or a line that isn't built yet.
+-- The word of a line that isn't built yet.
 abbrev pub verb_text : Verb → List ℕ
-verb_text Gen = codes "gen"
-verb_text Put = codes "put"
-verb_text Get = codes "get"
-verb_text Del = codes "del"
-verb_text Scan = codes "scan"
 verb_text Crash = codes "crash"
 
 -- The forms of the command line.

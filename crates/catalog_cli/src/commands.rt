@@ -5,19 +5,16 @@ ghost use Rattle.std.specs.String.{string_bytes};
 ghost use Rattle.cat_command.specs.Commands.{IsCommand};
 ghost use Rattle.cat_command.specs.declared.command.Command.{Command};
 ghost use Rattle.cat_text.specs.Outside.{ConsumesAtMost};
-ghost use Rattle.catalog_cli.specs.Built.{IsCommandWord, unbuilt_command};
 ghost use Rattle.catalog_cli.specs.Headline.{FinishesAccepted, FinishesGenerated, FinishesOnFile, HasNoReport};
 ghost use Rattle.catalog_cli.specs.Headline.{HasNoText, IsAfterReading, IsCauseOf, IsOfWords, LeavesFiles, LeavesShelf};
-ghost use Rattle.catalog_cli.specs.Headline.{LeavesSink, NamesCommand, PlaysSome, Prints, ReadsSome, TellsFile};
+ghost use Rattle.catalog_cli.specs.Headline.{LeavesSink, PlaysSome, Prints, ReadsSome, TellsFile};
 ghost use Rattle.catalog_cli.specs.Headline.{TellsRefusal, TellsRunRefusal, WritesNothing, seen};
 ghost use Rattle.catalog_cli.specs.Refused.{IsOfNoCommand};
 ghost use Rattle.catalog_cli.specs.Reports.{IsReportOf, empty_opening};
 ghost use Rattle.catalog_cli.specs.Runs.{AreBytesLeft};
 ghost use Rattle.catalog_cli.specs.declared.status.Status.{Status};
-ghost use Rattle.catalog_cli.specs.declared.status.Verb.{Verb};
 ghost use Rattle.pm_words.specs.Layouts.{IsLayout};
 
-use crate::built::unbuilt_command;
 use crate::files::{file_of, format_file, list_words};
 use crate::generated::play_generated;
 use crate::play::play;
@@ -27,8 +24,11 @@ use crate::status::Status;
 use cat_command::{Command, read_command};
 use cat_script::MOST_BYTES;
 use cat_text::{Shelf, Sink, Source, WriteFault, print_report, read_whole, write_whole};
+use pac_index::Gate;
 use pm_words::Layout;
 use std::alloc::Global;
+use std::sync::Wait;
+use std::thread::Threads;
 
 /// Runs the command that the words name: plays calls, and writes to the sink what they came to.
 ///
@@ -37,19 +37,25 @@ use std::alloc::Global;
 /// - `run FILE` plays the script that the source gives on the catalogue in a file of the shelf. The image that its rounds
 ///   leave is saved under the same name, once and whole, and then the report is written. The script is read to its end
 ///   before the file is loaded, and it is looked through once the file is known to be a sound image.
-/// - `gen SEED COUNT 1` plays calls that the seed makes, and writes a line that sums them up.
+/// - `gen SEED COUNT CALLERS` plays a round of calls that the seed makes, and writes a line that sums them up.
 /// - `format FILE NODES SLOTS CALLERS` saves the image of an empty catalogue of that layout on the shelf, under a name
 ///   that has no file yet, and writes a line that tells of it.
 /// - `words FILE FROM COUNT` writes the words of an image on the shelf that have these numbers, a line each.
 ///
-/// Only `play` and `run` read. What is written is made whole before its first byte is written, and a file is saved before
-/// that.
-pub fn catalog<S: Source, K: Sink, H: Shelf>(
+/// In a round that one caller has calls in, they are made one after another. In one of several callers each makes its
+/// own in a thread of the runtime, all at once, and the gate is called between their steps; there a call may wait for a
+/// node that another caller holds.
+///
+/// Only `play` and `run` read. What is written is made whole before its first byte is written, and a file is saved
+/// before that.
+pub fn catalog<R: Threads + Wait + Sync, S: Source, K: Sink, H: Shelf, G: Gate>(
+    rt: &R,
     alloc: Global,
     words: &[String],
     script: &mut S,
     out: &mut K,
     shelf: &mut H,
+    gate: &G,
 ) -> Status
     // What was written: the text of a report of the grammar, that of the script, each of whose rounds is legal, and for
     // a run on a file the very rounds that the file has now; or the summary of a legal round of the generated calls; or
@@ -72,8 +78,6 @@ pub fn catalog<S: Source, K: Sink, H: Shelf>(
         (H.faults shelf.old) (H.faults shelf.new)) (K.faults out.old) (K.faults out.new) result }
     ensures usage { result ≡ Status.Usage ↔
         ((command : Command) → ¬ IsCommand (map string_bytes words.now) command) }
-    ensures unbuilt_command { (verb : Verb) → IsCommandWord verb →
-        (result ≡ Status.NotBuilt verb) ↔ NamesCommand (map string_bytes words.now) verb }
     ensures refused { TellsRefusal (map string_bytes words.now)
         (seen (S.left script.old) (H.files shelf.old) (H.files shelf.new) (S.faults script.old) (S.faults script.new)
         (H.faults shelf.old) (H.faults shelf.new)) result }
@@ -102,16 +106,18 @@ pub fn catalog<S: Source, K: Sink, H: Shelf>(
     ensures sink_never_falls { K.faults out.old ≤ K.faults out.new }
     ensures shelf_never_falls { H.faults shelf.old ≤ H.faults shelf.new }
 {
-    run_command(alloc, words, script, out, shelf)
+    run_command(rt, alloc, words, script, out, shelf, gate)
 }
 
 /// The same, without what follows from each status having its cause.
-fn run_command<S: Source, K: Sink, H: Shelf>(
+fn run_command<R: Threads + Wait + Sync, S: Source, K: Sink, H: Shelf, G: Gate>(
+    rt: &R,
     alloc: Global,
     words: &[String],
     script: &mut S,
     out: &mut K,
     shelf: &mut H,
+    gate: &G,
 ) -> Status
     ensures sink { LeavesSink (map string_bytes words.now)
         (seen (S.left script.old) (H.files shelf.old) (H.files shelf.new) (S.faults script.old) (S.faults script.new)
@@ -133,7 +139,7 @@ fn run_command<S: Source, K: Sink, H: Shelf>(
     ensures sink_never_falls { K.faults out.old ≤ K.faults out.new }
     ensures shelf_never_falls { H.faults shelf.old ≤ H.faults shelf.new }
 {
-    match text_of(alloc, words, script, shelf) {
+    match text_of(rt, alloc, words, script, shelf, gate) {
         Err(status) => status,
         Ok(text) => match write_whole(out, &text) {
             Ok(()) => Status::Done,
@@ -144,11 +150,13 @@ fn run_command<S: Source, K: Sink, H: Shelf>(
 }
 
 /// What the command prints that the words name.
-fn text_of<S: Source, H: Shelf>(
+fn text_of<R: Threads + Wait + Sync, S: Source, H: Shelf, G: Gate>(
+    rt: &R,
     alloc: Global,
     words: &[String],
     script: &mut S,
     shelf: &mut H,
+    gate: &G,
 ) -> Result<Vec<u8>, Status>
     ensures prints { IfOk result (λ text. Prints (map string_bytes words.now)
         (seen (S.left script.old) (H.files shelf.old) (H.files shelf.new) (S.faults script.old) (S.faults script.new)
@@ -174,32 +182,37 @@ fn text_of<S: Source, H: Shelf>(
     ensures shelf_never_falls { H.faults shelf.old ≤ H.faults shelf.new }
 {
     match asked_command(words)? {
-        Command::Play { layout } => report_of(alloc, layout, script),
-        Command::Gen { seed, count, .. } => {
-            let text = play_generated(alloc, seed, count)?;
+        Command::Play { layout } => report_of(rt, alloc, layout, script, gate),
+        Command::Gen {
+            seed,
+            count,
+            callers,
+        } => {
+            let text = play_generated(rt, alloc, seed, count, callers, gate)?;
             Ok(text)
         }
         Command::Format { layout } => format_file(alloc, shelf, file_of(words), layout),
         Command::Words { from, count } => list_words(alloc, shelf, file_of(words), from, count),
-        Command::Run => run_file(alloc, script, shelf, file_of(words)),
+        Command::Run => run_file(rt, alloc, script, shelf, file_of(words), gate),
     }
 }
 
-/// The command that the words name, which is built.
+/// The command that the words name.
 fn asked_command(words: &[String]) -> Result<Command, Status>
     ensures command { IfOk result (IsCommand (map string_bytes words.now)) }
-    ensures built { IfOk result (λ command. unbuilt_command command ≡ None) }
     ensures refused { IfErr result (IsOfNoCommand (map string_bytes words.now)) }
 {
-    let command = read_command(words).ok_or(Status::Usage)?;
-    match unbuilt_command(&command) {
-        Some(verb) => Err(Status::NotBuilt(verb)),
-        None => Ok(command),
-    }
+    read_command(words).ok_or(Status::Usage)
 }
 
 /// Reads the script, plays it on a catalogue of this layout, and makes its report.
-fn report_of<S: Source>(alloc: Global, layout: Layout, script: &mut S) -> Result<Vec<u8>, Status>
+fn report_of<R: Threads + Wait + Sync, S: Source, G: Gate>(
+    rt: &R,
+    alloc: Global,
+    layout: Layout,
+    script: &mut S,
+    gate: &G,
+) -> Result<Vec<u8>, Status>
     requires layout { IsLayout layout }
     ensures report { IfOk result (λ text. (bytes : List ℕ) × AreBytesLeft (S.left script.old) bytes ×
         IsReportOf (empty_opening layout) bytes text.items) }
@@ -213,7 +226,7 @@ fn report_of<S: Source>(alloc: Global, layout: Layout, script: &mut S) -> Result
 {
     let bytes = read_whole(alloc, script, MOST_BYTES)?;
     let script = read_accepted(alloc, layout, &bytes)?;
-    let report = play(alloc, &layout, &script)?;
+    let report = play(rt, alloc, &layout, &script, gate)?;
     let text = print_report(alloc, &report)?;
     Ok(text)
 }

@@ -1,22 +1,30 @@
 //! The command that plays a script on the catalogue in a file.
 
-ghost use Rattle.std.specs.Prelude.{◌≡◌, ◌+◌, ◌<◌, ◌≤◌, ℕ, List, [], IfErr, IfOk, IfSome, OnOk, Some};
+ghost use Rattle.std.specs.Prelude.{◌≡◌, ◌+◌, ◌≤◌, ℕ, List, [], IfErr, IfOk, IfSome, OnOk, Some};
 ghost use Rattle.cat_script.specs.Scripts.{IsScript};
 ghost use Rattle.cat_text.specs.Outside.{ConsumesAtMost};
-ghost use Rattle.core_rounds.specs.CoreMaps.{IsNextRun};
+ghost use Rattle.core_rounds.specs.LoneCalls.{calls_in};
+ghost use Rattle.recovery.specs.Opened.{IsOpenedFrom};
 ghost use Rattle.catalog_cli.specs.Headline.{IsAfterReading};
-ghost use Rattle.catalog_cli.specs.Runs.{IsPlayRefused, IsRunLeft, IsRunOn, IsRunOnFile, IsRunRefused};
+ghost use Rattle.catalog_cli.specs.Runs.{IsOpenable, IsPlayRefused, IsRunLeft, IsRunOn, IsRunOnFile, IsRunRefused};
 
 use crate::files::{load_image, save_image};
 use crate::reading::{accept, read_source};
-use crate::status::Status;
+use crate::status::{ImageRefusal, Status};
+use cat_history::RoundPlan;
 use cat_script::{MOST_BYTES, Script};
 use cat_text::{Shelf, Source, print_report};
-use core_rounds::{CoreMap, RunOf, calls_in, play_rounds};
-use pm_words::{Image, Steps};
+use core_rounds::{crowds, image_of};
+use crowd_rounds::play_rounds;
+use index_core::Core;
+use pac_index::Gate;
+use pm_words::Image;
+use pm_words::offsets::header;
+use recovery::recover;
 use std::alloc::Global;
-use std::marker::Brand;
-use std::sync::ledger::{Blank, Ledger};
+use std::sync::Wait;
+use std::thread::Threads;
+use version_lock::GENERATION_LIMIT;
 
 /// What the rounds of a script leave: the text of their report, and an image.
 #[derive(Drop)]
@@ -27,11 +35,13 @@ pub(crate) struct Played {
 
 /// Plays the script that the source gives on the catalogue in the file of this name, which is saved whole then. The
 /// answer is the text of the report, which is made before the file is saved.
-pub(crate) fn run_file<S: Source, H: Shelf>(
+pub(crate) fn run_file<R: Threads + Wait + Sync, S: Source, H: Shelf, G: Gate>(
+    rt: &R,
     alloc: Global,
     source: &mut S,
     shelf: &mut H,
     name: &str,
+    gate: &G,
 ) -> Result<Vec<u8>, Status>
     ensures runs { IfOk result (λ text. IsRunOnFile (S.left source.old) (H.files shelf.old) (H.files shelf.new) name.now
         text.items) }
@@ -47,46 +57,47 @@ pub(crate) fn run_file<S: Source, H: Shelf>(
 {
     let script = read_source(alloc, source)?;
     let image = load_image(alloc, shelf, name)?;
-    let played = play_on_image(alloc, image, &script)?;
+    let played = play_on_image(rt, alloc, image, &script, gate)?;
     save_image(alloc, shelf, name, &played.image)?;
     Ok(played.text)
 }
 
 /// Plays a script on the catalogue in an image.
-fn play_on_image(alloc: Global, image: Image, script: &Script) -> Result<Played, Status>
+fn play_on_image<R: Threads + Wait + Sync, G: Gate>(
+    rt: &R,
+    alloc: Global,
+    image: Image,
+    script: &Script,
+    gate: &G,
+) -> Result<Played, Status>
     requires { (bytes : List ℕ) × IsScript bytes script.now }
     ensures played { IfOk result (λ played. (bytes : List ℕ) → IsScript bytes script.now →
         IsRunOn image bytes played.text.items played.image) }
     ensures refused { IfErr result (λ status. (bytes : List ℕ) → IsScript bytes script.now →
-        IsPlayRefused image bytes status) }
-{
-    play_on_opened::<Brand, Brand>(alloc, image, script, Blank::new(1))
-}
-
-/// The same, with a ledger for the steps of the calls, which nobody reads, and the numbers of the run.
-fn play_on_opened<L: Ledger, K: RunOf>(
-    alloc: Global,
-    image: Image,
-    script: &Script,
-    blank: Blank,
-) -> Result<Played, Status>
-    requires script { (bytes : List ℕ) × IsScript bytes script.now }
-    requires name { blank.name ≡ L.name }
-    requires parts { (blank.parts ≡ L.parts) × (0 < L.parts) }
-    requires run { IsNextRun image K.layout K.generation }
-    ensures played { IfOk result (λ played. (bytes : List ℕ) → IsScript bytes script.now →
-        IsRunOn image bytes played.text.items played.image) }
-    ensures refused { IfErr result (λ status. (bytes : List ℕ) → IsScript bytes script.now →
-        IsPlayRefused image bytes status) }
+        IsPlayRefused image bytes script.now.rounds status) }
 {
     let layout = image.layout();
     let plans = script.rounds.as_slice();
-    let (book, share) = blank.open::<L>();
-    let steps = Steps::new(book, share);
-    let mut map = CoreMap::<L, K>::opened(alloc, image, calls_in(plans), steps)?;
+    let core = open_for(alloc, image, plans)?;
     accept(script, layout)?;
-    let report = play_rounds(alloc, &mut map, plans)?;
-    let text = print_report(alloc, &report)?;
-    let image = map.image(alloc)?;
+    let played = play_rounds(rt, alloc, core, plans, gate)?;
+    let text = print_report(alloc, &played.report)?;
+    let image = image_of(alloc, &played.core)?;
     Ok(Played { text, image })
+}
+
+/// Opens the catalogue in an image on which these rounds are to be played. It has to be sound, and to have a generation
+/// left for this opening and for one behind each round of several callers.
+fn open_for(alloc: Global, image: Image, plans: &[RoundPlan]) -> Result<Core, Status>
+    requires { calls_in plans.now ≤ 100000 }
+    ensures opened { IfOk result (IsOpenedFrom image) }
+    ensures openable { IfOk result (λ _. IsOpenable image plans.now) }
+    ensures refused { IfErr result (λ status. (bytes : List ℕ) → IsPlayRefused image bytes plans.now status) }
+{
+    let generation = image.word(header::GENERATION);
+    let core = recover(alloc, image)?;
+    if generation + crowds(plans) >= GENERATION_LIMIT - 1 {
+        return Err(Status::Image(ImageRefusal::Generations));
+    }
+    Ok(core)
 }

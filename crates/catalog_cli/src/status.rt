@@ -10,15 +10,9 @@ use pm_words::{Field, ImageFault};
 use recovery::OpenFault;
 use std::fmt;
 
-/// The word of a command or of a script's line that isn't built yet.
+/// The word of a script's line that isn't built yet.
 #[derive(Clone, Copy)]
 pub enum Verb {
-    Gen,
-    /// A put of another caller than that of its round's first call. So are a get, a delete and a scan.
-    Put,
-    Get,
-    Del,
-    Scan,
     Crash,
 }
 
@@ -27,11 +21,6 @@ impl fmt::Display for Verb {
 
     fn fmt<W: fmt::Write>(&self, f: &mut fmt::Formatter<W>) -> fmt::Result {
         match self {
-            Verb::Gen => write!(f, "gen"),
-            Verb::Put => write!(f, "put"),
-            Verb::Get => write!(f, "get"),
-            Verb::Del => write!(f, "del"),
-            Verb::Scan => write!(f, "scan"),
             Verb::Crash => write!(f, "crash"),
         }
     }
@@ -48,7 +37,8 @@ pub enum ImageRefusal {
     Bytes(ImageFault),
     /// Its image breaks this rule first, at this word.
     Damaged { rule: u64, word: u64 },
-    /// Its image has the last generation that there is.
+    /// Its image has too late a generation: none is left for its next opening, or for those behind the script's rounds
+    /// of several callers.
     Generations,
 }
 

@@ -11,10 +11,12 @@ use cat_text::{MemoryShelf, Shelf};
 use index_core::{Core, CoreCall};
 use pm_words::{Image, Steps};
 use recovery::recover;
-use std::alloc::{AllocError, Global};
+use std::alloc::{AllocError, AllocGlobal, Global};
 use std::marker::Brand;
+use std::sync::Wait;
 use std::sync::ledger::{Blank, Ledger};
 use std::test::Fail;
+use std::thread::Threads;
 
 /// The limit of a round of which no line tells another.
 const LIMIT: u64 = 1 << 62;
@@ -109,28 +111,33 @@ fn bytes_after<L: Ledger>(
 
 /// Runs the puts and deletes among these calls on the file of a shelf. Whether it is then the image of a core that makes
 /// the same ones.
-fn is_beside(
-    alloc: Global,
+fn is_beside<R: AllocGlobal + Threads + Wait + Sync>(
+    rt: &R,
     shelf: &mut MemoryShelf,
     calls: &[CallerOp],
     turns: u64,
 ) -> Option<bool> {
     let before = shelf.load("c").ok()??;
-    let wanted = bytes_after::<Brand>(alloc, &before, calls, turns, Blank::new(1))?;
-    let script = script_of(alloc, calls, turns).ok()?;
-    run(alloc, shelf, "run c", script.as_str(), &SOUND)?;
+    let wanted = bytes_after::<Brand>(rt.alloc(), &before, calls, turns, Blank::new(1))?;
+    let script = script_of(rt.alloc(), calls, turns).ok()?;
+    run(rt, shelf, "run c", script.as_str(), &SOUND)?;
     let found = shelf.load("c").ok()??;
     Some(found.as_slice() == wanted.as_slice())
 }
 
 /// Whether that is so after each run of so many of these calls, on a file that is new before the first.
-fn runs_beside(alloc: Global, calls: &[CallerOp], turns: u64, calls_a_run: usize) -> Option<bool>
+fn runs_beside<R: AllocGlobal + Threads + Wait + Sync>(
+    rt: &R,
+    calls: &[CallerOp],
+    turns: u64,
+    calls_a_run: usize,
+) -> Option<bool>
     requires { 0 < calls_a_run }
 {
-    let mut shelf = MemoryShelf::new(alloc, plan_of(alloc, 0)?);
-    run(alloc, &mut shelf, "format c 64 4 1", "", &SOUND)?;
+    let mut shelf = MemoryShelf::new(rt.alloc(), plan_of(rt.alloc(), 0)?);
+    run(rt, &mut shelf, "format c 64 4 1", "", &SOUND)?;
     for part in calls.chunks(calls_a_run) {
-        if !is_beside(alloc, &mut shelf, part, turns)? {
+        if !is_beside(rt, &mut shelf, part, turns)? {
             return Some(false);
         }
     }
@@ -144,13 +151,13 @@ fn a_file_is_the_image_of_a_core(rt: HostRuntime) -> Result<(), Fail> {
     let plan = generated(rt.alloc(), 1, 400, 1)?;
     let calls = plan.ops.as_slice();
     let at_once = [
-        runs_beside(rt.alloc(), calls, 3, 400),
-        runs_beside(rt.alloc(), calls, 0, 400),
+        runs_beside(&rt, calls, 3, 400),
+        runs_beside(&rt, calls, 0, 400),
     ];
     assert_eq!(rt; at_once, [Some(true), Some(true)]);
     let in_eight = [
-        runs_beside(rt.alloc(), calls, 3, 50),
-        runs_beside(rt.alloc(), calls, 0, 50),
+        runs_beside(&rt, calls, 3, 50),
+        runs_beside(&rt, calls, 0, 50),
     ];
     assert_eq!(rt; in_eight, [Some(true), Some(true)]);
     Ok(())

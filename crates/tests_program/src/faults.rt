@@ -2,8 +2,10 @@
 
 use crate::running::{Outside, SOUND, plan_of, run};
 use cat_text::{MemoryShelf, Shelf};
-use std::alloc::Global;
+use std::alloc::AllocGlobal;
+use std::sync::Wait;
 use std::test::Fail;
+use std::thread::Threads;
 
 const SCRIPT: &str = "# \x01\n\n0 put a 1\r\n \t\r\n\t0  get\ta \n0 scan a 1\n#";
 
@@ -12,9 +14,12 @@ const REPORT: &str =
 
 /// What `play` comes to with the script: the exit code, and how many bytes it writes, which are a beginning of the
 /// report.
-fn played(alloc: Global, outside: &Outside) -> Option<(u8, usize)> {
-    let mut shelf = MemoryShelf::new(alloc, plan_of(alloc, 0)?);
-    let (code, written) = run(alloc, &mut shelf, "play 1 64 1", SCRIPT, outside)?;
+fn played<R: AllocGlobal + Threads + Wait + Sync>(
+    rt: &R,
+    outside: &Outside,
+) -> Option<(u8, usize)> {
+    let mut shelf = MemoryShelf::new(rt.alloc(), plan_of(rt.alloc(), 0)?);
+    let (code, written) = run(rt, &mut shelf, "play 1 64 1", SCRIPT, outside)?;
     if !REPORT.as_bytes().starts_with(&written) {
         return None;
     }
@@ -23,7 +28,7 @@ fn played(alloc: Global, outside: &Outside) -> Option<(u8, usize)> {
 
 /// The first of the rows that `play` does otherwise: how many bytes a call moves, which read and which write fail, the
 /// exit code, and how many bytes are written.
-fn first_other_play(alloc: Global) -> Option<usize> {
+fn first_other_play<R: AllocGlobal + Threads + Wait + Sync>(rt: &R) -> Option<usize> {
     let rows = [
         (1, 0, 0, 0, REPORT.len()),
         (7, 0, 0, 0, REPORT.len()),
@@ -40,21 +45,26 @@ fn first_other_play(alloc: Global) -> Option<usize> {
             failing_read: *failing_read,
             failing_write: *failing_write,
         };
-        played(alloc, &outside) != Some((*code, *bytes))
+        played(rt, &outside) != Some((*code, *bytes))
     })
 }
 
 /// What `run` comes to on a file, of which calls of the shelf, the source and the sink fail: the exit code, how many bytes
 /// it writes, and the generation that the file has then. `format` makes the shelf's first two calls.
-fn run_on_file(alloc: Global, shelf_call: u64, read: u64, write: u64) -> Option<(u8, usize, u8)> {
-    let mut shelf = MemoryShelf::new(alloc, plan_of(alloc, shelf_call)?);
-    run(alloc, &mut shelf, "format c 2 4 1", "", &SOUND)?;
+fn run_on_file<R: AllocGlobal + Threads + Wait + Sync>(
+    rt: &R,
+    shelf_call: u64,
+    read: u64,
+    write: u64,
+) -> Option<(u8, usize, u8)> {
+    let mut shelf = MemoryShelf::new(rt.alloc(), plan_of(rt.alloc(), shelf_call)?);
+    run(rt, &mut shelf, "format c 2 4 1", "", &SOUND)?;
     let outside = Outside {
         largest: 4,
         failing_read: read,
         failing_write: write,
     };
-    let (code, written) = run(alloc, &mut shelf, "run c", "0 put a 1", &outside)?;
+    let (code, written) = run(rt, &mut shelf, "run c", "0 put a 1", &outside)?;
     if !b"0 put a 1 -> none @0\njoin 1 names 1\n".starts_with(&written) {
         return None;
     }
@@ -63,7 +73,7 @@ fn run_on_file(alloc: Global, shelf_call: u64, read: u64, write: u64) -> Option<
 }
 
 /// The first of the rows that `run` does otherwise: the three calls that fail, of which 0 is none, and what comes.
-fn first_other_run(alloc: Global) -> Option<usize> {
+fn first_other_run<R: AllocGlobal + Threads + Wait + Sync>(rt: &R) -> Option<usize> {
     let rows = [
         (0, 0, 0, (0, 36, 2)),
         (3, 0, 0, (6, 0, 1)),
@@ -72,29 +82,32 @@ fn first_other_run(alloc: Global) -> Option<usize> {
         (0, 0, 1, (5, 0, 2)),
         (0, 0, 2, (5, 4, 2)),
     ];
-    rows.iter().position(|(shelf, read, write, ended)| run_on_file(alloc, *shelf, *read, *write)
+    rows.iter().position(|(shelf, read, write, ended)| run_on_file(rt, *shelf, *read, *write)
         != Some(*ended))
 }
 
 /// The exit codes of `format` and then of `words`, where this call of the shelf fails.
-fn made_and_listed(alloc: Global, shelf_call: u64) -> Option<(u8, u8)> {
-    let mut shelf = MemoryShelf::new(alloc, plan_of(alloc, shelf_call)?);
-    let (made, _) = run(alloc, &mut shelf, "format c 2 4 1", "", &SOUND)?;
-    let (listed, _) = run(alloc, &mut shelf, "words c 5 1", "", &SOUND)?;
+fn made_and_listed<R: AllocGlobal + Threads + Wait + Sync>(
+    rt: &R,
+    shelf_call: u64,
+) -> Option<(u8, u8)> {
+    let mut shelf = MemoryShelf::new(rt.alloc(), plan_of(rt.alloc(), shelf_call)?);
+    let (made, _) = run(rt, &mut shelf, "format c 2 4 1", "", &SOUND)?;
+    let (listed, _) = run(rt, &mut shelf, "words c 5 1", "", &SOUND)?;
     Some((made, listed))
 }
 
 /// The first of the rows that these do otherwise.
-fn first_other_file(alloc: Global) -> Option<usize> {
+fn first_other_file<R: AllocGlobal + Threads + Wait + Sync>(rt: &R) -> Option<usize> {
     let rows = [(0, (0, 0)), (1, (6, 8)), (2, (6, 8)), (3, (0, 6))];
-    rows.iter().position(|(shelf_call, codes)| made_and_listed(alloc, *shelf_call) != Some(*codes))
+    rows.iter().position(|(shelf_call, codes)| made_and_listed(rt, *shelf_call) != Some(*codes))
 }
 
 /// A file is the old one or the new one, whole, and a report that fails is written up to there.
 #[test]
 fn the_outside_is_blamed_for_its_faults(rt: HostRuntime) -> Result<(), Fail> {
-    assert_eq!(rt; first_other_play(rt.alloc()), None);
-    assert_eq!(rt; first_other_run(rt.alloc()), None);
-    assert_eq!(rt; first_other_file(rt.alloc()), None);
+    assert_eq!(rt; first_other_play(&rt), None);
+    assert_eq!(rt; first_other_run(&rt), None);
+    assert_eq!(rt; first_other_file(&rt), None);
     Ok(())
 }

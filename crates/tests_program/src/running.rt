@@ -2,7 +2,10 @@
 
 use cat_text::{FaultPlan, MemoryShelf, MemorySink, MemorySource};
 use catalog_cli::{Status, catalog};
-use std::alloc::Global;
+use pac_index::Gate;
+use std::alloc::{AllocGlobal, Global};
+use std::sync::Wait;
+use std::thread::Threads;
 
 /// How many bytes a call of the source or the sink moves, and which read and which write fail; none does where the
 /// number is 0.
@@ -19,6 +22,15 @@ pub(crate) const SOUND: Outside = Outside {
     failing_read: 0,
     failing_write: 0,
 };
+
+/// A gate that holds no caller.
+pub(crate) struct OpenGate;
+
+impl Gate for OpenGate {
+    fn before(&self, _caller: u64, _index: u64) {}
+
+    fn within(&self, _caller: u64, _step: u64) {}
+}
 
 /// The plan by which the call of this number fails; none does where it is 0.
 pub(crate) fn plan_of(alloc: Global, failing: u64) -> Option<FaultPlan> {
@@ -38,19 +50,32 @@ fn words_of(alloc: Global, line: &str) -> Option<Vec<String>> {
 
 /// Runs a command with its script on the files of a shelf: the exit code, and what is written. None where memory runs
 /// out, where a refusal writes something, or where a run that ends well leaves some of its script.
-pub(crate) fn run(
-    alloc: Global,
+pub(crate) fn run<R: AllocGlobal + Threads + Wait + Sync>(
+    rt: &R,
     shelf: &mut MemoryShelf,
     line: &str,
     script: &str,
     outside: &Outside,
 ) -> Option<(u8, Vec<u8>)> {
+    run_gated(rt, shelf, line, script, outside, &OpenGate)
+}
+
+/// The same, with a gate between the steps of callers.
+pub(crate) fn run_gated<R: AllocGlobal + Threads + Wait + Sync, G: Gate>(
+    rt: &R,
+    shelf: &mut MemoryShelf,
+    line: &str,
+    script: &str,
+    outside: &Outside,
+    gate: &G,
+) -> Option<(u8, Vec<u8>)> {
+    let alloc = rt.alloc();
     let words = words_of(alloc, line)?;
     let bytes = Vec::from_slice(alloc, script.as_bytes()).ok()?;
     let largest = outside.largest.max(1);
     let mut source = MemorySource::new(bytes, largest, plan_of(alloc, outside.failing_read)?);
     let mut sink = MemorySink::new(alloc, largest, plan_of(alloc, outside.failing_write)?);
-    let status = catalog(alloc, &words, &mut source, &mut sink, shelf);
+    let status = catalog(rt, alloc, &words, &mut source, &mut sink, shelf, gate);
     let is_told = match status {
         Status::Done => source.left().is_empty(),
         Status::Write => true,

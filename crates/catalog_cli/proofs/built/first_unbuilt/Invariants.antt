@@ -1,8 +1,7 @@
 use Rattle.std.proofs.Common.{◌≡◌, drop}
-use Rattle.std.specs.Prelude.{None}
 use Rattle.catalog_cli.specs.Built.{first_unbuilt}
 use Rattle.catalog_cli.proofs.built.first_unbuilt.Given as goal
 
 -- the lines to come decide
 abbrev pub invariant-loop-line : goal.invariant-loop-line
-invariant-loop-line l = first_unbuilt None l.lines ≡ first_unbuilt l.first (drop l.line-index l.lines)
+invariant-loop-line l = first_unbuilt l.lines ≡ first_unbuilt (drop l.line-index l.lines)

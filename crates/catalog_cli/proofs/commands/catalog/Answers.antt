@@ -1,5 +1,5 @@
 use Rattle.catalog_cli.proofs.FileOutcomes.{finishes-on-file, tells-file, tells-run}
-use Rattle.catalog_cli.proofs.Outcomes.{tells, finishes, finishes-generated, usage-exactly, command-exactly}
+use Rattle.catalog_cli.proofs.Outcomes.{tells, finishes, finishes-generated, usage-exactly}
 use Rattle.catalog_cli.specs.Headline.{Seen, seen}
 use Rattle.catalog_cli.proofs.commands.catalog.Goals as goal
 
@@ -12,9 +12,6 @@ told g c =
 
 pub returns-clause-usage : goal.returns-clause-usage
 returns-clause-usage g c = usage-exactly _ (told g c) _ _ c.run_command.result c.run_command.ensures.cause
-
-pub returns-clause-unbuilt_command : goal.returns-clause-unbuilt_command
-returns-clause-unbuilt_command g c = command-exactly _ (told g c) _ _ c.run_command.result c.run_command.ensures.cause
 
 pub returns-clause-refused : goal.returns-clause-refused
 returns-clause-refused g c = tells _ (told g c) _ _ _ _ c.run_command.result c.run_command.ensures.sink c.run_command.ensures.cause

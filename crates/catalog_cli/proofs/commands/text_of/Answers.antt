@@ -5,14 +5,13 @@ use Rattle.catalog_cli.specs.Headline.{seen}
 use Rattle.catalog_cli.specs.Headline.Prints.{reports, sums_up, makes_file, lists_words}
 use Rattle.cat_command.specs.Commands.{IsCommand}
 use Rattle.catalog_cli.proofs.FileOutcomes.{not-run, not-told, run-not-of-words}
-use Rattle.catalog_cli.proofs.Outcomes.{not-of-words, makes-one}
+use Rattle.catalog_cli.proofs.Outcomes.{not-of-words}
 use Rattle.catalog_cli.proofs.commands.text_of.Goals as goal
 
 pub returns-in_err-text-in-Gen-clause-cause : goal.returns-in_err-text-in-Gen-clause-cause
 returns-in_err-text-in-Gen-clause-cause g c =
     let p = err_from_is_err_and c.from_residual-in_err-text-in-Gen.result c.from_residual-in_err-text-in-Gen.ensures.1 in
-    let ok = c.in_ok-layout.ensures in
-    rw (p.1, p.2) (inl (inr (c.in-Gen.seed, c.in-Gen.count, makes-one _ c.in_ok-layout.field-0 _ _ _ ok.command ok.built c.in-Gen.is)))
+    rw (p.1, p.2) (inl (inr (c.in-Gen.seed, c.in-Gen.count, c.in-Gen.callers, subst (IsCommand _) c.in-Gen.is c.in_ok-layout.ensures.command)))
 
 pub returns-in-Play-clause-prints : goal.returns-in-Play-clause-prints
 returns-in-Play-clause-prints g c =
@@ -24,8 +23,7 @@ returns-in-Play-clause-nothing_read g c =
 
 pub returns-in_ok-text-in-Gen-clause-prints : goal.returns-in_ok-text-in-Gen-clause-prints
 returns-in_ok-text-in-Gen-clause-prints g c =
-    let ok = c.in_ok-layout.ensures in
-    sums_up _ _ (makes-one _ c.in_ok-layout.field-0 _ _ _ ok.command ok.built c.in-Gen.is) c.in_ok-text-in-Gen.ensures
+    sums_up _ _ _ (subst (IsCommand _) c.in-Gen.is c.in_ok-layout.ensures.command) c.in_ok-text-in-Gen.ensures
 
 pub returns-in-Format-clause-prints : goal.returns-in-Format-clause-prints
 returns-in-Format-clause-prints g c =
