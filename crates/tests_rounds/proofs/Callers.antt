@@ -6,5 +6,7 @@ use Rattle.pm_words.specs.declared.layout.Layout.{Layout}
 use Rattle.index_core.specs.Fresh.{IsFreshIndex}
 use Rattle.index_core.specs.Indexes.{Index}
 
-pub two-callers : (l : Layout) (s : Index) (ops : List CallerOp) → l.callers ≡ 2 → IsFreshIndex l s → All (λ (a : CallerOp). a.caller < 2) ops → All (λ (a : CallerOp). a.caller < s.layout.callers) ops
-two-callers l s ops two fresh few = subst (λ (n : ℕ). All (λ (a : CallerOp). a.caller < n) ops) (sym (ap (λ (k : Layout). k.callers) fresh.layout ∙ two)) few
+pub callers-fit : (l : Layout) (s : Index) (ops : List CallerOp) (callers : ℕ) → l.callers ≡ callers → IsFreshIndex l s →
+    All (λ (a : CallerOp). a.caller < callers) ops → All (λ (a : CallerOp). a.caller < s.layout.callers) ops
+callers-fit l s ops callers so fresh few =
+    subst (λ (n : ℕ). All (λ (a : CallerOp). a.caller < n) ops) (sym (ap (λ (k : Layout). k.callers) fresh.layout ∙ so)) few

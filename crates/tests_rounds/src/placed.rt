@@ -1,4 +1,4 @@
-//! A round of two callers whose puts are all of new names.
+//! Rounds whose puts are all of new names, each caller's of its own.
 
 ghost use Rattle.std.specs.Prelude.{◌≡◌, ◌<◌, ◌≤◌, ◌^◌, All, IfOk, None};
 
@@ -11,8 +11,14 @@ use std::alloc::Global;
 use std::test::Fail;
 use thread_rounds::{Finish, Round, run_round};
 
-/// How many calls each of the callers has.
-const CALLS: u64 = 500;
+/// How the names of a round are written.
+#[derive(Clone, Copy)]
+enum Style {
+    /// A letter of the caller and three digits.
+    Short,
+    /// A folder of the caller and a file of four digits.
+    Long,
+}
 
 /// A gate that holds nobody.
 struct Open;
@@ -23,43 +29,44 @@ impl Gate for Open {
     fn within(&self, _caller: u64, _step: u64) {}
 }
 
-/// A put of a name of the caller's own.
-fn put(caller: u8, number: u64) -> Result<Op, Fail>
-    requires { (caller < 2) × (number < 1000) }
-{
-    let text = [
-        b'a' + caller,
-        b'0' + (number / 100) as u8,
-        b'0' + (number / 10 % 10) as u8,
-        b'0' + (number % 10) as u8,
-    ];
-    let name = Name::read(&text).ok().ok_or("a name")?;
-    Ok(Op::Put {
-        name,
-        value: number,
-    })
+/// The name of this number of a caller's own.
+fn name(alloc: Global, style: Style, caller: u64, number: u64) -> Result<Name, Fail> {
+    let text = match (style, caller) {
+        (Style::Short, 0) => format!(in alloc; "a{number:03}")?,
+        (Style::Short, _) => format!(in alloc; "b{number:03}")?,
+        (Style::Long, 0) => format!(in alloc; "img/{number:04}.raw")?,
+        (Style::Long, 1) => format!(in alloc; "doc/{number:04}.raw")?,
+        (Style::Long, 2) => format!(in alloc; "snd/{number:04}.raw")?,
+        (Style::Long, _) => format!(in alloc; "txt/{number:04}.raw")?,
+    };
+    let name = Name::read(text.as_bytes()).ok().ok_or("a name")?;
+    Ok(name)
 }
 
-/// Puts of both callers, by turns.
-fn puts(alloc: Global) -> Result<Vec<CallerOp>, Fail> {
+/// So many puts of each caller, by turns.
+fn puts(alloc: Global, style: Style, callers: u64, count: u64) -> Result<Vec<CallerOp>, Fail> {
     let mut ops = Vec::new(alloc);
-    for number in 0..CALLS {
-        let op = put(0, number)?;
-        ops.push(CallerOp { caller: 0, op })?;
-        let op = put(1, number)?;
-        ops.push(CallerOp { caller: 1, op })?;
+    for number in 0..count {
+        for caller in 0..callers {
+            let name = name(alloc, style, caller, number)?;
+            let op = Op::Put {
+                name,
+                value: number,
+            };
+            ops.push(CallerOp { caller, op })?;
+        }
     }
     Ok(ops)
 }
 
-/// A plan of these calls of two callers.
-fn planned(ops: Vec<CallerOp>) -> Result<RoundPlan, Fail>
-    ensures callers { IfOk result (λ plan. All (λ a. a.caller < 2) plan.ops) }
+/// A plan of these calls of so many callers.
+fn planned(ops: Vec<CallerOp>, callers: u64) -> Result<RoundPlan, Fail>
+    ensures callers { IfOk result (λ plan. All (λ a. a.caller < callers) plan.ops) }
     ensures limit { IfOk result (λ plan. plan.limit ≡ 2 ^ 62) }
     ensures crash { IfOk result (λ plan. plan.crash ≡ None) }
 {
-    if !ops.as_slice().iter().all(|call| call.caller < 2) {
-        return Err("a third caller".into());
+    if !ops.as_slice().iter().all(|call| call.caller < callers) {
+        return Err("one caller more".into());
     }
     Ok(RoundPlan {
         ops: Listed::of(ops),
@@ -90,11 +97,24 @@ fn names(alloc: Global, finish: Finish) -> Result<u64, Fail> {
 #[test]
 fn two_callers_place_each_write_once(rt: HostRuntime) -> Result<(), Fail> {
     let core = Core::fresh(rt.alloc(), Layout::new(512, 8, 2)?)?;
-    let plan = planned(puts(rt.alloc())?)?;
+    let plan = planned(puts(rt.alloc(), Style::Short, 2, 500)?, 2)?;
     let round = run_round(&rt, rt.alloc(), core, &plan, &Open)?;
     let told = (round.writes, news(&round));
     assert_eq!(rt; told, (1000, 1000));
     let names = names(rt.alloc(), round.finish)?;
     assert_eq!(rt; names, 1000);
+    Ok(())
+}
+
+/// Each split leaves 32 names on both sides, so the nodes suffice.
+#[test]
+fn four_callers_fill_five_hundred_nodes(rt: HostRuntime) -> Result<(), Fail> {
+    let core = Core::fresh(rt.alloc(), Layout::new(1024, 64, 4)?)?;
+    let plan = planned(puts(rt.alloc(), Style::Long, 4, 5000)?, 4)?;
+    let round = run_round(&rt, rt.alloc(), core, &plan, &Open)?;
+    let told = (round.writes, news(&round));
+    assert_eq!(rt; told, (20_000, 20_000));
+    let names = names(rt.alloc(), round.finish)?;
+    assert_eq!(rt; names, 20_000);
     Ok(())
 }

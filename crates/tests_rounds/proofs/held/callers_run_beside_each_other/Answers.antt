@@ -1,7 +1,7 @@
 use Rattle.index_core.proofs.Fresh.{fresh_quiet}
 use Rattle.std.proofs.Common.{ap}
 use Rattle.pm_words.specs.declared.layout.Layout.{Layout}
-use Rattle.tests_rounds.proofs.Callers.{two-callers}
+use Rattle.tests_rounds.proofs.Callers.{callers-fit}
 use Rattle.tests_rounds.proofs.held.callers_run_beside_each_other.Goals as goal
 
 pub run_round-requires-clause-quiet : goal.run_round-requires-clause-quiet
@@ -9,4 +9,4 @@ run_round-requires-clause-quiet g c κs = fresh_quiet c.in_ok-new.field-0 c.in_o
 
 pub run_round-requires-clause-callers : goal.run_round-requires-clause-callers
 run_round-requires-clause-callers g c κs =
-    two-callers c.in_ok-new.field-0 c.in_ok-core.core c.in_ok-plan.plan.ops (ap (λ (l : Layout). l.callers) c.in_ok-new.ensures.made) c.in_ok-core.ensures c.in_ok-plan.ensures.callers
+    callers-fit c.in_ok-new.field-0 c.in_ok-core.core c.in_ok-plan.plan.ops 2 (ap (λ (l : Layout). l.callers) c.in_ok-new.ensures.made) c.in_ok-core.ensures c.in_ok-plan.ensures.callers

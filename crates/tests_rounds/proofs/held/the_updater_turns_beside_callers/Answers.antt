@@ -3,7 +3,7 @@ use Rattle.tests_rounds.proofs.Finishes.{joined-so}
 use Rattle.index_core.proofs.Fresh.{fresh_quiet}
 use Rattle.std.proofs.Common.{ap}
 use Rattle.pm_words.specs.declared.layout.Layout.{Layout}
-use Rattle.tests_rounds.proofs.Callers.{two-callers}
+use Rattle.tests_rounds.proofs.Callers.{callers-fit}
 use Rattle.tests_rounds.proofs.held.the_updater_turns_beside_callers.Goals as goal
 
 pub run_round-requires-clause-quiet : goal.run_round-requires-clause-quiet
@@ -14,4 +14,4 @@ first_line-requires g c = joined-so c.in_ok-round.round.finish _ IsQuiet (λ cor
 
 pub run_round-requires-clause-callers : goal.run_round-requires-clause-callers
 run_round-requires-clause-callers g c κs =
-    two-callers c.in_ok-new.field-0 c.in_ok-core.core c.in_ok-plan.plan.ops (ap (λ (l : Layout). l.callers) c.in_ok-new.ensures.made) c.in_ok-core.ensures c.in_ok-plan.ensures.callers
+    callers-fit c.in_ok-new.field-0 c.in_ok-core.core c.in_ok-plan.plan.ops 2 (ap (λ (l : Layout). l.callers) c.in_ok-new.ensures.made) c.in_ok-core.ensures c.in_ok-plan.ensures.callers
