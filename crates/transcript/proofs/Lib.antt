@@ -1,0 +1,16 @@
+pub mod JudgeLemmas
+pub mod StopLemmas
+pub mod CountLemmas
+pub mod FirstPairs
+pub mod RangeLemmas
+pub mod ScanHalves
+pub mod LookLemmas
+pub mod TreeLemmas
+pub mod OrderLemmas
+pub mod SpanLemmas
+pub mod Giving
+pub mod PlaceLemmas
+pub mod KeyLemmas
+pub mod CallLemmas
+pub mod Orders
+pub mod RuleLaws

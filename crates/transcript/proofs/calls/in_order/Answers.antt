@@ -1,0 +1,7 @@
+use Rattle.std.proofs.Common.{rules}
+use Rattle.std.proofs.lemmas.Fn.{always_returns_same}
+use Rattle.transcript.specs.Calls.{key_of}
+use Rattle.transcript.proofs.calls.in_order.Goals as goal
+
+pub returns-clause-rising : goal.returns-clause-rising
+returns-clause-rising c = c.sort_unstable_by_key.ensures.sorted key_of (always_returns_same _ _ _ (λ a r f called. (search rules, search rules)))
