@@ -1,6 +1,7 @@
 //! Running a round in which one caller alone has calls, within a budget.
 
-ghost use Rattle.std.specs.Prelude.{◌≡◌, ℕ, ◌+◌, ◌*◌, ◌<◌, ◌≤◌, ◌↔◌, [], if◌then◌else◌, is_some, length, All, IfOk, IfSome, IsTrue, MatchResult, None, true};
+ghost use Rattle.std.specs.Prelude.{◌≡◌, ℕ, ◌+◌, ◌*◌, ◌<◌, ◌≤◌, ◌↔◌, [], if◌then◌else◌, is_some, length};
+ghost use Rattle.std.specs.Prelude.{All, IfOk, IfSome, IsTrue, MatchResult, None, true};
 ghost use Rattle.cat_history.specs.Records.{mark_place};
 ghost use Rattle.cat_history.specs.LoneRounds.{write_of};
 ghost use Rattle.cat_history.specs.Scans.{IsPart};
