@@ -9,3 +9,5 @@ pub mod RoundLaws
 pub mod ScriptLaws
 mod AnswerLemmas
 mod FitLemmas
+mod DecisionLemmas
+mod WholeLaws

@@ -344,8 +344,12 @@ back reason.Caller = refl
 back reason.Name = refl
 back reason.Number = refl
 
+-- no two reasons have one turn
+pub turn_one : (a b : Reason) → turn_of a ≡ turn_of b → a ≡ b
+turn_one a b same = sym (back a) ∙ ap reason_at same ∙ back b
+
 -- a line has one first reason
 pub reason_one : (line : List ℕ) (a b : Reason) → IsFirstReason line a → IsFirstReason line b → a ≡ b
 reason_one line a b first second =
     let same : turn_of a ≡ turn_of b = omega (arith, λ (less : turn_of a < turn_of b). second.first a less first.has, λ (less : turn_of b < turn_of a). first.first b less second.has) in
-    sym (back a) ∙ ap reason_at same ∙ back b
+    turn_one a b same

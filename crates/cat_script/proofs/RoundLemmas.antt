@@ -38,7 +38,7 @@ limit_set-append first (Crash plan ∷ a) b = limit_set-append first a b
 limit_set-append first (Updater turns ∷ a) b = limit_set-append first a b
 limit_set-append first (Limit limit ∷ a) b = limit_set-append limit a b
 
-going_more : (lines : List Line) (line : Line) → AllByRecursion GoesOn lines → GoesOn line → AllByRecursion GoesOn (lines ++ line ∷ [])
+pub going_more : (lines : List Line) (line : Line) → AllByRecursion GoesOn lines → GoesOn line → AllByRecursion GoesOn (lines ++ line ∷ [])
 going_more [] line going goes = (goes, tt)
 going_more (first ∷ lines) line going goes = (going.0, going_more lines line going.1 goes)
 
