@@ -41,7 +41,7 @@ use Rattle.index_core.proofs.Lists.{some_same}
 
 module _ {A B : Type 0} (f : A → Option B) where
   -- what holds of all that the elements give
-  gives-each : (P : B → Type 0) (l : List A) → ((i : ℕ) (a : A) (b : B) → get_elem? l i ≡ some a → f a ≡ Some b → P b) → AllByRecursion P (filter_map f l)
+  pub gives-each : (P : B → Type 0) (l : List A) → ((i : ℕ) (a : A) (b : B) → get_elem? l i ≡ some a → f a ≡ Some b → P b) → AllByRecursion P (filter_map f l)
   gives-each P [] each = tt
   gives-each P (a ∷ l) each = by (f a) refl (gives-each P l (λ i. each (suc i)))
     where
@@ -50,7 +50,7 @@ module _ {A B : Type 0} (f : A → Option B) where
       by (Some b) gives behind = (each 0 a b refl gives, behind)
 
   -- what an element gives is among what all give
-  gives-here : (l : List A) (i : ℕ) (a : A) (b : B) → get_elem? l i ≡ some a → f a ≡ Some b → Contains (filter_map f l) b
+  pub gives-here : (l : List A) (i : ℕ) (a : A) (b : B) → get_elem? l i ≡ some a → f a ≡ Some b → Contains (filter_map f l) b
   gives-here [] i a b at gives = absurd (some-ne-none a (sym at))
   gives-here (c ∷ l) zero a b at gives =
       subst (λ (o : Option B). Contains (cons_option o (filter_map f l)) b) (sym (ap f (some-injective c a at) ∙ gives)) (0, omega arith, refl)
@@ -61,7 +61,7 @@ module _ {A B : Type 0} (f : A → Option B) where
       behind (Some first) has = (suc has.0, let less = has.1 in omega arith, has.2)
 
   -- what stands among them is given by an element
-  given-by : (l : List A) (b : B) → Contains (filter_map f l) b → (i : ℕ) × (a : A) × (get_elem? l i ≡ some a) × (f a ≡ Some b)
+  pub given-by : (l : List A) (b : B) → Contains (filter_map f l) b → (i : ℕ) × (a : A) × (get_elem? l i ≡ some a) × (f a ≡ Some b)
   given-by l b has =
       let Given : B → Type 0 = λ d. (i : ℕ) × (a : A) × (get_elem? l i ≡ some a) × (f a ≡ Some d) in
       All-contains Given (filter_map f l) b (All-from_recursion Given (filter_map f l) (gives-each Given l (λ i a d at gives. (i, a, at, gives)))) has
@@ -78,7 +78,7 @@ module _ {A B : Type 0} (f : A → Option B) where
 
 module _ {A X : Type 0} (f : A → Option (ℕ × X)) where
   -- where no two elements give one number, no number is given twice
-  gives-apart : (l : List A)
+  pub gives-apart : (l : List A)
       → ((i j : ℕ) (a b : A) (x y : ℕ × X) → get_elem? l i ≡ some a → get_elem? l j ≡ some b → i < j → f a ≡ Some x → f b ≡ Some y → x.0 ≢ y.0)
       → IsDistinct nat_eq (keys_of (filter_map f l))
   unfolding IsDistinct
@@ -109,7 +109,7 @@ module _ {X : Type 0} where
       eqb-false k e.0 (All-contains Other (keys_of xs) e.0 (All-from_recursion Other (keys_of xs) other) number)
 
   -- numbered elements, no number twice: lists that have the same ones are one another's permutations
-  permuted : (xs ys : List (ℕ × X)) → IsDistinct nat_eq (keys_of xs) → IsDistinct nat_eq (keys_of ys) → ((e : ℕ × X) → Contains xs e ↔ Contains ys e) → IsPermutation xs ys
+  pub permuted : (xs ys : List (ℕ × X)) → IsDistinct nat_eq (keys_of xs) → IsDistinct nat_eq (keys_of ys) → ((e : ℕ × X) → Contains xs e ↔ Contains ys e) → IsPermutation xs ys
   unfolding IsDistinct
   permuted [] [] apart others same = IsPermutation-refl []
   permuted [] (y ∷ ys) apart others same = absurd (let none = ((same y).1 (0, omega arith, refl)).1 in omega arith)
@@ -130,7 +130,7 @@ module _ {X : Type 0} where
       IsPermutation-trans (x ∷ xs) (x ∷ rest) ys (IsPermutation-cons x xs rest (permuted xs rest apart.1 keys.1 alike)) (IsPermutation-sym ys (x ∷ rest) out)
 
   -- a list by place has each element beside its place, and no place twice
-  numbered-there : (h : List X) (place : ℕ) (x : X) → slice_get h place ≡ Some x → Contains (enumerate_from 0 h) (place, x)
+  pub numbered-there : (h : List X) (place : ℕ) (x : X) → slice_get h place ≡ Some x → Contains (enumerate_from 0 h) (place, x)
   numbered-there h place x stands =
       let within = slice_get_within h place x stands in (
         place,
@@ -138,7 +138,7 @@ module _ {X : Type 0} where
         get_or-enumerate_from 0 h place (place, x) within ∙ (λ i. (zero-add place i, get_or_from_slice_get h place x x stands i)),
       )
 
-  numbered-from : (h : List X) (place : ℕ) (x : X) → Contains (enumerate_from 0 h) (place, x) → slice_get h place ≡ Some x
+  pub numbered-from : (h : List X) (place : ℕ) (x : X) → Contains (enumerate_from 0 h) (place, x) → slice_get h place ≡ Some x
   numbered-from h place x has =
       let within : has.0 < length h = (let less = has.1 in omega (arith, length-enumerate_from 0 h)) in
       let is : ◌≡◌ {A = ℕ × X} (0 + has.0, get_or h has.0 x) (place, x) = sym (get_or-enumerate_from 0 h has.0 (place, x) within) ∙ has.2 in
@@ -149,13 +149,13 @@ module _ {X : Type 0} where
   numbered-above k n [] less = tt
   numbered-above k n (x ∷ h) less = (ne_eqb k n (λ same. absurd (omega arith)), numbered-above k (n + 1) h (omega arith))
 
-  numbered-apart : (n : ℕ) (h : List X) → IsDistinct nat_eq (keys_of (enumerate_from n h))
+  pub numbered-apart : (n : ℕ) (h : List X) → IsDistinct nat_eq (keys_of (enumerate_from n h))
   unfolding IsDistinct
   numbered-apart n [] = tt
   numbered-apart n (x ∷ h) = (numbered-above n (n + 1) h (omega arith), numbered-apart (n + 1) h)
 
 -- what is made of an element is among what is made of all
-contains-map : {A B : Type 0} (f : A → B) (l : List A) (a : A) → Contains l a → Contains (map f l) (f a)
+pub contains-map : {A B : Type 0} (f : A → B) (l : List A) (a : A) → Contains l a → Contains (map f l) (f a)
 contains-map f l a has = (
   has.0,
   let within = has.1 in omega (arith, length-map l f),
@@ -163,7 +163,7 @@ contains-map f l a has = (
 )
 
 -- the record of a call that took place
-took-place : (c : AnsweredCall) (r : Record) → record_of c ≡ Some r → (placed : Placed) × (c.answer ≡ once.Done placed) × (placed_record c.call placed ≡ r)
+pub took-place : (c : AnsweredCall) (r : Record) → record_of c ≡ Some r → (placed : Placed) × (c.answer ≡ once.Done placed) × (placed_record c.call placed ≡ r)
 took-place c r told = by c.answer refl told
   where
     by : (o : Once Placed) → c.answer ≡ o → record_told c.call o ≡ Some r → (placed : Placed) × (c.answer ≡ once.Done placed) × (placed_record c.call placed ≡ r)
@@ -173,7 +173,7 @@ took-place c r told = by c.answer refl told
     by (once.Again why) is told = absurd (let none : None ≡ Some r = told in cc)
 
 -- the write of a call that took place, beside its place
-abbrev write_told : AnsweredCall → Option (ℕ × Write)
+abbrev pub write_told : AnsweredCall → Option (ℕ × Write)
 write_told c = option_and_then placed_write (record_of c)
 
 -- it stands at its place, and is of that call
@@ -185,19 +185,19 @@ told-stands history c placed (Some change) x stands told =
     subst (λ (y : ℕ × Write). (slice_get history y.0 ≡ Some y.1) × (y.1.caller ≡ c.caller) × (y.1.index ≡ c.index)) (some_same told) (stands, refl, refl)
 
 -- the old number is an answer of each op
-answer-of : (base : Map) (history : List Write) (limit : ℕ) (o : NameOp) (placed : Placed) → placed.old ≡ at (after base history placed.place) (name_asked o)
+pub answer-of : (base : Map) (history : List Write) (limit : ℕ) (o : NameOp) (placed : Placed) → placed.old ≡ at (after base history placed.place) (name_asked o)
     → IsAnswer base history limit (as_op o) (Old placed.old placed.place)
 answer-of base history limit (op.Put name value) placed is = is
 answer-of base history limit (op.Get name) placed is = is
 answer-of base history limit (op.Del name) placed is = is
 
 -- a call on one name asks for its change, and takes its places, among any calls too
-asked-is : (o : NameOp) → change_asked (as_op o) ≡ change_of o
+pub asked-is : (o : NameOp) → change_asked (as_op o) ≡ change_of o
 asked-is (op.Put name value) = refl
 asked-is (op.Get name) = refl
 asked-is (op.Del name) = refl
 
-interval-is : (o : NameOp) (place : ℕ) → interval_at o place ≡ interval_asked (as_op o) place
+pub interval-is : (o : NameOp) (place : ℕ) → interval_at o place ≡ interval_asked (as_op o) place
 interval-is (op.Put name value) place = refl
 interval-is (op.Get name) place = refl
 interval-is (op.Del name) place = refl
@@ -211,7 +211,7 @@ module _ (initial : Index) (begun : List BegunCall) (calls : List AnsweredCall) 
   abbrev base : Map
   base = map_of initial.base
 
-  placed-legal : (i : ℕ) (c : AnsweredCall) (placed : Placed) → get_elem? calls i ≡ some c → c.answer ≡ once.Done placed → IsPlacedCall base s.history c.call c.until placed
+  pub placed-legal : (i : ℕ) (c : AnsweredCall) (placed : Placed) → get_elem? calls i ≡ some c → c.answer ≡ once.Done placed → IsPlacedCall base s.history c.call c.until placed
   placed-legal i c placed there is = subst (IsLegalAnswer s.layout.slots base s.history c.call c.until c.next) is (legal.answers i c there).answer
 
   -- of two calls of one caller, the first of which took place, the later one's index is higher
@@ -223,7 +223,7 @@ module _ (initial : Index) (begun : List BegunCall) (calls : List AnsweredCall) 
       omega arith
 
   -- the write of an answered call stands at its place, and is of that call
-  stands-there : (i : ℕ) (c : AnsweredCall) (x : ℕ × Write) → get_elem? calls i ≡ some c → write_told c ≡ Some x
+  pub stands-there : (i : ℕ) (c : AnsweredCall) (x : ℕ × Write) → get_elem? calls i ≡ some c → write_told c ≡ Some x
       → (placed : Placed) × (c.answer ≡ once.Done placed) × (slice_get s.history x.0 ≡ Some x.1) × (x.1.caller ≡ c.call.caller) × (x.1.index ≡ c.call.index)
   stands-there i c x there told = option_and_then_some placed_write (record_of c) x told (λ r is of.
       let took = took-place c r is in
@@ -232,7 +232,7 @@ module _ (initial : Index) (begun : List BegunCall) (calls : List AnsweredCall) 
       (took.0, took.1, stands.0, stands.1, stands.2))
 
   -- no two calls' writes have one place
-  places-apart : (i j : ℕ) (a b : AnsweredCall) (x y : ℕ × Write) → get_elem? calls i ≡ some a → get_elem? calls j ≡ some b → i < j → write_told a ≡ Some x → write_told b ≡ Some y → x.0 ≢ y.0
+  pub places-apart : (i j : ℕ) (a b : AnsweredCall) (x y : ℕ × Write) → get_elem? calls i ≡ some a → get_elem? calls j ≡ some b → i < j → write_told a ≡ Some x → write_told b ≡ Some y → x.0 ≢ y.0
   places-apart i j a b x y at_i at_j less told_a told_b place =
       let first = stands-there i a x at_i told_a in
       let second = stands-there j b y at_j told_b in
@@ -301,7 +301,7 @@ module _ (initial : Index) (begun : List BegunCall) (calls : List AnsweredCall) 
 
   module _ (limit : ℕ) (quiet : IsQuiet s) (carry : CarryLimit limit begun) where
     -- a call that wrote began below the limit, and ended past its place
-    wrote-below : (place : ℕ) (write : Write) (w : IsAnsweredWrite calls place write) → (w.answered.call.since < limit) × (w.answered.call.since ≤ place) × (place < w.answered.until)
+    pub wrote-below : (place : ℕ) (write : Write) (w : IsAnsweredWrite calls place write) → (w.answered.call.since < limit) × (w.answered.call.since ≤ place) × (place < w.answered.until)
     wrote-below place write w =
         let a = w.answered in
         let is = placed-legal w.number a w.placed w.there w.answer in
@@ -318,7 +318,7 @@ module _ (initial : Index) (begun : List BegunCall) (calls : List AnsweredCall) 
             subst (λ (o : Option Change). IfSome o (λ change. c.limit ≡ Some limit)) asks (All-contains (λ (b : BegunCall). IfSome (change_of b.op) (λ change. b.limit ≡ Some limit)) begun c carry has)
 
     -- each write is that of an answered call
-    wrote : (place : ℕ) (write : Write) → slice_get s.history place ≡ Some write → IsAnsweredWrite calls place write
+    pub wrote : (place : ℕ) (write : Write) → slice_get s.history place ≡ Some write → IsAnsweredWrite calls place write
     wrote place write stands =
         ⊎_elim (λ (w : IsAnsweredWrite calls place write). w)
         (λ (w : IsWriteInFlight s.states place write). absurd (let both : None ≡ Some w.machine = sym (quiet.calls w.party w.state w.there) ∙ w.flies in cc))
@@ -332,7 +332,7 @@ module _ (initial : Index) (begun : List BegunCall) (calls : List AnsweredCall) 
         let mapped : Contains (map call_of (records_of calls)) (call_of r) = contains-map call_of (records_of calls) r has in
         subst (Contains (callers_placed calls)) (sym w.caller) (contains-map (λ (c : Call). c.caller) (map call_of (records_of calls)) (call_of r) mapped)
 
-    wrote-once : (p q : ℕ) (v w : Write) → slice_get s.history p ≡ Some v → slice_get s.history q ≡ Some w → p < q → limit ≤ p + 1 → v.caller ≢ w.caller
+    pub wrote-once : (p q : ℕ) (v w : Write) → slice_get s.history p ≡ Some v → slice_get s.history q ≡ Some w → p < q → limit ≤ p + 1 → v.caller ≢ w.caller
     wrote-once p q v w at_p at_q less late same =
         let one = wrote p v at_p in
         let two = wrote q w at_q in

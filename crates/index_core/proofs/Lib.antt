@@ -6,6 +6,7 @@ pub mod Bounds
 pub mod Footings
 pub mod PartFacts
 pub mod Ranges
+pub mod Freeing
 pub mod Stepping
 pub mod Reading
 pub mod Crashing
@@ -18,9 +19,11 @@ pub mod Limits
 pub mod Indexed
 pub mod OneHistory
 pub mod LegalRounds
+pub mod ToldRounds
 pub mod Shown
 pub mod Epochless
 pub mod WeightLaw
+pub mod Causes
 pub mod MachineLaw
 pub mod Quiet
 pub mod Stamps
@@ -39,9 +42,11 @@ pub mod ShortWays
 pub mod Layering
 pub mod Busy
 pub mod Turning
+pub mod FreedRuns
 pub mod Rechecks
 pub mod TurnReading
 pub mod LoneTurning
+pub mod SteppedTurns
 pub mod Opening
 pub mod RestImages
 pub mod InUse

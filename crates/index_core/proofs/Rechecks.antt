@@ -1,6 +1,7 @@
 -- What is known of parts in an index, and what a recheck tells there.
 use Rattle.std.proofs.Common.{◌≡◌, ℕ, ◌<◌, ◌+◌, List, [], ◌∷◌, ◌++◌, length, take, refl, sym, subst, ap, ◌∙◌, arith}
-use Rattle.std.specs.Prelude.{Option, IfSome}
+use Rattle.std.specs.Prelude.{Bool, Option, IfSome, if◌then◌else◌}
+use Rattle.std.proofs.lemmas.Bool.{eq-eqb}
 use Rattle.std.proofs.lemmas.List.{set-get_or}
 use mathlib.Core.Option.{some}
 use lib.ListN.{get_elem?}
@@ -8,11 +9,18 @@ use Rattle.cat_history.specs.Maps.{Map, map_of}
 use Rattle.cat_history.specs.Scans.{range}
 use Rattle.pm_words.specs.declared.layout.Layout.{Layout}
 use Rattle.pm_words.specs.declared.action.Action.TheVariants.{Load}
+use Rattle.pm_words.specs.declared.again.Again.TheVariants.{Moved}
+use Rattle.pm_words.specs.declared.machine.Turn.{Turn}
+use Rattle.pm_words.specs.declared.machine.Turn.TheVariants.{Go, Done}
+use Rattle.pm_words.specs.Images.{Row}
 use Rattle.pm_words.specs.Rows.{acted, got}
+use Rattle.call_stages.specs.declared.once.Once.{Once}
+use Rattle.call_stages.specs.declared.once.Once.TheVariants as once
+use Rattle.call_stages.specs.declared.view.View.{View}
 use Rattle.call_stages.specs.AnySteps.{AnyStep}
 use Rattle.call_stages.specs.Kinds.{Told, clock_address, version_address}
 use Rattle.call_stages.specs.Stages.{Stage, counted}
-use Rattle.index_law.specs.Facts.{facts_of}
+use Rattle.index_law.specs.Facts.{facts_of, version_in}
 use Rattle.index_law.specs.Laws.{Allowed, loads_clock, loads_word, ActionLaw}
 use Rattle.index_law.specs.Lawful.{Sure}
 use Rattle.index_law.specs.Worlds.{facts, written}
@@ -21,21 +29,23 @@ use Rattle.index_law.proofs.Maps.{after-longer}
 use Rattle.index_law.proofs.Rows.{version_in-here}
 use Rattle.node_ops.specs.declared.recheck.Recheck.{Recheck}
 use Rattle.node_ops.specs.declared.recheck.Recheck.TheVariants.{Dating, Checking}
+use Rattle.node_ops.specs.declared.recheck.Same.{Same}
 use Rattle.node_ops.specs.declared.running.Running.{Running}
 use Rattle.node_ops.specs.declared.running.Running.TheVariants.{Parting}
 use Rattle.node_ops.specs.CallStages.{stage_of, stage_after, reply_of}
 use Rattle.node_ops.specs.PartSteps.{part_asks, part_call, part_count}
 use Rattle.node_ops.specs.Calls.{name_in}
-use Rattle.node_ops.specs.RecheckSteps.{recheck_asks, recheck_node, recheck_view}
+use Rattle.node_ops.specs.RecheckSteps.{recheck_asks, recheck_node, recheck_turned, recheck_view}
 use Rattle.node_ops.specs.Parts.{pairs_of}
 use Rattle.node_ops.specs.Rechecks.{IsKnown}
 use Rattle.node_ops.specs.RunningSteps.{Sound, running_asks, running_turned}
 use Rattle.node_ops.proofs.PartTelling.{parts_hear}
 use Rattle.node_ops.proofs.Rechecks as ops
 use Rattle.index_core.specs.declared.party.PartyState.{PartyState}
-use Rattle.index_core.specs.Indexes.{world, told}
+use Rattle.index_core.specs.Indexes.{Index, IsIndex, world, told}
 use Rattle.index_core.specs.PartyStates.{machine_stage, party_of}
 use Rattle.index_core.specs.Rechecks.{PartsBecomeKnown, StepsKeepKnown, TurnsKeepKnown, recheck_told, RechecksAct}
+use Rattle.index_core.specs.Rechecks.{IsRecheckOf, IsSameRecheck, RecheckSteps}
 use Rattle.index_core.specs.Rechecks.{RechecksGoOn, RechecksAreAnswered, SameTells, SameIsSoon, SameOutlasts}
 use Rattle.index_core.specs.Turns.{turned_index}
 use Rattle.index_core.proofs.Bounds.{bounded_small}
@@ -132,3 +142,47 @@ same_outlasts base seen more k place within is = record {
   lists = λ between late soon. subst (λ (m : Map). pairs_of k.words ≡ take k.count (range m k.low k.words.high)) (sym (after-longer base seen more between (omega (arith, soon, within)))) (is.lists between late soon);
   whole = λ few between late soon. subst (λ (m : Map). pairs_of k.words ≡ range m k.low k.words.high) (sym (after-longer base seen more between (omega (arith, soon, within)))) (is.whole few between late soon);
 }
+
+-- what goes on is the same recheck
+goes_same : (s : Index) (r next : Recheck) (x : ℕ) → IsRecheckOf s r → recheck_turned r x ≡ Go next → IsSameRecheck r next × IsRecheckOf s next
+goes_same s (Dating view node version) next x of goes =
+    let same : Checking view node version x ≡ next = cc in
+    subst (λ (q : Recheck). IsSameRecheck (Dating view node version) q × IsRecheckOf s q) same
+    (record { view = refl; node = refl; version = refl }, record { here = of.here; layout = of.layout; generation = of.generation })
+goes_same s (Checking view node version clock) next x of goes = absurd (cc)
+
+-- what a step comes to, by what its number is
+pub recheck_steps : (s new : Index) (r : Recheck) (result : Turn Recheck (Once Same)) → IsIndex s → IsRecheckOf s r → new ≡ s → result ≡ recheck_turned r (recheck_told s r) → RecheckSteps s r new result
+recheck_steps s new r result is of same turned =
+    subst (λ (v : Index). RecheckSteps s r v result) (sym same)
+    (record {
+      same = refl;
+      turned = turned;
+      goes_on = λ next goes. goes_same s r next (recheck_told s r) of (sym turned ∙ goes);
+      sure = λ since next sure goes. rechecks_go_on s since r next is of sure (sym turned ∙ goes);
+      answered = λ since answer sure done. rechecks_are_answered s since r answer is of sure (sym turned ∙ done);
+    })
+
+-- a core reads the words of its index
+pub recheck_in : (s old : Index) (r : Recheck) → s.layout ≡ old.layout → s.generation ≡ old.generation → IsRecheckOf old r → IsRecheckOf s r
+recheck_in s old r layout generation of = record { here = of.here; layout = of.layout ∙ sym layout; generation = of.generation ∙ sym generation }
+
+-- the row that a load leaves
+pub row_stays : (s : Index) (r : Recheck) (row : Row) → IsIndex s → IsRecheckOf s r → row ≡ record { layout = s.layout; words = acted s.layout s.words (recheck_asks r) } → row ≡ record { layout = s.layout; words = s.words }
+row_stays s r row is of acts = acts ∙ ap (λ (words : List ℕ). record { layout = s.layout; words = words }) (rechecks_act s r is of).leaves
+
+-- one that is alone finds what it was handed, if that is the word that is there
+pub recheck_ends : (s : Index) (view : View) (node version : ℕ) (next : Recheck) (result : Turn Recheck (Once Same)) → IsIndex s → IsRecheckOf s (Dating view node version) → version_in s.layout s.words node ≡ version
+    → recheck_turned (Dating view node version) (recheck_told s (Dating view node version)) ≡ Go next → result ≡ recheck_turned next (recheck_told s next) → result ≡ Done (once.Done (record { place = length s.history }))
+recheck_ends s view node version next result is of same goes second =
+    let clock = recheck_told s (Dating view node version) in
+    let on : Checking view node version clock ≡ next = cc in
+    let dated : clock ≡ length s.history = ops.rechecks_are_told (world s) (Dating view node version) is.lawful of.here of.layout in
+    let found : recheck_told s (Checking view node version clock) ≡ version = ops.rechecks_are_told (world s) (Checking view node version clock) is.lawful of.here of.layout ∙ same in
+    second ∙ ap (λ (r : Recheck). recheck_turned r (recheck_told s r)) (sym on)
+    ∙ ap (λ (n : ℕ). recheck_turned (Checking view node version clock) n) found
+    ∙ ap (λ (b : Bool). done_with (if b then once.Done (record { place = clock }) else once.Again (Moved node version version))) (eq-eqb version version refl)
+    ∙ ap (λ (place : ℕ). done_with (once.Done (record { place = place }))) dated
+  where
+    done_with : Once Same → Turn Recheck (Once Same)
+    done_with answer = Done answer

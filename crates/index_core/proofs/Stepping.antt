@@ -16,8 +16,8 @@ use Rattle.cat_history.specs.declared.op.Write.{Write}
 use Rattle.call_stages.specs.declared.once.Once.{Once}
 use Rattle.call_stages.specs.declared.once.Placed.{Placed}
 use Rattle.call_stages.specs.Stages.{Stage, Idle, counted}
-use Rattle.call_stages.specs.Kinds.{Told, LeadsWithin}
-use Rattle.call_stages.specs.AnySteps.{AnyStep}
+use Rattle.call_stages.specs.Kinds.{Told, LeadsWithin, free_status}
+use Rattle.call_stages.specs.AnySteps.{AnyStep, on_nodes, beside}
 use Rattle.call_stages.specs.Footings.{FootStep}
 use Rattle.call_stages.specs.declared.view.View.{View}
 use Rattle.node_ops.specs.declared.running.Running.{Running}
@@ -45,7 +45,9 @@ use Rattle.index_law.specs.Lawful.{Sure, Lawful}
 use Rattle.index_law.specs.Laws.{ActionLaw, Counts, IsLegal, IsWithin, StepLaw}
 use Rattle.index_law.specs.AnySteps.{MayDo}
 use Rattle.index_law.proofs.Actions.{some_told, some_leads}
-use Rattle.index_law.proofs.AnySteps.{any_allowed, any_can, any_keeps, any_weighs}
+use Rattle.index_law.proofs.AnySteps.{any_allowed, any_can, any_keeps, any_weighs, beside_keeps}
+use Rattle.index_law.proofs.Moves.{facts_step}
+use Rattle.index_law.specs.Facts.{Facts, facts_of}
 use Rattle.index_law.proofs.Own.{sure_within}
 use Rattle.index_law.specs.Weights.{AddsName, RisesBy, weight_sum}
 use Rattle.index_law.proofs.Weights.{swap_weighs}
@@ -59,7 +61,10 @@ use Rattle.index_core.specs.PartyStates.{machine_stage, machine_footing, party_o
 use Rattle.node_ops.specs.Calls.{IsSame}
 use Rattle.index_core.specs.Listings.{ListsAt}
 use Rattle.index_core.proofs.Ranges.{lists_at, step_named}
-use Rattle.index_core.specs.Indexes.{Index, world, IsIndex, view_of, started_index, told, stepped_index, MakesCall}
+use Rattle.index_core.specs.Indexes.{Index, world, IsIndex, view_of, started_index, told, stepped_index, MakesCall, FreesNone}
+use Rattle.index_core.specs.Heard.{HearsOn}
+use Rattle.index_core.proofs.Causes.{calls_hear}
+use Rattle.index_core.proofs.Freeing.{step_frees_none}
 use Rattle.index_core.proofs.Footings.{swap_footed, step_footed}
 use Rattle.index_core.proofs.Layering.{step_layered, one_layered}
 use Rattle.index_core.proofs.Lists.{map_there, map_set, owed-set, set_twice}
@@ -82,6 +87,8 @@ pub record StepFacts (s : Index) (party : ℕ) (state : PartyState) (machine : R
   pub lists : ListsAt s.layout (facts (world (stepped_index s party state machine 0))) machine (told s machine)
   pub owns : OwnsWrites (s.history ++ written state.caller state.index (counted (stage_of machine))) state machine
   pub legal : (spare : ℕ) → IsLegal s.layout s.generation (facts (world (stepped_index s party state machine spare))) state.caller state.index state.since (stage_of machine) (reply_of (running_turned machine (told s machine)))
+  pub frees_none : (spare : ℕ) → FreesNone s (stepped_index s party state machine spare)
+  pub hears : HearsOn s.layout s.generation machine (told s machine)
 
 -- the world with the party as its call's turn leaves it: one whose call is answered is idle, and may have another index
 abbrev world_after : World → ℕ → PartyState → Action → Turn Running (Once Placed) → World
@@ -149,6 +156,18 @@ may_do l g machine nodes sound within =
     let some = some_told l g a in
     any_allowed l g (stage_of machine) a some.0 _ _ within (turns_are_steps l g machine some.0 sound some.1 (some_leads l g (stage_of machine) a nodes))
 
+-- no node becomes FREE by a step of a call
+frees_by_kind : (w : World) (i : ℕ) (p : Party) (a : Action) (x : ℕ) (s : Stage) {t : Stage} {r : Option (Once Placed)} → p.stage ≡ s → Lawful w → get_elem? w.parties i ≡ some p → Sure w.layout w.generation (facts w) p.caller p.index p.since s
+    → AnyStep w.layout w.generation s a x t r → x ≡ got w.layout w.words a
+    → (n : ℕ) → (facts_of w.layout (acted w.layout w.words a) w.base (w.history ++ written p.caller p.index (counted s))).status n ≡ free_status → (facts w).status n ≡ free_status
+frees_by_kind w i p a x s stage lawful there known (on_nodes k) told n free =
+    step_frees_none (facts w) p.caller p.index k n
+    (subst (λ (f : Facts). f.status n ≡ free_status) (facts_step w.words w.base w.history p.caller p.index p.since k lawful.row lawful.list told known) free)
+frees_by_kind w i p a x s stage lawful there known (beside none is) told n free =
+    let same = (beside_keeps w i p a lawful there (ap counted stage ∙ none) is).facts in
+    subst (λ (f : Facts). f.status n ≡ free_status) same
+    (subst (λ (u : Stage). (facts_of w.layout (acted w.layout w.words a) w.base (w.history ++ written p.caller p.index (counted u))).status n ≡ free_status) (sym stage) free)
+
 pub step_facts : (s : Index) (party : ℕ) (state : PartyState) (machine : Running) → IsIndex s → get_elem? s.states party ≡ some state → state.machine ≡ Some machine
     → StepFacts s party state machine
 step_facts s i state machine is there flies =
@@ -213,6 +232,8 @@ step_facts s i state machine is there flies =
       counts = subst (λ (u : Stage). Counts l (length s.history) a x (counted u)) stage law.counts;
       legal = λ spare. subst (λ (u : World). IsLegal l g (facts u) state.caller state.index state.since (stage_of machine) (reply_of turn)) same
           (subst (λ (u : Stage). IsLegal l g (facts (stepped w i p a (stage_after turn))) state.caller state.index state.since u (reply_of turn)) stage law.legal);
+      frees_none = λ spare. frees_by_kind w i p a x (stage_of machine) stage is.lawful there' known step refl;
+      hears = calls_hear l g machine x sound;
     }
 
 -- what the calls owe falls by what the step counts

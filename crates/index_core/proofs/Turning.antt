@@ -9,6 +9,7 @@ use Rattle.pm_words.specs.declared.action.Action.{Action}
 use Rattle.pm_words.specs.declared.machine.Turn.{Turn}
 use Rattle.pm_words.specs.declared.machine.Turn.TheVariants.{Go, Done}
 use Rattle.pm_words.specs.Rows.{CanAct, acted}
+use Rattle.pm_words.specs.Locations.{Volatile}
 use Rattle.call_stages.specs.Kinds.{gone_status, free_status}
 use Rattle.call_stages.specs.Stages.{Stage, Idle, Saw, Wears, Reads, Holds, Eyes, Splits, Leaves, Meets, Joins}
 use Rattle.call_stages.specs.Watches.{Nothing}
@@ -19,8 +20,12 @@ use Rattle.index_law.specs.InUse.{AreInUse}
 use Rattle.index_law.specs.Weights.{gone_weight, index_weight, lowered_in, lowered_sum, weight_sum}
 use Rattle.index_law.proofs.Weights.{gone_less}
 use Rattle.index_law.proofs.Parties.{at_set, set_here}
-use Rattle.turn_row.specs.Columns.{RowTerms}
-use Rattle.turn_row.specs.RowStages.{Resting, Counts}
+use Rattle.turn_row.specs.Columns.{RowTerms, volatile_field}
+use Rattle.turn_row.specs.RowStages.{RowStage, Resting, IsUnworn, Frees, Counts}
+use Rattle.turn_row.specs.RowLaw.{RowLawful}
+use Rattle.turn_row.proofs.RowColumns.{column-here}
+use Rattle.index_law.proofs.Rows.{status_in-here}
+use Rattle.lone_turn.specs.LoneTurns.{stamp_in}
 use Rattle.turn_row.specs.Turnings.{Turning, TurnFoot}
 use Rattle.updater.specs.declared.making.MakeTurn.{MakeTurn}
 use Rattle.updater.specs.declared.making.MakeTurn.TheVariants.{Taking, Working}
@@ -35,17 +40,18 @@ use Rattle.updater.proofs.MakingLaw.{makings_stay_sound, makings_are_feet}
 use Rattle.lone_turn.specs.Laws.{terms_in}
 use Rattle.lone_turn.proofs.Acting.{turns_act}
 use Rattle.lone_turn.proofs.Told.{told_any}
-use Rattle.layer_law.specs.Turnings.{terms_of}
+use Rattle.layer_law.specs.Turnings.{terms_of, ghosts_of}
 use Rattle.layer_law.specs.Layers.{Layered, IsLayered}
 use Rattle.layer_law.specs.Laws.{turned, LeavesNodes}
-use Rattle.layer_law.proofs.TurnSteps.{turn_step_keeps, turn_step_leaves}
+use Rattle.layer_law.proofs.TurnSteps.{turn_step_keeps, turn_step_leaves, others_rest}
 use Rattle.layer_law.proofs.TurnRests.{turn_start_keeps}
 use Rattle.layer_law.proofs.TurnTerms.{terms_may_begin}
 use Rattle.index_core.specs.declared.party.PartyState.{PartyState}
 use Rattle.index_core.specs.PartyStates.{party_of, resting, turning_of, turn_after, IsTurnOf}
 use Rattle.index_core.specs.Indexes.{Index, IsIndex, world, footed, layered}
-use Rattle.index_core.specs.Turns.{turn_told, turned_index, FindsNoneFree, TurnLaw, TurnKeeps, TurnBegins, with_terms, TermsLaw, TermsMayBeSet}
+use Rattle.index_core.specs.Turns.{turn_told, turned_index, FindsNoneFree, FreesReleased, TurnLaw, TurnKeeps, TurnBegins, with_terms, TermsLaw, TermsMayBeSet}
 use Rattle.index_core.proofs.Footings.{line_of, debt_of}
+use Rattle.index_core.proofs.Freeing.{AboutToFree, only_frees, comes_from}
 use Rattle.index_core.proofs.InUse.{ends_counting, counted_none, in_use_weighs}
 use Rattle.index_core.proofs.Layering.{turn_of, map_own}
 use Rattle.index_core.proofs.Lists.{map_there, map_set, set_twice}
@@ -222,6 +228,36 @@ module _ (s : Index) (i : ℕ) (state : PartyState) (making : MakeTurn) (is : Is
   }
   own_after (Done reply) stays = tt
 
+  -- the row is lawful for the turn, once it has the lock
+  row_is : (making_turning making).stage ≢ Resting → RowLawful (terms_of (world s) (making_turning making)) (ghosts_of (world s) layer.holder) s.words (making_turning making).stage
+  row_is busy = layer.rows i (making_turning making) at_turn (others_rest (layered s) i (making_turning making) layer at_turn busy)
+
+  row_at : (stage : RowStage) → (making_turning making).stage ≡ stage → stage ≢ Resting → RowLawful (terms_of (world s) (making_turning making)) (ghosts_of (world s) layer.holder) s.words stage
+  row_at stage is_at busy =
+      subst (RowLawful (terms_of (world s) (making_turning making)) (ghosts_of (world s) layer.holder) s.words) is_at (row_is (λ rests. busy (sym is_at ∙ rests)))
+
+  status_is : (n : ℕ) → n < s.layout.nodes → (facts (world s)).status n ≡ volatile_field s.layout s.words 0 n
+  status_is n here = status_in-here s.layout s.words n here ∙ sym (column-here s.layout s.words s.layout.nodes (λ k. Volatile k 0) n here)
+
+  -- which node it makes FREE, and from when on it may
+  frees_so : FreesReleased s making (turned_index s i state making)
+  frees_so = record {
+    frees = λ n free. ⊎_elim
+        (λ (same : (facts (world (turned_index s i state making))).status n ≡ (facts (world s)).status n). inl (sym same ∙ free))
+        (λ (about : AboutToFree (terms_of (world s) (making_turning making)) (making_turning making).stage n).
+        let freeing = (row_at (Frees n) about.0 (λ e. cc)).law.sure in
+        inr (status_is n about.1 ∙ freeing.gone, about.0))
+        (only_frees (terms_of (world s) (making_turning making)) (ghosts_of (world s) layer.holder) s.words is.lawful.row n foot.row refl row_is);
+    comes = λ next_making n goes to_free.
+        let from = comes_from (terms_of (world s) (making_turning making)) foot.row n (ap (λ (t : Turn MakeTurn TurnReply). (turning_made (making_terms making) t).stage) goes ∙ to_free) in
+        let sure = (row_at (IsUnworn n) from.0 (λ e. cc)).law.sure in
+        record {
+          gone = status_is n from.1 ∙ sure.0.gone;
+          some_stamp = sure.0.some_stamp;
+          release = subst (λ k. stamp_in (world s) n ≤ k) (release_is making) sure.0.release;
+        };
+  }
+
   -- as it gives back the lock, no node is FREE where it answers so
   none_free : FindsNoneFree turn → AreInUse (world s)
   none_free finds =
@@ -239,6 +275,7 @@ module _ (s : Index) (i : ℕ) (state : PartyState) (making : MakeTurn) (is : Is
         takes = takes;
         kept = kept;
         keeps = keeps;
+        freed = frees_so;
         weighs = weighs_no_more (world s) (world (turned_index s i state making)) refl same keeps;
         in_use = λ none. in_use_weighs s is (none_free none);
       }

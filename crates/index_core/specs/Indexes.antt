@@ -13,6 +13,7 @@ use Rattle.cat_history.specs.declared.op.Write.{Write}
 use Rattle.call_stages.specs.Stages.{Stage, Idle, Saw, Wears, Reads, Holds, Eyes, Splits, Leaves, Meets, Joins, counted}
 use Rattle.call_stages.specs.Stages.{placed_in}
 use Rattle.call_stages.specs.AnySteps.{AnyStep}
+use Rattle.call_stages.specs.Kinds.{free_status}
 use Rattle.call_stages.specs.declared.view.View.{View}
 use Rattle.data_list.specs.Walks.{high_of}
 use Rattle.node_ops.specs.declared.running.Running.{Running}
@@ -43,6 +44,7 @@ use Rattle.index_core.specs.declared.party.CoreCall.{CoreCall}
 use Rattle.index_core.specs.declared.party.PartyState.{PartyState}
 use Rattle.index_core.specs.declared.party.Stepped.{Stepped}
 use Rattle.index_core.specs.Answers.{SaysOf}
+use Rattle.index_core.specs.Heard.{HearsOn}
 use Rattle.index_core.specs.CoreCalls.{machine_of, op_of}
 use Rattle.index_core.specs.Listings.{ListsAt}
 use Rattle.index_core.specs.PartyStates.{machine_footing, turning_of, party_of, state_with, state_after, stepped_of, owed}
@@ -191,6 +193,10 @@ abbrev pub MakesCall : Call → Turn Running (Once Placed) → Type 0
 MakesCall c (Go machine) = IsSame c (running_call machine)
 MakesCall c (Done answer) = Unit {0}
 
+-- No node becomes FREE.
+abbrev pub FreesNone : Index → Index → Type 0
+FreesNone old new = (n : ℕ) → (facts (world new)).status n ≡ free_status → (facts (world old)).status n ≡ free_status
+
 -- What the law on steps says of a machine's turn from one index to the next.
 pub record IsTurn (old new : Index) (state : PartyState) (machine : Running) : Type 0 where
   -- it goes on with the call of the same op, name and limit
@@ -206,6 +212,9 @@ pub record IsTurn (old new : Index) (state : PartyState) (machine : Running) : T
   -- an answer is legal in the words of stages, too: the version word that turned it back or was worn
   pub legal : IsLegal new.layout new.generation (facts (world new)) state.caller state.index state.since
       (stage_of machine) (reply_of (running_turned machine (told old machine)))
+  pub frees_none : FreesNone old new
+  -- with what the call was told so far, and this number, an answer that turns it back has its cause
+  pub hears : HearsOn old.layout old.generation machine (told old machine)
 
 -- One turn of the party's call, and its answer, if that ends it.
 pub record TurnsTo (old : Index) (party : ℕ) (new : Index) (result : Option (Once Placed)) : Type 0 where

@@ -2,15 +2,19 @@ pub mod CoreCalls
 pub mod PartyStates
 pub mod InFlight
 pub mod Answers
+pub mod Causes
+pub mod Heard
 pub mod Listings
 pub mod Indexes
 pub mod Cores
 pub mod Fresh
 pub mod Lone
 pub mod Turns
+pub mod SteppedTurns
 pub mod Crashes
 pub mod Schedules
 pub mod LegalRounds
+pub mod ToldRounds
 pub mod Weights
 pub mod WeightBounds
 pub mod PartsOf
@@ -23,3 +27,4 @@ pub mod Logs
 pub mod Rechecks
 pub mod Withins
 pub mod CrashLaws
+pub mod Freeing

@@ -25,16 +25,17 @@ use Rattle.node_ops.specs.Asked.{IsOfAfter, op_in}
 use Rattle.node_ops.specs.RunningSteps.{running_asks, running_turned, running_takes, running_call, IsRunning, Sound}
 use Rattle.node_ops.specs.CallStages.{stage_of, reply_of}
 use Rattle.node_ops.specs.Endings.{place_for}
-use Rattle.index_law.specs.Laws.{Counts}
+use Rattle.index_law.specs.Laws.{Counts, IsLegal}
 use Rattle.index_law.specs.Worlds.{facts}
 use Rattle.index_law.specs.Weights.{weight_sum}
 use Rattle.index_core.specs.declared.party.CoreCall.{CoreCall}
 use Rattle.index_core.specs.declared.party.PartyState.{PartyState}
 use Rattle.index_core.specs.Answers.{SaysOf}
+use Rattle.index_core.specs.Heard.{HearsOn}
 use Rattle.index_core.specs.Listings.{ListsAt}
 use Rattle.index_core.specs.CoreCalls.{machine_of}
 use Rattle.index_core.specs.Indexes.{Index, IsIndex, MakesCall, view_of, started_index, stepped_index, told, world}
-use Rattle.index_core.specs.Indexes.{parties_of}
+use Rattle.index_core.specs.Indexes.{FreesNone, parties_of}
 use Rattle.index_core.specs.Lone.{IsQuiet}
 
 -- A machine is sound, and its next action names a place that an action may name, whatever the words are.
@@ -99,10 +100,16 @@ pub record MachineLaw (s : Index) (party : ℕ) (state : PartyState) (machine : 
   pub says : SaysOf s.layout.slots (map_of s.base) (stepped_index s party state machine s.spare).history state
       (op_in machine) (running_call machine).limit
       (reply_of (running_turned machine (told s machine)))
+  -- an answer is legal in the words of stages, too: the version word that turned it back or was worn
+  pub legal : IsLegal s.layout s.generation (facts (world (stepped_index s party state machine s.spare))) state.caller
+      state.index state.since (stage_of machine) (reply_of (running_turned machine (told s machine)))
+  -- with what the call was told so far, and this number, an answer that turns it back has its cause
+  pub hears : HearsOn s.layout s.generation machine (told s machine)
   -- no machine is turned back by the epoch, which it doesn't load
   pub no_epoch : IsNoEpoch (reply_of (running_turned machine (told s machine)))
   -- the listing of a part, if it has one now and is told its version word again, is that of the map at its place
   pub lists : ListsAt s.layout (facts (world (stepped_index s party state machine s.spare))) machine (told s machine)
+  pub frees_none : FreesNone s (stepped_index s party state machine s.spare)
   -- it goes on with the same call
   pub keeps_op : IsOfAfter (op_in machine) (running_turned machine (told s machine))
   pub keeps_call : MakesCall (running_call machine) (running_turned machine (told s machine))

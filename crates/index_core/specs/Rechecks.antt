@@ -5,6 +5,7 @@ use lib.ListN.{get_elem?}
 use Rattle.cat_history.specs.Maps.{Map, map_of}
 use Rattle.cat_history.specs.declared.op.Write.{Write}
 use Rattle.pm_words.specs.Rows.{CanAct, acted, got}
+use Rattle.pm_words.specs.declared.machine.Turn.{Turn}
 use Rattle.pm_words.specs.declared.machine.Turn.TheVariants.{Go, Done}
 use Rattle.call_stages.specs.declared.once.Once.{Once}
 use Rattle.call_stages.specs.declared.once.Once.TheVariants as once
@@ -93,3 +94,20 @@ SameIsSoon = (base : Map) (seen more : List Write) (k : KnownPart) (place : ℕ)
 abbrev pub SameOutlasts : Type 0
 SameOutlasts = (base : Map) (seen more : List Write) (k : KnownPart) (place : ℕ) → place ≤ length seen →
     IsSameAt base seen k place → IsSameAt base (seen ++ more) k place
+
+-- The same recheck, of the same index.
+pub record IsSameRecheck (r next : Recheck) : Type 0 where
+  pub view : recheck_view next ≡ recheck_view r
+  pub node : recheck_node next ≡ recheck_node r
+  pub version : recheck_version next ≡ recheck_version r
+
+-- What one step of a recheck leaves, and what it comes to: the index stays as it is.
+pub record RecheckSteps (old : Index) (r : Recheck) (new : Index) (result : Turn Recheck (Once Same)) : Type 0 where
+  pub same : new ≡ old
+  pub turned : result ≡ recheck_turned r (recheck_told old r)
+  pub goes_on : (next : Recheck) → result ≡ Go next → IsSameRecheck r next × IsRecheckOf new next
+  -- of one that began at this place: what it goes on with, and its answer
+  pub sure : (since : ℕ) (next : Recheck) → RecheckSure since old.history r → result ≡ Go next →
+      RecheckSure since new.history next
+  pub answered : (since : ℕ) (answer : Once Same) → RecheckSure since old.history r → result ≡ Done answer →
+      IsRechecked since (facts (world new)) r answer

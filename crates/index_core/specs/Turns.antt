@@ -1,21 +1,24 @@
 -- Turns of the updater in the core: how one begins, what each step of it changes, and how it is answered.
-use Rattle.std.specs.Prelude.{◌≡◌, ℕ, ◌*◌, ◌/◌, ◌<◌, ◌≤◌, ◌^◌, true, slice_set, Option, Some, None}
+use Rattle.std.specs.Prelude.{◌≡◌, ◌≢◌, ℕ, ◌*◌, ◌/◌, ◌<◌, ◌≤◌, ◌^◌, ◌⊎◌, true, slice_set, Option, Some, None}
 use mathlib.Core.Option.{some}
 use lib.ListN.{get_elem?}
 use Rattle.pm_words.specs.declared.machine.Turn.{Turn}
 use Rattle.pm_words.specs.declared.machine.Turn.TheVariants.{Go, Done}
 use Rattle.pm_words.specs.Rows.{CanAct, acted, got}
 use Rattle.pm_words.specs.Turns.{GoesBelow}
+use Rattle.call_stages.specs.Kinds.{free_status, gone_status}
 use Rattle.index_law.specs.Worlds.{facts}
 use Rattle.index_law.specs.Weights.{weight_sum}
 use Rattle.layer_law.specs.Laws.{LeavesNodes}
-use Rattle.lone_turn.specs.LoneTurns.{IsLoneTurn}
+use Rattle.lone_turn.specs.LoneTurns.{IsLoneTurn, stamp_in}
+use Rattle.turn_row.specs.RowStages.{Frees}
 use Rattle.updater.specs.declared.making.MakeTurn.{MakeTurn}
 use Rattle.updater.specs.declared.making.MakeTurn.TheVariants.{Working}
 use Rattle.updater.specs.declared.making.TurnReply.{TurnReply}
 use Rattle.updater.specs.declared.making.TurnReply.TheVariants as reply
 use Rattle.updater.specs.declared.terms.Turned.{Turned}
-use Rattle.updater.specs.Makings.{making_from, making_asks, making_turned, making_takes, making_left}
+use Rattle.updater.specs.Makings.{making_from, making_asks, making_turned, making_takes, making_left, making_terms}
+use Rattle.updater.specs.Makings.{making_turning}
 use Rattle.updater.specs.Works.{work_from}
 use Rattle.index_core.specs.declared.party.PartyState.{PartyState}
 use Rattle.index_core.specs.declared.party.Stepped.{Stepped}
@@ -53,6 +56,25 @@ turned_index s party state making = record s {
 abbrev pub KeepsNodes : Index → Index → Type 0
 KeepsNodes old new = LeavesNodes (facts (world old)) (facts (world new))
 
+-- The turn has taken the node's stamp away, and makes it FREE by its next step.
+abbrev pub IsToFree : MakeTurn → ℕ → Type 0
+IsToFree making n = (making_turning making).stage ≡ Frees n
+
+-- The node is GONE, and has a stamp that the turn releases.
+pub record MayFree (s : Index) (making : MakeTurn) (n : ℕ) : Type 0 where
+  pub gone : (facts (world s)).status n ≡ gone_status
+  pub some_stamp : stamp_in (world s) n ≢ 0
+  pub release : stamp_in (world s) n ≤ (making_terms making).release
+
+-- What a turn's step from one index to the next makes FREE.
+pub record FreesReleased (old : Index) (making : MakeTurn) (new : Index) : Type 0 where
+  -- a node becomes FREE only from GONE, by a turn that has just taken its stamp away
+  pub frees : (n : ℕ) → (facts (world new)).status n ≡ free_status → ((facts (world old)).status n ≡ free_status) ⊎
+      (((facts (world old)).status n ≡ gone_status) × IsToFree making n)
+  -- which it does only where the node is GONE, and has a stamp that the turn releases
+  pub comes : (next : MakeTurn) (n : ℕ) → making_turned making (turn_told old making) ≡ Go next → IsToFree next n →
+      MayFree old making n
+
 -- One step of the party's turn, and its answer, if that ends it.
 pub record TurnSteps (old : Index) (party : ℕ) (new : Index) (result : Option TurnReply) : Type 0 where
   pub state : PartyState
@@ -62,6 +84,7 @@ pub record TurnSteps (old : Index) (party : ℕ) (new : Index) (result : Option 
   pub is : new ≡ turned_index old party state making
   pub answers : result ≡ turn_reply (making_turned making (turn_told old making))
   pub keeps : KeepsNodes old new
+  pub freed : FreesReleased old making new
   -- it has fewer actions left
   pub fewer : GoesBelow making_left (making_left making) (making_turned making (turn_told old making))
 
@@ -83,6 +106,7 @@ pub record TurnLaw (s : Index) (party : ℕ) (state : PartyState) (making : Make
   pub takes : making_takes making (turn_told s making)
   pub kept : IsIndex (turned_index s party state making)
   pub keeps : KeepsNodes s (turned_index s party state making)
+  pub freed : FreesReleased s making (turned_index s party state making)
   pub weighs : weight_sum (world (turned_index s party state making)) ≤ weight_sum (world s)
   -- where it ends and found no node FREE, the weight is at least half of all slots
   pub in_use : FindsNoneFree (making_turned making (turn_told s making)) →

@@ -3,6 +3,7 @@
 ghost use Rattle.index_core.specs.MachineLaws.{MachineKeeps, BeginKeeps, FirstIsReady, IdleKeep, IdleWeigh};
 ghost use Rattle.index_core.specs.MachineLaws.{PlacesFollow};
 ghost use Rattle.index_core.specs.LegalRounds.{LegalHistoryIsLegalRound, LegalHistoryKeepsLimit};
+ghost use Rattle.index_core.specs.ToldRounds.{LegalHistoryIsToldRound};
 ghost use Rattle.index_core.specs.Fulls.{NoRoomIsFullPut, NoRoomListsEach};
 ghost use Rattle.index_core.specs.WeightBounds.{WeightIsBounded};
 ghost use Rattle.index_core.specs.Rounds.{RoundBegins};
@@ -42,9 +43,14 @@ pub fn one_history_law()
 /// Once no call is in flight, the calls of such a history that took place are a legal round over its base: each write
 /// of the history is that of one of them, at its place. It is so under each limit that the places keep, and they keep
 /// the one that all puts and deletes had, if they had one.
+///
+/// Under that limit there is one legal round too of each put and delete that took place, and of as many as one likes of
+/// the reads, of the calls that found the limit reached, and of the puts that found no room. The parts of a scan, each
+/// from where the one before it ended, are one record there.
 pub fn history_round_law()
     ensures round { LegalHistoryIsLegalRound }
     ensures limit { LegalHistoryKeepsLimit }
+    ensures told { LegalHistoryIsToldRound }
 {}
 
 /// How full an index may be. Its weight is half the slots for each listed node, one for each name above that, and half
@@ -67,7 +73,8 @@ pub fn crash_law()
 ///
 /// The call's machine takes what its action gives. The action, done on its word, and the machine, told that number,
 /// leave an index. Its history is longer by the party's write exactly where the action adds to the clock. An answer is
-/// the map's at its place, or has its cause; none is that the epoch has moved.
+/// the map's at its place, or has its cause, the version word that turned the call back among them; none is that the
+/// epoch has moved. No node becomes FREE.
 pub fn machine_law()
     ensures { MachineKeeps }
 {}
@@ -177,4 +184,35 @@ pub fn timely_law()
 pub fn cut_law()
     ensures call { CutLeavesOne }
     ensures turn { CutTurnLeavesNone }
+{}
+
+ghost use Rattle.index_core.specs.Freeing.{FreedWereReleased, StepsFreeReleased};
+
+/// The node of a merge becomes FREE again by its stamp.
+///
+/// A schedule begins with an index in which no call and no turn is in flight. A step of a call makes no node FREE
+/// (`IsTurn`). One of a turn of the updater makes at most that node FREE whose stamp the turn has taken away in its step
+/// before. The node is GONE in both, and its stamp was other than 0 and at most the turn's release.
+pub fn freed_law()
+    ensures released { FreedWereReleased }
+    ensures steps { StepsFreeReleased }
+{}
+
+ghost use Rattle.index_core.specs.Heard.{CallsBeginUntold, CallsHear};
+
+/// Why a call is turned back, by the numbers that its own steps gave. One that begins has been told nothing. Each step
+/// adds its number to what is said of these, and an answer that turns the call back has its cause in them
+/// (`HasCauseIn`): a version word that isn't free, or two that differ, twice as many hops as there are nodes, eight log
+/// lines of which none was EMPTY, or each node not FREE or without a lock left.
+pub fn cause_law()
+    ensures begins { CallsBeginUntold }
+    ensures hears { CallsHear }
+{}
+
+ghost use Rattle.index_core.specs.SteppedTurns.{SteppedTurnIsWhole};
+
+/// A turn of the updater that is begun with nothing in flight, and stepped to its end with nothing else between, is
+/// answered and leaves what a whole turn is answered and leaves. So ways are short then, as behind `Core::turn_alone`.
+pub fn stepped_turn_law()
+    ensures { SteppedTurnIsWhole }
 {}

@@ -13,6 +13,7 @@ pub mod laws;
 mod listing;
 mod lone;
 mod party;
+mod rechecking;
 mod seeds;
 mod turns;
 mod within;

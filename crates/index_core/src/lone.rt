@@ -38,6 +38,8 @@ impl Core {
     /// A call that needs no turn (`NeedsNoTurn`) keeps the search layer. It leaves one log line of its caller READY that
     /// was EMPTY, if it splits or merges, also where its node is worn when it is made again; and no other line's state
     /// changes.
+    ///
+    /// It makes at least one step, which `steps` counts, as do the calls below.
     pub fn run_alone<L: Ledger>(
         &mut self,
         caller: u64,
@@ -55,6 +57,7 @@ impl Core {
         ensures spare { self.old.spare + length self.old.history ≤ self.new.spare + length self.new.history }
         ensures each_lock { MayBegin call → TakesEachLock caller call self.old self.new }
         ensures locks { MayBegin call → TakesLocks caller call self.old self.new }
+        ensures acts { steps.old < steps.new }
         ensures index { IsIndex self.new }
     {
         match call {
@@ -85,6 +88,7 @@ impl Core {
         ensures spare { self.old.spare + length self.old.history ≤ self.new.spare + length self.new.history }
         ensures each_lock { TakesEachLock caller call self.old self.new }
         ensures locks { TakesLocks caller call self.old self.new }
+        ensures acts { steps.old < steps.new }
         ensures index { IsIndex self.new }
     {
         let mut answer = self.try_alone(caller, &call, steps);
@@ -120,6 +124,7 @@ impl Core {
         ensures spare { self.old.spare + length self.old.history ≤ self.new.spare + length self.new.history }
         ensures each_lock { LoseAtMost 1 self.old self.new }
         ensures locks { locks_left self.old ≤ locks_left self.new + 1 }
+        ensures acts { steps.old < steps.new }
         ensures index { IsIndex self.new }
     {
         let Ok(()) = self.start_name(caller, CoreCall::Part { low, count }) else {
@@ -151,6 +156,7 @@ impl Core {
         ensures tries { TriesBehindTurn self.old caller call.now self.new result }
         ensures quiet { IsQuiet self.new }
         ensures spare { self.old.spare + length self.old.history ≤ self.new.spare + length self.new.history }
+        ensures acts { steps.old < steps.new }
         ensures index { IsIndex self.new }
     {
         let updater = self.layout().callers();
@@ -175,6 +181,7 @@ impl Core {
         ensures spare { self.old.spare + length self.old.history ≤ self.new.spare + length self.new.history }
         ensures each_lock { LoseAtMost 1 self.old self.new }
         ensures locks { locks_left self.old ≤ locks_left self.new + 1 }
+        ensures acts { steps.old < steps.new }
         ensures index { IsIndex self.new }
     {
         let Ok(()) = self.start_name(caller, *call) else {

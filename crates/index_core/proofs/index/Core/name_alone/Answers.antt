@@ -1,4 +1,4 @@
-use Rattle.std.proofs.Common.{sym, ap, ◌∙◌, subst}
+use Rattle.std.proofs.Common.{◌<◌, sym, ap, ◌∙◌, subst, arith}
 use Rattle.call_stages.specs.declared.once.Once.{Once}
 use Rattle.call_stages.specs.declared.once.Placed.{Placed}
 use Rattle.index_core.specs.Indexes.{Index, IsIndex}
@@ -46,6 +46,19 @@ node_quiet g c = elim c.if-lacks_node.branch [
     | else-lacks_line v ↦ subst IsQuiet (sym v.self-is) c.try_alone-answer.ensures.quiet
   ])
 ]
+
+-- some step is made already
+node_acts : (g : _) (c : After-needs_split g) → c.args.steps.now < c.if-lacks_node.steps
+node_acts g c =
+    let first : c.args.steps.now < c.try_alone-answer.new.steps = c.try_alone-answer.ensures.acts in
+    let line : c.args.steps.now < c.if-lacks_line.steps = elim c.if-lacks_line.branch [
+      | then-lacks_line w ↦ omega (arith, w.steps-is, w.try_behind_turn-answer.ensures.acts, first)
+      | else-lacks_line w ↦ omega (arith, w.steps-is, first)
+    ] in
+    elim c.if-lacks_node.branch [
+      | then-lacks_node w ↦ omega (arith, w.steps-is, w.try_behind_turn-answer-then-lacks_node.ensures.acts, line)
+      | else-lacks_node w ↦ omega (arith, w.steps-is, line)
+    ]
 
 -- what all tries leave, where the call was turned back, and where not
 full_ran : (g : _) (c : goal.After-count_call g) → RanAll c.args.self.now c.if-needs_split.self c.args.caller c.args.call c.if-needs_split.answer
@@ -124,3 +137,19 @@ returns-in_default-clause-index g c = elim c.if-needs_split.branch [
   | then-needs_split w ↦ subst IsIndex (sym w.self-is) w.try_alone-answer-then-needs_split.ensures.index
   | else-needs_split w ↦ subst IsIndex (sym w.self-is) (node_index g (goal.at.returns-in_default-clause-index g c).After-needs_split)
 ]
+
+pub returns-in-Again-clause-acts : goal.returns-in-Again-clause-acts
+returns-in-Again-clause-acts g c =
+    let acts = node_acts g (goal.at.returns-in-Again-clause-runs g c).After-needs_split in
+    elim c.if-needs_split.branch [
+      | then-needs_split w ↦ omega (arith, w.steps-is, w.try_alone-answer-then-needs_split.ensures.acts, acts)
+      | else-needs_split w ↦ omega (arith, w.steps-is, acts)
+    ]
+
+pub returns-in_default-clause-acts : goal.returns-in_default-clause-acts
+returns-in_default-clause-acts g c =
+    let acts = node_acts g (goal.at.returns-in_default-clause-runs g c).After-needs_split in
+    elim c.if-needs_split.branch [
+      | then-needs_split w ↦ omega (arith, w.steps-is, w.try_alone-answer-then-needs_split.ensures.acts, acts)
+      | else-needs_split w ↦ omega (arith, w.steps-is, acts)
+    ]

@@ -1,4 +1,4 @@
-use Rattle.std.proofs.Common.{suc, ◌≤◌, sym, subst}
+use Rattle.std.proofs.Common.{suc, ◌≤◌, sym, subst, arith}
 use Rattle.call_stages.specs.declared.once.Once.{Once}
 use Rattle.node_ops.specs.declared.part.PartWords.{PartWords}
 use Rattle.index_core.specs.Lone.{RunsAlone, part_whole}
@@ -10,33 +10,41 @@ use Rattle.index_core.proofs.index.Core.part_alone.Goals.{In_default-turn}
 
 pub steps-init : goal.steps-init
 steps-init g c =
-    lone_start c.args.self.now c.start_name.new.self c.args.caller (call.Part c.args.low c.args.count) c.start_name.ensures.before c.requires.quiet c.in-Ok.ensures.started c.in-Ok.ensures.spare c.start_name.ensures.index
+    (lone_start c.args.self.now c.start_name.new.self c.args.caller (call.Part c.args.low c.args.count) c.start_name.ensures.before c.requires.quiet c.in-Ok.ensures.started c.in-Ok.ensures.spare c.start_name.ensures.index, omega arith)
 
 pub has_listed-requires : goal.has_listed-requires
-has_listed-requires g c = lone_flies _ _ _ _ c.steps.invariant
+has_listed-requires g c = lone_flies _ _ _ _ c.steps.invariant.0
 
 pub turn-requires : goal.turn-requires
-turn-requires g c = record { flies = lone_flies _ _ _ _ c.steps.invariant }
+turn-requires g c = record { flies = lone_flies _ _ _ _ c.steps.invariant.0 }
 
 pub returns-then-has_listed : goal.returns-then-has_listed
 returns-then-has_listed g c =
     let t = c.turn.ensures in
-    let e = part_ends c.args.self.now c.steps.self c.turn.new.self c.args.caller c.args.low c.args.count c.turn.result c.steps.invariant t.turned t.index t.spare.all c.listing-words.result c.listing-words.ensures in
-    record { runs = e.runs; quiet = e.quiet; spare = e.spare; each_lock = e.each_lock; locks = e.locks; index = t.index }
+    let e = part_ends c.args.self.now c.steps.self c.turn.new.self c.args.caller c.args.low c.args.count c.turn.result c.steps.invariant.0 t.turned t.index t.spare.all c.listing-words.result c.listing-words.ensures in
+    record {
+      runs = e.runs;
+      quiet = e.quiet;
+      spare = e.spare;
+      each_lock = e.each_lock;
+      locks = e.locks;
+      acts = omega (arith, t.tick, c.steps.invariant.1);
+      index = t.index;
+    }
 
 pub turn-requires-in-steps : goal.turn-requires-in-steps
-turn-requires-in-steps g c = record { flies = lone_flies _ _ _ _ c.steps.invariant }
+turn-requires-in-steps g c = record { flies = lone_flies _ _ _ _ c.steps.invariant.0 }
 
 pub early-requires : goal.early-requires
 early-requires g c =
     let t = c.turn-in-steps.ensures in
-    part_is_early c.args.self.now c.steps.self c.turn-in-steps.new.self c.args.caller c.args.low c.args.count c.turn-in-steps.result c.steps.invariant t.turned t.index t.spare.all c.in-Some.answer
+    part_is_early c.args.self.now c.steps.self c.turn-in-steps.new.self c.args.caller c.args.low c.args.count c.turn-in-steps.result c.steps.invariant.0 t.turned t.index t.spare.all c.in-Some.answer
     (λ h. let yes = c.has_listed.ensures.1 h in let no = c.if-has_listed.false in cc) c.in-Some.is
 
 pub returns-in-Some : goal.returns-in-Some
 returns-in-Some g c =
     let t = c.turn-in-steps.ensures in
-    let e = part_stops c.args.self.now c.steps.self c.turn-in-steps.new.self c.args.caller c.args.low c.args.count c.turn-in-steps.result c.steps.invariant t.turned t.index t.spare.all c.in-Some.answer
+    let e = part_stops c.args.self.now c.steps.self c.turn-in-steps.new.self c.args.caller c.args.low c.args.count c.turn-in-steps.result c.steps.invariant.0 t.turned t.index t.spare.all c.in-Some.answer
     (λ h. let yes = c.has_listed.ensures.1 h in let no = c.if-has_listed.false in cc) c.in-Some.is in
     record {
       runs = subst (λ (r : Once PartWords). RunsAlone c.args.self.now c.args.caller (call.Part c.args.low c.args.count) c.turn-in-steps.new.self (part_whole r)) (sym c.early.ensures) e.runs;
@@ -44,6 +52,7 @@ returns-in-Some g c =
       spare = e.spare;
       each_lock = e.each_lock;
       locks = e.locks;
+      acts = omega (arith, t.tick, c.steps.invariant.1);
       index = t.index;
     }
 
@@ -51,10 +60,10 @@ returns-in-Some g c =
 gone : (g : _) (c : In_default-turn g) → Lone c.args.self.now c.turn-in-steps.new.self c.args.caller (call.Part c.args.low c.args.count) × (suc (left_at c.turn-in-steps.new.self c.args.caller) ≤ left_at c.steps.self c.args.caller)
 gone g c =
     let t = c.turn-in-steps.ensures in
-    lone_goes c.args.self.now c.steps.self c.turn-in-steps.new.self c.args.caller (call.Part c.args.low c.args.count) c.turn-in-steps.result c.steps.invariant t.turned t.index t.spare.all c.in_default-turn.is
+    lone_goes c.args.self.now c.steps.self c.turn-in-steps.new.self c.args.caller (call.Part c.args.low c.args.count) c.turn-in-steps.result c.steps.invariant.0 t.turned t.index t.spare.all c.in_default-turn.is
 
 pub steps-preserved : goal.steps-preserved
-steps-preserved g c = (gone g c).0
+steps-preserved g c = ((gone g c).0, omega (arith, c.turn-in-steps.ensures.tick, c.steps.invariant.1))
 
 pub steps-smaller : goal.steps-smaller
 steps-smaller g c = (gone g c).1

@@ -9,7 +9,7 @@ use Rattle.index_core.specs.declared.party.PartyState.{PartyState}
 use Rattle.index_core.specs.PartyStates.{owed, state_turned, turn_after, turn_reply}
 use Rattle.index_core.specs.Cores.{index_with}
 use Rattle.index_core.specs.Indexes.{Index, IsIndex}
-use Rattle.index_core.specs.Turns.{turn_told, turned_index, KeepsNodes}
+use Rattle.index_core.specs.Turns.{turn_told, turned_index, KeepsNodes, FreesReleased}
 use Rattle.index_core.proofs.Lists.{within, read_is}
 use Rattle.index_core.proofs.Stepping.{respare}
 use Rattle.index_core.proofs.TurnReading.{TurnRead, turn_reads, turn_owes, turn_at}
@@ -112,6 +112,8 @@ returns-clause-stepped g c =
       answers = of_turn g c (λ e m. c.advance_turn.result ≡ turn_reply (making_turned m c.act-got.result)) c.advance_turn.ensures.answer ∙ ap (λ n. turn_reply (making_turned f.making n)) (told ∙ told_old);
       keeps = subst (KeepsNodes c.args.self.now) (sym is) (subst (λ (v : Index). KeepsNodes v (turned_index v c.args.party f.state f.making)) c.self.view_is
           (let keeps = (read_at g c).law.keeps in record { nodes = keeps.nodes; frees = keeps.frees }));
+      freed = subst (FreesReleased c.args.self.now f.making) (sym is) (subst (λ (v : Index). FreesReleased v f.making (turned_index v c.args.party f.state f.making)) c.self.view_is
+          (let freed = (read_at g c).law.freed in record { frees = freed.frees; comes = λ next n goes to_free. let may = freed.comes next n goes to_free in record { gone = may.gone; some_stamp = may.some_stamp; release = may.release } }));
       fewer = subst (λ n. GoesBelow making_left (making_left f.making) (making_turned f.making n)) (told ∙ told_old)
           (of_turn g c (λ e m. GoesBelow making_left (making_left m) (making_turned m c.act-got.result)) c.advance_turn.ensures.fewer);
     }

@@ -1,4 +1,4 @@
-use Rattle.std.proofs.Common.{refl}
+use Rattle.std.proofs.Common.{refl, arith}
 use Rattle.index_core.proofs.Busy.{quiet_is_idle}
 use Rattle.index_core.proofs.Tries.{lone_start, lone_flies, lone_goes, lone_tries, lone_quiet, lone_locks, lone_each, spare_left}
 use Rattle.index_core.proofs.index.Core.try_alone.Goals as goal
@@ -9,36 +9,41 @@ unreachable-requires g c =
 
 pub steps-init : goal.steps-init
 steps-init g c =
-    lone_start c.args.self.now c.start_name.new.self c.args.caller c.args.call.now c.start_name.ensures.before c.requires.quiet c.in-Ok.ensures.started c.in-Ok.ensures.spare c.start_name.ensures.index
+    (lone_start c.args.self.now c.start_name.new.self c.args.caller c.args.call.now c.start_name.ensures.before c.requires.quiet c.in-Ok.ensures.started c.in-Ok.ensures.spare c.start_name.ensures.index, omega arith)
 
 pub turn-requires : goal.turn-requires
-turn-requires g c = record { flies = lone_flies _ _ _ _ c.steps.invariant }
+turn-requires g c = record { flies = lone_flies _ _ _ _ c.steps.invariant.0 }
 
 pub steps-preserved : goal.steps-preserved
-steps-preserved g c =
-    (lone_goes c.args.self.now c.steps.self c.turn.new.self c.args.caller c.args.call.now c.turn.result c.steps.invariant c.turn.ensures.turned c.turn.ensures.index c.turn.ensures.spare.all c.in_default-turn.is).0
+steps-preserved g c = (
+  (lone_goes c.args.self.now c.steps.self c.turn.new.self c.args.caller c.args.call.now c.turn.result c.steps.invariant.0 c.turn.ensures.turned c.turn.ensures.index c.turn.ensures.spare.all c.in_default-turn.is).0,
+  omega (arith, c.turn.ensures.tick, c.steps.invariant.1),
+)
 
 pub steps-smaller : goal.steps-smaller
 steps-smaller g c =
-    (lone_goes c.args.self.now c.steps.self c.turn.new.self c.args.caller c.args.call.now c.turn.result c.steps.invariant c.turn.ensures.turned c.turn.ensures.index c.turn.ensures.spare.all c.in_default-turn.is).1
+    (lone_goes c.args.self.now c.steps.self c.turn.new.self c.args.caller c.args.call.now c.turn.result c.steps.invariant.0 c.turn.ensures.turned c.turn.ensures.index c.turn.ensures.spare.all c.in_default-turn.is).1
 
 pub returns-in-Some-clause-tries : goal.returns-in-Some-clause-tries
 returns-in-Some-clause-tries g c =
-    lone_tries c.args.self.now c.steps.self c.turn.new.self c.args.caller c.args.call.now c.turn.result c.steps.invariant c.turn.ensures.turned c.turn.ensures.index c.turn.ensures.spare.all c.in-Some.answer c.in-Some.is
+    lone_tries c.args.self.now c.steps.self c.turn.new.self c.args.caller c.args.call.now c.turn.result c.steps.invariant.0 c.turn.ensures.turned c.turn.ensures.index c.turn.ensures.spare.all c.in-Some.answer c.in-Some.is
 
 pub returns-in-Some-clause-quiet : goal.returns-in-Some-clause-quiet
 returns-in-Some-clause-quiet g c =
-    lone_quiet c.args.self.now c.steps.self c.turn.new.self c.args.caller c.args.call.now c.turn.result c.steps.invariant c.turn.ensures.turned c.turn.ensures.index c.turn.ensures.spare.all c.in-Some.answer c.in-Some.is
+    lone_quiet c.args.self.now c.steps.self c.turn.new.self c.args.caller c.args.call.now c.turn.result c.steps.invariant.0 c.turn.ensures.turned c.turn.ensures.index c.turn.ensures.spare.all c.in-Some.answer c.in-Some.is
 
 pub returns-in-Some-clause-spare : goal.returns-in-Some-clause-spare
 returns-in-Some-clause-spare g c =
-    spare_left c.args.self.now c.steps.self c.turn.new.self c.args.caller c.args.call.now c.steps.invariant c.turn.ensures.spare.all
-    (lone_quiet c.args.self.now c.steps.self c.turn.new.self c.args.caller c.args.call.now c.turn.result c.steps.invariant c.turn.ensures.turned c.turn.ensures.index c.turn.ensures.spare.all c.in-Some.answer c.in-Some.is)
+    spare_left c.args.self.now c.steps.self c.turn.new.self c.args.caller c.args.call.now c.steps.invariant.0 c.turn.ensures.spare.all
+    (lone_quiet c.args.self.now c.steps.self c.turn.new.self c.args.caller c.args.call.now c.turn.result c.steps.invariant.0 c.turn.ensures.turned c.turn.ensures.index c.turn.ensures.spare.all c.in-Some.answer c.in-Some.is)
 
 pub returns-in-Some-clause-locks : goal.returns-in-Some-clause-locks
 returns-in-Some-clause-locks g c =
-    lone_locks c.args.self.now c.steps.self c.turn.new.self c.args.caller c.args.call.now c.turn.result c.steps.invariant c.turn.ensures.turned c.turn.ensures.index c.turn.ensures.spare.all c.in-Some.answer c.in-Some.is
+    lone_locks c.args.self.now c.steps.self c.turn.new.self c.args.caller c.args.call.now c.turn.result c.steps.invariant.0 c.turn.ensures.turned c.turn.ensures.index c.turn.ensures.spare.all c.in-Some.answer c.in-Some.is
 
 pub returns-in-Some-clause-each_lock : goal.returns-in-Some-clause-each_lock
 returns-in-Some-clause-each_lock g c =
-    lone_each c.args.self.now c.steps.self c.turn.new.self c.args.caller c.args.call.now c.turn.result c.steps.invariant c.turn.ensures.turned c.turn.ensures.index c.turn.ensures.spare.all c.in-Some.answer c.in-Some.is
+    lone_each c.args.self.now c.steps.self c.turn.new.self c.args.caller c.args.call.now c.turn.result c.steps.invariant.0 c.turn.ensures.turned c.turn.ensures.index c.turn.ensures.spare.all c.in-Some.answer c.in-Some.is
+
+pub returns-in-Some-clause-acts : goal.returns-in-Some-clause-acts
+returns-in-Some-clause-acts g c = omega (arith, c.turn.ensures.tick, c.steps.invariant.1)

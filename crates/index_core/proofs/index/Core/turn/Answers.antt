@@ -19,9 +19,10 @@ use Rattle.call_stages.specs.declared.once.Once.{Once}
 use Rattle.call_stages.specs.declared.once.Placed.{Placed}
 use Rattle.index_core.specs.Listings.{ListsAt}
 use Rattle.index_core.specs.Answers.{SaysOf}
+use Rattle.index_core.specs.Heard.{HearsOn}
 use Rattle.index_core.specs.PartyStates.{state_after, owed}
 use Rattle.index_core.specs.Cores.{index_with}
-use Rattle.index_core.specs.Indexes.{Index, IsIndex, world, told, stepped_index, MakesCall}
+use Rattle.index_core.specs.Indexes.{Index, IsIndex, world, told, stepped_index, MakesCall, FreesNone}
 use Rattle.index_core.proofs.Answering.{says_of}
 use Rattle.index_core.proofs.Lists.{within, read_is}
 use Rattle.index_core.proofs.Reading.{Reads, reads, Leaves, leaves}
@@ -180,6 +181,8 @@ returns-clause-turned g c =
             (λ k. (c.self.view_is k, sym (left.same n) k)) (at.facts.weighs n);
         legal = subst (λ (v : Index). IsLegal new.layout new.generation (facts (world new)) e.caller e.index e.since (stage_of m) (reply_of (running_turned m (told v m)))) c.self.view_is
             (subst (λ (v : Index). IsLegal v.layout v.generation (facts (world v)) e.caller e.index e.since (stage_of m) (reply_of (running_turned m (told s m)))) (sym (left.same n)) (at.facts.legal n));
+        frees_none = subst (λ (q : Index × Index). FreesNone q.0 q.1) (λ k. (c.self.view_is k, sym (left.same n) k)) (at.facts.frees_none n);
+        hears = subst (λ (v : Index). HearsOn v.layout v.generation m (told v m)) c.self.view_is at.facts.hears;
       };
     }
 

@@ -1,4 +1,4 @@
-use Rattle.std.proofs.Common.{◌≡◌, refl, sym, ◌∙◌, subst}
+use Rattle.std.proofs.Common.{◌≡◌, refl, sym, ◌∙◌, subst, arith}
 use Rattle.updater.specs.declared.terms.Turned.{Turned}
 use Rattle.index_core.specs.Turns.{TurnsAlone}
 use Rattle.index_core.proofs.Busy.{quiet_is_idle}
@@ -12,35 +12,40 @@ unreachable-requires g c =
 
 pub steps-init : goal.steps-init
 steps-init g c =
-    lone_turn_begins c.args.self.now c.start_turn.new.self c.args.party c.args.stamp c.args.release c.start_turn.ensures.before c.requires.quiet c.requires.stamp c.ranges.stamp.fits c.in-Ok.ensures.started c.start_turn.ensures.index
+    (lone_turn_begins c.args.self.now c.start_turn.new.self c.args.party c.args.stamp c.args.release c.start_turn.ensures.before c.requires.quiet c.requires.stamp c.ranges.stamp.fits c.in-Ok.ensures.started c.start_turn.ensures.index, omega arith)
 
 pub step_turn-requires : goal.step_turn-requires
-step_turn-requires g c = record { turns = lone_turn_flies _ _ _ _ _ c.steps.invariant }
+step_turn-requires g c = record { turns = lone_turn_flies _ _ _ _ _ c.steps.invariant.0 }
 
 pub steps-preserved : goal.steps-preserved
-steps-preserved g c =
-    (lone_turn_goes c.args.self.now c.steps.self c.step_turn.new.self c.args.party c.args.stamp c.args.release c.steps.invariant c.step_turn.result c.step_turn.ensures.stepped c.step_turn.ensures.index c.in_default-step_turn.is).0
+steps-preserved g c = (
+  (lone_turn_goes c.args.self.now c.steps.self c.step_turn.new.self c.args.party c.args.stamp c.args.release c.steps.invariant.0 c.step_turn.result c.step_turn.ensures.stepped c.step_turn.ensures.index c.in_default-step_turn.is).0,
+  omega (arith, c.step_turn.ensures.tick, c.steps.invariant.1),
+)
 
 pub steps-smaller : goal.steps-smaller
 steps-smaller g c =
-    (lone_turn_goes c.args.self.now c.steps.self c.step_turn.new.self c.args.party c.args.stamp c.args.release c.steps.invariant c.step_turn.result c.step_turn.ensures.stepped c.step_turn.ensures.index c.in_default-step_turn.is).1
+    (lone_turn_goes c.args.self.now c.steps.self c.step_turn.new.self c.args.party c.args.stamp c.args.release c.steps.invariant.0 c.step_turn.result c.step_turn.ensures.stepped c.step_turn.ensures.index c.in_default-step_turn.is).1
 
 pub unreachable-requires-in_default-reply : goal.unreachable-requires-in_default-reply
 unreachable-requires-in_default-reply g c =
-    let ended = lone_turn_ends c.args.self.now c.steps.self c.step_turn.new.self c.args.party c.args.stamp c.args.release c.steps.invariant c.step_turn.result c.step_turn.ensures.stepped c.step_turn.ensures.index c.in-Some.reply c.in-Some.is in
+    let ended = lone_turn_ends c.args.self.now c.steps.self c.step_turn.new.self c.args.party c.args.stamp c.args.release c.steps.invariant.0 c.step_turn.result c.step_turn.ensures.stepped c.step_turn.ensures.index c.in-Some.reply c.in-Some.is in
     c.in_default-reply.not-Turned ended.0 ended.1
 
 pub returns-in-Some-clause-turns : goal.returns-in-Some-clause-turns
 returns-in-Some-clause-turns g c =
-    let ended = lone_turn_ends c.args.self.now c.steps.self c.step_turn.new.self c.args.party c.args.stamp c.args.release c.steps.invariant c.step_turn.result c.step_turn.ensures.stepped c.step_turn.ensures.index c.in-Some.reply c.in-Some.is in
+    let ended = lone_turn_ends c.args.self.now c.steps.self c.step_turn.new.self c.args.party c.args.stamp c.args.release c.steps.invariant.0 c.step_turn.result c.step_turn.ensures.stepped c.step_turn.ensures.index c.in-Some.reply c.in-Some.is in
     let same : ended.0 ≡ c.in-Turned.turned = turned_same (sym ended.1 ∙ c.in-Turned.is) in
     subst (λ (answer : Turned). TurnsAlone c.args.self.now c.args.stamp c.args.release answer c.step_turn.new.self) same ended.2
 
 pub returns-in-Some-clause-quiet : goal.returns-in-Some-clause-quiet
 returns-in-Some-clause-quiet g c =
-    (lone_turn_ends c.args.self.now c.steps.self c.step_turn.new.self c.args.party c.args.stamp c.args.release c.steps.invariant c.step_turn.result c.step_turn.ensures.stepped c.step_turn.ensures.index c.in-Some.reply c.in-Some.is).3
+    (lone_turn_ends c.args.self.now c.steps.self c.step_turn.new.self c.args.party c.args.stamp c.args.release c.steps.invariant.0 c.step_turn.result c.step_turn.ensures.stepped c.step_turn.ensures.index c.in-Some.reply c.in-Some.is).3
 
 pub returns-in-Some-clause-short : goal.returns-in-Some-clause-short
 returns-in-Some-clause-short g c =
-    let ended = lone_turn_ends c.args.self.now c.steps.self c.step_turn.new.self c.args.party c.args.stamp c.args.release c.steps.invariant c.step_turn.result c.step_turn.ensures.stepped c.step_turn.ensures.index c.in-Some.reply c.in-Some.is in
+    let ended = lone_turn_ends c.args.self.now c.steps.self c.step_turn.new.self c.args.party c.args.stamp c.args.release c.steps.invariant.0 c.step_turn.result c.step_turn.ensures.stepped c.step_turn.ensures.index c.in-Some.reply c.in-Some.is in
     turned_short c.args.self.now c.step_turn.new.self c.args.stamp c.args.release ended.0 ended.2 c.step_turn.ensures.index ended.3
+
+pub returns-in-Some-clause-acts : goal.returns-in-Some-clause-acts
+returns-in-Some-clause-acts g c = omega (arith, c.step_turn.ensures.tick, c.steps.invariant.1)

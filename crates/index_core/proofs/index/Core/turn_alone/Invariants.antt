@@ -1,8 +1,9 @@
+use Rattle.std.proofs.Common.{◌≤◌}
 use Rattle.index_core.proofs.LoneTurning.{LoneTurn, turn_left_at}
 use Rattle.index_core.proofs.index.Core.turn_alone.Given as goal
 
 abbrev pub invariant-steps : goal.invariant-steps
-invariant-steps g l = LoneTurn l.fn.self l.self l.party l.fn.stamp l.fn.release
+invariant-steps g l = LoneTurn l.fn.self l.self l.party l.fn.stamp l.fn.release × (l.fn.steps ≤ l.steps)
 
 abbrev pub decreases-steps : goal.decreases-steps
 decreases-steps g l = turn_left_at l.self l.party
