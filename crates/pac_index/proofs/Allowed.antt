@@ -36,8 +36,11 @@ use Rattle.index_core.proofs.Lists.{some_same}
 use Rattle.index_core.proofs.MachineLaw.{machine_law, begin_law}
 use Rattle.atomic_table.specs.Table.{State, Me, keeps}
 use Rattle.pac_index.specs.declared.rule.About.{About}
+use Rattle.pac_index.specs.declared.rule.AnsweredPart.{AnsweredPart}
 use Rattle.pac_index.specs.declared.rule.Member.{Member}
+use Rattle.pac_index.specs.Kept.{AllKnow, IsPartKnown, KnowsParts, answered_now}
 use Rattle.pac_index.specs.Kept.{index_of, placed_by, noted, Fits, AllFit, times_in, times_in_all, IsHalfPaid, AllPaid, Kept, added_now, Goes, ListsNow, Tells, Starts, May, party, IsLone, machine_in, calling}
+use Rattle.pac_index.proofs.Known.{answered_known, each_both, known_on}
 use Rattle.pac_index.proofs.PartRuns.{lists_now}
 use Rattle.pac_index.proofs.Lists.{begins_more, begins_self, begins_le, placed_append, own_placed, others_keep, times_there, times_two, times_set, added_set}
 
@@ -95,8 +98,9 @@ pub moved : (about : About) (id : ℕ) (v w : Member) (words : List ℕ) (histor
     → ((u : Member) → v.state.caller ≢ u.state.caller → Fits about kept.states kept.history u → Fits about (set kept.states v.state.caller w.state) history u)
     → weight_sum (world (index_of about words (set kept.states v.state.caller w.state) history)) + (v.added + showing v.state.machine) ≤ weight_sum (world (index_of about s.words kept.states kept.history)) + (w.added + showing w.state.machine)
     → v.added + showing v.state.machine ≤ w.added + showing w.state.machine → (w.none_free ≡ true → (v.none_free ≡ true) ⊎ IsHalfPaid about s.views)
+    → ((a : AnsweredPart) → IsPartKnown (index_of about s.words kept.states kept.history) a → IsPartKnown (index_of about words (set kept.states v.state.caller w.state) history) a) → KnowsParts (index_of about words (set kept.states v.state.caller w.state) history) w
     → Kept about (record { words = words; homes = s.homes; views = set s.views id (w ∷ []) })
-moved about id v w words history s kept at caller index fit others weighs more paid =
+moved about id v w words history s kept at caller index fit others weighs more paid still_known own_known =
     let states = set kept.states v.state.caller w.state in
     let views : List (List Member) = set s.views id (w ∷ []) in
     let still : IsHalfPaid about s.views → IsHalfPaid about views = (λ was. let after = added_set s.views id (v ∷ []) (w ∷ []) at in omega arith) in
@@ -114,6 +118,10 @@ moved about id v w words history s kept at caller index fit others weighs more p
           (λ (t : (j ≡ id) × (w ∷ [] ≡ view)). subst (AllPaid about views) t.1 (alone (λ (m : Member). m.none_free ≡ true → IsHalfPaid about views) w
           (λ noted. ⊎_elim (λ was. still (kept.full id (v ∷ []) at 0 v refl was)) (λ now. still now) (paid noted))))
           (λ (t : (j ≢ id) × (get_elem? s.views j ≡ some view)) k u here noted. still (kept.full j view t.1 k u here noted))
+          (at_set s.views id j (w ∷ []) view there);
+      known = λ j view there. ⊎_elim
+          (λ (t : (j ≡ id) × (w ∷ [] ≡ view)). subst (AllKnow (index_of about words states history)) t.1 (alone (KnowsParts (index_of about words states history)) w own_known))
+          (λ (t : (j ≢ id) × (get_elem? s.views j ≡ some view)) k u here n a part. still_known a (kept.known j view t.1 k u here n a part))
           (at_set s.views id j (w ∷ []) view there);
     }
 
@@ -180,7 +188,7 @@ module _ (about : About) (id : ℕ) (v : Member) (m : Running) (f : ℕ → ℕ)
       let turn = running_turned m x in
       let now = state_after v.state turn in
       let more = written c v.state.index (counted (stage_of m)) in
-      let w : Member = record { about = v.about; state = now; seen = h ++ more; told = v.told ++ x ∷ []; taken = v.taken + 1; added = v.added + added_now (op_in m) turn; none_free = v.none_free } in
+      let w : Member = record { about = v.about; state = now; seen = h ++ more; told = v.told ++ x ∷ []; taken = v.taken + 1; added = v.added + added_now (op_in m) turn; none_free = v.none_free; known = v.known ++ answered_now m x } in
       let words' = set s.words place (f n) in
       let states' = set kept.states c now in
       let change = same n fits step.can.1 in
@@ -196,10 +204,14 @@ module _ (about : About) (id : ℕ) (v : Member) (m : Running) (f : ℕ → ℕ)
       let heavier = step.weighs in
       let same_weight = ap (λ (s' : Index). weight_sum (world s')) path in
       let shows_now = showing_is v.state (op_in m) turn in
+      let still : (a : AnsweredPart) → IsPartKnown old a → IsPartKnown (index_of about words' states' (h ++ more)) a =
+      λ a known. subst (λ (s' : Index). IsPartKnown s' a) path (known_on old c v.state kept.index own.there m is a known) in
       record {
         now = w;
         kept = moved about id v w words' (h ++ more) s kept at caller (subst IsIndex path step.kept) fit (λ u apart f. grown about kept.states h v.state now (counted (stage_of m)) u apart f) (omega arith)
-            (let shows = step.shows_on in omega arith) (λ noted. inl noted);
+            (let shows = step.shows_on in omega arith) (λ noted. inl noted) (λ a known. still a known)
+            (each_both (IsPartKnown (index_of about words' states' (h ++ more))) v.known (answered_now m x) (λ j a part. still a (kept.known id (v ∷ []) at 0 v refl j a part))
+            (λ j a part. subst (λ (s' : Index). IsPartKnown s' a) path (answered_known old c v.state kept.index own.there m is j a part)));
         goes = record {
           takes = step.takes;
           about = refl;
@@ -208,6 +220,7 @@ module _ (about : About) (id : ℕ) (v : Member) (m : Running) (f : ℕ → ℕ)
           taken = refl;
           added = refl;
           none_free = refl;
+          known = refl;
           seen = begins_more v.seen h more own.seen;
           own = placed ∙ ap (λ (l : List (ℕ × Write)). l ++ noted x more) own.own;
           says = subst (λ (b : About). SaysOf b.layout.slots (map_of b.base) (h ++ more) v.state (op_in m) (running_call m).limit (reply_of turn)) (sym own.same) step.says;
@@ -257,6 +270,7 @@ begun about id v c index s kept at idle here =
     let was = ap showing idle in
     let now = ap (λ (q : Running). showing (Some q)) (sym machine) ∙ begins.shows_none in
     moved about id v u s.words h s kept at refl (subst IsIndex path begins.kept) fit (λ d other f. stayed about kept.states h v.state.caller u.state d other f) (omega arith) (omega arith) (λ noted. inl noted)
+    (λ a known. known) (kept.known id (v ∷ []) at 0 v refl)
 
 -- what the first step of a call shows
 record BeginsWith (c : CoreCall) (index : ℕ) (v : Member) (x : ℕ) (w : Member) : Type 0 where

@@ -1,6 +1,8 @@
 pub mod Lists
 pub mod PartRuns
+pub mod Known
 pub mod Allowed
+pub mod Looking
 pub mod TurnSteps
 pub mod Statuses
 pub mod TurnRunning

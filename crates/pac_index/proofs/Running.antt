@@ -37,12 +37,16 @@ use Rattle.index_core.specs.Listings.{ListsRange}
 use Rattle.index_core.specs.PartyStates.{state_after}
 use Rattle.index_core.specs.Indexes.{MakesCall}
 use Rattle.pac_index.specs.declared.rule.About.{About}
+use Rattle.pac_index.specs.declared.rule.AnsweredPart.{AnsweredPart}
 use Rattle.pac_index.specs.declared.rule.Member.{Member}
-use Rattle.pac_index.specs.Kept.{placed_by, noted, Goes, view_in, machine_in, calling, added_now}
+use Rattle.index_core.specs.Heard.{RunningTold}
+use Rattle.pac_index.specs.Kept.{HasPart, answered_now, placed_by, noted, Goes, view_in, machine_in, calling, added_now}
 use Rattle.pac_index.specs.Calls.{own_at, run_of, began, Runs, Answers, part_in, PartAnswers, StepsOn, turn_left}
 use Rattle.index_core.specs.MachineLaws.{IsNoEpoch, IsReady, ReadyAfter, place_now, place_next}
 use Rattle.index_core.proofs.MachineLaw.{first_ready, places_follow}
 use Rattle.index_core.proofs.Told.{is_early}
+use Rattle.index_core.proofs.Causes.{nothing_told, running_told}
+use Rattle.pac_index.proofs.Known.{answered_here, has_last, still_longer}
 use Rattle.pac_index.proofs.PartRuns.{run_more, run_counts, early_ran, listed_ran, early_placed, early_lists}
 use Rattle.pac_index.proofs.Lists.{begins_self, begins_trans}
 
@@ -120,12 +124,14 @@ runs_first c n old since later here of = record {
   taken = omega arith;
   added = omega arith;
   none_free = refl;
+  known = λ j a at. at;
   op = of;
   call_is = refl;
   seen = begins_self old.seen;
   own = sym (append-nil (placed_by old.state.caller old.seen)) ∙ ap (λ (p : Option ℕ). placed_by old.state.caller old.seen ++ own_at old.state.caller n (change_of (op_of c)) p) (sym (first_unplaced old c));
   says = tt;
   no_epoch = tt;
+  heard = nothing_told old.about.layout old.about.generation (view_in old) c;
   ready = first_ready (view_in old) c here;
 }
 
@@ -162,6 +168,7 @@ runs_on c n old v w turn m x runs is goes =
       taken = let was = runs.taken in let one = goes.taken in let long = ap length goes.told ∙ length-append v.told (x ∷ []) in omega arith;
       added = let was = runs.added ∙ ap (λ (t : Turn Running (Once Placed)). old.added + added_now op t) is in let now = goes.added ∙ ap (λ (o : NameOp). v.added + added_now o turn') same in omega arith;
       none_free = goes.none_free ∙ runs.none_free;
+      known = still_longer old.known v.known w.known (answered_now m x) runs.known goes.known;
       op = subst (λ (o : NameOp). IsOfAfter o turn') same (goes.op_on);
       call_is = same_on (running_call (machine_in old c)) (running_call m) turn' call_is goes.call_on;
       seen = begins_trans old.seen v.seen w.seen runs.seen goes.seen;
@@ -170,6 +177,8 @@ runs_on c n old v w turn m x runs is goes =
       says = says_by old.about.layout.slots (map_of old.about.base) w.seen v.state (began c n old runs.since) op (limit_of c) turn' caller index (subst (λ (e : PartyState). runs.since ≤ e.since) (sym state) (let le : runs.since ≤ runs.since = omega arith in le))
           (subst (λ (q : NameOp × Option ℕ × About). SaysOf q.2.layout.slots (map_of q.2.base) w.seen v.state q.0 q.1 (reply_of turn')) (λ k. (same k, limit k, runs.about k)) goes.says);
       no_epoch = goes.no_epoch;
+      heard = subst (λ (told : List ℕ). RunningTold old.about.layout old.about.generation told turn') (sym goes.told)
+          (running_told old.about.layout old.about.generation m v.told x sound (subst (RunningTold old.about.layout old.about.generation v.told) is runs.heard));
       ready = subst (λ (b : About). ReadyAfter b.layout b.generation turn') runs.about goes.ready;
     }
 
@@ -187,11 +196,13 @@ ends_so c n old v turn answer runs is =
       taken = runs.taken;
       added = runs.added ∙ ap (λ (t : Turn Running (Once Placed)). old.added + added_now (op_of c) t) is;
       none_free = runs.none_free;
+      known = runs.known;
       seen = runs.seen;
       own = runs.own ∙ ap (λ (t : Turn Running (Once Placed)). placed_by i old.seen ++ own_at i n (change_of (op_of c)) (place_now (change_of (op_of c)) t)) is;
       says = answer_by old.about.layout.slots (map_of old.about.base) v.seen (began c n old runs.since) (record old.state { index = n; since = length old.seen }) (op_of c) (limit_of c) answer refl refl runs.later
           (subst (λ (t : Turn Running (Once Placed)). SaysOf old.about.layout.slots (map_of old.about.base) v.seen (began c n old runs.since) (op_of c) (limit_of c) (reply_of t)) is runs.says);
       no_epoch = subst (λ (t : Turn Running (Once Placed)). IsNoEpoch (reply_of t)) is runs.no_epoch;
+      why = subst (RunningTold old.about.layout old.about.generation v.told) is runs.heard;
     }
 
 -- a part that is done before it lists its names
@@ -200,6 +211,7 @@ part_stops low count n old v turn answer runs is early = record {
   looks = subst (λ (a : Once Placed). Answers (call.Part low count) n old a v) (sym (early_placed answer early)) (ends_so (call.Part low count) n old v turn answer runs is);
   ran = early_ran (part_in old low count) v.told answer early (runs.ran ∙ is);
   lists = early_lists (λ words. ListsRange (after (map_of old.about.base) v.seen words.place) low count words) answer early;
+  known = early_lists (λ words. HasPart v.known (record { low = low; count = count; words = words })) answer early;
 }
 
 -- a part that is done with what it lists: it was told its version word
@@ -218,6 +230,7 @@ part_ends low count n old v w turn m x words placed runs is goes listed done =
       looks = ends_so c n old w (running_turned m x) (once.Done (words_placed words)) (runs_on c n old v w turn m x runs is goes) (listed_is_answered m words listed x told.0);
       ran = ap (run_of part_turned (Go p)) goes.told ∙ listed_ran p v.told m x words (runs.ran ∙ is) listed told.0;
       lists = now told.0;
+      known = has_last v.known w.known (record { low = low; count = count; words = words }) (goes.known ∙ ap (λ (l : List AnsweredPart). v.known ++ l) (answered_here m x count low words counts asked listed told.0));
     }
 
 -- one that was told another is turned back

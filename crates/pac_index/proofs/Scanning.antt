@@ -29,7 +29,7 @@ use Rattle.pac_index.specs.declared.rule.About.{About}
 use Rattle.pac_index.specs.declared.rule.Member.{Member}
 use Rattle.pac_index.specs.Kept.{Begins, placed_by}
 use Rattle.pac_index.specs.Calls.{PartAnswers}
-use Rattle.pac_index.specs.Ends.{AtLast, HasOnlyRead}
+use Rattle.pac_index.specs.Ends.{AtLast, DoesNothing, HasOnlyRead, TurnedBack}
 use Rattle.pac_index.specs.Scanned.{AreScanned, IsNamed, IsRead}
 use Rattle.pac_index.proofs.Lists.{begins_self, begins_trans, begins_le}
 use Rattle.pac_index.proofs.Repeating.{back_self, back_trans}
@@ -42,6 +42,7 @@ done_reads low count n v w words is = record {
   taken = let t = is.looks.taken in omega arith;
   added = let a = is.looks.added in added_none words.old a;
   none_free = λ noted. is.looks.none_free ∙ noted;
+  known = is.looks.known;
   seen = is.looks.seen;
   own = is.looks.own ∙ append-nil (placed_by v.state.caller v.seen);
 }
@@ -50,7 +51,7 @@ done_reads low count n v w words is = record {
     added_none None is = omega arith
     added_none (Some value) is = omega arith
 
-module _ (low : List ℕ) (left n : ℕ) (old new : Member) (words : PartWords) (is : AtLast (λ before after. PartAnswers low left n before (once.Done words) after) old new) where
+module _ (low : List ℕ) (left n : ℕ) (old new : Member) (words : PartWords) (is : AtLast (TurnedBack (PartAnswers low left n) DoesNothing) (λ before after. PartAnswers low left n before (once.Done words) after) old new) where
   pub part_reads : HasOnlyRead old new
   part_reads = back_trans old is.before new is.back (done_reads low left n is.before new words is.last)
 

@@ -20,6 +20,7 @@ use Rattle.pac_index.specs.declared.rule.Member.{Member}
 use Rattle.pac_index.specs.Callers.{about_in}
 use Rattle.index_core.specs.MachineLaws.{AreIdle}
 use Rattle.index_core.proofs.MachineLaw.{with_idle, idle_weigh}
+use Rattle.pac_index.specs.Kept.{AllKnow, KnowsParts}
 use Rattle.pac_index.specs.Kept.{index_of, Fits, AllFit, one_if, times_in, added_in, opening_weight, IsHalfPaid, AllPaid, Kept, member_of, first_view, first_of, rest_of}
 use Rattle.pac_index.proofs.Lists.{times_append, times_set, times_snoc, added_append, added_set, added_snoc}
 
@@ -92,6 +93,9 @@ opens s is quiet none =
       full = sole_view (AllPaid about (first_view about ∷ [])) (first_view about) (λ k m at noted.
           let from = map_from (member_of about) states k m at in
           absurd (let no : false ≡ true = ap (λ (u : Member). u.none_free) from.2 ∙ noted in cc));
+      known = sole_view (AllKnow (index_of about s.words states [])) (first_view about) (λ k m at.
+          let from = map_from (member_of about) states k m at in
+          subst (KnowsParts (index_of about s.words states [])) from.2 (λ j a none. absurd (some-ne-none a (sym none))));
     }
 
 both_added : (v : List Member) → added_in (rest_of v) + added_in (first_of v) ≡ added_in v
@@ -122,10 +126,25 @@ divides about id v s kept at = record {
   full = each_snoc (AllPaid about views) (set s.views id (rest_of v)) (first_of v)
       (each_set (AllPaid about views) s.views id (rest_of v) (λ j u other there k m at' noted. still (kept.full j u there k m at' noted)) (paid_behind v (λ k m at' noted. still (kept.full id v at k m at' noted))))
       (paid_front v (λ k m at' noted. still (kept.full id v at k m at' noted)));
+  known = each_snoc (AllKnow index) (set s.views id (rest_of v)) (first_of v)
+      (each_set (AllKnow index) s.views id (rest_of v) (λ j u other there. kept.known j u there) (known_behind v (kept.known id v at)))
+      (known_front v (kept.known id v at));
 }
   where
     views : List (List Member)
     views = set s.views id (rest_of v) ++ first_of v ∷ []
+
+    index : Index
+    index = index_of about s.words kept.states kept.history
+
+    known_behind : (v : List Member) → AllKnow index v → AllKnow index (rest_of v)
+    known_behind [] all k m at = absurd (some-ne-none m (sym at))
+    known_behind (x ∷ xs) all k m at = all (suc k) m at
+
+    known_front : (v : List Member) → AllKnow index v → AllKnow index (first_of v)
+    known_front [] all k m at = absurd (some-ne-none m (sym at))
+    known_front (x ∷ xs) all zero m at = all 0 m at
+    known_front (x ∷ xs) all (suc k) m at = absurd (some-ne-none m (sym at))
 
     still : IsHalfPaid about s.views → IsHalfPaid about views
     still was =
@@ -166,6 +185,11 @@ paid_append about views [] w left right k m at = right k m at
 paid_append about views (x ∷ xs) w left right zero m at = left 0 m at
 paid_append about views (x ∷ xs) w left right (suc k) m at = paid_append about views xs w (λ j. left (suc j)) right k m at
 
+known_append : (s : Index) (v w : List Member) → AllKnow s v → AllKnow s w → AllKnow s (v ++ w)
+known_append s [] w left right k m at = right k m at
+known_append s (x ∷ xs) w left right zero m at = left 0 m at
+known_append s (x ∷ xs) w left right (suc k) m at = known_append s xs w (λ j. left (suc j)) right k m at
+
 -- two views are made one
 pub meets : (about : About) (id : ℕ) (v : List Member) (other : ℕ) (w : List Member) → Joins (Kept about) id v other w (v ++ w) []
 meets about id v other w s kept at apart there =
@@ -200,6 +224,11 @@ meets about id v other w s kept at apart there =
           (λ j u away at'. each_set (AllPaid about views) s.views id (v ++ w) (λ i d off at'' k m here noted. still (kept.full i d at'' k m here noted))
           (paid_append about views v w (λ k m here noted. still (kept.full id v at k m here noted)) (λ k m here noted. still (kept.full other w found k m here noted))) j u at')
           (λ k m at'. absurd (some-ne-none m (sym at')));
+      known =
+          let index = index_of about s.words kept.states kept.history in
+          each_set (AllKnow index) (set s.views id (v ++ w)) other []
+          (λ j u away at'. each_set (AllKnow index) s.views id (v ++ w) (λ i d off at''. kept.known i d at'') (known_append index v w (kept.known id v at) (kept.known other w found)) j u at')
+          (λ k m at'. absurd (some-ne-none m (sym at')));
     }
 
 -- the next of the first parties
@@ -220,6 +249,7 @@ enters about slots i s kept count fits = (
     once = λ n. let snoc = times_snoc n s.views [] in let before = kept.once n in omega arith;
     weight = let snoc = added_snoc s.views [] in let before = kept.weight in omega arith;
     full = each_snoc (AllPaid about (s.views ++ [] ∷ [])) s.views [] (λ j v at k m here noted. let snoc = added_snoc s.views [] in let was = kept.full j v at k m here noted in omega arith) (λ k m at. absurd (some-ne-none m (sym at)));
+    known = each_snoc (AllKnow (index_of about s.words kept.states kept.history)) s.views [] (λ j v at. kept.known j v at) (λ k m at. absurd (some-ne-none m (sym at)));
   },
   refl,
 )

@@ -59,6 +59,7 @@ turn_held old w x goes other = λ epoch.
       taken = goes.taken ∙ ap (λ (l : List ℕ). old.taken + length l) (sym goes.told);
       added = goes.added;
       none_free = goes.none_free ∙ ap (noted_by old.none_free) ended;
+      known = goes.known;
       seen = goes.seen;
       own = goes.own;
     }
@@ -86,6 +87,7 @@ module _ (old w : Member) (goes : TurnGoes (turn_in old first_epoch) (turning ol
         taken = goes.taken ∙ ap (λ (l : List ℕ). old.taken + length l) (sym goes.told);
         added = goes.added;
         none_free = goes.none_free;
+        known = goes.known;
         seen = goes.seen;
         own = goes.own;
         ready = ready;
@@ -116,6 +118,7 @@ turn_on epoch old v w turn making x runs is goes =
       taken = let was = runs.taken in let one = goes.taken in let long = ap length goes.told ∙ length-append v.told (x ∷ []) in omega arith;
       added = goes.added ∙ runs.added;
       none_free = goes.none_free ∙ ap (λ (b : Bool). noted_by b turn') (runs.none_free ∙ ap (noted_by old.none_free) is);
+      known = goes.known ∙ runs.known;
       seen = begins_trans old.seen v.seen w.seen runs.seen goes.seen;
       own = subst (λ (c : ℕ). placed_by c w.seen ≡ placed_by c v.seen) caller goes.own ∙ runs.own;
       ready = subst (λ (b : About). TurnReady b.layout turn') runs.about goes.ready;
@@ -152,6 +155,7 @@ turn_ends epoch old v turn answer runs is some = record {
   taken = runs.taken;
   added = runs.added;
   none_free = runs.none_free ∙ ap (noted_by old.none_free) is;
+  known = runs.known;
   seen = runs.seen;
   own = runs.own;
 }

@@ -22,11 +22,13 @@ use Rattle.index_core.specs.PartyStates.{state_turned, turn_after, IsTurnOf}
 use Rattle.index_core.specs.Indexes.{Index, IsIndex, world}
 use Rattle.index_core.specs.Turns.{turn_begun, turned_index, with_terms, FindsNoneFree}
 use Rattle.index_core.proofs.Lists.{some_same}
+use Rattle.index_core.proofs.Rechecks.{turns_keep_known}
 use Rattle.index_core.proofs.Turning.{parties_same, turns_keep, turn_begins, terms_may_be_set}
 use Rattle.atomic_table.specs.Table.{State, Me}
 use Rattle.pac_index.specs.declared.rule.About.{About}
+use Rattle.pac_index.specs.declared.rule.AnsweredPart.{AnsweredPart}
 use Rattle.pac_index.specs.declared.rule.Member.{Member}
-use Rattle.pac_index.specs.Kept.{index_of, Fits, Kept, May, party, IsLone}
+use Rattle.pac_index.specs.Kept.{index_of, Fits, IsPartKnown, Kept, May, known_part, party, IsLone}
 use Rattle.pac_index.specs.Turns.{turn_in, turning, turning_at, work_in, TurnReady, noted_by, TurnGoes, TellsTurn, StartsTurn, StartsWork}
 use Rattle.pac_index.proofs.Allowed.{Leaves, may, leaves_first, moved, stayed, place_inside}
 use Rattle.pac_index.proofs.Lists.{begins_self}
@@ -60,7 +62,7 @@ module _ (about : About) (id : ℕ) (v : Member) (making : MakeTurn) (f : ℕ �
       let x = given (making_asks making) n in
       let turn = making_turned making x in
       let now = state_turned v.state turn in
-      let w : Member = record { about = v.about; state = now; seen = h; told = v.told ++ x ∷ []; taken = v.taken + 1; added = v.added; none_free = noted_by v.none_free turn } in
+      let w : Member = record { about = v.about; state = now; seen = h; told = v.told ++ x ∷ []; taken = v.taken + 1; added = v.added; none_free = noted_by v.none_free turn; known = v.known } in
       let words' = set s.words place (f n) in
       let states' = set kept.states c now in
       let change = same n fits step.can.1 in
@@ -71,10 +73,13 @@ module _ (about : About) (id : ℕ) (v : Member) (making : MakeTurn) (f : ℕ �
       let fit : Fits about states' h w = record { same = own.same; there = there'; seen = begins_self h; own = refl } in
       let no_heavier = step.weighs in
       let same_weight = ap (λ (s' : Index). weight_sum (world s')) path in
+      let still : (a : AnsweredPart) → IsPartKnown old a → IsPartKnown (index_of about words' states' h) a =
+      λ a known. subst (λ (s' : Index). IsPartKnown s' a) path (turns_keep_known old c v.state making (known_part a) kept.index own.there is known.0, known.1) in
       record {
         now = w;
         kept = moved about id v w words' h s kept at refl index' fit (λ u other. stayed about kept.states h c now u other) (omega arith) (omega arith)
-            (λ noted. ⊎_elim (λ was. inl was) (λ none. inr (let half = step.in_use none in let most = kept.weight in omega arith)) (noted_so v.none_free turn noted));
+            (λ noted. ⊎_elim (λ was. inl was) (λ none. inr (let half = step.in_use none in let most = kept.weight in omega arith)) (noted_so v.none_free turn noted))
+            (λ a known. still a known) (λ j a part. still a (kept.known id (v ∷ []) at 0 v refl j a part));
         goes = record {
           takes = step.takes;
           about = refl;
@@ -83,6 +88,7 @@ module _ (about : About) (id : ℕ) (v : Member) (making : MakeTurn) (f : ℕ �
           taken = refl;
           added = refl;
           none_free = refl;
+          known = refl;
           seen = own.seen;
           own = own.own;
           ready = subst (λ (b : About). TurnReady b.layout turn) (sym own.same) (ready_after about words' states' h c now turn index' there' refl);
@@ -116,6 +122,7 @@ begun about id v s kept at rests =
     let weight = ap (λ (ps : List Party). weight_sum (record (world old) { parties = ps })) (parties_same old c v.state (Some (turn_in v first_epoch)) own.there) in
     let same_weight : weight_sum (world (index_of about s.words (set kept.states c u.state) h)) ≡ weight_sum (world old) = weight in
     moved about id v u s.words h s kept at refl (subst IsIndex path index) fit (λ d other. stayed about kept.states h c u.state d other) (omega arith) (omega arith) (λ noted. inl noted)
+    (λ a known. known) (kept.known id (v ∷ []) at 0 v refl)
 
 -- the same where the step begins the turn
 pub turn_allows_first : (about : About) (words slots id : ℕ) (me : Me (Unit {0}) (List Member)) → IsLone me → (party me).state.turn ≡ None → action_address about.layout (making_asks (turn_in (party me) first_epoch)) < words
@@ -146,6 +153,7 @@ dated about id v epoch s kept at flies positive fits =
     let fit : Fits about (set kept.states c u.state) h u = record { same = own.same; there = set_here kept.states c u.state v.state own.there; seen = own.seen; own = own.own } in
     let same_weight : weight_sum (world (index_of about s.words (set kept.states c u.state) h)) ≡ weight_sum (world old) = sym (ap (λ (q : Index). weight_sum (world q)) path) ∙ law.weighs in
     moved about id v u s.words h s kept at refl (subst IsIndex path law.kept) fit (λ d other. stayed about kept.states h c u.state d other) (omega arith) (omega arith) (λ noted. inl noted)
+    (λ a known. known) (kept.known id (v ∷ []) at 0 v refl)
 
 -- the same where the step is the first under the lock
 pub work_allows_first : (about : About) (words slots id : ℕ) (me : Me (Unit {0}) (List Member)) (epoch : ℕ) → IsLone me → (party me).state.turn ≡ Some (work_in (party me) first_epoch) → 1 ≤ epoch → epoch < 2 ^ 64

@@ -35,7 +35,9 @@ use Rattle.pac_index.specs.declared.tried.Tried.{Tried}
 use Rattle.pac_index.specs.declared.tried.Tried.TheVariants as tried
 use Rattle.pac_index.specs.declared.caller.Caller.{Caller}
 use Rattle.pac_index.specs.declared.rule.Member.{Member}
-use Rattle.pac_index.specs.Kept.{Begins, placed_by, noted, view_in, machine_in, added_now, Goes}
+use Rattle.index_core.specs.Causes.{HasCauseIn}
+use Rattle.index_core.specs.Heard.{RunningTold}
+use Rattle.pac_index.specs.Kept.{Begins, HasPart, KnowsStill, placed_by, noted, view_in, machine_in, added_now, Goes}
 use Rattle.index_core.specs.Weights.{added_by}
 
 -- The try was answered, so that its caller wasn't cut, and this holds of the answer.
@@ -68,7 +70,8 @@ run_of turned (Go m) (x ∷ xs) = run_of turned (turned m x) xs
 -- What a call of a caller is answered: what its machine ends with on the numbers that its steps on the table gave, of
 -- which the caller's count of steps tells how many there were. It has seen a longer history, in which of its own writes
 -- just that of this call is added, where it took place; the answer is the map's on the longer history, at a place
--- between the two lengths. It is none that the epoch has moved, of which its machine knows nothing.
+-- between the two lengths. Where it was turned back, the numbers that its steps gave say why; none says that the epoch
+-- has moved, of which its machine knows nothing.
 pub record Answers (call : CoreCall) (index : ℕ) (old : Member) (answer : Once Placed) (new : Member) : Type 0 where
   pub about : new.about ≡ old.about
   pub idle : new.state.machine ≡ None
@@ -78,6 +81,7 @@ pub record Answers (call : CoreCall) (index : ℕ) (old : Member) (answer : Once
   pub taken : new.taken ≡ old.taken + length new.told
   pub added : new.added ≡ old.added + added_by (op_of call) answer
   pub none_free : new.none_free ≡ old.none_free
+  pub known : KnowsStill old.known new.known
   pub seen : Begins old.seen new.seen
   pub own : placed_by old.state.caller new.seen ≡ placed_by old.state.caller old.seen ++ own_at old.state.caller index
       (change_of (op_of call)) (place_told (change_of (op_of call)) answer)
@@ -86,19 +90,23 @@ pub record Answers (call : CoreCall) (index : ℕ) (old : Member) (answer : Once
     since = length old.seen;
   }) (op_of call) (limit_of call) answer
   pub no_epoch : IsNoEpoch (Some answer)
+  -- where it was turned back, the numbers that it was told say why
+  pub why : HasCauseIn old.about.layout old.about.generation new.told answer
 
 -- The machine of a part of a range scan, before its first action.
 abbrev pub part_in : Member → List ℕ → ℕ → Part
 part_in v low count = part.Looking (starts (new_call (view_in v) low None)) count None
 
 -- What a part of a range scan is answered: as a call that looks its low name up, what its own machine ends with, and
--- what it lists is the map's on the longer history, at its place.
+-- what it lists is the map's on the longer history, at its place. Its caller knows it from then on.
 pub record PartAnswers (low : List ℕ) (count index : ℕ) (old : Member) (answer : Once PartWords) (new : Member) :
     Type 0 where
   pub looks : Answers (call.Part low count) index old (placed_of answer) new
   pub ran : run_of part_turned (Go (part_in old low count)) new.told ≡ Done answer
   pub lists : IfSome (words_told answer)
       (λ words. ListsRange (after (map_of old.about.base) new.seen words.place) low count words)
+  pub known : IfSome (words_told answer)
+      (λ words. HasPart new.known (record { low = low; count = count; words = words }))
 
 -- The state as the call began.
 abbrev pub began : CoreCall → ℕ → Member → ℕ → PartyState
@@ -115,6 +123,7 @@ pub record Runs (call : CoreCall) (index : ℕ) (old : Member) (turn : Turn Runn
   pub taken : new.taken ≡ old.taken + length new.told
   pub added : new.added ≡ old.added + added_now (op_of call) turn
   pub none_free : new.none_free ≡ old.none_free
+  pub known : KnowsStill old.known new.known
   pub op : IsOfAfter (op_of call) turn
   pub call_is : MakesCall (running_call (machine_in old call)) turn
   pub seen : Begins old.seen new.seen
@@ -123,6 +132,7 @@ pub record Runs (call : CoreCall) (index : ℕ) (old : Member) (turn : Turn Runn
   pub says : SaysOf old.about.layout.slots (map_of old.about.base) new.seen (began call index old since) (op_of call)
       (limit_of call) (reply_of turn)
   pub no_epoch : IsNoEpoch (reply_of turn)
+  pub heard : RunningTold old.about.layout old.about.generation new.told turn
   pub ready : ReadyAfter old.about.layout old.about.generation turn
 
 abbrev pub turn_left : Turn Running (Once Placed) → ℕ

@@ -9,15 +9,22 @@ use Rattle.cat_history.specs.declared.op.Write.{Write}
 use Rattle.pm_words.specs.declared.action.Action.{Action}
 use Rattle.pm_words.specs.Rows.{given, action_address, word_after, CanChange}
 use Rattle.call_stages.specs.Stages.{counted}
+use Rattle.call_stages.specs.declared.once.Once.TheVariants as once
 use Rattle.pm_words.specs.declared.machine.Turn.{Turn}
 use Rattle.pm_words.specs.declared.machine.Turn.TheVariants.{Go, Done}
 use Rattle.call_stages.specs.declared.once.Once.{Once}
 use Rattle.call_stages.specs.declared.once.Placed.{Placed}
 use Rattle.call_stages.specs.declared.view.View.{View}
+use Rattle.node_ops.specs.declared.part.Part.{Part}
+use Rattle.node_ops.specs.declared.part.PartWords.{PartWords}
 use Rattle.node_ops.specs.declared.running.Running.{Running}
+use Rattle.node_ops.specs.declared.running.Running.TheVariants.{Parting}
 use Rattle.node_ops.specs.Asked.{IsOfAfter, op_in, name_asked}
 use Rattle.node_ops.specs.RunningSteps.{running_asks, running_turned, running_takes, running_call, count_in, listed_in}
 use Rattle.node_ops.specs.CallStages.{stage_of, reply_of}
+use Rattle.node_ops.specs.Calls.{name_in}
+use Rattle.node_ops.specs.PartSteps.{part_call, part_count, part_turned}
+use Rattle.node_ops.specs.Rechecks.{KnownPart}
 use Rattle.index_law.specs.Worlds.{written}
 use Rattle.index_core.specs.declared.party.PartyState.{PartyState}
 use Rattle.index_core.specs.declared.party.CoreCall.{CoreCall}
@@ -27,12 +34,14 @@ use Rattle.index_core.specs.CoreCalls.{machine_of}
 use Rattle.index_core.specs.PartyStates.{idle_states, state_with, state_after}
 use Rattle.index_core.specs.Indexes.{Index, IsIndex, MakesCall, world, parties_of}
 use Rattle.index_core.specs.MachineLaws.{IsNoEpoch, ReadyAfter, showing}
+use Rattle.index_core.specs.Rechecks.{Knows}
 use Rattle.index_core.specs.Weights.{added_by}
 use Rattle.index_law.specs.Facts.{facts_of}
 use Rattle.index_law.specs.Weights.{index_weight, weight_sum}
 use Rattle.cat_history.specs.declared.op.NameOp.{NameOp}
 use Rattle.atomic_table.specs.Table.{State, Me, Allows}
 use Rattle.pac_index.specs.declared.rule.About.{About}
+use Rattle.pac_index.specs.declared.rule.AnsweredPart.{AnsweredPart}
 use Rattle.pac_index.specs.declared.rule.Member.{Member}
 
 -- The index of which these are the words, the parties and the history.
@@ -111,6 +120,21 @@ IsHalfPaid about views = about.layout.nodes * (about.layout.slots / 2) ≤ openi
 abbrev pub AllPaid : About → List (List Member) → List Member → Type 0
 AllPaid about views view = (k : ℕ) (m : Member) → get_elem? view k ≡ some m → m.none_free ≡ true → IsHalfPaid about views
 
+-- A part as the core knows it.
+abbrev pub known_part : AnsweredPart → KnownPart
+known_part a = record { low = a.low; count = a.count; words = a.words }
+
+-- It is known in the index: while its node's version word is the one that it tells, the map on the node's range as it
+-- was has been the same at each place from the part's on. It sorted no more names than a node has slots.
+abbrev pub IsPartKnown : Index → AnsweredPart → Type 0
+IsPartKnown s a = Knows s (known_part a) × (a.words.compared ≤ s.layout.slots)
+
+abbrev pub KnowsParts : Index → Member → Type 0
+KnowsParts s m = (j : ℕ) (a : AnsweredPart) → get_elem? m.known j ≡ some a → IsPartKnown s a
+
+abbrev pub AllKnow : Index → List Member → Type 0
+AllKnow s view = (k : ℕ) (m : Member) → get_elem? view k ≡ some m → KnowsParts s m
+
 -- There are parties and a history with which the words are an index, as the core has it, and each view fits them. No
 -- party stands in two views, nor twice in one.
 pub record Kept (about : About) (s : State (Unit {0}) (List Member)) : Type 0 where
@@ -123,11 +147,14 @@ pub record Kept (about : About) (s : State (Unit {0}) (List Member)) : Type 0 wh
   pub weight : weight_sum (world (index_of about s.words states history)) ≤ opening_weight about + added_in_all s.views
   -- and where a party has found no node FREE, that is at least half of all slots
   pub full : (i : ℕ) (view : List Member) → get_elem? s.views i ≡ some view → AllPaid about s.views view
+  -- each part that a party of a view was answered is known
+  pub known : (i : ℕ) (view : List Member) → get_elem? s.views i ≡ some view →
+      AllKnow (index_of about s.words states history) view
 
 -- The first view has all parties, which are idle.
 abbrev pub member_of : About → PartyState → Member
 member_of about state =
-    record { about = about; state = state; seen = []; told = []; taken = 0; added = 0; none_free = false }
+    record { about = about; state = state; seen = []; told = []; taken = 0; added = 0; none_free = false; known = [] }
 
 abbrev pub first_view : About → List Member
 first_view about = map (member_of about) (idle_states (parties_of about.layout))
@@ -148,6 +175,7 @@ nobody = record {
   taken = 0;
   added = 0;
   none_free = false;
+  known = [];
 }
 
 abbrev pub head_of : List Member → Member
@@ -181,6 +209,25 @@ abbrev pub ListsNow : Map → List Write → Running → ℕ → Type 0
 ListsNow base history m x = IfSome (listed_in m) (λ words. IfSome (count_in m) (λ count. x ≡ words.version →
     ListsRange (after base history words.place) (name_asked (op_in m)) count words))
 
+-- The part that a turn answers, if it is done.
+abbrev pub part_answered : Part → Turn Part (Once PartWords) → List AnsweredPart
+part_answered p (Done (once.Done words)) =
+    record { low = name_in (part_call p); count = part_count p; words = words } ∷ []
+part_answered p _ = []
+
+-- The part that the machine answers that is told this number now, if it is one of a range scan.
+abbrev pub answered_now : Running → ℕ → List AnsweredPart
+answered_now (Parting p) x = part_answered p (part_turned p x)
+answered_now _ x = []
+
+-- Of the parts that were answered each is so still.
+abbrev pub KnowsStill : List AnsweredPart → List AnsweredPart → Type 0
+KnowsStill old new = (j : ℕ) (a : AnsweredPart) → get_elem? old j ≡ some a → get_elem? new j ≡ some a
+
+-- The part is one of them.
+abbrev pub HasPart : List AnsweredPart → AnsweredPart → Type 0
+HasPart known a = (j : ℕ) × (get_elem? known j ≡ some a)
+
 -- What a party's step with its machine, which is told this number, leaves and shows.
 pub record Goes (m : Running) (v : Member) (x : ℕ) (w : Member) : Type 0 where
   pub takes : running_takes m x
@@ -190,6 +237,7 @@ pub record Goes (m : Running) (v : Member) (x : ℕ) (w : Member) : Type 0 where
   pub taken : w.taken ≡ v.taken + 1
   pub added : w.added ≡ v.added + added_now (op_in m) (running_turned m x)
   pub none_free : w.none_free ≡ v.none_free
+  pub known : w.known ≡ v.known ++ answered_now m x
   pub seen : Begins v.seen w.seen
   -- of its writes just the one that the step counts is added, if it counts one, and at the place that it was told
   pub own : placed_by v.state.caller w.seen ≡ placed_by v.state.caller v.seen ++ noted x

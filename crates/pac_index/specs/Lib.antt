@@ -7,3 +7,4 @@ pub mod Scanned
 pub mod Turns
 pub mod Writes
 pub mod Pinned
+pub mod Rechecked

@@ -71,6 +71,7 @@ pub record TurnGoes (making : MakeTurn) (v : Member) (x : ℕ) (w : Member) : Ty
   pub taken : w.taken ≡ v.taken + 1
   pub added : w.added ≡ v.added
   pub none_free : w.none_free ≡ noted_by v.none_free (making_turned making x)
+  pub known : w.known ≡ v.known
   pub seen : Begins v.seen w.seen
   pub own : placed_by v.state.caller w.seen ≡ placed_by v.state.caller v.seen
   pub ready : TurnReady v.about.layout (making_turned making x)
@@ -114,6 +115,7 @@ pub record TurnRuns (epoch : ℕ) (old : Member) (turn : Turn MakeTurn TurnReply
   pub taken : new.taken ≡ old.taken + length new.told
   pub added : new.added ≡ old.added
   pub none_free : new.none_free ≡ noted_by old.none_free turn
+  pub known : new.known ≡ old.known
   pub seen : Begins old.seen new.seen
   pub own : placed_by old.state.caller new.seen ≡ placed_by old.state.caller old.seen
   pub ready : TurnReady old.about.layout turn
@@ -145,6 +147,7 @@ pub record TurnAnswers (epoch : ℕ) (old : Member) (answer : TurnReply) (new : 
   pub taken : new.taken ≡ old.taken + length new.told
   pub added : new.added ≡ old.added
   pub none_free : new.none_free ≡ noted_in old.none_free answer
+  pub known : new.known ≡ old.known
   pub seen : Begins old.seen new.seen
   pub own : placed_by old.state.caller new.seen ≡ placed_by old.state.caller old.seen
 
@@ -155,6 +158,14 @@ HasTurned turned old new = (epoch : ℕ) × TurnAnswers epoch old (reply.Turned 
 -- What a turn is answered that found the updater lock taken: it is so at whichever epoch.
 abbrev pub TurnHeld : ℕ → Member → Member → Type 0
 TurnHeld word old new = (epoch : ℕ) → TurnAnswers epoch old (reply.Held word) new
+
+-- A try of a turn that is made again: it found the updater lock taken.
+abbrev pub FoundHeld : Member → Member → Type 0
+FoundHeld old new = (word : ℕ) × TurnHeld word old new
+
+-- One turn that was made, after tries that found the updater lock taken.
+abbrev pub HasMadeTurn : Turned → Member → Member → Type 0
+HasMadeTurn turned old new = AtLast FoundHeld (HasTurned turned) old new
 
 -- A party tried once to advance the epoch, among so many parties, with this answer. Then it loaded the epoch, as this
 -- number; so the release number that it read is two less.
@@ -181,13 +192,14 @@ IsTold (tried.Turned turned epoch advanced) made held = made turned epoch advanc
 IsTold (tried.Held word) made held = held word
 IsTold tried.Cut made held = ⊥
 
--- A turn that was tried until it was made: of its tries all found the updater lock taken but the last, and until then its
--- party made no step on the epoch.
+-- A turn that was tried until it was made: each of its tries but the last found the updater lock taken, and until then
+-- its party made no step on the epoch.
 pub record TurnedAtLast (parties : ℕ) (old : Member) (pins : PinMember) (turned : Turned) (new : Member)
     (pins_now : PinMember) : Type 0 where
   pub epoch : ℕ
   pub advanced : Result ℕ Advance
-  pub last : AtLast (λ before after. MadeTurn parties before pins turned epoch advanced after pins_now) old new
+  pub last : AtLast FoundHeld (λ before after. MadeTurn parties before pins turned epoch advanced after pins_now) old
+      new
 
 -- For how many actions a turn may go on.
 abbrev pub actions_left : Turn MakeTurn TurnReply → ℕ

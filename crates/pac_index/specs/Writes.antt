@@ -18,8 +18,8 @@ use Rattle.pac_index.specs.declared.writes.WriteTry.{WriteTry}
 use Rattle.pac_index.specs.declared.writes.WriteTry.TheVariants as write
 use Rattle.pac_index.specs.declared.rule.Member.{Member}
 use Rattle.pac_index.specs.Calls.{Answers}
-use Rattle.pac_index.specs.Ends.{HasOnlyRead, AtLast}
-use Rattle.pac_index.specs.Turns.{HasTurned}
+use Rattle.pac_index.specs.Ends.{HasOnlyRead, AtLast, EachIs, TurnedBack}
+use Rattle.pac_index.specs.Turns.{HasMadeTurn}
 
 -- The try was turned back, since none of its caller's log lines is EMPTY; or since there is no node to split its own
 -- with.
@@ -38,20 +38,32 @@ EndsSo (ended.Spent clock) answered full = answered (once.Spent clock)
 EndsSo ended.Full answered full = full
 EndsSo ended.Cut answered full = ⊥
 
+-- What a put or a delete did behind a try that was answered so: one turn of the updater where the try found none of its
+-- caller's log lines EMPTY, or no node to split its own with, and nothing elsewhere.
+abbrev pub TurnsBehind : Once Placed → Member → Member → Type 0
+TurnsBehind (once.Again LogFull) tried new = (turned : Turned) × HasMadeTurn turned tried new
+TurnsBehind (once.Again NoFree) tried new = (turned : Turned) × HasMadeTurn turned tried new
+TurnsBehind _ tried new = new ≡ tried
+
+-- A try of a put or a delete that was turned back, with what came behind it.
+abbrev pub WriteBack : CoreCall → ℕ → Member → Member → Type 0
+WriteBack call index old new = TurnedBack (Answers call index) TurnsBehind old new
+
 -- A try found no node to split its own with, and behind it its caller made a turn of the updater, which told whether it
 -- found none FREE.
 pub record TurnedForRoom (call : CoreCall) (index : ℕ) (none_free : Bool) (old new : Member) : Type 0 where
   pub tried : Member
   pub refused : Answers call index old (once.Again NoFree) tried
   pub turned : Turned
-  pub turn : AtLast (HasTurned turned) tried new
+  pub turn : HasMadeTurn turned tried new
   pub told : turned.none_free ≡ none_free
 
--- So many tries found no node and have a turn behind each. The tries between them were turned back for other causes.
+-- So many tries found no node and have a turn behind each. The tries between them were turned back too.
 abbrev pub HaveTurned : CoreCall → ℕ → ℕ → Member → Member → Type 0
-HaveTurned call index zero old new = HasOnlyRead old new
+HaveTurned call index zero old new = EachIs (WriteBack call index) old new
 HaveTurned call index (suc turns) old new = (before : Member) × (none_free : Bool) ×
-    HaveTurned call index turns old before × AtLast (TurnedForRoom call index none_free) before new
+    HaveTurned call index turns old before ×
+    AtLast (WriteBack call index) (TurnedForRoom call index none_free) before new
 
 -- A put found no room. It placed nothing. At least four of its tries found no node to split their own with, and the turn
 -- behind the last of them found none FREE, which the caller's view notes. After as many writes as a clock of the put's
@@ -62,7 +74,7 @@ pub record FoundFull (call : CoreCall) (index : ℕ) (old new : Member) : Type 0
   pub enough : 3 ≤ earlier
   pub before : Member
   pub turned : HaveTurned call index earlier old before
-  pub last : AtLast (TurnedForRoom call index true) before new
+  pub last : AtLast (WriteBack call index) (TurnedForRoom call index true) before new
   pub none_free : new.none_free ≡ true
   pub room : FoundNoRoom old.about.layout.slots (map_of old.about.base) new.seen (length old.seen) (length new.seen)
       (name_asked (op_of call))

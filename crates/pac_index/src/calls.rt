@@ -30,8 +30,8 @@ impl Shared {
     /// placed.
     ///
     /// As each single try of a call it takes a pin first, holds it over all its steps on the index, and gives it back
-    /// behind the last. Where the epoch moves as it takes the pin, it is answered `Again::Epoch` with the two numbers that
-    /// it loaded, and has made no step on the index; no try is answered so elsewhere.
+    /// behind the last. Where the epoch moves as it takes the pin, it is answered `Again::Epoch` with the two numbers
+    /// that it loaded, and has made no step on the index; no try is answered so elsewhere.
     pub fn put_once(
         &self,
         caller: &mut Caller,
@@ -88,9 +88,9 @@ impl Shared {
         self.try_call(caller, CoreCall::Del { name, limit }, &OpenGate)
     }
 
-    /// One try of a part of a range scan by one of the callers before the last, with a pin as a put has one: it lists the first `count` names from
-    /// the low one on, of those that the low one's node has, with their numbers as the map has them at a place of the
-    /// part's time, and tells where they end.
+    /// One try of a part of a range scan by one of the callers before the last, with a pin as a put has one: it lists
+    /// the first `count` names from the low one on, of those that the low one's node has, with their numbers as the map
+    /// has them at a place of the part's time, and tells where they end.
     pub fn part_once(&self, caller: &mut Caller, low: &Name, count: u64) -> Tried<PartWords>
         requires caller { IsCallerOf self.now caller.old }
         requires worker { caller.old.number < self.now.about.layout.callers }
@@ -254,7 +254,8 @@ impl Caller {
     /// Counts a call that was answered, and keeps its write if it was placed.
     fn keep(&mut self, change: Option<Change>, answer: Once<Placed>)
         requires { IfSome change (λ _. 1 ≤ spare_of self.old) }
-        ensures seat { (self.new.seat ≡ self.old.seat) × (self.new.pins ≡ self.old.pins) × (self.new.number ≡ self.old.number) }
+        ensures seat { (self.new.seat ≡ self.old.seat) × (self.new.pins ≡ self.old.pins) ×
+            (self.new.number ≡ self.old.number) }
         ensures index { self.new.index ≡ counted_index self.old.index answer }
         ensures kept { pairs self.new.kept.items ≡ pairs self.old.kept.items ++ own_at self.old.number self.old.index
             change (place_told change answer) }
@@ -295,7 +296,7 @@ fn change_of(call: &CoreCall) -> Option<Change>
 }
 
 /// The try was turned back, since the epoch moved as it took its pin.
-fn turned_back<T>(moved: EpochMoved) -> Tried<T>
+pub(crate) fn turned_back<T>(moved: EpochMoved) -> Tried<T>
     ensures { result ≡ tried.Answered (once.Again (again.Epoch moved.first moved.second)) }
 {
     let EpochMoved { first, second } = moved;

@@ -6,11 +6,11 @@
 //! very law that the core keeps: its words, the calls in flight and what callers have seen are at each moment an index
 //! of the core.
 //!
-//! A single try takes a pin on the epoch before its first step, and gives it back behind its last (crate `epochs`). A turn
-//! of the updater stamps merged nodes with the epoch, and makes those FREE whose stamp is at most its release number,
-//! which is below each pin that is held then or taken later. Turns alone advance the epoch, under the updater lock. So
-//! while a try goes on, no node is used anew that was listed as it began; that is an argument over two tables, and no
-//! clause. What a try is answered doesn't rest on it: locks and version words make it right.
+//! A single try takes a pin on the epoch before its first step, and gives it back behind its last (crate `epochs`). A
+//! turn of the updater stamps merged nodes with the epoch, and makes those FREE whose stamp is at most its release
+//! number, which is below each pin that is held then or taken later. Turns alone advance the epoch, under the updater
+//! lock. So while a try goes on, no node is used anew that was listed as it began; that is an argument over two tables,
+//! and no clause. What a try is answered doesn't rest on it: locks and version words make it right.
 #![tactic(auto)]
 
 mod caller;
@@ -19,6 +19,7 @@ mod ended;
 mod gate;
 mod making;
 mod meeting;
+mod rechecks;
 mod repeats;
 mod rule;
 mod scans;
@@ -32,8 +33,9 @@ pub use caller::{Caller, PlacedWrite};
 pub use ended::Ended;
 pub use gate::Gate;
 pub use rule::{
-    About, BeginsCall, ByOutcome, FirstStep, FirstTurnStep, FirstWorkStep, HasEpoch, JoinAll,
-    Member, Members, NextStep, NextTurnStep, Outcome, Ruled, SplitFirst,
+    About, AnsweredPart, BeginsCall, ByOutcome, ChecksNode, FirstRecheckStep, FirstStep,
+    FirstTurnStep, FirstWorkStep, HasEpoch, JoinAll, LastRecheckStep, Member, Members, NextStep,
+    NextTurnStep, Outcome, Ruled, SplitFirst,
 };
 pub use scans::Scanned;
 pub use shared::Shared;

@@ -6,7 +6,7 @@ ghost use Rattle.index_core.specs.declared.party.CoreCall.TheVariants as call;
 ghost use Rattle.index_core.specs.PartyStates.{next_index};
 ghost use Rattle.pac_index.specs.Calls.{Answers, PartAnswers};
 ghost use Rattle.pac_index.specs.Callers.{IsCallerOf, pins_of, spare_of, seen_by};
-ghost use Rattle.pac_index.specs.Ends.{AtLast, IsDone};
+ghost use Rattle.pac_index.specs.Ends.{AtLast, DoesNothing, IsDone, TurnedBack};
 ghost use Rattle.pac_index.specs.Turns.{TurnedAtLast};
 
 use crate::caller::Caller;
@@ -29,8 +29,9 @@ impl Shared {
         ensures caller { IsCallerOf self.now caller.new }
         ensures number { caller.new.number ≡ caller.old.number }
         ensures index { caller.new.index ≡ next_index caller.old.index }
-        ensures done { IsDone result (λ placed. AtLast (λ before after. Answers (call.Get name.now) caller.old.index
-            before (once.Done placed) after) (seen_by caller.old) (seen_by caller.new)) }
+        ensures done { IsDone result (λ placed. AtLast (TurnedBack (Answers (call.Get name.now) caller.old.index)
+            DoesNothing) (λ before after. Answers (call.Get name.now) caller.old.index before (once.Done placed) after)
+            (seen_by caller.old) (seen_by caller.new)) }
         ensures spare { spare_of caller.old ≤ spare_of caller.new }
     {
         self.get_at(rt, caller, *name, &OpenGate)
@@ -49,8 +50,9 @@ impl Shared {
         ensures caller { IsCallerOf self.now caller.new }
         ensures number { caller.new.number ≡ caller.old.number }
         ensures index { caller.new.index ≡ next_index caller.old.index }
-        ensures done { IsDone result (λ placed. AtLast (λ before after. Answers (call.Get name) caller.old.index
-            before (once.Done placed) after) (seen_by caller.old) (seen_by caller.new)) }
+        ensures done { IsDone result (λ placed. AtLast (TurnedBack (Answers (call.Get name) caller.old.index)
+            DoesNothing) (λ before after. Answers (call.Get name) caller.old.index before (once.Done placed) after)
+            (seen_by caller.old) (seen_by caller.new)) }
         ensures spare { spare_of caller.old ≤ spare_of caller.new }
     {
         let mut pace = Pace::begin(gate, caller.number, caller.index);
@@ -76,8 +78,9 @@ impl Shared {
         ensures caller { IsCallerOf self.now caller.new }
         ensures number { caller.new.number ≡ caller.old.number }
         ensures index { caller.new.index ≡ next_index caller.old.index }
-        ensures done { IsDone result (λ words. AtLast (λ before after. PartAnswers low.now count caller.old.index
-            before (once.Done words) after) (seen_by caller.old) (seen_by caller.new)) }
+        ensures done { IsDone result (λ words. AtLast (TurnedBack (PartAnswers low.now count caller.old.index)
+            DoesNothing) (λ before after. PartAnswers low.now count caller.old.index before (once.Done words) after)
+            (seen_by caller.old) (seen_by caller.new)) }
         ensures spare { spare_of caller.old ≤ spare_of caller.new }
     {
         self.part_at(rt, caller, *low, count, &OpenGate)
@@ -97,8 +100,9 @@ impl Shared {
         ensures caller { IsCallerOf self.now caller.new }
         ensures number { caller.new.number ≡ caller.old.number }
         ensures index { caller.new.index ≡ next_index caller.old.index }
-        ensures done { IsDone result (λ words. AtLast (λ before after. PartAnswers low count caller.old.index
-            before (once.Done words) after) (seen_by caller.old) (seen_by caller.new)) }
+        ensures done { IsDone result (λ words. AtLast (TurnedBack (PartAnswers low count caller.old.index) DoesNothing)
+            (λ before after. PartAnswers low count caller.old.index before (once.Done words) after)
+            (seen_by caller.old) (seen_by caller.new)) }
         ensures spare { spare_of caller.old ≤ spare_of caller.new }
     {
         let mut pace = Pace::begin(gate, caller.number, caller.index);
@@ -119,8 +123,9 @@ impl Shared {
         ensures caller { IsCallerOf self.now caller.new }
         ensures number { caller.new.number ≡ caller.old.number }
         ensures index { caller.new.index ≡ next_index caller.old.index }
-        ensures done { IsDone result (λ words. AtLast (λ before after. PartAnswers low count caller.old.index
-            before (once.Done words) after) (seen_by caller.old) (seen_by caller.new)) }
+        ensures done { IsDone result (λ words. AtLast (TurnedBack (PartAnswers low count caller.old.index) DoesNothing)
+            (λ before after. PartAnswers low count caller.old.index before (once.Done words) after)
+            (seen_by caller.old) (seen_by caller.new)) }
         ensures spare { spare_of caller.old ≤ spare_of caller.new }
     {
         for _ in rt.forever() {

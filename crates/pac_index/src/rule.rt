@@ -2,8 +2,9 @@
 
 use atomic_table::{Join, Play, Split, TableRule};
 use cat_history::{Listed, Write};
-use cat_key::Pair;
+use cat_key::{Name, Pair};
 use index_core::{CoreCall, PartyState};
+use node_ops::PartWords;
 use pm_words::{Layout, Memory};
 use std::collections::LinkedList;
 use std::marker::{Brand, PhantomData};
@@ -18,9 +19,18 @@ pub struct About {
     pub opened: Memory,
 }
 
+/// A part of a range scan that a caller was answered: from which name on it listed how many names at most, and what it
+/// told. No value of it is made.
+pub struct AnsweredPart {
+    pub low: Name,
+    pub count: u64,
+    pub words: PartWords,
+}
+
 /// What a seat knows of one of its parties: its call, the writes that it has seen, the numbers that the call in flight,
 /// or else the last one, was told, how many steps it has made in all, how many of its puts that were answered had added
-/// a name, and whether a turn of it has found no node FREE. No value of it is made.
+/// a name, whether a turn of it has found no node FREE, and the parts of range scans that it was answered. No value of
+/// it is made.
 pub struct Member {
     pub about: About,
     pub state: PartyState,
@@ -29,6 +39,7 @@ pub struct Member {
     pub taken: u64,
     pub added: u64,
     pub none_free: bool,
+    pub known: Listed<AnsweredPart>,
 }
 
 /// What a seat knows: its parties.
@@ -142,6 +153,37 @@ impl Outcome for NextTurnStep {
     ghost use Rattle.pac_index.specs.Turns.{TellsTurn};
 
     ghost tells = { TellsTurn };
+}
+
+/// The first step of a recheck.
+pub struct FirstRecheckStep;
+
+impl Outcome for FirstRecheckStep {
+    ghost use Rattle.pac_index.specs.Rechecked.{StartsRecheck};
+
+    ghost tells = { StartsRecheck };
+}
+
+/// The node of a recheck, which the proof of the recheck picks.
+pub trait ChecksNode {
+    ghost use Rattle.std.specs.Prelude.{ℕ};
+
+    ghost node: { ℕ };
+}
+
+impl ChecksNode for Brand {
+    ghost node = { 0 };
+}
+
+/// The last step of a recheck, of the node that was chosen.
+pub struct LastRecheckStep<N: ChecksNode> {
+    chosen: PhantomData<N>,
+}
+
+impl<N: ChecksNode> Outcome for LastRecheckStep<N> {
+    ghost use Rattle.pac_index.specs.Rechecked.{EndsRecheck};
+
+    ghost tells = { EndsRecheck N.node };
 }
 
 /// The load by which a seat comes that has no party.

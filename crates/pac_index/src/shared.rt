@@ -156,7 +156,7 @@ impl Shared {
     }
 
     /// How the calls of this caller see the index.
-    fn view(&self, number: u64) -> View
+    pub(crate) fn view(&self, number: u64) -> View
         requires { number < self.now.about.layout.callers }
         ensures view { result ≡ record {
           layout = self.now.about.layout;

@@ -77,8 +77,8 @@ impl Shared {
         self.run_turn(&mut caller.seat, &mut caller.pins, pace)
     }
 
-    /// A turn by the seat's party, from its first step to its answer, with the gate before each step on the index. Between
-    /// the first step, by which it takes the updater lock, and the next one it steps on the epoch.
+    /// A turn by the seat's party, from its first step to its answer, with the gate before each step on the index.
+    /// Between the first step, by which it takes the updater lock, and the next one it steps on the epoch.
     fn run_turn<G: Gate>(
         &self,
         seat: &mut Seat<(), Members>,
@@ -133,8 +133,8 @@ impl Shared {
         self.act::<FirstTurnStep>(seat, TakeTurn::new(self.about.layout).action())
     }
 
-    /// Tries once to advance the epoch, and loads it, for a turn that has the updater lock and has done nothing under it: so
-    /// the epoch stands still until that turn gives the lock back.
+    /// Tries once to advance the epoch, and loads it, for a turn that has the updater lock and has done nothing under it:
+    /// so the epoch stands still until that turn gives the lock back.
     fn date_turn(
         &self,
         seat: &Seat<(), Members>,

@@ -6,9 +6,10 @@ ghost use Rattle.index_core.specs.CoreCalls.{MayBegin, most_writes};
 ghost use Rattle.index_core.specs.PartyStates.{next_index};
 ghost use Rattle.pac_index.specs.Calls.{Answers, own_of};
 ghost use Rattle.pac_index.specs.Callers.{IsCallerOf, spare_of, seen_by};
-ghost use Rattle.pac_index.specs.Ends.{AtLast, HasOnlyRead};
-ghost use Rattle.pac_index.specs.Turns.{HasTurned};
-ghost use Rattle.pac_index.specs.Writes.{EndsSo, FoundFull, TriedSo, TurnedForRoom, lacks_line, lacks_node};
+ghost use Rattle.pac_index.specs.Ends.{AtLast};
+ghost use Rattle.pac_index.specs.Turns.{HasMadeTurn};
+ghost use Rattle.pac_index.specs.Writes.{EndsSo, FoundFull, TriedSo, TurnedForRoom, WriteBack};
+ghost use Rattle.pac_index.specs.Writes.{lacks_line, lacks_node};
 
 use crate::caller::Caller;
 use crate::ended::Ended;
@@ -56,8 +57,9 @@ impl Shared {
         ensures caller { IsCallerOf self.now caller.new }
         ensures number { caller.new.number ≡ caller.old.number }
         ensures index { caller.new.index ≡ next_index caller.old.index }
-        ensures ends { EndsSo result (λ answer. AtLast (λ before after. Answers (call.Put name.now value limit)
-            caller.old.index before answer after) (seen_by caller.old) (seen_by caller.new))
+        ensures ends { EndsSo result (λ answer. AtLast (WriteBack (call.Put name.now value limit)
+            caller.old.index) (λ before after. Answers (call.Put name.now value limit) caller.old.index before answer
+            after) (seen_by caller.old) (seen_by caller.new))
             (FoundFull (call.Put name.now value limit) caller.old.index (seen_by caller.old) (seen_by caller.new)) }
         ensures spare { EndsSo result (λ answer. spare_of caller.old ≤ spare_of caller.new + length
             (own_of caller.old (call.Put name.now value limit) answer)) (spare_of caller.old ≤ spare_of caller.new) }
@@ -81,8 +83,9 @@ impl Shared {
         ensures caller { IsCallerOf self.now caller.new }
         ensures number { caller.new.number ≡ caller.old.number }
         ensures index { caller.new.index ≡ next_index caller.old.index }
-        ensures ends { EndsSo result (λ answer. AtLast (λ before after. Answers (call.Del name.now limit)
-            caller.old.index before answer after) (seen_by caller.old) (seen_by caller.new)) ⊥ }
+        ensures ends { EndsSo result (λ answer. AtLast (WriteBack (call.Del name.now limit) caller.old.index)
+            (λ before after. Answers (call.Del name.now limit) caller.old.index before answer after)
+            (seen_by caller.old) (seen_by caller.new)) ⊥ }
         ensures spare { EndsSo result (λ answer. spare_of caller.old ≤ spare_of caller.new + length
             (own_of caller.old (call.Del name.now limit) answer)) ⊥ }
     {
@@ -105,8 +108,8 @@ impl Shared {
         ensures caller { IsCallerOf self.now caller.new }
         ensures number { caller.new.number ≡ caller.old.number }
         ensures index { caller.new.index ≡ next_index caller.old.index }
-        ensures ends { EndsSo result (λ answer. AtLast (λ before after. Answers call caller.old.index before answer
-            after) (seen_by caller.old) (seen_by caller.new))
+        ensures ends { EndsSo result (λ answer. AtLast (WriteBack call caller.old.index) (λ before after. Answers call
+            caller.old.index before answer after) (seen_by caller.old) (seen_by caller.new))
             (FoundFull call caller.old.index (seen_by caller.old) (seen_by caller.new)) }
         ensures spare { EndsSo result (λ answer. spare_of caller.old ≤ spare_of caller.new + length
             (own_of caller.old call answer)) (spare_of caller.old ≤ spare_of caller.new) }
@@ -147,7 +150,7 @@ impl Shared {
         ensures index { TriedSo result (λ answer. caller.new.index ≡ next_index caller.old.index)
             (caller.new.index ≡ caller.old.index) (λ none_free. caller.new.index ≡ caller.old.index) }
         ensures tried { TriedSo result (λ answer. Answers call.now caller.old.index (seen_by caller.old) answer
-            (seen_by caller.new)) (HasOnlyRead (seen_by caller.old) (seen_by caller.new))
+            (seen_by caller.new)) (WriteBack call.now caller.old.index (seen_by caller.old) (seen_by caller.new))
             (λ none_free. TurnedForRoom call.now caller.old.index none_free (seen_by caller.old) (seen_by caller.new)) }
         ensures spare { TriedSo result (λ answer. spare_of caller.old ≤ spare_of caller.new + length
             (own_of caller.old call.now answer)) (spare_of caller.old ≤ spare_of caller.new)
@@ -179,7 +182,7 @@ impl Shared {
         ensures caller { IsCallerOf self.now caller.new }
         ensures same { (caller.new.number ≡ caller.old.number) × (caller.new.index ≡ caller.old.index) ×
             (caller.new.kept ≡ caller.old.kept) }
-        ensures turned { AtLast (HasTurned result) (seen_by caller.old) (seen_by caller.new) }
+        ensures turned { HasMadeTurn result (seen_by caller.old) (seen_by caller.new) }
     {
         let Ended::Done(turned) = self.turn_at_pace(rt, caller, pace) else {
             unreachable!()

@@ -118,3 +118,71 @@ fn a_caller_alone_is_answered_as_by_a_map(rt: HostRuntime) -> Result<(), Fail> {
     assert!(rt; told == Some([of(1, 0), of(2, 2)]));
     Ok(())
 }
+
+/// At which place a recheck tells that the node of a part is the same still, if it does.
+fn rechecked(shared: &Shared, caller: &mut Caller, words: &PartWords) -> Option<u64>
+    requires { IsCallerOf shared.now caller.old × (caller.old.number < shared.now.about.layout.callers) }
+    ensures { IsCallerOf shared.now caller.new × (caller.new.number ≡ caller.old.number) }
+{
+    if words.node >= shared.layout().nodes() {
+        return None;
+    }
+    match shared.recheck_once(caller, words.node, words.version) {
+        Tried::Answered(Once::Done(same)) => Some(same.place),
+        _ => None,
+    }
+}
+
+/// A put, and whether it took place.
+fn put(shared: &Shared, caller: &mut Caller, name: &Name) -> Option<()>
+    requires { IsCallerOf shared.now caller.old × (caller.old.number < shared.now.about.layout.callers) }
+    ensures { IsCallerOf shared.now caller.new × (caller.new.number ≡ caller.old.number) }
+{
+    caller.reserve(1).ok()?;
+    match shared.put_once(caller, name, 1, LIMIT) {
+        Tried::Answered(Once::Done(_)) => Some(()),
+        _ => None,
+    }
+}
+
+/// A part of a name's node, and rechecks of it: at once, behind a get, and behind a put of the name.
+fn rechecks(shared: &Shared, caller: &mut Caller, name: &Name) -> Option<[Option<u64>; 3]>
+    requires { IsCallerOf shared.now caller.old × (caller.old.number < shared.now.about.layout.callers) }
+    ensures { IsCallerOf shared.now caller.new × (caller.new.number ≡ caller.old.number) }
+{
+    put(shared, caller, name)?;
+    let words = match shared.part_once(caller, name, 3) {
+        Tried::Answered(Once::Done(words)) => words,
+        _ => return None,
+    };
+    let at_once = rechecked(shared, caller, &words);
+    shared.get_once(caller, name);
+    let behind_get = rechecked(shared, caller, &words);
+    put(shared, caller, name)?;
+    let behind_put = rechecked(shared, caller, &words);
+    Some([at_once, behind_get, behind_put])
+}
+
+/// These on a fresh index.
+fn rechecks_told(
+    alloc: Global,
+    layout: Layout,
+    name: &Name,
+) -> Result<Option<[Option<u64>; 3]>, NoMemory>
+    requires layout { IsLayout layout }
+{
+    let core = fresh(alloc, layout)?;
+    let (shared, mut callers) = Shared::new(alloc, core)?;
+    take_last(&shared, &mut callers);
+    let mut caller = take_last(&shared, &mut callers);
+    Ok(rechecks(&shared, &mut caller, name))
+}
+
+#[test]
+fn a_recheck_tells_whether_its_node_was_changed(rt: HostRuntime) -> Result<(), Fail> {
+    let name = Name::read(b"a").ok().ok_or("a")?;
+    let layout = Layout::new(2, 4, 1)?;
+    let told = rechecks_told(rt.alloc(), layout, &name)?;
+    assert!(rt; told == Some([Some(1), Some(1), None]));
+    Ok(())
+}

@@ -40,8 +40,8 @@ use Rattle.pac_index.specs.declared.ended.Ended.{Ended}
 use Rattle.pac_index.specs.declared.ended.Ended.TheVariants as ended
 use Rattle.pac_index.specs.Kept.{Begins, placed_by, noted}
 use Rattle.pac_index.specs.Calls.{Answers, own_at}
-use Rattle.pac_index.specs.Ends.{AtLast, HasOnlyRead, IsDone}
-use Rattle.pac_index.specs.Writes.{EndsSo, FoundFull}
+use Rattle.pac_index.specs.Ends.{AtLast, DoesNothing, HasOnlyRead, IsDone, TurnedBack}
+use Rattle.pac_index.specs.Writes.{EndsSo, FoundFull, WriteBack}
 use Rattle.pac_index.specs.Scanned.{AreScanned}
 use Rattle.pac_index.proofs.Lists.{begins_le, begins_trans}
 use Rattle.thread_rounds.specs.Made.{reply_told, made, IsMade}
@@ -101,18 +101,18 @@ parts-full parts cut is = cc
 
 module _ (c : CoreCall) (limit caller index : ℕ) (old new : Member) (mine : old.state.caller ≡ caller) (own_limit : (change : Change) → change_of (op_of c) ≡ Some change → limit_of c ≡ Some limit) where
   -- what an answer says, in the words of the caller's first view
-  says-is : (answer : Once Placed) (is : AtLast (λ before after. Answers c index before answer after) old new)
+  says-is : {B : Member → Member → Type 0} (answer : Once Placed) (is : AtLast B (λ before after. Answers c index before answer after) old new)
       → IsAnswerOf old.about.layout.slots (map_of old.about.base) new.seen (record is.before.state { index = index; since = length is.before.seen }) (op_of c) (limit_of c) answer
   says-is answer is = subst (λ (a : About). IsAnswerOf a.layout.slots (map_of a.base) new.seen (record is.before.state { index = index; since = length is.before.seen }) (op_of c) (limit_of c) answer) is.back.about is.last.says
 
-  own-is : (answer : Once Placed) (is : AtLast (λ before after. Answers c index before answer after) old new)
+  own-is : {B : Member → Member → Type 0} (answer : Once Placed) (is : AtLast B (λ before after. Answers c index before answer after) old new)
       → placed_by caller new.seen ≡ placed_by caller old.seen ++ own_at caller index (change_of (op_of c)) (place_told (change_of (op_of c)) answer)
   own-is answer is =
       let same : is.before.state.caller ≡ caller = is.back.caller ∙ mine in
       subst (λ (k : ℕ). placed_by k new.seen ≡ placed_by k is.before.seen ++ own_at k index (change_of (op_of c)) (place_told (change_of (op_of c)) answer)) same is.last.own
       ∙ ap (λ (l : List (ℕ × Write)). l ++ own_at caller index (change_of (op_of c)) (place_told (change_of (op_of c)) answer)) (subst (λ (k : ℕ). placed_by k is.before.seen ≡ placed_by k old.seen) mine is.back.own)
 
-  pub done-made : (placed : Placed) → AtLast (λ before after. Answers c index before (once.Done placed) after) old new → IsMade limit caller index (as_op (op_of c)) (reply.Old placed.old placed.place) old new
+  pub done-made : {B : Member → Member → Type 0} (placed : Placed) → AtLast B (λ before after. Answers c index before (once.Done placed) after) old new → IsMade limit caller index (as_op (op_of c)) (reply.Old placed.old placed.place) old new
   done-made placed is =
       let says = says-is (once.Done placed) is in
       let longer = begins_le old.seen is.before.seen is.back.seen in
@@ -140,7 +140,7 @@ module _ (c : CoreCall) (limit caller index : ℕ) (old new : Member) (mine : ol
   spent-write (name_op.Del name) lim clock since until own none is = ((tt, subst (λ (l : Option ℕ). IsSomeAnd l (λ most. most ≤ clock)) (own _ refl) is.reached), refl, refl)
   spent-write (name_op.Get name) lim clock since until own none is = absurd (subst (λ (l : Option ℕ). IsSomeAnd l (λ most. most ≤ clock)) (none refl) is.reached)
 
-  spent-made : (change_of (op_of c) ≡ None → limit_of c ≡ None) → (clock : ℕ) → AtLast (λ before after. Answers c index before (once.Spent clock) after) old new → IsMade limit caller index (as_op (op_of c)) (reply.Spent clock) old new
+  spent-made : {B : Member → Member → Type 0} → (change_of (op_of c) ≡ None → limit_of c ≡ None) → (clock : ℕ) → AtLast B (λ before after. Answers c index before (once.Spent clock) after) old new → IsMade limit caller index (as_op (op_of c)) (reply.Spent clock) old new
   spent-made none clock is =
       let says = says-is (once.Spent clock) is in
       let longer = begins_le old.seen is.before.seen is.back.seen in
@@ -188,7 +188,7 @@ no-delete-full name limit index old new is = (is.last.last.refused.says refl).0
 -- ---- calls by what they are
 
 pub put-made : (name : List ℕ) (value limit caller index : ℕ) (old new : Member) → old.state.caller ≡ caller → (end : Ended Placed)
-    → EndsSo end (λ answer. AtLast (λ before after. Answers (call.Put name value limit) index before answer after) old new) (FoundFull (call.Put name value limit) index old new)
+    → EndsSo end (λ answer. AtLast (WriteBack (call.Put name value limit) index) (λ before after. Answers (call.Put name value limit) index before answer after) old new) (FoundFull (call.Put name value limit) index old new)
     → IsMade limit caller index (op.Put name value) (reply_told end) old new
 put-made name value limit caller index old new mine (ended.Done placed) is = done-made (call.Put name value limit) limit caller index old new mine (λ _ _. refl) placed is
 put-made name value limit caller index old new mine (ended.Spent clock) is = spent-made (call.Put name value limit) limit caller index old new mine (λ _ _. refl) (λ none. absurd (cc)) clock is
@@ -196,7 +196,7 @@ put-made name value limit caller index old new mine ended.Full is = full-made na
 put-made name value limit caller index old new mine ended.Cut is = absurd is
 
 pub del-made : (name : List ℕ) (limit caller index : ℕ) (old new : Member) → old.state.caller ≡ caller → (end : Ended Placed)
-    → EndsSo end (λ answer. AtLast (λ before after. Answers (call.Del name limit) index before answer after) old new) (FoundFull (call.Del name limit) index old new)
+    → EndsSo end (λ answer. AtLast (WriteBack (call.Del name limit) index) (λ before after. Answers (call.Del name limit) index before answer after) old new) (FoundFull (call.Del name limit) index old new)
     → IsMade limit caller index (op.Del name) (reply_told end) old new
 del-made name limit caller index old new mine (ended.Done placed) is = done-made (call.Del name limit) limit caller index old new mine (λ _ _. refl) placed is
 del-made name limit caller index old new mine (ended.Spent clock) is = spent-made (call.Del name limit) limit caller index old new mine (λ _ _. refl) (λ none. absurd (cc)) clock is
@@ -205,7 +205,7 @@ del-made name limit caller index old new mine ended.Cut is = absurd is
 
 -- a put or a delete, whichever it is
 pub write-made : (c : CoreCall) (limit caller index : ℕ) (old new : Member) → most_writes c ≡ 1 → limit_of c ≡ Some limit → old.state.caller ≡ caller → (end : Ended Placed)
-    → EndsSo end (λ answer. AtLast (λ before after. Answers c index before answer after) old new) (FoundFull c index old new)
+    → EndsSo end (λ answer. AtLast (WriteBack c index) (λ before after. Answers c index before answer after) old new) (FoundFull c index old new)
     → IsMade limit caller index (as_op (op_of c)) (reply_told end) old new
 write-made (call.Put name value most) limit caller index old new writes own mine end is =
     subst (λ (l : ℕ). IsMade l caller index (op.Put name value) (reply_told end) old new) (let e : Some most ≡ Some limit = own in some-is e) (put-made name value most caller index old new mine end is)
@@ -223,7 +223,7 @@ write-made (call.Recheck node version) limit caller index old new writes own min
 write-made (call.Turn stamp release) limit caller index old new writes own mine end is = absurd (omega arith)
 
 pub get-made : (name : List ℕ) (limit caller index : ℕ) (old new : Member) → old.state.caller ≡ caller → (end : Ended Placed)
-    → IsDone end (λ placed. AtLast (λ before after. Answers (call.Get name) index before (once.Done placed) after) old new)
+    → IsDone end (λ placed. AtLast (TurnedBack (Answers (call.Get name) index) DoesNothing) (λ before after. Answers (call.Get name) index before (once.Done placed) after) old new)
     → IsMade limit caller index (op.Get name) (reply_told end) old new
 get-made name limit caller index old new mine (ended.Done placed) is = done-made (call.Get name) limit caller index old new mine (λ change asks. absurd (let none : None ≡ Some change = asks in cc)) placed is
 get-made name limit caller index old new mine (ended.Spent clock) is = absurd is

@@ -1,7 +1,16 @@
-use Rattle.std.proofs.Common.{◌≤◌, sym, ◌∙◌, arith}
+use Rattle.std.proofs.Common.{◌≤◌, refl, sym, ◌∙◌, arith}
 use Rattle.pac_index.specs.Callers.{spare_of, seen_by}
-use Rattle.pac_index.proofs.Repeating.{part_again, none_else}
+use Rattle.pac_index.proofs.Repeating.{PartBack, tries_begin, part_again, none_else}
 use Rattle.pac_index.proofs.shared.Shared.part_at_pace.Goals as goal
+
+pub loop-init : goal.loop-init
+loop-init g c =
+    let old = c.args.caller.now in (
+      c.requires.caller,
+      refl,
+      omega arith,
+      tries_begin (PartBack c.args.low c.args.count old.index) old.index (seen_by old),
+    )
 
 pub loop-preserved : goal.loop-preserved
 loop-preserved g c =

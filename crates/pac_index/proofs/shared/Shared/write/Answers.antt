@@ -1,9 +1,18 @@
-use Rattle.std.proofs.Common.{◌≤◌, ◌∙◌, sym, ℕ, Bool, subst, arith}
+use Rattle.std.proofs.Common.{◌≤◌, ◌∙◌, sym, ℕ, Bool, refl, subst, arith}
 use Rattle.pac_index.specs.Callers.{seen_by}
 use Rattle.pac_index.specs.Writes.{TurnedForRoom}
-use Rattle.pac_index.proofs.Writing.{Writing, writing_ends, writing_back, writing_turned, found_full}
+use Rattle.pac_index.proofs.Writing.{Writing, writing_begins, writing_ends, writing_back, writing_turned, found_full}
 use Rattle.pac_index.proofs.shared.Shared.write.Goals as goal
 use Rattle.pac_index.proofs.shared.Shared.write.Goals.{in-Back, in-NoRoom+else-none_free}
+
+pub loop-init : goal.loop-init
+loop-init g c =
+    let old = c.args.caller.now in (
+      c.requires.caller,
+      refl,
+      omega arith,
+      writing_begins c.args.call old.index (seen_by old),
+    )
 
 pub returns-in-Ended-clause-ends : goal.returns-in-Ended-clause-ends
 returns-in-Ended-clause-ends g c =
