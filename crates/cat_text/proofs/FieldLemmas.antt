@@ -22,7 +22,7 @@ all_append P [] ys a b = b
 all_append P (x ∷ xs) ys a b = (a.0, all_append P xs ys a.1 b)
 
 -- two texts, each with a byte behind it that no field has, are cut alike
-cut : (a b : List ℕ) (s t : ℕ) (x y : List ℕ) → IsField a → IsField b → s ≤ 32 → t ≤ 32 → a ++ s ∷ x ≡ b ++ t ∷ y → (a ≡ b) × (s ≡ t) × (x ≡ y)
+pub cut : (a b : List ℕ) (s t : ℕ) (x y : List ℕ) → IsField a → IsField b → s ≤ 32 → t ≤ 32 → a ++ s ∷ x ≡ b ++ t ∷ y → (a ≡ b) × (s ≡ t) × (x ≡ y)
 cut [] [] s t x y all all' low low' is = (refl, cc, cc)
 cut [] (d ∷ b) s t x y all all' low low' is = let same : s ≡ d = cc in absurd (omega (arith, same, low, all'.0))
 cut (c ∷ a) [] s t x y all all' low low' is = let same : c ≡ t = cc in absurd (omega (arith, same, low', all.0))
@@ -37,21 +37,21 @@ apart m n same (inl less) = omega (arith, same, less)
 apart m n same (inr less) = omega (arith, same, less)
 
 -- what follows the first field of a line
-abbrev behind : List (List ℕ) → List ℕ → List ℕ
+abbrev pub behind : List (List ℕ) → List ℕ → List ℕ
 behind [] tail = 10 ∷ tail
 behind (field ∷ more) tail = 32 ∷ (field ++ behind more tail)
 
-behind_is : (more : List (List ℕ)) (tail : List ℕ) → flat_map (λ next. codes " " ++ next) more ++ (10 ∷ tail) ≡ behind more tail
+pub behind_is : (more : List (List ℕ)) (tail : List ℕ) → flat_map (λ next. codes " " ++ next) more ++ (10 ∷ tail) ≡ behind more tail
 behind_is [] tail = refl
 behind_is (field ∷ more) tail =
     ap (λ l. 32 ∷ l) (append_assoc field (flat_map (λ next. codes " " ++ next) more) (10 ∷ tail) ∙ ap (λ l. field ++ l) (behind_is more tail))
 
-line_behind : (field : List ℕ) (more : List (List ℕ)) (tail : List ℕ) → line_text (field ∷ more) ++ tail ≡ field ++ behind more tail
+pub line_behind : (field : List ℕ) (more : List (List ℕ)) (tail : List ℕ) → line_text (field ∷ more) ++ tail ≡ field ++ behind more tail
 line_behind field more tail =
     let spaced = flat_map (λ next. codes " " ++ next) more in
     append_assoc (field ++ spaced) (codes "\n") tail ∙ append_assoc field spaced (10 ∷ tail) ∙ ap (λ l. field ++ l) (behind_is more tail)
 
-fields_one : (f g : List ℕ) (fs gs : List (List ℕ)) (x y : List ℕ) → IsField f → IsField g → AllByRecursion IsField fs → AllByRecursion IsField gs →
+pub fields_one : (f g : List ℕ) (fs gs : List (List ℕ)) (x y : List ℕ) → IsField f → IsField g → AllByRecursion IsField fs → AllByRecursion IsField gs →
     f ++ behind fs x ≡ g ++ behind gs y → (f ≡ g) × (fs ≡ gs) × (x ≡ y)
 fields_one f g [] [] x y a b each each' is = let c = cut f g 10 10 x y a b (omega arith) (omega arith) is in (c.0, refl, c.2)
 fields_one f g [] (k ∷ gs) x y a b each each' is =
@@ -64,7 +64,7 @@ fields_one f g (h ∷ fs) (k ∷ gs) x y a b each each' is =
     (c.0, (λ i. rest.0 i ∷ rest.1 i), rest.2)
 
 -- a line has a byte
-no_line : (field : List ℕ) (more : List (List ℕ)) (tail : List ℕ) → [] ≡ field ++ behind more tail → ⊥
+pub no_line : (field : List ℕ) (more : List (List ℕ)) (tail : List ℕ) → [] ≡ field ++ behind more tail → ⊥
 no_line [] [] tail same = omega (arith, ap length same)
 no_line [] (next ∷ more) tail same = omega (arith, ap length same)
 no_line (c ∷ field) more tail same = omega (arith, ap length same)

@@ -1,6 +1,6 @@
-mod FieldLemmas
+pub mod FieldLemmas
 mod ReportTexts
-mod ReplyLaws
+pub mod ReplyLaws
 pub mod ReportLaws
 pub mod LoneReports
 pub mod OutsideLemmas

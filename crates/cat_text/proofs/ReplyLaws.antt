@@ -51,7 +51,7 @@ op_one (Scan from count) (Scan from' count') x y is is' same =
     ((λ i. Scan (names i) (values i)), cc)
 
 -- a number or none
-old_one : (a b : Option ℕ) → IfSome a (λ value. value < 2 ^ 64) → IfSome b (λ value. value < 2 ^ 64) → old_text a ≡ old_text b → a ≡ b
+pub old_one : (a b : Option ℕ) → IfSome a (λ value. value < 2 ^ 64) → IfSome b (λ value. value < 2 ^ 64) → old_text a ≡ old_text b → a ≡ b
 old_one None None is is' same = refl
 old_one None (Some b) is is' same =
     let e : 110 ≡ get_or (decimal b) 0 0 = ap (λ (s : List ℕ). get_or s 0 0) same in absurd (omega (arith, e, number_begins b is'))
@@ -59,14 +59,14 @@ old_one (Some a) None is is' same =
     let e : get_or (decimal a) 0 0 ≡ 110 = ap (λ (s : List ℕ). get_or s 0 0) same in absurd (omega (arith, e, number_begins a is))
 old_one (Some a) (Some b) is is' same = ap Some (decimal_injective a b is is' same)
 
-old_begins : (a : Option ℕ) → IfSome a (λ value. value < 2 ^ 64) → (get_or (old_text a) 0 0 ≤ 57) ⊎ (get_or (old_text a) 0 0 ≡ 110)
+pub old_begins : (a : Option ℕ) → IfSome a (λ value. value < 2 ^ 64) → (get_or (old_text a) 0 0 ≤ 57) ⊎ (get_or (old_text a) 0 0 ≡ 110)
 old_begins None is = inr refl
 old_begins (Some a) is = inl (number_begins a is).1
 
-place_one : (a b : ℕ) → a < 2 ^ 64 → b < 2 ^ 64 → place_field a ≡ place_field b → a ≡ b
+pub place_one : (a b : ℕ) → a < 2 ^ 64 → b < 2 ^ 64 → place_field a ≡ place_field b → a ≡ b
 place_one a b is is' same = decimal_injective a b is is' (append_cancel_left (codes "@") (decimal a) (decimal b) same)
 
-mark_one : (op : Op) (a b : CutMark) → IsReportMark op a → IsReportMark op b → mark_fields a ≡ mark_fields b → a ≡ b
+pub mark_one : (op : Op) (a b : CutMark) → IsReportMark op a → IsReportMark op b → mark_fields a ≡ mark_fields b → a ≡ b
 mark_one op (At p) (At q) is is' same = ap At (place_one p q is.1 is'.1 (ap (λ (l : List (List ℕ)). get_or l 0 []) same))
 mark_one op (At p) Open is is' same = absurd is'
 mark_one op (At p) Found is is' same = absurd (apart 64 102 (ap lead same) (inl (omega arith)))
@@ -93,13 +93,13 @@ mark_one op Read Found is is' same = absurd (apart 0 102 (ap lead same) (inl (om
 mark_one op Read Lost is is' same = absurd (apart 0 108 (ap lead same) (inl (omega arith)))
 mark_one op Read Read is is' same = refl
 
-high_one : (a b : Option (List ℕ)) (x y : List (List ℕ)) → high_fields a ++ x ≡ high_fields b ++ y → (a ≡ b) × (x ≡ y)
+pub high_one : (a b : Option (List ℕ)) (x y : List (List ℕ)) → high_fields a ++ x ≡ high_fields b ++ y → (a ≡ b) × (x ≡ y)
 high_one None None x y same = (refl, cc)
 high_one None (Some b) x y same = absurd (apart 101 116 (ap lead same) (inl (omega arith)))
 high_one (Some a) None x y same = absurd (apart 116 101 (ap lead same) (inr (omega arith)))
 high_one (Some a) (Some b) x y same = let names : a ≡ b = cc in (ap Some names, cc)
 
-pairs_one : (a b : List Pair) → AllByRecursion IsReportPair a → AllByRecursion IsReportPair b → flat_map pair_fields a ≡ flat_map pair_fields b → a ≡ b
+pub pairs_one : (a b : List Pair) → AllByRecursion IsReportPair a → AllByRecursion IsReportPair b → flat_map pair_fields a ≡ flat_map pair_fields b → a ≡ b
 pairs_one [] [] is is' same = refl
 pairs_one [] (q ∷ b) is is' same = absurd (omega (arith, ap length same))
 pairs_one (p ∷ a) [] is is' same = absurd (omega (arith, ap length same))
@@ -111,7 +111,7 @@ pairs_one (p ∷ a) (q ∷ b) is is' same =
     let rest = pairs_one a b is.1 is'.1 tails in
     λ i. record { name = names i; value = values i } ∷ rest i
 
-part_one : (a b : ScanPart) → IsReportPart a → IsReportPart b → part_fields a ≡ part_fields b → a ≡ b
+pub part_one : (a b : ScanPart) → IsReportPart a → IsReportPart b → part_fields a ≡ part_fields b → a ≡ b
 part_one a b is is' same =
     let lows : a.low ≡ b.low = cc in
     let more : high_fields a.high ++ place_field a.place ∷ flat_map pair_fields a.pairs ≡ high_fields b.high ++ place_field b.place ∷ flat_map pair_fields b.pairs = cc in
@@ -121,7 +121,7 @@ part_one a b is is' same =
     let pairs = pairs_one a.pairs b.pairs (recursion_from_All IsReportPair a.pairs is.pairs) (recursion_from_All IsReportPair b.pairs is'.pairs) listed in
     λ i. record { low = lows i; high = highs.0 i; place = places i; pairs = pairs i }
 
-parts_one : (a b : List ScanPart) (x y : List (List (List ℕ))) → length a ≡ length b → AllByRecursion IsReportPart a → AllByRecursion IsReportPart b →
+pub parts_one : (a b : List ScanPart) (x y : List (List (List ℕ))) → length a ≡ length b → AllByRecursion IsReportPart a → AllByRecursion IsReportPart b →
     map part_fields a ++ x ≡ map part_fields b ++ y → (a ≡ b) × (x ≡ y)
 parts_one [] [] x y long is is' same = (refl, same)
 parts_one [] (q ∷ b) x y long is is' same = absurd (omega (arith, long))
@@ -133,7 +133,7 @@ parts_one (p ∷ a) (q ∷ b) x y long is is' same =
     let rest = parts_one a b x y (omega (arith, long)) is.1 is'.1 tails in
     ((λ i. first i ∷ rest.0 i), rest.1)
 
-cut_one : (a b : Bool) → cut_fields a ≡ cut_fields b → a ≡ b
+pub cut_one : (a b : Bool) → cut_fields a ≡ cut_fields b → a ≡ b
 cut_one false false same = refl
 cut_one false true same = absurd (apart 1 2 (ap length same) (inl (omega arith)))
 cut_one true false same = absurd (apart 2 1 (ap length same) (inr (omega arith)))

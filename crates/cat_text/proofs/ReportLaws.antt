@@ -61,7 +61,7 @@ pairs_have_fields : (pairs : List Pair) → AllByRecursion IsReportPair pairs �
 pairs_have_fields [] is = tt
 pairs_have_fields (pair ∷ pairs) is = (name_is_field pair.name is.0.0, (number_is_field pair.value is.0.1, pairs_have_fields pairs is.1))
 
-part_is_line : (part : ScanPart) → IsReportPart part → IsLine (part_fields part)
+pub part_is_line : (part : ScanPart) → IsReportPart part → IsLine (part_fields part)
 part_is_line part is =
     let listed = pairs_have_fields part.pairs (recursion_from_All IsReportPair part.pairs is.pairs) in (
       search arith,
@@ -84,7 +84,7 @@ reply_has_lines op (Spent clock) is = tt
 reply_has_lines op (Cut mark) is = tt
 reply_has_lines op Unstarted is = tt
 
-record_is_line : (r : Record) → IsReportRecord r → IsLine (record_fields r)
+pub record_is_line : (r : Record) → IsReportRecord r → IsLine (record_fields r)
 record_is_line r is =
     let low : r.caller < 2 ^ 64 = omega (arith, is.caller) in (
       number_is_field r.caller low,
@@ -101,10 +101,10 @@ end_is_field : (crashed : Bool) → IsField (end_word crashed)
 end_is_field false = search arith
 end_is_field true = search arith
 
-last_is_line : (round : RoundReport) → IsReportRound round → IsLine (last_fields round)
+pub last_is_line : (round : RoundReport) → IsReportRound round → IsLine (last_fields round)
 last_is_line round is = (end_is_field round.crashed, (number_is_field round.writes is.writes, (search arith, (number_is_field round.names is.names, tt))))
 
-rounds_have_lines : (rounds : List RoundReport) → AllByRecursion IsReportRound rounds → AllByRecursion IsLine (report_lines rounds)
+pub rounds_have_lines : (rounds : List RoundReport) → AllByRecursion IsReportRound rounds → AllByRecursion IsLine (report_lines rounds)
 rounds_have_lines [] is = tt
 rounds_have_lines (round ∷ rounds) is =
     all_append IsLine (round_lines round) (report_lines rounds)
@@ -112,12 +112,12 @@ rounds_have_lines (round ∷ rounds) is =
     (records_have_lines round.records (recursion_from_All IsReportRecord round.records is.0.records)) (last_is_line round is.0, tt))
     (rounds_have_lines rounds is.1)
 
-end_begins : (crashed : Bool) → 57 < get_or (end_word crashed) 0 0
+pub end_begins : (crashed : Bool) → 57 < get_or (end_word crashed) 0 0
 end_begins false = omega arith
 end_begins true = omega arith
 
 -- of two calls of one caller, each behind the same one, both have the same index
-index_one : (caller caller' index index' : ℕ) (r q : Record) → caller ≡ caller' → index ≡ index' → r.caller ≡ q.caller →
+pub index_one : (caller caller' index index' : ℕ) (r q : Record) → caller ≡ caller' → index ≡ index' → r.caller ≡ q.caller →
     ((r.caller ≡ caller) × (r.index ≡ index + 1)) ⊎ ((caller < r.caller) × (r.index ≡ 0)) →
     ((q.caller ≡ caller') × (q.index ≡ index' + 1)) ⊎ ((caller' < q.caller) × (q.index ≡ 0)) → r.index ≡ q.index
 index_one caller caller' index index' r q callers indexes same (inl a) (inl b) = omega (arith, indexes, a.1, b.1)
@@ -126,14 +126,14 @@ index_one caller caller' index index' r q callers indexes same (inr a) (inl b) =
 index_one caller caller' index index' r q callers indexes same (inr a) (inr b) = omega (arith, a.1, b.1)
 
 -- the line of a call is no last line
-not_last : (r : Record) (round : RoundReport) (x y : List (List (List ℕ))) → IsReportRecord r → record_lines r ++ x ≡ last_fields round ∷ y → ⊥
+pub not_last : (r : Record) (round : RoundReport) (x y : List (List (List ℕ))) → IsReportRecord r → record_lines r ++ x ≡ last_fields round ∷ y → ⊥
 not_last r round x y is same =
     let e : get_or (decimal r.caller) 0 0 ≡ get_or (end_word round.crashed) 0 0 = ap (λ (l : List (List (List ℕ))). lead (get_or l 0 [])) same in
     let low : r.caller < 2 ^ 64 = omega (arith, is.caller) in
     omega (arith, e, number_begins r.caller low, end_begins round.crashed)
 
 -- the last lines of two rounds
-last_one : (a b : RoundReport) → IsReportRound a → IsReportRound b → last_fields a ≡ last_fields b → (a.crashed ≡ b.crashed) × (a.writes ≡ b.writes) × (a.names ≡ b.names)
+pub last_one : (a b : RoundReport) → IsReportRound a → IsReportRound b → last_fields a ≡ last_fields b → (a.crashed ≡ b.crashed) × (a.writes ≡ b.writes) × (a.names ≡ b.names)
 last_one a b is is' same =
     let words : end_word a.crashed ≡ end_word b.crashed = ap (λ (l : List (List ℕ)). get_or l 0 []) same in
     let writes = decimal_injective a.writes b.writes is.writes is'.writes (ap (λ (l : List (List ℕ)). get_or l 1 []) same) in
@@ -152,7 +152,7 @@ Told rs qs a b x y = (rs ≡ qs) × (last_fields a ≡ last_fields b) × (x ≡ 
 abbrev record_tail : Record → List Record → RoundReport → List (List (List ℕ)) → List (List (List ℕ))
 record_tail r rs a x = flat_map record_lines rs ++ last_fields a ∷ x
 
-split : (r : Record) (rs : List Record) (a : RoundReport) (x : List (List (List ℕ))) →
+pub split : (r : Record) (rs : List Record) (a : RoundReport) (x : List (List (List ℕ))) →
     flat_map record_lines (r ∷ rs) ++ last_fields a ∷ x ≡ record_lines r ++ (flat_map record_lines rs ++ last_fields a ∷ x)
 split r rs a x = append_assoc (record_lines r) (flat_map record_lines rs) (last_fields a ∷ x)
 
@@ -171,7 +171,7 @@ records_one c c' i i' (r ∷ rs) (q ∷ qs) a b x y callers indexes stand stand'
     ((λ j. record { caller = first.caller j; index = numbers j; op = first.op j; reply = first.reply j } ∷ rest.0 j), rest.1, rest.2)
 
 -- the same from a round's first record on
-all_records_one : (rs qs : List Record) (a b : RoundReport) (x y : List (List (List ℕ))) →
+pub all_records_one : (rs qs : List Record) (a b : RoundReport) (x y : List (List (List ℕ))) →
     StandByCaller rs → StandByCaller qs → AllByRecursion IsReportRecord rs → AllByRecursion IsReportRecord qs →
     flat_map record_lines rs ++ last_fields a ∷ x ≡ flat_map record_lines qs ++ last_fields b ∷ y → Told rs qs a b x y
 all_records_one [] [] a b x y stand stand' is is' same = records_one 0 0 0 0 [] [] a b x y refl refl tt tt tt tt same
@@ -185,7 +185,7 @@ all_records_one (r ∷ rs) (q ∷ qs) a b x y stand stand' is is' same =
     let rest = records_one r.caller q.caller r.index q.index rs qs a b x y first.caller numbers stand.1 stand'.1 is.1 is'.1 first.rest in
     ((λ j. record { caller = first.caller j; index = numbers j; op = first.op j; reply = first.reply j } ∷ rest.0 j), rest.1, rest.2)
 
-split_round : (a : RoundReport) (more : List RoundReport) → report_lines (a ∷ more) ≡ flat_map record_lines a.records ++ last_fields a ∷ report_lines more
+pub split_round : (a : RoundReport) (more : List RoundReport) → report_lines (a ∷ more) ≡ flat_map record_lines a.records ++ last_fields a ∷ report_lines more
 split_round a more = append_assoc (flat_map record_lines a.records) (last_fields a ∷ []) (report_lines more)
 
 none : (front : List (List (List ℕ))) (line : List (List ℕ)) (more : List (List (List ℕ))) → [] ≡ front ++ line ∷ more → ⊥

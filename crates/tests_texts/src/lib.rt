@@ -1,9 +1,11 @@
-//! Tests of scripts, of reports and of the outside: `cat_script`, `cat_text`. What the program shows of them stands in
-//! examples/cases.
+//! Tests of scripts, of reports, of their reader and of the outside: `cat_script`, `cat_text`, `report_reader`. What the
+//! program shows of them stands in examples/cases.
 #![tactic(auto)]
 
 #[cfg(test)]
 mod outside;
+#[cfg(test)]
+mod readings;
 #[cfg(test)]
 mod reports;
 #[cfg(test)]

@@ -1,0 +1,8 @@
+mod AnswerLaws
+mod FieldLaws
+mod NextLaws
+mod ReadLaws
+mod StepLaws
+mod StateLaws
+mod PartLaws
+mod HeadLaws
