@@ -1,6 +1,6 @@
 -- Pairs that are the first of others, one after another.
 use Rattle.std.proofs.Common.{◌≡◌, ◌↔◌, ℕ, zero, suc, ◌+◌, ◌-◌, ◌<◌, ◌≤◌, List, [], ◌∷◌, length, get_or, take, drop, refl, sym, ap, ◌∙◌, arith}
-use Rattle.std.proofs.lemmas.List.{drop_all, length-drop}
+use Rattle.std.proofs.lemmas.List.{drop_all}
 use Rattle.std.proofs.Math.Seq.{drop-cons}
 use Rattle.cat_key.specs.declared.Pair.{Pair}
 
@@ -35,13 +35,6 @@ module _ (pairs : List Pair) (at left : ℕ) (x : Pair) (xs : List Pair) where
   -- and there is one
   pub has_next : length pairs ≤ at → at < left → drop at pairs ≡ take (left - at) (x ∷ xs) → ⊥
   has_next past less all = no_first (sym (drop_all at pairs past) ∙ all ∙ taken less)
-
--- nothing is left of pairs exactly where all were passed
-pub none_left : (pairs : List Pair) (at : ℕ) → at ≤ length pairs → (at ≡ length pairs) ↔ (drop at pairs ≡ [])
-none_left pairs at within = (
-  λ all. drop_all at pairs (omega arith),
-  λ none. let size = ap length none in let has = length-drop at pairs in omega arith,
-)
 
 -- of nothing there are no first ones
 pub none_first : {X : Type 0} (n : ℕ) → ◌≡◌ {A = List X} (take n []) []

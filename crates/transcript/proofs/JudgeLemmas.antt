@@ -25,7 +25,7 @@ use Rattle.transcript.specs.Rules.Keeps.{each_call, places, numbers, scans, orde
 use Rattle.transcript.specs.declared.asking.Judged.{Judged}
 use Rattle.transcript.specs.declared.asking.Judged.TheVariants.{Illegal, NoMemory}
 use Rattle.transcript.specs.declared.asking.RoundEnd.{RoundEnd}
-use Rattle.transcript.proofs.RuleLaws.{keeps_1, keeps_2, keeps_3, keeps_4, keeps_5, keeps_6, keeps_7, keeps_8, of_these, left_is, one_end, legal_with, legal_has_one_end, one_first_broken, legal_breaks_none}
+use Rattle.transcript.proofs.RuleLaws.{keeps_2, keeps_3, keeps_4, keeps_5, keeps_6, keeps_7, keeps_8, of_these, left_is, one_end, legal_with, legal_has_one_end, one_first_broken, legal_breaks_none}
 
 -- where all calls were answered, nothing was found
 none_found : (op : Op) (reply : Reply) → IsAnswered reply → change_found op reply ≡ None
@@ -55,9 +55,6 @@ module _ (base : Map) (told : List Record) (end : RoundEnd) (writes : List Write
   right_end ended many = record { ends = ended; is_end = ended_so ended; names = many }
 
 module _ (c : Case) where
-  Before : ℕ → Type 0
-  Before rule = (earlier : ℕ) → 1 ≤ earlier → earlier < rule → Keeps c earlier
-
   none_before : (earlier : ℕ) → 1 ≤ earlier → earlier < 1 → Keeps c earlier
   none_before earlier least less = absurd (omega arith)
 
@@ -67,9 +64,6 @@ module _ (c : Case) where
     by (inl same) = subst (Keeps c) (sym same) here
     by (inr (inl lower)) = before earlier least lower
     by (inr (inr higher)) = absurd (omega arith)
-
-  pub broken_1 : (EachCallIsTold c → ⊥) → IsFirstBroken c 1
-  broken_1 never = record { first = omega arith; last = omega arith; before = none_before; broken = λ k. never (keeps_1 c k) }
 
   module _ (each : EachCallIsTold c) where
     before_2 : (earlier : ℕ) → 1 ≤ earlier → earlier < 2 → Keeps c earlier
@@ -152,10 +146,7 @@ module _ (c : Case) where
   pub judged_illegal : (result : Result (List Pair) Judged) → IsJudgement c result → (rule : ℕ) → result ≡ Err (Illegal rule) → IsFirstBroken c rule
   judged_illegal result is rule same = subst (IsJudgement c) same is
 
--- the two ways in which the last two rules may fail
-pub end_7 : (base : Map) (told : List Record) (end : RoundEnd) (writes : List Write) → (EndsAsSaid base told end writes → ⊥) → IsEndJudgement base told end writes (Err (Illegal 7))
-end_7 base told end writes never = inl (refl, never)
-
+-- the last rule alone may fail
 pub end_8 : (base : Map) (told : List Record) (end : RoundEnd) (writes : List Write) → EndsAsSaid base told end writes → (len (end_told base told writes) ≡ end.names → ⊥) → IsEndJudgement base told end writes (Err (Illegal 8))
 end_8 base told end writes ended never = inr (
   refl,

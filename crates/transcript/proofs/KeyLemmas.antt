@@ -44,9 +44,6 @@ later_index caller n before (a ∷ asked) less =
       later_index caller n (before ++ a.caller ∷ []) asked (subst (λ (k : ℕ). n < k) (sym more) (omega arith)),
     )
 
-key_told : Call → Key
-key_told call = (call.caller, call.index)
-
 each_other : (k : Key) (calls : List Call) → AllByRecursion (λ (c : Call). c.caller ≡ k.0 → k.1 < c.index) calls →
     AllByRecursion (λ key. eq_by_cmp key_cmp k key ≡ false) (map (λ (c : Call). key_of (as_numbered c)) calls)
 each_other k [] all = tt

@@ -33,9 +33,6 @@ use Rattle.transcript.specs.Rules.{Case, EachCallIsTold, AreCounted, PlacesAreCo
 use Rattle.transcript.specs.declared.asking.RoundEnd.{RoundEnd}
 use Rattle.transcript.specs.Rules.Keeps.{each_call, places, numbers, scans, order, limit, ends, names}
 
-place_in : ℕ × Write → ℕ
-place_in e = e.0
-
 above : (n k : ℕ) (writes : List Write) → n < k → AllByRecursion (λ m. nat_cmp n m ≡ Less) (map (λ (e : ℕ × Write). e.0) (enumerate_from k writes))
 above n k [] less = tt
 above n k (w ∷ writes) less = (sym (nat_cmp_is n k Less less), above n (k + 1) writes (omega arith))

@@ -133,7 +133,8 @@ pub record IsLeft (base : Map) (told : List Record) (writes : List Write) (end :
   pub leaves : IsCrashEnd (after_all base writes) (changes_cut told) end
   pub says : All (λ r. ReplySays end r.op r.reply) told
 
--- A round that stopped at a crash: each caller stopped once, came as far as its budget let it, and the crash left a map.
+-- A round that stopped at a crash: each caller stopped once, came as far as its budget let it, and the crash left a
+-- map.
 pub record StopsAtCrash (base : Map) (told : List Record) (budgets : List ℕ) (writes : List Write) : Type 0 where
   pub once : StopsOnce told
   pub budget : All (KeepsBudget budgets) told

@@ -1,5 +1,6 @@
 -- What callers did one after another.
-use Rattle.std.specs.Prelude.{◌≡◌, ℕ, ◌<◌, ◌≤◌, Bool, true, false, if◌then◌else◌, Option, List, Contains, map, option_map}
+use Rattle.std.specs.Prelude.{◌≡◌, ℕ, ◌<◌, ◌≤◌, Bool, true, false, if◌then◌else◌, Option, List, Contains, map}
+use Rattle.std.specs.Prelude.{option_map}
 use Rattle.std.specs.List.{filter_map}
 use Rattle.cat_history.specs.Records.{Interval, interval}
 use Rattle.cat_history.specs.declared.record.Record.{Record}
@@ -48,11 +49,15 @@ is_unanswered (Spent clock) = false
 is_unanswered (Cut mark) = true
 is_unanswered Unstarted = true
 
--- A call that wasn't answered ends at 1, and one that was begun starts at 0: so of two spans the earlier one ends before
--- the later one starts exactly where the earlier call was answered or the later one wasn't begun.
+-- A call that wasn't answered ends at 1, and one that was begun starts at 0: so of two spans the earlier one ends
+-- before the later one starts exactly where the earlier call was answered or the later one wasn't begun.
 abbrev pub stop_of : Record → Span
-stop_of r =
-    record { caller = r.caller; index = r.index; start = as_number (is_unstarted r.reply); end = as_number (is_unanswered r.reply) }
+stop_of r = record {
+  caller = r.caller;
+  index = r.index;
+  start = as_number (is_unstarted r.reply);
+  end = as_number (is_unanswered r.reply);
+}
 
 abbrev pub stops_of : List Record → List Span
 stops_of told = map stop_of told

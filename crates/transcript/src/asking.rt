@@ -23,7 +23,8 @@ pub struct RoundEnd {
     pub writes: u64,
     /// How many names the map has at the end.
     pub names: u64,
-    /// How many events each caller might make, by its number; nobody looks at them where the callers were joined.
+    /// How many events each caller might make, by its number; a caller past their end has no budget to keep. Nobody
+    /// looks at them where the callers were joined.
     pub budgets: Budgets,
 }
 

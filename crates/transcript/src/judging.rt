@@ -34,13 +34,14 @@ use std::alloc::Global;
 /// 4. the parts of a scan follow one another, and each lists what stands in its range at its place;
 /// 5. no call ends after the last write, and a caller's calls took effect in their order;
 /// 6. who was told that the limit is reached saw it so, and no more writes went past it than callers may make;
-/// 7. each reply is of a form that its call has; where the callers were joined, each call was answered, and where a crash
-///    ended the round, each caller stopped once, within its budget, and the marks of writes that were cut off agree with
-///    the map that was left;
+/// 7. each reply is of a form that its call has; where the callers were joined, each call was answered, and where a
+///    crash ended the round, each caller stopped once, within its budget, and the marks of writes that were cut off
+///    agree with the map that was left;
 /// 8. the map at the end has as many names as the end says.
 ///
-/// `NoMemory` may come instead of each of them. In the base a name that stands twice has its first number. It takes time
-/// in proportion to the base, the calls and the records with what they list, and to the logarithm of how many there are.
+/// `NoMemory` may come instead of each of them. In the base a name that stands twice has its first number. It takes
+/// time in proportion to the base, the calls and the records with what they list, and to the logarithm of how many there
+/// are.
 pub fn judge(
     alloc: Global,
     base: Pairs,

@@ -44,7 +44,7 @@ fn push_parts<'a>(
 /// Adds the parts of a scan that was told some.
 fn push_record<'a>(looks: &mut Vec<PartLook<'a>>, record: &'a Record) -> Result<(), NoMemory>
     ensures { OnOk result (map seen looks.new.items
-        ≡ map seen looks.old.items ++ parts_of_reply record.entry.now.op record.entry.now.reply) }
+        ≡ map seen looks.old.items ++ parts_of_reply «record».entry.now.op «record».entry.now.reply) }
 {
     if let (Op::Scan { count, .. }, Reply::Parts { parts, .. }) = (&record.op, &record.reply) {
         push_parts(looks, parts.as_slice(), *count)?;

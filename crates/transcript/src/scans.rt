@@ -80,8 +80,8 @@ fn all_chained(told: &[Record]) -> bool
 
 /// Whether the parts of each scan are legal.
 ///
-/// It takes time in proportion to the base, the records with what they list, and the writes, and to the logarithm of how
-/// many there are.
+/// It takes time in proportion to the base, the records with what they list, and the writes, and to the logarithm of
+/// how many there are.
 pub(crate) fn scans_agree(
     alloc: Global,
     base: &[Pair],
