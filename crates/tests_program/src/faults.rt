@@ -27,12 +27,14 @@ fn played<R: AllocGlobal + Threads + Wait + Sync>(
 }
 
 /// The first of the rows that `play` does otherwise: how many bytes a call moves, which read and which write fail, the
-/// exit code, and how many bytes are written.
+/// exit code, and how many bytes are written. Read 44 is the one that finds the end of the script's 43 bytes.
 fn first_other_play<R: AllocGlobal + Threads + Wait + Sync>(rt: &R) -> Option<usize> {
     let rows = [
         (1, 0, 0, 0, REPORT.len()),
         (7, 0, 0, 0, REPORT.len()),
         (4096, 0, 0, 0, REPORT.len()),
+        (1, 44, 0, 4, 0),
+        (1, 45, 0, 0, REPORT.len()),
         (4, 1, 0, 4, 0),
         (4, 2, 0, 4, 0),
         (4, 0, 1, 5, 0),
@@ -46,6 +48,30 @@ fn first_other_play<R: AllocGlobal + Threads + Wait + Sync>(rt: &R) -> Option<us
             failing_write: *failing_write,
         };
         played(rt, &outside) != Some((*code, *bytes))
+    })
+}
+
+/// The first byte of the script before which a source fails, one byte a read, and is not blamed for it alone.
+fn first_other_read<R: AllocGlobal + Threads + Wait + Sync>(rt: &R) -> Option<usize> {
+    (0..SCRIPT.len()).find(|bytes| {
+        let outside = Outside {
+            largest: 1,
+            failing_read: (*bytes as u64).saturating_add(1),
+            failing_write: 0,
+        };
+        played(rt, &outside) != Some((4, 0))
+    })
+}
+
+/// The first byte of the report before which a sink fails, one byte a write, and which isn't where the report ends.
+fn first_other_write<R: AllocGlobal + Threads + Wait + Sync>(rt: &R) -> Option<usize> {
+    (0..REPORT.len()).find(|bytes| {
+        let outside = Outside {
+            largest: 1,
+            failing_read: 0,
+            failing_write: (*bytes as u64).saturating_add(1),
+        };
+        played(rt, &outside) != Some((5, *bytes))
     })
 }
 
@@ -107,6 +133,8 @@ fn first_other_file<R: AllocGlobal + Threads + Wait + Sync>(rt: &R) -> Option<us
 #[test]
 fn the_outside_is_blamed_for_its_faults(rt: HostRuntime) -> Result<(), Fail> {
     assert_eq!(rt; first_other_play(&rt), None);
+    assert_eq!(rt; first_other_read(&rt), None);
+    assert_eq!(rt; first_other_write(&rt), None);
     assert_eq!(rt; first_other_run(&rt), None);
     assert_eq!(rt; first_other_file(&rt), None);
     Ok(())
