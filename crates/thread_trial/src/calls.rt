@@ -6,22 +6,38 @@ ghost use Rattle.index_core.specs.CoreCalls.{MayBegin, most_writes};
 use cat_key::Name;
 use index_core::CoreCall;
 
-/// How many names each caller has of its own.
+/// How many names each caller has of its own, or all have in common.
 const NAMES: u64 = 64;
 
 /// No history here is as long.
 pub const LIMIT: u64 = 1 << 62;
 
-/// Whether the call of this number is a put; the others are gets.
-pub fn is_put(number: u64) -> bool {
-    number % 2 == 0
+/// Which calls are made, and of which names.
+#[derive(Clone, Copy)]
+pub enum Mix {
+    /// Puts and gets by turns, of names of the caller's own.
+    Own,
+    /// So many gets of a hundred calls, the others puts, of names that all callers have in common.
+    Common { gets: u64 },
 }
 
-/// The name that a caller's call of this number is about: a put and the get behind it are about one name.
-pub fn name_of(caller: u64, number: u64) -> Option<Name> {
+/// Whether the call of this number is a put; the others are gets.
+pub fn is_put(mix: Mix, number: u64) -> bool {
+    match mix {
+        Mix::Own => number % 2 == 0,
+        Mix::Common { gets } => number % 100 >= gets,
+    }
+}
+
+/// The name that a caller's call of this number is about: call 0 and 1 are about one name, 2 and 3 about the next.
+pub fn name_of(mix: Mix, caller: u64, number: u64) -> Option<Name> {
+    let owner = match mix {
+        Mix::Own => caller % 16,
+        Mix::Common { .. } => 0,
+    };
     let turn = number / 2 % NAMES;
     Name::read(&[
-        b'a' + (caller % 16) as u8,
+        b'a' + owner as u8,
         b'0' + (turn / 10) as u8,
         b'0' + (turn % 10) as u8,
     ])
@@ -29,11 +45,11 @@ pub fn name_of(caller: u64, number: u64) -> Option<Name> {
 }
 
 /// The same as a call of a core.
-pub fn call_of(caller: u64, number: u64) -> Option<CoreCall>
+pub fn call_of(mix: Mix, caller: u64, number: u64) -> Option<CoreCall>
     ensures { IfSome result (λ call. MayBegin call × (most_writes call ≤ 1)) }
 {
-    let name = name_of(caller, number)?;
-    Some(if is_put(number) {
+    let name = name_of(mix, caller, number)?;
+    Some(if is_put(mix, number) {
         CoreCall::Put {
             name,
             value: number,

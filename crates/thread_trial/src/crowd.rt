@@ -5,7 +5,7 @@ ghost use Rattle.pm_words.specs.Layouts.{IsLayout};
 ghost use Rattle.index_core.specs.Lone.{IsQuiet};
 ghost use Rattle.pac_index.specs.Callers.{IsCallerOf, HasCallers};
 
-use crate::calls::{LIMIT, is_put, name_of};
+use crate::calls::{LIMIT, Mix, is_put, name_of};
 use call_stages::Once;
 use index_core::Core;
 use pac_index::{Caller, Shared, Tried};
@@ -24,12 +24,13 @@ pub fn meet<R: Threads + Sync>(
     layout: Layout,
     active: u64,
     calls: u64,
+    mix: Mix,
 ) -> Result<Core, NoMemory>
     requires { IsLayout layout }
 {
     let core = fresh(alloc, layout)?;
     let (shared, callers) = Shared::new(alloc, core)?;
-    let callers = all_play(rt, &shared, callers, active, calls)?;
+    let callers = all_play(rt, &shared, callers, active, calls, mix)?;
     shared.close(alloc, callers)
 }
 
@@ -49,6 +50,7 @@ fn all_play<R: Threads + Sync>(
     callers: Vec<Caller>,
     active: u64,
     calls: u64,
+    mix: Mix,
 ) -> Result<Vec<Caller>, NoMemory>
     requires { HasCallers shared.now (length callers.items) callers.items }
     ensures { IfOk result (λ done. HasCallers shared.now (length callers.items) done.items) }
@@ -59,13 +61,13 @@ fn all_play<R: Threads + Sync>(
         &|caller: Caller| -> Caller
             requires { IsCallerOf shared.now caller }
             ensures { IsCallerOf shared.entry.now result × (result.number ≡ caller.number) }
-        { plays(shared, caller, active, calls) },
+        { plays(shared, caller, active, calls, mix) },
     )?;
     Ok(done)
 }
 
 /// All calls of a caller, or those before the first that isn't answered. Only the first `active` ones have any.
-fn plays(shared: &Shared, caller: Caller, active: u64, calls: u64) -> Caller
+fn plays(shared: &Shared, caller: Caller, active: u64, calls: u64, mix: Mix) -> Caller
     requires { IsCallerOf shared.now caller }
     ensures { IsCallerOf shared.now result × (result.number ≡ caller.number) }
 {
@@ -74,7 +76,7 @@ fn plays(shared: &Shared, caller: Caller, active: u64, calls: u64) -> Caller
         return caller;
     }
     for number in 0..calls {
-        if !takes_place(shared, &mut caller, number) {
+        if !takes_place(shared, &mut caller, mix, number) {
             break;
         }
     }
@@ -82,12 +84,12 @@ fn plays(shared: &Shared, caller: Caller, active: u64, calls: u64) -> Caller
 }
 
 /// Makes the call of this number until it takes place.
-fn takes_place(shared: &Shared, caller: &mut Caller, number: u64) -> bool
+fn takes_place(shared: &Shared, caller: &mut Caller, mix: Mix, number: u64) -> bool
     requires { IsCallerOf shared.now caller.old × (caller.old.number < shared.now.about.layout.callers) }
     ensures { IsCallerOf shared.now caller.new × (caller.new.number ≡ caller.old.number) }
 {
     for _ in 0..TRIES {
-        match once(shared, caller, number) {
+        match once(shared, caller, mix, number) {
             Some(true) => return true,
             Some(false) => yield_now(),
             None => return false,
@@ -97,13 +99,13 @@ fn takes_place(shared: &Shared, caller: &mut Caller, number: u64) -> bool
 }
 
 /// One try, and whether the call took place; None where there is no memory for it.
-fn once(shared: &Shared, caller: &mut Caller, number: u64) -> Option<bool>
+fn once(shared: &Shared, caller: &mut Caller, mix: Mix, number: u64) -> Option<bool>
     requires { IsCallerOf shared.now caller.old × (caller.old.number < shared.now.about.layout.callers) }
     ensures { IsCallerOf shared.now caller.new × (caller.new.number ≡ caller.old.number) }
 {
     caller.reserve(1).ok()?;
-    let name = name_of(caller.number(), number)?;
-    let tried = if is_put(number) {
+    let name = name_of(mix, caller.number(), number)?;
+    let tried = if is_put(mix, number) {
         shared.put_once(caller, &name, number, LIMIT)
     } else {
         shared.get_once(caller, &name)

@@ -10,6 +10,7 @@ ghost use Rattle.pm_words.specs.Layouts.{IsLayout};
 
 use alone::play_alone;
 use anyhow::{Result, anyhow, bail};
+use calls::Mix;
 use crowd::meet;
 use index_core::Core;
 use pm_words::Layout;
@@ -19,7 +20,7 @@ use std::rt::Clock;
 use std::thread::Threads;
 use std::time::Instant;
 
-const USAGE: &str = "usage: thread_trial play CALLERS CALLS, time CALLERS CALLS, time alone CALLS";
+const USAGE: &str = "usage: thread_trial play|time CALLERS|alone CALLS [GETS]";
 
 /// The layout of the index. So no more than four callers make calls.
 const NODES: u64 = 1024;
@@ -33,14 +34,23 @@ fn main(rt: HostRuntime) -> Result<()> {
     for word in env::args(&rt)?.skip(1) {
         words.push(word)?;
     }
-    let [verb, callers, calls] = words.as_slice() else {
-        bail!("{USAGE}")
+    let (verb, callers, calls, mix) = match words.as_slice() {
+        [verb, callers, calls] => (verb, callers, calls, Mix::Own),
+        [verb, callers, calls, gets] => (
+            verb,
+            callers,
+            calls,
+            Mix::Common {
+                gets: number(gets.as_str())?,
+            },
+        ),
+        _ => bail!("{USAGE}"),
     };
     let calls = number(calls.as_str())?;
     let start = Instant::now(&rt)?;
     let core = match callers.as_str() {
-        "alone" => play_alone(rt.alloc(), layout()?, calls)?,
-        callers => meet(&rt, rt.alloc(), layout()?, number(callers)?, calls)?,
+        "alone" => play_alone(rt.alloc(), layout()?, calls, mix)?,
+        callers => meet(&rt, rt.alloc(), layout()?, number(callers)?, calls, mix)?,
     };
     let micros = start.elapsed(&rt)?.as_micros();
     let writes = core.history().len();
