@@ -1,4 +1,5 @@
 pub mod SameRanges
+pub mod AnsweredLemmas
 pub mod LoneRoundLemmas
 pub mod NameLemmas
 pub mod PairLemmas

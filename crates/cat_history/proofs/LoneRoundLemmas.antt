@@ -1,6 +1,6 @@
 -- A round whose calls are answered at once is legal; and how such a round goes on by one call.
-use Rattle.std.proofs.Common.{◌≡◌, ℕ, zero, suc, eq-eqb, zero-add, ⊎_elim, Bool, ◌-◌, ◌↔◌, ◌⊎◌, ◌+◌, ◌<◌, ◌≤◌, List, [], ◌∷◌, ◌++◌, length, get_or, take, map, refl, sym, ap, subst, ◌∙◌, arith, append_assoc, append-nil, length-append, add-zero}
-use Rattle.std.proofs.lemmas.Bool.{cases_order}
+use Rattle.std.proofs.Common.{◌≡◌, ℕ, zero, suc, eq-eqb, zero-add, ⊎_elim, Bool, ◌-◌, ◌↔◌, ◌+◌, ◌<◌, ◌≤◌, List, [], ◌∷◌, ◌++◌, length, get_or, take, map, refl, sym, ap, subst, ◌∙◌, arith, append_assoc, append-nil, length-append, add-zero}
+use Rattle.std.proofs.lemmas.Bool.{cases_lt}
 use Rattle.std.proofs.lemmas.List.{map-append, get_or-map, length-map}
 use Rattle.std.proofs.lemmas.List.Sums.{fold-append, sum_by-cons}
 use Rattle.std.proofs.lemmas.List.Elements.{filter_map-append, All-from_recursion, recursion_from_All}
@@ -17,20 +17,19 @@ use Rattle.cat_history.specs.Scans.{IsPart, AreParts, range}
 use Rattle.cat_history.specs.Scans.AreParts.{cut_off, ends, goes_on}
 use Rattle.cat_history.proofs.CallerLemmas.{different-are-few}
 use Rattle.cat_history.specs.Records.{Call, call_of, numbered, numbered_after, placed_write, placed_writes, Interval, interval, last_place}
-use Rattle.cat_history.specs.Rounds.{IsWriter, IsOld, AreItsParts, IsAnswer, IsAnswered, KeepsCallersOrder}
-use Rattle.cat_history.specs.LoneRounds.{write_of, writes_of, HoldsAlong, IsAnswerNow, IsLoneRound, IsSpent, IsSpentExactly, LoneRoundsAreLegal}
+use Rattle.cat_history.specs.Rounds.{IsPut, IsWriter, IsOld, AreItsParts, IsAnswer, IsAnswered, IsItsMark, KeepsCallersOrder, IsLegalRound}
+use Rattle.cat_history.specs.CrashRounds.{IsMarkNow}
+use Rattle.cat_history.specs.LoneRounds.{write_of, writes_of, HoldsAlong, IsAnswerNow, IsSpent, LoneRoundsAreLegal}
 use Rattle.cat_history.specs.declared.op.CallerOp.{CallerOp}
 use Rattle.cat_history.specs.declared.op.Op.{Op}
 use Rattle.cat_history.specs.declared.op.Op.TheVariants.{Put, Get, Del, Scan}
 use Rattle.cat_history.specs.declared.op.Change.TheVariants as change
 use Rattle.cat_history.specs.declared.op.Write.{Write}
+use Rattle.cat_history.specs.declared.record.CutMark.TheVariants.{At, Open, Found, Lost, Read}
 use Rattle.cat_history.specs.declared.record.Record.{Record}
 use Rattle.cat_history.specs.declared.record.Reply.{Reply}
 use Rattle.cat_history.specs.declared.record.Reply.TheVariants.{Old, Parts, Full, Spent, Cut, Unstarted}
 use Rattle.cat_history.specs.declared.record.ScanPart.{ScanPart}
-
-abbrev Now : Map → ℕ → Record → Type 0
-Now m place r = IsAnswerNow m place r.op r.reply
 
 -- the writes of records in two parts
 pub writes_of-append : (rs ss : List Record) → writes_of (rs ++ ss) ≡ writes_of rs ++ writes_of ss
@@ -60,29 +59,71 @@ HoldsAlong-push P m place (q ∷ rs) r along here =
     subst (λ n. P (after_all (after_all m (write_of q)) (writes_of rs)) n r) place_is (subst (λ n. P n (place + length (writes_of (q ∷ rs))) r) map_is here) in
     (along.0, HoldsAlong-push P (after_all m (write_of q)) (place + length (write_of q)) rs r along.1 moved)
 
+abbrev pub Now : Map → ℕ → Record → Type 0
+Now m place r = IsAnswerNow m place r.op r.reply
+
+-- spent exactly by the limit
+abbrev pub SpentBy : ℕ → Map → ℕ → Record → Type 0
+SpentBy limit m place r = IsSpent r.reply ↔ (IsWriter r.op × (limit ≤ place))
+
+-- What is so of a record as the history is so long, whether its call was answered, cut off or not begun.
+abbrev pub StandsNow : ℕ → Map → ℕ → Op → Reply → Type 0
+StandsNow limit m place op (Old old at_place) = IsOld m op old × (at_place ≡ place) × (IsWriter op → place < limit)
+StandsNow limit m place op (Parts parts cut) = AreItsParts (λ _. m) op cut parts × All (λ (part : ScanPart). part.place ≡ place) parts
+StandsNow limit m place op Full = IsPut op
+StandsNow limit m place op (Spent clock) = IsWriter op × (clock ≡ place) × (limit ≤ place)
+StandsNow limit m place op (Cut mark) = IsItsMark op mark × IsMarkNow place mark × (IsWriter op → place < limit)
+StandsNow limit m place op Unstarted = Unit {0}
+
+abbrev pub Stands : ℕ → Map → ℕ → Record → Type 0
+Stands limit m place r = StandsNow limit m place r.op r.reply
+
+below-limit : (place limit : ℕ) → ((limit ≤ place) → ⊥) → place < limit
+below-limit place limit never = ⊎_elim (λ (less : place < limit). less) (λ (late : limit ≤ place). absurd (never late)) (cases_lt place limit)
+
+pub answered-stands : (limit : ℕ) (m : Map) (place : ℕ) (op : Op) (reply : Reply) → IsAnswerNow m place op reply → IsSpent reply ↔ (IsWriter op × (limit ≤ place)) → StandsNow limit m place op reply
+answered-stands limit m place op (Old old at_place) now spent = (now.0, now.1, (λ writes. below-limit place limit (λ late. spent.1 (writes, late))))
+answered-stands limit m place op (Parts parts cut) now spent = (now.1, now.2)
+answered-stands limit m place op Full now spent = now
+answered-stands limit m place op (Spent clock) now spent = (now.0, now.1, (spent.0 tt).1)
+answered-stands limit m place op (Cut mark) now spent = absurd now
+answered-stands limit m place op Unstarted now spent = tt
+
+-- calls that were answered at once, and spent exactly by the limit
+answered-stand : (limit : ℕ) (m : Map) (place : ℕ) (rs : List Record) → HoldsAlong Now m place rs → HoldsAlong (SpentBy limit) m place rs → HoldsAlong (Stands limit) m place rs
+answered-stand limit m place [] along spent = tt
+answered-stand limit m place (r ∷ rs) along spent =
+    (answered-stands limit m place r.op r.reply along.0 spent.0, answered-stand limit (after_all m (write_of r)) (place + length (write_of r)) rs along.1 spent.1)
+
 -- a record of these parts
 abbrev made : ℕ → ℕ → Op → Reply → Record
 made caller index op reply = record { caller = caller; index = index; op = op; reply = reply }
 
 -- one record more in front, by what it is
-placed-made : (caller index : ℕ) (op : Op) (reply : Reply) (m : Map) (place : ℕ) (rs : List Record) → IsAnswerNow m place op reply →
+placed-made : (limit caller index : ℕ) (op : Op) (reply : Reply) (m : Map) (place : ℕ) (rs : List Record) → StandsNow limit m place op reply →
     placed_writes rs ≡ enumerate_from (place + length (write_of (made caller index op reply))) (writes_of rs) →
     placed_writes (made caller index op reply ∷ rs) ≡ enumerate_from place (writes_of (made caller index op reply ∷ rs))
-placed-made caller index (Put name value) (Old old at_place) m place rs now more = λ i. (now.1 i, record { caller = caller; index = index; change = change.Put name value }) ∷ more i
-placed-made caller index (Del name) (Old old at_place) m place rs now more = λ i. (now.1 i, record { caller = caller; index = index; change = change.Del name }) ∷ more i
-placed-made caller index (Get name) (Old old at_place) m place rs now more = more ∙ ap (λ n. enumerate_from n (writes_of rs)) (add-zero place)
-placed-made caller index (Scan from count) (Old old at_place) m place rs now more = absurd now.0
-placed-made caller index op (Parts parts cut) m place rs now more = more ∙ ap (λ n. enumerate_from n (writes_of rs)) (add-zero place)
-placed-made caller index op Full m place rs now more = more ∙ ap (λ n. enumerate_from n (writes_of rs)) (add-zero place)
-placed-made caller index op (Spent clock) m place rs now more = more ∙ ap (λ n. enumerate_from n (writes_of rs)) (add-zero place)
-placed-made caller index op (Cut mark) m place rs now more = absurd now
-placed-made caller index op Unstarted m place rs now more = absurd now
+placed-made limit caller index (Put name value) (Old old at_place) m place rs now more = λ i. (now.1 i, record { caller = caller; index = index; change = change.Put name value }) ∷ more i
+placed-made limit caller index (Del name) (Old old at_place) m place rs now more = λ i. (now.1 i, record { caller = caller; index = index; change = change.Del name }) ∷ more i
+placed-made limit caller index (Get name) (Old old at_place) m place rs now more = more ∙ ap (λ n. enumerate_from n (writes_of rs)) (add-zero place)
+placed-made limit caller index (Scan from count) (Old old at_place) m place rs now more = absurd now.0
+placed-made limit caller index op (Parts parts cut) m place rs now more = more ∙ ap (λ n. enumerate_from n (writes_of rs)) (add-zero place)
+placed-made limit caller index op Full m place rs now more = more ∙ ap (λ n. enumerate_from n (writes_of rs)) (add-zero place)
+placed-made limit caller index op (Spent clock) m place rs now more = more ∙ ap (λ n. enumerate_from n (writes_of rs)) (add-zero place)
+placed-made limit caller index (Put name value) (Cut (At at_place)) m place rs now more = λ i. (now.1 i, record { caller = caller; index = index; change = change.Put name value }) ∷ more i
+placed-made limit caller index (Del name) (Cut (At at_place)) m place rs now more = λ i. (now.1 i, record { caller = caller; index = index; change = change.Del name }) ∷ more i
+placed-made limit caller index (Get name) (Cut (At at_place)) m place rs now more = absurd (let no : At at_place ≡ Read = now.0 in cc)
+placed-made limit caller index (Scan from count) (Cut (At at_place)) m place rs now more = absurd now.0
+placed-made limit caller index op (Cut Open) m place rs now more = more ∙ ap (λ n. enumerate_from n (writes_of rs)) (add-zero place)
+placed-made limit caller index op (Cut Found) m place rs now more = absurd now.1
+placed-made limit caller index op (Cut Lost) m place rs now more = absurd now.1
+placed-made limit caller index op (Cut Read) m place rs now more = more ∙ ap (λ n. enumerate_from n (writes_of rs)) (add-zero place)
+placed-made limit caller index op Unstarted m place rs now more = more ∙ ap (λ n. enumerate_from n (writes_of rs)) (add-zero place)
 
--- the places that records answered at once tell are those of their writes
-placed-along : (m : Map) (place : ℕ) (rs : List Record) → HoldsAlong Now m place rs → placed_writes rs ≡ enumerate_from place (writes_of rs)
-placed-along m place [] along = refl
-placed-along m place (r ∷ rs) along =
-    placed-made r.caller r.index r.op r.reply m place rs along.0 (placed-along (after_all m (write_of r)) (place + length (write_of r)) rs along.1)
+placed-along : (limit : ℕ) (m : Map) (place : ℕ) (rs : List Record) → HoldsAlong (Stands limit) m place rs → placed_writes rs ≡ enumerate_from place (writes_of rs)
+placed-along limit m place [] along = refl
+placed-along limit m place (r ∷ rs) along =
+    placed-made limit r.caller r.index r.op r.reply m place rs along.0 (placed-along limit (after_all m (write_of r)) (place + length (write_of r)) rs along.1)
 
 -- parts that all list one map at one place are those of a scan, wherever that map stands at that place
 part-at : (m : Map) (map_at : ℕ → Map) (here left place : ℕ) (low : List ℕ) (part : ScanPart) → map_at here ≡ m → part.place ≡ here →
@@ -109,11 +150,10 @@ last-at here place (part ∷ parts) is all = last-at here part.place parts all.0
 each-at : (here : ℕ) (parts : List ScanPart) → All (λ (part : ScanPart). part.place ≡ here) parts → AllByRecursion (λ (part : ScanPart). part.place ≡ here) parts
 each-at here parts all = recursion_from_All (λ (part : ScanPart). part.place ≡ here) parts all
 
--- a reply given at once is the answer of the map at that place, whatever is written later; where it tells the limit
--- reached, it is
-answer-now : (base : Map) (before later : List Write) (limit : ℕ) (op : Op) (reply : Reply) → IsAnswerNow (after_all base before) (length before) op reply →
-    (IsSpent reply → limit ≤ length before) → IsAnswer base (before ++ later) limit op reply
-answer-now base before later limit op reply now spent = by_parts op reply now spent where
+-- what stands now is an answer of the map at that place, whatever is written later
+answer-now : (base : Map) (before later : List Write) (limit : ℕ) (op : Op) (reply : Reply) → StandsNow limit (after_all base before) (length before) op reply →
+    IsAnswer base (before ++ later) limit op reply
+answer-now base before later limit op reply now = by_parts op reply now where
   then : (p : ℕ) → p ≡ length before → after_all base before ≡ after base (before ++ later) p
   then p is = ap (after_all base) (sym (ap (λ n. take n (before ++ later)) is ∙ take-append_seam before later))
 
@@ -128,65 +168,69 @@ answer-now base before later limit op reply now spent = by_parts op reply now sp
   of_parts (Scan from count) cut parts all is =
       parts-at (after_all base before) (after base (before ++ later)) (length before) count 0 from cut parts (sym (then (length before) refl)) (each-at (length before) parts all) is
 
-  by_parts : (o : Op) (r : Reply) → IsAnswerNow (after_all base before) (length before) o r → (IsSpent r → limit ≤ length before) → IsAnswer base (before ++ later) limit o r
-  by_parts o (Old old at_place) now spent = of_map o old at_place now.1 now.0
-  by_parts o (Parts parts cut) now spent = of_parts o cut parts now.2 now.1
-  by_parts o Full now spent = now
-  by_parts o (Spent clock) now spent = (now.0, omega (arith, now.1, spent tt))
-  by_parts o (Cut mark) now spent = absurd now
-  by_parts o Unstarted now spent = tt
+  by_parts : (o : Op) (r : Reply) → StandsNow limit (after_all base before) (length before) o r → IsAnswer base (before ++ later) limit o r
+  by_parts o (Old old at_place) now = of_map o old at_place now.1 now.0
+  by_parts o (Parts parts cut) now = of_parts o cut parts now.1 now.0
+  by_parts o Full now = now
+  by_parts o (Spent clock) now = (now.0, omega (arith, now.1, now.2))
+  by_parts o (Cut mark) now = now.0
+  by_parts o Unstarted now = tt
 
--- spent exactly by the limit
-abbrev SpentBy : ℕ → Map → ℕ → Record → Type 0
-SpentBy limit m place r = IsSpent r.reply ↔ (IsWriter r.op × (limit ≤ place))
-
-answers-along : (base : Map) (limit : ℕ) (before : List Write) (rs : List Record) → HoldsAlong Now (after_all base before) (length before) rs →
-    HoldsAlong (SpentBy limit) (after_all base before) (length before) rs → AllByRecursion (λ r. IsAnswer base (before ++ writes_of rs) limit r.op r.reply) rs
-answers-along base limit before [] along spent = tt
-answers-along base limit before (r ∷ rs) along spent =
+answers-along : (base : Map) (limit : ℕ) (before : List Write) (rs : List Record) → HoldsAlong (Stands limit) (after_all base before) (length before) rs →
+    AllByRecursion (λ r. IsAnswer base (before ++ writes_of rs) limit r.op r.reply) rs
+answers-along base limit before [] along = tt
+answers-along base limit before (r ∷ rs) along =
     let split : before ++ writes_of (r ∷ rs) ≡ (before ++ write_of r) ++ writes_of rs = ap (λ ws. before ++ ws) (writes_of-cons r rs) ∙ sym (append_assoc before (write_of r) (writes_of rs)) in
     let map_is : after_all (after_all base before) (write_of r) ≡ after_all base (before ++ write_of r) = sym (fold-append (λ n (w : Write). changed n w.change) base before (write_of r)) in
     let place_is : length before + length (write_of r) ≡ length (before ++ write_of r) = sym (length-append before (write_of r)) in
-    let moved : (P : Map → ℕ → Record → Type 0) → HoldsAlong P (after_all (after_all base before) (write_of r)) (length before + length (write_of r)) rs → HoldsAlong P (after_all base (before ++ write_of r)) (length (before ++ write_of r)) rs =
-    λ P on. subst (λ n. HoldsAlong P (after_all base (before ++ write_of r)) n rs) place_is (subst (λ n. HoldsAlong P n (length before + length (write_of r)) rs) map_is on) in (
-      answer-now base before (writes_of (r ∷ rs)) limit r.op r.reply along.0 (λ is. (spent.0.0 is).1),
+    let moved : HoldsAlong (Stands limit) (after_all base (before ++ write_of r)) (length (before ++ write_of r)) rs =
+    subst (λ n. HoldsAlong (Stands limit) (after_all base (before ++ write_of r)) n rs) place_is (subst (λ n. HoldsAlong (Stands limit) n (length before + length (write_of r)) rs) map_is along.1) in (
+      answer-now base before (writes_of (r ∷ rs)) limit r.op r.reply along.0,
       subst (λ ws. AllByRecursion (λ (q : Record). IsAnswer base ws limit q.op q.reply) rs) (sym split)
-          (answers-along base limit (before ++ write_of r) rs (moved Now along.1) (moved (SpentBy limit) spent.1)),
+          (answers-along base limit (before ++ write_of r) rs moved),
     )
 
--- a call that is answered at once takes effect between the writes before it and those that it leaves
-spans-now : (caller index : ℕ) (op : Op) (reply : Reply) (m : Map) (place : ℕ) → IsAnswerNow m place op reply →
+-- it takes effect between the writes before it and those that it leaves
+spans-now : (limit caller index : ℕ) (op : Op) (reply : Reply) (m : Map) (place : ℕ) → StandsNow limit m place op reply →
     IfSome (interval (made caller index op reply)) (λ i. (place ≤ i.start) × (i.end ≤ place + length (write_of (made caller index op reply))))
-spans-now caller index (Put name value) (Old old at_place) m place now = (omega (arith, now.1), omega (arith, now.1))
-spans-now caller index (Get name) (Old old at_place) m place now = (omega (arith, now.1), omega (arith, now.1))
-spans-now caller index (Del name) (Old old at_place) m place now = (omega (arith, now.1), omega (arith, now.1))
-spans-now caller index (Scan from count) (Old old at_place) m place now = absurd now.0
-spans-now caller index op (Parts [] cut) m place now = tt
-spans-now caller index op (Parts (part ∷ parts) cut) m place now =
-    let all = each-at place (part ∷ parts) now.2 in (omega (arith, all.0), omega (arith, last-at place part.place parts all.0 all.1))
-spans-now caller index op Full m place now = tt
-spans-now caller index op (Spent clock) m place now = (omega (arith, now.1), omega (arith, now.1))
-spans-now caller index op (Cut mark) m place now = absurd now
-spans-now caller index op Unstarted m place now = absurd now
-
-below-limit : (place limit : ℕ) → ((limit ≤ place) → ⊥) → place + 1 ≤ limit
-below-limit place limit never =
-    ⊎_elim (λ (same : place ≡ limit). absurd (never (omega arith)))
-    (λ (apart : (place < limit) ⊎ (limit < place)). ⊎_elim (λ (less : place < limit). omega arith) (λ (late : limit < place). absurd (never (omega arith))) apart)
-    (cases_order place limit)
+spans-now limit caller index (Put name value) (Old old at_place) m place now = (omega (arith, now.1), omega (arith, now.1))
+spans-now limit caller index (Get name) (Old old at_place) m place now = (omega (arith, now.1), omega (arith, now.1))
+spans-now limit caller index (Del name) (Old old at_place) m place now = (omega (arith, now.1), omega (arith, now.1))
+spans-now limit caller index (Scan from count) (Old old at_place) m place now = absurd now.0
+spans-now limit caller index op (Parts [] cut) m place now = tt
+spans-now limit caller index op (Parts (part ∷ parts) cut) m place now =
+    let all = each-at place (part ∷ parts) now.1 in (omega (arith, all.0), omega (arith, last-at place part.place parts all.0 all.1))
+spans-now limit caller index op Full m place now = tt
+spans-now limit caller index op (Spent clock) m place now = (omega (arith, now.1), omega (arith, now.1))
+spans-now limit caller index (Put name value) (Cut (At at_place)) m place now = (omega (arith, now.1), omega (arith, now.1))
+spans-now limit caller index (Del name) (Cut (At at_place)) m place now = (omega (arith, now.1), omega (arith, now.1))
+spans-now limit caller index (Get name) (Cut (At at_place)) m place now = absurd (let no : At at_place ≡ Read = now.0 in cc)
+spans-now limit caller index (Scan from count) (Cut (At at_place)) m place now = absurd now.0
+spans-now limit caller index op (Cut Open) m place now = tt
+spans-now limit caller index op (Cut Found) m place now = absurd now.1
+spans-now limit caller index op (Cut Lost) m place now = absurd now.1
+spans-now limit caller index op (Cut Read) m place now = tt
+spans-now limit caller index op Unstarted m place now = tt
 
 -- one that writes does so below the limit
-early-now : (caller index limit : ℕ) (op : Op) (reply : Reply) (m : Map) (place : ℕ) → IsAnswerNow m place op reply → IsSpent reply ↔ (IsWriter op × (limit ≤ place)) → place ≤ limit →
+early-now : (caller index limit : ℕ) (op : Op) (reply : Reply) (m : Map) (place : ℕ) → StandsNow limit m place op reply → place ≤ limit →
     place + length (write_of (made caller index op reply)) ≤ limit
-early-now caller index limit (Put name value) (Old old at_place) m place now spent early = below-limit place limit (λ late. spent.1 (tt, late))
-early-now caller index limit (Get name) (Old old at_place) m place now spent early = omega arith
-early-now caller index limit (Del name) (Old old at_place) m place now spent early = below-limit place limit (λ late. spent.1 (tt, late))
-early-now caller index limit (Scan from count) (Old old at_place) m place now spent early = omega arith
-early-now caller index limit op (Parts parts cut) m place now spent early = omega arith
-early-now caller index limit op Full m place now spent early = omega arith
-early-now caller index limit op (Spent clock) m place now spent early = omega arith
-early-now caller index limit op (Cut mark) m place now spent early = absurd now
-early-now caller index limit op Unstarted m place now spent early = absurd now
+early-now caller index limit (Put name value) (Old old at_place) m place now early = let below = now.2 tt in omega arith
+early-now caller index limit (Get name) (Old old at_place) m place now early = omega arith
+early-now caller index limit (Del name) (Old old at_place) m place now early = let below = now.2 tt in omega arith
+early-now caller index limit (Scan from count) (Old old at_place) m place now early = omega arith
+early-now caller index limit op (Parts parts cut) m place now early = omega arith
+early-now caller index limit op Full m place now early = omega arith
+early-now caller index limit op (Spent clock) m place now early = omega arith
+early-now caller index limit (Put name value) (Cut (At at_place)) m place now early = let below = now.2 tt in omega arith
+early-now caller index limit (Del name) (Cut (At at_place)) m place now early = let below = now.2 tt in omega arith
+early-now caller index limit (Get name) (Cut (At at_place)) m place now early = omega arith
+early-now caller index limit (Scan from count) (Cut (At at_place)) m place now early = omega arith
+early-now caller index limit op (Cut Open) m place now early = omega arith
+early-now caller index limit op (Cut Found) m place now early = omega arith
+early-now caller index limit op (Cut Lost) m place now early = omega arith
+early-now caller index limit op (Cut Read) m place now early = omega arith
+early-now caller index limit op Unstarted m place now early = omega arith
 
 weaker : (o : Option Interval) (P Q : Interval → Type 0) → ((i : Interval) → P i → Q i) → IfSome o P → IfSome o Q
 weaker None P Q to h = tt
@@ -204,16 +248,15 @@ spans-wider : (low high low' high' : ℕ) → low' ≤ low → high ≤ high' �
 spans-wider low high low' high' below above r =
     weaker (interval r) (λ i. (low ≤ i.start) × (i.end ≤ high)) (λ i. (low' ≤ i.start) × (i.end ≤ high')) (λ i h. (omega (arith, h.0), omega (arith, h.1)))
 
--- records answered at once take effect between the writes before them and those after them
-spans-along : (m : Map) (place : ℕ) (rs : List Record) → HoldsAlong Now m place rs → AllByRecursion (Spans place (place + length (writes_of rs))) rs
-spans-along m place [] along = tt
-spans-along m place (r ∷ rs) along =
+spans-along : (limit : ℕ) (m : Map) (place : ℕ) (rs : List Record) → HoldsAlong (Stands limit) m place rs → AllByRecursion (Spans place (place + length (writes_of rs))) rs
+spans-along limit m place [] along = tt
+spans-along limit m place (r ∷ rs) along =
     let here : ℕ = place + length (write_of r) in
     let total : place + length (writes_of (r ∷ rs)) ≡ here + length (writes_of rs) = ap (λ ws. place + length ws) (writes_of-cons r rs) ∙ omega (arith, length-append (write_of r) (writes_of rs)) in (
-      spans-wider place here place (place + length (writes_of (r ∷ rs))) (omega arith) (omega (arith, total)) r (spans-now r.caller r.index r.op r.reply m place along.0),
+      spans-wider place here place (place + length (writes_of (r ∷ rs))) (omega arith) (omega (arith, total)) r (spans-now limit r.caller r.index r.op r.reply m place along.0),
       each-weaker (Spans here (here + length (writes_of rs))) (Spans place (place + length (writes_of (r ∷ rs))))
           (spans-wider here (here + length (writes_of rs)) place (place + length (writes_of (r ∷ rs))) (omega arith) (omega (arith, total))) rs
-          (spans-along (after_all m (write_of r)) here rs along.1),
+          (spans-along limit (after_all m (write_of r)) here rs along.1),
     )
 
 -- the first call ends before the second starts
@@ -228,19 +271,18 @@ precedes-spans low place high r s before behind = by_intervals (interval r) (int
   by_intervals (Some i) None h k = tt
   by_intervals (Some i) (Some j) h k = omega (arith, h.1, k.0)
 
--- of two records answered at once, the one that stands first ends before the other starts
-precedes-along : (m : Map) (place : ℕ) (rs : List Record) → HoldsAlong Now m place rs → (j k : ℕ) → j < k → k < length rs → (d e : Record) →
+precedes-along : (limit : ℕ) (m : Map) (place : ℕ) (rs : List Record) → HoldsAlong (Stands limit) m place rs → (j k : ℕ) → j < k → k < length rs → (d e : Record) →
     Precedes (get_or rs j d) (get_or rs k e)
-precedes-along m place [] along j k less within d e = absurd (omega (arith, within))
-precedes-along m place (r ∷ rs) along zero zero less within d e = absurd (omega (arith, less))
-precedes-along m place (r ∷ rs) along zero (suc k) less within d e =
+precedes-along limit m place [] along j k less within d e = absurd (omega (arith, within))
+precedes-along limit m place (r ∷ rs) along zero zero less within d e = absurd (omega (arith, less))
+precedes-along limit m place (r ∷ rs) along zero (suc k) less within d e =
     let here : ℕ = place + length (write_of r) in
     let fits : k < length rs = omega (arith, within) in
-    precedes-spans place here (here + length (writes_of rs)) r (get_or rs k e) (spans-now r.caller r.index r.op r.reply m place along.0)
-    (All-from_recursion (Spans here (here + length (writes_of rs))) rs (spans-along (after_all m (write_of r)) here rs along.1) k e fits)
-precedes-along m place (r ∷ rs) along (suc j) zero less within d e = absurd (omega (arith, less))
-precedes-along m place (r ∷ rs) along (suc j) (suc k) less within d e =
-    precedes-along (after_all m (write_of r)) (place + length (write_of r)) rs along.1 j k (omega (arith, less)) (omega (arith, within)) d e
+    precedes-spans place here (here + length (writes_of rs)) r (get_or rs k e) (spans-now limit r.caller r.index r.op r.reply m place along.0)
+    (All-from_recursion (Spans here (here + length (writes_of rs))) rs (spans-along limit (after_all m (write_of r)) here rs along.1) k e fits)
+precedes-along limit m place (r ∷ rs) along (suc j) zero less within d e = absurd (omega (arith, less))
+precedes-along limit m place (r ∷ rs) along (suc j) (suc k) less within d e =
+    precedes-along limit (after_all m (write_of r)) (place + length (write_of r)) rs along.1 j k (omega (arith, less)) (omega (arith, within)) d e
 
 counts-all : (caller : ℕ) (before : List ℕ) → AllByRecursion (λ b. b ≡ caller) before → count_by (λ b. b == caller) before ≡ length before
 counts-all caller [] all = refl
@@ -262,12 +304,12 @@ numbered-index caller before (a ∷ asked) earlier one (suc k) within d =
     numbered-index caller (before ++ a.caller ∷ []) asked (each-push (λ b. b ≡ caller) before a.caller earlier one.0) one.1 k (omega (arith, within)) d
     ∙ omega (arith, length-append before (a.caller ∷ []))
 
-length-numbered : (before : List ℕ) (asked : List CallerOp) → length (numbered_after before asked) ≡ length asked
+pub length-numbered : (before : List ℕ) (asked : List CallerOp) → length (numbered_after before asked) ≡ length asked
 length-numbered before [] = refl
 length-numbered before (a ∷ asked) = ap suc (length-numbered (before ++ a.caller ∷ []) asked)
 
 -- where one caller has all calls, a record's index is its place among the records
-index-along : (caller : ℕ) (asked : List CallerOp) (records : List Record) → All (λ (a : CallerOp). a.caller ≡ caller) asked → map call_of records ≡ numbered asked →
+pub index-along : (caller : ℕ) (asked : List CallerOp) (records : List Record) → All (λ (a : CallerOp). a.caller ≡ caller) asked → map call_of records ≡ numbered asked →
     (k : ℕ) → k < length records → (d : Record) → (get_or records k d).index ≡ k
 index-along caller asked records one is k within d =
     let sizes : length records ≡ length asked = sym (length-map records call_of) ∙ ap length is ∙ length-numbered [] asked in
@@ -275,35 +317,22 @@ index-along caller asked records one is k within d =
     ap (λ (c : Call). c.index) at_k
     ∙ numbered-index caller [] asked tt (recursion_from_All (λ (a : CallerOp). a.caller ≡ caller) asked one) k (omega (arith, within, sizes)) (call_of d) ∙ zero-add k
 
-in-order : (caller : ℕ) (asked : List CallerOp) (base : Map) (records : List Record) → All (λ (a : CallerOp). a.caller ≡ caller) asked → map call_of records ≡ numbered asked →
-    IsLoneRound base records → KeepsCallersOrder records
-in-order caller asked base records one is along r s has_r has_s same less =
+in-order : (limit caller : ℕ) (asked : List CallerOp) (base : Map) (records : List Record) → All (λ (a : CallerOp). a.caller ≡ caller) asked → map call_of records ≡ numbered asked →
+    HoldsAlong (Stands limit) base 0 records → KeepsCallersOrder records
+in-order limit caller asked base records one is along r s has_r has_s same less =
     let first : r.index ≡ has_r.0 = ap (λ (q : Record). q.index) (sym has_r.2) ∙ index-along caller asked records one is has_r.0 has_r.1 r in
     let second : s.index ≡ has_s.0 = ap (λ (q : Record). q.index) (sym has_s.2) ∙ index-along caller asked records one is has_s.0 has_s.1 s in
     subst (λ (q : Record). Precedes r q) has_s.2
     (subst (λ (q : Record). Precedes q (get_or records has_s.0 s)) has_r.2
-    (precedes-along base 0 records along has_r.0 has_s.0 (omega (arith, first, second, less)) has_s.1 r s))
+    (precedes-along limit base 0 records along has_r.0 has_s.0 (omega (arith, first, second, less)) has_s.1 r s))
 
-early-along : (limit : ℕ) (m : Map) (place : ℕ) (rs : List Record) → HoldsAlong Now m place rs → HoldsAlong (SpentBy limit) m place rs → place ≤ limit →
-    place + length (writes_of rs) ≤ limit
-early-along limit m place [] along spent early = omega arith
-early-along limit m place (r ∷ rs) along spent early =
-    let here : place + length (write_of r) ≤ limit = early-now r.caller r.index limit r.op r.reply m place along.0 spent.0 early in
-    let behind = early-along limit (after_all m (write_of r)) (place + length (write_of r)) rs along.1 spent.1 here in
+early-along : (limit : ℕ) (m : Map) (place : ℕ) (rs : List Record) → HoldsAlong (Stands limit) m place rs → place ≤ limit → place + length (writes_of rs) ≤ limit
+early-along limit m place [] along early = omega arith
+early-along limit m place (r ∷ rs) along early =
+    let here : place + length (write_of r) ≤ limit = early-now r.caller r.index limit r.op r.reply m place along.0 early in
+    let behind = early-along limit (after_all m (write_of r)) (place + length (write_of r)) rs along.1 here in
     let split : length (writes_of (r ∷ rs)) ≡ length (write_of r) + length (writes_of rs) = ap length (writes_of-cons r rs) ∙ length-append (write_of r) (writes_of rs) in
     omega arith
-
-answered-now : (op : Op) (reply : Reply) (m : Map) (place : ℕ) → IsAnswerNow m place op reply → IsAnswered reply
-answered-now op (Old old at_place) m place now = tt
-answered-now op (Parts parts cut) m place now = now.0
-answered-now op Full m place now = tt
-answered-now op (Spent clock) m place now = tt
-answered-now op (Cut mark) m place now = absurd now
-answered-now op Unstarted m place now = absurd now
-
-answered-along : (m : Map) (place : ℕ) (rs : List Record) → HoldsAlong Now m place rs → AllByRecursion (λ r. IsAnswered r.reply) rs
-answered-along m place [] along = tt
-answered-along m place (r ∷ rs) along = (answered-now r.op r.reply m place along.0, answered-along (after_all m (write_of r)) (place + length (write_of r)) rs along.1)
 
 -- one caller stands in a list with an element
 some-caller : (calls : List Call) → 0 < length calls → 1 ≤ callers_among (map (λ c. c.caller) calls)
@@ -328,28 +357,45 @@ few-writes (r ∷ rs) =
     at_most None = omega arith
     at_most (Some w) = omega arith
 
-in-time : (base : Map) (limit : ℕ) (asked : List CallerOp) (records : List Record) → map call_of records ≡ numbered asked → IsLoneRound base records → IsSpentExactly limit base records →
+in-time : (base : Map) (limit : ℕ) (asked : List CallerOp) (records : List Record) → map call_of records ≡ numbered asked → HoldsAlong (Stands limit) base 0 records →
     PlacesKeepLimit limit (map (λ c. c.caller) (numbered asked)) (writes_of records)
-in-time base limit asked records is along spent place within =
-    let early : 0 + length (writes_of records) ≤ limit = early-along limit base 0 records along spent (omega arith) in
+in-time base limit asked records is along place within =
+    let early : 0 + length (writes_of records) ≤ limit = early-along limit base 0 records along (omega arith) in
     let few : length (writes_of records) ≤ length records = few-writes records in
     let sizes : length (numbered asked) ≡ length records = ap length (sym is) ∙ length-map records call_of in
     let one : 1 ≤ callers_among (map (λ c. c.caller) (numbered asked)) = some-caller (numbered asked) (omega arith) in
     omega arith
 
+answered-now : (op : Op) (reply : Reply) (m : Map) (place : ℕ) → IsAnswerNow m place op reply → IsAnswered reply
+answered-now op (Old old at_place) m place now = tt
+answered-now op (Parts parts cut) m place now = now.0
+answered-now op Full m place now = tt
+answered-now op (Spent clock) m place now = tt
+answered-now op (Cut mark) m place now = absurd now
+answered-now op Unstarted m place now = absurd now
+
+pub answered-along : (m : Map) (place : ℕ) (rs : List Record) → HoldsAlong (λ (n : Map) (k : ℕ) (r : Record). IsAnswerNow n k r.op r.reply) m place rs → AllByRecursion (λ (r : Record). IsAnswered r.reply) rs
+answered-along m place [] along = tt
+answered-along m place (r ∷ rs) along = (answered-now r.op r.reply m place along.0, answered-along (after_all m (write_of r)) (place + length (write_of r)) rs along.1)
+
+-- records of one caller that stand so are a legal round
+pub standing_are_legal : (base : Map) (caller : ℕ) (asked : List CallerOp) (limit : ℕ) (records : List Record) → All (λ (a : CallerOp). a.caller ≡ caller) asked → map call_of records ≡ numbered asked →
+    HoldsAlong (Stands limit) base 0 records → IsLegalRound base (numbered asked) limit records (writes_of records)
+standing_are_legal base caller asked limit records one is along = record {
+  each_call = subst (λ (calls : List Call). IsPermutation (numbered asked) calls) (sym is) (IsPermutation-refl (numbered asked));
+  by_place = subst (λ (ws : List (ℕ × Write)). IsPermutation (placed_writes records) ws) (placed-along limit base 0 records along) (IsPermutation-refl (placed_writes records));
+  answers = All-from_recursion (λ r. IsAnswer base (writes_of records) limit r.op r.reply) records (answers-along base limit [] records along);
+  within = All-from_recursion (λ r. IfSome (interval r) (λ i. i.end ≤ length (writes_of records))) records
+      (each-weaker (Spans 0 (0 + length (writes_of records))) (λ r. IfSome (interval r) (λ i. i.end ≤ length (writes_of records)))
+      (λ r. weaker (interval r) (λ i. (0 ≤ i.start) × (i.end ≤ 0 + length (writes_of records))) (λ i. i.end ≤ length (writes_of records)) (λ i h. omega (arith, h.1)))
+      records (spans-along limit base 0 records along));
+  in_order = in-order limit caller asked base records one is along;
+  in_time = in-time base limit asked records is along;
+}
+
 pub lone_rounds_are_legal : LoneRoundsAreLegal
 lone_rounds_are_legal base caller asked limit records one is along spent = record {
-  legal = record {
-    each_call = subst (λ (calls : List Call). IsPermutation (numbered asked) calls) (sym is) (IsPermutation-refl (numbered asked));
-    by_place = subst (λ (ws : List (ℕ × Write)). IsPermutation (placed_writes records) ws) (placed-along base 0 records along) (IsPermutation-refl (placed_writes records));
-    answers = All-from_recursion (λ r. IsAnswer base (writes_of records) limit r.op r.reply) records (answers-along base limit [] records along spent);
-    within = All-from_recursion (λ r. IfSome (interval r) (λ i. i.end ≤ length (writes_of records))) records
-        (each-weaker (Spans 0 (0 + length (writes_of records))) (λ r. IfSome (interval r) (λ i. i.end ≤ length (writes_of records)))
-        (λ r. weaker (interval r) (λ i. (0 ≤ i.start) × (i.end ≤ 0 + length (writes_of records))) (λ i. i.end ≤ length (writes_of records)) (λ i h. omega (arith, h.1)))
-        records (spans-along base 0 records along));
-    in_order = in-order caller asked base records one is along;
-    in_time = in-time base limit asked records is along spent;
-  };
+  legal = standing_are_legal base caller asked limit records one is (answered-stand limit base 0 records along spent);
   answered = All-from_recursion (λ r. IsAnswered r.reply) records (answered-along base 0 records along);
   leaves = refl;
 }

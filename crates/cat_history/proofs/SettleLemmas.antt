@@ -23,11 +23,11 @@ use Rattle.cat_history.specs.declared.record.Reply.TheVariants.{Old, Parts, Full
 use Rattle.cat_history.proofs.CrashEndLemmas.{by_found}
 
 -- what one function gives of each element, it gives of what the other makes of it
-alike : {A B : Type 0} (f : A → A) (g : A → B) → ((a : A) → g (f a) ≡ g a) → (l : List A) → map g (map f l) ≡ map g l
+pub alike : {A B : Type 0} (f : A → A) (g : A → B) → ((a : A) → g (f a) ≡ g a) → (l : List A) → map g (map f l) ≡ map g l
 alike f g same [] = refl
 alike f g same (a ∷ l) = λ i. same a i ∷ alike f g same l i
 
-alike_given : {A B : Type 0} (f : A → A) (g : A → Option B) → ((a : A) → g (f a) ≡ g a) → (l : List A) → filter_map g (map f l) ≡ filter_map g l
+pub alike_given : {A B : Type 0} (f : A → A) (g : A → Option B) → ((a : A) → g (f a) ≡ g a) → (l : List A) → filter_map g (map f l) ≡ filter_map g l
 alike_given f g same [] = refl
 alike_given f g same (a ∷ l) = λ i. cons_option (same a i) (alike_given f g same l i)
 
@@ -153,7 +153,7 @@ module _ (end : Map) where
   reply-says op (Cut mark) still = asked-says (change_asked op) mark still.0 still.1
   reply-says op Unstarted still = tt
 
-  write-same : (r : Record) → placed_write (settled end r) ≡ placed_write r
+  pub write-same : (r : Record) → placed_write (settled end r) ≡ placed_write r
   write-same r =
       ap (λ (o : Option ℕ). elim o [
         | None ↦ None

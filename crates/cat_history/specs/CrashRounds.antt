@@ -41,6 +41,14 @@ is_unplaced Found = true
 is_unplaced Lost = true
 is_unplaced Read = false
 
+-- A mark that tells no other place than this one, and isn't settled.
+abbrev pub IsMarkNow : ℕ → CutMark → Type 0
+IsMarkNow place (At at_place) = at_place ≡ place
+IsMarkNow place Open = Unit {0}
+IsMarkNow place Found = ⊥
+IsMarkNow place Lost = ⊥
+IsMarkNow place Read = Unit {0}
+
 -- The change that was cut off without a place, if there was one.
 abbrev pub change_cut : Op → Reply → Option Change
 change_cut op (Old old place) = None

@@ -1,6 +1,7 @@
 -- Which rounds are legal.
-use Rattle.std.specs.Prelude.{◌≡◌, ◌≢◌, ℕ, ◌<◌, ◌≤◌, Bool, false, List, All, Contains, Option, IfSome, length, map}
-use Rattle.std.specs.List.{enumerate_from}
+use Rattle.std.specs.Prelude.{◌≡◌, ◌≢◌, ℕ, ◌<◌, ◌≤◌, Bool, true, false, not, List, ◌++◌, All, Contains, Option, IfSome}
+use Rattle.std.specs.Prelude.{length, map}
+use Rattle.std.specs.List.{enumerate_from, filter}
 use Rattle.std.specs.List.Sorted.{IsPermutation}
 use Rattle.cat_history.specs.Callers.{PlacesKeepLimit}
 use Rattle.cat_history.specs.Maps.{Map, at}
@@ -97,6 +98,26 @@ IsAnswered Full = Unit {0}
 IsAnswered (Spent clock) = Unit {0}
 IsAnswered (Cut mark) = ⊥
 IsAnswered Unstarted = ⊥
+
+-- The same as a test, and those of the records whose calls were answered.
+abbrev pub is_answered : Reply → Bool
+is_answered (Old old place) = true
+is_answered (Parts parts cut) = not cut
+is_answered Full = true
+is_answered (Spent clock) = true
+is_answered (Cut mark) = false
+is_answered Unstarted = false
+
+abbrev pub answered_records : List Record → List Record
+answered_records records = filter (λ r. is_answered r.reply) records
+
+-- Where each call was answered those are all; and where the first calls were answered and none of the others, the first.
+abbrev pub AnsweredAreAll : Type 0
+AnsweredAreAll = (records : List Record) → All (λ r. IsAnswered r.reply) records → answered_records records ≡ records
+
+abbrev pub AnsweredComeFirst : Type 0
+AnsweredComeFirst = (done rest : List Record) → All (λ r. IsAnswered r.reply) done →
+    All (λ r. IsAnswered r.reply → ⊥) rest → answered_records (done ++ rest) ≡ done
 
 -- A legal round whose callers were joined at its end: each call was answered, and the map is that after all writes.
 pub record IsJoinedRound (base : Map) (calls : List Call) (limit : ℕ) (records : List Record) (writes : List Write)

@@ -4,12 +4,19 @@ ghost use Rattle.cat_history.specs.Callers.{LateWritesAreFew};
 ghost use Rattle.cat_history.specs.CrashEnds.{OldOrCutIsCrashEnd, NoneOrOneIsCrashEnd};
 ghost use Rattle.cat_history.specs.CrashRounds.{SettledIsCrashRound};
 ghost use Rattle.cat_history.specs.LoneRounds.{LoneRoundsAreLegal};
+ghost use Rattle.cat_history.specs.Rounds.{AnsweredAreAll, AnsweredComeFirst};
 ghost use Rattle.cat_history.specs.Scans.{PartsAreLater, PartsFollow, RangesRise, ScanIsWhole, ScansRise};
 
 /// A round in which one caller alone has calls, each answered at once and spent exactly by the limit, is a legal one
 /// that was joined.
 pub fn lone_round_law()
     ensures { LoneRoundsAreLegal }
+{}
+
+/// Which records are answered: all of a round in which each call was, and the first ones where none of the others was.
+pub fn answered_law()
+    ensures all { AnsweredAreAll }
+    ensures first { AnsweredComeFirst }
 {}
 
 /// What a scan lists. If the map is the same at all its places, then its parts together list the first names from the

@@ -1,6 +1,6 @@
 -- Shapes along the records of a round, and from round to round.
 use Rattle.std.proofs.Common.{◌≡◌, ℕ, ◌+◌, ◌-◌, ◌≤◌, Bool, true, false, ◌↔◌, is_some, is_none, Option, Some, None, List, [], ◌∷◌, ◌++◌, length, get_or, cond, refl, sym, ap, subst, ◌∙◌, arith, All}
-use Rattle.std.proofs.lemmas.List.Elements.{All-from_recursion}
+use Rattle.std.proofs.lemmas.List.Elements.{All-from_recursion, recursion_from_All}
 use Rattle.std.proofs.lemmas.List.Sums.{fold-append}
 use Rattle.std.specs.FinMap.{len, insert, remove, len-insert, len-remove}
 use Rattle.std.specs.Cmp.Lexicographic.{nat_list_cmp_total}
@@ -8,6 +8,7 @@ use Rattle.std.specs.List.{AllByRecursion}
 use Rattle.cat_history.specs.Maps.{Map, at}
 use Rattle.cat_history.specs.Writes.{after_all, changed}
 use Rattle.cat_history.specs.LoneRounds.{write_of, writes_of, HoldsAlong, IsAnswerNow}
+use Rattle.cat_history.specs.Rounds.{is_answered, answered_records}
 use Rattle.cat_history.specs.declared.op.Op.{Op}
 use Rattle.cat_history.specs.declared.op.Op.TheVariants.{Put, Get, Del, Scan}
 use Rattle.cat_history.specs.declared.op.Write.{Write}
@@ -193,21 +194,68 @@ goes_within slots nodes weighs names m anchors records within is =
       record { shape = is.shape; light = omega arith; few = omega arith },
     )
 
+-- ---- rounds that stopped
+
+-- the answered records add no more names than all
+pub answered-add : (records : List Record) → puts_added (answered_records records) ≤ puts_added records
+answered-add [] = omega arith
+answered-add (r ∷ records) = by_test (is_answered r.reply) (answered-add records) where
+  by_test : (b : Bool) → puts_added (answered_records records) ≤ puts_added records →
+      puts_added (cond b (r ∷ answered_records records) (answered_records records)) ≤ one_added r.op r.reply + puts_added records
+  by_test true few = omega arith
+  by_test false few = omega arith
+
+-- one that wasn't answered isn't full
+full-answered : (reply : Reply) → is_answered reply ≡ false → reply ≡ Full → ⊥
+full-answered reply unanswered is = let no : true ≡ false = ap is_answered (sym is) ∙ unanswered in cc
+
+-- what pays for the full ones of the answered records pays for those of all
+all-paid : (slots nodes weighs names : ℕ) (records : List Record) → AllByRecursion (FullIsPaid slots nodes weighs names) (answered_records records) →
+    AllByRecursion (FullIsPaid slots nodes weighs names) records
+all-paid slots nodes weighs names [] paid = tt
+all-paid slots nodes weighs names (r ∷ records) paid = by_test (is_answered r.reply) refl (all-paid slots nodes weighs names records) paid where
+  by_test : (b : Bool) → is_answered r.reply ≡ b →
+      (AllByRecursion (FullIsPaid slots nodes weighs names) (answered_records records) → AllByRecursion (FullIsPaid slots nodes weighs names) records) →
+      AllByRecursion (FullIsPaid slots nodes weighs names) (cond b (r ∷ answered_records records) (answered_records records)) →
+      FullIsPaid slots nodes weighs names r × AllByRecursion (FullIsPaid slots nodes weighs names) records
+  by_test true is rest all = (all.0, rest all.1)
+  by_test false is rest all = (λ full. absurd (full-answered r.reply is full), rest all)
+
+-- what the answered records of a round pay for and leave within bounds, all its records do
+pub stops_within : (slots nodes weighs names : ℕ) (m : Map) (anchors : Anchors) (records : List Record) → IsShapeWithin slots nodes weighs names m anchors →
+    RoundInShape slots nodes m anchors (answered_records records) →
+    All (FullIsPaid slots nodes (weighs + puts_added records) (names + puts_added records)) records
+    × IsShapeWithin slots nodes (weighs + puts_added records) (names + puts_added records) (after_all m (writes_of (answered_records records))) (anchors_end slots m anchors (answered_records records))
+stops_within slots nodes weighs names m anchors records within is =
+    let answered : List Record = answered_records records in
+    let fewer = answered-add records in
+    let here = goes_within slots nodes weighs names m anchors answered within is in
+    let light = here.1.light in
+    let few = here.1.few in (
+      All-from_recursion (FullIsPaid slots nodes (weighs + puts_added records) (names + puts_added records)) records
+          (all-paid slots nodes (weighs + puts_added records) (names + puts_added records) records
+          (recursion_from_All (FullIsPaid slots nodes (weighs + puts_added records) (names + puts_added records)) answered
+          (λ k r inside. more-pays slots nodes (weighs + puts_added answered) (names + puts_added answered) (weighs + puts_added records) (names + puts_added records) (omega arith) (omega arith) (get_or answered k r)
+          (here.0 k r inside)))),
+      record { shape = here.1.shape; light = omega arith; few = omega arith },
+    )
+
 -- a round goes on from a shape within its bounds to one within its own, and pays for its full answers
 one-round : (slots nodes weighs names : ℕ) (m : Map) (anchors : Anchors) (lone joined : Bool) (records : List Record) (end : Map) (next : Anchors) → 2 ≤ slots → IsShapeWithin slots nodes weighs names m anchors →
     GoesOnFrom slots nodes (weighs + puts_added records) (names + puts_added records) m anchors (record { lone = lone; joined = joined; records = records; end = end }) next →
     All (FullIsPaid slots nodes (weighs + puts_added records) (names + puts_added records)) records
     × IsShapeWithin slots nodes (weighs + puts_added records) (names + puts_added records) end next
 one-round slots nodes weighs names m anchors true joined records end next enough within goes =
-    let is = goes_within slots nodes weighs names m anchors records within (lone_rounds_keep_shape slots nodes m anchors records enough within.shape goes.0.0 goes.0.1) in
+    let is = stops_within slots nodes weighs names m anchors records within (lone_rounds_keep_shape slots nodes m anchors (answered_records records) enough within.shape goes.0.0 goes.0.1) in
     (is.0, by-end joined is.1 goes.1)
   where
-    by-end : (joined : Bool) → IsShapeWithin slots nodes (weighs + puts_added records) (names + puts_added records) (after_all m (writes_of records)) (anchors_end slots m anchors records) →
+    by-end : (joined : Bool) →
+        IsShapeWithin slots nodes (weighs + puts_added records) (names + puts_added records) (after_all m (writes_of (answered_records records))) (anchors_end slots m anchors (answered_records records)) →
         LeavesShape slots nodes (weighs + puts_added records) (names + puts_added records) m anchors (record { lone = true; joined = joined; records = records; end = end }) next →
         IsShapeWithin slots nodes (weighs + puts_added records) (names + puts_added records) end next
     by-end true here leaves =
         subst (IsShapeWithin slots nodes (weighs + puts_added records) (names + puts_added records) end) (sym leaves.1)
-        (subst (λ n. IsShapeWithin slots nodes (weighs + puts_added records) (names + puts_added records) n (anchors_end slots m anchors records)) (sym leaves.0) here)
+        (subst (λ n. IsShapeWithin slots nodes (weighs + puts_added records) (names + puts_added records) n (anchors_end slots m anchors (answered_records records))) (sym leaves.0) here)
     by-end false here leaves = leaves
 one-round slots nodes weighs names m anchors false joined records end next enough within goes = goes
 

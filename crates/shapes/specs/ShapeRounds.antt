@@ -5,6 +5,7 @@ use Rattle.std.specs.FinMap.{len}
 use Rattle.cat_history.specs.Maps.{Map}
 use Rattle.cat_history.specs.Writes.{after_all}
 use Rattle.cat_history.specs.LoneRounds.{write_of, writes_of, IsLoneRound}
+use Rattle.cat_history.specs.Rounds.{answered_records}
 use Rattle.cat_history.specs.declared.op.Op.{Op}
 use Rattle.cat_history.specs.declared.op.Op.TheVariants.{Put, Get, Del, Scan}
 use Rattle.cat_history.specs.declared.record.Record.{Record}
@@ -58,12 +59,13 @@ abbrev pub IsBoundedByShape : ℕ → Map → Anchors → List Record → Type 0
 IsBoundedByShape slots base anchors records =
     HoldsInShape slots (λ m shape r. EndsWithMembers shape r.reply) base anchors records
 
--- One for the record of a put that added a name.
+-- One for the record of a put that added a name, or was cut off: that one may have added it.
 abbrev pub one_added : Op → Reply → ℕ
 one_added (Put name value) (Old None place) = 1
+one_added (Put name value) (Cut mark) = 1
 one_added op reply = 0
 
--- How many puts of the records added a name.
+-- How many puts of the records added a name, those that were cut off among them.
 abbrev pub puts_added : List Record → ℕ
 puts_added [] = 0
 puts_added (r ∷ records) = one_added r.op r.reply + puts_added records
@@ -91,7 +93,7 @@ LoneRoundsKeepShape = (slots nodes : ℕ) (base : Map) (anchors : Anchors) (reco
 -- ---- from round to round
 
 -- What a report tells of a round, as far as shapes go: whether one caller at most has calls in it, whether it was
--- joined, its answered records, and the map that it leaves.
+-- joined, its records, and the map that it leaves.
 pub record ToldRound : Type 0 where
   pub lone : Bool
   pub joined : Bool
@@ -104,11 +106,12 @@ pub record IsShapeWithin (slots nodes weighs names : ℕ) (m : Map) (anchors : A
   pub light : weight slots m anchors ≤ weighs
   pub few : len m ≤ names
 
--- Where one caller at most has calls, joined or not, its answers are those of the map and the shape; in any other round
--- the full ones are paid for.
+-- Where one caller at most has calls, joined or not, those that were answered are so by the map and the shape; in any
+-- other round the full ones are paid for.
 abbrev pub AnswersInShape : ℕ → ℕ → ℕ → ℕ → Map → Anchors → ToldRound → Type 0
 AnswersInShape slots nodes weighs names m anchors round =
-    MatchBool round.lone (IsLoneRound m round.records × IsFullByShape slots nodes m anchors round.records)
+    MatchBool round.lone
+    (IsLoneRound m (answered_records round.records) × IsFullByShape slots nodes m anchors (answered_records round.records))
     (All (FullIsPaid slots nodes weighs names) round.records)
 
 -- Where that round was joined, the next shape is what its calls made of this one. After any other round the next one
@@ -116,7 +119,8 @@ AnswersInShape slots nodes weighs names m anchors round =
 abbrev pub LeavesShape : ℕ → ℕ → ℕ → ℕ → Map → Anchors → ToldRound → Anchors → Type 0
 LeavesShape slots nodes weighs names m anchors round next =
     MatchBool (round.lone && round.joined)
-    ((round.end ≡ after_all m (writes_of round.records)) × (next ≡ anchors_end slots m anchors round.records))
+    ((round.end ≡ after_all m (writes_of (answered_records round.records)))
+    × (next ≡ anchors_end slots m anchors (answered_records round.records)))
     (IsShapeWithin slots nodes weighs names round.end next)
 
 -- One round from an opening shape to the next.
