@@ -134,13 +134,13 @@ pub record Ran (s0 s : Index) (i : ℕ) (c : CoreCall) (answer : Once Placed) (t
   pub weighs : weight_of s ≤ weight_of s0 + added_whole (op_of c) (whole_of answer)
 
 -- a walk there makes no more hops than lines are READY
-walk_is_short : (s : Index) → IsIndex s → IsQuiet s → (name : List ℕ) (hops : ℕ) → HasShortWays s → WalksBy s.layout s.words name hops → hops ≤ ready_lines (world s)
+pub walk_is_short : (s : Index) → IsIndex s → IsQuiet s → (name : List ℕ) (hops : ℕ) → HasShortWays s → WalksBy s.layout s.words name hops → hops ≤ ready_lines (world s)
 walk_is_short s is quiet name hops short walks =
     let can = can_walk s is quiet in
     short_walks (world s) (key_of name) walks.start hops can.quiet can.order short walks.begins walks.comes
 
 -- a call that took place leaves no fewer lines READY
-ready_rises : (w0 w : World) (name : List ℕ) (caller : ℕ) (placed : Placed) → w.layout ≡ w0.layout → LeavesLines name caller w0 w (once.Done placed) → ready_lines w0 ≤ ready_lines w
+pub ready_rises : (w0 w : World) (name : List ℕ) (caller : ℕ) (placed : Placed) → w.layout ≡ w0.layout → LeavesLines name caller w0 w (once.Done placed) → ready_lines w0 ≤ ready_lines w
 ready_rises w0 w name caller placed layout = ⊎_elim
     (λ (kept : HasKeptList w0 w × KeepsLines w0 w). let same = (ready_are_counted caller w0 w layout).0 kept.1 in omega arith)
     (λ (made : IsMergedSince name w0 w × MakesReady caller w0 w). let one = (ready_are_counted caller w0 w layout).1 made.1 in omega arith)

@@ -33,6 +33,7 @@ pub mod Taken
 pub mod Alone
 pub mod Retrying
 pub mod PartTries
+pub mod Costs
 pub mod Either
 pub mod Endings
 pub mod Told

@@ -1,5 +1,5 @@
 -- A whole turn of the updater with nothing else in flight.
-use Rattle.std.proofs.Common.{◌≡◌, ◌≢◌, ℕ, ◌/◌, ◌%◌, ◌<◌, ◌≤◌, ◌^◌, ◌⊎◌, inl, inr, ⊎_elim, cond, List, set, refl, sym, ap, ◌∙◌, subst, arith}
+use Rattle.std.proofs.Common.{◌+◌, ◌≡◌, ◌≢◌, ℕ, ◌/◌, ◌%◌, ◌<◌, ◌≤◌, ◌^◌, ◌⊎◌, inl, inr, ⊎_elim, cond, List, set, refl, sym, ap, ◌∙◌, subst, arith}
 use Rattle.std.specs.Prelude.{Option, Some, None, true, false}
 use Rattle.std.proofs.lemmas.Bool.{cases_eq, ne_eqb}
 use mathlib.Core.Option.{none, some, some-injective}
@@ -39,8 +39,8 @@ use Rattle.lone_turn.specs.LoneTurns.{line_state, frees_node, status_then, AreEm
 use Rattle.call_stages.specs.Kinds.{free_status, gone_status}
 use Rattle.pm_words.specs.declared.layout.Layout.{Layout}
 use Rattle.index_law.specs.Facts.{Facts}
-use Rattle.index_law.specs.Worlds.{World, facts}
-use Rattle.index_law.specs.Weights.{gone_weight, index_weight}
+use Rattle.index_law.specs.Worlds.{Party, World, facts}
+use Rattle.index_law.specs.Weights.{gone_weight, index_weight, weight_sum}
 use Rattle.index_law.proofs.Weights.{gone_less}
 use Rattle.index_core.specs.Weights.{weight_of}
 use Rattle.lone_turn.proofs.Begins.{turns_begin}
@@ -49,11 +49,13 @@ use Rattle.index_core.specs.declared.party.PartyState.{PartyState}
 use Rattle.index_core.specs.PartyStates.{resting, turning_of, turn_after, turn_reply}
 use Rattle.index_core.specs.Indexes.{Index, IsIndex, IsTurning, footed, layered, world}
 use Rattle.index_core.specs.Lone.{IsQuiet}
-use Rattle.index_core.specs.Turns.{StartsTurn, TurnSteps, TurnsAlone, turn_told, turned_index}
+use Rattle.index_core.specs.Costs.{turn_actions}
+use Rattle.index_core.specs.Turns.{StartsTurn, TurnSteps, TurnsAlone, turn_begun, turn_told, turned_index}
 use Rattle.index_core.proofs.Layering.{turn_of, rest_turns, at_rest}
 use Rattle.index_core.proofs.Lists.{map_there, set_twice}
 use Rattle.index_core.proofs.Quiet.{quiet_parties, quiet_lines}
-use Rattle.index_core.proofs.Turning.{layered_is}
+use Rattle.index_core.proofs.MachineLaw.{idle_weigh}
+use Rattle.index_core.proofs.Turning.{layered_is, parties_same, turns_keep}
 
 -- An index with nothing in flight is idle for a turn.
 pub quiet_is_idle_for_turns : (s : Index) → IsIndex s → IsQuiet s → IsIdle (layered s)
@@ -90,6 +92,7 @@ pub record LoneTurn (s0 s : Index) (i stamp release : ℕ) : Type 0 where
   pub there : get_elem? s0.states i ≡ some state
   pub is : s ≡ record s0 { words = s.words; states = set s0.states i (record state { turn = Some making }) }
   pub stands : TurnStands s0 s i stamp release making
+  pub weighs : weight_sum (world s) ≤ weight_of s0
 
 pub lone_turn_begins : (s0 s : Index) (i stamp release : ℕ) → IsIndex s0 → IsQuiet s0 → 1 ≤ stamp → stamp < 2 ^ 64 → StartsTurn s0 i stamp release s → IsIndex s → LoneTurn s0 s i stamp release
 lone_turn_begins s0 s i stamp release is0 quiet some_stamp small starts is = record {
@@ -103,6 +106,13 @@ lone_turn_begins s0 s i stamp release is0 quiet some_stamp small starts is = rec
   there = starts.there;
   is = starts.is ∙ ap (λ (w : List ℕ). record s0 { words = w; states = set s0.states i (record (starts.state) { turn = Some (making_from s0.layout s0.generation stamp release) }) }) (sym (ap (λ (v : Index). v.words) starts.is));
   stands = (ap (λ (v : Index). v.words) starts.is, refl);
+  weighs =
+      let begun : Index = turn_begun s0 i starts.state stamp release in
+      let same : weight_sum (world begun) ≡ weight_sum (world s0) =
+      ap (λ (ps : List Party). weight_sum (record (world s0) { parties = ps })) (parties_same s0 i starts.state (Some (making_from s0.layout s0.generation stamp release)) starts.there) in
+      let light = ap (λ (v : Index). weight_sum (world v)) starts.is in
+      let rests = idle_weigh s0 quiet in
+      omega (arith, same, light, rests);
 }
 
 pub lone_turn_there : (s0 s : Index) (i stamp release : ℕ) (o : LoneTurn s0 s i stamp release) → get_elem? s.states i ≡ some (record (o.state) { turn = Some o.making })
@@ -121,6 +131,17 @@ turn_left_at s i = elim (get_elem? s.states i) [
   | none ↦ 0
   | some e ↦ left_of_turn e.turn
 ]
+
+-- as it begins
+pub turn_left_begins : (s0 s : Index) (i stamp release : ℕ) → 1 ≤ s0.layout.callers → StartsTurn s0 i stamp release s → turn_left_at s i + 1 ≤ turn_actions s0.layout
+turn_left_begins s0 s i stamp release some_caller t =
+    let now : PartyState = record (t.state) { turn = Some (making_from s0.layout s0.generation stamp release) } in
+    let there : get_elem? s.states i ≡ some now = ap (λ (v : Index). get_elem? v.states i) t.is ∙ set_here s0.states i now t.state t.there in
+    let is : turn_left_at s i ≡ left_of_turn now.turn = ap left_in there in
+    omega (arith, is, some_caller)
+  where
+    left_in : mathlib.Core.Option.Option PartyState → ℕ
+    left_in found = elim found [ none ↦ 0 | some e ↦ left_of_turn e.turn ]
 
 -- What it made FREE weighs nothing any more.
 was_gone : (w : World) (stamp release n : ℕ) → status_then w stamp release n ≡ gone_status → (facts w).status n ≡ gone_status
@@ -321,6 +342,11 @@ module _ (s0 s s' : Index) (i stamp release : ℕ) (o : LoneTurn s0 s i stamp re
               there = o.there;
               is = is;
               stands = stands;
+              weighs =
+                  let before = o.weighs in
+                  let step = (turns_keep s i st o.making o.index at_i refl).weighs in
+                  let after = ap (λ (v : Index). weight_sum (world v)) stepped in
+                  omega (arith, before, step, after);
             },
             let was : turn_left_at s i ≡ making_left o.making = ap left_in at_i in
                 let left : turn_left_at s' i ≡ making_left (Working work) = ap left_in there in

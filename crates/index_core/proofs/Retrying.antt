@@ -93,7 +93,7 @@ pub record TurnedBack (s s1 : Index) (i : ℕ) (c : CoreCall) : Type 0 where
   unworn : FindsWornNode c s → ⊥
   below : IsOver c s → ⊥
   again : IsMadeAgain i c s
-  turned : NeedsNoTurn i c s → ⊥
+  pub turned : NeedsNoTurn i c s → ⊥
   history : s1.history ≡ s.history
   list : HasSameList s s1
   unmoved : IsUnmoved s.layout s.words s1.words (node_for s (name_asked (op_of c)))
@@ -124,7 +124,7 @@ module _ (s s1 : Index) (i : ℕ) (c : CoreCall) (is : IsIndex s) (quiet : IsQui
   noded (call.Recheck node version) full has lacks = full
   noded (call.Turn stamp release) full has lacks = full
 
-  turned_back : (r : Once Placed) → (lacks_line r ≡ true) ⊎ (lacks_node r ≡ true) → IsAnswered (world s) (op_of c) (limit_of c) (world s1) (party_of state) r → TurnedBack s s1 i c
+  pub turned_back : (r : Once Placed) → (lacks_line r ≡ true) ⊎ (lacks_node r ≡ true) → IsAnswered (world s) (op_of c) (limit_of c) (world s1) (party_of state) r → TurnedBack s s1 i c
   turned_back (once.Again again.LogFull) lacks (unworn, below, needs, lacks_lines, same, kept, unmoved) = record {
     unworn = unworn;
     below = λ over. below (late_was (limit_of c) (length s.history) over);
@@ -801,7 +801,7 @@ ran_once s0 s i c answer none h one =
     ran_all s0 t.before s i c answer h.tries 1 t.index_before t.quiet_before t.begun (omega arith) (omega arith)
     (one_try t.before s i c t.index_before t.quiet_before answer t.last t.each t.locks one (unlacking (lacks_line answer) h.lined) h.sweeps (on_name c answer none))
 
-split_is_full : (w w' : World) (c : CoreCall) (p : Party) (r : Once Placed) → IsAnswered w (op_of c) (limit_of c) w' p r → needs_split r ≡ true → FindsFull w (op_of c)
+pub split_is_full : (w w' : World) (c : CoreCall) (p : Party) (r : Once Placed) → IsAnswered w (op_of c) (limit_of c) w' p r → needs_split r ≡ true → FindsFull w (op_of c)
 split_is_full w w' c p (once.Again (again.NeedsSplit n)) (unworn, below, full, has, free, same, halved, most) is = full
 split_is_full w w' c p (once.Again again.NoFree) end is = absurd (cc)
 split_is_full w w' c p (once.Again again.LogFull) end is = absurd (cc)

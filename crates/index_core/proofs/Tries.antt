@@ -50,6 +50,8 @@ use Rattle.index_law.specs.Laws.{IsAtRest}
 use Rattle.cat_history.specs.declared.op.NameOp.TheVariants as op
 use Rattle.index_core.proofs.MachineLaw.{machine_law, begin_law, idle_weigh}
 use Rattle.index_core.proofs.Stepping.{begins_count, machine_idle, machine_writes, step_facts}
+use Rattle.node_ops.specs.Costs.{spared}
+use Rattle.node_ops.proofs.Costs.{turns_spare}
 use Rattle.index_core.proofs.Told.{go_of, done_of}
 use Rattle.index_core.proofs.Stamps.{step_leaves_stamps}
 use Rattle.lone_turn.specs.LoneTurns.{stamp_in}
@@ -116,6 +118,17 @@ left_of (Some machine) = suc (running_left machine)
 
 abbrev pub left_at : Index → ℕ → ℕ
 left_at s i = elim (get_elem? s.states i) [ none ↦ 0 | some state ↦ left_of state.machine ]
+
+-- and together with what it spares
+abbrev pub cost_of : Option Running → ℕ
+cost_of None = 0
+cost_of (Some machine) = running_left machine + spared machine
+
+abbrev pub cost_in : mathlib.Core.Option.Option PartyState → ℕ
+cost_in found = elim found [ none ↦ 0 | some state ↦ cost_of state.machine ]
+
+abbrev pub cost_at : Index → ℕ → ℕ
+cost_at s i = cost_in (get_elem? s.states i)
 
 -- what is asked of a call that begins
 record Asks (v : View) (c : CoreCall) : Type 0 where
@@ -377,6 +390,21 @@ module _ (s0 s s' : Index) (i : ℕ) (c : CoreCall) (result : Option (Once Place
     where
       left_in : mathlib.Core.Option.Option PartyState → ℕ
       left_in found = elim found [ none ↦ 0 | some state ↦ left_of state.machine ]
+
+  -- a turn that goes on costs one action at least
+  pub lone_costs : result ≡ None → cost_at s' i + 1 ≤ cost_at s i
+  lone_costs going =
+      let go = go_of (running_turned o.machine x) (sym turn_told ∙ going) in
+      let next = go.0 in
+      let there = ap (λ (l : List PartyState). get_elem? l i) (entries_are (Go next) go.1) ∙ set_here s0.states i (state_with o.state (length s0.history) next) o.state o.there in
+      let less : running_left next < running_left o.machine = subst (GoesBelow running_left (running_left o.machine)) go.1 fewer in
+      let was : cost_at s i ≡ running_left o.machine + spared o.machine = ap cost_in at_i in
+      let now : cost_at s' i ≡ running_left next + spared next = ap cost_in there in
+      let more = turns_spare o.machine next x o.call.sound.here go.1 less in
+      omega (arith, was, now, more)
+
+  pub lone_done : (answer : Once Placed) → result ≡ Some answer → running_turned o.machine x ≡ Done answer
+  lone_done answer answered = done_of (running_turned o.machine x) answer (sym turn_told ∙ answered)
 
   pub lone_quiet : (answer : Once Placed) → result ≡ Some answer → IsQuiet s'
   lone_quiet answer answered =

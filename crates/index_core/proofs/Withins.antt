@@ -9,8 +9,9 @@ use Rattle.pm_words.specs.declared.again.Again.TheVariants as again
 use Rattle.cat_history.specs.Records.{change_of}
 use Rattle.cat_history.specs.declared.op.Change.{Change}
 use Rattle.cat_history.specs.declared.op.NameOp.{NameOp}
+use Rattle.cat_history.specs.declared.op.NameOp.TheVariants as asked
 use Rattle.cat_history.specs.declared.op.Write.{Write}
-use Rattle.call_stages.specs.Stages.{placed_in}
+use Rattle.call_stages.specs.Stages.{placed_in, Stage}
 use Rattle.call_stages.specs.declared.once.Once.{Once}
 use Rattle.call_stages.specs.declared.once.Once.TheVariants as once
 use Rattle.call_stages.specs.declared.once.Placed.{Placed}
@@ -28,11 +29,14 @@ use Rattle.index_core.specs.CoreCalls.{op_of, limit_of}
 use Rattle.index_core.specs.PartyStates.{party_of, state_with}
 use Rattle.index_core.specs.Indexes.{Index, IsIndex, world}
 use Rattle.index_core.specs.Lone.{IsQuiet, TriesAlone, lacks_line, lacks_node, needs_split, state_tried}
+use Rattle.index_core.specs.MachineLaws.{put_shows, shows}
 use Rattle.index_core.specs.Turns.{TurnsAlone}
+use Rattle.index_core.specs.Weights.{added_by, put_count, weight_of}
 use Rattle.index_core.specs.CoreCalls.{most_writes}
 use Rattle.index_core.specs.Withins.{ComesTo, flight_place, HasWritten, CutsOff, CutsTurnOff, TriedAlone, TriedBehindTurn}
 use Rattle.index_core.proofs.Crashing.{placed_since}
 use Rattle.index_core.proofs.Lists.{set_twice}
+use Rattle.index_core.proofs.Shown.{shows_few}
 use Rattle.index_core.proofs.LoneTurning.{LoneTurn}
 use Rattle.index_core.proofs.Tries.{Lone, lone_flies, lone_there}
 
@@ -56,6 +60,12 @@ has_written s0 s i c o = ⊎_elim
         let same : at ≡ length s0.history = omega arith in
         ap (λ (n : ℕ). Some n) same
 
+-- a put that shows its new name
+shows_at_most : (op : NameOp) (stage : Stage) → put_shows op (shows stage) ≤ put_count op
+shows_at_most (asked.Put name value) stage = shows_few stage
+shows_at_most (asked.Get name) stage = omega arith
+shows_at_most (asked.Del name) stage = omega arith
+
 pub lone_cut : (s0 s : Index) (i : ℕ) (c : CoreCall) → Lone s0 s i c → CutsOff s0 i c s
 lone_cut s0 s i c o = record {
   state = o.state;
@@ -70,6 +80,11 @@ lone_cut s0 s i c o = record {
   generation = o.call.trying.generation;
   base = o.same_base;
   busy = inl (lone_flies s0 s i c o);
+  weighs =
+      let op : op_in o.machine ≡ op_of c = op_told (op_of c) o.machine o.call.of in
+      let one = subst (λ (a : NameOp). put_shows (op_in o.machine) (shows (stage_of o.machine)) ≤ put_count a) op (shows_at_most (op_in o.machine) (stage_of o.machine)) in
+      let light = o.weighs in
+      omega (arith, one, light);
 }
 
 pub turn_cut : (s0 s : Index) (i stamp release : ℕ) → LoneTurn s0 s i stamp release → CutsTurnOff s0 i s
@@ -82,6 +97,7 @@ turn_cut s0 s i stamp release o = record {
   layout = ap (λ (v : Index). v.layout) o.is;
   generation = ap (λ (v : Index). v.generation) o.is;
   base = ap (λ (v : Index). v.base) o.is;
+  weighs = o.weighs;
 }
 
 -- whichever call wanted the turn
@@ -102,6 +118,7 @@ turn_cuts_call s0 s i c quiet t =
       generation = t.generation;
       base = t.base;
       busy = inr (record { state = cut; making = t.making; there = ap (λ (l : List PartyState). get_elem? l i) t.states ∙ set_here s0.states i cut t.state t.there; turns = refl });
+      weighs = let light = t.weighs in omega (arith, light);
     }
 
 -- An index to which a call has come by tries that were turned back, and by turns: but for words and its party's own
@@ -118,6 +135,7 @@ pub record Backs (s0 v : Index) (i : ℕ) : Type 0 where
   pub layout : v.layout ≡ s0.layout
   pub generation : v.generation ≡ s0.generation
   pub base : v.base ≡ s0.base
+  pub weighs : weight_of v ≤ weight_of s0
 
 pub backs_turn : (s0 v new : Index) (i stamp release : ℕ) (answer : Turned) → Backs s0 v i → TurnsAlone v stamp release answer new → Backs s0 new i
 backs_turn s0 v new i stamp release answer b t = subst (λ (u : Index). Backs s0 u i) (sym t.is) (record {
@@ -132,6 +150,10 @@ backs_turn s0 v new i stamp release answer b t = subst (λ (u : Index). Backs s0
   layout = b.layout;
   generation = b.generation;
   base = b.base;
+  weighs =
+      let light = subst (λ (u : Index). weight_of u ≤ weight_of v) t.is t.weighs in
+      let before = b.weighs in
+      omega (arith, light, before);
 })
 
 -- A call that is made again was turned back.
@@ -183,13 +205,17 @@ backs_try s0 v new i c answer why b t is =
       layout = t.layout ∙ b.layout;
       generation = t.generation ∙ b.generation;
       base = t.base ∙ b.base;
+      weighs =
+          let light = subst (λ (r : Once Placed). weight_of new ≤ weight_of v + added_by (op_of c) r) is t.weighs in
+          let before = b.weighs in
+          omega (arith, light, before);
     }
 
 pub backs_first : (s0 v new : Index) (i : ℕ) (c : CoreCall) (answer : Once Placed) (why : Again) → v ≡ s0 → TriesAlone v i c new answer → answer ≡ once.Again why → Backs s0 new i
 backs_first s0 v new i c answer why same t is =
     backs_try s0 v new i c answer why
     (subst (λ (u : Index). (state : PartyState) → get_elem? v.states i ≡ some state → Backs u v i) same
-    (λ state there. record { state = state; there = there; now = state; at = there; states = λ cut. refl; own = refl; index = refl; history = refl; layout = refl; generation = refl; base = refl })
+    (λ state there. record { state = state; there = there; now = state; at = there; states = λ cut. refl; own = refl; index = refl; history = refl; layout = refl; generation = refl; base = refl; weighs = omega arith })
     t.state t.there) t is
 
 -- what is cut off behind them
@@ -215,6 +241,7 @@ cut_behind s0 v s i c b t =
       generation = t.generation ∙ b.generation;
       base = t.base ∙ b.base;
       busy = t.busy;
+      weighs = let light = t.weighs in let before = b.weighs in omega (arith, light, before);
     }
 
 -- How a whole call stands behind some of its tries.
@@ -271,4 +298,4 @@ behind_turn s0 between s i c turned (Some answer) is quiet here turn still index
   spare = let same = ap (λ (v : Index). v.spare + length v.history) turn.is in let more = t.spare in omega arith;
 }
 behind_turn s0 between s i c turned None is quiet here turn still index t state there =
-    cut_behind s0 between s i c (backs_turn s0 s0 between i 1 1 turned (record { state = state; there = there; now = state; at = there; states = λ cut. refl; own = refl; index = refl; history = refl; layout = refl; generation = refl; base = refl }) turn) t
+    cut_behind s0 between s i c (backs_turn s0 s0 between i 1 1 turned (record { state = state; there = there; now = state; at = there; states = λ cut. refl; own = refl; index = refl; history = refl; layout = refl; generation = refl; base = refl; weighs = omega arith }) turn) t

@@ -27,4 +27,5 @@ pub mod Logs
 pub mod Rechecks
 pub mod Withins
 pub mod CrashLaws
+pub mod Costs
 pub mod Freeing

@@ -22,10 +22,12 @@ use Rattle.index_core.specs.declared.party.Within.{Within}
 use Rattle.index_core.specs.declared.party.Within.TheVariants as within
 use Rattle.index_core.specs.CoreCalls.{op_of}
 use Rattle.index_core.specs.Crashes.{cut_change, cut_changes}
-use Rattle.index_core.specs.Indexes.{Index, IsBusy}
+use Rattle.index_core.specs.Indexes.{Index, IsBusy, world}
 use Rattle.index_core.specs.Lone.{IsQuiet, LoseAtMost, RunsAlone, TakesEachLock, TakesLocks, TriesAlone, TriesBehindTurn, locks_left}
 use Rattle.index_core.specs.Lone.{part_whole, whole_of}
 use Rattle.index_core.specs.Turns.{TurnsAlone}
+use Rattle.index_core.specs.Weights.{put_count, weight_of}
+use Rattle.index_law.specs.Weights.{weight_sum}
 
 -- The place of the write of a call in flight, if it has one.
 abbrev pub flight_place : Option Running → Option ℕ
@@ -54,6 +56,8 @@ pub record CutsOff (old : Index) (caller : ℕ) (c : CoreCall) (new : Index) : T
   pub generation : new.generation ≡ old.generation
   pub base : new.base ≡ old.base
   pub busy : IsBusy new caller
+  -- with what deletes that aren't counted yet have lowered it by, it weighs one more at most, and that for a put
+  pub weighs : weight_sum (world new) ≤ weight_of old + put_count (op_of c)
 
 -- A turn of this party is cut off.
 pub record CutsTurnOff (old : Index) (party : ℕ) (new : Index) : Type 0 where
@@ -65,6 +69,7 @@ pub record CutsTurnOff (old : Index) (party : ℕ) (new : Index) : Type 0 where
   pub layout : new.layout ≡ old.layout
   pub generation : new.generation ≡ old.generation
   pub base : new.base ≡ old.base
+  pub weighs : weight_sum (world new) ≤ weight_of old
 
 -- A try that was answered leaves room, and takes few locks.
 pub record TriedAlone (old : Index) (caller : ℕ) (c : CoreCall) (new : Index) (answer : Once Placed) : Type 0 where

@@ -216,3 +216,10 @@ ghost use Rattle.index_core.specs.SteppedTurns.{SteppedTurnIsWhole};
 pub fn stepped_turn_law()
     ensures { SteppedTurnIsWhole }
 {}
+
+ghost use Rattle.index_core.specs.Costs.{ActionsAreFew};
+
+/// How many actions a lone call makes at most, in plain numbers for the largest layout.
+pub fn actions_law()
+    ensures { ActionsAreFew }
+{}

@@ -6,6 +6,7 @@
 ghost use Rattle.std.specs.Prelude.{◌≡◌, ◌+◌, ◌<◌, ◌≤◌, length, None};
 ghost use Rattle.index_core.specs.declared.party.CoreCall.TheVariants as CoreCall;
 ghost use Rattle.index_core.specs.CoreCalls.{IfTurn, MayBegin, MayStart, count_of, most_writes};
+ghost use Rattle.index_core.specs.Costs.{ActsWithin, TriesWithin};
 ghost use Rattle.index_core.specs.Indexes.{IsIndex};
 ghost use Rattle.index_core.specs.Lone.{HasShortWays, IsQuiet, LoseAtMost, RunsAlone, TakesEachLock, TakesLocks};
 ghost use Rattle.index_core.specs.Lone.{TriesAlone, TriesBehindTurn, locks_left, part_whole, whole_of};
@@ -39,7 +40,9 @@ impl Core {
     /// was EMPTY, if it splits or merges, also where its node is worn when it is made again; and no other line's state
     /// changes.
     ///
-    /// It makes at least one step, which `steps` counts, as do the calls below.
+    /// It makes at least one step, which `steps` counts, as do the calls below. On an index whose ways are short a call
+    /// that needs no turn, and isn't answered that a node is worn, makes no more than `most_actions`: on the largest
+    /// layout some 16,600 for a get and 63,400 for a put, and ten or twenty more for each log line that is READY.
     pub fn run_alone<L: Ledger>(
         &mut self,
         caller: u64,
@@ -58,6 +61,7 @@ impl Core {
         ensures each_lock { MayBegin call → TakesEachLock caller call self.old self.new }
         ensures locks { MayBegin call → TakesLocks caller call self.old self.new }
         ensures acts { steps.old < steps.new }
+        ensures events { MayBegin call → ActsWithin self.old caller call result steps.old steps.new }
         ensures index { IsIndex self.new }
     {
         match call {
@@ -89,6 +93,7 @@ impl Core {
         ensures each_lock { TakesEachLock caller call self.old self.new }
         ensures locks { TakesLocks caller call self.old self.new }
         ensures acts { steps.old < steps.new }
+        ensures events { ActsWithin self.old caller call (whole_of result) steps.old steps.new }
         ensures index { IsIndex self.new }
     {
         let mut answer = self.try_alone(caller, &call, steps);
@@ -125,6 +130,7 @@ impl Core {
         ensures each_lock { LoseAtMost 1 self.old self.new }
         ensures locks { locks_left self.old ≤ locks_left self.new + 1 }
         ensures acts { steps.old < steps.new }
+        ensures events { ActsWithin self.old caller (CoreCall.Part low count) (part_whole result) steps.old steps.new }
         ensures index { IsIndex self.new }
     {
         let Ok(()) = self.start_name(caller, CoreCall::Part { low, count }) else {
@@ -182,6 +188,7 @@ impl Core {
         ensures each_lock { LoseAtMost 1 self.old self.new }
         ensures locks { locks_left self.old ≤ locks_left self.new + 1 }
         ensures acts { steps.old < steps.new }
+        ensures events { TriesWithin self.old call.now result steps.old steps.new }
         ensures index { IsIndex self.new }
     {
         let Ok(()) = self.start_name(caller, *call) else {

@@ -1,6 +1,7 @@
 //! Turns of the updater, step by step beside calls.
 
 ghost use Rattle.std.specs.Prelude.{◌≡◌, ◌+◌, ◌<◌, ◌≤◌, ◌↔◌, IsErr, OnErr, OnOk};
+ghost use Rattle.index_core.specs.Costs.{turn_actions};
 ghost use Rattle.index_core.specs.Indexes.{IsBusy, IsIndex, IsTurning};
 ghost use Rattle.index_core.specs.Lone.{HasShortWays, IsQuiet};
 ghost use Rattle.index_core.specs.Turns.{StartsTurn, TurnSteps, TurnsAlone};
@@ -39,7 +40,7 @@ impl Core {
     /// A whole turn of the updater by the party, with nothing else in flight. It leaves every log line EMPTY, the search
     /// layer with the anchors of the listed nodes alone, and each GONE node FREE that isn't worn and whose stamp is at most
     /// `release`, where one that had no stamp has got this one. The map, the list and the history stay. From where the search
-    /// layer leads then no walk makes a hop. It makes at least one step, which `steps` counts.
+    /// layer leads then no walk makes a hop. It makes at least one step and at most `turn_actions`, which `steps` counts.
     pub fn turn_alone<L: Ledger>(
         &mut self,
         party: u64,
@@ -54,6 +55,7 @@ impl Core {
         ensures short { HasShortWays self.new }
         ensures quiet { IsQuiet self.new }
         ensures acts { steps.old < steps.new }
+        ensures events { steps.new ≤ steps.old + turn_actions self.old.layout }
         ensures index { IsIndex self.new }
     {
         let Ok(()) = self.start_turn(party, stamp, release) else {

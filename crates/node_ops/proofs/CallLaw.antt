@@ -62,7 +62,7 @@ use Rattle.node_ops.specs.RunningSteps.{running_call, running_asks, running_turn
 use Rattle.node_ops.specs.Laws.{TurnsAreFootSteps, TurnsAreSteps, LeadsAreTaken}
 use Rattle.node_ops.specs.CallStages.{words_from, nothing, knows, decided, fence_rest, seen_hit, seen_fill, get_stage, put_stage, part_stage, stage_of, stage_after, reply_of, found_full, footing_of, footing_after}
 use Rattle.node_ops.proofs.SeenLemmas.{Stand, seen_append, seen_front, stand_whole}
-use Rattle.node_ops.proofs.LookupLaw.{PlainStep, steps, hit_words, found_known, Writes_found, Found_by, written_found, Leads, Keeps, keeps_live, lookup_leads}
+use Rattle.node_ops.proofs.LookupLaw.{PlainStep, steps, hit_words, found_known, Writes_found, Found_by, written_found, Leads, keeps_live, lookup_leads}
 use Rattle.node_ops.proofs.FinishLaw.{Finishes, finish_leads}
 use Rattle.node_ops.proofs.FillLaw.{Fills, fill_leads}
 use Rattle.node_ops.proofs.LookupSound.{SoundLooked, found_by, lookup_stays}

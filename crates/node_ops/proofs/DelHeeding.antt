@@ -1,6 +1,5 @@
 -- What a delete answers that looks for a log line, by the words that it was told.
-use Rattle.std.proofs.Common.{◌≡◌, ℕ, ◌/◌, ◌<◌, ◌==◌, true, false, cond, ltb, Option, Some, None, IfSome, refl, arith}
-use Rattle.pm_words.specs.declared.again.Again.{Again}
+use Rattle.std.proofs.Common.{ℕ, ◌/◌, ◌==◌, true, false, cond, ltb, Option, Some, None, refl, arith}
 use Rattle.pm_words.specs.declared.again.Again.TheVariants as again
 use Rattle.pm_words.specs.declared.machine.Turn.{Turn}
 use Rattle.pm_words.specs.declared.machine.Turn.TheVariants.{Go, Done}
@@ -18,22 +17,19 @@ use Rattle.smo_log.proofs.LineLaw.{takes_heed}
 use Rattle.split_merge.specs.declared.merging.Merge.{Merge}
 use Rattle.split_merge.specs.declared.merging.Merged.{Merged}
 use Rattle.split_merge.specs.Merges.{merge_turned}
-use Rattle.node_ops.specs.declared.call.Call.{Call}
 use Rattle.node_ops.specs.declared.lookup.Found.{Found}
 use Rattle.node_ops.specs.declared.lookup.Hit.{Hit}
-use Rattle.node_ops.specs.declared.lookup.Hold.{Hold}
 use Rattle.node_ops.specs.declared.lookup.Looked.{Looked}
 use Rattle.node_ops.specs.declared.lookup.Looked.TheVariants as looked
 use Rattle.node_ops.specs.declared.lookup.Lookup.{Lookup}
 use Rattle.node_ops.specs.declared.finish.Finish.{Finish}
 use Rattle.node_ops.specs.declared.finish.FinishAt.{FinishAt}
 use Rattle.node_ops.specs.declared.finish.FinishAt.TheVariants as finish_at
-use Rattle.node_ops.specs.declared.del.Del.{Del}
 use Rattle.node_ops.specs.declared.del.Del.TheVariants as del
 use Rattle.node_ops.specs.declared.single_del.SingleDel.TheVariants as single_del
 use Rattle.node_ops.specs.LookupSteps.{lookup_turned}
 use Rattle.node_ops.specs.FinishSteps.{finish_turned, finish_at_turned, finish_fenced}
-use Rattle.node_ops.specs.DelSteps.{names_left, del_hit, del_looked, saw_next, del_taken, goes_on, merges_at, del_finished, del_merged}
+use Rattle.node_ops.specs.DelSteps.{names_left, del_hit, del_looked, del_taken, goes_on, merges_at, del_finished, del_merged}
 use Rattle.node_ops.specs.DelEvents.{DelHas, DelTells, DelHeeds, DelsHeed}
 use Rattle.node_ops.proofs.Endings.{LooksEnd, EndsEarly, looks_end}
 

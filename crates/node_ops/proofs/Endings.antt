@@ -11,7 +11,7 @@ use Rattle.data_node.specs.Bits.{lowest_clear}
 use Rattle.call_stages.specs.declared.once.Once.{Once}
 use Rattle.call_stages.specs.declared.once.Once.TheVariants as once
 use Rattle.call_stages.specs.declared.once.Placed.{Placed}
-use Rattle.call_stages.specs.Stages.{Stage, Idle, Saw, Wears, Holds, Eyes, Splits, Leaves, Meets, Joins, IsLoose, counted, placed_in}
+use Rattle.call_stages.specs.Stages.{Stage, counted, placed_in}
 use Rattle.data_list.specs.declared.target.Target.{Target}
 use Rattle.data_list.specs.declared.walk.Walk.{Walk}
 use Rattle.data_list.specs.declared.walk.WalkAt.{WalkAt}
@@ -22,9 +22,7 @@ use Rattle.search_layer.specs.declared.floor.Floor.{Floor}
 use Rattle.search_layer.specs.FloorSteps.{floor_turned}
 use Rattle.data_list.specs.Hops.{CanGiveUp as WalkGivesUp, HopsAt}
 use Rattle.data_list.proofs.HopLaw.{walks_hop}
-use Rattle.data_list.specs.WalkStages.{walk_stage}
 use Rattle.version_lock.specs.Versions.{is_worn_word, kept_count, locked_word}
-use Rattle.data_list.proofs.WalkLaw.{walk_loose}
 use Rattle.node_ops.specs.declared.call.Call.{Call}
 use Rattle.node_ops.specs.declared.lookup.Hold.{Hold}
 use Rattle.node_ops.specs.declared.lookup.Hit.{Hit}

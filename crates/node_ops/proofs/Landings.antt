@@ -122,11 +122,11 @@ module _ (call : Call) where
   looks_land (look.Name hold directory left slot k) x = grind (arith, compared)
   looks_land (look.Value hold directory slot) x = refl
 
-abbrev CallAfter : Call → Turn Fill Finish → Type 0
+abbrev pub CallAfter : Call → Turn Fill Finish → Type 0
 CallAfter call (Go fill) = fill.call ≡ call
 CallAfter call (Done finish) = finish.call ≡ call
 
-fill_keeps : (fill : Fill) (x : ℕ) → CallAfter fill.call (fill_turned fill x)
+pub fill_keeps : (fill : Fill) (x : ℕ) → CallAfter fill.call (fill_turned fill x)
 fill_keeps fill x = at fill.at
   where
     slot_fence : (o : Option Fence) → CallAfter fill.call (slot_fenced fill o)
@@ -144,11 +144,11 @@ fill_keeps fill x = at fill.at
     at (fill_at.FencePrint fence) = print_fence (fence_next fence x)
     at fill_at.Bitmap = refl
 
-abbrev CallStays : Call → Turn Finish (Once Placed) → Type 0
+abbrev pub CallStays : Call → Turn Finish (Once Placed) → Type 0
 CallStays call (Go finish) = finish.call ≡ call
 CallStays call (Done answer) = Unit {0}
 
-finish_keeps : (finish : Finish) (x : ℕ) → CallStays finish.call (finish_turned finish x)
+pub finish_keeps : (finish : Finish) (x : ℕ) → CallStays finish.call (finish_turned finish x)
 finish_keeps finish x = at finish.at
   where
     fenced : (line : ℕ) (o : Option Fence) → CallStays finish.call (finish_fenced finish line o)

@@ -12,6 +12,7 @@ pub mod OpLaw
 pub mod Endings
 pub mod DelHeeding
 pub mod Landings
+pub mod Costs
 pub mod SplitFacts
 pub mod MergeFacts
 pub mod PartLemmas

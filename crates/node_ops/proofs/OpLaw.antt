@@ -11,8 +11,6 @@ use Rattle.data_node.specs.Bits.{lowest_clear}
 use Rattle.call_stages.specs.declared.once.Once.{Once}
 use Rattle.call_stages.specs.declared.once.Placed.{Placed}
 use Rattle.call_stages.specs.Stages.{Stage, Idle, Saw, Wears, Reads, Holds, Eyes, Splits, Leaves, Meets, Joins, IsLoose, counted, pending_in, placed_in}
-use Rattle.data_list.specs.WalkStages.{walk_stage}
-use Rattle.data_list.proofs.WalkLaw.{walk_loose}
 use Rattle.call_stages.specs.Kinds.{Told}
 use Rattle.index_law.proofs.Loose.{loose_counted}
 use Rattle.node_ops.specs.declared.call.Call.{Call}

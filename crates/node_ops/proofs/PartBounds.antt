@@ -4,8 +4,7 @@ use Rattle.std.specs.FinMap.{entries}
 use Rattle.std.specs.List.{AllByRecursion}
 use Rattle.std.proofs.lemmas.Bool.{eqb-true, eq-eqb, lt-ltb, ltb-true, ltb-false}
 use Rattle.pm_words.specs.declared.layout.Layout.{Layout}
-use Rattle.pm_words.specs.declared.machine.Turn.{Turn}
-use Rattle.pm_words.specs.declared.machine.Turn.TheVariants.{Go, Done}
+use Rattle.pm_words.specs.declared.machine.Turn.TheVariants.{Done}
 use Rattle.cat_key.specs.Names.{IsName, AreNameWords}
 use Rattle.cat_history.specs.Scans.{is_below, is_under, is_between}
 use Rattle.data_node.specs.Spots.{Spot}
@@ -19,26 +18,20 @@ use Rattle.data_list.proofs.KeyLemmas.{name_kept_so}
 use Rattle.shapes.proofs.NameLists.{all_by, filter-alike}
 use Rattle.index_law.specs.Facts.{Facts, range_of, IsListed}
 use Rattle.node_ops.specs.Calls.{name_in}
-use Rattle.index_law.specs.Lawful.{IsList, Stands, SureReads, Sure}
+use Rattle.index_law.specs.Lawful.{IsList, Stands, SureReads}
 use Rattle.index_law.proofs.AnchorTexts.{key-order, named-text}
 use Rattle.index_law.proofs.Cutting.{all-named}
 use Rattle.index_law.proofs.Switch.{rise_from}
-use Rattle.call_stages.specs.declared.once.Once.{Once}
 use Rattle.call_stages.specs.declared.once.Once.TheVariants as once
 use Rattle.node_ops.proofs.PartTelling.{looked_on, done_words}
-use Rattle.node_ops.specs.declared.call.Call.{Call}
-use Rattle.node_ops.specs.declared.lookup.Looked.{Looked}
-use Rattle.node_ops.specs.declared.lookup.Looked.TheVariants as looked
-use Rattle.node_ops.specs.declared.lookup.Lookup.{Lookup}
 use Rattle.node_ops.specs.declared.part.PartWords.{PartWords}
 use Rattle.node_ops.specs.declared.part.Reading.{Reading}
 use Rattle.node_ops.specs.declared.part.ReadingAt.{ReadingAt}
 use Rattle.node_ops.specs.declared.part.ReadingAt.TheVariants as at
-use Rattle.node_ops.specs.declared.part.Part.{Part}
 use Rattle.node_ops.specs.declared.part.Part.TheVariants as part
 use Rattle.node_ops.specs.LookupSteps.{lookup_turned}
 use Rattle.node_ops.specs.CallStages.{behind_sight, reading_held}
-use Rattle.node_ops.specs.PartSteps.{behind_of, part_looked, IsReading, reading_turned}
+use Rattle.node_ops.specs.PartSteps.{behind_of, IsReading, reading_turned}
 use Rattle.node_ops.specs.Parts.{from_name, IsBehind, HaveWords, PartsSeeBehind, EndsAt, PartsEndThere, EndsAreRanges}
 
 -- the anchor of a node behind is that of a name

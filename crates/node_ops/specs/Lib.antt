@@ -15,4 +15,5 @@ pub mod Rechecks
 pub mod Asked
 pub mod Endings
 pub mod Landings
+pub mod Costs
 pub mod Laws

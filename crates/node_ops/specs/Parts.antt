@@ -26,7 +26,7 @@ use Rattle.node_ops.specs.declared.part.Part.TheVariants as part
 use Rattle.node_ops.specs.declared.running.Running.{Running}
 use Rattle.node_ops.specs.declared.running.Running.TheVariants.{Parting}
 use Rattle.node_ops.specs.Calls.{name_in}
-use Rattle.node_ops.specs.CallStages.{lookup_stage, part_stage}
+use Rattle.node_ops.specs.CallStages.{part_stage}
 use Rattle.node_ops.specs.PartSteps.{part_call, part_asks, part_turned, part_behind, part_count, part_listed}
 use Rattle.node_ops.specs.PartSteps.{behind_of, entry_name, words_placed}
 use Rattle.node_ops.specs.RunningSteps.{running_turned, listed_in, count_in, Sound}

@@ -78,6 +78,17 @@ pub fn landing_law()
     ensures { TurnsLand }
 {}
 
+ghost use Rattle.node_ops.specs.Costs.{PutsSpareSplits, TurnsSpare, WalksEndSo};
+
+/// With each turn that doesn't end it a call has less left, also together with what it spares: the hops that its walk
+/// didn't make, and a split that a put doesn't make, as one doesn't that takes place. A call that ends while it walks is
+/// answered that its node is worn, or that the walk gave up.
+pub fn cost_law()
+    ensures spare { TurnsSpare }
+    ensures ends { WalksEndSo }
+    ensures splits { PutsSpareSplits }
+{}
+
 ghost use Rattle.node_ops.specs.DelEvents.{DelsHeed};
 
 /// A delete is answered that the log is full only where it was told that none of its caller's lines was EMPTY.

@@ -3,14 +3,21 @@ use Rattle.call_stages.specs.declared.once.Once.{Once}
 use Rattle.node_ops.specs.declared.part.PartWords.{PartWords}
 use Rattle.index_core.specs.Lone.{RunsAlone, part_whole}
 use Rattle.index_core.specs.declared.party.CoreCall.TheVariants as call
-use Rattle.index_core.proofs.PartTries.{part_ends, part_is_early, part_stops}
-use Rattle.index_core.proofs.Tries.{Lone, left_at, lone_start, lone_flies, lone_goes}
+use Rattle.call_stages.specs.declared.once.Once.TheVariants as once
+use Rattle.node_ops.specs.PartSteps.{early_of, words_placed}
+use Rattle.index_core.specs.Costs.{ActsWithin}
+use Rattle.index_core.proofs.Costs.{cost_begins, costs_end, early_unworn, part_acts, tries_within}
+use Rattle.index_core.proofs.PartTries.{part_ends, part_is_early, part_last, part_stops}
+use Rattle.index_core.proofs.Tries.{Lone, cost_at, left_at, lone_costs, lone_start, lone_flies, lone_goes}
 use Rattle.index_core.proofs.index.Core.part_alone.Goals as goal
 use Rattle.index_core.proofs.index.Core.part_alone.Goals.{In_default-turn}
 
 pub steps-init : goal.steps-init
-steps-init g c =
-    (lone_start c.args.self.now c.start_name.new.self c.args.caller (call.Part c.args.low c.args.count) c.start_name.ensures.before c.requires.quiet c.in-Ok.ensures.started c.in-Ok.ensures.spare c.start_name.ensures.index, omega arith)
+steps-init g c = (
+  lone_start c.args.self.now c.start_name.new.self c.args.caller (call.Part c.args.low c.args.count) c.start_name.ensures.before c.requires.quiet c.in-Ok.ensures.started c.in-Ok.ensures.spare c.start_name.ensures.index,
+  omega arith,
+  (let begins = cost_begins c.args.self.now c.start_name.new.self c.args.caller (call.Part c.args.low c.args.count) c.in-Ok.ensures.started in omega (arith, begins)),
+)
 
 pub has_listed-requires : goal.has_listed-requires
 has_listed-requires g c = lone_flies _ _ _ _ c.steps.invariant.0
@@ -29,6 +36,11 @@ returns-then-has_listed g c =
       each_lock = e.each_lock;
       locks = e.locks;
       acts = omega (arith, t.tick, c.steps.invariant.1);
+      events = part_acts c.args.self.now c.args.caller c.args.low c.args.count (once.Done (words_placed c.listing-words.result)) (once.Done c.listing-words.result) c.args.steps.now c.turn.new.steps
+          (tries_within c.args.self.now (call.Part c.args.low c.args.count) (once.Done (words_placed c.listing-words.result)) c.args.steps.now c.steps.steps c.turn.new.steps (cost_at c.steps.self c.args.caller) c.steps.invariant.2 t.tick
+          (costs_end c.args.self.now c.steps.self c.turn.new.self c.args.caller (call.Part c.args.low c.args.count) c.turn.result c.steps.invariant.0 t.turned t.index t.spare.all (once.Done (words_placed c.listing-words.result))
+          (part_last c.args.self.now c.steps.self c.turn.new.self c.args.caller c.args.low c.args.count c.turn.result c.steps.invariant.0 t.turned t.index t.spare.all c.listing-words.result c.listing-words.ensures)))
+          (λ _. tt);
       index = t.index;
     }
 
@@ -53,6 +65,11 @@ returns-in-Some g c =
       each_lock = e.each_lock;
       locks = e.locks;
       acts = omega (arith, t.tick, c.steps.invariant.1);
+      events = subst (λ (r : Once PartWords). ActsWithin c.args.self.now c.args.caller (call.Part c.args.low c.args.count) (part_whole r) c.args.steps.now c.turn-in-steps.new.steps) (sym c.early.ensures)
+          (part_acts c.args.self.now c.args.caller c.args.low c.args.count c.in-Some.answer (early_of c.in-Some.answer) c.args.steps.now c.turn-in-steps.new.steps
+          (tries_within c.args.self.now (call.Part c.args.low c.args.count) c.in-Some.answer c.args.steps.now c.steps.steps c.turn-in-steps.new.steps (cost_at c.steps.self c.args.caller) c.steps.invariant.2 t.tick
+          (costs_end c.args.self.now c.steps.self c.turn-in-steps.new.self c.args.caller (call.Part c.args.low c.args.count) c.turn-in-steps.result c.steps.invariant.0 t.turned t.index t.spare.all c.in-Some.answer c.in-Some.is))
+          (early_unworn c.in-Some.answer));
       index = t.index;
     }
 
@@ -63,7 +80,13 @@ gone g c =
     lone_goes c.args.self.now c.steps.self c.turn-in-steps.new.self c.args.caller (call.Part c.args.low c.args.count) c.turn-in-steps.result c.steps.invariant.0 t.turned t.index t.spare.all c.in_default-turn.is
 
 pub steps-preserved : goal.steps-preserved
-steps-preserved g c = ((gone g c).0, omega (arith, c.turn-in-steps.ensures.tick, c.steps.invariant.1))
+steps-preserved g c = (
+  (gone g c).0,
+  omega (arith, c.turn-in-steps.ensures.tick, c.steps.invariant.1),
+  (let t = c.turn-in-steps.ensures in
+      let costs = lone_costs c.args.self.now c.steps.self c.turn-in-steps.new.self c.args.caller (call.Part c.args.low c.args.count) c.turn-in-steps.result c.steps.invariant.0 t.turned t.index t.spare.all c.in_default-turn.is in
+      omega (arith, costs, t.tick, c.steps.invariant.2)),
+)
 
 pub steps-smaller : goal.steps-smaller
 steps-smaller g c = (gone g c).1

@@ -1,6 +1,7 @@
 use Rattle.std.proofs.Common.{refl, arith}
 use Rattle.index_core.proofs.Busy.{quiet_is_idle}
-use Rattle.index_core.proofs.Tries.{lone_start, lone_flies, lone_goes, lone_tries, lone_quiet, lone_locks, lone_each, spare_left}
+use Rattle.index_core.proofs.Costs.{cost_begins, costs_end, tries_within}
+use Rattle.index_core.proofs.Tries.{cost_at, lone_costs, lone_start, lone_flies, lone_goes, lone_tries, lone_quiet, lone_locks, lone_each, spare_left}
 use Rattle.index_core.proofs.index.Core.try_alone.Goals as goal
 
 pub unreachable-requires : goal.unreachable-requires
@@ -8,8 +9,11 @@ unreachable-requires g c =
     absurd (quiet_is_idle c.args.self.now c.args.caller c.requires.quiet (c.in_default.ensures.in_flight.0 refl))
 
 pub steps-init : goal.steps-init
-steps-init g c =
-    (lone_start c.args.self.now c.start_name.new.self c.args.caller c.args.call.now c.start_name.ensures.before c.requires.quiet c.in-Ok.ensures.started c.in-Ok.ensures.spare c.start_name.ensures.index, omega arith)
+steps-init g c = (
+  lone_start c.args.self.now c.start_name.new.self c.args.caller c.args.call.now c.start_name.ensures.before c.requires.quiet c.in-Ok.ensures.started c.in-Ok.ensures.spare c.start_name.ensures.index,
+  omega arith,
+  (let begins = cost_begins c.args.self.now c.start_name.new.self c.args.caller c.args.call.now c.in-Ok.ensures.started in omega (arith, begins)),
+)
 
 pub turn-requires : goal.turn-requires
 turn-requires g c = record { flies = lone_flies _ _ _ _ c.steps.invariant.0 }
@@ -18,6 +22,8 @@ pub steps-preserved : goal.steps-preserved
 steps-preserved g c = (
   (lone_goes c.args.self.now c.steps.self c.turn.new.self c.args.caller c.args.call.now c.turn.result c.steps.invariant.0 c.turn.ensures.turned c.turn.ensures.index c.turn.ensures.spare.all c.in_default-turn.is).0,
   omega (arith, c.turn.ensures.tick, c.steps.invariant.1),
+  (let costs = lone_costs c.args.self.now c.steps.self c.turn.new.self c.args.caller c.args.call.now c.turn.result c.steps.invariant.0 c.turn.ensures.turned c.turn.ensures.index c.turn.ensures.spare.all c.in_default-turn.is in
+      omega (arith, costs, c.turn.ensures.tick, c.steps.invariant.2)),
 )
 
 pub steps-smaller : goal.steps-smaller
@@ -47,3 +53,8 @@ returns-in-Some-clause-each_lock g c =
 
 pub returns-in-Some-clause-acts : goal.returns-in-Some-clause-acts
 returns-in-Some-clause-acts g c = omega (arith, c.turn.ensures.tick, c.steps.invariant.1)
+
+pub returns-in-Some-clause-events : goal.returns-in-Some-clause-events
+returns-in-Some-clause-events g c =
+    tries_within c.args.self.now c.args.call.now c.in-Some.answer c.args.steps.now c.steps.steps c.turn.new.steps (cost_at c.steps.self c.args.caller) c.steps.invariant.2 c.turn.ensures.tick
+    (costs_end c.args.self.now c.steps.self c.turn.new.self c.args.caller c.args.call.now c.turn.result c.steps.invariant.0 c.turn.ensures.turned c.turn.ensures.index c.turn.ensures.spare.all c.in-Some.answer c.in-Some.is)

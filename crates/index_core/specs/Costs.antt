@@ -1,0 +1,88 @@
+-- How many actions a call makes, with no other in flight, from where the search layer leads it near its node.
+use Rattle.std.specs.Prelude.{ℕ, ◌+◌, ◌*◌, ◌≤◌}
+use Rattle.pm_words.specs.Layouts.{IsLayout}
+use Rattle.pm_words.specs.declared.layout.Layout.{Layout}
+use Rattle.call_stages.specs.declared.once.Once.{Once}
+use Rattle.call_stages.specs.declared.once.Once.TheVariants as once
+use Rattle.call_stages.specs.declared.once.Placed.{Placed}
+use Rattle.lone_turn.specs.CallLogs.{ready_lines}
+use Rattle.index_core.specs.declared.party.CoreCall.{CoreCall}
+use Rattle.index_core.specs.declared.party.CoreCall.TheVariants as call
+use Rattle.index_core.specs.declared.party.Whole.{Whole}
+use Rattle.index_core.specs.declared.party.Whole.TheVariants as whole
+use Rattle.index_core.specs.Indexes.{Index, world}
+use Rattle.index_core.specs.Lone.{HasShortWays, NeedsNoTurn}
+
+-- Those of a look-up, whose walk makes so many hops: four for each leaf of the search layer, ten for each hop, and three
+-- for each slot.
+abbrev pub look_actions : Layout → ℕ → ℕ
+look_actions l hops = 4 * l.nodes + 3 * l.slots + 10 * hops + 40
+
+-- Those of a put into its node, and of one that splits its node; those of a delete, which may merge two; and what a part
+-- loads of its node.
+abbrev pub fill_actions : ℕ
+fill_actions = 57
+
+abbrev pub split_actions : ℕ
+split_actions = 30057
+
+abbrev pub merge_actions : ℕ
+merge_actions = 30052
+
+abbrev pub list_actions : Layout → ℕ
+list_actions l = 4 * l.slots + 2
+
+-- Those of one try behind its look-up. A put that isn't answered that it took place may have split its node.
+abbrev pub other_actions : Layout → CoreCall → Once Placed → ℕ
+other_actions l (call.Put name value limit) (once.Done placed) = fill_actions
+other_actions l (call.Put name value limit) _ = split_actions
+other_actions l (call.Get name) _ = 1
+other_actions l (call.Del name limit) _ = merge_actions
+other_actions l (call.Part low count) _ = list_actions l
+other_actions l (call.Recheck node version) _ = 1
+other_actions l (call.Turn stamp release) _ = 1
+
+-- Those of a whole call that needs no turn of the updater, as so many log lines are READY: a put may split its node, and
+-- is made again then.
+abbrev pub most_actions : Layout → CoreCall → ℕ → ℕ
+most_actions l (call.Put name value limit) lines =
+    look_actions l lines + split_actions + (look_actions l (lines + 1) + fill_actions)
+most_actions l (call.Get name) lines = look_actions l lines + 1
+most_actions l (call.Del name limit) lines = look_actions l lines + merge_actions
+most_actions l (call.Part low count) lines = look_actions l lines + list_actions l
+most_actions l (call.Recheck node version) lines = look_actions l lines + 1
+most_actions l (call.Turn stamp release) lines = look_actions l lines + 1
+
+-- Those of a turn of the updater: so many for each log line, most of them in the walk to the node of its anchor and in the
+-- search layer, and six for each node.
+abbrev pub turn_actions : Layout → ℕ
+turn_actions l = 120000 * (8 * l.callers) + 6 * l.nodes
+
+-- It isn't answered that a node is worn.
+abbrev pub IsUnworn : Once Placed → Type 0
+IsUnworn (once.Worn node word) = ⊥
+IsUnworn _ = Unit {0}
+
+abbrev pub IsUnwornWhole : Whole → Type 0
+IsUnwornWhole (whole.Worn node word) = ⊥
+IsUnwornWhole _ = Unit {0}
+
+-- One try, which has counted from the first number of actions to the second.
+abbrev pub TriesWithin : Index → CoreCall → Once Placed → ℕ → ℕ → Type 0
+TriesWithin s c answer before after = HasShortWays s → IsUnworn answer →
+    after ≤ before + (look_actions s.layout (ready_lines (world s)) + other_actions s.layout c answer)
+
+-- A whole call.
+abbrev pub ActsWithin : Index → ℕ → CoreCall → Whole → ℕ → ℕ → Type 0
+ActsWithin s caller c result before after = HasShortWays s → NeedsNoTurn caller c s → IsUnwornWhole result →
+    after ≤ before + most_actions s.layout c (ready_lines (world s))
+
+-- In plain numbers, for the largest layout: fewer than 20480 for a get or a part of a scan, than 65536 for a put or a
+-- delete, and 32 or 64 for each line that is READY.
+abbrev pub AreFewActions : CoreCall → ℕ → ℕ → Type 0
+AreFewActions (call.Put name value limit) lines actions = actions ≤ 65536 + 64 * lines
+AreFewActions (call.Del name limit) lines actions = actions ≤ 65536 + 64 * lines
+AreFewActions _ lines actions = actions ≤ 20480 + 32 * lines
+
+abbrev pub ActionsAreFew : Type 0
+ActionsAreFew = (l : Layout) (c : CoreCall) (lines : ℕ) → IsLayout l → AreFewActions c lines (most_actions l c lines)
