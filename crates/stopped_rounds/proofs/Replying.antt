@@ -1,7 +1,7 @@
 -- What one call of a round comes to.
 use Rattle.std.proofs.Common.{◌≡◌, ℕ, zero, suc, inl, inr, ⊎_elim, ◌<◌, ◌≤◌, Bool, true, false, List, [], ◌∷◌, Ok, Err, refl, sym, ap, subst, ◌∙◌, arith}
 use Rattle.std.proofs.lemmas.Bool.{cases_lt}
-use Rattle.std.specs.Prelude.{Option, Some, Contains, MatchResult, Result}
+use Rattle.std.specs.Prelude.{Option, Some, None, Contains, MatchResult, Result}
 use Rattle.cat_history.specs.Maps.{at}
 use Rattle.cat_history.specs.Rounds.{IsWriter}
 use Rattle.cat_history.specs.declared.op.Change.{Change}
@@ -13,7 +13,8 @@ use Rattle.cat_history.specs.declared.record.Reply.{Reply}
 use Rattle.cat_history.specs.declared.record.Reply.TheVariants.{Old, Parts, Full, Cut}
 use Rattle.cat_history.specs.declared.record.ScanPart.{ScanPart}
 use Rattle.shapes.specs.declared.map.Full.{Full as FullError}
-use Rattle.stopped_rounds.specs.Bounded.{ComesTo, MapState, IsSame, PutGave, DelGave, WasCut}
+use Rattle.shapes.specs.ShapeRounds.{one_added}
+use Rattle.stopped_rounds.specs.Bounded.{ComesTo, MapState, IsSame, PutGave, DelGave, WasCut, put_added}
 use Rattle.stopped_rounds.specs.Replies.{write_mark, IsLate, WasAnswered, WasCutOff, Replies}
 use Rattle.stopped_rounds.specs.Stops.{IsScanSoFar}
 use Rattle.stopped_rounds.specs.declared.bounded_map.Bounded.{Bounded}
@@ -126,3 +127,13 @@ module _ (slots most limit : ℕ) (s new : MapState) (place budget left : ℕ) (
     left = λ caller index. same.0;
     cut = λ c has. absurd (no_change new.cut c (same.2 ∙ uncut) has);
   })
+
+-- ---- what it adds
+
+pub put_weighs : (name : List ℕ) (value place : ℕ) (ended : Bounded (Result (Option ℕ) FullError)) (reply : Reply) →
+    ComesTo ended (λ answer. MatchResult answer (λ old. reply ≡ Old old place) (λ _. reply ≡ Full)) (λ placed. reply ≡ Cut (write_mark placed place)) →
+    put_added ended ≡ one_added (Put name value) reply
+put_weighs name value place (bounded.Answered (Ok None)) reply is = sym (ap (one_added (Put name value)) is)
+put_weighs name value place (bounded.Answered (Ok (Some old))) reply is = sym (ap (one_added (Put name value)) is)
+put_weighs name value place (bounded.Answered (Err e)) reply is = sym (ap (one_added (Put name value)) is)
+put_weighs name value place (bounded.Cut placed) reply is = sym (ap (one_added (Put name value)) is)

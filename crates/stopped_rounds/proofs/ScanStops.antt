@@ -9,6 +9,7 @@ use Rattle.cat_history.specs.Scans.{is_below, range, IsPart, AreParts}
 use Rattle.cat_history.specs.Scans.AreParts.{cut_off, ends, goes_on}
 use Rattle.cat_history.specs.declared.record.ScanPart.{ScanPart}
 use Rattle.cat_history.proofs.ScanLemmas.{parts_later}
+use Rattle.cat_text.specs.ReportGrammar.{IsReportPart}
 use Rattle.shapes.specs.Anchors.{Anchors, past, next_of}
 use Rattle.shapes.specs.Weights.{IsShape}
 use Rattle.shapes.proofs.ScansByShape.{next-above, past-shorter, past-within}
@@ -33,12 +34,14 @@ pub record Reads (s : MapState) (from : List ℕ) (count place : ℕ) (next : Op
   pub goes : ToCome s.contents from count next left place parts
   pub at_once : All (λ (p : ScanPart). p.place ≡ place) parts
   pub bounds : All (λ (p : ScanPart). p.high ≡ next_of s.anchors p.low) parts
+  pub told : All IsReportPart parts
 
 pub reads-first : (s : MapState) (from : List ℕ) (count place : ℕ) (parts : List ScanPart) → parts ≡ [] → Reads s from count place (Some from) count parts
 reads-first s from count place parts none = record {
   goes = rw none (λ cut more are. parts_later (λ _. s.contents) from count 0 place cut more (omega arith) are);
   at_once = rw none (λ k d within. absurd (omega (arith, within)));
   bounds = rw none (λ k d within. absurd (omega (arith, within)));
+  told = rw none (λ k d within. absurd (omega (arith, within)));
 }
 
 -- cut off here
@@ -57,12 +60,14 @@ pub record IsNext (s : MapState) (low : List ℕ) (left place : ℕ) (p : ScanPa
   pub part : IsPart (λ _. s.contents) low left place p
   pub here : p.place ≡ place
   pub bound : p.high ≡ next_of s.anchors low
+  pub told : IsReportPart p
 
-pub next-part : (s now : MapState) (low : List ℕ) (left place : ℕ) (p : ScanPart) → now.contents ≡ s.contents → now.anchors ≡ s.anchors → IsPart (λ _. now.contents) low left place p → p.place ≡ place → p.high ≡ next_of now.anchors low → IsNext s low left place p
-next-part s now low left place p same shape is here bound = record {
+pub next-part : (s now : MapState) (low : List ℕ) (left place : ℕ) (p : ScanPart) → now.contents ≡ s.contents → now.anchors ≡ s.anchors → IsPart (λ _. now.contents) low left place p → p.place ≡ place → p.high ≡ next_of now.anchors low → IsReportPart p → IsNext s low left place p
+next-part s now low left place p same shape is here bound told = record {
   part = subst (λ (k : Map). IsPart (λ _. k) low left place p) same is;
   here = here;
   bound = bound ∙ ap (λ (b : Anchors). next_of b low) shape;
+  told = told;
 }
 
 part_few : (s : MapState) (low : List ℕ) (left place : ℕ) (p : ScanPart) → IsPart (λ _. s.contents) low left place p → length p.pairs ≤ left
@@ -77,6 +82,7 @@ grown s from count place low left left' parts parts' p next was is goes grows = 
   goes = rw grows goes;
   at_once = rw grows (All-push (λ (q : ScanPart). q.place ≡ place) parts p was.at_once is.here);
   bounds = rw grows (All-push (λ (q : ScanPart). q.high ≡ next_of s.anchors q.low) parts p was.bounds (is.bound ∙ ap (next_of s.anchors) (sym is.part.begins)));
+  told = rw grows (All-push IsReportPart parts p was.told is.told);
 }
 
 module _ (s : MapState) (from : List ℕ) (count place : ℕ) (low : List ℕ) (left left' : ℕ) (parts parts' : List ScanPart) (p : ScanPart) (next : Option (List ℕ)) (is : next ≡ Some low) (was' : Reads s from count place next left parts) (new : IsNext s low left place p) (less : left' ≡ left - length p.pairs) (grows : parts' ≡ parts ++ p ∷ []) where

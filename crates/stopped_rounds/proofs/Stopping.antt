@@ -20,14 +20,15 @@ use Rattle.cat_history.specs.declared.record.Record.{Record}
 use Rattle.cat_history.specs.declared.record.Reply.{Reply}
 use Rattle.cat_history.specs.declared.record.Reply.TheVariants.{Old, Parts, Full, Spent, Cut, Unstarted}
 use Rattle.cat_history.proofs.LoneRoundLemmas.{writes_of-append, writes_of-cons, HoldsAlong-push, numbered-push}
-use Rattle.shapes.specs.ShapeRounds.{anchors_end, PutsFull, EndsWithMembers, IsBoundedByShape}
+use Rattle.cat_text.specs.ReportGrammar.{IsReportOp}
+use Rattle.shapes.specs.ShapeRounds.{anchors_end, PutsFull, EndsWithMembers, IsBoundedByShape, one_added, puts_added}
 use Rattle.shapes.specs.Runs.{Standing, opening, stands_after, ComesLate, IsFullInTime}
 use Rattle.shapes.proofs.RoundLemmas.{HoldsInShape-push}
 use Rattle.shapes.proofs.RunLemmas.{HoldsFrom-push, late_is}
 use Rattle.stopped_rounds.specs.Bounded.{MapState, IsSame}
 use Rattle.stopped_rounds.specs.LoneStops.{AreUnstarted, IsStop, BeginsFirst, IsCutNow}
 use Rattle.stopped_rounds.specs.MoreCuts.{AreAmong}
-use Rattle.stopped_rounds.specs.Replies.{IsLeftBy, WasAnswered, WasCutOff, Replies}
+use Rattle.stopped_rounds.specs.Replies.{IsLeftBy, IsTold, SettlesToReport, WasAnswered, WasCutOff, Replies}
 use Rattle.stopped_rounds.specs.Stops.{HasStopped}
 
 -- the record of a call
@@ -327,3 +328,16 @@ stopped-whole slots most limit budget left place s ops asked index records recor
 pub one_at_most : (b : Bool) (n : ℕ) → n ≡ cond b 1 0 → n ≤ 1
 one_at_most true n is = omega (arith, is)
 one_at_most false n is = omega (arith, is)
+
+-- ---- what the report tells, and what the map weighs
+
+pub added-push : (records : List Record) (more : Record) → puts_added (records ++ more ∷ []) ≡ puts_added records + one_added more.op more.reply
+added-push [] more = omega arith
+added-push (q ∷ records) more = let rest = added-push records more in omega (arith, rest)
+
+pub told-push : (ops asked : List CallerOp) (index : ℕ) (call : CallerOp) (reply : Reply) (records : List Record) → All (λ (a : CallerOp). (a.caller < 16) × IsReportOp a.op) ops → asked ≡ ops → index < length asked →
+    call ≡ get_or asked index call → IsTold call.op reply → All SettlesToReport records → All SettlesToReport (records ++ recorded index call reply ∷ [])
+told-push ops asked index call reply records calls same within is told all =
+    let fits : index < length ops = subst (λ (l : List CallerOp). index < length l) same within in
+    let here = subst (λ (a : CallerOp). (a.caller < 16) × IsReportOp a.op) (sym (is ∙ ap (λ (l : List CallerOp). get_or l index call) same)) (calls index call fits) in
+    All-push SettlesToReport records (recorded index call reply) all (λ end. record { caller = here.0; op = here.1; reply = told end })

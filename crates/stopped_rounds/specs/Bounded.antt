@@ -1,5 +1,5 @@
 -- What a call on a map comes to within a budget.
-use Rattle.std.specs.Prelude.{◌≡◌, ℕ, Bool, List, [], ◌∷◌, Option, MatchBool, MatchResult, Result}
+use Rattle.std.specs.Prelude.{◌≡◌, ℕ, Bool, List, [], ◌∷◌, Option, Some, None, MatchBool, MatchResult, Result, Ok, Err}
 use Rattle.std.specs.FinMap.{insert, remove}
 use Rattle.cat_history.specs.Maps.{Map, at}
 use Rattle.cat_history.specs.Writes.{changed}
@@ -46,3 +46,10 @@ abbrev pub WasCut : MapState → Change → Bool → MapState → Type 0
 WasCut s c placed new =
     MatchBool placed ((new.contents ≡ changed s.contents c) × AreAmong new.cut [])
     ((new.contents ≡ s.contents) × AreAmong new.cut (c ∷ []))
+
+-- One where a put added a name, or may have added it, since it was cut off.
+abbrev pub put_added : Bounded (Result (Option ℕ) Full) → ℕ
+put_added (bounded.Answered (Ok None)) = 1
+put_added (bounded.Answered (Ok (Some old))) = 0
+put_added (bounded.Answered (Err full)) = 0
+put_added (bounded.Cut placed) = 1

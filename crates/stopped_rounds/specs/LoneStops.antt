@@ -3,24 +3,14 @@ use Rattle.std.specs.Prelude.{◌≡◌, ◌≢◌, ℕ, ◌<◌, ◌⊎◌, tru
 use Rattle.cat_history.specs.Maps.{Map}
 use Rattle.cat_history.specs.Writes.{after_all}
 use Rattle.cat_history.specs.Records.{numbered, call_of}
-use Rattle.cat_history.specs.Rounds.{IsWriter, IsItsMark, AreItsParts}
+use Rattle.cat_history.specs.Rounds.{IsWriter, IsItsMark, AreItsParts, answered_records}
 use Rattle.cat_history.specs.LoneRounds.{writes_of, IsLoneRound, IsSpentExactly}
-use Rattle.cat_history.specs.CrashRounds.{IsStoppedRound}
+use Rattle.cat_history.specs.CrashRounds.{IsMarkNow, IsStoppedRound}
 use Rattle.cat_history.specs.declared.op.CallerOp.{CallerOp}
 use Rattle.cat_history.specs.declared.op.Op.{Op}
-use Rattle.cat_history.specs.declared.record.CutMark.{CutMark}
-use Rattle.cat_history.specs.declared.record.CutMark.TheVariants.{At, Open, Found, Lost, Read}
 use Rattle.cat_history.specs.declared.record.Record.{Record}
 use Rattle.cat_history.specs.declared.record.Reply.{Reply}
 use Rattle.cat_history.specs.declared.record.Reply.TheVariants.{Old, Parts, Full, Spent, Cut, Unstarted}
-
--- A mark that tells no other place than this one, and isn't settled.
-abbrev pub IsMarkNow : ℕ → CutMark → Type 0
-IsMarkNow place (At at_place) = at_place ≡ place
-IsMarkNow place Open = Unit {0}
-IsMarkNow place Found = ⊥
-IsMarkNow place Lost = ⊥
-IsMarkNow place Read = Unit {0}
 
 -- What is said of a call that was cut off as the history is so long: of a write that it has this place, or that it has
 -- none, and only of one that began below the limit; of a scan the parts that it had listed of the map as it is.
@@ -67,3 +57,8 @@ LoneStopsAreStoppedRounds = (base : Map) (caller budget : ℕ) (asked : List Cal
     (records : List Record) → All (λ a. a.caller ≡ caller) asked → map call_of records ≡ numbered asked →
     slice_get budgets caller ≡ Some budget → IsWithin budget records → IsLoneStop limit base records →
     IsStoppedRound base (numbered asked) limit budgets records (writes_of records)
+
+-- The answered calls of such a round are those first ones.
+abbrev pub AnsweredAreDone : Type 0
+AnsweredAreDone = (limit : ℕ) (base : Map) (records : List Record) → (stop : IsLoneStop limit base records) →
+    answered_records records ≡ stop.done

@@ -1,18 +1,28 @@
 -- What one call of a round comes to within a budget.
 use Rattle.std.specs.Prelude.{◌≡◌, ℕ, ◌<◌, ◌≤◌, ◌⊎◌, ◌↔◌, Bool, if◌then◌else◌, Contains, Some}
+use Rattle.cat_history.specs.Maps.{Map}
 use Rattle.cat_history.specs.Writes.{after_all}
 use Rattle.cat_history.specs.LoneRounds.{write_of, IsAnswerNow, IsSpent}
 use Rattle.cat_history.specs.Rounds.{IsWriter}
-use Rattle.cat_history.specs.CrashRounds.{change_cut}
+use Rattle.cat_history.specs.CrashRounds.{change_cut, settled, settled_reply}
 use Rattle.cat_history.specs.declared.op.Change.{Change}
 use Rattle.cat_history.specs.declared.op.Op.{Op}
 use Rattle.cat_history.specs.declared.record.CutMark.{CutMark}
 use Rattle.cat_history.specs.declared.record.CutMark.TheVariants.{At, Open}
+use Rattle.cat_history.specs.declared.record.Record.{Record}
 use Rattle.cat_history.specs.declared.record.Reply.{Reply}
 use Rattle.cat_history.specs.declared.record.Reply.TheVariants.{Full, Unstarted}
+use Rattle.cat_text.specs.ReportGrammar.{IsReportRecord, IsReportReply}
 use Rattle.shapes.specs.ShapeRounds.{PutsFull, EndsWithMembers, anchors_after}
 use Rattle.stopped_rounds.specs.Bounded.{MapState, IsSame}
 use Rattle.stopped_rounds.specs.LoneStops.{IsCutNow}
+
+-- Once its mark is settled, by whichever map, a report can tell of the reply, and of the record.
+abbrev pub IsTold : Op → Reply → Type 0
+IsTold op reply = (end : Map) → IsReportReply op (settled_reply end op reply)
+
+abbrev pub SettlesToReport : Record → Type 0
+SettlesToReport r = (end : Map) → IsReportRecord (settled end r)
 
 -- The map is what a call left that was answered so, whoever made it.
 abbrev pub IsLeftBy : MapState → Op → Reply → MapState → Type 0

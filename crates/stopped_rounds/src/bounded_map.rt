@@ -1,13 +1,13 @@
 //! A map of names whose calls have a budget of events.
 
-ghost use Rattle.std.specs.Prelude.{◌≡◌, ◌+◌, ◌<◌, ◌≤◌, [], ℕ, All, IfOk, take, MatchResult};
+ghost use Rattle.std.specs.Prelude.{◌≡◌, ◌+◌, ◌<◌, ◌≤◌, ◌^◌, [], ℕ, All, IfOk, take, MatchResult};
 ghost use Rattle.cat_key.specs.Names.{IsName};
 ghost use Rattle.cat_history.specs.Maps.{at};
 ghost use Rattle.cat_history.specs.Scans.{range};
 ghost use Rattle.cat_history.specs.declared.op.Change.TheVariants as change;
 ghost use Rattle.shapes.specs.Anchors.{next_of};
 ghost use Rattle.shapes.specs.Weights.{IsShape};
-ghost use Rattle.stopped_rounds.specs.Bounded.{ComesTo, DelGave, IsSame, PutGave, WasCut};
+ghost use Rattle.stopped_rounds.specs.Bounded.{ComesTo, DelGave, IsSame, PutGave, WasCut, put_added};
 
 use cat_history::NoMemory;
 use cat_key::Name;
@@ -43,6 +43,10 @@ pub trait BoundedMap {
     /// How many more of them can be puts and removals.
     ghost writes_left: { Self → ℕ };
 
+    /// What it weighs, and so what a crash leaves of it at most. A put that adds a name makes it heavier by one at most,
+    /// and so does one that is cut off.
+    ghost weighs: { Self → ℕ };
+
     /// Its members are of a shape that they can have. It does nothing.
     fn has_shape(&self)
         requires { (state self.now).cut ≡ [] }
@@ -59,7 +63,8 @@ pub trait BoundedMap {
         ensures slots { slots self.new ≡ slots self.old }
         ensures most { most self.new ≡ most self.old }
         ensures calls_left { calls_left self.old ≤ calls_left self.new + 1 }
-        ensures writes_left { writes_left self.old ≤ writes_left self.new };
+        ensures writes_left { writes_left self.old ≤ writes_left self.new }
+        ensures weighs { weighs self.new ≤ weighs self.old };
 
     /// The first names of the member of this name that are at least it, so many at most, and where the next member
     /// begins.
@@ -78,10 +83,13 @@ pub trait BoundedMap {
             (λ part. (part.high ≡ next_of (state self.old).anchors low.now) ×
             (part.pairs ≡ take count (range (state self.old).contents low.now part.high)))
             (λ placed. budget.new ≡ 0)) }
+        ensures named { IfOk result (λ ended. ComesTo ended
+            (λ part. All (λ pair. IsName pair.name × (pair.value < 2 ^ 64)) part.pairs) (λ placed. Unit {0})) }
         ensures slots { slots self.new ≡ slots self.old }
         ensures most { most self.new ≡ most self.old }
         ensures calls_left { calls_left self.old ≤ calls_left self.new + 1 }
-        ensures writes_left { writes_left self.old ≤ writes_left self.new };
+        ensures writes_left { writes_left self.old ≤ writes_left self.new }
+        ensures weighs { weighs self.new ≤ weighs self.old };
 
     /// Gives a name this number, and answers the one before. `Full` comes exactly where the put is full in the shape.
     fn put(
@@ -101,7 +109,8 @@ pub trait BoundedMap {
         ensures slots { slots self.new ≡ slots self.old }
         ensures most { most self.new ≡ most self.old }
         ensures calls_left { calls_left self.old ≤ calls_left self.new + 1 }
-        ensures writes_left { writes_left self.old ≤ writes_left self.new + 1 };
+        ensures writes_left { writes_left self.old ≤ writes_left self.new + 1 }
+        ensures weighs { weighs self.new ≤ weighs self.old + put_added result };
 
     /// Removes a name, and answers the number that it had.
     fn del(&mut self, name: &Name, budget: &mut u64) -> Bounded<Option<u64>>
@@ -116,7 +125,8 @@ pub trait BoundedMap {
         ensures slots { slots self.new ≡ slots self.old }
         ensures most { most self.new ≡ most self.old }
         ensures calls_left { calls_left self.old ≤ calls_left self.new + 1 }
-        ensures writes_left { writes_left self.old ≤ writes_left self.new + 1 };
+        ensures writes_left { writes_left self.old ≤ writes_left self.new + 1 }
+        ensures weighs { weighs self.new ≤ weighs self.old };
 
     /// A turn of the updater within its own budget. It may be cut off, and changes nothing but how the map is kept.
     fn turn(&mut self, budget: &mut u64)
@@ -125,5 +135,6 @@ pub trait BoundedMap {
         ensures slots { slots self.new ≡ slots self.old }
         ensures most { most self.new ≡ most self.old }
         ensures calls_left { calls_left self.old ≤ calls_left self.new }
-        ensures writes_left { writes_left self.old ≤ writes_left self.new };
+        ensures writes_left { writes_left self.old ≤ writes_left self.new }
+        ensures weighs { weighs self.new ≤ weighs self.old };
 }

@@ -1,13 +1,16 @@
 //! Running a round in which one caller alone has calls, within a budget.
 
-ghost use Rattle.std.specs.Prelude.{◌≡◌, ℕ, ◌+◌, ◌*◌, ◌<◌, ◌≤◌, ◌↔◌, [], if◌then◌else◌, is_some, length};
+ghost use Rattle.std.specs.Prelude.{◌≡◌, ℕ, ◌+◌, ◌*◌, ◌<◌, ◌≤◌, ◌^◌, ◌↔◌, List, [], if◌then◌else◌, is_some, length};
 ghost use Rattle.std.specs.Prelude.{All, IfOk, IfSome, IsTrue, MatchResult, None, true};
 ghost use Rattle.cat_history.specs.Records.{mark_place};
-ghost use Rattle.cat_history.specs.LoneRounds.{write_of};
+ghost use Rattle.cat_history.specs.LoneRounds.{write_of, writes_of};
 ghost use Rattle.cat_history.specs.Scans.{IsPart};
+ghost use Rattle.cat_text.specs.ReportGrammar.{IsReportOp, IsReportPart};
 ghost use Rattle.shapes.specs.Anchors.{next_of, past};
+ghost use Rattle.shapes.specs.ShapeRounds.{one_added, puts_added};
 ghost use Rattle.stopped_rounds.specs.Bounded.{ComesTo, IsSame};
-ghost use Rattle.stopped_rounds.specs.Replies.{IsLate, Replies, write_mark};
+ghost use Rattle.stopped_rounds.specs.Replies.{IsLate, IsTold, Replies, SettlesToReport, write_mark};
+ghost use Rattle.cat_history.specs.declared.op.Op.TheVariants as Op;
 ghost use Rattle.cat_history.specs.declared.record.Reply.TheVariants as Reply;
 ghost use Rattle.cat_history.specs.declared.record.CutMark.TheVariants as CutMark;
 ghost use Rattle.stopped_rounds.specs.Stops.{HasStopped, IsScanSoFar};
@@ -20,6 +23,15 @@ use cat_key::Name;
 use shapes::{Full, MapPart};
 use std::alloc::Global;
 
+/// A round of one caller that stopped.
+#[derive(Drop)]
+pub struct StoppedRound {
+    /// What became of a write that was cut off without a place is open.
+    pub records: Records,
+    /// How many writes have a place.
+    pub writes: u64,
+}
+
 /// Answers the calls of one caller in their order, each on the map as the earlier ones left it, as far as the budget
 /// goes. Where it is used up within a call, that is cut off, and no later call begins. Behind each so many calls as the
 /// plan says the updater makes a turn, within a budget of its own.
@@ -31,13 +43,18 @@ pub fn run_crash_round<M: BoundedMap>(
     plan: &RoundPlan,
     budget: u64,
     updater_budget: u64,
-) -> Result<Records, NoMemory>
+) -> Result<StoppedRound, NoMemory>
     requires caller { (caller : ℕ) × All (λ a. a.caller ≡ caller) plan.now.ops }
+    requires told { All (λ a. (a.caller < 16) × IsReportOp a.op) plan.now.ops }
     requires uncut { (M.state map.old).cut ≡ [] }
     requires calls { length plan.now.ops * M.most map.old ≤ M.calls_left map.old }
     requires writes { length plan.now.ops ≤ M.writes_left map.old }
-    ensures { IfOk result (λ records. HasStopped (M.slots map.old) (M.most map.old) plan.now.limit budget
-        (M.state map.old) plan.now.ops records (M.state map.new)) }
+    ensures stopped { IfOk result (λ round. HasStopped (M.slots map.old) (M.most map.old) plan.now.limit budget
+        (M.state map.old) plan.now.ops round.records (M.state map.new)) }
+    ensures placed { IfOk result (λ round. round.writes ≡ length (writes_of round.records)) }
+    // Once its marks are settled, a report can tell of it.
+    ensures told { IfOk result (λ round. All SettlesToReport round.records) }
+    ensures weighs { IfOk result (λ round. M.weighs map.new ≤ M.weighs map.old + puts_added round.records) }
 {
     let asked = plan.ops.as_slice();
     let mut records = Vec::with_capacity(alloc, asked.len())?;
@@ -59,7 +76,10 @@ pub fn run_crash_round<M: BoundedMap>(
         // There is memory for a record of each call.
         records.push_reserved(record);
     }
-    Ok(Listed::of(records))
+    Ok(StoppedRound {
+        records: Listed::of(records),
+        writes,
+    })
 }
 
 /// Makes a turn of the updater behind so many calls, where one is due and a call may still begin.
@@ -70,6 +90,7 @@ fn turn_if_due<M: BoundedMap>(map: &mut M, turns: u64, calls: u64, left: u64, bu
     ensures most { M.most map.new ≡ M.most map.old }
     ensures calls_left { M.calls_left map.old ≤ M.calls_left map.new }
     ensures writes_left { M.writes_left map.old ≤ M.writes_left map.new }
+    ensures weighs { M.weighs map.new ≤ M.weighs map.old }
 {
     if left == 0 {
         return;
@@ -94,10 +115,12 @@ fn reply_to<M: BoundedMap>(
     requires writes { 0 < M.writes_left map.old }
     ensures reply { IfOk result (λ reply. Replies (M.slots map.old) (M.most map.old) limit (M.state map.old) place op.now
         budget.old reply budget.new (M.state map.new)) }
+    ensures told { IfOk result (IsTold op.now) }
     ensures slots { M.slots map.new ≡ M.slots map.old }
     ensures most { M.most map.new ≡ M.most map.old }
     ensures calls_left { M.calls_left map.old ≤ M.calls_left map.new + M.most map.old }
     ensures writes_left { M.writes_left map.old ≤ M.writes_left map.new + 1 }
+    ensures weighs { IfOk result (λ reply. M.weighs map.new ≤ M.weighs map.old + one_added op.now reply) }
 {
     if *budget == 0 {
         return Ok(Reply::Unstarted);
@@ -141,8 +164,9 @@ fn write_mark(placed: bool, place: u64) -> CutMark
 
 /// What a put is told.
 fn put_reply(ended: Bounded<Result<Option<u64>, Full>>, place: u64) -> Reply
-    ensures { ComesTo ended (λ answer. MatchResult answer (λ old. result ≡ Reply.Old old place) (λ _. result ≡ Reply.Full))
+    ensures reply { ComesTo ended (λ answer. MatchResult answer (λ old. result ≡ Reply.Old old place) (λ _. result ≡ Reply.Full))
         (λ placed. result ≡ Reply.Cut (write_mark placed place)) }
+    ensures told { (name : List ℕ) (value : ℕ) → IsTold (Op.Put name value) result }
 {
     match ended {
         Bounded::Answered(Ok(old)) => Reply::Old { old, place },
@@ -155,7 +179,8 @@ fn put_reply(ended: Bounded<Result<Option<u64>, Full>>, place: u64) -> Reply
 
 /// What a get is told.
 fn get_reply(ended: Bounded<Option<u64>>, place: u64) -> Reply
-    ensures { ComesTo ended (λ old. result ≡ Reply.Old old place) (λ placed. result ≡ Reply.Cut CutMark.Read) }
+    ensures reply { ComesTo ended (λ old. result ≡ Reply.Old old place) (λ placed. result ≡ Reply.Cut CutMark.Read) }
+    ensures told { (name : List ℕ) → IsTold (Op.Get name) result }
 {
     match ended {
         Bounded::Answered(old) => Reply::Old { old, place },
@@ -167,7 +192,8 @@ fn get_reply(ended: Bounded<Option<u64>>, place: u64) -> Reply
 
 /// What a delete is told.
 fn del_reply(ended: Bounded<Option<u64>>, place: u64) -> Reply
-    ensures { ComesTo ended (λ old. result ≡ Reply.Old old place) (λ placed. result ≡ Reply.Cut (write_mark placed place)) }
+    ensures reply { ComesTo ended (λ old. result ≡ Reply.Old old place) (λ placed. result ≡ Reply.Cut (write_mark placed place)) }
+    ensures told { (name : List ℕ) → IsTold (Op.Del name) result }
 {
     match ended {
         Bounded::Answered(old) => Reply::Old { old, place },
@@ -192,11 +218,14 @@ fn scan<M: BoundedMap>(
     requires some { 0 < budget.old }
     ensures read { IfOk result (λ read. IsScanSoFar (M.state map.old) from.now count place read.1 read.0) }
     ensures cut { IfOk result (λ read. read.1 ≡ true → budget.new ≡ 0) }
+    ensures told { IfOk result (λ read. All IsReportPart read.0) }
+    ensures few { IfOk result (λ read. length read.0 < 2 ^ 64) }
     ensures same { IsSame (M.state map.old) (M.state map.new) }
     ensures slots { M.slots map.new ≡ M.slots map.old }
     ensures most { M.most map.new ≡ M.most map.old }
     ensures calls_left { M.calls_left map.old ≤ M.calls_left map.new + (length (past (M.state map.old).anchors from.now) + 1) }
     ensures writes_left { M.writes_left map.old ≤ M.writes_left map.new }
+    ensures weighs { M.weighs map.new ≤ M.weighs map.old }
 {
     let mut parts = Vec::new(alloc);
     let mut left = count;
@@ -231,11 +260,13 @@ fn read_part<M: BoundedMap>(
     ensures part { IfOk result (λ read. IfSome read (λ part. IsPart (λ _. (M.state map.old).contents) low left place part ×
         (part.place ≡ place) × (part.high ≡ next_of (M.state map.old).anchors low))) }
     ensures cut { IfOk result (λ read. read ≡ None → budget.new ≡ 0) }
+    ensures told { IfOk result (λ read. IfSome read IsReportPart) }
     ensures same { IsSame (M.state map.old) (M.state map.new) }
     ensures slots { M.slots map.new ≡ M.slots map.old }
     ensures most { M.most map.new ≡ M.most map.old }
     ensures calls_left { M.calls_left map.old ≤ M.calls_left map.new + 1 }
     ensures writes_left { M.writes_left map.old ≤ M.writes_left map.new }
+    ensures weighs { M.weighs map.new ≤ M.weighs map.old }
 {
     match map.part(alloc, &low, left, budget)? {
         Bounded::Answered(MapPart { high, pairs }) => Ok(Some(ScanPart {

@@ -1,9 +1,10 @@
-use Rattle.std.proofs.Common.{◌<◌, refl, sym, subst, arith}
+use Rattle.std.proofs.Common.{◌+◌, ◌<◌, ◌≤◌, refl, sym, subst, arith}
 use Rattle.cat_history.specs.declared.op.Op.{Op}
 use Rattle.cat_history.specs.declared.record.Reply.TheVariants.{Parts}
-use Rattle.stopped_rounds.specs.Replies.{IsLate, Replies}
+use Rattle.shapes.specs.ShapeRounds.{one_added}
+use Rattle.stopped_rounds.specs.Replies.{IsLate, IsTold, Replies}
 use Rattle.stopped_rounds.proofs.ScanStops.{parts-fit}
-use Rattle.stopped_rounds.proofs.Replying.{put_replies, del_replies, get_replies, scan_replies}
+use Rattle.stopped_rounds.proofs.Replying.{put_weighs, put_replies, del_replies, get_replies, scan_replies}
 use Rattle.stopped_rounds.proofs.crash_round.reply_to.Goals as goal
 
 pub put-requires-clause-calls : goal.put-requires-clause-calls
@@ -40,7 +41,7 @@ returns-in-Put-clause-reply g c =
     let timely : IsLate c.args.limit c.args.place c.args.op.now → ⊥ = λ late. let yes = c.comes_late.ensures.1 late in let no = c.if-comes_late.false in cc in
     subst (λ (op : Op). Replies (M.slots c.args.map.now) (M.most c.args.map.now) c.args.limit (M.state c.args.map.now) c.args.place op c.args.budget.now c.put_reply.result c.put.new.budget (M.state c.put.new.self)) (sym c.in-Put.is)
     (put_replies (M.slots c.args.map.now) (M.most c.args.map.now) c.args.limit (M.state c.args.map.now) (M.state c.put.new.self) c.args.place c.args.budget.now c.put.new.budget c.put_reply.result some (c.requires.uncut some)
-    c.in-Put.name c.in-Put.value c.put.result (subst (λ (op : Op). IsLate c.args.limit c.args.place op → ⊥) c.in-Put.is timely) c.put.ensures.ends c.put_reply.ensures)
+    c.in-Put.name c.in-Put.value c.put.result (subst (λ (op : Op). IsLate c.args.limit c.args.place op → ⊥) c.in-Put.is timely) c.put.ensures.ends c.put_reply.ensures.reply)
 
 pub returns-in-Del-clause-reply : goal.returns-in-Del-clause-reply
 returns-in-Del-clause-reply g c =
@@ -49,7 +50,7 @@ returns-in-Del-clause-reply g c =
     let timely : IsLate c.args.limit c.args.place c.args.op.now → ⊥ = λ late. let yes = c.comes_late.ensures.1 late in let no = c.if-comes_late.false in cc in
     subst (λ (op : Op). Replies (M.slots c.args.map.now) (M.most c.args.map.now) c.args.limit (M.state c.args.map.now) c.args.place op c.args.budget.now c.del_reply.result c.del.new.budget (M.state c.del.new.self)) (sym c.in-Del.is)
     (del_replies (M.slots c.args.map.now) (M.most c.args.map.now) c.args.limit (M.state c.args.map.now) (M.state c.del.new.self) c.args.place c.args.budget.now c.del.new.budget c.del_reply.result some (c.requires.uncut some)
-    c.in-Del.name c.del.result (subst (λ (op : Op). IsLate c.args.limit c.args.place op → ⊥) c.in-Del.is timely) c.del.ensures.ends c.del_reply.ensures)
+    c.in-Del.name c.del.result (subst (λ (op : Op). IsLate c.args.limit c.args.place op → ⊥) c.in-Del.is timely) c.del.ensures.ends c.del_reply.ensures.reply)
 
 pub returns-in-Get-clause-reply : goal.returns-in-Get-clause-reply
 returns-in-Get-clause-reply g c =
@@ -57,7 +58,7 @@ returns-in-Get-clause-reply g c =
     let some : 0 < c.args.budget.now = omega (arith, c.if-budget-eq0.false) in
     subst (λ (op : Op). Replies (M.slots c.args.map.now) (M.most c.args.map.now) c.args.limit (M.state c.args.map.now) c.args.place op c.args.budget.now c.get_reply.result c.get.new.budget (M.state c.get.new.self)) (sym c.in-Get.is)
     (get_replies (M.slots c.args.map.now) (M.most c.args.map.now) c.args.limit (M.state c.args.map.now) (M.state c.get.new.self) c.args.place c.args.budget.now c.get.new.budget c.get_reply.result some (c.requires.uncut some)
-    c.in-Get.name c.get.result c.get.ensures.same c.get.ensures.ends c.get_reply.ensures)
+    c.in-Get.name c.get.result c.get.ensures.same c.get.ensures.ends c.get_reply.ensures.reply)
 
 pub returns-in_ok-parts-in-Scan-clause-reply : goal.returns-in_ok-parts-in-Scan-clause-reply
 returns-in_ok-parts-in-Scan-clause-reply g c =
@@ -66,3 +67,12 @@ returns-in_ok-parts-in-Scan-clause-reply g c =
     subst (λ (op : Op). Replies (M.slots c.args.map.now) (M.most c.args.map.now) c.args.limit (M.state c.args.map.now) c.args.place op c.args.budget.now (Parts c.in_ok-parts-in-Scan.parts c.in_ok-parts-in-Scan.cut) c.scan.new.budget (M.state c.scan.new.map)) (sym c.in-Scan.is)
     (scan_replies (M.slots c.args.map.now) (M.most c.args.map.now) c.args.limit (M.state c.args.map.now) (M.state c.scan.new.map) c.args.place c.args.budget.now c.scan.new.budget (Parts c.in_ok-parts-in-Scan.parts c.in_ok-parts-in-Scan.cut) some (c.requires.uncut some)
     c.in-Scan.from c.in-Scan.count c.in_ok-parts-in-Scan.parts c.in_ok-parts-in-Scan.cut c.scan.ensures.same c.in_ok-parts-in-Scan.ensures.read c.in_ok-parts-in-Scan.ensures.cut refl)
+
+pub returns-in-Put-clause-weighs : goal.returns-in-Put-clause-weighs
+returns-in-Put-clause-weighs g c =
+    let added = put_weighs c.in-Put.name c.in-Put.value c.args.place c.put.result c.put_reply.result c.put_reply.ensures.reply in
+    let weighs = c.put.ensures.weighs in
+    subst (λ (op : Op). g.M.BoundedMap.weighs c.put.new.self ≤ g.M.BoundedMap.weighs c.args.map.now + one_added op c.put_reply.result) (sym c.in-Put.is) (omega (arith, added, weighs))
+
+pub returns-in-Put-clause-told : goal.returns-in-Put-clause-told
+returns-in-Put-clause-told g c = subst (λ (op : Op). IsTold op c.put_reply.result) (sym c.in-Put.is) (c.put_reply.ensures.told c.in-Put.name c.in-Put.value)

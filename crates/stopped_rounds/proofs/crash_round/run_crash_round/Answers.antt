@@ -2,7 +2,7 @@ use Rattle.std.proofs.Common.{◌≡◌, ℕ, ◌+◌, cond, length, ap, ◌∙�
 use Rattle.cat_history.specs.LoneRounds.{write_of}
 use Rattle.cat_history.specs.declared.record.Record.{Record}
 use Rattle.stopped_rounds.specs.Replies.{Replies}
-use Rattle.stopped_rounds.proofs.Stopping.{recorded, stopping-call, stopped-whole, one_at_most}
+use Rattle.stopped_rounds.proofs.Stopping.{recorded, stopping-call, stopped-whole, one_at_most, added-push, told-push}
 use Rattle.stopped_rounds.proofs.crash_round.run_crash_round.Goals.{then-is_placed_write, else-is_placed_write}
 use Rattle.stopped_rounds.proofs.crash_round.run_crash_round.Goals as goal
 
@@ -31,12 +31,23 @@ loop-index-preserved g c =
       most_stays = turn.most ∙ c.reply_to.ensures.most ∙ was.most_stays;
       calls = omega (arith, was.calls, was.most_stays, c.reply_to.ensures.calls_left, turn.calls_left);
       writes_left = omega (arith, was.writes_left, c.reply_to.ensures.writes_left, turn.writes_left);
+      weighs_so = rw c.push_reserved.ensures.items (let added = added-push c.loop-index.records.items r in omega (arith, was.weighs_so, c.in_ok-reply.ensures.weighs, turn.weighs, added));
+      told = rw c.push_reserved.ensures.items (told-push c.args.plan.now.ops c.as_slice-asked.result.now index call reply c.loop-index.records.items c.requires.told c.as_slice-asked.ensures c.loop-index-test.true c.index-asked-index.is c.in_ok-reply.ensures.told was.told);
       made = c.push_reserved.ensures.len ∙ omega (arith, was.made);
       reserved = omega (arith, was.reserved, c.push_reserved.ensures.capacity);
     }
 
-pub returns : goal.returns
-returns g c =
+pub returns-clause-stopped : goal.returns-clause-stopped
+returns-clause-stopped g c =
     let M = g.M.BoundedMap in
     stopped-whole (M.slots c.args.map.now) (M.most c.args.map.now) c.args.plan.now.limit c.args.budget c.loop-index.left c.loop-index.writes (M.state c.args.map.now) c.args.plan.now.ops c.as_slice-asked.result.now c.loop-index.index
     c.loop-index.records.items c.of.result (M.state c.loop-index.map) c.loop-index.invariant.stopping c.as_slice-asked.ensures (omega (arith, c.loop-index-test.false)) c.of.ensures
+
+pub returns-clause-placed : goal.returns-clause-placed
+returns-clause-placed g c = rw c.of.ensures c.loop-index.invariant.stopping.placed
+
+pub returns-clause-told : goal.returns-clause-told
+returns-clause-told g c = rw c.of.ensures c.loop-index.invariant.told
+
+pub returns-clause-weighs : goal.returns-clause-weighs
+returns-clause-weighs g c = rw c.of.ensures c.loop-index.invariant.weighs_so

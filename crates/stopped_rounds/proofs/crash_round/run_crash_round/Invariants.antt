@@ -1,5 +1,7 @@
-use Rattle.std.proofs.Common.{◌≡◌, ◌+◌, ◌*◌, ◌≤◌, length, take, vec_len}
+use Rattle.std.proofs.Common.{◌≡◌, ◌+◌, ◌*◌, ◌≤◌, length, take, vec_len, All}
 use Rattle.std.specs.Vec.{vec_capacity}
+use Rattle.shapes.specs.ShapeRounds.{puts_added}
+use Rattle.stopped_rounds.specs.Replies.{SettlesToReport}
 use Rattle.stopped_rounds.proofs.Stopping.{Stopping}
 use Rattle.stopped_rounds.proofs.crash_round.run_crash_round.Given as goal
 
@@ -14,6 +16,8 @@ invariant-loop-index g l =
       most_stays : M.most l.map ≡ M.most l.fn.map;
       calls : M.calls_left l.fn.map ≤ M.calls_left l.map + l.index * M.most l.fn.map;
       writes_left : M.writes_left l.fn.map ≤ M.writes_left l.map + l.index;
+      weighs_so : M.weighs l.map ≤ M.weighs l.fn.map + puts_added l.records.items;
+      told : All SettlesToReport l.records.items;
       made : vec_len l.records ≡ l.index;
       reserved : length l.asked ≤ vec_capacity l.records;
     }

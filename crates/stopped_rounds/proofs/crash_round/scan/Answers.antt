@@ -11,6 +11,7 @@ loop-next-init g c = record {
   most = refl;
   calls = omega arith;
   writes = omega arith;
+  weighs_so = omega arith;
 }
 
 pub returns-then-budget-eq0-clause-read : goal.returns-then-budget-eq0-clause-read
@@ -19,13 +20,19 @@ returns-then-budget-eq0-clause-read g c = rw c.of.ensures (reads-cut _ c.args.fr
 pub returns-in_default-2-clause-read : goal.returns-in_default-2-clause-read
 returns-in_default-2-clause-read g c = rw c.of-in_default-2.ensures (reads-cut _ c.args.from.now c.args.count c.args.place c.loop-next.next c.in-Some.low c.loop-next.left _ c.in-Some.is c.loop-next.invariant.reads)
 
+pub returns-then-budget-eq0-clause-told : goal.returns-then-budget-eq0-clause-told
+returns-then-budget-eq0-clause-told g c = rw c.of.ensures c.loop-next.invariant.reads.told
+
+pub returns-in_default-2-clause-told : goal.returns-in_default-2-clause-told
+returns-in_default-2-clause-told g c = rw c.of-in_default-2.ensures c.loop-next.invariant.reads.told
+
 pub loop-next-smaller-then-left-gt0 : goal.loop-next-smaller-then-left-gt0
 loop-next-smaller-then-left-gt0 g c =
     let M = g.M.BoundedMap in
     let shape = (M.state c.args.map.now).anchors in
     let told = of_some _ _ c.in-Some-2.part c.in-Some-2.is c.in_ok-part.ensures.part in
     let was = c.loop-next.invariant in
-    let is = next-part (M.state c.args.map.now) (M.state c.loop-next.map) c.in-Some.low c.loop-next.left c.args.place c.in-Some-2.part was.same.0 was.same.1 told.0 told.1 told.2 in
+    let is = next-part (M.state c.args.map.now) (M.state c.loop-next.map) c.in-Some.low c.loop-next.left c.args.place c.in-Some-2.part was.same.0 was.same.1 told.0 told.1 told.2 (of_some _ _ c.in-Some-2.part c.in-Some-2.is c.in_ok-part.ensures.told) in
     let come = ap (to_come shape) c.in-Some.is in
     let less = fewer-to-come shape c.in-Some.low c.in-Some-2.part.high is.bound in
     omega (arith, come, less)
@@ -36,7 +43,7 @@ loop-next-preserved-then-left-gt0 g c =
     let shape = (M.state c.args.map.now).anchors in
     let told = of_some _ _ c.in-Some-2.part c.in-Some-2.is c.in_ok-part.ensures.part in
     let was = c.loop-next.invariant in
-    let is = next-part (M.state c.args.map.now) (M.state c.loop-next.map) c.in-Some.low c.loop-next.left c.args.place c.in-Some-2.part was.same.0 was.same.1 told.0 told.1 told.2 in
+    let is = next-part (M.state c.args.map.now) (M.state c.loop-next.map) c.in-Some.low c.loop-next.left c.args.place c.in-Some-2.part was.same.0 was.same.1 told.0 told.1 told.2 (of_some _ _ c.in-Some-2.part c.in-Some-2.is c.in_ok-part.ensures.told) in
     let come = ap (to_come shape) c.in-Some.is in
     let less = fewer-to-come shape c.in-Some.low c.in-Some-2.part.high is.bound in
     let now = c.read_part.ensures.same in
@@ -48,6 +55,7 @@ loop-next-preserved-then-left-gt0 g c =
       most = c.read_part.ensures.most ∙ was.most;
       calls = omega (arith, less, come, was.calls, c.read_part.ensures.calls_left);
       writes = omega (arith, was.writes, c.read_part.ensures.writes_left);
+      weighs_so = omega (arith, was.weighs_so, c.read_part.ensures.weighs);
     }
 
 pub loop-next-preserved : goal.loop-next-preserved
@@ -56,7 +64,7 @@ loop-next-preserved g c =
     let shape = (M.state c.args.map.now).anchors in
     let told = of_some _ _ c.in-Some-2.part c.in-Some-2.is c.in_ok-part.ensures.part in
     let was = c.loop-next.invariant in
-    let is = next-part (M.state c.args.map.now) (M.state c.loop-next.map) c.in-Some.low c.loop-next.left c.args.place c.in-Some-2.part was.same.0 was.same.1 told.0 told.1 told.2 in
+    let is = next-part (M.state c.args.map.now) (M.state c.loop-next.map) c.in-Some.low c.loop-next.left c.args.place c.in-Some-2.part was.same.0 was.same.1 told.0 told.1 told.2 (of_some _ _ c.in-Some-2.part c.in-Some-2.is c.in_ok-part.ensures.told) in
     let come = ap (to_come shape) c.in-Some.is in
     let now = c.read_part.ensures.same in
     let fewer = ap (λ ps. c.loop-next.left - length ps) c.as_slice.ensures in
@@ -67,7 +75,11 @@ loop-next-preserved g c =
       most = c.read_part.ensures.most ∙ was.most;
       calls = omega (arith, come, was.calls, c.read_part.ensures.calls_left);
       writes = omega (arith, was.writes, c.read_part.ensures.writes_left);
+      weighs_so = omega (arith, was.weighs_so, c.read_part.ensures.weighs);
     }
 
 pub returns-clause-read : goal.returns-clause-read
 returns-clause-read g c = rw c.of-2.ensures (reads-end _ c.args.from.now c.args.count c.args.place c.loop-next.next c.loop-next.left _ (none_else c.loop-next.next c.in_default.not-Some) c.loop-next.invariant.reads)
+
+pub returns-clause-told : goal.returns-clause-told
+returns-clause-told g c = rw c.of-2.ensures c.loop-next.invariant.reads.told

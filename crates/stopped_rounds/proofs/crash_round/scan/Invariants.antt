@@ -15,6 +15,7 @@ invariant-loop-next g l =
       most : M.most l.map ≡ M.most l.fn.map;
       calls : M.calls_left l.fn.map + to_come (M.state l.fn.map).anchors l.next ≤ M.calls_left l.map + (length (past (M.state l.fn.map).anchors l.from) + 1);
       writes : M.writes_left l.fn.map ≤ M.writes_left l.map;
+      weighs_so : M.weighs l.map ≤ M.weighs l.fn.map;
     }
 
 -- fewer parts are to come
