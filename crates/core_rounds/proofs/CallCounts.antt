@@ -1,5 +1,5 @@
 -- How many calls some rounds have, and what they take of those that are left.
-use Rattle.std.proofs.Common.{◌≡◌, ℕ, ◌+◌, ◌*◌, ◌<◌, ◌≤◌, List, length, get_or, drop, sym, ap, ◌∙◌, arith}
+use Rattle.std.proofs.Common.{◌≡◌, ℕ, ◌+◌, ◌*◌, ◌<◌, ◌≤◌, List, length, get_or, drop, sym, ap, subst, ◌∙◌, arith, zero-add}
 use Rattle.std.proofs.lemmas.List.Sums.{sum_by-drop_more}
 use Rattle.cat_history.specs.declared.plan.RoundPlan.{RoundPlan}
 use Rattle.core_rounds.specs.LoneCalls.{calls_in}
@@ -17,3 +17,9 @@ calls-of-one one rest most left enough = omega (arith, enough)
 -- and then for the others
 pub calls-of-rest : (one rest most left left' : ℕ) → (one + rest) * most ≤ left → left ≤ left' + one * most → rest * most ≤ left'
 calls-of-rest one rest most left left' enough taken = omega (arith, enough, taken)
+
+-- where no more calls are wanted beside them
+pub none-beside : (rest all most left left' : ℕ) → ((0 + all) * most ≤ left → (0 + rest) * most ≤ left') → all * most ≤ left → rest * most ≤ left'
+none-beside rest all most left left' keeps enough =
+    let kept = keeps (subst (λ n. n * most ≤ left) (sym (zero-add all)) enough) in
+    subst (λ n. n * most ≤ left') (zero-add rest) kept

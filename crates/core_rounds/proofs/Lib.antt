@@ -1,9 +1,9 @@
 pub mod CallCounts
 pub mod CoreMaps
-pub mod Crowding
 pub mod LoneRoundSteps
 pub mod OpenedCores
 pub mod Played
+pub mod Restarting
 pub mod RoundTurns
 pub mod RoundWaits
 pub mod ScanSteps

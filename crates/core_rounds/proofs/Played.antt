@@ -1,7 +1,8 @@
 -- Rounds that are played one after another.
 use Rattle.std.proofs.Common.{◌≡◌, ℕ, ◌+◌, ◌<◌, ◌≤◌, List, [], ◌∷◌, ◌++◌, length, take, get_or, refl, sym, ap, ◌∙◌, subst, arith}
 use Rattle.std.proofs.lemmas.List.{take_more, take_all}
-use Rattle.std.specs.Prelude.{All}
+use Rattle.std.proofs.lemmas.Option.{none-some}
+use Rattle.std.specs.Prelude.{All, None}
 use Rattle.std.specs.FinMap.{len}
 use Rattle.cat_history.specs.Maps.{Map}
 use Rattle.cat_history.specs.Writes.{after_all}
@@ -15,8 +16,8 @@ use Rattle.shapes.specs.ShapeRounds.{anchors_end, puts_added, FullIsPaid, IsShap
 use Rattle.shapes.proofs.PaidRounds.{timely_rounds_are_paid}
 use Rattle.shapes.proofs.RoundLemmas.{goes_within, more-pays}
 use Rattle.cat_text.specs.declared.report.RoundReport.{RoundReport}
-use Rattle.core_rounds.specs.LoneCalls.{AreLoneCalls, AreReportCalls}
-use Rattle.core_rounds.specs.Rounds.{ArePaidRounds, ArePlayed, ends, lone, crowd, EachIsReported, IsPlayedRound, IsRoundTo, MorePays, OnlyRoundIsLegal, PlayedArePaid, RoundsGoOn, added_in}
+use Rattle.core_rounds.specs.LoneCalls.{AreLoneCalls}
+use Rattle.core_rounds.specs.Rounds.{ArePaidRounds, ArePlayed, ends, lone, crowd, lone_crash, crowd_crash, EachIsReported, IsPlayedRound, IsRoundTo, MorePays, OnlyRoundIsLegal, PlayedArePaid, RoundsGoOn, added_in}
 
 -- ---- laws
 
@@ -31,9 +32,13 @@ module _ (slots nodes : ℕ) where
       ArePlayed slots nodes (weighs + added_in reports) (names + added_in reports) mid between later more end shape →
       ArePlayed slots nodes weighs names base anchors (plans ++ later) (reports ++ more) end shape
   go-on end shape later more ends rest = at-weights (omega arith) (omega arith) rest
-  go-on end shape later more (lone callers round paid played) rest = lone callers round paid (go-on end shape later more played (at-weights (omega arith) (omega arith) rest))
-  go-on end shape later more (crowd several writes round next within played) rest =
-      crowd several writes round next within (go-on end shape later more played (at-weights (omega arith) (omega arith) rest))
+  go-on end shape later more (lone callers joined round paid played) rest = lone callers joined round paid (go-on end shape later more played (at-weights (omega arith) (omega arith) rest))
+  go-on end shape later more (crowd several joined writes round next within played) rest =
+      crowd several joined writes round next within (go-on end shape later more played (at-weights (omega arith) (omega arith) rest))
+  go-on end shape later more (lone_crash callers crash ended round answers paid next within played) rest =
+      lone_crash callers crash ended round answers paid next within (go-on end shape later more played (at-weights (omega arith) (omega arith) rest))
+  go-on end shape later more (crowd_crash several crash ended writes round paid next within played) rest =
+      crowd_crash several crash ended writes round paid next within (go-on end shape later more played (at-weights (omega arith) (omega arith) rest))
 
   pay-more : (weighs names weighs' names' : ℕ) (records : List Record) → weighs ≤ weighs' → names ≤ names' →
       All (FullIsPaid slots nodes (weighs + puts_added records) (names + puts_added records)) records → All (FullIsPaid slots nodes (weighs' + puts_added records) (names' + puts_added records)) records
@@ -41,16 +46,21 @@ module _ (slots nodes : ℕ) where
       more-pays slots nodes (weighs + puts_added records) (names + puts_added records) (weighs' + puts_added records) (names' + puts_added records) (omega (arith, heavier)) (omega (arith, wider))
       (get_or records k r) (paid k r inside)
 
+  hold-more : (weighs names weighs' names' : ℕ) (records : List Record) (m : Map) (next : Anchors) → weighs ≤ weighs' → names ≤ names' →
+      IsShapeWithin slots nodes (weighs + puts_added records) (names + puts_added records) m next → IsShapeWithin slots nodes (weighs' + puts_added records) (names' + puts_added records) m next
+  hold-more weighs names weighs' names' records m next heavier wider within =
+      let light = within.light in
+      let few = within.few in
+      record { shape = within.shape; light = omega (arith, light, heavier); few = omega (arith, few, wider) }
+
   all-pay : {weighs names : ℕ} {base end : Map} {anchors shape : Anchors} {plans : List RoundPlan} {reports : List RoundReport} → ArePlayed slots nodes weighs names base anchors plans reports end shape →
       (weighs' names' : ℕ) → weighs ≤ weighs' → names ≤ names' → ArePlayed slots nodes weighs' names' base anchors plans reports end shape
   all-pay ends weighs' names' heavier wider = ends
-  all-pay (lone {weighs = weighs} {names = names} {report = report} callers round paid played) weighs' names' heavier wider =
-      lone callers round (pay-more weighs names weighs' names' report.records heavier wider paid)
+  all-pay (lone {weighs = weighs} {names = names} {report = report} callers joined round paid played) weighs' names' heavier wider =
+      lone callers joined round (pay-more weighs names weighs' names' report.records heavier wider paid)
       (all-pay played (weighs' + puts_added report.records) (names' + puts_added report.records) (omega (arith, heavier)) (omega (arith, wider)))
-  all-pay (crowd {weighs = weighs} {names = names} {report = report} several writes round next within played) weighs' names' heavier wider =
-      let light = within.light in
-      let few = within.few in
-      crowd several writes
+  all-pay (crowd {weighs = weighs} {names = names} {report = report} several joined writes round next within played) weighs' names' heavier wider =
+      crowd several joined writes
       (record {
         legal = round.legal;
         paid = pay-more weighs names weighs' names' report.records heavier wider round.paid;
@@ -58,32 +68,46 @@ module _ (slots nodes : ℕ) where
         joined = round.joined;
         placed = round.placed;
         names_are = round.names_are;
-      }) next (record { shape = within.shape; light = omega (arith, light, heavier); few = omega (arith, few, wider) })
+      }) next (hold-more weighs names weighs' names' report.records _ next heavier wider within)
+      (all-pay played (weighs' + puts_added report.records) (names' + puts_added report.records) (omega (arith, heavier)) (omega (arith, wider)))
+  all-pay (lone_crash {weighs = weighs} {names = names} {found = found} {report = report} callers crash ended round answers paid next within played) weighs' names' heavier wider =
+      lone_crash callers crash ended round answers (pay-more weighs names weighs' names' report.records heavier wider paid) next
+      (hold-more weighs names weighs' names' report.records found next heavier wider within)
+      (all-pay played (weighs' + puts_added report.records) (names' + puts_added report.records) (omega (arith, heavier)) (omega (arith, wider)))
+  all-pay (crowd_crash {weighs = weighs} {names = names} {found = found} {report = report} several crash ended writes round paid next within played) weighs' names' heavier wider =
+      crowd_crash several crash ended writes round (pay-more weighs names weighs' names' report.records heavier wider paid) next
+      (hold-more weighs names weighs' names' report.records found next heavier wider within)
       (all-pay played (weighs' + puts_added report.records) (names' + puts_added report.records) (omega (arith, heavier)) (omega (arith, wider)))
 
   paid-rounds : {weighs names : ℕ} {base end : Map} {anchors shape : Anchors} {plans : List RoundPlan} {reports : List RoundReport} → ArePlayed slots nodes weighs names base anchors plans reports end shape →
       ArePaidRounds slots nodes weighs names reports
   paid-rounds ends = tt
-  paid-rounds (lone callers round paid played) = (paid, paid-rounds played)
-  paid-rounds (crowd several writes round next within played) = (round.paid, paid-rounds played)
+  paid-rounds (lone callers joined round paid played) = (paid, paid-rounds played)
+  paid-rounds (crowd several joined writes round next within played) = (round.paid, paid-rounds played)
+  paid-rounds (lone_crash callers crash ended round answers paid next within played) = (paid, paid-rounds played)
+  paid-rounds (crowd_crash several crash ended writes round paid next within played) = (paid, paid-rounds played)
 
   as-many : {weighs names : ℕ} {base end : Map} {anchors shape : Anchors} {plans : List RoundPlan} {reports : List RoundReport} → ArePlayed slots nodes weighs names base anchors plans reports end shape →
       length reports ≡ length plans
   as-many ends = refl
-  as-many (lone callers round paid played) = let rest = as-many played in omega (arith, rest)
-  as-many (crowd several writes round next within played) = let rest = as-many played in omega (arith, rest)
+  as-many (lone callers joined round paid played) = let rest = as-many played in omega (arith, rest)
+  as-many (crowd several joined writes round next within played) = let rest = as-many played in omega (arith, rest)
+  as-many (lone_crash callers crash ended round answers paid next within played) = let rest = as-many played in omega (arith, rest)
+  as-many (crowd_crash several crash ended writes round paid next within played) = let rest = as-many played in omega (arith, rest)
 
   -- where no round is left, the map stays
   none-left : {weighs names : ℕ} {base end : Map} {anchors shape : Anchors} {plans : List RoundPlan} {reports : List RoundReport} → ArePlayed slots nodes weighs names base anchors plans reports end shape →
       length plans ≡ 0 → end ≡ base
   none-left ends none = refl
-  none-left (lone callers round paid played) none = absurd (omega (arith, none))
-  none-left (crowd several writes round next within played) none = absurd (omega (arith, none))
+  none-left (lone callers joined round paid played) none = absurd (omega (arith, none))
+  none-left (crowd several joined writes round next within played) none = absurd (omega (arith, none))
+  none-left (lone_crash callers crash ended round answers paid next within played) none = absurd (omega (arith, none))
+  none-left (crowd_crash several crash ended writes round paid next within played) none = absurd (omega (arith, none))
 
   first-only : {weighs names : ℕ} {base end : Map} {anchors shape : Anchors} {plans : List RoundPlan} {reports : List RoundReport} → ArePlayed slots nodes weighs names base anchors plans reports end shape →
-      (plan : RoundPlan) (report : RoundReport) → plans ≡ plan ∷ [] → reports ≡ report ∷ [] → IsRoundTo base plan report end
-  first-only ends plan report is told = absurd (let none = ap length is in omega (arith, none))
-  first-only (lone {base = base} {end = end} {plan = p} {report = r} {plans = ps} callers round paid played) plan report is told =
+      (plan : RoundPlan) (report : RoundReport) → plan.crash ≡ None → plans ≡ plan ∷ [] → reports ≡ report ∷ [] → IsRoundTo base plan report end
+  first-only ends plan report none is told = absurd (let clash = ap length is in omega (arith, clash))
+  first-only (lone {base = base} {end = end} {plan = p} {report = r} {plans = ps} callers joined round paid played) plan report none is told =
       let left = ap length is in
       let same : p ≡ plan = ap (λ (qs : List RoundPlan). get_or qs 0 p) is in
       let said : r ≡ report = ap (λ (qs : List RoundReport). get_or qs 0 r) told in
@@ -95,7 +119,7 @@ module _ (slots nodes : ℕ) where
         legal = subst (IsJoinedRound base (numbered p.ops) p.limit r.records (writes_of r.records)) (sym last) round.legal;
         names_are = round.names ∙ ap len (sym last);
       }))
-  first-only (crowd {base = base} {end = end} {plan = p} {report = r} {plans = ps} several writes round next within played) plan report is told =
+  first-only (crowd {base = base} {end = end} {plan = p} {report = r} {plans = ps} several joined writes round next within played) plan report none is told =
       let left = ap length is in
       let same : p ≡ plan = ap (λ (qs : List RoundPlan). get_or qs 0 p) is in
       let said : r ≡ report = ap (λ (qs : List RoundReport). get_or qs 0 r) told in
@@ -107,6 +131,10 @@ module _ (slots nodes : ℕ) where
         legal = subst (IsJoinedRound base (numbered p.ops) p.limit r.records writes) (sym last) round.legal;
         names_are = round.names_are ∙ ap len (sym last);
       }))
+  first-only (lone_crash {plan = p} callers crash ended round answers paid next within played) plan report none is told =
+      absurd (none-some crash (sym none ∙ ap (λ (qs : List RoundPlan). (get_or qs 0 p).crash) (sym is) ∙ ended))
+  first-only (crowd_crash {plan = p} several crash ended writes round paid next within played) plan report none is told =
+      absurd (none-some crash (sym none ∙ ap (λ (qs : List RoundPlan). (get_or qs 0 p).crash) (sym is) ∙ ended))
 
 pub rounds_go_on : RoundsGoOn
 rounds_go_on slots nodes weighs names base mid end anchors between shape plans later reports more played rest = go-on slots nodes end shape later more played rest
@@ -121,9 +149,9 @@ pub each_is_reported : EachIsReported
 each_is_reported slots nodes weighs names base end anchors shape plans reports played = as-many slots nodes played
 
 pub only_round_is_legal : OnlyRoundIsLegal
-only_round_is_legal slots nodes weighs names base end anchors shape plan report played = first-only slots nodes played plan report refl refl
+only_round_is_legal slots nodes weighs names base end anchors shape plan report none played = first-only slots nodes played plan report none refl refl
 
--- ---- rounds of one caller, as a loop over them plays them
+-- ---- joined rounds of one caller, as a loop over them plays them
 
 -- the map and the shape that they leave
 abbrev pub map_end : Map → List RoundReport → Map
@@ -164,16 +192,16 @@ none-so-far-at slots nodes weighs names base anchors reports within none =
     (record { played = ends; within = record { shape = within.shape; light = omega (arith, light); few = omega (arith, few) }; map_is = refl; shape_is = refl })
 
 one-more : (slots nodes weighs names : ℕ) (base end : Map) (anchors shape : Anchors) (plans : List RoundPlan) (reports : List RoundReport) (plan : RoundPlan) (report : RoundReport) → 2 ≤ slots →
-    AreLoneCalls plan.ops → SoFar slots nodes weighs names base anchors plans reports end shape → IsPlayedRound slots nodes end shape plan report (writes_of report.records) →
+    AreLoneCalls plan.ops → plan.crash ≡ None → SoFar slots nodes weighs names base anchors plans reports end shape → IsPlayedRound slots nodes end shape plan report (writes_of report.records) →
     SoFar slots nodes weighs names base anchors (plans ++ plan ∷ []) (reports ++ report ∷ []) (after_all end (writes_of report.records)) (anchors_end slots end shape report.records)
-one-more slots nodes weighs names base end anchors shape plans reports plan report enough callers so round =
+one-more slots nodes weighs names base end anchors shape plans reports plan report enough callers joined so round =
     let is = timely_rounds_are_paid slots nodes plan.limit end shape report.records enough so.within.shape round.answers round.spent round.full in
     let next = goes_within slots nodes (weighs + added_in reports) (names + added_in reports) end shape report.records so.within is in
     let light = next.1.light in
     let few = next.1.few in
     let added = added_in-append reports (report ∷ []) in
     record {
-      played = go-on slots nodes (after_all end (writes_of report.records)) (anchors_end slots end shape report.records) (plan ∷ []) (report ∷ []) so.played (lone callers round next.0 ends);
+      played = go-on slots nodes (after_all end (writes_of report.records)) (anchors_end slots end shape report.records) (plan ∷ []) (report ∷ []) so.played (lone callers joined round next.0 ends);
       within = record { shape = next.1.shape; light = omega (arith, light, added); few = omega (arith, few, added) };
       map_is = ap (λ (m : Map). after_all m (writes_of report.records)) so.map_is ∙ sym (map_end-push base reports report);
       shape_is = (λ k. anchors_end slots (so.map_is k) (so.shape_is k) report.records) ∙ sym (shape_end-push slots base anchors reports report);
@@ -181,16 +209,16 @@ one-more slots nodes weighs names base end anchors shape plans reports plan repo
 
 -- one more of a list of plans
 pub one-more-at : (slots nodes weighs names : ℕ) (base end end' : Map) (anchors shape shape' : Anchors) (all : List RoundPlan) (i : ℕ) (plan : RoundPlan) (reports reports' : List RoundReport)
-    (report : RoundReport) → 2 ≤ slots → AreLoneCalls plan.ops → SoFar slots nodes weighs names base anchors (take i all) reports end shape → i < length all → plan ≡ get_or all i plan →
+    (report : RoundReport) → 2 ≤ slots → AreLoneCalls plan.ops → plan.crash ≡ None → SoFar slots nodes weighs names base anchors (take i all) reports end shape → i < length all → plan ≡ get_or all i plan →
     IsPlayedRound slots nodes end shape plan report (writes_of report.records) → end' ≡ after_all end (writes_of report.records) → shape' ≡ anchors_end slots end shape report.records →
     reports' ≡ reports ++ report ∷ [] → SoFar slots nodes weighs names base anchors (take (i + 1) all) reports' end' shape'
-one-more-at slots nodes weighs names base end end' anchors shape shape' all i plan reports reports' report enough callers so less is round map_left shape_left told =
+one-more-at slots nodes weighs names base end end' anchors shape shape' all i plan reports reports' report enough callers joined so less is round map_left shape_left told =
     let longer : take (i + 1) all ≡ take i all ++ plan ∷ [] = take_more all i plan less ∙ ap (λ p. take i all ++ p ∷ []) (sym is) in
     subst (λ (ps : List RoundPlan). SoFar slots nodes weighs names base anchors ps reports' end' shape') (sym longer)
     (subst (λ (rs : List RoundReport). SoFar slots nodes weighs names base anchors (take i all ++ plan ∷ []) rs end' shape') (sym told)
     (subst (λ (m : Map). SoFar slots nodes weighs names base anchors (take i all ++ plan ∷ []) (reports ++ report ∷ []) m shape') (sym map_left)
     (subst (λ (a : Anchors). SoFar slots nodes weighs names base anchors (take i all ++ plan ∷ []) (reports ++ report ∷ []) (after_all end (writes_of report.records)) a) (sym shape_left)
-    (one-more slots nodes weighs names base end anchors shape (take i all) reports plan report enough callers so round))))
+    (one-more slots nodes weighs names base end anchors shape (take i all) reports plan report enough callers joined so round))))
 
 -- all of a list of plans
 pub all-so-far : (slots nodes weighs names : ℕ) (base end : Map) (anchors shape : Anchors) (all plans : List RoundPlan) (i : ℕ) (reports told : List RoundReport) →
@@ -199,14 +227,6 @@ all-so-far slots nodes weighs names base end anchors shape all plans i reports t
     subst (λ (ps : List RoundPlan). SoFar slots nodes weighs names base anchors ps told end shape) (take_all i all done ∙ same)
     (subst (λ (rs : List RoundReport). SoFar slots nodes weighs names base anchors (take i all) rs end shape) (sym is) so)
 
--- each of the plans, as a loop over them comes to it, has calls of one caller
-pub caller-of-plan : (plans all : List RoundPlan) (i : ℕ) (plan : RoundPlan) → All (λ (p : RoundPlan). AreLoneCalls p.ops) plans → all ≡ plans → i < length all →
-    plan ≡ get_or all i plan → AreLoneCalls plan.ops
-caller-of-plan plans all i plan callers same less is =
-    let each : All (λ (p : RoundPlan). AreLoneCalls p.ops) all = subst (λ (ps : List RoundPlan). All (λ (p : RoundPlan). AreLoneCalls p.ops) ps) (sym same) callers in
-    subst (λ (p : RoundPlan). AreLoneCalls p.ops) (sym is) (each i plan less)
-
--- each of the plans, as a loop over them comes to it, has calls of a report
-pub told-of-plan : (plans : List RoundPlan) (i : ℕ) (plan : RoundPlan) → All (λ (p : RoundPlan). AreReportCalls p.ops) plans → i < length plans → plan ≡ get_or plans i plan →
-    AreReportCalls plan.ops
-told-of-plan plans i plan told less is = subst (λ (p : RoundPlan). AreReportCalls p.ops) (sym is) (told i plan less)
+-- what is so of each of the plans is so of the one that a loop over them comes to
+pub of-plan : (P : RoundPlan → Type 0) (plans : List RoundPlan) (i : ℕ) (plan : RoundPlan) → All P plans → i < length plans → plan ≡ get_or plans i plan → P plan
+of-plan P plans i plan all less is = subst P (sym is) (all i plan less)

@@ -1,5 +1,6 @@
--- The calls of rounds, and whether one caller makes them.
-use Rattle.std.specs.Prelude.{◌≡◌, ℕ, ◌+◌, ◌<◌, ◌≤◌, ◌==◌, ◌↔◌, ◌++◌, Bool, true, false, if◌then◌else◌, List, [], ◌∷◌, All, length}
+-- The calls of rounds, whether one caller makes them, and behind which rounds the index is opened again.
+use Rattle.std.specs.Prelude.{◌≡◌, ℕ, ◌+◌, ◌<◌, ◌≤◌, ◌==◌, ◌||◌, ◌↔◌, ◌++◌, Bool, true, false, if◌then◌else◌, is_some, None}
+use Rattle.std.specs.Prelude.{List, [], ◌∷◌, All, length}
 use Rattle.std.specs.List.{sum_by}
 use Rattle.cat_history.specs.Maps.{Map}
 use Rattle.cat_history.specs.Writes.{after_all}
@@ -25,14 +26,22 @@ abbrev pub is_crowd : List CallerOp → Bool
 is_crowd [] = false
 is_crowd (first ∷ asked) = has_other first.caller asked
 
--- How many of the rounds have calls of several callers.
-abbrev pub crowds : List RoundPlan → ℕ
-crowds [] = 0
-crowds (plan ∷ plans) = one_if (is_crowd plan.ops) + crowds plans
-
 -- Each of the rounds has calls of one caller at most.
 abbrev pub AreLoneRounds : List RoundPlan → Type 0
 AreLoneRounds plans = All (λ (plan : RoundPlan). AreLoneCalls plan.ops) plans
+
+-- Each of the rounds is joined at its end: no crash ends it.
+abbrev pub AreJoined : List RoundPlan → Type 0
+AreJoined plans = All (λ (plan : RoundPlan). plan.crash ≡ None) plans
+
+-- Whether the index is opened again behind a round: a crash ends it, or several callers have calls in it.
+abbrev pub has_restart : RoundPlan → Bool
+has_restart plan = is_some plan.crash || is_crowd plan.ops
+
+-- How many of the rounds are so.
+abbrev pub restarts : List RoundPlan → ℕ
+restarts [] = 0
+restarts (plan ∷ plans) = one_if (has_restart plan) + restarts plans
 
 -- A call of which a report can tell: of one of 16 callers, of a name, with a number below 2 ^ 64.
 abbrev pub IsReportCall : CallerOp → Type 0
@@ -55,21 +64,21 @@ IsLeftBy base op reply end =
       reply = reply;
     }))
 
--- ---- laws of rounds of several callers
+-- ---- laws
 
--- They are just those that aren't of one caller,
+-- Several callers have calls just where no caller makes all of them.
 abbrev pub IsCrowdOrLone : Type 0
 IsCrowdOrLone = (asked : List CallerOp) → (is_crowd asked ≡ true → ¬ AreLoneCalls asked) ×
     (is_crowd asked ≡ false → AreLoneCalls asked)
 
--- there are none exactly where each round is of one caller,
-abbrev pub LoneRoundsAreNoCrowds : Type 0
-LoneRoundsAreNoCrowds = (plans : List RoundPlan) → AreLoneRounds plans ↔ (crowds plans ≡ 0)
+-- The index is never opened again among rounds exactly where each is of one caller and joined,
+abbrev pub JoinedLoneHaveNoRestart : Type 0
+JoinedLoneHaveNoRestart = (plans : List RoundPlan) → (AreLoneRounds plans × AreJoined plans) ↔ (restarts plans ≡ 0)
 
--- there are no more than calls,
-abbrev pub CrowdsAreFew : Type 0
-CrowdsAreFew = (plans : List RoundPlan) → crowds plans ≤ calls_in plans
+-- it is so at most once for each round,
+abbrev pub RestartsAreFew : Type 0
+RestartsAreFew = (plans : List RoundPlan) → restarts plans ≤ length plans
 
--- and those of rounds behind others add to those.
-abbrev pub CrowdsAddUp : Type 0
-CrowdsAddUp = (plans more : List RoundPlan) → crowds (plans ++ more) ≡ crowds plans + crowds more
+-- and the times among rounds behind others add to those.
+abbrev pub RestartsAddUp : Type 0
+RestartsAddUp = (plans more : List RoundPlan) → restarts (plans ++ more) ≡ restarts plans + restarts more

@@ -1,13 +1,17 @@
--- What a round of one caller comes to, and one of several, and what rounds do, one after another.
-use Rattle.std.specs.Prelude.{◌≡◌, ℕ, ◌+◌, ◌%◌, ◌<◌, ◌≤◌, false, List, [], ◌∷◌, ◌++◌, All, length, map, take}
+-- What a round of one caller comes to, and one of several, joined or ended by a crash, and what rounds do, one after
+-- another.
+use Rattle.std.specs.Prelude.{◌≡◌, ℕ, ◌+◌, ◌%◌, ◌<◌, ◌≤◌, false, true, List, [], ◌∷◌, ◌++◌, All, length, map, take}
+use Rattle.std.specs.Prelude.{Some, None}
 use Rattle.std.specs.FinMap.{len}
 use Rattle.cat_history.specs.CrashEnds.{after_changes}
+use Rattle.cat_history.specs.CrashRounds.{IsCrashRound}
 use Rattle.cat_history.specs.Maps.{Map}
 use Rattle.cat_history.specs.Writes.{after_all}
 use Rattle.cat_history.specs.LoneRounds.{writes_of, IsLoneRound, IsSpentExactly}
 use Rattle.cat_history.specs.Records.{call_of, numbered}
-use Rattle.cat_history.specs.Rounds.{IsJoinedRound}
+use Rattle.cat_history.specs.Rounds.{IsJoinedRound, answered_records}
 use Rattle.cat_history.specs.declared.op.Write.{Write}
+use Rattle.cat_history.specs.declared.plan.CrashPlan.{CrashPlan}
 use Rattle.cat_history.specs.declared.plan.RoundPlan.{RoundPlan}
 use Rattle.cat_history.specs.declared.record.Record.{Record}
 use Rattle.cat_text.specs.declared.report.RoundReport.{RoundReport}
@@ -84,22 +88,46 @@ pub record IsCrowdRound (slots nodes weighs names : ℕ) (base : Map) (plan : Ro
   pub placed : report.writes ≡ length writes
   pub names_are : report.names ≡ len (after_all base writes)
 
+-- ---- rounds that a crash ends
+
+-- A round of the plan's calls under the plan's limit, from the base map on, that this crash ended, settled and reported:
+-- each caller came as far as its budget let it, these are the writes that have a place, in the order of their places, and
+-- the map that was found again is the one after them and after those cut off without a place that are reported found. At
+-- its end the report has the number of placed writes, and that of the names of the map found.
+pub record IsCrashedRound (base : Map) (plan : RoundPlan) (crash : CrashPlan) (report : RoundReport)
+    (writes : List Write) (end : Map) : Type 0 where
+  pub legal : IsCrashRound base (numbered plan.ops) plan.limit crash.budgets report.records writes end
+  pub crashed : report.crashed ≡ true
+  pub placed : report.writes ≡ length writes
+  pub names_are : report.names ≡ len end
+
+-- In one of one caller its records are in the order of the script, and its answered calls are as in a round that is
+-- joined: each answered on the map as the earlier ones left it, `spent` exactly where the placed writes reach the limit,
+-- `full` exactly by the shape, and each part of a scan bounded by it.
+pub record IsLoneCrash (slots nodes : ℕ) (base : Map) (anchors : Anchors) (plan : RoundPlan) (records : List Record) :
+    Type 0 where
+  pub in_script_order : map call_of records ≡ numbered plan.ops
+  pub answers : IsLoneRound base (answered_records records)
+  pub spent : IsSpentExactly plan.limit base (answered_records records)
+  pub full : IsFullInTime slots nodes plan.limit (opening base anchors) (answered_records records)
+  pub bounds : IsBoundedByShape slots base anchors (answered_records records)
+
 -- ---- rounds, one after another
 
 -- Rounds of these plans were played and reported, each on the map and the shape that the one before it left, the first
 -- on this map and these anchors; at the end the map and the anchors are those. The members have so many slots each, and
 -- there can be as many members as nodes. The first two numbers are what the opening weighed and how many names it had,
--- each with the puts since then that added a name: they pay for each full answer.
+-- each with the puts since then that added a name or were cut off: they pay for each full answer.
 --
--- Behind a round in which one caller at most has calls, the shape is what its calls made of the one before. Behind any
--- other round it has the names of the map that the round left, and no more weight than is paid for.
+-- Behind a joined round in which one caller at most has calls, the shape is what its calls made of the one before. Behind
+-- any other round it has the names of the map that the round left, and no more weight than is paid for.
 pub data ArePlayed (slots nodes : ℕ) : ℕ → ℕ → Map → Anchors → List RoundPlan → List RoundReport → Map → Anchors →
     Type 0 where
   ends : {weighs names : ℕ} {base : Map} {anchors : Anchors} →
       ArePlayed slots nodes weighs names base anchors [] [] base anchors
   lone : {weighs names : ℕ} {base end : Map} {anchors shape : Anchors} {plan : RoundPlan} {report : RoundReport}
       {plans : List RoundPlan} {reports : List RoundReport} →
-      AreLoneCalls plan.ops →
+      AreLoneCalls plan.ops → plan.crash ≡ None →
       IsPlayedRound slots nodes base anchors plan report (writes_of report.records) →
       All (FullIsPaid slots nodes (weighs + puts_added report.records) (names + puts_added report.records))
       report.records →
@@ -109,7 +137,7 @@ pub data ArePlayed (slots nodes : ℕ) : ℕ → ℕ → Map → Anchors → Lis
       ArePlayed slots nodes weighs names base anchors (plan ∷ plans) (report ∷ reports) end shape
   crowd : {weighs names : ℕ} {base end : Map} {anchors shape : Anchors} {plan : RoundPlan} {report : RoundReport}
       {plans : List RoundPlan} {reports : List RoundReport} →
-      ¬ AreLoneCalls plan.ops →
+      ¬ AreLoneCalls plan.ops → plan.crash ≡ None →
       (writes : List Write) → IsCrowdRound slots nodes weighs names base plan report writes →
       (next : Anchors) →
       IsShapeWithin slots nodes (weighs + puts_added report.records) (names + puts_added report.records)
@@ -117,8 +145,31 @@ pub data ArePlayed (slots nodes : ℕ) : ℕ → ℕ → Map → Anchors → Lis
       ArePlayed slots nodes (weighs + puts_added report.records) (names + puts_added report.records)
       (after_all base writes) next plans reports end shape →
       ArePlayed slots nodes weighs names base anchors (plan ∷ plans) (report ∷ reports) end shape
+  lone_crash : {weighs names : ℕ} {base found end : Map} {anchors shape : Anchors} {plan : RoundPlan}
+      {report : RoundReport} {plans : List RoundPlan} {reports : List RoundReport} →
+      AreLoneCalls plan.ops → (crash : CrashPlan) → plan.crash ≡ Some crash →
+      IsCrashedRound base plan crash report (writes_of report.records) found →
+      IsLoneCrash slots nodes base anchors plan report.records →
+      All (FullIsPaid slots nodes (weighs + puts_added report.records) (names + puts_added report.records))
+      report.records →
+      (next : Anchors) →
+      IsShapeWithin slots nodes (weighs + puts_added report.records) (names + puts_added report.records) found next →
+      ArePlayed slots nodes (weighs + puts_added report.records) (names + puts_added report.records) found next plans
+      reports end shape →
+      ArePlayed slots nodes weighs names base anchors (plan ∷ plans) (report ∷ reports) end shape
+  crowd_crash : {weighs names : ℕ} {base found end : Map} {anchors shape : Anchors} {plan : RoundPlan}
+      {report : RoundReport} {plans : List RoundPlan} {reports : List RoundReport} →
+      ¬ AreLoneCalls plan.ops → (crash : CrashPlan) → plan.crash ≡ Some crash →
+      (writes : List Write) → IsCrashedRound base plan crash report writes found →
+      All (FullIsPaid slots nodes (weighs + puts_added report.records) (names + puts_added report.records))
+      report.records →
+      (next : Anchors) →
+      IsShapeWithin slots nodes (weighs + puts_added report.records) (names + puts_added report.records) found next →
+      ArePlayed slots nodes (weighs + puts_added report.records) (names + puts_added report.records) found next plans
+      reports end shape →
+      ArePlayed slots nodes weighs names base anchors (plan ∷ plans) (report ∷ reports) end shape
 
--- How many puts added a name in all these rounds.
+-- How many puts added a name in all these rounds, or were cut off and may have added one.
 abbrev pub added_in : List RoundReport → ℕ
 added_in [] = 0
 added_in (report ∷ reports) = puts_added report.records + added_in reports
@@ -141,7 +192,8 @@ MorePays = (slots nodes weighs names weighs' names' : ℕ) (base end : Map) (anc
     ArePlayed slots nodes weighs' names' base anchors plans reports end shape
 
 -- In each round a call is answered full only where all nodes are paid for by the weight at the opening, and the slots
--- of one by the names then, together with the puts since then, up to the end of that round, that added a name.
+-- of one by the names then, together with the puts since then, up to the end of that round, that added a name or were
+-- cut off.
 abbrev pub ArePaidRounds : ℕ → ℕ → ℕ → ℕ → List RoundReport → Type 0
 ArePaidRounds slots nodes weighs names [] = Unit {0}
 ArePaidRounds slots nodes weighs names (report ∷ reports) =
@@ -165,9 +217,9 @@ pub record IsRoundTo (base : Map) (plan : RoundPlan) (report : RoundReport) (end
   pub legal : IsJoinedRound base (numbered plan.ops) plan.limit report.records writes end
   pub names_are : report.names ≡ len end
 
--- The only round is such a one.
+-- The only round is such a one, where no crash ends it.
 abbrev pub OnlyRoundIsLegal : Type 0
 OnlyRoundIsLegal = (slots nodes weighs names : ℕ) (base end : Map) (anchors shape : Anchors) (plan : RoundPlan)
-    (report : RoundReport) →
+    (report : RoundReport) → plan.crash ≡ None →
     ArePlayed slots nodes weighs names base anchors (plan ∷ []) (report ∷ []) end shape →
     IsRoundTo base plan report end

@@ -95,6 +95,7 @@ impl<L: Ledger, K: RunOf> CoreMap<L, K> {
         ensures core { result ≡ self }
         ensures index { IsIndex result }
         ensures quiet { IsQuiet result }
+        ensures stamps { HasLowStamps result }
         ensures run { IsOfRun K.layout K.generation result }
     {
         self.core

@@ -1,7 +1,7 @@
 //! Laws of rounds and of cores, each named by the contract of a function. The functions do nothing.
 
 ghost use Rattle.core_rounds.specs.CoreMaps.{OpenedIsMap};
-ghost use Rattle.core_rounds.specs.LoneCalls.{CrowdsAddUp, CrowdsAreFew, IsCrowdOrLone, LoneRoundsAreNoCrowds};
+ghost use Rattle.core_rounds.specs.LoneCalls.{IsCrowdOrLone, JoinedLoneHaveNoRestart, RestartsAddUp, RestartsAreFew};
 ghost use Rattle.core_rounds.specs.Rounds.{EachIsReported, MorePays, OnlyRoundIsLegal, PlayedArePaid, RoundsGoOn};
 
 /// What rounds come to that are played one after another: some behind others, what their full answers are paid for by,
@@ -14,12 +14,12 @@ pub fn rounds_law()
     ensures only { OnlyRoundIsLegal }
 {}
 
-/// Which rounds are of several callers, and how many there are.
-pub fn crowds_law()
+/// Which rounds are of several callers, and how many times the index is opened again among rounds.
+pub fn restarts_law()
     ensures either { IsCrowdOrLone }
-    ensures none { LoneRoundsAreNoCrowds }
-    ensures few { CrowdsAreFew }
-    ensures add { CrowdsAddUp }
+    ensures none { JoinedLoneHaveNoRestart }
+    ensures few { RestartsAreFew }
+    ensures add { RestartsAddUp }
 {}
 
 /// What is known of an index that an image was opened as.

@@ -1,8 +1,10 @@
-//! Plays rounds of one caller on the index, and says what rounds come to, those of several callers among them.
+//! Plays rounds of one caller on the index, and says what rounds come to, those of several callers and those that a crash
+//! ends among them.
 //!
 //! `CoreMap` is the index as a map of names, each call of which is a whole call of its caller with no other in flight. A
 //! round of one caller is its calls, answered in their order, with turns of the updater among them; such rounds are played
-//! one after another. A core is opened for them, of a fresh image or of its own, and a round is summed up.
+//! one after another, each joined at its end. A core is opened for them, of a fresh image or of its own, and a round is
+//! summed up.
 #![tactic(auto)]
 
 mod core_map;
@@ -15,7 +17,7 @@ mod updated_map;
 
 pub use core_map::{CoreMap, RunOf, image_of};
 pub use opening::{open_fresh, reopen};
-pub use playing::{LoneRounds, calls_in, crowds, is_crowd, play_lone};
+pub use playing::{LoneRounds, calls_in, has_restart, is_crowd, play_lone, restarts};
 pub use round::run_lone_round;
 pub use summary::summarize;
 pub use updated_map::UpdatedMap;

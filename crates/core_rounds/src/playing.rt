@@ -1,4 +1,4 @@
-//! Playing rounds of one caller on the index, one after another.
+//! Playing rounds of one caller on the index, one after another, each joined at its end.
 
 ghost use Rattle.std.specs.Prelude.{◌≡◌, ℕ, ◌+◌, ◌*◌, ◌<◌, ◌≤◌, All, IfOk, IsTrue};
 ghost use Rattle.std.specs.FinMap.{len};
@@ -6,12 +6,13 @@ ghost use Rattle.pm_words.specs.Images.{Row};
 ghost use Rattle.cat_text.specs.ReportGrammar.{IsReportRound};
 ghost use Rattle.recovery.specs.Opened.{IsOpenedFrom};
 ghost use Rattle.index_law.specs.Anchors.{anchors_in};
+ghost use Rattle.index_core.specs.Fulls.{HasLowStamps};
 ghost use Rattle.index_core.specs.Indexes.{IsIndex, map_of_index, world};
 ghost use Rattle.index_core.specs.Lone.{IsQuiet};
 ghost use Rattle.index_core.specs.Weights.{weight_of};
-ghost use Rattle.core_rounds.specs.CoreMaps.{HasNoLines, IsOfRun, Waits};
-ghost use Rattle.core_rounds.specs.LoneCalls.{AreLoneCalls, AreLoneRounds, AreReportCalls, calls_in, crowds};
-ghost use Rattle.core_rounds.specs.LoneCalls.{has_other, is_crowd};
+ghost use Rattle.core_rounds.specs.CoreMaps.{HasNoLines, IsOfRun, Waits, calls_left_of};
+ghost use Rattle.core_rounds.specs.LoneCalls.{AreJoined, AreLoneCalls, AreLoneRounds, AreReportCalls, calls_in};
+ghost use Rattle.core_rounds.specs.LoneCalls.{has_other, has_restart, is_crowd, restarts};
 ghost use Rattle.core_rounds.specs.Rounds.{ArePlayed, RoundsEndWithTurn, added_in};
 ghost use Rattle.core_rounds.specs.Waiting.{HaveNoTurns, changes_made, puts_asked, writes_asked};
 
@@ -33,11 +34,12 @@ pub struct LoneRounds {
     pub core: Core,
 }
 
-/// Plays rounds of one caller each, one after another, on a core that an image was opened as, with nothing done with it
-/// since. Memory that runs out is the only refusal.
+/// Plays rounds of one caller each that no crash ends, one after another, on a core that an image was opened as, with
+/// nothing done with it since. Memory that runs out is the only refusal.
 pub fn play_lone(alloc: Global, core: Core, plans: &[RoundPlan]) -> Result<LoneRounds, NoMemory>
     requires opened { (image : Row) × IsOpenedFrom image core }
     requires lone { AreLoneRounds plans.now }
+    requires joined { AreJoined plans.now }
     requires callers { All (λ plan. All (λ a. a.caller < core.layout.callers) plan.ops) plans.now }
     requires told { All (λ plan. AreReportCalls plan.ops) plans.now }
     requires calls { calls_in plans.now ≤ 100000 }
@@ -52,6 +54,10 @@ pub fn play_lone(alloc: Global, core: Core, plans: &[RoundPlan]) -> Result<LoneR
     ensures generation { IfOk result (λ done. done.core.generation ≡ core.generation) }
     ensures index { IfOk result (λ done. IsIndex done.core) }
     ensures quiet { IfOk result (λ done. IsQuiet done.core) }
+    ensures stamps { IfOk result (λ done. HasLowStamps done.core) }
+    // An opened core has 100000 calls left of each node, of which these rounds take as many as they have.
+    ensures calls_left { IfOk result (λ done. (calls : ℕ) → calls + calls_in plans.now ≤ 100000 →
+        calls * core.layout.nodes ≤ calls_left_of done.core) }
     ensures settled { IfOk result (λ done. RoundsEndWithTurn plans.now → HasNoLines done.core) }
     ensures waits { IfOk result (λ done. HaveNoTurns plans.now → (changes lines puts : ℕ) →
         Waits core changes (lines + writes_asked plans.now) (puts + puts_asked plans.now) →
@@ -70,6 +76,7 @@ fn play_on_core<L: Ledger, K: RunOf>(
 ) -> Result<LoneRounds, NoMemory>
     requires opened { (image : Row) × IsOpenedFrom image core }
     requires lone { AreLoneRounds plans.now }
+    requires joined { AreJoined plans.now }
     requires callers { All (λ plan. All (λ a. a.caller < core.layout.callers) plan.ops) plans.now }
     requires told { All (λ plan. AreReportCalls plan.ops) plans.now }
     requires calls { calls_in plans.now ≤ 100000 }
@@ -86,6 +93,10 @@ fn play_on_core<L: Ledger, K: RunOf>(
     ensures run { IfOk result (λ done. IsOfRun K.layout K.generation done.core) }
     ensures index { IfOk result (λ done. IsIndex done.core) }
     ensures quiet { IfOk result (λ done. IsQuiet done.core) }
+    ensures stamps { IfOk result (λ done. HasLowStamps done.core) }
+    // An opened core has 100000 calls left of each node, of which these rounds take as many as they have.
+    ensures calls_left { IfOk result (λ done. (calls : ℕ) → calls + calls_in plans.now ≤ 100000 →
+        calls * core.layout.nodes ≤ calls_left_of done.core) }
     ensures settled { IfOk result (λ done. RoundsEndWithTurn plans.now → HasNoLines done.core) }
     ensures waits { IfOk result (λ done. HaveNoTurns plans.now → (changes lines puts : ℕ) →
         Waits core changes (lines + writes_asked plans.now) (puts + puts_asked plans.now) →
@@ -111,6 +122,7 @@ fn play_on_map<M: UpdatedMap>(
     plans: &[RoundPlan],
 ) -> Result<Vec<RoundReport>, NoMemory>
     requires lone { AreLoneRounds plans.now }
+    requires joined { AreJoined plans.now }
     requires callers { All (λ plan. All (λ a. a.caller < M.callers map.old) plan.ops) plans.now }
     requires told { All (λ plan. AreReportCalls plan.ops) plans.now }
     requires calls { calls_in plans.now * M.most map.old ≤ M.calls_left map.old }
@@ -121,6 +133,9 @@ fn play_on_map<M: UpdatedMap>(
     ensures report { IfOk result (λ reports. All IsReportRound reports.items) }
     ensures weighs { IfOk result (λ reports. M.weighs map.new ≤ M.weighs map.old + added_in reports.items) }
     ensures names { IfOk result (λ reports. len (M.contents map.new) ≤ len (M.contents map.old) + added_in reports.items) }
+    ensures calls_left { IfOk result (λ _. (calls : ℕ) →
+        (calls + calls_in plans.now) * M.most map.old ≤ M.calls_left map.old →
+        calls * M.most map.old ≤ M.calls_left map.new) }
     ensures settled { IfOk result (λ _. RoundsEndWithTurn plans.now → M.is_settled map.new) }
     ensures waits { IfOk result (λ reports. HaveNoTurns plans.now → (changes writes puts : ℕ) →
         M.waits map.old changes (writes + writes_asked plans.now) (puts + puts_asked plans.now) →
@@ -147,18 +162,24 @@ pub fn calls_in(plans: &[RoundPlan]) -> u64
     calls
 }
 
-/// How many of the rounds have calls of several callers.
-pub fn crowds(plans: &[RoundPlan]) -> u64
-    requires { calls_in plans.now ≤ 100000 }
-    ensures { result ≡ crowds plans.now }
+/// How many times the index is opened again among these rounds.
+pub fn restarts(plans: &[RoundPlan]) -> u64
+    ensures { result ≡ restarts plans.now }
 {
-    let mut crowds = 0;
+    let mut restarts = 0;
     for plan in plans {
-        if is_crowd(plan.ops.as_slice()) {
-            crowds += 1;
+        if has_restart(plan) {
+            restarts += 1;
         }
     }
-    crowds
+    restarts
+}
+
+/// Whether the index is opened again behind a round: a crash ends it, or several callers have calls in it.
+pub fn has_restart(plan: &RoundPlan) -> bool
+    ensures { result ≡ has_restart plan.now }
+{
+    plan.crash.is_some() || is_crowd(plan.ops.as_slice())
 }
 
 /// Whether several callers have calls.

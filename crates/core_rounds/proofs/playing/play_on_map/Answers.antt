@@ -1,13 +1,14 @@
 use Rattle.std.proofs.Common.{◌≡◌, ℕ, List, [], ◌∷◌, ◌+◌, ◌*◌, ◌<◌, ◌≤◌, All, ◌∙◌, length, drop, ap, sym, subst, refl, arith}
-use Rattle.std.proofs.lemmas.List.{take_all}
+use Rattle.std.specs.Prelude.{None}
+use Rattle.std.proofs.lemmas.List.{at_drop_all, take_all}
 use Rattle.std.proofs.lemmas.List.Elements.{All-push}
 use Rattle.cat_history.specs.LoneRounds.{writes_of}
 use Rattle.cat_text.specs.ReportGrammar.{IsReportRound}
 use Rattle.shapes.specs.ShapeRounds.{anchors_end}
 use Rattle.core_rounds.specs.Rounds.{IsPlayedRound, RoundsEndWithTurn, added_in}
-use Rattle.core_rounds.proofs.Played.{none-so-far-at, one-more-at, all-so-far, caller-of-plan, told-of-plan, added_in-append}
-use Rattle.core_rounds.specs.LoneCalls.{calls_in}
-use Rattle.core_rounds.proofs.CallCounts.{calls-to-come, calls-of-one, calls-of-rest}
+use Rattle.core_rounds.proofs.Played.{none-so-far-at, one-more-at, all-so-far, of-plan, added_in-append}
+use Rattle.core_rounds.specs.LoneCalls.{AreLoneCalls, AreReportCalls, calls_in}
+use Rattle.core_rounds.proofs.CallCounts.{calls-to-come, calls-of-one, calls-of-rest, none-beside}
 use Rattle.core_rounds.proofs.RoundTurns.{last-ends}
 use Rattle.cat_history.specs.declared.plan.RoundPlan.{RoundPlan}
 use Rattle.core_rounds.specs.Waiting.{changes_in, changes_made, puts_asked, writes_asked}
@@ -25,7 +26,7 @@ loop-plan-init g c =
       told = rw c.in_ok-rounds.ensures.items (λ k d within. absurd (omega (arith, within)));
       waits = λ none. rw c.in_ok-rounds.ensures.items (waits-first (g.M.UpdatedMap.waits c.args.map.now));
       settled = λ none. absurd none;
-      calls = c.requires.calls;
+      calls = λ n enough. enough;
       writes = c.requires.writes;
     }
 
@@ -35,13 +36,14 @@ run_lone_round-requires g c =
     let was = c.loop-plan.invariant in
     let come = calls-to-come plans c.loop-plan.plan-index c.plan-item.result c.loop-plan-test.true c.plan-item.is in
     record {
-      caller = caller-of-plan c.args.plans.now plans c.loop-plan.plan-index c.plan-item.result c.requires.lone refl c.loop-plan-test.true c.plan-item.is;
+      caller = of-plan (λ (p : RoundPlan). AreLoneCalls p.ops) plans c.loop-plan.plan-index c.plan-item.result c.requires.lone c.loop-plan-test.true c.plan-item.is;
       callers = subst (λ k. All (λ a. a.caller < k) c.plan-item.result.ops) (sym was.callers_stay)
           (subst (λ (p : RoundPlan). All (λ a. a.caller < g.M.UpdatedMap.callers c.args.map.now) p.ops) (sym c.plan-item.is) (c.requires.callers c.loop-plan.plan-index c.plan-item.result c.loop-plan-test.true));
-      told = told-of-plan plans c.loop-plan.plan-index c.plan-item.result c.requires.told c.loop-plan-test.true c.plan-item.is;
+      told = of-plan (λ (p : RoundPlan). AreReportCalls p.ops) plans c.loop-plan.plan-index c.plan-item.result c.requires.told c.loop-plan-test.true c.plan-item.is;
       calls = subst (λ k. length c.plan-item.result.ops * k ≤ g.M.UpdatedMap.calls_left c.loop-plan.map) (sym was.most_stays)
           (calls-of-one (length c.plan-item.result.ops) (calls_in (drop (c.loop-plan.plan-index + 1) plans)) (g.M.UpdatedMap.most c.args.map.now) _
-          (subst (λ n. n * g.M.UpdatedMap.most c.args.map.now ≤ g.M.UpdatedMap.calls_left c.loop-plan.map) come was.calls));
+          (subst (λ n. n * g.M.UpdatedMap.most c.args.map.now ≤ g.M.UpdatedMap.calls_left c.loop-plan.map) come
+          (none-beside (calls_in (drop c.loop-plan.plan-index plans)) (calls_in plans) (g.M.UpdatedMap.most c.args.map.now) _ _ (was.calls 0) c.requires.calls)));
       writes = omega (arith, was.writes, come);
     }
 
@@ -68,7 +70,8 @@ loop-plan-preserved g c =
           let added = ap added_in c.in_ok-push.ensures.items ∙ added_in-append c.loop-plan.rounds.items (report ∷ []) in
           omega (arith, was.weighs_so, told.weighs, added);
       so_far = one-more-at _ _ _ _ _ _ _ _ _ _ _ _ _ _ _ _ c.has_shape.ensures.enough
-          (caller-of-plan c.args.plans.now plans c.loop-plan.plan-index c.plan-item.result c.requires.lone refl c.loop-plan-test.true c.plan-item.is)
+          (of-plan (λ (p : RoundPlan). AreLoneCalls p.ops) plans c.loop-plan.plan-index c.plan-item.result c.requires.lone c.loop-plan-test.true c.plan-item.is)
+          (of-plan (λ (p : RoundPlan). p.crash ≡ None) plans c.loop-plan.plan-index c.plan-item.result c.requires.joined c.loop-plan-test.true c.plan-item.is)
           was.so_far c.loop-plan-test.true c.plan-item.is round told.after
           (told.anchors ∙ ap (λ (k : ℕ). anchors_end k now shape report.records) was.slots_stay) c.in_ok-push.ensures.items;
       told = rw c.in_ok-push.ensures.items (All-push IsReportRound c.loop-plan.rounds.items report was.told told.report);
@@ -83,8 +86,8 @@ loop-plan-preserved g c =
           (ap (changes_made slots base anchors) c.in_ok-push.ensures.items ∙ changes_made-push slots base anchors rounds report
           ∙ (λ k. changes_made slots base anchors rounds + changes_in (sym was.slots_stay k) (sym was.so_far.map_is k) (sym was.so_far.shape_is k) report.records));
       settled = λ ends. told.settled (last-ends plans c.loop-plan.plan-index c.plan-item.result c.loop-plan-test.true c.plan-item.is ends);
-      calls = calls-of-rest (length c.plan-item.result.ops) (calls_in (drop (c.loop-plan.plan-index + 1) plans)) most _ _
-          (subst (λ n. n * most ≤ g.M.UpdatedMap.calls_left c.loop-plan.map) come was.calls) taken;
+      calls = λ n enough. calls-of-rest (length c.plan-item.result.ops) (n + calls_in (drop (c.loop-plan.plan-index + 1) plans)) most _ _
+          (subst (λ k. k * most ≤ g.M.UpdatedMap.calls_left c.loop-plan.map) (omega (arith, come)) (was.calls n enough)) taken;
       writes = omega (arith, was.writes, c.run_lone_round.ensures.writes_left, come);
     }
 
@@ -110,3 +113,10 @@ returns-clause-waits g c none changes writes puts waits =
     let all = take_all c.loop-plan.plan-index c.args.plans.now (omega (arith, c.loop-plan-test.false)) in
     c.loop-plan.invariant.waits none changes writes puts
     (subst (λ (plans : List RoundPlan). M.waits c.args.map.now changes (writes + writes_asked plans) (puts + puts_asked plans)) (sym all) waits)
+
+-- none are to come
+pub returns-clause-calls_left : goal.returns-clause-calls_left
+returns-clause-calls_left g c calls enough =
+    let M = g.M.UpdatedMap in
+    let none : calls_in (drop c.loop-plan.plan-index c.args.plans.now) ≡ 0 = at_drop_all calls_in c.args.plans.now c.loop-plan.plan-index (omega (arith, c.loop-plan-test.false)) in
+    subst (λ k. k * M.most c.args.map.now ≤ M.calls_left c.loop-plan.map) (omega (arith, none)) (c.loop-plan.invariant.calls calls enough)

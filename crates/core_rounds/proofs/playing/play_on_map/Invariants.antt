@@ -7,7 +7,8 @@ use Rattle.core_rounds.specs.Waiting.{HaveNoTurns, changes_made, puts_asked, wri
 use Rattle.core_rounds.proofs.Played.{SoFar}
 use Rattle.core_rounds.proofs.playing.play_on_map.Given as goal
 
--- the rounds so far are played and left the map and the shape as they are, and there are calls and writes left for the rest
+-- the rounds so far are played and left the map and the shape as they are, and there are calls and writes left for the
+-- rest, and for as many more calls as there were
 abbrev pub invariant-loop-plan : goal.invariant-loop-plan
 invariant-loop-plan g l =
     let contents = g.M.UpdatedMap.contents in
@@ -26,6 +27,6 @@ invariant-loop-plan g l =
           g.M.UpdatedMap.waits l.fn.map changes (writes + writes_asked (take l.plan-index l.plans)) (puts + puts_asked (take l.plan-index l.plans)) →
           g.M.UpdatedMap.waits l.map (changes + changes_made (slots l.fn.map) (contents l.fn.map) (anchors l.fn.map) l.rounds.items) writes puts;
       settled : RoundsEndWithTurn (take l.plan-index l.plans) → g.M.UpdatedMap.is_settled l.map;
-      calls : calls_in (drop l.plan-index l.plans) * most l.fn.map ≤ g.M.UpdatedMap.calls_left l.map;
+      calls : (n : ℕ) → (n + calls_in l.plans) * most l.fn.map ≤ g.M.UpdatedMap.calls_left l.fn.map → (n + calls_in (drop l.plan-index l.plans)) * most l.fn.map ≤ g.M.UpdatedMap.calls_left l.map;
       writes : calls_in (drop l.plan-index l.plans) ≤ g.M.UpdatedMap.writes_left l.map;
     }

@@ -1,13 +1,14 @@
--- Which rounds have calls of several callers, and how many there are.
+-- Which rounds have calls of several callers, and how many times the index is opened again among rounds.
 use Rattle.std.proofs.Common.{◌≡◌, ℕ, ◌+◌, ◌<◌, ◌≤◌, Bool, true, false, cond, List, [], ◌∷◌, drop, get_or, length, refl, sym, ap, ◌∙◌, subst, arith, inl, inr}
 use Rattle.std.specs.List.{AllByRecursion}
+use Rattle.std.specs.Prelude.{◌||◌, Option, Some, None, is_some}
 use Rattle.std.proofs.lemmas.Bool.{cases_eq, eq-eqb, ne_eqb, false≢true}
 use Rattle.std.proofs.lemmas.List.{at_drop_all, at_drop_more}
 use Rattle.std.proofs.lemmas.List.Elements.{All-from_recursion, recursion_from_All}
-use Rattle.std.proofs.lemmas.List.Sums.{sum_by-cons}
 use Rattle.cat_history.specs.declared.op.CallerOp.{CallerOp}
+use Rattle.cat_history.specs.declared.plan.CrashPlan.{CrashPlan}
 use Rattle.cat_history.specs.declared.plan.RoundPlan.{RoundPlan}
-use Rattle.core_rounds.specs.LoneCalls.{AreLoneCalls, CrowdsAddUp, CrowdsAreFew, IsCrowdOrLone, LoneRoundsAreNoCrowds, crowds, has_other, is_crowd}
+use Rattle.core_rounds.specs.LoneCalls.{AreLoneCalls, IsCrowdOrLone, JoinedLoneHaveNoRestart, RestartsAddUp, RestartsAreFew, has_other, has_restart, is_crowd, restarts}
 use Rattle.core_rounds.specs.Waiting.{one_if}
 
 abbrev IsOf : ℕ → CallerOp → Type 0
@@ -68,57 +69,73 @@ by-first [] first some is = absurd (omega (arith, some))
 by-first (a ∷ asked) first some is =
     ap (λ (b : CallerOp). has_other b.caller (a ∷ asked)) is ∙ same-here a.caller a asked refl
 
--- ---- how many
+-- ---- how many times the index is opened again
 
 at-most : (b : Bool) → one_if b ≤ 1
 at-most true = omega arith
 at-most false = omega arith
 
-crowd-has-calls : (asked : List CallerOp) → one_if (is_crowd asked) ≤ length asked
-crowd-has-calls [] = omega arith
-crowd-has-calls (first ∷ asked) = let one = at-most (has_other first.caller asked) in omega (arith, one)
-
-pub crowds_few : CrowdsAreFew
-crowds_few [] = omega arith
-crowds_few (plan ∷ plans) =
-    let here = crowd-has-calls plan.ops in
-    let rest = crowds_few plans in
-    let all = sum_by-cons (λ (p : RoundPlan). length p.ops) plan plans in
-    omega (arith, here, rest, all)
+pub restarts_few : RestartsAreFew
+restarts_few [] = omega arith
+restarts_few (plan ∷ plans) =
+    let one = at-most (has_restart plan) in
+    let rest = restarts_few plans in
+    omega (arith, one, rest)
 
 abbrev IsLonePlan : RoundPlan → Type 0
 IsLonePlan plan = AreLoneCalls plan.ops
 
-no-crowds : (plans : List RoundPlan) → AllByRecursion IsLonePlan plans → crowds plans ≡ 0
-no-crowds [] all = refl
-no-crowds (plan ∷ plans) all =
-    let rest = no-crowds plans all.1 in
-    ap (λ (b : Bool). one_if b + crowds plans) (lone-is-no-crowd plan.ops all.0) ∙ omega (arith, rest)
+abbrev IsJoinedPlan : RoundPlan → Type 0
+IsJoinedPlan plan = plan.crash ≡ None
+
+-- it isn't behind a round that is of one caller and joined
+plain-has-none : (plan : RoundPlan) → AreLoneCalls plan.ops → plan.crash ≡ None → has_restart plan ≡ false
+plain-has-none plan lone joined = (λ k. is_some (joined k) || lone-is-no-crowd plan.ops lone k)
+
+none-of : (o : Option CrashPlan) (b : Bool) → (is_some o || b) ≡ false → (o ≡ None) × (b ≡ false)
+none-of None b none = (refl, none)
+none-of (Some crash) b none = absurd (false≢true (sym none))
+
+pub none-is-plain : (plan : RoundPlan) → has_restart plan ≡ false → AreLoneCalls plan.ops × (plan.crash ≡ None)
+none-is-plain plan none =
+    let both = none-of plan.crash (is_crowd plan.ops) none in
+    (no-crowd-is-lone plan.ops both.1, both.0)
+
+no-restarts : (plans : List RoundPlan) → AllByRecursion IsLonePlan plans → AllByRecursion IsJoinedPlan plans → restarts plans ≡ 0
+no-restarts [] lone joined = refl
+no-restarts (plan ∷ plans) lone joined =
+    let rest = no-restarts plans lone.1 joined.1 in
+    ap (λ (b : Bool). one_if b + restarts plans) (plain-has-none plan lone.0 joined.0) ∙ omega (arith, rest)
 
 none-there : (b : Bool) (n : ℕ) → one_if b + n ≡ 0 → (b ≡ false) × (n ≡ 0)
 none-there true n none = absurd (omega (arith, none))
 none-there false n none = (refl, omega (arith, none))
 
-all-lone : (plans : List RoundPlan) → crowds plans ≡ 0 → AllByRecursion IsLonePlan plans
-all-lone [] none = tt
-all-lone (plan ∷ plans) none =
-    let both = none-there (is_crowd plan.ops) (crowds plans) none in
-    (no-crowd-is-lone plan.ops both.0, all-lone plans both.1)
+all-plain : (plans : List RoundPlan) → restarts plans ≡ 0 → AllByRecursion IsLonePlan plans × AllByRecursion IsJoinedPlan plans
+all-plain [] none = (tt, tt)
+all-plain (plan ∷ plans) none =
+    let both = none-there (has_restart plan) (restarts plans) none in
+    let here = none-is-plain plan both.0 in
+    let rest = all-plain plans both.1 in
+    ((here.0, rest.0), (here.1, rest.1))
 
-pub lone_rounds_are_no_crowds : LoneRoundsAreNoCrowds
-lone_rounds_are_no_crowds plans = ((λ lone. no-crowds plans (recursion_from_All IsLonePlan plans lone)), (λ none. All-from_recursion IsLonePlan plans (all-lone plans none)))
+pub joined_lone_have_no_restart : JoinedLoneHaveNoRestart
+joined_lone_have_no_restart plans = (
+  (λ plain. no-restarts plans (recursion_from_All IsLonePlan plans plain.0) (recursion_from_All IsJoinedPlan plans plain.1)),
+  (λ none. let all = all-plain plans none in (All-from_recursion IsLonePlan plans all.0, All-from_recursion IsJoinedPlan plans all.1)),
+)
 
 -- a loop over the plans that counts
-pub crowds-on : (plans : List RoundPlan) (i so : ℕ) (plan : RoundPlan) → i < length plans → plan ≡ get_or plans i plan → so + crowds (drop i plans) ≡ crowds plans →
-    (so + one_if (is_crowd plan.ops)) + crowds (drop (i + 1) plans) ≡ crowds plans
-crowds-on plans i so plan less is before =
-    let here : crowds (drop i plans) ≡ one_if (is_crowd plan.ops) + crowds (drop (i + 1) plans) =
-    at_drop_more crowds plans i plan less ∙ ap (λ (p : RoundPlan). one_if (is_crowd p.ops) + crowds (drop (i + 1) plans)) (sym is) in
+pub restarts-on : (plans : List RoundPlan) (i so : ℕ) (plan : RoundPlan) → i < length plans → plan ≡ get_or plans i plan → so + restarts (drop i plans) ≡ restarts plans →
+    (so + one_if (has_restart plan)) + restarts (drop (i + 1) plans) ≡ restarts plans
+restarts-on plans i so plan less is before =
+    let here : restarts (drop i plans) ≡ one_if (has_restart plan) + restarts (drop (i + 1) plans) =
+    at_drop_more restarts plans i plan less ∙ ap (λ (p : RoundPlan). one_if (has_restart p) + restarts (drop (i + 1) plans)) (sym is) in
     omega (arith, here, before)
 
-pub all-counted : (plans : List RoundPlan) (i so : ℕ) → length plans ≤ i → so + crowds (drop i plans) ≡ crowds plans → so ≡ crowds plans
-all-counted plans i so done before = let none : crowds (drop i plans) ≡ 0 = at_drop_all crowds plans i done in omega (arith, none, before)
+pub all-counted : (plans : List RoundPlan) (i so : ℕ) → length plans ≤ i → so + restarts (drop i plans) ≡ restarts plans → so ≡ restarts plans
+all-counted plans i so done before = let none : restarts (drop i plans) ≡ 0 = at_drop_all restarts plans i done in omega (arith, none, before)
 
-pub crowds_add_up : CrowdsAddUp
-crowds_add_up [] more = omega arith
-crowds_add_up (plan ∷ plans) more = let rest = crowds_add_up plans more in omega (arith, rest)
+pub restarts_add_up : RestartsAddUp
+restarts_add_up [] more = omega arith
+restarts_add_up (plan ∷ plans) more = let rest = restarts_add_up plans more in omega (arith, rest)

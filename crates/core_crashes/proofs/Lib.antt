@@ -1,0 +1,4 @@
+pub mod Settled
+mod Failing
+mod CrashMaps
+mod Played

@@ -1,0 +1,103 @@
+use Rattle.std.proofs.Common.{◌≡◌, ◌+◌, ◌<◌, ◌≤◌, ℕ, length, inl, inr, [], true, arith, refl, sym, subst}
+use Rattle.std.specs.Prelude.{Option, Result, Ok, Err, nat_lt}
+use Rattle.shapes.specs.declared.map.Full.{Full}
+use Rattle.stopped_rounds.specs.declared.bounded_map.Bounded.{Bounded}
+use Rattle.stopped_rounds.specs.declared.bounded_map.Bounded.TheVariants as bounded
+use Rattle.version_lock.specs.declared.TheConstants.{LAST_COUNT}
+use Rattle.cat_history.specs.Records.{change_of}
+use Rattle.index_core.specs.CoreCalls.{most_writes, op_of}
+use Rattle.index_core.specs.Lone.{whole_of}
+use Rattle.stopped_rounds.specs.Bounded.{ComesTo}
+use Rattle.core_rounds.proofs.CoreMaps.{goes_through, same_run, writes_fall}
+use Rattle.core_crashes.specs.CrashMaps.{Gave, Stoppable, WasCutBy, added_within, calls_of, state_of, weighs_of, writes_of}
+use Rattle.core_crashes.proofs.CrashMaps.{few_calls, calls_are, cut_name, cut_weighs, gave, gave_weighs, some_calls, still, writes_are, writes_now}
+use Rattle.core_crashes.proofs.crash_map.CrashMap.name_call.Goals as goal
+use Rattle.core_crashes.proofs.crash_map.CrashMap.name_call.Goals.{in-Done, in-Again}
+
+pub invariant_of-self : goal.invariant_of-self
+invariant_of-self g c =
+    let cuts = c.in_default.ensures.runs in
+    let uncut = subst (λ (m : Stoppable). (state_of g.K.CrashRun.anchors m).cut ≡ []) (sym c.self.view_is) c.requires.uncut in
+    let so = cut_name g.K.CrashRun.anchors c.self.inside.core c.self.inside.stopped c.self.inside.placed c.self.invariant.0 c.if-self.false c.name_within.new.self c.args.call c.self.inside.caller cuts c.name_within.ensures.index c.requires.unlimited uncut
+    (nat_lt (length c.history-before.result.now) (length c.history.result.now)) (λ k. nat_lt (length (c.history-before.ensures k)) (length (c.history.ensures k))) in (
+      so.0,
+      same_run c.self.inside.core c.name_within.new.self c.self.invariant.1 cuts.layout cuts.generation,
+      c.self.invariant.2,
+    )
+
+pub returns-in_default-clause-ends : goal.returns-in_default-clause-ends
+returns-in_default-clause-ends g c =
+    let cuts = c.in_default.ensures.runs in
+    let uncut = subst (λ (m : Stoppable). (state_of g.K.CrashRun.anchors m).cut ≡ []) (sym c.self.view_is) c.requires.uncut in
+    let placed = nat_lt (length c.history-before.result.now) (length c.history.result.now) in
+    let so = cut_name g.K.CrashRun.anchors c.self.inside.core c.self.inside.stopped c.self.inside.placed c.self.invariant.0 c.if-self.false c.name_within.new.self c.args.call c.self.inside.caller cuts c.name_within.ensures.index c.requires.unlimited uncut
+    placed (λ k. nat_lt (length (c.history-before.ensures k)) (length (c.history.ensures k))) in (
+      c.name_within.ensures.spent c.in_default.is,
+      subst (λ (m : Stoppable). WasCutBy (state_of g.K.CrashRun.anchors m) (change_of (op_of c.args.call)) placed (state_of g.K.CrashRun.anchors (record { index = c.name_within.new.self; stopped = true; placed = placed }))) c.self.view_is so.1,
+    )
+
+pub returns-in_default-clause-calls_left : goal.returns-in_default-clause-calls_left
+returns-in_default-clause-calls_left g c =
+    let known : calls_of c.args.self.now ≤ LAST_COUNT =
+    subst (λ (m : Stoppable). calls_of m ≤ LAST_COUNT) c.self.view_is
+    (subst (λ n. n ≤ LAST_COUNT) (sym (calls_are g.K.CrashRun.anchors c.self.inside.core c.self.inside.stopped c.self.inside.placed c.self.invariant.0 c.if-self.false)) (few_calls c.self.inside.core)) in
+    omega (arith, known)
+
+pub returns-in_default-clause-weighs : goal.returns-in_default-clause-weighs
+returns-in_default-clause-weighs g c =
+    let here = still g.K.CrashRun.anchors c.self.inside.core c.self.inside.stopped c.self.inside.placed c.self.invariant.0 c.if-self.false in
+    let placed = nat_lt (length c.history-before.result.now) (length c.history.result.now) in
+    subst (λ (m : Stoppable). weighs_of (record { index = c.name_within.new.self; stopped = true; placed = placed }) ≤ weighs_of m + added_within (op_of c.args.call) (bounded.Cut placed)) c.self.view_is
+    (cut_weighs c.self.inside.core c.name_within.new.self c.args.call c.self.inside.caller placed here.quiet c.in_default.ensures.runs)
+
+pub unreachable-requires : goal.unreachable-requires
+unreachable-requires g c =
+    let calls = some_calls g.K.CrashRun.anchors c.self.inside.core c.self.inside.stopped c.self.inside.placed c.self.invariant.0 c.if-self.false (subst (λ (m : Stoppable). 0 < calls_of m) (sym c.self.view_is) c.requires.calls) in
+    let writes = subst (λ n. most_writes c.args.call ≤ n) (writes_are g.K.CrashRun.anchors c.self.inside.core c.self.inside.stopped c.self.inside.placed c.self.invariant.0 c.if-self.false)
+    (subst (λ (m : Stoppable). most_writes c.args.call ≤ writes_of m) (sym c.self.view_is) c.requires.writes) in
+    goes_through c.self.inside.core c.self.inside.caller c.args.call c.name_within.new.self c.in-Some.answer c.self.invariant.0.index c.requires.unlimited calls writes c.in-Some.ensures.runs.runs.answer c.in-Spent.is
+
+pub invariant_of-self-2 : goal.invariant_of-self-2
+invariant_of-self-2 g c =
+    let uncut = subst (λ (m : Stoppable). (state_of g.K.CrashRun.anchors m).cut ≡ []) (sym c.self.view_is) c.requires.uncut in
+    let calls = subst (λ (m : Stoppable). 0 < calls_of m) (sym c.self.view_is) c.requires.calls in
+    let give = gave g.K.CrashRun.anchors c.self.inside.core c.self.inside.stopped c.self.inside.placed c.self.invariant.0 c.if-self.false c.name_within.new.self c.args.call c.self.inside.caller (whole_of c.in-Some.answer) c.in-Some.ensures.runs c.name_within.ensures.index c.requires.unlimited calls uncut c.in-Some.answer refl in (
+      elim c.match-answer.branch [
+        | in-Done w ↦ (give (Ok w.in-Done.placed.old) (inl (w.in-Done.placed, w.in-Done.is, refl))).0
+        | in-Again w ↦ (give (Err (record {})) (inr (_, w.in-Again.is, refl))).0
+      ],
+      same_run c.self.inside.core c.name_within.new.self c.self.invariant.1 c.in-Some.ensures.runs.runs.layout c.in-Some.ensures.runs.runs.generation,
+      c.self.invariant.2,
+    )
+
+pub returns-clause-ends : goal.returns-clause-ends
+returns-clause-ends g c =
+    let uncut = subst (λ (m : Stoppable). (state_of g.K.CrashRun.anchors m).cut ≡ []) (sym c.self.view_is) c.requires.uncut in
+    let calls = subst (λ (m : Stoppable). 0 < calls_of m) (sym c.self.view_is) c.requires.calls in
+    let give = gave g.K.CrashRun.anchors c.self.inside.core c.self.inside.stopped c.self.inside.placed c.self.invariant.0 c.if-self.false c.name_within.new.self c.args.call c.self.inside.caller (whole_of c.in-Some.answer) c.in-Some.ensures.runs c.name_within.ensures.index c.requires.unlimited calls uncut c.in-Some.answer refl in
+    let left : Stoppable = record { index = c.name_within.new.self; stopped = c.self.inside.stopped; placed = c.self.inside.placed } in
+    let Ends : Result (Option ℕ) Full → Type 0 = λ answer. Gave c.args.self.now.index.layout.slots c.args.self.now.index.layout.nodes (state_of g.K.CrashRun.anchors c.args.self.now) c.args.call answer (state_of g.K.CrashRun.anchors left) in
+    let lift : (answer : Result (Option ℕ) Full) → Gave c.self.inside.core.layout.slots c.self.inside.core.layout.nodes (state_of g.K.CrashRun.anchors (record { index = c.self.inside.core; stopped = c.self.inside.stopped; placed = c.self.inside.placed })) c.args.call answer (state_of g.K.CrashRun.anchors left) → Ends answer =
+    λ answer so. subst (λ (m : Stoppable). Gave m.index.layout.slots m.index.layout.nodes (state_of g.K.CrashRun.anchors m) c.args.call answer (state_of g.K.CrashRun.anchors left)) c.self.view_is so in
+    elim c.match-answer.branch [
+      | in-Done w ↦ subst (λ (r : Bounded (Result (Option ℕ) Full)). ComesTo r Ends (λ placed. (c.name_within.new.budget ≡ 0) × WasCutBy (state_of g.K.CrashRun.anchors c.args.self.now) (change_of (op_of c.args.call)) placed (state_of g.K.CrashRun.anchors left))) (sym w.result-is) (lift (Ok w.in-Done.placed.old) (give (Ok w.in-Done.placed.old) (inl (w.in-Done.placed, w.in-Done.is, refl))).1)
+      | in-Again w ↦ subst (λ (r : Bounded (Result (Option ℕ) Full)). ComesTo r Ends (λ placed. (c.name_within.new.budget ≡ 0) × WasCutBy (state_of g.K.CrashRun.anchors c.args.self.now) (change_of (op_of c.args.call)) placed (state_of g.K.CrashRun.anchors left))) (sym w.result-is) (lift (Err (record {})) (give (Err (record {})) (inr (_, w.in-Again.is, refl))).1)
+    ]
+
+pub returns-clause-writes_left : goal.returns-clause-writes_left
+returns-clause-writes_left g c =
+    let fall = writes_fall c.self.inside.core c.name_within.new.self c.args.call (whole_of c.in-Some.answer) _ c.in-Some.ensures.runs.runs c.in-Some.ensures.runs.spare in
+    let before = writes_now c.self.inside.core c.self.inside.stopped c.self.inside.placed c.if-self.false in
+    let after = writes_now c.name_within.new.self c.self.inside.stopped c.self.inside.placed c.if-self.false in
+    subst (λ (m : Stoppable). writes_of m ≤ writes_of (record { index = c.name_within.new.self; stopped = c.self.inside.stopped; placed = c.self.inside.placed }) + most_writes c.args.call) c.self.view_is (omega (arith, fall, before, after))
+
+pub returns-clause-weighs : goal.returns-clause-weighs
+returns-clause-weighs g c =
+    let here = still g.K.CrashRun.anchors c.self.inside.core c.self.inside.stopped c.self.inside.placed c.self.invariant.0 c.if-self.false in
+    let light = gave_weighs c.self.inside.core c.name_within.new.self c.args.call c.self.inside.caller (whole_of c.in-Some.answer) here.quiet c.in-Some.ensures.runs c.in-Some.answer refl in
+    let left : Stoppable = record { index = c.name_within.new.self; stopped = c.self.inside.stopped; placed = c.self.inside.placed } in
+    subst (λ (m : Stoppable). weighs_of left ≤ weighs_of m + added_within (op_of c.args.call) c.match-answer.result) c.self.view_is
+    (elim c.match-answer.branch [
+      | in-Done w ↦ subst (λ (r : Bounded (Result (Option ℕ) Full)). weighs_of left ≤ weighs_of (record { index = c.self.inside.core; stopped = c.self.inside.stopped; placed = c.self.inside.placed }) + added_within (op_of c.args.call) r) (sym w.result-is) (light (Ok w.in-Done.placed.old) (inl (w.in-Done.placed, w.in-Done.is, refl)))
+      | in-Again w ↦ subst (λ (r : Bounded (Result (Option ℕ) Full)). weighs_of left ≤ weighs_of (record { index = c.self.inside.core; stopped = c.self.inside.stopped; placed = c.self.inside.placed }) + added_within (op_of c.args.call) r) (sym w.result-is) (light (Err (record {})) (inr (_, w.in-Again.is, refl)))
+    ])

@@ -1,0 +1,4 @@
+pub mod CrashMaps
+pub mod Power
+pub mod Stops
+pub mod Rounds

@@ -1,0 +1,41 @@
+-- A round of one caller that a crash ended, and the core that its image opens as.
+use Rattle.std.specs.Prelude.{◌≡◌, suc, ◌+◌, ◌≤◌, All}
+use Rattle.std.specs.FinMap.{len}
+use Rattle.cat_history.specs.LoneRounds.{writes_of}
+use Rattle.cat_history.specs.Writes.{after_all}
+use Rattle.cat_history.specs.declared.plan.CrashPlan.{CrashPlan}
+use Rattle.cat_history.specs.declared.plan.RoundPlan.{RoundPlan}
+use Rattle.cat_text.specs.ReportGrammar.{IsReportRound}
+use Rattle.cat_text.specs.declared.report.RoundReport.{RoundReport}
+use Rattle.pm_words.specs.Images.{Row}
+use Rattle.shapes.specs.ShapeRounds.{puts_added, FullIsPaid, IsShapeWithin}
+use Rattle.index_law.specs.Anchors.{anchors_in}
+use Rattle.index_core.specs.CrashLaws.{chosen_index, crash_image}
+use Rattle.index_core.specs.Indexes.{Index, map_of_index, world}
+use Rattle.index_core.specs.Weights.{weight_of}
+use Rattle.recovery.specs.Opened.{IsOpenedFrom}
+use Rattle.core_rounds.specs.Rounds.{IsCrashedRound, IsLoneCrash}
+
+-- A round of one caller was played on the map of this core up to its crash, and reported; and the image was opened that
+-- the crash left. That has the map which is reported found, and a shape that the weight and the names before the round
+-- and the puts that may have added a name pay for.
+pub record IsPlayedLoneCrash (core : Index) (plan : RoundPlan) (crash : CrashPlan) (report : RoundReport)
+    (next : Index) : Type 0 where
+  pub round : IsCrashedRound (map_of_index core) plan crash report (writes_of report.records) (map_of_index next)
+  pub answers : IsLoneCrash core.layout.slots core.layout.nodes (map_of_index core) (anchors_in (world core)) plan
+      report.records
+  pub paid : All (FullIsPaid core.layout.slots core.layout.nodes (weight_of core + puts_added report.records)
+      (len (map_of_index core) + puts_added report.records)) report.records
+  pub told : IsReportRound report
+  pub within : IsShapeWithin core.layout.slots core.layout.nodes (weight_of core + puts_added report.records)
+      (len (map_of_index core) + puts_added report.records) (map_of_index next) (anchors_in (world next))
+  pub weighs : weight_of next ≤ weight_of core + puts_added report.records
+  pub layout : next.layout ≡ core.layout
+  pub generation : next.generation ≡ suc core.generation
+  pub image : Row
+  pub opened : IsOpenedFrom image next
+  -- the image is what a crash leaves of the index with all placed writes, once those words are durable that the seed of
+  -- the plan chooses
+  pub left : Index
+  pub places : map_of_index left ≡ after_all (map_of_index core) (writes_of report.records)
+  pub leaves : image ≡ crash_image (chosen_index left crash.seed)

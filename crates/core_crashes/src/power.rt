@@ -1,0 +1,54 @@
+//! A crash of a core, with whatever is in flight, and the core that is opened behind it.
+
+ghost use Rattle.std.specs.Prelude.{◌≡◌, IfOk, suc};
+ghost use Rattle.version_lock.specs.Versions.{IsGeneration};
+ghost use Rattle.index_core.specs.CrashLaws.{chosen_index};
+ghost use Rattle.index_core.specs.Indexes.{IsIndex};
+ghost use Rattle.recovery.specs.declared.opening.OpenFault.TheVariants.{NoMemory as OutOfMemory};
+ghost use Rattle.core_crashes.specs.Power.{IsBehindCrash};
+
+use cat_history::NoMemory;
+use index_core::{Core, is_chosen};
+use recovery::{OpenFault, recover};
+use std::alloc::Global;
+
+/// Makes those image words durable that the seed chooses.
+fn evict_by_seed(core: &mut Core, seed: u64)
+    requires index { IsIndex core.old }
+    ensures evicted { core.new ≡ chosen_index core.old seed }
+    ensures index { IsIndex core.new }
+{
+    let words = core.layout().image_words();
+    for word in 0..words {
+        if is_chosen(seed, word) {
+            core.evict(word);
+        }
+    }
+}
+
+/// Power fails, once those words are durable that the seed chooses, and the image that is left is opened in the next
+/// generation. Its map is the one after all placed writes, and after those of the unplaced ones in flight that the image
+/// shows. Memory that runs out is the only refusal.
+pub fn fail_power(alloc: Global, core: Core, seed: u64) -> Result<Core, NoMemory>
+    requires index { IsIndex core }
+    requires next { IsGeneration (suc core.generation) }
+    ensures { IfOk result (IsBehindCrash seed core) }
+{
+    let mut core = core;
+    evict_by_seed(&mut core, seed);
+    let crashed = core.crash();
+    match recover(alloc, crashed.image) {
+        Ok(next) => Ok(next),
+        Err(fault) => Err(no_memory(fault)),
+    }
+}
+
+/// Why an image isn't opened that is sound, and of which there is a next generation.
+fn no_memory(fault: OpenFault) -> NoMemory
+    requires { fault ≡ OutOfMemory }
+{
+    match fault {
+        OpenFault::NoMemory => NoMemory,
+        OpenFault::Damaged { .. } | OpenFault::Generations => unreachable!(),
+    }
+}
