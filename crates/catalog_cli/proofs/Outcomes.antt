@@ -201,7 +201,7 @@ unrefused callers bytes script status.Shelf is refused = refused
 unrefused callers bytes script status.NoMemory is refused = refused
 unrefused callers bytes script (status.Image refusal) is refused = refused
 unrefused callers bytes script (status.NotBuilt verb) is refused =
-    none-some verb (sym is.built ∙ ap (λ (s : Script). first_unbuilt s.lines) (one_script bytes script refused.0 is.is_script refused.1) ∙ refused.3)
+    none-some verb (sym is.built ∙ ap (λ (s : Script). first_unbuilt s.rounds) (one_script bytes script refused.0 is.is_script refused.1) ∙ refused.3)
 
 -- bytes are refused in one way
 pub one-refusal : (callers : ℕ) (bytes : List ℕ) (a b : Status) → IsRefusedBy callers bytes a → IsRefusedBy callers bytes b → a ≡ b
@@ -230,7 +230,7 @@ one-refusal callers bytes (status.NotBuilt verb) status.NoMemory is is' = absurd
 one-refusal callers bytes (status.NotBuilt verb) (status.Image refusal) is is' = absurd is'
 one-refusal callers bytes (status.NotBuilt verb) (status.Script what) is is' = absurd (faultless callers bytes is.0 what is.1 is.2 is')
 one-refusal callers bytes (status.NotBuilt verb) (status.NotBuilt other) is is' =
-    ap status.NotBuilt (same_Some verb other (sym is.3 ∙ ap (λ (s : Script). first_unbuilt s.lines) (one_script bytes is.0 is'.0 is.1 is'.1) ∙ is'.3))
+    ap status.NotBuilt (same_Some verb other (sym is.3 ∙ ap (λ (s : Script). first_unbuilt s.rounds) (one_script bytes is.0 is'.0 is.1 is'.1) ∙ is'.3))
 
 -- such a cause is that of a command that reads a script
 pub cause-reads : (words : List (List ℕ)) (told : Seen) (answer : Status) → IsScriptCause words told answer → ReadsSome words

@@ -1,12 +1,14 @@
--- The rounds of a script that is accepted: what calls they have, and that there is one at least.
+-- The rounds of a script that is accepted: what calls they have, how crashes end them, and that there is one at least.
 use Rattle.std.proofs.Common.{◌≡◌, ℕ, ◌+◌, ◌<◌, ◌≤◌, ◌^◌, List, [], ◌∷◌, ◌++◌, length, refl, sym, ap, subst, ◌∙◌, arith, inl, inr, length-append}
-use Rattle.std.specs.Prelude.{All, None}
+use Rattle.std.specs.Prelude.{◌&&◌, Bool, true, false, if◌then◌else◌, is_some, All, IfSome, Option, Some, None}
 use Rattle.std.specs.List.{AllByRecursion, AllZip}
 use Rattle.std.proofs.lemmas.List.Elements.{All-from_recursion, recursion_from_All}
+use Rattle.std.proofs.lemmas.Bool.{cases_eq, false≢true}
 use Rattle.std.proofs.lemmas.Option.{none-some}
 use Rattle.cat_history.specs.declared.op.CallerOp.{CallerOp}
 use Rattle.cat_history.specs.declared.op.Op.{Op}
 use Rattle.cat_history.specs.declared.op.Op.TheVariants.{Put, Get, Del, Scan}
+use Rattle.cat_history.specs.declared.plan.CrashPlan.{CrashPlan}
 use Rattle.cat_history.specs.declared.plan.RoundPlan.{RoundPlan}
 use Rattle.cat_script.specs.Asks.{AsksFor, IsLine}
 use Rattle.cat_script.specs.Fits.{FitsCallers}
@@ -18,9 +20,11 @@ use Rattle.cat_script.specs.declared.line.Reason.TheVariants as reason
 use Rattle.cat_script.specs.declared.script.Script.{Script}
 use Rattle.cat_text.specs.ReportGrammar.{IsReportOp}
 use Rattle.shapes.proofs.NameLists.{all_append, all_first, all_second}
-use Rattle.core_rounds.specs.LoneCalls.{AreReportCalls, IsReportCall}
-use Rattle.catalog_cli.specs.Built.{first_unbuilt}
+use Rattle.core_rounds.specs.LoneCalls.{AreReportCalls, IsReportCall, is_crowd}
+use Rattle.crowd_rounds.specs.Segments.{CrowdsAreJoined, HasBudgets}
+use Rattle.catalog_cli.specs.Built.{first_unbuilt, is_crowd_crash}
 use Rattle.catalog_cli.specs.Reports.{IsAccepted}
+use Rattle.catalog_cli.specs.declared.status.Verb.{Verb}
 use Rattle.catalog_cli.specs.declared.status.Verb.TheVariants as word
 
 -- a call of a report, by one of so many callers
@@ -32,7 +36,7 @@ abbrev IsPlayable : ℕ → Line → Type 0
 IsPlayable callers Blank = Unit {0}
 IsPlayable callers (Call caller op) = IsPlayableCall callers (record { caller = caller; op = op })
 IsPlayable callers Join = Unit {0}
-IsPlayable callers (Crash plan) = ⊥
+IsPlayable callers (Crash plan) = length plan.budgets ≡ callers
 IsPlayable callers (Updater turns) = Unit {0}
 IsPlayable callers (Limit limit) = limit ≤ 2 ^ 62
 
@@ -41,7 +45,7 @@ pub record IsPlayablePlan (callers : ℕ) (plan : RoundPlan) : Type 0 where
   pub told : AreReportCalls plan.ops
   pub callers_are : All (λ (a : CallerOp). a.caller < callers) plan.ops
   pub limit : plan.limit ≤ 2 ^ 62
-  pub joined : plan.crash ≡ None
+  pub budgets : HasBudgets callers plan
 
 op-told : (words : List (List ℕ)) (caller : List ℕ) (op : Op) → AsksFor words caller op → IsReportOp op
 op-told words caller (Put name value) asks = (asks.0, asks.1.1.fits)
@@ -50,19 +54,25 @@ op-told words caller (Del name) asks = asks.0
 op-told words caller (Scan from count) asks = (asks.0, asks.1.1.fits)
 
 lines-playable : (callers number : ℕ) (texts : List (List ℕ)) (lines : List Line) → AllZip IsLine texts lines → AllByRecursion (FitsCallers callers) (numbered number lines) →
-    first_unbuilt (numbered number lines) ≡ None → AllByRecursion (IsPlayable callers) lines
-lines-playable callers number [] [] are fits built = tt
-lines-playable callers number [] (line ∷ lines) are fits built = absurd are
-lines-playable callers number (text ∷ texts) [] are fits built = absurd are
-lines-playable callers number (text ∷ texts) (Blank ∷ lines) are fits built = (tt, lines-playable callers (number + 1) texts lines are.1 fits built)
-lines-playable callers number (text ∷ texts) (Call caller op ∷ lines) are fits built =
+    AllByRecursion (IsPlayable callers) lines
+lines-playable callers number [] [] are fits = tt
+lines-playable callers number [] (line ∷ lines) are fits = absurd are
+lines-playable callers number (text ∷ texts) [] are fits = absurd are
+lines-playable callers number (text ∷ texts) (Blank ∷ lines) are fits = (tt, lines-playable callers (number + 1) texts lines are.1 fits)
+lines-playable callers number (text ∷ texts) (Call caller op ∷ lines) are fits =
     let few = are.0.0.1.1 in
     let below : callers ≤ caller → ⊥ = λ above. fits.0 reason.Caller (refl, above) in
-    (((omega (arith, few), op-told _ _ op are.0.0.2), omega (arith, below)), lines-playable callers (number + 1) texts lines are.1 fits.1 built)
-lines-playable callers number (text ∷ texts) (Join ∷ lines) are fits built = (tt, lines-playable callers (number + 1) texts lines are.1 fits.1 built)
-lines-playable callers number (text ∷ texts) (Crash plan ∷ lines) are fits built = absurd (none-some word.Crash (sym built))
-lines-playable callers number (text ∷ texts) (Updater turns ∷ lines) are fits built = (tt, lines-playable callers (number + 1) texts lines are.1 fits.1 built)
-lines-playable callers number (text ∷ texts) (Limit limit ∷ lines) are fits built = (are.0.0.1.1, lines-playable callers (number + 1) texts lines are.1 fits.1 built)
+    (((omega (arith, few), op-told _ _ op are.0.0.2), omega (arith, below)), lines-playable callers (number + 1) texts lines are.1 fits.1)
+lines-playable callers number (text ∷ texts) (Join ∷ lines) are fits = (tt, lines-playable callers (number + 1) texts lines are.1 fits.1)
+lines-playable callers number (text ∷ texts) (Crash plan ∷ lines) are fits = (
+  elim (cases_eq (length plan.budgets) callers) [
+    | inl same ↦ same
+    | inr other ↦ absurd (fits.0 reason.Words (refl, other))
+  ],
+  lines-playable callers (number + 1) texts lines are.1 fits.1,
+)
+lines-playable callers number (text ∷ texts) (Updater turns ∷ lines) are fits = (tt, lines-playable callers (number + 1) texts lines are.1 fits.1)
+lines-playable callers number (text ∷ texts) (Limit limit ∷ lines) are fits = (are.0.0.1.1, lines-playable callers (number + 1) texts lines are.1 fits.1)
 
 calls-playable : (callers : ℕ) (lines : List Line) → AllByRecursion (IsPlayable callers) lines → AllByRecursion (IsPlayableCall callers) (calls_in lines)
 calls-playable callers [] are = tt
@@ -82,23 +92,26 @@ limit-low callers first (Crash plan ∷ lines) low are = limit-low callers first
 limit-low callers first (Updater turns ∷ lines) low are = limit-low callers first lines low are.1
 limit-low callers first (Limit limit ∷ lines) low are = limit-low callers limit lines are.0 are.1
 
-joins : (callers : ℕ) (line : Line) (plan : RoundPlan) → EndsBy line plan.crash → IsPlayable callers line → plan.crash ≡ None
-joins callers Blank plan ends is = absurd ends
-joins callers (Call caller op) plan ends is = absurd ends
-joins callers Join plan ends is = ends
-joins callers (Crash crash) plan ends is = absurd is
-joins callers (Updater turns) plan ends is = absurd ends
-joins callers (Limit limit) plan ends is = absurd ends
+no-crash : (callers : ℕ) (plan : RoundPlan) → plan.crash ≡ None → HasBudgets callers plan
+no-crash callers plan none = subst (λ (o : Option CrashPlan). IfSome o (λ crash. length crash.budgets ≡ callers)) (sym none) tt
+
+budgets-given : (callers : ℕ) (line : Line) (plan : RoundPlan) → EndsBy line plan.crash → IsPlayable callers line → HasBudgets callers plan
+budgets-given callers Blank plan ends is = absurd ends
+budgets-given callers (Call caller op) plan ends is = absurd ends
+budgets-given callers Join plan ends is = no-crash callers plan ends
+budgets-given callers (Crash crash) plan ends is = subst (λ (o : Option CrashPlan). IfSome o (λ crash. length crash.budgets ≡ callers)) (sym ends) is
+budgets-given callers (Updater turns) plan ends is = absurd ends
+budgets-given callers (Limit limit) plan ends is = absurd ends
 
 plan-playable : (callers : ℕ) (before lines : List Line) (plan : RoundPlan) → AsksRound before lines plan → AllByRecursion (IsPlayable callers) before → AllByRecursion (IsPlayable callers) lines →
-    plan.crash ≡ None → IsPlayablePlan callers plan
-plan-playable callers before lines plan asks front are joined =
+    HasBudgets callers plan → IsPlayablePlan callers plan
+plan-playable callers before lines plan asks front are budgets =
     let calls = subst (All (IsPlayableCall callers)) (sym asks.ops) (All-from_recursion (IsPlayableCall callers) (calls_in lines) (calls-playable callers lines are)) in
     record {
       told = λ i d within. (calls i d within).0;
       callers_are = λ i d within. (calls i d within).1;
       limit = subst (λ (n : ℕ). n ≤ 2 ^ 62) (sym asks.limit) (limit-low callers (2 ^ 62) (before ++ lines) (omega arith) (all_append (IsPlayable callers) before lines front are));
-      joined = joined;
+      budgets = budgets;
     }
 
 ended-playable : (callers : ℕ) (before lines : List Line) (plans : List RoundPlan) → AreEnded before lines plans → AllByRecursion (IsPlayable callers) before → AllByRecursion (IsPlayable callers) lines →
@@ -113,7 +126,7 @@ ended-playable callers before lines (plan ∷ plans) ended front are =
     let here = all_first P round (end ∷ more) cut in
     let later = all_second P round (end ∷ more) cut in
     let behind = all_append P (before ++ round) (end ∷ []) (all_append P before round front here) (later.0, tt) in
-    (plan-playable callers before round plan ended.4 front here (joins callers end plan ended.5 later.0), ended-playable callers (before ++ round ++ end ∷ []) more plans ended.6 behind later.1)
+    (plan-playable callers before round plan ended.4 front here (budgets-given callers end plan ended.5 later.0), ended-playable callers (before ++ round ++ end ∷ []) more plans ended.6 behind later.1)
 
 rounds-playable : (callers : ℕ) (lines : List Line) (plans : List RoundPlan) → AreRounds lines plans → AllByRecursion (IsPlayable callers) lines → AllByRecursion (IsPlayablePlan callers) plans
 rounds-playable callers lines plans is are =
@@ -123,7 +136,7 @@ rounds-playable callers lines plans is are =
     elim is.finish [
       | inl finish ↦ ended-playable callers [] is.closed plans finish.1 tt closed
       | inr finish ↦
-          let last = plan-playable callers is.closed is.rest finish.2 finish.5 closed (all_second P is.closed is.rest cut) finish.6 in
+          let last = plan-playable callers is.closed is.rest finish.2 finish.5 closed (all_second P is.closed is.rest cut) (no-crash callers finish.2 finish.6) in
           subst (AllByRecursion (IsPlayablePlan callers)) (sym finish.3)
           (all_append (IsPlayablePlan callers) finish.1 (finish.2 ∷ []) (ended-playable callers [] is.closed finish.1 finish.4 tt closed) (last, tt))
     ]
@@ -135,7 +148,29 @@ all-playable callers bytes script plans accepted same =
     let fits = subst (AllByRecursion (FitsCallers callers)) is.told (recursion_from_All (FitsCallers callers) script.lines accepted.fits) in
     subst (All (IsPlayablePlan callers)) (sym same)
     (All-from_recursion (IsPlayablePlan callers) script.rounds
-    (rounds-playable callers is.said script.rounds is.rounds (lines-playable callers 1 _ is.said is.lines fits (ap first_unbuilt (sym is.told) ∙ accepted.built))))
+    (rounds-playable callers is.said script.rounds is.rounds (lines-playable callers 1 _ is.said is.lines fits)))
+
+-- no crash ends one of several callers
+none-here : (b : Bool) (rest : Option Verb) → (if b then Some word.Crash else rest) ≡ None → (b ≡ false) × (rest ≡ None)
+none-here true rest none = absurd (none-some word.Crash (sym none))
+none-here false rest none = (refl, none)
+
+joined-crowd : (crash : Option CrashPlan) (crowd : Bool) → (is_some crash && crowd) ≡ false → crowd ≡ true → crash ≡ None
+joined-crowd None crowd none several = refl
+joined-crowd (Some crash) crowd none several = absurd (false≢true (sym none ∙ several))
+
+abbrev IsJoinedCrowd : RoundPlan → Type 0
+IsJoinedCrowd plan = is_crowd plan.ops ≡ true → plan.crash ≡ None
+
+joined-crowds : (plans : List RoundPlan) → first_unbuilt plans ≡ None → AllByRecursion IsJoinedCrowd plans
+joined-crowds [] built = tt
+joined-crowds (plan ∷ plans) built =
+    let both = none-here (is_crowd_crash plan) (first_unbuilt plans) built in
+    (joined-crowd plan.crash (is_crowd plan.ops) both.0, joined-crowds plans both.1)
+
+pub crowds-joined : (callers : ℕ) (bytes : List ℕ) (script : Script) (plans : List RoundPlan) → IsAccepted callers bytes script → plans ≡ script.rounds → CrowdsAreJoined plans
+crowds-joined callers bytes script plans accepted same =
+    subst CrowdsAreJoined (sym same) (All-from_recursion IsJoinedCrowd script.rounds (joined-crowds script.rounds accepted.built))
 
 some-ended : (closed : List Line) (plans : List RoundPlan) → AreEnded [] closed plans → (closed ≡ [] → ⊥) → 1 ≤ length plans
 some-ended closed [] ended some = absurd (some ended)

@@ -20,7 +20,7 @@ use Rattle.recovery.specs.Opened.{IsOpenedFrom, IsOpenFault}
 use Rattle.recovery.specs.declared.opening.OpenFault.{OpenFault}
 use Rattle.recovery.specs.declared.opening.OpenFault.TheVariants as opening
 use Rattle.core_rounds.specs.CoreMaps.{HasNoLines, ImageWaits, IsImageOf, Waits}
-use Rattle.core_rounds.specs.LoneCalls.{AreLoneRounds, crowds}
+use Rattle.core_rounds.specs.LoneCalls.{AreJoined, AreLoneRounds, restarts}
 use Rattle.core_rounds.specs.Rounds.{ArePlayed, RoundsEndWithTurn}
 use Rattle.core_rounds.specs.Waiting.{HaveNoTurns, changes_made, puts_asked, writes_asked}
 use Rattle.core_rounds.proofs.CoreMaps.{opened_is_map}
@@ -41,17 +41,17 @@ no-later n more none is =
 -- an image that isn't opened is refused so
 pub not-opened : (image : Row) (bytes : List ℕ) (plans : List RoundPlan) (fault : OpenFault) → IsOpenFault image fault → IsPlayRefused image bytes plans (status_of_open fault)
 not-opened image bytes plans (opening.Damaged rule word) is = is
-not-opened image bytes plans opening.Generations is = (is.0, no-later (header_generation image.layout image.words) (crowds plans) is.1)
+not-opened image bytes plans opening.Generations is = (is.0, no-later (header_generation image.layout image.words) (restarts plans) is.1)
 not-opened image bytes plans opening.NoMemory is = tt
 
 -- so is one that is opened in too late a generation for the rounds
 pub too-late : (image : Row) (plans : List RoundPlan) (s : Index) (generation limit : ℕ) → IsOpenedFrom image s → generation ≡ header_generation image.layout image.words → limit ≡ 16777216 →
-    limit ≤ generation + crowds plans + 1 → IsTooLate image plans
+    limit ≤ generation + restarts plans + 1 → IsTooLate image plans
 too-late image plans s generation limit is same limit_is late = (is.sound, λ next. let fits = next.fits in omega (arith, fits, same, limit_is, late))
 
 -- else they can be played
 pub can-be-played : (image : Row) (plans : List RoundPlan) (s : Index) (generation limit : ℕ) → IsOpenedFrom image s → generation ≡ header_generation image.layout image.words → limit ≡ 16777216 →
-    generation + crowds plans + 1 < limit → IsOpenable image plans
+    generation + restarts plans + 1 < limit → IsOpenable image plans
 can-be-played image plans s generation limit is same limit_is early =
     record { sound = is.sound; keeps = (opened_is_map image s is).keeps; next = record { least = omega arith; fits = omega (arith, same, limit_is, early) } }
 
@@ -70,10 +70,10 @@ not-accepted image bytes plans (status.NotBuilt verb) openable refused = (openab
 -- ---- rounds that were played
 
 -- the generations of the index are as many as the image's
-pub generations-left : (image : Row) (plans : List RoundPlan) (s : Index) → IsOpenedFrom image s → IsOpenable image plans → IsGeneration (s.generation + crowds plans)
+pub generations-left : (image : Row) (plans : List RoundPlan) (s : Index) → IsOpenedFrom image s → IsOpenable image plans → IsGeneration (s.generation + restarts plans)
 generations-left image plans s is openable =
     let same = is.generation in
-    let all : generation_after image plans ≡ s.generation + crowds plans = omega (arith, same) in
+    let all : generation_after image plans ≡ s.generation + restarts plans = omega (arith, same) in
     subst IsGeneration all openable.next
 
 -- What was played on the index that an image is opened as: its last one, with the map and the shape that follow the last
@@ -81,9 +81,9 @@ generations-left image plans s is openable =
 pub record IsPlayedTo (s : Index) (plans : List RoundPlan) (reports : List RoundReport) (s' : Index) : Type 0 where
   pub played : ArePlayed s.layout.slots s.layout.nodes (weight_of s) (len (map_of_index s)) (map_of_index s) (anchors_in (world s)) plans reports (map_of_index s') (anchors_in (world s'))
   pub layout : s'.layout ≡ s.layout
-  pub generation : s'.generation ≡ s.generation + crowds plans
+  pub generation : s'.generation ≡ s.generation + restarts plans
   pub settled : RoundsEndWithTurn plans → HasNoLines s'
-  pub waits : AreLoneRounds plans → HaveNoTurns plans → (changes lines puts : ℕ) → Waits s changes (lines + writes_asked plans) (puts + puts_asked plans) →
+  pub waits : AreLoneRounds plans → AreJoined plans → HaveNoTurns plans → (changes lines puts : ℕ) → Waits s changes (lines + writes_asked plans) (puts + puts_asked plans) →
       Waits s' (changes + changes_made s.layout.slots (map_of_index s) (anchors_in (world s)) reports) lines puts
 
 -- the rounds that are played on an opened image are played on its map and its shape
@@ -106,7 +106,7 @@ lines-wait image new s s' plans reports is kept done needs =
     let opened = opened_is_map image s is in
     let few = needs.lines in
     let nodes = needs.nodes in
-    let left = done.waits needs.lone needs.none 0 0 0 (opened.waits (0 + writes_asked plans) (0 + puts_asked plans) (omega (arith, few)) (omega (arith, nodes))) in
+    let left = done.waits needs.lone needs.joined needs.none 0 0 0 (opened.waits (0 + writes_asked plans) (0 + puts_asked plans) (omega (arith, few)) (omega (arith, nodes))) in
     subst (ImageWaits new)
     (left.ready ∙ zero-add (changes_made s.layout.slots (map_of_index s) (anchors_in (world s)) reports) ∙ (λ k. changes_made ((is.layout k).slots) (opened.contents k) (opened.anchors k) reports))
     kept.waits
@@ -116,7 +116,7 @@ pub run-ends : (image new : Row) (s s' : Index) (bytes text : List ℕ) (script 
     IsAccepted image.layout.callers bytes script → plans ≡ script.rounds → IsPlayedTo s plans reports s' → IsReportText text reports → IsImageOf s' new → IsRunOn image bytes text new
 run-ends image new s s' bytes text script plans reports is openable accepted same done told kept =
     let generation = is.generation in
-    let all : s.generation + crowds plans ≡ generation_after image plans = omega (arith, generation) in
+    let all : s.generation + restarts plans ≡ generation_after image plans = omega (arith, generation) in
     record {
       report = record {
         script = script;

@@ -1,9 +1,11 @@
--- How many calls a script has.
-use Rattle.std.proofs.Common.{◌≡◌, ℕ, ◌+◌, ◌≤◌, List, [], ◌∷◌, ◌++◌, length, sum_by, refl, ap, ◌∙◌, arith, inl, inr}
-use Rattle.std.proofs.lemmas.List.Sums.{sum_by-cons, sum_by_push}
+-- How many calls a script has, and how many rounds.
+use Rattle.std.proofs.Common.{◌≡◌, ℕ, ◌+◌, ◌≤◌, List, [], ◌∷◌, ◌++◌, length, sum_by, refl, ap, ◌∙◌, arith, inl, inr, length-append}
+use Rattle.std.proofs.lemmas.List.Sums.{sum_by-append, sum_by-cons, sum_by_push}
+use Rattle.std.specs.Prelude.{Option}
+use Rattle.cat_history.specs.declared.plan.CrashPlan.{CrashPlan}
 use Rattle.cat_history.specs.declared.plan.RoundPlan.{RoundPlan}
-use Rattle.cat_script.specs.Limits.{call_count}
-use Rattle.cat_script.specs.Rounds.{calls_in as asked_in, AreEnded, AreRounds}
+use Rattle.cat_script.specs.Limits.{call_count, end_count}
+use Rattle.cat_script.specs.Rounds.{calls_in as asked_in, AreEnded, AreRounds, EndsBy}
 use Rattle.cat_script.specs.Scripts.{IsScript}
 use Rattle.cat_script.specs.declared.line.Line.{Line}
 use Rattle.cat_script.specs.declared.line.Line.TheVariants.{Blank, Call, Join, Crash, Updater, Limit}
@@ -68,3 +70,43 @@ calls-of-script bytes script is =
     let as_many = counted is.said in
     let limit = is.limits.calls in
     omega arith
+
+-- ---- rounds
+
+one-end : (line : Line) (crash : Option CrashPlan) → EndsBy line crash → end_count line ≡ 1
+one-end Blank crash ends = absurd ends
+one-end (Call caller op) crash ends = absurd ends
+one-end Join crash ends = refl
+one-end (Crash plan) crash ends = refl
+one-end (Updater turns) crash ends = absurd ends
+one-end (Limit limit) crash ends = absurd ends
+
+-- a line ends each of them,
+ended-few : (before lines : List Line) (plans : List RoundPlan) → AreEnded before lines plans → length plans ≤ sum_by end_count lines
+ended-few before lines [] ended = omega arith
+ended-few before lines (plan ∷ plans) ended =
+    let round = ended.0 in
+    let end = ended.1 in
+    let more = ended.2 in
+    let later = ended-few (before ++ round ++ end ∷ []) more plans ended.6 in
+    let cut = ap (sum_by end_count) ended.3 ∙ sum_by-append end_count round (end ∷ more) in
+    omega (arith, later, cut, sum_by-cons end_count end more, one-end end plan.crash ended.5)
+
+-- but for the last one
+rounds-few : (lines : List Line) (plans : List RoundPlan) → AreRounds lines plans → length plans ≤ sum_by end_count lines + 1
+rounds-few lines plans is =
+    let cut = ap (sum_by end_count) is.cut ∙ sum_by-append end_count is.closed is.rest in
+    elim is.finish [
+      | inl finish ↦ let front = ended-few [] is.closed plans finish.1 in omega arith
+      | inr finish ↦
+          let front = ended-few [] is.closed finish.1 finish.4 in
+          let all = ap length finish.3 ∙ length-append finish.1 (finish.2 ∷ []) in
+          omega arith
+    ]
+
+-- so there are no more than the limit says
+pub rounds-of-script : (bytes : List ℕ) (script : Script) → IsScript bytes script → length script.rounds ≤ 1001
+rounds-of-script bytes script is =
+    let few = rounds-few is.said script.rounds is.rounds in
+    let limit = is.limits.ends in
+    omega (arith, few, limit)

@@ -38,7 +38,7 @@ use Rattle.caller_rounds.specs.Apart.{AreApart, TookPlace, changes_asked}
 use Rattle.caller_rounds.proofs.LoneOrder.{lone_is_in_order}
 use Rattle.core_rounds.specs.LoneCalls.{AreReportCalls, IsReportCall, calls_in}
 use Rattle.core_rounds.specs.Rounds.{ArePlayed, IsRoundTo}
-use Rattle.core_rounds.specs.Rounds.ArePlayed.{ends, lone, crowd}
+use Rattle.core_rounds.specs.Rounds.ArePlayed.{ends, lone, crowd, lone_crash, crowd_crash}
 use Rattle.core_rounds.specs.Summaries.{IsWithin, full_in, is_full, summary_of}
 use Rattle.core_rounds.proofs.Played.{each_is_reported, only_round_is_legal}
 use Rattle.catalog_cli.specs.Headline.{done, all_done, IsSummaryOf}
@@ -192,13 +192,15 @@ IsSeeded seed count callers report end shape = ArePlayed 64 1024 32 0 empty ([] 
 
 in-order : (seed count callers : ℕ) (report : RoundReport) (end : Map) (shape : Anchors) → count ≤ 100000 → IsSeeded seed count callers report end shape → full_in report.records ≡ 0 →
     end ≡ all_done empty (generated_calls seed count callers)
-in-order seed count callers report end shape few (lone one round paid ends) none =
+in-order seed count callers report end shape few (lone one joined round paid ends) none =
     let asked = generated_calls seed count callers in
     lone_is_in_order empty asked report.records round.answers round.in_script_order
     (all-took empty end asked (2 ^ 62) report.records _ round.legal (omega (arith, calls-are seed count callers, few)) none) ∙ changes-done empty asked
-in-order seed count callers report end shape few (crowd some writes round next within ends) none =
+in-order seed count callers report end shape few (crowd some joined writes round next within ends) none =
     let asked = generated_calls seed count callers in
     round.apart (are-apart seed count callers) (all-took empty end asked (2 ^ 62) report.records writes round.legal (omega (arith, calls-are seed count callers, few)) none) ∙ changes-done empty asked
+in-order seed count callers report end shape few (lone_crash one crash ended round answers paid next within ends) none = absurd (none-some crash ended)
+in-order seed count callers report end shape few (crowd_crash several crash ended writes round paid next within ends) none = absurd (none-some crash ended)
 
 one-report : (reports : List RoundReport) (report : RoundReport) → length reports ≡ 1 → report ≡ get_or reports 0 report → reports ≡ report ∷ []
 one-report [] report one first = absurd (omega (arith, one))
@@ -224,7 +226,7 @@ pub seeded-round : (seed count callers : ℕ) (plan : RoundPlan) (report : Round
 seeded-round seed count callers plan report end told shape is played same =
     subst (λ (p : RoundPlan). IsRoundTo empty p report told) (sym is)
     (subst (IsRoundTo empty (generated_plan seed count callers) report) (sym same)
-    (only_round_is_legal 64 1024 32 0 empty end ([] ∷ []) shape (generated_plan seed count callers) report played))
+    (only_round_is_legal 64 1024 32 0 empty end ([] ∷ []) shape (generated_plan seed count callers) report refl played))
 
 -- its summary
 pub summed-up : (seed count callers : ℕ) (plan : RoundPlan) (report : RoundReport) (end told : Map) (shape : Anchors) (summary : Summary) (text : List ℕ) → count ≤ 100000 →

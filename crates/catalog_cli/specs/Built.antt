@@ -1,25 +1,16 @@
 -- Which lines of a script aren't built yet.
-use Rattle.std.specs.Prelude.{Option, Some, None, List, [], ◌∷◌}
-use Rattle.cat_script.specs.declared.script.Form.{Form}
-use Rattle.cat_script.specs.declared.script.Form.TheVariants as form
-use Rattle.cat_script.specs.declared.script.ScriptLine.{ScriptLine}
+use Rattle.std.specs.Prelude.{◌&&◌, Bool, if◌then◌else◌, is_some, Option, Some, None, List, [], ◌∷◌}
+use Rattle.cat_history.specs.declared.plan.RoundPlan.{RoundPlan}
+use Rattle.core_rounds.specs.LoneCalls.{is_crowd}
 use Rattle.catalog_cli.specs.declared.status.Verb.{Verb}
 use Rattle.catalog_cli.specs.declared.status.Verb.TheVariants.{Crash}
 
--- The word of a line that isn't built: a crash.
-abbrev pub unbuilt_form : Form → Option Verb
-unbuilt_form (form.Call caller verb) = None
-unbuilt_form form.Join = None
-unbuilt_form (form.Crash callers) = Some Crash
-unbuilt_form form.Updater = None
-unbuilt_form form.Limit = None
+-- A crash line ends the round, and several callers have calls in it.
+abbrev pub is_crowd_crash : RoundPlan → Bool
+is_crowd_crash plan = is_some plan.crash && is_crowd plan.ops
 
--- The first of two words.
-abbrev pub first_word : Option Verb → Option Verb → Option Verb
-first_word None later = later
-first_word (Some word) later = Some word
-
--- The word of the first of these lines that isn't built; None where all are.
-abbrev pub first_unbuilt : List ScriptLine → Option Verb
+-- The word of the lines that aren't built, where a script of these rounds has one: those of crashes that end rounds of
+-- several callers.
+abbrev pub first_unbuilt : List RoundPlan → Option Verb
 first_unbuilt [] = None
-first_unbuilt (line ∷ lines) = first_word (unbuilt_form line.form) (first_unbuilt lines)
+first_unbuilt (plan ∷ plans) = if is_crowd_crash plan then Some Crash else first_unbuilt plans

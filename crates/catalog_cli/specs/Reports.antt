@@ -28,7 +28,7 @@ use Rattle.catalog_cli.specs.declared.status.Status.TheVariants as status
 pub record IsAccepted (callers : ℕ) (bytes : List ℕ) (script : Script) : Type 0 where
   pub is_script : IsScript bytes script
   pub fits : All (FitsCallers callers) script.lines
-  pub built : first_unbuilt script.lines ≡ None
+  pub built : first_unbuilt script.rounds ≡ None
 
 -- The bytes are a script that doesn't fit so many callers, for this fault.
 abbrev pub IsUnfitScript : ℕ → List ℕ → ScriptFault → Type 0
@@ -39,10 +39,10 @@ abbrev pub HasFault : ℕ → List ℕ → ScriptFault → Type 0
 HasFault callers bytes fault =
     ((fault ≡ Bytes) × (MOST_BYTES < length bytes)) ⊎ IsFirstFault bytes fault ⊎ IsUnfitScript callers bytes fault
 
--- The bytes are a script that fits so many callers, and the first of its lines that isn't built has this word.
+-- The bytes are a script that fits so many callers, and one of its lines that isn't built has this word.
 abbrev pub IsUnbuiltScript : ℕ → List ℕ → Verb → Type 0
 IsUnbuiltScript callers bytes verb = (script : Script) × IsScript bytes script ×
-    All (FitsCallers callers) script.lines × (first_unbuilt script.lines ≡ Some verb)
+    All (FitsCallers callers) script.lines × (first_unbuilt script.rounds ≡ Some verb)
 
 -- The bytes are refused so: in this order for their fault, or for a line that isn't built.
 abbrev pub IsRefusedBy : ℕ → List ℕ → Status → Type 0
@@ -88,8 +88,8 @@ image_opening image = record {
 }
 
 -- The text is that of a report of legal rounds that the bytes, read as a script, ask for, from this opening, of one
--- caller each or of several. Each full answer is paid for by its weight and its names and the puts since then. The
--- rounds leave this map in this shape. The report is one of the grammar, so that its text tells it alone.
+-- caller each or of several, joined or ended by a crash. Each full answer is paid for by its weight and its names and the
+-- puts since then. The rounds leave this map in this shape. The report is one of the grammar, so that its text tells it alone.
 pub record IsReportOf (opening : Opening) (bytes text : List ℕ) : Type 0 where
   pub script : Script
   pub reports : List RoundReport

@@ -19,7 +19,7 @@ use Rattle.core_rounds.specs.Waiting.{HaveNoTurns, changes_made, puts_asked, wri
 use Rattle.cat_history.specs.declared.plan.RoundPlan.{RoundPlan}
 use Rattle.catalog_cli.specs.Files.{HasBytes, HasImage, HasNoFile, SavesImage}
 use Rattle.catalog_cli.specs.Reports.{IsRefusedBy, IsReportOf, image_opening}
-use Rattle.core_rounds.specs.LoneCalls.{AreLoneRounds, crowds}
+use Rattle.core_rounds.specs.LoneCalls.{AreJoined, AreLoneRounds, restarts}
 use Rattle.core_rounds.specs.Rounds.{RoundsEndWithTurn}
 use Rattle.cat_history.specs.Maps.{Map}
 use Rattle.shapes.specs.Anchors.{Anchors}
@@ -35,9 +35,9 @@ AreBytesLeft left bytes = IfSome left (λ told. told ≡ bytes)
 -- ---- files
 
 -- The generation in which these rounds leave an image: it is opened in its next one, and opened again, in one more,
--- behind each round of several callers.
+-- behind each round that a crash ends, and behind each other one of several callers.
 abbrev pub generation_after : Row → List RoundPlan → ℕ
-generation_after image plans = suc (header_generation image.layout image.words + crowds plans)
+generation_after image plans = suc (header_generation image.layout image.words + restarts plans)
 
 -- These rounds can be played on this image: it is sound by all rules, keeps the map that its nodes have, and there are
 -- generations enough.
@@ -60,17 +60,20 @@ abbrev pub LinesWait : Row → List RoundReport → Row → Type 0
 LinesWait old reports new = ImageWaits new
     (changes_made old.layout.slots (image_map old.layout old.words) (image_anchors old.layout old.words) reports)
 
--- Rounds of one caller each make no turn, of the updater or of their own: at most eight of their calls are puts or
--- deletes, as many as a caller has log lines, and their puts and the members of the image are fewer than its nodes.
+-- Rounds of one caller each that no crash ends make no turn, of the updater or of their own: at most eight of their calls
+-- are puts or deletes, as many as a caller has log lines, and their puts and the members of the image are fewer than its
+-- nodes.
 pub record NeedNoTurns (old : Row) (plans : List RoundPlan) : Type 0 where
   pub lone : AreLoneRounds plans
+  pub joined : AreJoined plans
   pub none : HaveNoTurns plans
   pub lines : writes_asked plans ≤ 8
   pub nodes : length (image_anchors old.layout old.words) + puts_asked plans < old.layout.nodes
 
 -- The bytes, read as a script, are played on the old image: the text is that of the report, and the new image is what
 -- those very rounds leave. Where a turn of the updater is due behind the last call of the last round, no log line waits
--- there; and where no round is of several callers and no turn is made, a line waits for each split and each merge.
+-- there; and where the index is opened again behind no round and no turn is made, a line waits for each split and each
+-- merge.
 pub record IsRunOn (old : Row) (bytes text : List ℕ) (new : Row) : Type 0 where
   pub report : IsReportOf (image_opening old) bytes text
   pub openable : IsOpenable old report.script.rounds

@@ -1,29 +1,28 @@
 //! Which lines of scripts aren't built yet.
 
 ghost use Rattle.std.specs.Prelude.{◌≡◌};
-ghost use Rattle.catalog_cli.specs.Built.{first_unbuilt, unbuilt_form};
+ghost use Rattle.catalog_cli.specs.Built.{first_unbuilt, is_crowd_crash};
 
 use crate::status::Verb;
-use cat_script::{Form, ScriptLine};
+use cat_history::RoundPlan;
+use core_rounds::is_crowd;
 
-/// The word of the first of a script's lines that isn't built; None where all are.
-pub(crate) fn first_unbuilt(lines: &[ScriptLine]) -> Option<Verb>
-    ensures { result ≡ first_unbuilt lines.now }
+/// The word of the lines that aren't built, where a script of these rounds has one: those of crashes that end rounds of
+/// several callers. None where all are built.
+pub(crate) fn first_unbuilt(plans: &[RoundPlan]) -> Option<Verb>
+    ensures { result ≡ first_unbuilt plans.now }
 {
-    for line in lines {
-        if let Some(verb) = unbuilt_form(line.form) {
-            return Some(verb);
+    for plan in plans {
+        if is_crowd_crash(plan) {
+            return Some(Verb::Crash);
         }
     }
     None
 }
 
-/// The word of a line that isn't built.
-fn unbuilt_form(form: Form) -> Option<Verb>
-    ensures { result ≡ unbuilt_form form }
+/// Whether a crash ends a round, and several callers have calls in it.
+fn is_crowd_crash(plan: &RoundPlan) -> bool
+    ensures { result ≡ is_crowd_crash plan.now }
 {
-    match form {
-        Form::Crash { .. } => Some(Verb::Crash),
-        Form::Call { .. } | Form::Join | Form::Updater | Form::Limit => None,
-    }
+    plan.crash.is_some() && is_crowd(plan.ops.as_slice())
 }

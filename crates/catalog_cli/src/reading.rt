@@ -33,7 +33,7 @@ pub(crate) fn accept(script: &Script, layout: Layout) -> Result<(), Status>
         IsRefusedBy layout.callers bytes status) }
 {
     fits(script, layout)?;
-    match first_unbuilt(script.lines.as_slice()) {
+    match first_unbuilt(script.rounds.as_slice()) {
         Some(verb) => Err(Status::NotBuilt(verb)),
         None => Ok(()),
     }

@@ -1,9 +1,8 @@
 //! The command that plays a script on the catalogue in a file.
 
-ghost use Rattle.std.specs.Prelude.{◌≡◌, ◌+◌, ◌≤◌, ℕ, List, [], IfErr, IfOk, IfSome, OnOk, Some};
+ghost use Rattle.std.specs.Prelude.{◌≡◌, ◌+◌, ◌≤◌, ℕ, List, [], IfErr, IfOk, IfSome, OnOk, Some, length};
 ghost use Rattle.cat_script.specs.Scripts.{IsScript};
 ghost use Rattle.cat_text.specs.Outside.{ConsumesAtMost};
-ghost use Rattle.core_rounds.specs.LoneCalls.{calls_in};
 ghost use Rattle.recovery.specs.Opened.{IsOpenedFrom};
 ghost use Rattle.catalog_cli.specs.Headline.{IsAfterReading};
 ghost use Rattle.catalog_cli.specs.Runs.{IsOpenable, IsPlayRefused, IsRunLeft, IsRunOn, IsRunOnFile, IsRunRefused};
@@ -14,7 +13,7 @@ use crate::status::{ImageRefusal, Status};
 use cat_history::RoundPlan;
 use cat_script::{MOST_BYTES, Script};
 use cat_text::{Shelf, Source, print_report};
-use core_rounds::{crowds, image_of};
+use core_rounds::{image_of, restarts};
 use crowd_rounds::play_rounds;
 use index_core::Core;
 use pac_index::Gate;
@@ -87,16 +86,17 @@ fn play_on_image<R: Threads + Wait + Sync, G: Gate>(
 }
 
 /// Opens the catalogue in an image on which these rounds are to be played. It has to be sound, and to have a generation
-/// left for this opening and for one behind each round of several callers.
+/// left for this opening, for one behind each round that a crash ends, and for one behind each other round of several
+/// callers.
 fn open_for(alloc: Global, image: Image, plans: &[RoundPlan]) -> Result<Core, Status>
-    requires { calls_in plans.now ≤ 100000 }
+    requires { length plans.now ≤ 1001 }
     ensures opened { IfOk result (IsOpenedFrom image) }
     ensures openable { IfOk result (λ _. IsOpenable image plans.now) }
     ensures refused { IfErr result (λ status. (bytes : List ℕ) → IsPlayRefused image bytes plans.now status) }
 {
     let generation = image.word(header::GENERATION);
     let core = recover(alloc, image)?;
-    if generation + crowds(plans) >= GENERATION_LIMIT - 1 {
+    if generation + restarts(plans) >= GENERATION_LIMIT - 1 {
         return Err(Status::Image(ImageRefusal::Generations));
     }
     Ok(core)

@@ -1,2 +1,3 @@
 pub mod CrowdRounds
+pub mod Restarts
 pub mod Segmenting

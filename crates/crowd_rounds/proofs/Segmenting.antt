@@ -3,7 +3,7 @@ use Rattle.std.proofs.Common.{◌≡◌, ℕ, suc, ◌+◌, ◌<◌, ◌≤◌, 
 use Rattle.std.proofs.Math.Seq.{take-add}
 use Rattle.std.proofs.lemmas.List.{get_or-drop, length-drop, length-take-le, take-append-drop, take_all, take_more}
 use Rattle.std.proofs.lemmas.List.Elements.{All-append, All-from_recursion, All-push}
-use Rattle.std.proofs.lemmas.List.Sums.{sum_by-take-drop}
+use Rattle.std.proofs.lemmas.List.Sums.{sum_by-take-drop, sum_by_push}
 use Rattle.std.specs.FinMap.{len}
 use Rattle.cat_history.specs.Maps.{Map}
 use Rattle.cat_history.specs.declared.plan.RoundPlan.{RoundPlan}
@@ -18,14 +18,13 @@ use Rattle.index_core.specs.Lone.{IsQuiet}
 use Rattle.index_core.specs.Weights.{weight_of}
 use Rattle.recovery.specs.Opened.{IsOpenedFrom}
 use Rattle.core_rounds.specs.CoreMaps.{HasNoLines}
-use Rattle.core_rounds.specs.LoneCalls.{AreLoneCalls, AreLoneRounds, calls_in, crowds, is_crowd}
-use Rattle.core_rounds.specs.Rounds.{ArePlayed, RoundsEndWithTurn, added_in, crowd, ends}
+use Rattle.core_rounds.specs.LoneCalls.{calls_in, has_restart, restarts}
+use Rattle.core_rounds.specs.Rounds.{ArePlayed, RoundsEndWithTurn, added_in, ends}
 use Rattle.core_rounds.specs.Waiting.{one_if}
 use Rattle.core_rounds.proofs.CoreMaps.{opened_is_map}
-use Rattle.core_rounds.proofs.Crowding.{crowd_or_lone, crowds_add_up, lone_rounds_are_no_crowds}
+use Rattle.core_rounds.proofs.Restarting.{restarts_add_up}
 use Rattle.core_rounds.proofs.Played.{each_is_reported, more_pays, rounds_go_on}
-use Rattle.crowd_rounds.specs.Crowds.{IsPlayedCrowd}
-use Rattle.crowd_rounds.specs.Segments.{AreFirstLone, AreFirstPlayed, ArePlayedOn}
+use Rattle.crowd_rounds.specs.Segments.{AreFirstPlain, AreFirstPlayed, ArePlayedOn, IsPlayedRestart}
 
 -- the last of rounds behind others is the last of all
 ends-behind : (plans more : List RoundPlan) → 0 < length more → RoundsEndWithTurn (plans ++ more) → RoundsEndWithTurn more
@@ -79,7 +78,7 @@ goes-on s mid new plans reports more first second some =
     (anchors_in (world new)) (take n plans) (take m left) reports more first.played raised in
     let gone = first.generation in
     let going = second.generation in
-    let crowded = ap crowds parts ∙ crowds_add_up (take n plans) (take m left) in
+    let again = ap restarts parts ∙ restarts_add_up (take n plans) (take m left) in
     let size = length-take-le m left fits in
     record {
       few = omega (arith, long, rest, fits, before);
@@ -89,7 +88,7 @@ goes-on s mid new plans reports more first second some =
       weighs = omega (arith, added, lighter, light);
       names = omega (arith, added, fewer, few);
       layout = second.layout ∙ first.layout;
-      generation = omega (arith, gone, going, crowded);
+      generation = omega (arith, gone, going, again);
       index = second.index;
       quiet = second.quiet;
       settled = λ turned. second.settled (ends-behind (take n plans) (take m left) (omega (arith, size, some)) (subst RoundsEndWithTurn parts turned));
@@ -104,15 +103,15 @@ all-played s new plans reports told first done is =
           (anchors_in (world new))) whole first.played;
       told = first.told;
       layout = first.layout;
-      generation = first.generation ∙ ap (λ (ps : List RoundPlan). s.generation + crowds ps) whole;
+      generation = first.generation ∙ ap (λ (ps : List RoundPlan). s.generation + restarts ps) whole;
       index = first.index;
       quiet = first.quiet;
       settled = λ turned. first.settled (subst RoundsEndWithTurn (sym whole) turned);
     })
 
--- ---- a stretch: rounds of one caller each, and one of several
+-- ---- a stretch: rounds of one caller each, and one behind which the index is opened again
 
--- What rounds of one caller come to on a core.
+-- What joined rounds of one caller come to on a core.
 pub record LoneDone (s : Index) (plans : List RoundPlan) (reports : List RoundReport) (new : Index) : Type 0 where
   pub played : ArePlayed s.layout.slots s.layout.nodes (weight_of s) (len (map_of_index s)) (map_of_index s) (anchors_in (world s)) plans reports (map_of_index new) (anchors_in (world new))
   pub told : All IsReportRound reports
@@ -130,14 +129,14 @@ as-many s new plans count reports done within =
     each_is_reported s.layout.slots s.layout.nodes (weight_of s) (len (map_of_index s)) (map_of_index s) (map_of_index new) (anchors_in (world s)) (anchors_in (world new)) (take count plans) reports
     done.played ∙ length-take-le count plans within
 
-pub lone-first : (s new : Index) (plans : List RoundPlan) (count : ℕ) (reports : List RoundReport) → LoneDone s (take count plans) reports new → AreFirstLone plans count →
+pub plain-first : (s new : Index) (plans : List RoundPlan) (count : ℕ) (reports : List RoundReport) → LoneDone s (take count plans) reports new → AreFirstPlain plans count →
     AreFirstPlayed s plans reports new
-lone-first s new plans count reports done first =
+plain-first s new plans count reports done first =
     let many = as-many s new plans count reports done first.few in
     let within = first.few in
-    let none = (lone_rounds_are_no_crowds (take count plans)).0 first.lone in
+    let none = first.none in
     let same : take count plans ≡ take (length reports) plans = ap (λ (k : ℕ). take k plans) (sym many) in
-    let crowded = ap crowds same in
+    let again = ap restarts same in
     let gone = done.generation in
     record {
       few = omega (arith, many, within);
@@ -147,77 +146,71 @@ lone-first s new plans count reports done first =
       weighs = done.weighs;
       names = done.names;
       layout = done.layout;
-      generation = omega (arith, none, crowded, gone);
+      generation = omega (arith, none, again, gone);
       index = done.index;
       quiet = done.quiet;
       settled = λ turned. done.settled (subst RoundsEndWithTurn (sym same) turned);
     }
 
-one-crowd : (plan : RoundPlan) → is_crowd plan.ops ≡ true → crowds (plan ∷ []) ≡ 1
-one-crowd plan is = ap (λ b. one_if b + 0) is
+one-restart : (plan : RoundPlan) → has_restart plan ≡ true → restarts (plan ∷ []) ≡ 1
+one-restart plan is = ap (λ b. one_if b + 0) is
 
--- the round of several callers that comes first
-crowd-first : (mid next : Index) (plans : List RoundPlan) (plan : RoundPlan) (report : RoundReport) → 0 < length plans → plan ≡ get_or plans 0 plan → is_crowd plan.ops ≡ true →
-    IsPlayedCrowd mid plan report next → AreFirstPlayed mid plans (report ∷ []) next
-crowd-first mid next plans plan report some is several round =
+-- the round behind which the index is opened again, where it comes first
+restart-first : (mid next : Index) (plans : List RoundPlan) (plan : RoundPlan) (report : RoundReport) → 0 < length plans → plan ≡ get_or plans 0 plan → has_restart plan ≡ true →
+    IsPlayedRestart mid plan report next → AreFirstPlayed mid plans (report ∷ []) next
+restart-first mid next plans plan report some is again round =
     let one : plan ∷ [] ≡ take 1 plans = ap (λ (p : RoundPlan). p ∷ []) is ∙ sym (take_more plans 0 plan some) in
     let opened = opened_is_map round.image next round.opened in
-    let all : ArePlayed mid.layout.slots mid.layout.nodes (weight_of mid) (len (map_of_index mid)) (map_of_index mid) (anchors_in (world mid)) (plan ∷ []) (report ∷ []) (map_of_index next)
-    (anchors_in (world next)) =
-    subst (λ (m : Map). ArePlayed mid.layout.slots mid.layout.nodes (weight_of mid) (len (map_of_index mid)) (map_of_index mid) (anchors_in (world mid)) (plan ∷ []) (report ∷ []) m
-    (anchors_in (world next))) (sym round.map)
-    (crowd ((crowd_or_lone plan.ops).0 several) round.writes round.round (anchors_in (world next)) round.within ends) in
     let weighs = round.weighs in
-    let few = round.within.few in
-    let names = ap len round.map in
+    let names = round.names in
     let gone = round.generation in
-    let crowded = ap crowds (sym one) ∙ one-crowd plan several in
+    let counted = ap restarts (sym one) ∙ one-restart plan again in
     record {
       few = omega (arith, some);
       played = subst (λ (ps : List RoundPlan). ArePlayed mid.layout.slots mid.layout.nodes (weight_of mid) (len (map_of_index mid)) (map_of_index mid) (anchors_in (world mid)) ps (report ∷ [])
-          (map_of_index next) (anchors_in (world next))) one all;
+          (map_of_index next) (anchors_in (world next))) one round.played;
       told = All-from_recursion IsReportRound (report ∷ []) (round.told, tt);
       weighs = omega (arith, weighs);
-      names = omega (arith, few, names);
+      names = omega (arith, names);
       layout = round.layout;
-      generation = omega (arith, gone, crowded);
+      generation = omega (arith, gone, counted);
       index = round.opened.index;
       quiet = round.opened.quiet;
       settled = λ turned. opened.lines;
     }
 
 -- behind those of one caller
-pub lone-then-crowd : (s mid next : Index) (plans : List RoundPlan) (count : ℕ) (reports told : List RoundReport) (plan : RoundPlan) (report : RoundReport) → LoneDone s (take count plans) reports mid →
-    AreFirstLone plans count → count < length plans → plan ≡ get_or plans count plan → IsPlayedCrowd mid plan report next → told ≡ reports ++ report ∷ [] → AreFirstPlayed s plans told next
-lone-then-crowd s mid next plans count reports told plan report done first less is round pushed =
+pub plain-then-restart : (s mid next : Index) (plans : List RoundPlan) (count : ℕ) (reports told : List RoundReport) (plan : RoundPlan) (report : RoundReport) → LoneDone s (take count plans) reports mid →
+    AreFirstPlain plans count → count < length plans → plan ≡ get_or plans count plan → IsPlayedRestart mid plan report next → told ≡ reports ++ report ∷ [] → AreFirstPlayed s plans told next
+plain-then-restart s mid next plans count reports told plan report done first less is round pushed =
     let many = as-many s mid plans count reports done first.few in
     let rest = length-drop (length reports) plans in
-    let several : is_crowd plan.ops ≡ true = ap (λ (p : RoundPlan). is_crowd p.ops) is ∙ first.next plan less in
+    let again : has_restart plan ≡ true = ap has_restart is ∙ first.next plan less in
     let there : plan ≡ get_or (drop (length reports) plans) 0 plan =
     is ∙ ap (λ (k : ℕ). get_or plans k plan) (omega (arith, many)) ∙ sym (get_or-drop (length reports) plans 0 plan) in
     subst (λ (rs : List RoundReport). AreFirstPlayed s plans rs next) (sym pushed)
-    (goes-on s mid next plans reports (report ∷ []) (lone-first s mid plans count reports done first)
-    (crowd-first mid next (drop (length reports) plans) plan report (omega (arith, many, rest, less)) there several round) (omega arith))
+    (goes-on s mid next plans reports (report ∷ []) (plain-first s mid plans count reports done first)
+    (restart-first mid next (drop (length reports) plans) plan report (omega (arith, many, rest, less)) there again round) (omega arith))
 
 -- ---- generations and calls
 
--- there is one more for the round of several callers
-pub next-there : (number : ℕ) (plans : List RoundPlan) (count : ℕ) → IsGeneration (number + crowds plans) → AreFirstLone plans count → count < length plans → (plan : RoundPlan) →
+-- there is one more to open the index again
+pub next-there : (number : ℕ) (plans : List RoundPlan) (count : ℕ) → IsGeneration (number + restarts plans) → AreFirstPlain plans count → count < length plans → (plan : RoundPlan) →
     IsGeneration (suc number)
 next-there number plans count is first less plan =
-    let longer = ap crowds (take_more plans count plan less) ∙ crowds_add_up (take count plans) (get_or plans count plan ∷ []) in
-    let one = one-crowd (get_or plans count plan) (first.next plan less) in
-    let rest = crowds-split (count + 1) plans in
+    let longer = ap restarts (take_more plans count plan less) ∙ restarts_add_up (take count plans) (get_or plans count plan ∷ []) in
+    let one = one-restart (get_or plans count plan) (first.next plan less) in
+    let rest = restarts-split (count + 1) plans in
     let fits = is.fits in
     record { least = omega arith; fits = omega (arith, longer, one, rest, fits) }
   where
-    crowds-split : (n : ℕ) (ps : List RoundPlan) → crowds ps ≡ crowds (take n ps) + crowds (drop n ps)
-    crowds-split n ps = ap crowds (sym (take-append-drop n ps)) ∙ crowds_add_up (take n ps) (drop n ps)
+    restarts-split : (n : ℕ) (ps : List RoundPlan) → restarts ps ≡ restarts (take n ps) + restarts (drop n ps)
+    restarts-split n ps = ap restarts (sym (take-append-drop n ps)) ∙ restarts_add_up (take n ps) (drop n ps)
 
 -- as there are for the rounds that are left
-pub generations-left : (number now : ℕ) (plans : List RoundPlan) (n : ℕ) → IsGeneration (number + crowds plans) → now ≡ number + crowds (take n plans) → IsGeneration (now + crowds (drop n plans))
+pub generations-left : (number now : ℕ) (plans : List RoundPlan) (n : ℕ) → IsGeneration (number + restarts plans) → now ≡ number + restarts (take n plans) → IsGeneration (now + restarts (drop n plans))
 generations-left number now plans n is so =
-    let both = ap crowds (sym (take-append-drop n plans)) ∙ crowds_add_up (take n plans) (drop n plans) in
+    let both = ap restarts (sym (take-append-drop n plans)) ∙ restarts_add_up (take n plans) (drop n plans) in
     subst IsGeneration (omega (arith, both, so)) is
 
 -- no more calls are left than there were
@@ -227,13 +220,24 @@ calls-left plans n = let both = sum_by-take-drop (λ (p : RoundPlan). length p.o
 pub calls-first : (plans : List RoundPlan) (n : ℕ) → calls_in (take n plans) ≤ calls_in plans
 calls-first plans n = let both = sum_by-take-drop (λ (p : RoundPlan). length p.ops) plans n in omega (arith, both)
 
--- ---- rounds of one caller that come first
-
-pub none-first : (plans : List RoundPlan) → AreLoneRounds (take 0 plans)
-none-first plans = All-from_recursion (λ (p : RoundPlan). AreLoneCalls p.ops) [] tt
-
-pub one-first : (plans : List RoundPlan) (count : ℕ) (plan : RoundPlan) → count < length plans → plan ≡ get_or plans count plan → is_crowd plan.ops ≡ false → AreLoneRounds (take count plans) →
-    AreLoneRounds (take (count + 1) plans)
-one-first plans count plan less is none lone =
+-- with those before it, one round takes no more than there were
+pub calls-before : (plans : List RoundPlan) (count : ℕ) (plan : RoundPlan) → count < length plans → plan ≡ get_or plans count plan →
+    length plan.ops + calls_in (take count plans) ≤ calls_in plans
+calls-before plans count plan less is =
     let longer : take (count + 1) plans ≡ take count plans ++ plan ∷ [] = take_more plans count plan less ∙ ap (λ (p : RoundPlan). take count plans ++ p ∷ []) (sym is) in
-    subst AreLoneRounds (sym longer) (All-push (λ (p : RoundPlan). AreLoneCalls p.ops) (take count plans) plan lone ((crowd_or_lone plan.ops).1 none))
+    let pushed = ap calls_in longer ∙ sum_by_push (λ (p : RoundPlan). length p.ops) (take count plans) plan in
+    let all = calls-first plans (count + 1) in
+    omega (arith, pushed, all)
+
+-- ---- rounds that come first, behind which the index isn't opened again
+
+pub none-first : (plans : List RoundPlan) → restarts (take 0 plans) ≡ 0
+none-first plans = refl
+
+pub one-first : (plans : List RoundPlan) (count : ℕ) (plan : RoundPlan) → count < length plans → plan ≡ get_or plans count plan → has_restart plan ≡ false → restarts (take count plans) ≡ 0 →
+    restarts (take (count + 1) plans) ≡ 0
+one-first plans count plan less is none before =
+    let longer : take (count + 1) plans ≡ take count plans ++ plan ∷ [] = take_more plans count plan less ∙ ap (λ (p : RoundPlan). take count plans ++ p ∷ []) (sym is) in
+    let all = ap restarts longer ∙ restarts_add_up (take count plans) (plan ∷ []) in
+    let last : restarts (plan ∷ []) ≡ 0 = ap (λ b. one_if b + 0) none in
+    omega (arith, all, last, before)

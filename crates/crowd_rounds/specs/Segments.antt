@@ -1,22 +1,46 @@
 -- Rounds one after another, and those between two openings of the index.
-use Rattle.std.specs.Prelude.{◌≡◌, ℕ, ◌+◌, ◌<◌, ◌≤◌, List, All, length, take, get_or, true}
+use Rattle.std.specs.Prelude.{◌≡◌, ℕ, suc, ◌+◌, ◌<◌, ◌≤◌, List, [], ◌∷◌, None, All, IfSome, length, take, get_or, true}
 use Rattle.std.specs.FinMap.{len}
 use Rattle.cat_history.specs.declared.plan.RoundPlan.{RoundPlan}
 use Rattle.cat_text.specs.ReportGrammar.{IsReportRound}
 use Rattle.cat_text.specs.declared.report.RoundReport.{RoundReport}
+use Rattle.pm_words.specs.Images.{Row}
+use Rattle.shapes.specs.ShapeRounds.{puts_added}
 use Rattle.index_law.specs.Anchors.{anchors_in}
 use Rattle.index_core.specs.Indexes.{Index, IsIndex, map_of_index, world}
 use Rattle.index_core.specs.Lone.{IsQuiet}
 use Rattle.index_core.specs.Weights.{weight_of}
+use Rattle.recovery.specs.Opened.{IsOpenedFrom}
 use Rattle.core_rounds.specs.CoreMaps.{HasNoLines}
-use Rattle.core_rounds.specs.LoneCalls.{AreLoneRounds, crowds, is_crowd}
+use Rattle.core_rounds.specs.LoneCalls.{has_restart, is_crowd, restarts}
 use Rattle.core_rounds.specs.Rounds.{ArePlayed, RoundsEndWithTurn, added_in}
 
--- The first so many of the rounds are of one caller each, and the next one, if there is one, isn't.
-pub record AreFirstLone (plans : List RoundPlan) (count : ℕ) : Type 0 where
+-- No crash ends a round of several callers.
+abbrev pub CrowdsAreJoined : List RoundPlan → Type 0
+CrowdsAreJoined plans = All (λ (plan : RoundPlan). is_crowd plan.ops ≡ true → plan.crash ≡ None) plans
+
+-- A crash that ends a round has a budget for each of so many callers.
+abbrev pub HasBudgets : ℕ → RoundPlan → Type 0
+HasBudgets callers plan = IfSome plan.crash (λ crash. length crash.budgets ≡ callers)
+
+-- Behind none of the first so many rounds the index is opened again, and behind the next one, if there is one, it is.
+pub record AreFirstPlain (plans : List RoundPlan) (count : ℕ) : Type 0 where
   pub few : count ≤ length plans
-  pub lone : AreLoneRounds (take count plans)
-  pub next : (plan : RoundPlan) → count < length plans → is_crowd (get_or plans count plan).ops ≡ true
+  pub none : restarts (take count plans) ≡ 0
+  pub next : (plan : RoundPlan) → count < length plans → has_restart (get_or plans count plan) ≡ true
+
+-- A round of this plan was played on this core and reported so, and behind it that one was opened, of an image.
+pub record IsPlayedRestart (core : Index) (plan : RoundPlan) (report : RoundReport) (next : Index) : Type 0 where
+  pub played : ArePlayed core.layout.slots core.layout.nodes (weight_of core) (len (map_of_index core))
+      (map_of_index core) (anchors_in (world core)) (plan ∷ []) (report ∷ []) (map_of_index next)
+      (anchors_in (world next))
+  pub told : IsReportRound report
+  pub weighs : weight_of next ≤ weight_of core + puts_added report.records
+  pub names : len (map_of_index next) ≤ len (map_of_index core) + puts_added report.records
+  pub layout : next.layout ≡ core.layout
+  pub generation : next.generation ≡ suc core.generation
+  pub image : Row
+  pub opened : IsOpenedFrom image next
 
 -- The first of the rounds were played on this core, as many as are reported, and left that one.
 pub record AreFirstPlayed (old : Index) (plans : List RoundPlan) (reports : List RoundReport) (new : Index) : Type 0
@@ -28,7 +52,7 @@ pub record AreFirstPlayed (old : Index) (plans : List RoundPlan) (reports : List
     pub weighs : weight_of new ≤ weight_of old + added_in reports
     pub names : len (map_of_index new) ≤ len (map_of_index old) + added_in reports
     pub layout : new.layout ≡ old.layout
-    pub generation : new.generation ≡ old.generation + crowds (take (length reports) plans)
+    pub generation : new.generation ≡ old.generation + restarts (take (length reports) plans)
     pub index : IsIndex new
     pub quiet : IsQuiet new
     pub settled : RoundsEndWithTurn (take (length reports) plans) → HasNoLines new
@@ -39,7 +63,7 @@ pub record ArePlayedOn (old : Index) (plans : List RoundPlan) (reports : List Ro
       (anchors_in (world old)) plans reports (map_of_index new) (anchors_in (world new))
   pub told : All IsReportRound reports
   pub layout : new.layout ≡ old.layout
-  pub generation : new.generation ≡ old.generation + crowds plans
+  pub generation : new.generation ≡ old.generation + restarts plans
   pub index : IsIndex new
   pub quiet : IsQuiet new
   pub settled : RoundsEndWithTurn plans → HasNoLines new

@@ -1,26 +1,31 @@
 //! Playing the rounds of a script.
 
-ghost use Rattle.std.specs.Prelude.{◌≡◌, ℕ, ◌+◌, ◌/◌, ◌<◌, ◌≤◌, ◌^◌, [], ◌∷◌, None, All, IfOk, length};
+ghost use Rattle.std.specs.Prelude.{◌≡◌, ℕ, ◌+◌, ◌/◌, ◌*◌, ◌<◌, ◌≤◌, ◌^◌, [], ◌∷◌, None, Some, All};
+ghost use Rattle.std.specs.Prelude.{IfOk, length, suc, true};
 ghost use Rattle.std.specs.FinMap.{empty, len};
 ghost use Rattle.cat_text.specs.ReportGrammar.{IsReportRound};
 ghost use Rattle.pm_words.specs.Images.{Row};
 ghost use Rattle.pm_words.specs.Layouts.{IsLayout};
 ghost use Rattle.version_lock.specs.Versions.{IsGeneration};
 ghost use Rattle.index_law.specs.Anchors.{anchors_in};
+ghost use Rattle.index_core.specs.Fulls.{HasLowStamps};
 ghost use Rattle.index_core.specs.Indexes.{IsIndex, map_of_index, world};
 ghost use Rattle.index_core.specs.Lone.{IsQuiet};
 ghost use Rattle.index_core.specs.Weights.{weight_of};
 ghost use Rattle.recovery.specs.Opened.{IsOpenedFrom};
-ghost use Rattle.core_rounds.specs.CoreMaps.{HasNoLines, Waits};
-ghost use Rattle.core_rounds.specs.LoneCalls.{AreLoneRounds, AreReportCalls, calls_in, crowds};
+ghost use Rattle.core_rounds.specs.CoreMaps.{HasNoLines, Waits, calls_left_of};
+ghost use Rattle.core_rounds.specs.LoneCalls.{AreJoined, AreLoneRounds, AreReportCalls, calls_in};
+ghost use Rattle.core_rounds.specs.LoneCalls.{has_restart, is_crowd, restarts};
 ghost use Rattle.core_rounds.specs.Rounds.{ArePlayed, RoundsEndWithTurn};
 ghost use Rattle.core_rounds.specs.Waiting.{HaveNoTurns, changes_made, puts_asked, writes_asked};
-ghost use Rattle.crowd_rounds.specs.Segments.{AreFirstLone, AreFirstPlayed, ArePlayedOn};
+ghost use Rattle.crowd_rounds.specs.Segments.{AreFirstPlain, AreFirstPlayed, ArePlayedOn, CrowdsAreJoined, HasBudgets};
+ghost use Rattle.crowd_rounds.specs.Segments.{IsPlayedRestart};
 
 use crate::crowd::{Crowd, play_crowd};
 use cat_history::{Listed, NoMemory, RoundPlan};
-use cat_text::Report;
-use core_rounds::{LoneRounds, crowds, is_crowd, open_fresh, play_lone};
+use cat_text::{Report, RoundReport};
+use core_crashes::{CrashedRound, crash_round};
+use core_rounds::{LoneRounds, has_restart, open_fresh, play_lone, restarts};
 use index_core::Core;
 use pac_index::Gate;
 use pm_words::Layout;
@@ -38,7 +43,7 @@ pub struct PlayedRounds {
 /// Plays the rounds, one after another, from an empty catalogue of this layout.
 ///
 /// In a round of several callers each waits for nodes that others hold, and `gate` is called before each call and before
-/// each of its steps. Memory that runs out is the only refusal.
+/// each of its steps. Memory that runs out is the only refusal. No crash may end such a round yet.
 pub fn play_plans<R: Threads + Wait + Sync, G: Gate>(
     rt: &R,
     alloc: Global,
@@ -50,7 +55,10 @@ pub fn play_plans<R: Threads + Wait + Sync, G: Gate>(
     requires callers { All (λ plan. All (λ a. a.caller < layout.now.callers) plan.ops) plans.now }
     requires told { All (λ plan. AreReportCalls plan.ops) plans.now }
     requires limits { All (λ plan. plan.limit ≤ 2 ^ 62) plans.now }
-    requires joined { All (λ plan. plan.crash ≡ None) plans.now }
+    requires joined { CrowdsAreJoined plans.now }
+    requires budgets { All (HasBudgets layout.now.callers) plans.now }
+    // So there are generations enough.
+    requires rounds { length plans.now ≤ 1001 }
     requires calls { calls_in plans.now ≤ 100000 }
     ensures played { IfOk result (λ done. ArePlayed layout.now.slots layout.now.nodes (layout.now.slots / 2) 0 empty
         ([] ∷ []) plans.now done.report (map_of_index done.core) (anchors_in (world done.core))) }
@@ -62,8 +70,8 @@ pub fn play_plans<R: Threads + Wait + Sync, G: Gate>(
 
 /// Plays the rounds, one after another, on a core that an image was opened as, with nothing done with it since.
 ///
-/// Behind each round of several callers the image is opened again, which takes the next generation. Memory that runs out
-/// is the only refusal.
+/// Behind each round of several callers the image is opened again, and so it is behind each one that a crash ends; that
+/// takes the next generation. Memory that runs out is the only refusal. No crash may end a round of several callers yet.
 pub fn play_rounds<R: Threads + Wait + Sync, G: Gate>(
     rt: &R,
     alloc: Global,
@@ -72,12 +80,13 @@ pub fn play_rounds<R: Threads + Wait + Sync, G: Gate>(
     gate: &G,
 ) -> Result<PlayedRounds, NoMemory>
     requires opened { (image : Row) × IsOpenedFrom image core }
-    // There are as many generations behind its own as rounds of several callers.
-    requires generations { IsGeneration (core.generation + crowds plans.now) }
+    // There are as many generations behind its own as it is opened again.
+    requires generations { IsGeneration (core.generation + restarts plans.now) }
     requires callers { All (λ plan. All (λ a. a.caller < core.layout.callers) plan.ops) plans.now }
     requires told { All (λ plan. AreReportCalls plan.ops) plans.now }
     requires limits { All (λ plan. plan.limit ≤ 2 ^ 62) plans.now }
-    requires joined { All (λ plan. plan.crash ≡ None) plans.now }
+    requires joined { CrowdsAreJoined plans.now }
+    requires budgets { All (HasBudgets core.layout.callers) plans.now }
     requires calls { calls_in plans.now ≤ 100000 }
     // Each round is legal and reported, and the core has the map and the shape that follow the last one.
     ensures played { IfOk result (λ done. ArePlayed core.layout.slots core.layout.nodes (weight_of core)
@@ -85,18 +94,18 @@ pub fn play_rounds<R: Threads + Wait + Sync, G: Gate>(
         (map_of_index done.core) (anchors_in (world done.core))) }
     ensures report { IfOk result (λ done. All IsReportRound done.report) }
     ensures layout { IfOk result (λ done. done.core.layout ≡ core.layout) }
-    ensures generation { IfOk result (λ done. done.core.generation ≡ core.generation + crowds plans.now) }
+    ensures generation { IfOk result (λ done. done.core.generation ≡ core.generation + restarts plans.now) }
     ensures index { IfOk result (λ done. IsIndex done.core) }
     ensures quiet { IfOk result (λ done. IsQuiet done.core) }
     // Where the last round ends with a turn, no log line waits.
     ensures settled { IfOk result (λ done. RoundsEndWithTurn plans.now → HasNoLines done.core) }
-    // Without turns the changes of the shape wait that the calls of one caller's rounds make.
-    ensures waits { IfOk result (λ done. AreLoneRounds plans.now → HaveNoTurns plans.now → (changes lines puts : ℕ) →
-        Waits core changes (lines + writes_asked plans.now) (puts + puts_asked plans.now) →
+    // Without turns the changes of the shape wait that the calls of one caller's joined rounds make.
+    ensures waits { IfOk result (λ done. AreLoneRounds plans.now → AreJoined plans.now → HaveNoTurns plans.now →
+        (changes lines puts : ℕ) → Waits core changes (lines + writes_asked plans.now) (puts + puts_asked plans.now) →
         Waits done.core (changes + changes_made core.layout.slots (map_of_index core) (anchors_in (world core))
         done.report) lines puts) }
 {
-    if crowds(plans) == 0 {
+    if restarts(plans) == 0 {
         let LoneRounds { reports, core } = play_lone(alloc, core, plans)?;
         return Ok(PlayedRounds {
             report: Listed::of(reports),
@@ -106,7 +115,7 @@ pub fn play_rounds<R: Threads + Wait + Sync, G: Gate>(
     play_mixed(rt, alloc, core, plans, gate)
 }
 
-/// Plays rounds some of which are of several callers: the ones between two openings of the index, and so on.
+/// Plays rounds behind some of which the index is opened again: the ones between two openings, and so on.
 fn play_mixed<R: Threads + Wait + Sync, G: Gate>(
     rt: &R,
     alloc: Global,
@@ -115,11 +124,12 @@ fn play_mixed<R: Threads + Wait + Sync, G: Gate>(
     gate: &G,
 ) -> Result<PlayedRounds, NoMemory>
     requires opened { (image : Row) × IsOpenedFrom image core }
-    requires generations { IsGeneration (core.generation + crowds plans.now) }
+    requires generations { IsGeneration (core.generation + restarts plans.now) }
     requires callers { All (λ plan. All (λ a. a.caller < core.layout.callers) plan.ops) plans.now }
     requires told { All (λ plan. AreReportCalls plan.ops) plans.now }
     requires limits { All (λ plan. plan.limit ≤ 2 ^ 62) plans.now }
-    requires joined { All (λ plan. plan.crash ≡ None) plans.now }
+    requires joined { CrowdsAreJoined plans.now }
+    requires budgets { All (HasBudgets core.layout.callers) plans.now }
     requires calls { calls_in plans.now ≤ 100000 }
     ensures { IfOk result (λ done. ArePlayedOn core plans.now done.report done.core) }
 {
@@ -141,8 +151,8 @@ fn play_mixed<R: Threads + Wait + Sync, G: Gate>(
     })
 }
 
-/// Plays the rounds up to the first one of several callers and that one, or all of them, where none is. Where some are
-/// left, an image was opened as the core.
+/// Plays the rounds up to the first one behind which the index is opened again and that one, or all of them, where there
+/// is none. Where some are left, an image was opened as the core.
 fn play_segment<R: Threads + Wait + Sync, G: Gate>(
     rt: &R,
     alloc: Global,
@@ -151,35 +161,77 @@ fn play_segment<R: Threads + Wait + Sync, G: Gate>(
     gate: &G,
 ) -> Result<LoneRounds, NoMemory>
     requires opened { (image : Row) × IsOpenedFrom image core }
-    requires generations { IsGeneration (core.generation + crowds plans.now) }
+    requires generations { IsGeneration (core.generation + restarts plans.now) }
     requires callers { All (λ plan. All (λ a. a.caller < core.layout.callers) plan.ops) plans.now }
     requires told { All (λ plan. AreReportCalls plan.ops) plans.now }
     requires limits { All (λ plan. plan.limit ≤ 2 ^ 62) plans.now }
-    requires joined { All (λ plan. plan.crash ≡ None) plans.now }
+    requires joined { CrowdsAreJoined plans.now }
+    requires budgets { All (HasBudgets core.layout.callers) plans.now }
     requires calls { calls_in plans.now ≤ 100000 }
     ensures first { IfOk result (λ done. AreFirstPlayed core plans.now done.reports.items done.core) }
     ensures some { IfOk result (λ done. 0 < length plans.now → 0 < length done.reports.items) }
     ensures opened { IfOk result (λ done. length done.reports.items < length plans.now →
         (image : Row) × IsOpenedFrom image done.core) }
 {
-    let count = lone_at_first(plans);
+    let count = plain_at_first(plans);
     let LoneRounds { mut reports, core } = play_lone(alloc, core, &plans[..count])?;
     if count == plans.len() {
         return Ok(LoneRounds { reports, core });
     }
-    let Crowd { report, core } = play_crowd(rt, alloc, core, &plans[count], gate)?;
+    let Restarted { report, core } = play_restart(rt, alloc, core, &plans[count], gate)?;
     reports.push(report)?;
     Ok(LoneRounds { reports, core })
 }
 
-/// How many rounds of one caller come before the first one of several.
-fn lone_at_first(plans: &[RoundPlan]) -> usize
-    ensures { AreFirstLone plans.now result }
+/// How many rounds come before the first one behind which the index is opened again.
+fn plain_at_first(plans: &[RoundPlan]) -> usize
+    ensures { AreFirstPlain plans.now result }
 {
     for count in 0..plans.len() {
-        if is_crowd(plans[count].ops.as_slice()) {
+        if has_restart(&plans[count]) {
             return count;
         }
     }
     plans.len()
+}
+
+/// A round that was played, behind which the index was opened again: what is reported of it, and the core that the image
+/// opens as.
+#[derive(Drop)]
+struct Restarted {
+    report: RoundReport,
+    core: Core,
+}
+
+/// Plays a round behind which the index is opened again: one that a crash ends, or one of several callers.
+fn play_restart<R: Threads + Wait + Sync, G: Gate>(
+    rt: &R,
+    alloc: Global,
+    core: Core,
+    plan: &RoundPlan,
+    gate: &G,
+) -> Result<Restarted, NoMemory>
+    requires index { IsIndex core }
+    requires quiet { IsQuiet core }
+    requires stamps { HasLowStamps core }
+    requires next { IsGeneration (suc core.generation) }
+    requires callers { All (λ a. a.caller < core.layout.callers) plan.now.ops }
+    requires told { AreReportCalls plan.now.ops }
+    requires limit { plan.now.limit ≤ 2 ^ 62 }
+    requires restart { has_restart plan.now ≡ true }
+    requires joined { is_crowd plan.now.ops ≡ true → plan.now.crash ≡ None }
+    requires budgets { HasBudgets core.layout.callers plan.now }
+    requires calls { length plan.now.ops * core.layout.nodes ≤ calls_left_of core }
+    ensures { IfOk result (λ done. IsPlayedRestart core plan.now done.report done.core) }
+{
+    match &plan.crash {
+        Some(crash) => {
+            let CrashedRound { report, core } = crash_round(alloc, core, plan, crash)?;
+            Ok(Restarted { report, core })
+        }
+        None => {
+            let Crowd { report, core } = play_crowd(rt, alloc, core, plan, gate)?;
+            Ok(Restarted { report, core })
+        }
+    }
 }

@@ -2,11 +2,12 @@ use Rattle.cat_history.specs.Maps.{map_of}
 use Rattle.cat_history.specs.Replays.{pairs_of}
 use Rattle.cat_text.specs.declared.report.RoundReport.{RoundReport}
 use Rattle.std.proofs.Common.{◌≡◌, ◌<◌, ◌≤◌, ◌^◌, ℕ, List, ap, sym, ◌∙◌, subst, arith, length}
-use Rattle.std.specs.Prelude.{All, None}
+use Rattle.std.specs.Prelude.{All, None, true}
 use Rattle.std.proofs.lemmas.Result.{IfOk-weaker}
 use Rattle.cat_history.specs.declared.op.CallerOp.{CallerOp}
 use Rattle.cat_history.specs.declared.plan.RoundPlan.{RoundPlan}
-use Rattle.core_rounds.specs.LoneCalls.{AreReportCalls}
+use Rattle.core_rounds.specs.LoneCalls.{AreReportCalls, is_crowd}
+use Rattle.crowd_rounds.specs.Segments.{HasBudgets}
 use Rattle.core_rounds.specs.Summaries.{IsWithin}
 use Rattle.core_rounds.proofs.Played.{each_is_reported}
 use Rattle.catalog_cli.proofs.SeededCalls.{all-of-one, calls-are, calls-fit, calls-told, calls-within, one-plan-few, seeded, seeded-round, summed-up}
@@ -27,7 +28,16 @@ pub play_plans-requires-clause-limits : goal.play_plans-requires-clause-limits
 play_plans-requires-clause-limits g c κs lives = all-of-one (λ (p : RoundPlan). p.limit ≤ 2 ^ 62) _ c.in_ok-plan.plan c.from_ref.ensures.value (omega (arith, ap (λ (p : RoundPlan). p.limit) c.in_ok-plan.ensures))
 
 pub play_plans-requires-clause-joined : goal.play_plans-requires-clause-joined
-play_plans-requires-clause-joined g c κs lives = all-of-one (λ (p : RoundPlan). p.crash ≡ None) _ c.in_ok-plan.plan c.from_ref.ensures.value (ap (λ (p : RoundPlan). p.crash) c.in_ok-plan.ensures)
+play_plans-requires-clause-joined g c κs lives =
+    all-of-one (λ (p : RoundPlan). is_crowd p.ops ≡ true → p.crash ≡ None) _ c.in_ok-plan.plan c.from_ref.ensures.value (λ several. ap (λ (p : RoundPlan). p.crash) c.in_ok-plan.ensures)
+
+-- no crash ends the round
+pub play_plans-requires-clause-budgets : goal.play_plans-requires-clause-budgets
+play_plans-requires-clause-budgets g c κs lives =
+    all-of-one (HasBudgets c.layout.result.callers) _ c.in_ok-plan.plan c.from_ref.ensures.value (subst (HasBudgets c.layout.result.callers) (sym c.in_ok-plan.ensures) tt)
+
+pub play_plans-requires-clause-rounds : goal.play_plans-requires-clause-rounds
+play_plans-requires-clause-rounds g c κs lives = omega (arith, ap (λ (ps : List RoundPlan). length ps) c.from_ref.ensures.value)
 
 pub play_plans-requires-clause-calls : goal.play_plans-requires-clause-calls
 play_plans-requires-clause-calls g c κs lives = one-plan-few c.args.seed c.args.count c.args.callers _ c.in_ok-plan.plan c.requires.count c.in_ok-plan.ensures c.from_ref.ensures.value

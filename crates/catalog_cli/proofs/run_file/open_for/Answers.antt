@@ -1,6 +1,6 @@
 use Rattle.std.proofs.Common.{arith}
 use Rattle.std.proofs.lemmas.Result.{err_from_is_err_and}
-use Rattle.core_rounds.proofs.Crowding.{crowds_few}
+use Rattle.core_rounds.proofs.Restarting.{restarts_few}
 use Rattle.catalog_cli.proofs.RunEnds.{can-be-played, not-opened}
 use Rattle.catalog_cli.proofs.run_file.open_for.Goals as goal
 
@@ -8,9 +8,9 @@ pub overflow_add-generation : goal.overflow_add-generation
 overflow_add-generation c =
     let fits = c.in_ok-core.ensures.next.fits in
     let read = c.word-generation.ensures in
-    let counted = c.crowds.ensures in
+    let counted = c.restarts.ensures in
     let few = c.requires in
-    omega (arith, fits, read, counted, few, crowds_few c.args.plans.now)
+    omega (arith, fits, read, counted, few, restarts_few c.args.plans.now)
 
 pub returns-in_err-core-clause-refused : goal.returns-in_err-core-clause-refused
 returns-in_err-core-clause-refused c =
@@ -19,6 +19,6 @@ returns-in_err-core-clause-refused c =
 
 pub returns-clause-openable : goal.returns-clause-openable
 returns-clause-openable c =
-    let early = c.if-generation-crowds.false in
-    let counted = c.crowds.ensures in
+    let early = c.if-generation-restarts.false in
+    let counted = c.restarts.ensures in
     can-be-played c.args.image c.args.plans.now c.in_ok-core.core c.word-generation.result 16777216 c.in_ok-core.ensures c.word-generation.ensures (omega arith) (omega (arith, early, counted))

@@ -6,19 +6,20 @@ use Rattle.cat_history.specs.declared.plan.RoundPlan.{RoundPlan}
 use Rattle.pm_words.specs.declared.layout.Layout.{Layout}
 use Rattle.core_rounds.specs.LoneCalls.{calls_in}
 use Rattle.core_rounds.proofs.Played.{each_is_reported}
+use Rattle.crowd_rounds.specs.Segments.{HasBudgets}
 use Rattle.catalog_cli.specs.Reports.{IsAccepted, IsRefusedBy}
 use Rattle.catalog_cli.specs.Runs.{IsOpenable, IsPlayRefused}
-use Rattle.catalog_cli.proofs.Playable.{all-playable, some-round}
+use Rattle.catalog_cli.proofs.Playable.{all-playable, crowds-joined, some-round}
 use Rattle.catalog_cli.proofs.PlayedReports.{played-report}
 use Rattle.catalog_cli.proofs.RunEnds.{generations-left, not-accepted, run-ends}
-use Rattle.catalog_cli.proofs.ScriptCalls.{calls-of-script}
+use Rattle.catalog_cli.proofs.ScriptCalls.{calls-of-script, rounds-of-script}
 use Rattle.catalog_cli.proofs.run_file.play_on_image.Goals as goal
 
 pub open_for-requires : goal.open_for-requires
 open_for-requires g c =
     let script = c.requires in
-    let same = ap calls_in c.as_slice-plans.ensures in
-    let few = calls-of-script script.0 c.args.script.now script.1 in
+    let same = ap length c.as_slice-plans.ensures in
+    let few = rounds-of-script script.0 c.args.script.now script.1 in
     omega (arith, same, few)
 
 pub returns-in_err-core-clause-refused : goal.returns-in_err-core-clause-refused
@@ -54,9 +55,16 @@ play_rounds-requires-clause-limits g c κs lives i d within =
     (all-playable _ script.0 c.args.script.now _ (c.in_ok-accept.ensures.accepted script.0 script.1) c.as_slice-plans.ensures i d within).limit
 
 pub play_rounds-requires-clause-joined : goal.play_rounds-requires-clause-joined
-play_rounds-requires-clause-joined g c κs lives i d within =
+play_rounds-requires-clause-joined g c κs lives =
     let script = c.requires in
-    (all-playable _ script.0 c.args.script.now _ (c.in_ok-accept.ensures.accepted script.0 script.1) c.as_slice-plans.ensures i d within).joined
+    crowds-joined _ script.0 c.args.script.now _ (c.in_ok-accept.ensures.accepted script.0 script.1) c.as_slice-plans.ensures
+
+pub play_rounds-requires-clause-budgets : goal.play_rounds-requires-clause-budgets
+play_rounds-requires-clause-budgets g c κs lives =
+    let script = c.requires in
+    let accepted = c.in_ok-accept.ensures.accepted script.0 script.1 in
+    subst (λ (l : Layout). All (HasBudgets l.callers) c.as_slice-plans.result.now) (c.layout-layout.ensures.layout ∙ sym c.in_ok-core.ensures.opened.layout)
+    (λ i d within. (all-playable _ script.0 c.args.script.now _ accepted c.as_slice-plans.ensures i d within).budgets)
 
 pub play_rounds-requires-clause-calls : goal.play_rounds-requires-clause-calls
 play_rounds-requires-clause-calls g c κs lives =

@@ -1,4 +1,4 @@
-use Rattle.std.proofs.Common.{◌≡◌, ℕ, ◌+◌, ◌-◌, ◌<◌, ◌≤◌, ◌^◌, List, length, take, drop, None, sym, ap, ◌∙◌, subst, arith, All, length-append}
+use Rattle.std.proofs.Common.{◌≡◌, ℕ, ◌+◌, ◌-◌, ◌<◌, ◌≤◌, ◌^◌, List, length, take, drop, None, true, sym, ap, ◌∙◌, subst, arith, All, length-append}
 use Rattle.std.proofs.lemmas.List.{length-drop, take_all}
 use Rattle.std.proofs.lemmas.List.Elements.{All-drop}
 use Rattle.cat_history.specs.declared.op.CallerOp.{CallerOp}
@@ -6,8 +6,8 @@ use Rattle.cat_history.specs.declared.plan.RoundPlan.{RoundPlan}
 use Rattle.cat_text.specs.declared.report.RoundReport.{RoundReport}
 use Rattle.pm_words.specs.declared.layout.Layout.{Layout}
 use Rattle.version_lock.specs.Versions.{IsGeneration}
-use Rattle.core_rounds.specs.LoneCalls.{AreReportCalls, calls_in, crowds}
-use Rattle.crowd_rounds.specs.Segments.{AreFirstPlayed}
+use Rattle.core_rounds.specs.LoneCalls.{AreReportCalls, calls_in, is_crowd, restarts}
+use Rattle.crowd_rounds.specs.Segments.{AreFirstPlayed, HasBudgets}
 use Rattle.crowd_rounds.proofs.Segmenting.{all-played, calls-left, generations-left, goes-on, none-played}
 use Rattle.crowd_rounds.proofs.playing.play_mixed.Goals as goal
 
@@ -29,9 +29,9 @@ pub play_segment-requires-clause-generations : goal.play_segment-requires-clause
 play_segment-requires-clause-generations g c κs within =
     let was = c.loop-at.invariant in
     let plans = c.args.plans.now in
-    subst (λ (ps : List RoundPlan). IsGeneration (c.loop-at.core.generation + crowds ps)) (sym (rest plans c.loop-at.at))
+    subst (λ (ps : List RoundPlan). IsGeneration (c.loop-at.core.generation + restarts ps)) (sym (rest plans c.loop-at.at))
     (generations-left c.args.core.generation c.loop-at.core.generation plans c.loop-at.at c.requires.generations
-    (was.first.generation ∙ ap (λ (k : ℕ). c.args.core.generation + crowds (take k plans)) (sym was.many)))
+    (was.first.generation ∙ ap (λ (k : ℕ). c.args.core.generation + restarts (take k plans)) (sym was.many)))
 
 pub play_segment-requires-clause-callers : goal.play_segment-requires-clause-callers
 play_segment-requires-clause-callers g c κs within =
@@ -45,7 +45,12 @@ pub play_segment-requires-clause-limits : goal.play_segment-requires-clause-limi
 play_segment-requires-clause-limits g c κs within = of-rest (λ (p : RoundPlan). p.limit ≤ 2 ^ 62) c.args.plans.now c.loop-at.at c.requires.limits
 
 pub play_segment-requires-clause-joined : goal.play_segment-requires-clause-joined
-play_segment-requires-clause-joined g c κs within = of-rest (λ (p : RoundPlan). p.crash ≡ None) c.args.plans.now c.loop-at.at c.requires.joined
+play_segment-requires-clause-joined g c κs within = of-rest (λ (p : RoundPlan). is_crowd p.ops ≡ true → p.crash ≡ None) c.args.plans.now c.loop-at.at c.requires.joined
+
+pub play_segment-requires-clause-budgets : goal.play_segment-requires-clause-budgets
+play_segment-requires-clause-budgets g c κs within =
+    of-rest (HasBudgets c.loop-at.core.layout.callers) c.args.plans.now c.loop-at.at
+    (subst (λ (l : Layout). All (HasBudgets l.callers) c.args.plans.now) (sym c.loop-at.invariant.first.layout) c.requires.budgets)
 
 pub play_segment-requires-clause-calls : goal.play_segment-requires-clause-calls
 play_segment-requires-clause-calls g c κs within =

@@ -1,5 +1,6 @@
 use Rattle.std.proofs.Common.{◌≡◌, ℕ, ◌+◌, ◌/◌, ◌≤◌, List, [], ◌∷◌, sym, ap, subst, arith}
 use Rattle.std.proofs.lemmas.Result.{IfOk-weaker}
+use Rattle.std.specs.Prelude.{All}
 use Rattle.std.specs.FinMap.{empty, len, len-empty}
 use Rattle.cat_key.specs.Names.{name_cmp}
 use Rattle.cat_history.specs.Maps.{Map}
@@ -11,17 +12,18 @@ use Rattle.version_lock.specs.Versions.{IsGeneration}
 use Rattle.index_law.specs.Anchors.{anchors_in}
 use Rattle.index_core.specs.Indexes.{Index, map_of_index, world}
 use Rattle.index_core.specs.Weights.{weight_of}
-use Rattle.core_rounds.specs.LoneCalls.{crowds}
+use Rattle.core_rounds.specs.LoneCalls.{restarts}
 use Rattle.core_rounds.specs.Rounds.{ArePlayed}
-use Rattle.core_rounds.proofs.Crowding.{crowds_few}
+use Rattle.core_rounds.proofs.Restarting.{restarts_few}
 use Rattle.core_rounds.proofs.Played.{more_pays}
+use Rattle.crowd_rounds.specs.Segments.{HasBudgets}
 use Rattle.crowd_rounds.proofs.playing.play_plans.Goals as goal
 
--- there are more generations than calls
+-- there are more generations than rounds
 pub play_rounds-requires-clause-generations : goal.play_rounds-requires-clause-generations
 play_rounds-requires-clause-generations g c κs within =
-    let few = crowds_few c.args.plans.now in
-    subst (λ (n : ℕ). IsGeneration (n + crowds c.args.plans.now)) (sym c.in_ok-core.ensures.generation) (record { least = omega arith; fits = omega (arith, few, c.requires.calls) })
+    let few = restarts_few c.args.plans.now in
+    subst (λ (n : ℕ). IsGeneration (n + restarts c.args.plans.now)) (sym c.in_ok-core.ensures.generation) (record { least = omega arith; fits = omega (arith, few, c.requires.rounds) })
 
 -- what is played on the core of a fresh image is played from an empty catalogue
 from-empty : (l : Layout) (s : Index) (plans : List RoundPlan) (reports : List RoundReport) (end : Map) (shape : Anchors) → s.layout ≡ l → map_of_index s ≡ empty → anchors_in (world s) ≡ [] ∷ [] →
@@ -42,3 +44,7 @@ returns-clause-played g c =
     IfOk-weaker c.play_rounds.result _ _
     (λ done played. from-empty c.args.layout.now c.in_ok-core.core c.args.plans.now done.report (map_of_index done.core) (anchors_in (world done.core)) fresh.opened.layout fresh.empty fresh.anchors
     fresh.weighs played) c.play_rounds.ensures.played
+
+pub play_rounds-requires-clause-budgets : goal.play_rounds-requires-clause-budgets
+play_rounds-requires-clause-budgets g c κs within =
+    subst (λ (l : Layout). All (HasBudgets l.callers) c.args.plans.now) (sym c.in_ok-core.ensures.opened.layout) c.requires.budgets

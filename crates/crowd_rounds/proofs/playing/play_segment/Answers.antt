@@ -1,15 +1,20 @@
-use Rattle.std.proofs.Common.{ℕ, suc, ◌<◌, length, take, sym, subst, arith, All}
+use Rattle.std.proofs.Common.{◌≡◌, ℕ, suc, ◌*◌, ◌^◌, ◌<◌, ◌≤◌, length, take, sym, ap, ◌∙◌, subst, arith, All}
+use Rattle.std.specs.Prelude.{None, true}
+use Rattle.std.proofs.lemmas.List.Elements.{All-take}
 use Rattle.cat_history.specs.declared.op.CallerOp.{CallerOp}
 use Rattle.cat_history.specs.declared.plan.RoundPlan.{RoundPlan}
 use Rattle.pm_words.specs.declared.layout.Layout.{Layout}
 use Rattle.version_lock.specs.Versions.{IsGeneration}
-use Rattle.core_rounds.specs.LoneCalls.{AreReportCalls}
-use Rattle.crowd_rounds.proofs.Segmenting.{LoneDone, as-many, lone-first, lone-then-crowd, next-there}
+use Rattle.core_rounds.proofs.Restarting.{joined_lone_have_no_restart}
+use Rattle.core_rounds.specs.CoreMaps.{calls_left_of}
+use Rattle.core_rounds.specs.LoneCalls.{AreReportCalls, has_restart, is_crowd}
+use Rattle.crowd_rounds.specs.Segments.{HasBudgets}
+use Rattle.crowd_rounds.proofs.Segmenting.{LoneDone, as-many, calls-before, next-there, plain-first, plain-then-restart}
 use Rattle.crowd_rounds.proofs.playing.play_segment.Goals.{Then-count-plans, After-index-plans-count, In_ok-push}
 use Rattle.crowd_rounds.proofs.playing.play_segment.Goals as goal
 
--- the rounds of one caller, where they are all, and where one of several is behind them
-all-done : (g : _) (c : Then-count-plans g) → LoneDone c.args.core (take c.lone_at_first-count.result c.args.plans.now) c.in_ok-reports.field-0.reports.items c.in_ok-reports.field-0.core
+-- the joined rounds of one caller, where they are all, and where one more is behind them
+all-done : (g : _) (c : Then-count-plans g) → LoneDone c.args.core (take c.plain_at_first-count.result c.args.plans.now) c.in_ok-reports.field-0.reports.items c.in_ok-reports.field-0.core
 all-done g c =
     let told = c.in_ok-reports.ensures in
     record {
@@ -24,7 +29,7 @@ all-done g c =
       settled = told.settled;
     }
 
-first-done : (g : _) (c : In_ok-push g) → LoneDone c.args.core (take c.lone_at_first-count.result c.args.plans.now) c.in_ok-reports.field-0.reports.items c.in_ok-reports.field-0.core
+first-done : (g : _) (c : In_ok-push g) → LoneDone c.args.core (take c.plain_at_first-count.result c.args.plans.now) c.in_ok-reports.field-0.reports.items c.in_ok-reports.field-0.core
 first-done g c =
     let told = c.in_ok-reports.ensures in
     record {
@@ -39,43 +44,78 @@ first-done g c =
       settled = told.settled;
     }
 
+-- they are of one caller each, and joined
+pub play_lone-requires-clause-lone : goal.play_lone-requires-clause-lone
+play_lone-requires-clause-lone g c = ((joined_lone_have_no_restart (take c.plain_at_first-count.result c.args.plans.now)).1 c.plain_at_first-count.ensures.none).0
+
+pub play_lone-requires-clause-joined : goal.play_lone-requires-clause-joined
+play_lone-requires-clause-joined g c = ((joined_lone_have_no_restart (take c.plain_at_first-count.result c.args.plans.now)).1 c.plain_at_first-count.ensures.none).1
+
+pub play_lone-requires-clause-callers : goal.play_lone-requires-clause-callers
+play_lone-requires-clause-callers g c = All-take (λ (p : RoundPlan). All (λ (a : CallerOp). a.caller < c.args.core.layout.callers) p.ops) c.plain_at_first-count.result c.args.plans.now c.requires.callers
+
+pub play_lone-requires-clause-told : goal.play_lone-requires-clause-told
+play_lone-requires-clause-told g c = All-take (λ (p : RoundPlan). AreReportCalls p.ops) c.plain_at_first-count.result c.args.plans.now c.requires.told
+
 pub returns-then-count-plans-clause-first : goal.returns-then-count-plans-clause-first
 returns-then-count-plans-clause-first g c =
-    lone-first c.args.core c.in_ok-reports.field-0.core c.args.plans.now c.lone_at_first-count.result c.in_ok-reports.field-0.reports.items (all-done g c) c.lone_at_first-count.ensures
+    plain-first c.args.core c.in_ok-reports.field-0.core c.args.plans.now c.plain_at_first-count.result c.in_ok-reports.field-0.reports.items (all-done g c) c.plain_at_first-count.ensures
 
 pub returns-then-count-plans-clause-some : goal.returns-then-count-plans-clause-some
 returns-then-count-plans-clause-some g c some =
-    let many = as-many c.args.core c.in_ok-reports.field-0.core c.args.plans.now c.lone_at_first-count.result c.in_ok-reports.field-0.reports.items (all-done g c) c.lone_at_first-count.ensures.few in
+    let many = as-many c.args.core c.in_ok-reports.field-0.core c.args.plans.now c.plain_at_first-count.result c.in_ok-reports.field-0.reports.items (all-done g c) c.plain_at_first-count.ensures.few in
     omega (arith, many, some, c.if-count-plans.true)
 
 pub returns-then-count-plans-clause-opened : goal.returns-then-count-plans-clause-opened
 returns-then-count-plans-clause-opened g c less =
-    let many = as-many c.args.core c.in_ok-reports.field-0.core c.args.plans.now c.lone_at_first-count.result c.in_ok-reports.field-0.reports.items (all-done g c) c.lone_at_first-count.ensures.few in
+    let many = as-many c.args.core c.in_ok-reports.field-0.core c.args.plans.now c.plain_at_first-count.result c.in_ok-reports.field-0.reports.items (all-done g c) c.plain_at_first-count.ensures.few in
     absurd (omega (arith, many, less, c.if-count-plans.true))
 
 -- some are left
-fewer : (g : _) (c : After-index-plans-count g) → c.lone_at_first-count.result < length c.args.plans.now
-fewer g c = let few = c.lone_at_first-count.ensures.few in let other = c.if-count-plans.false in omega (arith, few, other)
+fewer : (g : _) (c : After-index-plans-count g) → c.plain_at_first-count.result < length c.args.plans.now
+fewer g c = let few = c.plain_at_first-count.ensures.few in let other = c.if-count-plans.false in omega (arith, few, other)
 
-pub play_crowd-requires-clause-next : goal.play_crowd-requires-clause-next
-play_crowd-requires-clause-next g c κs within =
+pub play_restart-requires-clause-next : goal.play_restart-requires-clause-next
+play_restart-requires-clause-next g c κs within =
     subst (λ (n : ℕ). IsGeneration (suc n)) (sym c.in_ok-reports.ensures.generation)
-    (next-there c.args.core.generation c.args.plans.now c.lone_at_first-count.result c.requires.generations c.lone_at_first-count.ensures (fewer g c) c.index-plans-count.result)
+    (next-there c.args.core.generation c.args.plans.now c.plain_at_first-count.result c.requires.generations c.plain_at_first-count.ensures (fewer g c) c.index-plans-count.result)
 
-pub play_crowd-requires-clause-callers : goal.play_crowd-requires-clause-callers
-play_crowd-requires-clause-callers g c κs within =
+pub play_restart-requires-clause-callers : goal.play_restart-requires-clause-callers
+play_restart-requires-clause-callers g c κs within =
     subst (λ (l : Layout). All (λ (a : CallerOp). a.caller < l.callers) c.index-plans-count.result.ops) (sym c.in_ok-reports.ensures.layout)
     (subst (λ (p : RoundPlan). All (λ (a : CallerOp). a.caller < c.args.core.layout.callers) p.ops) (sym c.index-plans-count.is)
-    (c.requires.callers c.lone_at_first-count.result c.index-plans-count.result (fewer g c)))
+    (c.requires.callers c.plain_at_first-count.result c.index-plans-count.result (fewer g c)))
 
-pub play_crowd-requires-clause-told : goal.play_crowd-requires-clause-told
-play_crowd-requires-clause-told g c κs within =
-    subst (λ (p : RoundPlan). AreReportCalls p.ops) (sym c.index-plans-count.is) (c.requires.told c.lone_at_first-count.result c.index-plans-count.result (fewer g c))
+pub play_restart-requires-clause-told : goal.play_restart-requires-clause-told
+play_restart-requires-clause-told g c κs within =
+    subst (λ (p : RoundPlan). AreReportCalls p.ops) (sym c.index-plans-count.is) (c.requires.told c.plain_at_first-count.result c.index-plans-count.result (fewer g c))
+
+pub play_restart-requires-clause-limit : goal.play_restart-requires-clause-limit
+play_restart-requires-clause-limit g c κs within =
+    subst (λ (p : RoundPlan). p.limit ≤ 2 ^ 62) (sym c.index-plans-count.is) (c.requires.limits c.plain_at_first-count.result c.index-plans-count.result (fewer g c))
+
+pub play_restart-requires-clause-restart : goal.play_restart-requires-clause-restart
+play_restart-requires-clause-restart g c κs within = ap has_restart c.index-plans-count.is ∙ c.plain_at_first-count.ensures.next c.index-plans-count.result (fewer g c)
+
+pub play_restart-requires-clause-joined : goal.play_restart-requires-clause-joined
+play_restart-requires-clause-joined g c κs within =
+    subst (λ (p : RoundPlan). is_crowd p.ops ≡ true → p.crash ≡ None) (sym c.index-plans-count.is) (c.requires.joined c.plain_at_first-count.result c.index-plans-count.result (fewer g c))
+
+pub play_restart-requires-clause-budgets : goal.play_restart-requires-clause-budgets
+play_restart-requires-clause-budgets g c κs within =
+    subst (λ (l : Layout). HasBudgets l.callers c.index-plans-count.result) (sym c.in_ok-reports.ensures.layout)
+    (subst (HasBudgets c.args.core.layout.callers) (sym c.index-plans-count.is) (c.requires.budgets c.plain_at_first-count.result c.index-plans-count.result (fewer g c)))
+
+pub play_restart-requires-clause-calls : goal.play_restart-requires-clause-calls
+play_restart-requires-clause-calls g c κs within =
+    let few = calls-before c.args.plans.now c.plain_at_first-count.result c.index-plans-count.result (fewer g c) c.index-plans-count.is in
+    subst (λ (l : Layout). length c.index-plans-count.result.ops * l.nodes ≤ calls_left_of c.in_ok-reports.field-0.core) (sym c.in_ok-reports.ensures.layout)
+    (c.in_ok-reports.ensures.calls_left (length c.index-plans-count.result.ops) (omega (arith, few, c.requires.calls)))
 
 pub returns-clause-first : goal.returns-clause-first
 returns-clause-first g c =
-    let few = c.lone_at_first-count.ensures.few in
+    let few = c.plain_at_first-count.ensures.few in
     let other = c.if-count-plans.false in
-    lone-then-crowd c.args.core c.in_ok-reports.field-0.core c.in_ok-report.field-0.core c.args.plans.now c.lone_at_first-count.result c.in_ok-reports.field-0.reports.items c.push.new.self.items
-    c.index-plans-count.result c.in_ok-report.field-0.report (first-done g c) c.lone_at_first-count.ensures (omega (arith, few, other)) c.index-plans-count.is c.in_ok-report.ensures
+    plain-then-restart c.args.core c.in_ok-reports.field-0.core c.in_ok-report.field-0.core c.args.plans.now c.plain_at_first-count.result c.in_ok-reports.field-0.reports.items c.push.new.self.items
+    c.index-plans-count.result c.in_ok-report.field-0.report (first-done g c) c.plain_at_first-count.ensures (omega (arith, few, other)) c.index-plans-count.is c.in_ok-report.ensures
     c.in_ok-push.ensures.items
