@@ -1,0 +1,16 @@
+pub mod Spans
+pub mod Reach
+pub mod TreeLaw
+pub mod FloorLaw
+pub mod Avoiding
+pub mod SwitchLaw
+pub mod SwitchKinds
+pub mod OtherLaw
+pub mod RoomLaw
+pub mod WordLaw
+pub mod PathLaw
+pub mod StageLaw
+pub mod WalkLaw
+pub mod FreshLaw
+pub mod ChangeLaw
+pub mod LeafLaw

@@ -1,0 +1,11 @@
+pub mod Trees
+pub mod Floors
+pub mod FloorWalks
+pub mod Switches
+pub mod Rooms
+pub mod Words
+pub mod Paths
+pub mod Stages
+pub mod Fresh
+pub mod Changes
+pub mod Leaves
