@@ -1,6 +1,6 @@
-mod Powers
-mod EntryForms
-mod IndexForm
+pub mod Powers
+pub mod EntryForms
+pub mod IndexForm
 mod CellWords
 mod Heads
 mod Lookups

@@ -92,8 +92,8 @@ fn unit(at: u64) -> u64
     1 << (8 * at)
 }
 
-/// The byte at this place of a word.
-fn byte_in(word: u64, at: u64) -> u64
+/// The byte at this place of a word, counted from the lowest.
+pub fn byte_in(word: u64, at: u64) -> u64
     requires { at < 8 }
     ensures { result ≡ byte_in word at }
 {

@@ -28,7 +28,7 @@ pub mod laws;
 mod lookup;
 mod making;
 
-pub use cell::{Branch, CELL_WORDS, Cell, CellStore};
+pub use cell::{Branch, CELL_WORDS, Cell, CellStore, byte_in};
 pub use changes::{Added, Removed, add, remove};
 pub use fill_cell::FillCell;
 pub use fill_leaf::FillLeaf;

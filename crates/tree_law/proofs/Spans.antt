@@ -37,6 +37,10 @@ span_times n m le most =
     let split : key_bytes - n ≡ (m - n) + (key_bytes - m) = omega arith in
     span_is n ∙ ap (λ k. 256 ^ k) split ∙ pow-add 256 (m - n) (key_bytes - m) ∙ ap (λ k. 256 ^ (m - n) * k) (sym (span_is m))
 
+pub times_next : (n m : ℕ) → n ≤ m → times n (m + 1) ≡ 256 ^ (m - n) * 256
+unfolding times
+times_next n m le = ap (λ k. 256 ^ k) (let is : m + 1 - n ≡ suc (m - n) = omega arith in is) ∙ pow-suc 256 (m - n)
+
 pub first_is : (n key : ℕ) → first_bytes n key ≡ key / span n
 unfolding first_bytes
 first_is n key = refl

@@ -40,7 +40,7 @@ pub cell_apart : (x y o o' : ℕ) → x ≢ y → CellWord (kind_of y) (number_o
 cell_apart x y o o' apart e = apart (same_reference x y (let kind : kind_of x ≡ kind_of y = cc in kind) (let number : number_of x ≡ number_of y = cc in number))
 
 -- keys with the same words have one number
-words_alike : (words : ℕ) (a b : KeyWords) → ((k : ℕ) → k < words → a k ≡ b k) → number_of_words words a ≡ number_of_words words b
+pub words_alike : (words : ℕ) (a b : KeyWords) → ((k : ℕ) → k < words → a k ≡ b k) → number_of_words words a ≡ number_of_words words b
 words_alike zero a b same = refl
 words_alike (suc words) a b same = ap₂ (λ n k. n * 2 ^ 64 + k) (words_alike words a b (λ k lt. same k (omega arith))) (same words (omega arith))
 

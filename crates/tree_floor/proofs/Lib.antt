@@ -1,0 +1,7 @@
+pub mod ScanLaw
+pub mod ScanExact
+pub mod KeyNumbers
+pub mod KeyWords
+pub mod FloorStays
+pub mod FloorLoads
+pub mod FloorExact

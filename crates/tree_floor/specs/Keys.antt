@@ -1,0 +1,26 @@
+-- Keys by their words and by their number.
+use Rattle.std.specs.Prelude.{◌≡◌, ℕ, ◌*◌, ◌^◌, ◌<◌, List, length, slice_index}
+use Rattle.cat_key.specs.declared.TheConstants.{WORDS}
+use Rattle.radix_nodes.specs.Keys.{KeyWords, key_bytes, key_byte_of, IsPrefixOf}
+use Rattle.tree_law.specs.Trees.{span, first_bytes, byte_at}
+use Rattle.tree_law.specs.Words.{number_of_key}
+
+-- the number of a key that is held as a list of words
+abbrev pub number_in : List ℕ → ℕ
+number_in words = number_of_key (slice_index words)
+
+-- as many words as a key has, each of 64 bits
+pub record IsKey (words : List ℕ) : Type 0 where
+  pub whole : length words ≡ WORDS
+  pub fits : (k : ℕ) → slice_index words k < 2 ^ 64
+
+-- A byte of a key is that of its number.
+abbrev pub ByteIsOfNumber : Type 0
+ByteIsOfNumber = (key : KeyWords) (at : ℕ) → ((k : ℕ) → key k < 2 ^ 64) → at < key_bytes →
+    key_byte_of key at ≡ byte_at at (number_of_key key)
+
+-- The first bytes of a key with zeros behind them are those of its number.
+abbrev pub PrefixIsOfNumber : Type 0
+PrefixIsOfNumber = (depth : ℕ) (key prefix : KeyWords) → ((k : ℕ) → key k < 2 ^ 64) → ((k : ℕ) → prefix k < 2 ^ 64) →
+    depth < key_bytes → IsPrefixOf depth key prefix →
+    number_of_key prefix ≡ first_bytes depth (number_of_key key) * span depth

@@ -1,0 +1,5 @@
+pub mod Scans
+pub mod ScanLaws
+pub mod Keys
+pub mod Floors
+pub mod Advances

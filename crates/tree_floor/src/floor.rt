@@ -1,0 +1,418 @@
+//! The floor of a key, from the root of the tree down.
+
+ghost use Rattle.std.specs.Prelude.{◌≡◌, ◌==◌, ◌*◌, ◌<◌, nat_le};
+ghost use Rattle.pm_words.specs.Layouts.{IsLayout};
+ghost use Rattle.pm_words.specs.Locations.{Cell, word_number, image_words, kind_words};
+ghost use Rattle.radix_nodes.specs.Keys.{key_bytes};
+ghost use Rattle.tree_law.specs.Trees.{span, first_bytes, byte_at};
+ghost use Rattle.tree_law.specs.FloorWalks.{node_told};
+ghost use Rattle.tree_floor.specs.Keys.{number_in};
+ghost use Rattle.tree_law.specs.Words.{kind_of, number_of};
+ghost use Rattle.tree_floor.specs.Floors.{IsCellOf};
+
+use crate::scan::{BYTES, Scan, Scanned};
+use cat_key::WORDS;
+use pm_words::{Action, Layout, Machine, Turn};
+use radix_nodes::{KEY_BYTES, Key, key_byte, prefix_of};
+
+/// What one kind of references stands above the next.
+const KIND: u64 = 1 << 16;
+
+/// The number of the root's word among those of an image.
+const ROOT: u64 = 8;
+
+/// How many words of a name there are, as an offset.
+const KEY_WORDS: u64 = WORDS as u64;
+
+/// Reads the tree from its root, and answers the node of the greatest key that is at most its own, or 0 where no key
+/// is. It takes no lock; beside a writer it answers some node.
+///
+/// `other` is the reference under the greatest byte below its key's, of the deepest cell that has one, or 0. There it
+/// turns back to, where all keys that it comes to are greater than its own.
+#[derive(Clone, Copy)]
+pub struct Floor {
+    pub layout: Layout,
+    pub key: Key,
+    pub other: u64,
+    /// How deep the other is at least.
+    pub other_least: u64,
+    /// How deep what it comes to is at least.
+    pub least: u64,
+    /// All keys that it comes to are at most its own: it wants the last one.
+    pub last: bool,
+    pub at: FloorAt,
+}
+
+/// The word that it reads next, and what it has read of the leaf or the cell.
+#[derive(Clone, Copy)]
+pub enum FloorAt {
+    Root,
+    /// A word of a leaf's key, and the words before it.
+    Key {
+        leaf: u64,
+        words: Key,
+        word: u64,
+    },
+    /// The node word of a leaf that it answers.
+    Node {
+        leaf: u64,
+    },
+    Depth {
+        cell: u64,
+    },
+    /// A word of a cell's prefix, and the words before it.
+    Prefix {
+        cell: u64,
+        depth: u64,
+        words: Key,
+        word: u64,
+    },
+    /// A word of a cell, of the scan for this byte.
+    Scanning {
+        cell: u64,
+        depth: u64,
+        byte: u64,
+        scan: Scan,
+    },
+}
+
+impl Machine for Floor {
+    ghost use Rattle.tree_floor.specs.Floors.{IsFloor, floor_asks, floor_turned, floor_takes, floor_left};
+
+    type Answer = u64;
+
+    ghost fits = { IsFloor };
+
+    ghost asks = { floor_asks };
+
+    ghost turned = { floor_turned };
+
+    ghost takes = { floor_takes };
+
+    ghost left = { floor_left };
+
+    fn action(&self) -> Action {
+        let layout = self.layout;
+        let word = match self.at {
+            FloorAt::Root => ROOT,
+            FloorAt::Key { leaf, word, .. } => layout.leaf_word(leaf, word),
+            FloorAt::Node { leaf } => layout.leaf_word(leaf, KEY_WORDS),
+            FloorAt::Depth { cell } => word_of(layout, cell, 0),
+            FloorAt::Prefix { cell, word, .. } => word_of(layout, cell, 1 + word),
+            FloorAt::Scanning {
+                cell,
+                byte,
+                scan,
+                ..
+            } => word_of(layout, cell, scan.offset(cell / KIND, byte)),
+        };
+        Action::Load(layout.cached(word))
+    }
+
+    fn resume(self, got: u64) -> Turn<Floor, u64> {
+        let mut next = self;
+        match next.advance(got) {
+            None => Turn::Go(next),
+            Some(node) => Turn::Done(node),
+        }
+    }
+}
+
+impl Floor {
+    ghost use Rattle.std.specs.Prelude.{◌≡◌, ◌<◌, ◌+◌, slice_set};
+    ghost use Rattle.cat_key.specs.declared.TheConstants.{WORDS};
+    ghost use Rattle.radix_nodes.specs.Keys.{key_bytes};
+    ghost use Rattle.pm_words.specs.Layouts.{IsLayout};
+    ghost use Rattle.tree_floor.specs.Advances.{AdvancesTo};
+    ghost use Rattle.tree_floor.specs.Floors.{IsFloor, IsCellOf, floor_starts, floor_takes, floor_turned};
+    ghost use Rattle.tree_floor.specs.Floors.{goes_to, lands, back, enters, scans, has_key, has_key_word, has_depth};
+    ghost use Rattle.tree_floor.specs.Floors.{has_prefix, has_prefix_word, has_scanned};
+
+    /// The floor of this key.
+    pub fn new(layout: Layout, key: Key) -> Floor
+        requires { IsLayout layout }
+        ensures start { result ≡ floor_starts layout key }
+        ensures sound { IsFloor result }
+    {
+        Floor {
+            layout,
+            key,
+            other: 0,
+            other_least: 0,
+            least: 0,
+            last: false,
+            at: FloorAt::Root,
+        }
+    }
+
+    /// Tells it in place the word that it asked for. It goes on, or is done where there is an answer.
+    pub fn advance(&mut self, got: u64) -> Option<u64>
+        requires { floor_takes self.old got }
+        ensures { AdvancesTo (floor_turned self.old got) self.new result }
+    {
+        match self.at {
+            FloorAt::Root => self.enters(got),
+            FloorAt::Key { leaf, words, word } => {
+                let mut words = words;
+                words[word as usize] = got;
+                self.has_key_word(leaf, words, word + 1)
+            }
+            FloorAt::Node { .. } => Some(node_told(self.layout.nodes(), got)),
+            FloorAt::Depth { cell } => self.has_depth(cell, got),
+            FloorAt::Prefix {
+                cell,
+                depth,
+                words,
+                word,
+            } => {
+                let mut words = words;
+                words[word as usize] = got;
+                self.has_prefix_word(cell, depth, words, word + 1)
+            }
+            FloorAt::Scanning {
+                cell,
+                depth,
+                byte,
+                scan,
+            } => self.has_scanned(cell, depth, byte, scan.told(cell / KIND, byte, got)),
+        }
+    }
+
+    fn goes_to(&mut self, at: FloorAt) -> Option<u64>
+        ensures { AdvancesTo (goes_to self.old at) self.new result }
+    {
+        self.at = at;
+        None
+    }
+
+    /// It comes to a reference that isn't 0.
+    fn lands(&mut self, reference: u64) -> Option<u64>
+        requires { IsLayout self.old.layout }
+        ensures { AdvancesTo (lands self.old reference) self.new result }
+    {
+        let kind = reference / KIND;
+        let number = reference % KIND;
+        if number >= self.layout.nodes() + 4 {
+            return Some(0);
+        }
+        if kind == 1 {
+            let at = if self.last {
+                FloorAt::Node { leaf: number }
+            } else {
+                FloorAt::Key {
+                    leaf: number,
+                    words: [0; WORDS],
+                    word: 0,
+                }
+            };
+            return self.goes_to(at);
+        }
+        if 2 <= kind && kind <= 5 {
+            return self.goes_to(FloorAt::Depth { cell: reference });
+        }
+        Some(0)
+    }
+
+    /// All keys here are greater: it goes to the other reference, and wants the last leaf there.
+    fn back(&mut self) -> Option<u64>
+        requires { IsLayout self.old.layout }
+        ensures { AdvancesTo (back self.old) self.new result }
+    {
+        if self.last || self.other == 0 {
+            return Some(0);
+        }
+        let other = self.other;
+        self.other = 0;
+        self.least = self.other_least;
+        self.other_least = 0;
+        self.last = true;
+        self.lands(other)
+    }
+
+    /// It comes to a reference.
+    fn enters(&mut self, reference: u64) -> Option<u64>
+        requires { IsLayout self.old.layout }
+        ensures { AdvancesTo (enters self.old reference) self.new result }
+    {
+        if reference == 0 {
+            return self.back();
+        }
+        self.lands(reference)
+    }
+
+    /// It has read so many words of a leaf's key.
+    fn has_key_word(&mut self, leaf: u64, words: Key, count: u64) -> Option<u64>
+        requires { IsLayout self.old.layout }
+        ensures { AdvancesTo (has_key_word self.old leaf words count) self.new result }
+    {
+        if count == KEY_WORDS {
+            return self.has_key(leaf, words);
+        }
+        self.goes_to(FloorAt::Key {
+            leaf,
+            words,
+            word: count,
+        })
+    }
+
+    fn has_key(&mut self, leaf: u64, key: Key) -> Option<u64>
+        requires { IsLayout self.old.layout }
+        ensures { AdvancesTo (has_key self.old leaf key) self.new result }
+    {
+        if is_at_most(key, self.key) {
+            return self.goes_to(FloorAt::Node { leaf });
+        }
+        self.back()
+    }
+
+    fn scans(&mut self, cell: u64, depth: u64, byte: u64) -> Option<u64>
+        requires { IsCellOf self.old.layout cell }
+        ensures { AdvancesTo (scans self.old cell depth byte) self.new result }
+    {
+        let scan = Scan::of(cell / KIND, byte);
+        self.goes_to(FloorAt::Scanning {
+            cell,
+            depth,
+            byte,
+            scan,
+        })
+    }
+
+    /// It has read the depth of a cell.
+    fn has_depth(&mut self, cell: u64, depth: u64) -> Option<u64>
+        requires { IsCellOf self.old.layout cell }
+        ensures { AdvancesTo (has_depth self.old cell depth) self.new result }
+    {
+        if depth < self.least || KEY_BYTES <= depth {
+            return Some(0);
+        }
+        if self.last {
+            return self.scans(cell, depth, BYTES);
+        }
+        self.goes_to(FloorAt::Prefix {
+            cell,
+            depth,
+            words: [0; WORDS],
+            word: 0,
+        })
+    }
+
+    /// It has read so many words of a cell's prefix.
+    fn has_prefix_word(&mut self, cell: u64, depth: u64, words: Key, count: u64) -> Option<u64>
+        requires layout { IsLayout self.old.layout }
+        requires cell { IsCellOf self.old.layout cell }
+        requires depth { depth < key_bytes }
+        ensures { AdvancesTo (has_prefix_word self.old cell depth words count) self.new result }
+    {
+        if count == KEY_WORDS {
+            return self.has_prefix(cell, depth, words);
+        }
+        self.goes_to(FloorAt::Prefix {
+            cell,
+            depth,
+            words,
+            word: count,
+        })
+    }
+
+    /// A greater prefix: all keys there are greater. Its own key's: it goes on by the next byte. Else all are less.
+    fn has_prefix(&mut self, cell: u64, depth: u64, prefix: Key) -> Option<u64>
+        requires layout { IsLayout self.old.layout }
+        requires cell { IsCellOf self.old.layout cell }
+        requires depth { depth < key_bytes }
+        ensures { AdvancesTo (has_prefix self.old cell depth prefix) self.new result }
+    {
+        if !is_at_most(prefix, self.key) {
+            return self.back();
+        }
+        if is_prefix(prefix, depth, self.key) {
+            let byte = byte_of(self.key, depth);
+            return self.scans(cell, depth, byte);
+        }
+        self.other = 0;
+        self.other_least = 0;
+        self.last = true;
+        self.scans(cell, depth, BYTES)
+    }
+
+    /// It has read more of a cell.
+    fn has_scanned(&mut self, cell: u64, depth: u64, byte: u64, scanned: Scanned) -> Option<u64>
+        requires layout { IsLayout self.old.layout }
+        requires depth { depth < key_bytes }
+        ensures { AdvancesTo (has_scanned self.old cell depth byte scanned) self.new result }
+    {
+        match scanned {
+            Scanned::More(scan) => self.goes_to(FloorAt::Scanning {
+                cell,
+                depth,
+                byte,
+                scan,
+            }),
+            Scanned::Found { child, below } => {
+                self.least = depth + 1;
+                if self.last {
+                    self.other = 0;
+                    self.other_least = 0;
+                    return self.enters(below);
+                }
+                if below != 0 {
+                    self.other = below;
+                    self.other_least = depth + 1;
+                }
+                self.enters(child)
+            }
+        }
+    }
+}
+
+/// A cell's word, as an image word.
+fn word_of(layout: Layout, cell: u64, offset: u64) -> u64
+    requires layout { IsLayout layout }
+    requires cell { IsCellOf layout cell }
+    requires offset { offset < kind_words (kind_of cell) }
+    ensures word { result ≡ word_number layout (Cell (kind_of cell) (number_of cell) offset) }
+    ensures within { result < image_words layout }
+{
+    layout.cell_word(cell / KIND, cell % KIND, offset)
+}
+
+/// The node to which a node word leads, or node 0 where it leads to none.
+fn node_told(nodes: u64, word: u64) -> u64
+    ensures { result ≡ node_told nodes word }
+{
+    if word == 0 || nodes < word {
+        0
+    } else {
+        word - 1
+    }
+}
+
+/// Whether the one key is at most the other.
+fn is_at_most(low: Key, high: Key) -> bool
+    ensures { result ≡ nat_le (number_in low) (number_in high) }
+{
+    low <= high
+}
+
+/// Whether these are the first so many bytes of a key, with zeros behind them.
+fn is_prefix(prefix: Key, depth: u64, key: Key) -> bool
+    requires { depth < key_bytes }
+    ensures { result ≡ (first_bytes depth (number_in key) * span depth == number_in prefix) }
+{
+    is_same(prefix_of(&key, depth), prefix)
+}
+
+/// Whether they are one key.
+fn is_same(one: Key, other: Key) -> bool
+    ensures { result ≡ (number_in one == number_in other) }
+{
+    one == other
+}
+
+/// The byte of a key behind so many.
+fn byte_of(key: Key, depth: u64) -> u64
+    requires { depth < key_bytes }
+    ensures { result ≡ byte_at depth (number_in key) }
+{
+    key_byte(&key, depth) as u64
+}
