@@ -56,7 +56,7 @@ byte_is_of_number key at fits lt =
 
 -- Numbers of keys are told by their bytes.
 
-words_below : (words : ℕ) (key : KeyWords) → ((k : ℕ) → key k < 2 ^ 64) → number_of_words words key < 256 ^ (8 * words)
+pub words_below : (words : ℕ) (key : KeyWords) → ((k : ℕ) → key k < 2 ^ 64) → number_of_words words key < 256 ^ (8 * words)
 words_below zero key fits = omega arith
 words_below (suc words) key fits =
     let before = words_below words key fits in
@@ -66,7 +66,7 @@ words_below (suc words) key fits =
     let power : 256 ^ (8 * suc words) ≡ p * 2 ^ 64 = ap (λ i. 256 ^ i) (let is : 8 * suc words ≡ 8 * words + 8 = omega arith in is) ∙ pow-add 256 (8 * words) 8 in
     omega arith
 
-none_first : (n : ℕ) → n < 256 ^ key_bytes → first_bytes 0 n ≡ 0
+pub none_first : (n : ℕ) → n < 256 ^ key_bytes → first_bytes 0 n ≡ 0
 none_first n lt = first_is 0 n ∙ ap (λ s. n / s) (span_is 0) ∙ (let less : n / 256 ^ key_bytes < 1 = div_below n (256 ^ key_bytes) 1 (power_pos key_bytes) (omega arith) in omega arith)
 
 first_alike : (a b depth : ℕ) → a < 256 ^ key_bytes → b < 256 ^ key_bytes → ((at : ℕ) → at < key_bytes → byte_at at a ≡ byte_at at b) → depth ≤ key_bytes → first_bytes depth a ≡ first_bytes depth b
@@ -76,7 +76,7 @@ first_alike a b (suc depth) small small' same le =
     ∙ ap₂ (λ f b. 256 * f + b) (first_alike a b depth small small' same (omega arith)) (same depth (omega arith))
     ∙ sym (ap (λ d. first_bytes d b) (let is : suc depth ≡ depth + 1 = omega arith in is) ∙ first_next depth b (omega arith))
 
-whole_first : (n : ℕ) → first_bytes key_bytes n ≡ n
+pub whole_first : (n : ℕ) → first_bytes key_bytes n ≡ n
 whole_first n = first_is key_bytes n ∙ ap (λ s. n / s) span_last ∙ (let is : n / 1 ≡ n = omega arith in is)
 
 bytes_tell : (a b : ℕ) → a < 256 ^ key_bytes → b < 256 ^ key_bytes → ((at : ℕ) → at < key_bytes → byte_at at a ≡ byte_at at b) → a ≡ b

@@ -1,14 +1,13 @@
 -- A machine that is told a number in place.
-use Rattle.std.specs.Prelude.{◌≡◌, ℕ, Option, Some, None}
+use Rattle.std.specs.Prelude.{◌≡◌, Option, Some, None}
 use Rattle.pm_words.specs.declared.machine.Turn.{Turn}
 use Rattle.pm_words.specs.declared.machine.Turn.TheVariants.{Go, Done}
-use Rattle.tree_floor.specs.declared.floor.Floor.{Floor}
 
--- a floor's turn, by what it is then and the node that it answered, if it did
-abbrev pub turn_of : Floor → Option ℕ → Turn Floor ℕ
-turn_of floor None = Go floor
-turn_of floor (Some node) = Done node
+-- a machine's turn, by what it is then and the answer that it gave, if it gave one
+abbrev pub turn_of : {M A : Type 0} → M → Option A → Turn M A
+turn_of machine None = Go machine
+turn_of machine (Some answer) = Done answer
 
--- by this turn it is this floor now, or answered this node
-abbrev pub AdvancesTo : Turn Floor ℕ → Floor → Option ℕ → Type 0
-AdvancesTo turn floor answer = turn ≡ turn_of floor answer
+-- by this turn it is this machine now, or gave this answer
+abbrev pub AdvancesTo : {M A : Type 0} → Turn M A → M → Option A → Type 0
+AdvancesTo turn machine answer = turn ≡ turn_of machine answer

@@ -1,28 +1,13 @@
 //! The floor of a key, from the root of the tree down.
 
-ghost use Rattle.std.specs.Prelude.{◌≡◌, ◌==◌, ◌*◌, ◌<◌, nat_le};
-ghost use Rattle.pm_words.specs.Layouts.{IsLayout};
-ghost use Rattle.pm_words.specs.Locations.{Cell, word_number, image_words, kind_words};
-ghost use Rattle.radix_nodes.specs.Keys.{key_bytes};
-ghost use Rattle.tree_law.specs.Trees.{span, first_bytes, byte_at};
+ghost use Rattle.std.specs.Prelude.{◌≡◌};
 ghost use Rattle.tree_law.specs.FloorWalks.{node_told};
-ghost use Rattle.tree_floor.specs.Keys.{number_in};
-ghost use Rattle.tree_law.specs.Words.{kind_of, number_of};
-ghost use Rattle.tree_floor.specs.Floors.{IsCellOf};
 
 use crate::scan::{BYTES, Scan, Scanned};
+use crate::words::{KEY_WORDS, KIND, ROOT, byte_of, is_at_most, is_prefix, word_of};
 use cat_key::WORDS;
 use pm_words::{Action, Layout, Machine, Turn};
-use radix_nodes::{KEY_BYTES, Key, key_byte, prefix_of};
-
-/// What one kind of references stands above the next.
-const KIND: u64 = 1 << 16;
-
-/// The number of the root's word among those of an image.
-const ROOT: u64 = 8;
-
-/// How many words of a name there are, as an offset.
-const KEY_WORDS: u64 = WORDS as u64;
+use radix_nodes::{KEY_BYTES, Key};
 
 /// Reads the tree from its root, and answers the node of the greatest key that is at most its own, or 0 where no key
 /// is. It takes no lock; beside a writer it answers some node.
@@ -365,17 +350,6 @@ impl Floor {
     }
 }
 
-/// A cell's word, as an image word.
-fn word_of(layout: Layout, cell: u64, offset: u64) -> u64
-    requires layout { IsLayout layout }
-    requires cell { IsCellOf layout cell }
-    requires offset { offset < kind_words (kind_of cell) }
-    ensures word { result ≡ word_number layout (Cell (kind_of cell) (number_of cell) offset) }
-    ensures within { result < image_words layout }
-{
-    layout.cell_word(cell / KIND, cell % KIND, offset)
-}
-
 /// The node to which a node word leads, or node 0 where it leads to none.
 fn node_told(nodes: u64, word: u64) -> u64
     ensures { result ≡ node_told nodes word }
@@ -385,34 +359,4 @@ fn node_told(nodes: u64, word: u64) -> u64
     } else {
         word - 1
     }
-}
-
-/// Whether the one key is at most the other.
-fn is_at_most(low: Key, high: Key) -> bool
-    ensures { result ≡ nat_le (number_in low) (number_in high) }
-{
-    low <= high
-}
-
-/// Whether these are the first so many bytes of a key, with zeros behind them.
-fn is_prefix(prefix: Key, depth: u64, key: Key) -> bool
-    requires { depth < key_bytes }
-    ensures { result ≡ (first_bytes depth (number_in key) * span depth == number_in prefix) }
-{
-    is_same(prefix_of(&key, depth), prefix)
-}
-
-/// Whether they are one key.
-fn is_same(one: Key, other: Key) -> bool
-    ensures { result ≡ (number_in one == number_in other) }
-{
-    one == other
-}
-
-/// The byte of a key behind so many.
-fn byte_of(key: Key, depth: u64) -> u64
-    requires { depth < key_bytes }
-    ensures { result ≡ byte_at depth (number_in key) }
-{
-    key_byte(&key, depth) as u64
 }

@@ -8,6 +8,8 @@
 mod floor;
 pub mod laws;
 mod scan;
+mod words;
 
 pub use floor::{Floor, FloorAt};
-pub use scan::{Scan, Scanned};
+pub use scan::{BYTES, Scan, Scanned, entry_count, first_entry};
+pub use words::{KEY_WORDS, KIND, ROOT, byte_of, is_prefix, is_same, word_of};

@@ -42,7 +42,7 @@ const FORM_16: u64 = 3;
 const FORM_48: u64 = 4;
 
 /// How many branch bytes there are. As a byte it is past all of them.
-pub(crate) const BYTES: u64 = 256;
+pub const BYTES: u64 = 256;
 
 /// How many places form 48 has.
 const PLACES: u64 = 48;
@@ -181,14 +181,14 @@ fn down_told(next: u64, child: u64, got: u64) -> Scanned
 }
 
 /// The offset of a form's first entry.
-fn first_entry(kind: u64) -> u64
+pub fn first_entry(kind: u64) -> u64
     ensures { result ≡ first_entry kind }
 {
     if kind == FORM_4 { 4 } else { 8 }
 }
 
 /// How many entries a form has.
-fn entry_count(kind: u64) -> u64
+pub fn entry_count(kind: u64) -> u64
     ensures { result ≡ entry_count kind }
 {
     if kind == FORM_4 { 4 } else { 16 }

@@ -1,7 +1,7 @@
 use Rattle.std.proofs.Common.{rules, ◌==◌, slice_index, ap, ◌∙◌}
 use Rattle.tree_floor.specs.Keys.{number_in}
 use Rattle.tree_floor.proofs.KeyNumbers.{prefix_is_of_number}
-use Rattle.tree_floor.proofs.floor.is_prefix.Goals as goal
+use Rattle.tree_floor.proofs.words.is_prefix.Goals as goal
 
 pub returns : goal.returns
 returns c = c.is_same.ensures

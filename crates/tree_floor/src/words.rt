@@ -1,0 +1,65 @@
+//! Words of the tree, and keys as their words are read.
+
+ghost use Rattle.std.specs.Prelude.{◌≡◌, ◌==◌, ◌*◌, ◌<◌, nat_le};
+ghost use Rattle.pm_words.specs.Layouts.{IsLayout};
+ghost use Rattle.pm_words.specs.Locations.{Cell, word_number, image_words, kind_words};
+ghost use Rattle.radix_nodes.specs.Keys.{key_bytes};
+ghost use Rattle.tree_law.specs.Trees.{span, first_bytes, byte_at};
+ghost use Rattle.tree_law.specs.Words.{kind_of, number_of};
+ghost use Rattle.tree_floor.specs.Keys.{number_in};
+ghost use Rattle.tree_floor.specs.Floors.{IsCellOf};
+
+use cat_key::WORDS;
+use pm_words::Layout;
+use radix_nodes::{Key, key_byte, prefix_of};
+
+/// A reference is its kind times this, and its number.
+pub const KIND: u64 = 1 << 16;
+
+/// The number of the root's word among those of an image.
+pub const ROOT: u64 = 8;
+
+/// How many words a key has, as an offset.
+pub const KEY_WORDS: u64 = WORDS as u64;
+
+/// A cell's word, as an image word.
+pub fn word_of(layout: Layout, cell: u64, offset: u64) -> u64
+    requires layout { IsLayout layout }
+    requires cell { IsCellOf layout cell }
+    requires offset { offset < kind_words (kind_of cell) }
+    ensures word { result ≡ word_number layout (Cell (kind_of cell) (number_of cell) offset) }
+    ensures within { result < image_words layout }
+{
+    layout.cell_word(cell / KIND, cell % KIND, offset)
+}
+
+/// Whether the one key is at most the other.
+pub(crate) fn is_at_most(low: Key, high: Key) -> bool
+    ensures { result ≡ nat_le (number_in low) (number_in high) }
+{
+    low <= high
+}
+
+/// Whether these are the first so many bytes of a key, with zeros behind them.
+pub fn is_prefix(prefix: Key, depth: u64, key: Key) -> bool
+    requires { depth < key_bytes }
+    ensures { result ≡ (first_bytes depth (number_in key) * span depth == number_in prefix) }
+{
+    is_same(prefix_of(&key, depth), prefix)
+}
+
+/// Whether they are one key.
+pub fn is_same(one: Key, other: Key) -> bool
+    ensures { result ≡ (number_in one == number_in other) }
+{
+    one == other
+}
+
+/// The byte of a key behind so many.
+pub fn byte_of(key: Key, depth: u64) -> u64
+    requires { depth < key_bytes }
+    ensures byte { result ≡ byte_at depth (number_in key) }
+    ensures small { result < 256 }
+{
+    key_byte(&key, depth) as u64
+}
