@@ -33,13 +33,14 @@ use Rattle.cat_history.specs.declared.op.NameOp.{NameOp}
 use Rattle.index_law.specs.Weights.{weight_sum}
 use Rattle.index_core.specs.Indexes.{Index, IsIndex, world, view_of, started_index, stepped_index}
 use Rattle.index_core.proofs.Lists.{some_same}
+use Rattle.index_core.proofs.CrashLaws.{placed_are_timely}
 use Rattle.index_core.proofs.MachineLaw.{machine_law, begin_law}
 use Rattle.atomic_table.specs.Table.{State, Me, keeps}
 use Rattle.pac_index.specs.declared.rule.About.{About}
 use Rattle.pac_index.specs.declared.rule.AnsweredPart.{AnsweredPart}
 use Rattle.pac_index.specs.declared.rule.Member.{Member}
 use Rattle.pac_index.specs.Kept.{AllKnow, IsPartKnown, KnowsParts, answered_now}
-use Rattle.pac_index.specs.Kept.{index_of, placed_by, noted, Fits, AllFit, times_in, times_in_all, IsHalfPaid, AllPaid, Kept, added_now, Goes, ListsNow, Tells, Starts, May, party, IsLone, machine_in, calling}
+use Rattle.pac_index.specs.Kept.{index_of, placed_by, noted, Fits, AllFit, times_in, times_in_all, IsHalfPaid, AllPaid, Kept, added_now, Goes, GoesTimely, ListsNow, Tells, Starts, May, party, IsLone, machine_in, calling}
 use Rattle.pac_index.proofs.Known.{answered_known, each_both, known_on}
 use Rattle.pac_index.proofs.PartRuns.{lists_now}
 use Rattle.pac_index.proofs.Lists.{begins_more, begins_self, begins_le, placed_append, own_placed, others_keep, times_there, times_two, times_set, added_set}
@@ -171,6 +172,11 @@ pub inside_table : (about key : About) (words : ℕ) (action : Action) → key �
 inside_table about key words action same all within =
     subst (λ (n : ℕ). action_address key.layout action < n) (sym all) (subst (λ (b : About). action_address b.layout action < row_words about.layout) (sym same) within)
 
+-- a write that has its place began below its limit
+timely_after : (about : About) (words : List ℕ) (states : List PartyState) (h : List Write) (c : ℕ) (e : PartyState) (turn : Turn Running (Once Placed)) → IsIndex (index_of about words states h) → get_elem? states c ≡ some (state_after e turn) → GoesTimely e.since turn
+timely_after about words states h c e (Go next) is there = placed_are_timely (index_of about words states h) c (state_after e (Go next)) next is there refl
+timely_after about words states h c e (Done answer) is there = tt
+
 module _ (about : About) (id : ℕ) (v : Member) (m : Running) (f : ℕ → ℕ) (is : v.state.machine ≡ Some m) (same : (n : ℕ) → n < 2 ^ 64 → CanChange (running_asks m) n → f n ≡ word_after (running_asks m) n) where
   done : (s : State (Unit {0}) (List Member)) → Kept about s → get_elem? s.views id ≡ some (v ∷ []) → slice_index s.words (action_address about.layout (running_asks m)) < 2 ^ 64
       → Leaves about s id (running_asks m) f (Goes m v)
@@ -229,6 +235,7 @@ module _ (about : About) (id : ℕ) (v : Member) (m : Running) (f : ℕ → ℕ)
           op_on = step.keeps_op;
           call_on = step.keeps_call;
           ready = subst (λ (b : About). ReadyAfter b.layout b.generation turn) (sym own.same) step.ready;
+          timely = timely_after about words' states' (h ++ more) c v.state turn (subst IsIndex path step.kept) (set_here kept.states c now v.state own.there);
         };
       }
 

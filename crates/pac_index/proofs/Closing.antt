@@ -20,7 +20,7 @@ use Rattle.pac_index.proofs.Lists.{times_there, times_two, added_only}
 use Rattle.index_core.specs.Weights.{weight_of}
 use Rattle.pac_index.specs.declared.rule.Member.{Member}
 use Rattle.index_core.specs.MachineLaws.{showing}
-use Rattle.pac_index.specs.Callers.{IsCallerOf, AreWritesOf, HasCallers, Meeting, added_by_all, pairs, kept_by, seen_by}
+use Rattle.pac_index.specs.Callers.{AreAtRest, AreWritesOf, HasCallers, IsAtRest, Meeting, added_by_all, pairs, kept_by, seen_by}
 use Rattle.index_core.specs.MachineLaws.{AreIdle}
 use Rattle.index_core.proofs.MachineLaw.{with_idle, idle_weigh}
 use Rattle.pac_index.proofs.Gathered.{or_is, writes_gathered}
@@ -42,9 +42,9 @@ added_idle : (callers : List Caller) → ((i : ℕ) (c : Caller) → get_elem? c
 added_idle [] idle = refl
 added_idle (c ∷ cs) idle = let here = ap showing (idle 0 c refl) in let rest = added_idle cs (λ i d at. idle (suc i) d at) in omega arith
 
-pub closes : (s : Shared) (callers : List Caller) (id : ℕ) (words : List ℕ) (slots : List (Unit {0})) → HasCallers s (parties_of s.about.layout) callers → Final (Seen (Kept s.table.shared.key) id (map seen_by callers)) words slots
+pub closes : (s : Shared) (callers : List Caller) (id : ℕ) (words : List ℕ) (slots : List (Unit {0})) → HasCallers s (parties_of s.about.layout) callers → AreAtRest callers → Final (Seen (Kept s.table.shared.key) id (map seen_by callers)) words slots
     → IsClosed s callers words
-closes s callers id words slots has final =
+closes s callers id words slots has rests final =
     let key = s.table.shared.key in
     let st = final.0 in
     let kept = final.1.0 in
@@ -54,15 +54,15 @@ closes s callers id words slots has final =
     let fit : (i : ℕ) (c : Caller) → get_elem? callers i ≡ some c → Fits key kept.states h (seen_by c) = λ i c at. kept.fits id (map seen_by callers) final.1.1 i (seen_by c) (map_there seen_by callers i c at) in
     let number : (i : ℕ) (c : Caller) → get_elem? callers i ≡ some c → (seen_by c).state.caller ≡ i = λ i c at. (has.each i c at).number ∙ has.numbers i c at in
     let count : parties_of key.layout ≡ length callers = ap (λ (b : About). parties_of b.layout) same ∙ sym has.count in
-    let state_of : (i : ℕ) (e : PartyState) → get_elem? old.states i ≡ some e → (c : Caller) × IsCallerOf s c × (e ≡ (seen_by c).state) = λ i e at.
+    let state_of : (i : ℕ) (e : PartyState) → get_elem? old.states i ≡ some e → (c : Caller) × IsAtRest c × (e ≡ (seen_by c).state) = λ i e at.
     let less = within kept.states i e at in
     let many = kept.index.parties in
     let here = there_is callers i (omega arith) in
     let there : get_elem? kept.states i ≡ some (seen_by here.0).state = ap (get_elem? kept.states) (sym (number i here.0 here.1)) ∙ (fit i here.0 here.1).there in
-    (here.0, has.each i here.0 here.1, some-injective _ _ (sym at ∙ there)) in
+    (here.0, rests i here.0 here.1, some-injective _ _ (sym at ∙ there)) in
     let quiet : IsQuiet old = record {
-      calls = λ i e at. let c = state_of i e at in ap (λ (d : PartyState). d.machine) c.2 ∙ c.1.idle;
-      turns = λ i e at. let c = state_of i e at in ap (λ (d : PartyState). d.turn) c.2 ∙ c.1.resting;
+      calls = λ i e at. let c = state_of i e at in ap (λ (d : PartyState). d.machine) c.2 ∙ c.1.0;
+      turns = λ i e at. let c = state_of i e at in ap (λ (d : PartyState). d.turn) c.2 ∙ c.1.1;
     } in
     -- each party stands in the one view, so the others are empty
     let others : (j : ℕ) (u : List Member) → j ≢ id → get_elem? st.views j ≡ some u → u ≡ [] = (λ j u away at. empty u (λ m first.
@@ -76,7 +76,7 @@ closes s callers id words slots has final =
     let once = kept.once m.state.caller in
     omega arith)) in
     let added : added_in_all st.views ≡ added_by_all callers =
-    added_only st.views id (map seen_by callers) final.1.1 others ∙ added_idle callers (λ i c at. (has.each i c at).idle) in
+    added_only st.views id (map seen_by callers) final.1.1 others ∙ added_idle callers (λ i c at. (rests i c at).0) in
     record {
       history = h;
       index = λ states idle. subst IsIndex (λ k. index_of (same k) (final.2 k) states h) (with_idle old states kept.index quiet (subst (λ (n : ℕ). AreIdle states n) (ap (λ (b : About). parties_of b.layout) (sym same)) idle));

@@ -2,7 +2,7 @@
 use Rattle.std.proofs.Common.{◌≡◌, ◌≢◌, ℕ, zero, suc, ◌+◌, ◌<◌, ◌≤◌, set, ◌⊎◌, inl, inr, ⊎_elim, eq-eqb, Bool, true, false, List, [], ◌∷◌, ◌++◌, take, length, get_or, refl, sym, ap, ◌∙◌, subst, arith}
 use Rattle.std.proofs.lemmas.Bool.{cases_eq}
 use Rattle.std.proofs.lemmas.List.{append_assoc, append-nil, length-append}
-use Rattle.std.specs.Prelude.{◌==◌, if◌then◌else◌, Some, None, slice_get}
+use Rattle.std.specs.Prelude.{◌==◌, if◌then◌else◌, Option, Some, None, map, slice_get}
 use mathlib.Core.Option.{some, some-injective, some-ne-none}
 use lib.ListN.{get_elem?, length-set}
 use Rattle.cat_history.specs.declared.op.Write.{Write}
@@ -10,7 +10,9 @@ use Rattle.index_core.specs.declared.party.PartyState.{PartyState}
 use Rattle.index_core.specs.MachineLaws.{AreIdle}
 use Rattle.index_core.proofs.Lists.{some_same, map_from, map_there, at_end, end_there, there_is, within}
 use Rattle.pac_index.specs.declared.caller.Caller.{Caller}
+use Rattle.pac_index.specs.declared.caller.CutCall.{CutCall}
 use Rattle.pac_index.specs.declared.caller.PlacedWrite.{PlacedWrite}
+use Rattle.pac_index.specs.CrashMeetings.{cut_of}
 use Rattle.pac_index.specs.Kept.{placed_from, placed_by}
 use Rattle.pac_index.specs.Callers.{AreWritesOf, kept_by, pairs, pair_of}
 
@@ -130,6 +132,25 @@ kept_more cs n c d less read =
     let same : got.0 ≡ c = sym (or_is cs n got.0 d (got_at cs n got.0 got.1)) ∙ read in
     let e : n + 1 ≡ suc n = omega arith in
     ap (λ (m : ℕ). kept_by (take m cs)) e ∙ ap kept_by (take_more cs n got.0 got.1) ∙ kept_append (take n cs) (got.0 ∷ []) ∙ ap (λ (l : List PlacedWrite). kept_by (take n cs) ++ l) (append-nil got.0.kept.items ∙ ap (λ (x : Caller). x.kept.items) same)
+
+-- the last of so many, or one before it
+pub last_or_before : (i n : ℕ) → i < n + 1 → (i < n) ⊎ (i ≡ n)
+last_or_before zero zero less = inr refl
+last_or_before zero (suc n) less = inl (omega arith)
+last_or_before (suc i) zero less = absurd (omega arith)
+last_or_before (suc i) (suc n) less = ⊎_elim (λ (before : i < n). inl (omega arith)) (λ (here : i ≡ n). inr (ap suc here)) (last_or_before i n (omega arith))
+
+-- and what it tells
+cuts_append : (cs ds : List Caller) → map cut_of (cs ++ ds) ≡ map cut_of cs ++ map cut_of ds
+cuts_append [] ds = refl
+cuts_append (c ∷ cs) ds = ap (λ (l : List (Option CutCall)). c.cut ∷ l) (cuts_append cs ds)
+
+pub cuts_more : (cs : List Caller) (n : ℕ) (c d : Caller) → n < length cs → get_or cs n d ≡ c → map cut_of (take (n + 1) cs) ≡ map cut_of (take n cs) ++ c.cut ∷ []
+cuts_more cs n c d less read =
+    let got = got_is cs n less in
+    let same : got.0 ≡ c = sym (or_is cs n got.0 d (got_at cs n got.0 got.1)) ∙ read in
+    let e : n + 1 ≡ suc n = omega arith in
+    ap (λ (m : ℕ). map cut_of (take m cs)) e ∙ ap (map cut_of) (take_more cs n got.0 got.1) ∙ cuts_append (take n cs) (got.0 ∷ []) ∙ ap (λ (x : Caller). map cut_of (take n cs) ++ x.cut ∷ []) same
 
 -- one idle party more
 pub idle_more : (es : List PartyState) (n : ℕ) (e : PartyState) → AreIdle es n → e.caller ≡ n → e.machine ≡ None → e.turn ≡ None → e.since ≡ 0 → AreIdle (es ++ e ∷ []) (n + 1)

@@ -1,6 +1,7 @@
 -- Callers as they are made.
-use Rattle.std.proofs.Common.{◌≡◌, ℕ, zero, suc, ◌+◌, ◌<◌, ⊎_elim, List, [], ◌∷◌, ◌++◌, drop, take, get_or, length, refl, sym, ap, ◌∙◌, subst, arith}
+use Rattle.std.proofs.Common.{◌≡◌, ℕ, zero, suc, ◌+◌, ◌<◌, ⊎_elim, inl, List, [], ◌∷◌, ◌++◌, drop, take, get_or, length, refl, sym, ap, ◌∙◌, subst, arith}
 use Rattle.std.proofs.lemmas.List.{length-append}
+use Rattle.std.specs.Prelude.{None}
 use mathlib.Core.Option.{some}
 use lib.ListN.{get_elem?}
 use Rattle.index_core.specs.PartyStates.{idle_state}
@@ -11,7 +12,8 @@ use Rattle.pac_index.specs.declared.rule.Member.{Member}
 use Rattle.pac_index.specs.declared.caller.Caller.{Caller}
 use Rattle.pac_index.specs.declared.shared.Shared.{Shared}
 use Rattle.pac_index.specs.Kept.{IsLone, party, member_of, first_view, first_of, rest_of, placed_by}
-use Rattle.pac_index.specs.Callers.{IsCallerOf, HasCallers, AreNew, seen_by, pairs}
+use Rattle.pac_index.proofs.Remaining.{rests_tells}
+use Rattle.pac_index.specs.Callers.{IsAtRest, IsCallerOf, HasCallers, AreNew, seen_by, pairs}
 use Rattle.epochs.specs.declared.seat.EpochSeat.{EpochSeat}
 use Rattle.epochs.specs.Seats.{IsSeatOf, IsUnpinned}
 use Rattle.pac_index.proofs.Seats.{next_first}
@@ -48,17 +50,18 @@ fewer_seats all i left is = ap (λ (l : List EpochSeat). drop 1 l) is ∙ fewer_
 
 -- one caller more
 pub handed : (s : Shared) (i : ℕ) (callers : List Caller) (c : Caller) → i < parties_of s.about.layout → HasCallers s i callers → AreNew callers → c.seat.table_id ≡ s.table.shared.table_id
-    → c.seat.me ≡ (first_of (drop i (first_view s.about)), []) → c.number ≡ i → c.index ≡ 0 → c.kept.items ≡ [] → IsSeatOf s.epochs c.pins → IsUnpinned c.pins → c.pins.party ≡ i → HasCallers s (i + 1) (callers ++ c ∷ []) × AreNew (callers ++ c ∷ [])
-handed s i callers c less has fresh table me number index kept pins unpinned pinning =
+    → c.seat.me ≡ (first_of (drop i (first_view s.about)), []) → c.number ≡ i → c.index ≡ 0 → c.left ≡ None → c.cut ≡ None → c.kept.items ≡ [] → IsSeatOf s.epochs c.pins → IsUnpinned c.pins → c.pins.party ≡ i → HasCallers s (i + 1) (callers ++ c ∷ []) × AreNew (callers ++ c ∷ [])
+handed s i callers c less has fresh table me number index left cut kept pins unpinned pinning =
     let m : Member = member_of s.about (idle_state i) in
     let is : c.seat.me ≡ (m ∷ [], []) = me ∙ ap (λ (v : List Member). (first_of v, [])) (next_first s.about (parties_of s.about.layout) i less) in
     let who : party c.seat.me ≡ m = party_is c.seat.me m is in
+    let rests : IsAtRest c = (ap (λ (x : Member). x.state.machine) who, ap (λ (x : Member). x.state.turn) who, cut) in
     let one : IsCallerOf s c = record {
       table = table;
       lone = lone_is c.seat.me m is;
       about = ap (λ (x : Member). x.about) who;
-      idle = ap (λ (x : Member). x.state.machine) who;
-      resting = ap (λ (x : Member). x.state.turn) who;
+      rests = inl rests;
+      tells = rests_tells c rests;
       number = ap (λ (x : Member). x.state.caller) who ∙ sym number;
       within = omega arith;
       kept = ap pairs kept ∙ ap (λ (x : Member). placed_by c.number x.seen) (sym who);
@@ -87,6 +90,7 @@ handed s i callers c less has fresh table me number index kept pins unpinned pin
             ap (λ (x : Caller). (seen_by x).taken) (sym last.1) ∙ ap (λ (x : Member). x.taken) who,
             ap (λ (x : Caller). (seen_by x).added) (sym last.1) ∙ ap (λ (x : Member). x.added) who,
             ap (λ (x : Caller). (seen_by x).none_free) (sym last.1) ∙ ap (λ (x : Member). x.none_free) who,
+            ap (λ (x : Caller). x.left) (sym last.1) ∙ left,
           ))
           (at_end callers c d j at)),
     )

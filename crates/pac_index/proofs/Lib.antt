@@ -7,7 +7,10 @@ pub mod TurnSteps
 pub mod Statuses
 pub mod TurnRunning
 pub mod Running
+pub mod Budgeting
+pub mod Remaining
 pub mod Repeating
+pub mod Turning
 pub mod Scanning
 pub mod Seats
 pub mod Handing
@@ -15,3 +18,4 @@ pub mod Gathered
 pub mod Closing
 pub mod Writing
 mod Settling
+pub mod Crashes

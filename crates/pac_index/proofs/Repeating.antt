@@ -1,13 +1,12 @@
 -- Tries that are turned back, and the last one, which takes place.
-use Rattle.std.proofs.Common.{◌≡◌, ℕ, ◌<◌, ◌||◌, inl, inr, ⊎_elim, Bool, true, List, refl, sym, ap, ◌∙◌, subst, arith}
+use Rattle.std.proofs.Common.{◌≡◌, ◌⊎◌, ℕ, ◌+◌, ◌≤◌, ◌||◌, inl, inr, ⊎_elim, Bool, true, List, length, refl, sym, ap, ◌∙◌, subst, arith}
 use Rattle.std.proofs.lemmas.List.{append-nil}
-use Rattle.std.specs.Prelude.{Option, Some, None}
+use Rattle.std.specs.Prelude.{Option, Some, None, IfSome}
 use Rattle.pm_words.specs.declared.again.Again.TheVariants as again
 use Rattle.call_stages.specs.declared.once.Once.{Once}
 use Rattle.call_stages.specs.declared.once.Once.TheVariants as once
 use Rattle.call_stages.specs.declared.once.Placed.{Placed}
 use Rattle.node_ops.specs.declared.part.PartWords.{PartWords}
-use Rattle.node_ops.specs.declared.recheck.Same.{Same}
 use Rattle.node_ops.specs.PartSteps.{placed_of}
 use Rattle.index_core.specs.declared.party.CoreCall.{CoreCall}
 use Rattle.index_core.specs.declared.party.CoreCall.TheVariants as call
@@ -21,21 +20,23 @@ use Rattle.index_core.specs.declared.party.PartyState.{PartyState}
 use Rattle.pac_index.specs.declared.tried.TriedTurn.{TriedTurn}
 use Rattle.pac_index.specs.declared.tried.TriedTurn.TheVariants as turn
 use Rattle.pac_index.specs.declared.caller.Caller.{Caller}
-use Rattle.pac_index.specs.declared.shared.Shared.{Shared}
+use Rattle.pac_index.specs.declared.caller.CutCall.{CutCall}
 use Rattle.pac_index.specs.declared.ended.Ended.{Ended}
 use Rattle.pac_index.specs.declared.ended.Ended.TheVariants as ended
 use Rattle.pac_index.specs.declared.rule.Member.{Member}
-use Rattle.pac_index.specs.Kept.{IsLone, placed_by}
-use Rattle.pac_index.specs.Calls.{Answers, PartAnswers, IsAnswered, counted_index}
-use Rattle.pac_index.specs.Callers.{IsCallerOf, pairs, pins_of, seen_by}
+use Rattle.cat_history.specs.Records.{change_of}
+use Rattle.index_core.specs.CoreCalls.{op_of}
+use Rattle.pac_index.specs.Budgets.{CallBack, CutsOff, PartBack, StopsAt, place_in}
+use Rattle.pac_index.specs.Cuts.{HasEnded, IsCutCall, IsCutTry, IsCutWithin, IsTried, StopsTry, own_cut}
+use Rattle.pac_index.specs.Kept.{placed_by}
+use Rattle.pac_index.specs.Calls.{Answers, OnTried, PartAnswers, counted_index, own_at}
+use Rattle.pac_index.specs.Callers.{IsAtRest, pins_of, seen_by, spare_of}
+use Rattle.pac_index.specs.CutTurns.{IsCutTurn, IsCutTurnTry, StopsDated, StopsUndated, TurnCutsOff, TurnStops, TurnStopsAt}
 use Rattle.pac_index.specs.Pinned.{Pinned, PinMoved, WasPinned}
-use Rattle.pac_index.specs.Rechecked.{Rechecked}
-use Rattle.pac_index.specs.Ends.{ended_of, ended_by, turn_ended_by, DoesNothing, EachIs, IsDone, IsTry, HasOnlyRead, AtLast, TurnedBack}
+use Rattle.pac_index.specs.Ends.{ended_of, ended_by, turn_ended_by, DoesNothing, EachIs, OnDone, IsTry, HasOnlyRead, AtLast, TurnedBack}
 use Rattle.pac_index.specs.Ends.EachIs.{no_step, one_more}
-use Rattle.pac_index.specs.Turns.{noted_in, HasMadeTurn, FoundHeld, IsTold, MadeTurn, TurnAnswers, TurnHeld, TurnedAtLast}
+use Rattle.pac_index.specs.Turns.{noted_in, HasMadeTurn, FoundHeld, OnTurn, MadeTurn, TurnAnswers, TurnHeld, TurnedAtLast}
 use Rattle.epochs.specs.Kept.{first_epoch}
-use Rattle.epochs.specs.Seats.{IsSeatOf, IsUnpinned}
-use Rattle.index_core.specs.Indexes.{parties_of}
 use Rattle.epochs.specs.declared.rule.PinMember.{PinMember}
 use Rattle.pac_index.proofs.Known.{still_same}
 use Rattle.pac_index.proofs.Lists.{begins_self, begins_trans}
@@ -132,74 +133,130 @@ tries_begin back_step n old = record { tries = no_step; index = refl; back = bac
 pub none_held : (old : Member) → EachIs FoundHeld old old
 none_held old = no_step
 
--- A get, and a part, that is turned back.
-abbrev pub GetBack : List ℕ → ℕ → Member → Member → Type 0
-GetBack name n old new = TurnedBack (Answers (call.Get name) n) DoesNothing old new
+-- What its caller is in the loop of tries: as the call began, or at rest.
+abbrev pub StillOrRests : Caller → Caller → Type 0
+StillOrRests old now = (now ≡ old) ⊎ IsAtRest now
 
-abbrev pub PartBack : List ℕ → ℕ → ℕ → Member → Member → Type 0
-PartBack low count n old new = TurnedBack (PartAnswers low count n) DoesNothing old new
+-- a try, tried again
+pub tries_again : {T : Type 0} (holds : ℕ → Member → Once T → Member → Type 0) (n : ℕ) (old : Member) (b a : Caller) (answer : Once T) → ((v w : Member) → holds n v answer w → HasOnlyRead v w) → Tries (λ v w. TurnedBack (holds n) DoesNothing v w) n old b.index (seen_by b) → ended_of answer ≡ None
+    → IsTried holds b answer a → Tries (λ v w. TurnedBack (holds n) DoesNothing v w) n old a.index (seen_by a)
+tries_again holds n old b a answer reads tries none is =
+    let pinned = subst (λ (k : ℕ). Pinned (holds k) b answer a) tries.index is.pinned in
+    record {
+      tries = one_more tries.tries (turned_back (holds n) b a answer none pinned);
+      index = is.index ∙ same_index b.index answer none ∙ tries.index;
+      back = back_trans old (seen_by b) (seen_by a) tries.back (pinned_back (holds n) b a answer (reads (seen_by b) (seen_by a)) pinned);
+    }
 
-pub get_again : (name : List ℕ) (n i j : ℕ) (old : Member) (b a : Caller) (t : Tried Placed) → Tries (GetBack name n) n old i (seen_by b) → ended_by t ≡ None → IsAnswered t (λ answer. j ≡ counted_index i answer)
-    → IsAnswered t (λ answer. Pinned (Answers (call.Get name) i) b answer a) → Tries (GetBack name n) n old j (seen_by a)
-get_again name n i j old b a (tried.Answered answer) tries none index is = record {
-  tries = one_more tries.tries (subst (λ (k : ℕ). GetBack name k (seen_by b) (seen_by a)) tries.index (turned_back (Answers (call.Get name) i) b a answer none is));
-  index = index ∙ same_index i answer none ∙ tries.index;
-  back = back_trans old (seen_by b) (seen_by a) tries.back (pinned_back (Answers (call.Get name) i) b a answer (back_by (call.Get name) i (seen_by b) (seen_by a) answer none) is);
-}
-get_again name n i j old b a tried.Cut tries none index is = absurd is
+pub get_again : (name : List ℕ) (n : ℕ) (old : Member) (b a : Caller) (t : Tried Placed) → Tries (CallBack (call.Get name) n) n old b.index (seen_by b) → ended_by t ≡ None → OnTried t (λ answer. IsTried (Answers (call.Get name)) b answer a) (IsCutTry (call.Get name) b a)
+    → Tries (CallBack (call.Get name) n) n old a.index (seen_by a) × IsAtRest a
+get_again name n old b a (tried.Answered answer) tries none is = (tries_again (Answers (call.Get name)) n old b a answer (λ v w. back_by (call.Get name) n v w answer none) tries none is, is.rests)
+get_again name n old b a tried.Cut tries none is = absurd (cc)
 
-pub part_again : (low : List ℕ) (count n i j : ℕ) (old : Member) (b a : Caller) (t : Tried PartWords) → Tries (PartBack low count n) n old i (seen_by b) → ended_by t ≡ None → IsAnswered t (λ answer. j ≡ counted_index i answer)
-    → IsAnswered t (λ answer. Pinned (PartAnswers low count i) b answer a) → Tries (PartBack low count n) n old j (seen_by a)
-part_again low count n i j old b a (tried.Answered answer) tries none index is = record {
-  tries = one_more tries.tries (subst (λ (k : ℕ). PartBack low count k (seen_by b) (seen_by a)) tries.index (turned_back (PartAnswers low count i) b a answer none is));
-  index = index ∙ same_index i answer none ∙ tries.index;
-  back = back_trans old (seen_by b) (seen_by a) tries.back
-      (pinned_back (PartAnswers low count i) b a answer (λ part. back_by (call.Part low count) i (seen_by b) (seen_by a) (placed_of answer) (none_of answer none) part.looks) is);
-}
-part_again low count n i j old b a tried.Cut tries none index is = absurd is
+pub part_again : (low : List ℕ) (count n : ℕ) (old : Member) (b a : Caller) (t : Tried PartWords) → Tries (PartBack low count n) n old b.index (seen_by b) → ended_by t ≡ None → OnTried t (λ answer. IsTried (PartAnswers low count) b answer a) (IsCutTry (call.Part low count) b a)
+    → Tries (PartBack low count n) n old a.index (seen_by a) × IsAtRest a
+part_again low count n old b a (tried.Answered answer) tries none is =
+    (tries_again (PartAnswers low count) n old b a answer (λ v w part. back_by (call.Part low count) n v w (placed_of answer) (none_of answer none) part.looks) tries none is, is.rests)
+part_again low count n old b a tried.Cut tries none is = absurd (cc)
 
 pub none_else : {A : Type 0} (o : Option A) → ((x : A) → o ≡ Some x → ⊥) → o ≡ None
 none_else None never = refl
 none_else (Some x) never = absurd (never x refl)
 
--- the last try
-pub record GetEnds (name : List ℕ) (n : ℕ) (old : Member) (j : ℕ) (w : Member) (end : Ended Placed) : Type 0 where
-  pub index : j ≡ next_index n
-  pub done : IsDone end (λ placed. AtLast (GetBack name n) (λ before after. Answers (call.Get name) n before (once.Done placed) after) old w)
+-- what isn't done was cut off
+pub not_done_cut : {T : Type 0} (e : Ended T) (D : T → Type 0) (C : Type 0) → OnDone e D C → ((value : T) → e ≡ ended.Done value → ⊥) → C
+not_done_cut (ended.Done value) D C is never = absurd (never value refl)
+not_done_cut ended.Full D C is never = absurd is
+not_done_cut (ended.Spent clock) D C is never = absurd is
+not_done_cut ended.Cut D C is never = is
 
-pub get_ends : (name : List ℕ) (n i j : ℕ) (old : Member) (b a : Caller) (t : Tried Placed) (end : Ended Placed) → Tries (GetBack name n) n old i (seen_by b) → ended_by t ≡ Some end → IsAnswered t (λ answer. j ≡ counted_index i answer)
-    → IsAnswered t (λ answer. Pinned (Answers (call.Get name) i) b answer a) → GetEnds name n old j (seen_by a) end
-get_ends name n i j old b a (tried.Answered (once.Done placed)) end tries ends index is =
+-- the last try: it is answered otherwise,
+pub call_ended : {T : Type 0} (holds : ℕ → Member → Once T → Member → Type 0) (n : ℕ) (old : Caller) (b a : Caller) (answer : Once T) → n ≡ old.index → ((m : ℕ) → counted_index m answer ≡ next_index m) → ((first second : ℕ) → answer ≡ once.Again (again.Epoch first second) → ⊥)
+    → Tries (λ v w. TurnedBack (holds n) DoesNothing v w) n (seen_by old) b.index (seen_by b) → IsTried holds b answer a → HasEnded (AtLast (λ v w. TurnedBack (holds n) DoesNothing v w) (λ before after. holds n before answer after)) old a
+call_ended holds n old b a answer same counted other tries is =
+    let pinned = subst (λ (k : ℕ). Pinned (holds k) b answer a) tries.index is.pinned in
+    record {
+      rests = is.rests;
+      index = is.index ∙ counted b.index ∙ ap next_index (tries.index ∙ same);
+      ends = record { before = seen_by b; tries = tries.tries; back = tries.back; last = had_pin (holds n) b a answer other pinned };
+    }
+
+-- or it is cut off
+pub cut_last : (c : CoreCall) (b a : Caller) → IsAtRest b → IsCutTry c b a → CutsOff c b.index (seen_by b) (place_in a.cut) (seen_by a)
+cut_last c b a rests is = ⊎_elim
+    (λ (same : a ≡ b). inl (ap (λ (d : Caller). place_in d.cut) same ∙ ap place_in rests.2, ap seen_by same))
+    (λ (stops : StopsTry c b a). inr (subst (λ (p : Option ℕ). StopsAt c b.index (seen_by b) p (seen_by a)) (sym (ap place_in stops.tells)) stops.stops))
+    is.cut
+
+-- and its caller tells of no other call
+abbrev TellsCall : CoreCall → ℕ → Option CutCall → Type 0
+TellsCall c n o = IfSome o (λ (cut : CutCall). (cut.call ≡ c) × (cut.index ≡ n))
+
+pub tells_stopped : (c : CoreCall) (old b a : Caller) → b.index ≡ old.index → StopsTry c b a → TellsCall c old.index a.cut
+tells_stopped c old b a index stops = subst (TellsCall c old.index) (sym stops.tells) (refl, index)
+
+pub cut_tells : (c : CoreCall) (old b a : Caller) → IsAtRest b → b.index ≡ old.index → IsCutTry c b a → TellsCall c old.index a.cut
+cut_tells c old b a rests index is = ⊎_elim
+    (λ (same : a ≡ b). subst (TellsCall c old.index) (sym (ap (λ (d : Caller). d.cut) same ∙ rests.2)) tt)
+    (λ (stops : StopsTry c b a). tells_stopped c old b a index stops)
+    is.cut
+
+-- the room that it leaves
+pub cut_room : (c : CoreCall) (old b a : Caller) → b.number ≡ old.number → b.index ≡ old.index → spare_of old ≤ spare_of b → IsCutTry c b a → spare_of old ≤ spare_of a + length (own_cut old c a)
+cut_room c old b a number index less is =
+    let now : spare_of b ≤ spare_of a + length (own_cut old c a) =
+    subst (λ (q : ℕ × ℕ). spare_of b ≤ spare_of a + length (own_at q.0 q.1 (change_of (op_of c)) (place_in a.cut))) (λ k. (number k, index k)) is.spare in
+    omega arith
+
+pub cut_ended : (back : Member → Member → Type 0) (c : CoreCall) (old b a : Caller) → StillOrRests old b → b.number ≡ old.number → spare_of old ≤ spare_of b → Tries back old.index (seen_by old) b.index (seen_by b) → IsCutTry c b a → IsCutCall back c old a
+cut_ended back c old b a still number less tries is = record {
+  spent = is.spent;
+  index = is.index ∙ tries.index;
+  cut = ⊎_elim
+      (λ (first : b ≡ old). ⊎_elim
+      (λ (same : a ≡ b). inl (same ∙ first))
+      (λ (stops : StopsTry c b a). inr (within (inr (subst (λ (p : Option ℕ). StopsAt c b.index (seen_by b) p (seen_by a)) (sym (ap place_in stops.tells)) stops.stops)) (tells_stopped c old b a tries.index stops)))
+      is.cut)
+      (λ (rests : IsAtRest b). inr (within (cut_last c b a rests is) (cut_tells c old b a rests tries.index is)))
+      still;
+  spare = cut_room c old b a number tries.index less is;
+}
+  where
+    within : CutsOff c b.index (seen_by b) (place_in a.cut) (seen_by a) → TellsCall c old.index a.cut → IsCutWithin back c old a
+    within cuts tells = record {
+      last = record { before = seen_by b; tries = tries.tries; back = tries.back; last = subst (λ (k : ℕ). CutsOff c k (seen_by b) (place_in a.cut) (seen_by a)) tries.index cuts };
+      tells = tells;
+    }
+
+pub get_ends : (name : List ℕ) (old b a : Caller) (t : Tried Placed) (end : Ended Placed) → StillOrRests old b → b.number ≡ old.number → spare_of old ≤ spare_of b → Tries (CallBack (call.Get name) old.index) old.index (seen_by old) b.index (seen_by b) → ended_by t ≡ Some end
+    → OnTried t (λ answer. IsTried (Answers (call.Get name)) b answer a) (IsCutTry (call.Get name) b a)
+    → OnDone end (λ placed. HasEnded (AtLast (CallBack (call.Get name) old.index) (λ before after. Answers (call.Get name) old.index before (once.Done placed) after)) old a) (IsCutCall (CallBack (call.Get name) old.index) (call.Get name) old a)
+get_ends name old b a (tried.Answered (once.Done placed)) end still number less tries ends is =
     let gives : ended.Done placed ≡ end = cc in
-    let last = had_pin (Answers (call.Get name) i) b a (once.Done placed) (λ first second no. cc) is in
-    record {
-      index = index ∙ ap next_index tries.index;
-      done = subst (λ (e : Ended Placed). IsDone e (λ placed. AtLast (GetBack name n) (λ before after. Answers (call.Get name) n before (once.Done placed) after) old (seen_by a))) gives
-          (record { before = seen_by b; tries = tries.tries; back = tries.back; last = subst (λ (k : ℕ). Answers (call.Get name) k (seen_by b) (once.Done placed) (seen_by a)) tries.index last });
-    }
-get_ends name n i j old b a (tried.Answered (once.Spent clock)) end tries ends index is = absurd (had_pin (Answers (call.Get name) i) b a (once.Spent clock) (λ first second no. cc) is).says.reached
-get_ends name n i j old b a (tried.Answered (once.Worn node word)) end tries ends index is = absurd (cc)
-get_ends name n i j old b a (tried.Answered (once.Again why)) end tries ends index is = absurd (cc)
-get_ends name n i j old b a tried.Cut end tries ends index is = absurd is
+    subst (λ (e : Ended Placed). OnDone e (λ placed. HasEnded (AtLast (CallBack (call.Get name) old.index) (λ before after. Answers (call.Get name) old.index before (once.Done placed) after)) old a) (IsCutCall (CallBack (call.Get name) old.index) (call.Get name) old a)) gives
+    (call_ended (Answers (call.Get name)) old.index old b a (once.Done placed) refl (λ m. refl) (λ first second no. cc) tries is)
+get_ends name old b a (tried.Answered (once.Spent clock)) end still number less tries ends is = absurd (had_pin (Answers (call.Get name) b.index) b a (once.Spent clock) (λ first second no. cc) is.pinned).says.reached
+get_ends name old b a (tried.Answered (once.Worn node word)) end still number less tries ends is = absurd (cc)
+get_ends name old b a (tried.Answered (once.Again why)) end still number less tries ends is = absurd (cc)
+get_ends name old b a tried.Cut end still number less tries ends is =
+    let gives : ended.Cut ≡ end = cc in
+    subst (λ (e : Ended Placed). OnDone e (λ placed. HasEnded (AtLast (CallBack (call.Get name) old.index) (λ before after. Answers (call.Get name) old.index before (once.Done placed) after)) old a) (IsCutCall (CallBack (call.Get name) old.index) (call.Get name) old a)) gives
+    (cut_ended (CallBack (call.Get name) old.index) (call.Get name) old b a still number less tries is)
 
-pub record PartEnds (low : List ℕ) (count n : ℕ) (old : Member) (j : ℕ) (w : Member) (end : Ended PartWords) : Type 0 where
-  pub index : j ≡ next_index n
-  pub done : IsDone end (λ words. AtLast (PartBack low count n) (λ before after. PartAnswers low count n before (once.Done words) after) old w)
-
-pub part_ends_so : (low : List ℕ) (count n i j : ℕ) (old : Member) (b a : Caller) (t : Tried PartWords) (end : Ended PartWords) → Tries (PartBack low count n) n old i (seen_by b) → ended_by t ≡ Some end → IsAnswered t (λ answer. j ≡ counted_index i answer)
-    → IsAnswered t (λ answer. Pinned (PartAnswers low count i) b answer a) → PartEnds low count n old j (seen_by a) end
-part_ends_so low count n i j old b a (tried.Answered (once.Done words)) end tries ends index is =
+pub part_ends_so : (low : List ℕ) (count : ℕ) (old b a : Caller) (t : Tried PartWords) (end : Ended PartWords) → StillOrRests old b → b.number ≡ old.number → spare_of old ≤ spare_of b → Tries (PartBack low count old.index) old.index (seen_by old) b.index (seen_by b) → ended_by t ≡ Some end
+    → OnTried t (λ answer. IsTried (PartAnswers low count) b answer a) (IsCutTry (call.Part low count) b a)
+    → OnDone end (λ words. HasEnded (AtLast (PartBack low count old.index) (λ before after. PartAnswers low count old.index before (once.Done words) after)) old a) (IsCutCall (PartBack low count old.index) (call.Part low count) old a)
+part_ends_so low count old b a (tried.Answered (once.Done words)) end still number less tries ends is =
     let gives : ended.Done words ≡ end = cc in
-    let last = had_pin (PartAnswers low count i) b a (once.Done words) (λ first second no. cc) is in
-    record {
-      index = index ∙ ap next_index tries.index;
-      done = subst (λ (e : Ended PartWords). IsDone e (λ words. AtLast (PartBack low count n) (λ before after. PartAnswers low count n before (once.Done words) after) old (seen_by a))) gives
-          (record { before = seen_by b; tries = tries.tries; back = tries.back; last = subst (λ (k : ℕ). PartAnswers low count k (seen_by b) (once.Done words) (seen_by a)) tries.index last });
-    }
-part_ends_so low count n i j old b a (tried.Answered (once.Spent clock)) end tries ends index is = absurd (had_pin (PartAnswers low count i) b a (once.Spent clock) (λ first second no. cc) is).looks.says.reached
-part_ends_so low count n i j old b a (tried.Answered (once.Worn node word)) end tries ends index is = absurd (cc)
-part_ends_so low count n i j old b a (tried.Answered (once.Again why)) end tries ends index is = absurd (cc)
-part_ends_so low count n i j old b a tried.Cut end tries ends index is = absurd is
+    subst (λ (e : Ended PartWords). OnDone e (λ words. HasEnded (AtLast (PartBack low count old.index) (λ before after. PartAnswers low count old.index before (once.Done words) after)) old a) (IsCutCall (PartBack low count old.index) (call.Part low count) old a)) gives
+    (call_ended (PartAnswers low count) old.index old b a (once.Done words) refl (λ m. refl) (λ first second no. cc) tries is)
+part_ends_so low count old b a (tried.Answered (once.Spent clock)) end still number less tries ends is = absurd (had_pin (PartAnswers low count b.index) b a (once.Spent clock) (λ first second no. cc) is.pinned).looks.says.reached
+part_ends_so low count old b a (tried.Answered (once.Worn node word)) end still number less tries ends is = absurd (cc)
+part_ends_so low count old b a (tried.Answered (once.Again why)) end still number less tries ends is = absurd (cc)
+part_ends_so low count old b a tried.Cut end still number less tries ends is =
+    let gives : ended.Cut ≡ end = cc in
+    subst (λ (e : Ended PartWords). OnDone e (λ words. HasEnded (AtLast (PartBack low count old.index) (λ before after. PartAnswers low count old.index before (once.Done words) after)) old a) (IsCutCall (PartBack low count old.index) (call.Part low count) old a)) gives
+    (cut_ended (PartBack low count old.index) (call.Part low count) old b a still number less tries is)
 
 -- what is noted stays so
 stays_noted : (noted : Bool) (answer : TurnReply) → noted ≡ true → noted_in noted answer ≡ true
@@ -223,78 +280,83 @@ pub held_reads : (word : ℕ) (v w : Member) → TurnHeld word v w → HasOnlyRe
 held_reads word v w is = turn_reads first_epoch v w (reply.Held word) (is first_epoch)
 
 -- What a try of a turn comes to.
-abbrev pub TriesTurn : ℕ → Member → PinMember → TriedTurn → Member → PinMember → Type 0
-TriesTurn parties v pins t w pins_now = IsTold t (λ turned epoch advanced. MadeTurn parties v pins turned epoch advanced w pins_now) (λ word. TurnHeld word v w × (pins_now ≡ pins))
+abbrev pub TriesTurn : ℕ → Caller → TriedTurn → Caller → Type 0
+TriesTurn parties b t a = OnTurn t (λ turned epoch advanced. MadeTurn parties (seen_by b) (pins_of b) turned epoch advanced (seen_by a) (pins_of a)) (λ word. TurnHeld word (seen_by b) (seen_by a) × (pins_of a ≡ pins_of b)) (IsCutTurnTry parties b a)
 
--- a turn that finds the updater lock taken, and the last one
-pub turn_again : (parties : ℕ) (old v w : Member) (first pins pins_now : PinMember) (t : TriedTurn) → EachIs FoundHeld old v → HasOnlyRead old v → pins ≡ first → turn_ended_by t ≡ None → TriesTurn parties v pins t w pins_now
-    → EachIs FoundHeld old w × HasOnlyRead old w × (pins_now ≡ first)
-turn_again parties old v w first pins pins_now (turn.Turned turned epoch advanced) tries back same none is = absurd (cc)
-turn_again parties old v w first pins pins_now (turn.Held word) tries back same none is = (one_more tries (word, is.0), back_trans old v w back (held_reads word v w is.0), is.1 ∙ same)
-turn_again parties old v w first pins pins_now turn.Cut tries back same none is = absurd is
+-- a turn that finds the updater lock taken, and the last one, which is made or cut off
+pub turn_again : (parties : ℕ) (old : Member) (first : PinMember) (b a : Caller) (t : TriedTurn) → EachIs FoundHeld old (seen_by b) → HasOnlyRead old (seen_by b) → pins_of b ≡ first → turn_ended_by t ≡ None → TriesTurn parties b t a
+    → EachIs FoundHeld old (seen_by a) × HasOnlyRead old (seen_by a) × (pins_of a ≡ first)
+turn_again parties old first b a (turn.Turned turned epoch advanced) tries back same none is = absurd (cc)
+turn_again parties old first b a (turn.Held word) tries back same none is = (one_more tries (word, is.0), back_trans old (seen_by b) (seen_by a) back (held_reads word (seen_by b) (seen_by a) is.0), is.1 ∙ same)
+turn_again parties old first b a turn.Cut tries back same none is = absurd (cc)
 
-pub turn_ends_so : (parties : ℕ) (old v w : Member) (first pins pins_now : PinMember) (t : TriedTurn) (end : Ended Turned) → EachIs FoundHeld old v → HasOnlyRead old v → pins ≡ first → turn_ended_by t ≡ Some end → TriesTurn parties v pins t w pins_now
-    → IsDone end (λ turned. TurnedAtLast parties old first turned w pins_now)
-turn_ends_so parties old v w first pins pins_now (turn.Turned turned epoch advanced) end tries back same ends is =
+pub turn_rests : (a : Caller) (t : TriedTurn) → turn_ended_by t ≡ None → OnTurn t (λ turned epoch advanced. IsAtRest a) (λ word. IsAtRest a) (Unit {0}) → IsAtRest a
+turn_rests a (turn.Turned turned epoch advanced) none rests = rests
+turn_rests a (turn.Held word) none rests = rests
+turn_rests a turn.Cut none rests = absurd (cc)
+
+turn_cut : (parties : ℕ) (old b a : Caller) → StillOrRests old b → EachIs FoundHeld (seen_by old) (seen_by b) → HasOnlyRead (seen_by old) (seen_by b) → pins_of b ≡ pins_of old → IsCutTurnTry parties b a → IsCutTurn parties old a
+turn_cut parties old b a still tries back same is = record {
+  spent = is.spent;
+  cut = ⊎_elim
+      (λ (none : a ≡ b). ⊎_elim
+      (λ (first : b ≡ old). inl (none ∙ first))
+      (λ (rests : IsAtRest b). inr (at_last (inl (ap seen_by none, ap pins_of none))))
+      still)
+      (λ (stops : TurnStops parties (seen_by b) (pins_of b) (seen_by a) (pins_of a)). inr (at_last (inr stops)))
+      is.cut;
+}
+  where
+    at_last : TurnCutsOff parties (seen_by b) (pins_of b) (seen_by a) (pins_of a) → AtLast FoundHeld (λ before after. TurnCutsOff parties before (pins_of old) after (pins_of a)) (seen_by old) (seen_by a)
+    at_last cuts = record { before = seen_by b; tries = tries; back = back; last = subst (λ (p : PinMember). TurnCutsOff parties (seen_by b) p (seen_by a) (pins_of a)) same cuts }
+
+pub turn_ends_so : (parties : ℕ) (old b a : Caller) (t : TriedTurn) (end : Ended Turned) → StillOrRests old b → EachIs FoundHeld (seen_by old) (seen_by b) → HasOnlyRead (seen_by old) (seen_by b) → pins_of b ≡ pins_of old → turn_ended_by t ≡ Some end → TriesTurn parties b t a
+    → OnTurn t (λ turned epoch advanced. IsAtRest a) (λ word. IsAtRest a) (Unit {0}) → OnDone end (λ turned. IsAtRest a × TurnedAtLast parties (seen_by old) (pins_of old) turned (seen_by a) (pins_of a)) (IsCutTurn parties old a)
+turn_ends_so parties old b a (turn.Turned turned epoch advanced) end still tries back same ends is rests =
     let gives : ended.Done turned ≡ end = cc in
-    subst (λ (e : Ended Turned). IsDone e (λ turned. TurnedAtLast parties old first turned w pins_now)) gives
-    (record { epoch = epoch; advanced = advanced; last = record { before = v; tries = tries; back = back; last = subst (λ (p : PinMember). MadeTurn parties v p turned epoch advanced w pins_now) same is } })
-turn_ends_so parties old v w first pins pins_now (turn.Held word) end tries back same ends is = absurd (cc)
-turn_ends_so parties old v w first pins pins_now turn.Cut end tries back same ends is = absurd is
+    subst (λ (e : Ended Turned). OnDone e (λ turned. IsAtRest a × TurnedAtLast parties (seen_by old) (pins_of old) turned (seen_by a) (pins_of a)) (IsCutTurn parties old a)) gives (
+      rests,
+      record { epoch = epoch; advanced = advanced; last = record { before = seen_by b; tries = tries; back = back; last = subst (λ (p : PinMember). MadeTurn parties (seen_by b) p turned epoch advanced (seen_by a) (pins_of a)) same is } },
+    )
+turn_ends_so parties old b a (turn.Held word) end still tries back same ends is rests = absurd (cc)
+turn_ends_so parties old b a turn.Cut end still tries back same ends is rests =
+    let gives : ended.Cut ≡ end = cc in
+    subst (λ (e : Ended Turned). OnDone e (λ turned. IsAtRest a × TurnedAtLast parties (seen_by old) (pins_of old) turned (seen_by a) (pins_of a)) (IsCutTurn parties old a)) gives (turn_cut parties old b a still tries back same is)
 
 -- of a turn that was tried until it was made
 pub turned_at_last : (parties : ℕ) (old w : Member) (pins pins_now : PinMember) (turned : Turned) → TurnedAtLast parties old pins turned w pins_now → HasMadeTurn turned old w
 turned_at_last parties old w pins pins_now turned is = record { before = is.last.before; tries = is.last.tries; back = is.last.back; last = (is.epoch, is.last.last.answers) }
 
-pub turned_done : (parties : ℕ) (old w : Member) (pins pins_now : PinMember) (end : Ended Turned) (turned : Turned) → end ≡ ended.Done turned → IsDone end (λ turned. TurnedAtLast parties old pins turned w pins_now) → HasMadeTurn turned old w
-turned_done parties old w pins pins_now end turned is done =
-    turned_at_last parties old w pins pins_now turned (subst (λ (e : Ended Turned). IsDone e (λ turned. TurnedAtLast parties old pins turned w pins_now)) is done)
+-- of whichever try of a turn: what it leaves
+stops_reads : (epoch : ℕ) (v w : Member) → TurnStopsAt epoch v w → HasOnlyRead v w
+stops_reads epoch v w is = record {
+  about = is.about;
+  caller = ap (λ (e : PartyState). e.caller) is.state;
+  taken = let t = is.taken in omega arith;
+  added = is.added;
+  none_free = λ noted. is.none_free ∙ noted;
+  known = still_same v.known w.known is.known;
+  seen = is.seen;
+  own = is.own;
+}
 
--- of whichever try of a turn: what it is answered, and that its caller is one still
-tried_answers : (parties : ℕ) (v w : Member) (pins pins_now : PinMember) (t : TriedTurn) → TriesTurn parties v pins t w pins_now → (epoch : ℕ) × (answer : TurnReply) × TurnAnswers epoch v answer w
-tried_answers parties v w pins pins_now (turn.Turned turned epoch advanced) is = (epoch, reply.Turned turned, is.answers)
-tried_answers parties v w pins pins_now (turn.Held word) is = (first_epoch, reply.Held word, is.0 first_epoch)
-tried_answers parties v w pins pins_now turn.Cut is = absurd is
+pub cut_turn_reads : (parties : ℕ) (v w : Member) (pins pins_now : PinMember) → TurnStops parties v pins w pins_now → HasOnlyRead v w
+cut_turn_reads parties v w pins pins_now is = ⊎_elim
+    (λ (first : StopsUndated v pins w pins_now). stops_reads first_epoch v w first.stops)
+    (λ (later : StopsDated parties v pins w pins_now). stops_reads later.epoch v w later.stops)
+    is
 
-pub tried_reads : (parties : ℕ) (b a : Caller) (t : TriedTurn) → TriesTurn parties (seen_by b) (pins_of b) t (seen_by a) (pins_of a) → HasOnlyRead (seen_by b) (seen_by a)
-tried_reads parties b a t is =
-    let told = tried_answers parties (seen_by b) (seen_by a) (pins_of b) (pins_of a) t is in
-    turn_reads told.0 (seen_by b) (seen_by a) told.1 told.2
+pub tried_reads : (parties : ℕ) (b a : Caller) (t : TriedTurn) → TriesTurn parties b t a → HasOnlyRead (seen_by b) (seen_by a)
+tried_reads parties b a (turn.Turned turned epoch advanced) is = turn_reads epoch (seen_by b) (seen_by a) (reply.Turned turned) is.answers
+tried_reads parties b a (turn.Held word) is = held_reads word (seen_by b) (seen_by a) is.0
+tried_reads parties b a turn.Cut is = ⊎_elim
+    (λ (same : a ≡ b). subst (λ (d : Caller). HasOnlyRead (seen_by b) (seen_by d)) (sym same) (back_self (seen_by b)))
+    (λ (stops : TurnStops parties (seen_by b) (pins_of b) (seen_by a) (pins_of a)). cut_turn_reads parties (seen_by b) (seen_by a) (pins_of b) (pins_of a) stops)
+    is.cut
 
-pub turned_caller : (s : Shared) (b a : Caller) (t : TriedTurn) → IsCallerOf s b → a.number ≡ b.number → pairs a.kept.items ≡ pairs b.kept.items → a.seat.table_id ≡ b.seat.table_id → IsLone a.seat.me → IsSeatOf s.epochs a.pins → a.pins.party ≡ b.pins.party → (pins_of a).pin ≡ (pins_of b).pin
-    → TriesTurn s.epochs.parties (seen_by b) (pins_of b) t (seen_by a) (pins_of a) → IsCallerOf s a
-turned_caller s b a t is number kept table lone pins party pin tries =
-    let told = (tried_answers s.epochs.parties (seen_by b) (seen_by a) (pins_of b) (pins_of a) t tries).2 in
-    let own : placed_by b.number (seen_by a).seen ≡ placed_by b.number (seen_by b).seen = subst (λ (n : ℕ). placed_by n (seen_by a).seen ≡ placed_by n (seen_by b).seen) is.number told.own in
-    record {
-      table = table ∙ is.table;
-      lone = lone;
-      about = told.about ∙ is.about;
-      idle = ap (λ (e : PartyState). e.machine) told.state ∙ is.idle;
-      resting = ap (λ (e : PartyState). e.turn) told.state;
-      number = ap (λ (e : PartyState). e.caller) told.state ∙ is.number ∙ sym number;
-      within = subst (λ (n : ℕ). n < parties_of s.about.layout) (sym number) is.within;
-      kept = kept ∙ is.kept ∙ sym own ∙ ap (λ (n : ℕ). placed_by n (seen_by a).seen) (sym number);
-      pins = pins;
-      unpinned = pin ∙ is.unpinned;
-      pinning = party ∙ is.pinning ∙ sym number;
-    }
-
--- a caller that has made a recheck is one still
-pub rechecked_caller : (s : Shared) (b a : Caller) (node version : ℕ) (answer : Once Same) → IsCallerOf s b → a.number ≡ b.number → pairs a.kept.items ≡ pairs b.kept.items → a.seat.table_id ≡ b.seat.table_id → IsLone a.seat.me → IsSeatOf s.epochs a.pins → a.pins.party ≡ b.pins.party → IsUnpinned a.pins
-    → Rechecked node version (seen_by b) answer (seen_by a) → IsCallerOf s a
-rechecked_caller s b a node version answer is number kept table lone pins party unpinned made =
-    let own : placed_by b.number (seen_by a).seen ≡ placed_by b.number (seen_by b).seen = subst (λ (n : ℕ). placed_by n (seen_by a).seen ≡ placed_by n (seen_by b).seen) is.number made.own in
-    record {
-      table = table ∙ is.table;
-      lone = lone;
-      about = made.about ∙ is.about;
-      idle = ap (λ (e : PartyState). e.machine) made.state ∙ is.idle;
-      resting = ap (λ (e : PartyState). e.turn) made.state ∙ is.resting;
-      number = ap (λ (e : PartyState). e.caller) made.state ∙ is.number ∙ sym number;
-      within = subst (λ (n : ℕ). n < parties_of s.about.layout) (sym number) is.within;
-      kept = kept ∙ is.kept ∙ sym own ∙ ap (λ (n : ℕ). placed_by n (seen_by a).seen) (sym number);
-      pins = pins;
-      unpinned = unpinned;
-      pinning = party ∙ is.pinning ∙ sym number;
-    }
+-- and of one that was cut off, before its first step or behind one
+pub cuts_turn_read : (parties : ℕ) (v w : Member) (pins pins_now : PinMember) → TurnCutsOff parties v pins w pins_now → HasOnlyRead v w
+cuts_turn_read parties v w pins pins_now is = ⊎_elim
+    (λ (same : (w ≡ v) × (pins_now ≡ pins)). subst (λ (x : Member). HasOnlyRead v x) (sym same.0) (back_self v))
+    (λ (stops : TurnStops parties v pins w pins_now). cut_turn_reads parties v w pins pins_now stops)
+    is

@@ -40,7 +40,7 @@ use Rattle.pac_index.specs.declared.rule.About.{About}
 use Rattle.pac_index.specs.declared.rule.AnsweredPart.{AnsweredPart}
 use Rattle.pac_index.specs.declared.rule.Member.{Member}
 use Rattle.index_core.specs.Heard.{RunningTold}
-use Rattle.pac_index.specs.Kept.{HasPart, answered_now, placed_by, noted, Goes, view_in, machine_in, calling, added_now}
+use Rattle.pac_index.specs.Kept.{HasPart, answered_now, placed_by, noted, Goes, GoesTimely, view_in, machine_in, calling, added_now}
 use Rattle.pac_index.specs.Calls.{own_at, run_of, began, Runs, Answers, part_in, PartAnswers, StepsOn, turn_left}
 use Rattle.index_core.specs.MachineLaws.{IsNoEpoch, IsReady, ReadyAfter, place_now, place_next}
 use Rattle.index_core.proofs.MachineLaw.{first_ready, places_follow}
@@ -94,7 +94,7 @@ after_after : (e : PartyState) (m : Running) (turn : Turn Running (Once Placed))
 after_after e m (Go next) = refl
 after_after e m (Done answer) = refl
 
-first_limit : (v : Member) (c : CoreCall) → (running_call (machine_in v c)).limit ≡ limit_of c
+pub first_limit : (v : Member) (c : CoreCall) → (running_call (machine_in v c)).limit ≡ limit_of c
 first_limit v (call.Put name value limit) = refl
 first_limit v (call.Get name) = refl
 first_limit v (call.Del name limit) = refl
@@ -133,6 +133,7 @@ runs_first c n old since later here of = record {
   no_epoch = tt;
   heard = nothing_told old.about.layout old.about.generation (view_in old) c;
   ready = first_ready (view_in old) c here;
+  timely = subst (λ (p : Option ℕ). IfSome p (λ _. IfSome (running_call (machine_in old c)).limit (λ most. since < most))) (sym (first_unplaced old c)) tt;
 }
 
 -- what goes on with the call that goes on with another one
@@ -180,6 +181,7 @@ runs_on c n old v w turn m x runs is goes =
       heard = subst (λ (told : List ℕ). RunningTold old.about.layout old.about.generation told turn') (sym goes.told)
           (running_told old.about.layout old.about.generation m v.told x sound (subst (RunningTold old.about.layout old.about.generation v.told) is runs.heard));
       ready = subst (λ (b : About). ReadyAfter b.layout b.generation turn') runs.about goes.ready;
+      timely = subst (λ (k : ℕ). GoesTimely k turn') (ap (λ (e : PartyState). e.since) state) goes.timely;
     }
 
 -- the answer that it ends with

@@ -1,15 +1,20 @@
 -- How a scan goes on by one part.
-use Rattle.std.proofs.Common.{◌≡◌, ℕ, ◌-◌, ◌<◌, ◌≤◌, ◌^◌, true, false, Option, Some, None, List, [], ◌∷◌, ◌++◌, length, refl, sym, ap, subst, ◌∙◌, arith, All}
+use Rattle.std.proofs.Common.{◌≡◌, ℕ, ◌-◌, ◌<◌, ◌≤◌, ◌^◌, true, false, Option, Some, None, List, [], ◌∷◌, ◌++◌, length, ⊎_elim, inl, inr, refl, sym, ap, subst, ◌∙◌, arith, All}
 use Rattle.std.proofs.lemmas.Bool.{ltb-true}
-use Rattle.std.proofs.lemmas.List.{append-nil}
+use Rattle.std.proofs.lemmas.List.{append-nil, append_assoc}
 use Rattle.std.proofs.lemmas.List.Elements.{All-push, All-weaker}
-use Rattle.std.specs.Prelude.{IfSome}
+use Rattle.std.specs.Prelude.{Err, IfSome, Ok, Result}
+use Rattle.pac_index.specs.declared.scans.Scanned.{Scanned}
+use Rattle.pac_index.specs.declared.scans.Scanned.TheVariants as scanned
+use Rattle.index_core.specs.PartyStates.{next_index}
 use Rattle.std.specs.List.{AllByRecursion}
 use Rattle.std.proofs.Common.{take, ◌+◌}
 use Rattle.cat_key.specs.Names.{IsName, AreNameWords}
 use Rattle.cat_key.specs.declared.Pair.{Pair}
 use Rattle.cat_history.specs.Maps.{Map, map_of}
 use Rattle.cat_history.specs.Scans.{is_below, range, IsPart, AreParts, GoesOn}
+use Rattle.cat_history.specs.Scans.AreParts.{cut_off, goes_on}
+use Rattle.index_core.specs.declared.party.CoreCall.TheVariants as call
 use Rattle.cat_history.specs.Writes.{after}
 use Rattle.cat_history.specs.declared.op.Write.{Write}
 use Rattle.cat_history.specs.declared.record.ScanPart.{ScanPart}
@@ -28,11 +33,17 @@ use Rattle.index_core.specs.Weights.{added_if}
 use Rattle.pac_index.specs.declared.rule.About.{About}
 use Rattle.pac_index.specs.declared.rule.Member.{Member}
 use Rattle.pac_index.specs.Kept.{Begins, placed_by}
-use Rattle.pac_index.specs.Calls.{PartAnswers}
+use Rattle.pac_index.specs.declared.caller.Caller.{Caller}
+use Rattle.pac_index.specs.declared.caller.CutCall.{CutCall}
+use Rattle.pac_index.specs.Budgets.{CutsOff, PartBack, StopsAt, place_in}
+use Rattle.pac_index.specs.Callers.{IsAtRest, seen_by}
+use Rattle.pac_index.specs.Calls.{PartAnswers, own_at}
+use Rattle.pac_index.specs.CutScans.{IsCutScan, IsPartCut, PartEnds, PartsEnd, ScanEnds, is_cut_scan}
+use Rattle.pac_index.specs.Cuts.{IsCutCall, IsCutWithin}
 use Rattle.pac_index.specs.Ends.{AtLast, DoesNothing, HasOnlyRead, TurnedBack}
 use Rattle.pac_index.specs.Scanned.{AreScanned, IsNamed, IsRead}
 use Rattle.pac_index.proofs.Lists.{begins_self, begins_trans, begins_le}
-use Rattle.pac_index.proofs.Repeating.{back_self, back_trans}
+use Rattle.pac_index.proofs.Repeating.{StillOrRests, back_self, back_trans}
 
 -- a part that took place has read alone
 done_reads : (low : List ℕ) (count n : ℕ) (v w : Member) (words : PartWords) → PartAnswers low count n v (once.Done words) w → HasOnlyRead v w
@@ -77,7 +88,98 @@ module _ (low : List ℕ) (left n : ℕ) (old new : Member) (words : PartWords) 
     named = named;
   }
 
+-- a part that was cut off has read alone
+nothing_own : (caller index : ℕ) (place : Option ℕ) → own_at caller index None place ≡ []
+nothing_own caller index None = refl
+nothing_own caller index (Some place) = refl
+
+stops_read : (low : List ℕ) (count n : ℕ) (v w : Member) (place : Option ℕ) → StopsAt (call.Part low count) n v place w → HasOnlyRead v w
+stops_read low count n v w place is = record {
+  about = is.about;
+  caller = is.caller;
+  taken = let t = is.taken in omega arith;
+  added = is.added;
+  none_free = λ noted. is.none_free ∙ noted;
+  known = is.known;
+  seen = is.seen;
+  own = is.own ∙ ap (λ (l : List (ℕ × Write)). placed_by v.state.caller v.seen ++ l) (nothing_own v.state.caller n place) ∙ append-nil (placed_by v.state.caller v.seen);
+}
+
+cuts_read : (low : List ℕ) (count n : ℕ) (v w : Member) (place : Option ℕ) → CutsOff (call.Part low count) n v place w → HasOnlyRead v w
+cuts_read low count n v w place is = ⊎_elim
+    (λ (none : (place ≡ None) × (w ≡ v)). subst (λ (x : Member). HasOnlyRead v x) (sym none.1) (back_self v))
+    (λ (stops : StopsAt (call.Part low count) n v place w). stops_read low count n v w place stops)
+    is
+
+pub cut_reads : (low : List ℕ) (count : ℕ) (old a : Caller) → IsCutCall (PartBack low count old.index) (call.Part low count) old a → HasOnlyRead (seen_by old) (seen_by a)
+cut_reads low count old a is = ⊎_elim
+    (λ (same : a ≡ old). subst (λ (d : Caller). HasOnlyRead (seen_by old) (seen_by d)) (sym same) (back_self (seen_by old)))
+    (λ (within : IsCutWithin (PartBack low count old.index) (call.Part low count) old a).
+    back_trans (seen_by old) within.last.before (seen_by a) within.last.back (cuts_read low count old.index within.last.before (seen_by a) (place_in a.cut) within.last.last))
+    is.cut
+
+-- and its caller tells of no more than that part
+part_cut : (low : List ℕ) (count n : ℕ) (o : Option CutCall) → IfSome o (λ (cut : CutCall). (cut.call ≡ call.Part low count) × (cut.index ≡ n)) → IsPartCut o n
+part_cut low count n None is = tt
+part_cut low count n (Some cut) is = (low, count, is.0, is.1)
+
+pub cut_scan : (low : List ℕ) (count : ℕ) (old a : Caller) → IsCutCall (PartBack low count old.index) (call.Part low count) old a → IsCutScan old (record a { index = old.index })
+cut_scan low count old a is = record {
+  spent = is.spent;
+  cut = ⊎_elim
+      (λ (same : a ≡ old). inl (ap (λ (d : Caller). record d { index = old.index }) same))
+      (λ (within : IsCutWithin (PartBack low count old.index) (call.Part low count) old a). inr (part_cut low count old.index a.cut within.tells))
+      is.cut;
+}
+
+-- so it is of the whole scan
+pub cut_scan_since : (old b a : Caller) → StillOrRests old b → b.index ≡ old.index → IsCutScan b a → IsCutScan old a
+cut_scan_since old b a still index is = record {
+  spent = is.spent;
+  cut = ⊎_elim
+      (λ (same : a ≡ b). ⊎_elim
+      (λ (first : b ≡ old). inl (same ∙ first))
+      (λ (rests : IsAtRest b). inr (subst (λ (o : Option CutCall). IsPartCut o old.index) (sym (ap (λ (d : Caller). d.cut) same ∙ rests.2)) tt))
+      still)
+      (λ (part : IsPartCut a.cut b.index). inr (subst (IsPartCut a.cut) index part))
+      is.cut;
+}
+
+-- of what one part comes to
+pub part_rests : (E : Type 0) (o : Option ScanPart) (part : ScanPart) (b a : Caller) → o ≡ Some part → PartEnds {E = E} (Ok o) b a → IsAtRest a
+part_rests E (Some p) part b a is ends = ends
+part_rests E None part b a is ends = absurd (cc)
+
+pub part_stopped : (E : Type 0) (o : Option ScanPart) (b a : Caller) → o ≡ None → PartEnds {E = E} (Ok o) b a → IsCutScan b a
+part_stopped E (Some p) b a is ends = absurd (cc)
+part_stopped E None b a is ends = ends
+
+pub part_read : (P : ScanPart → Type 0) (o : Option ScanPart) (part : ScanPart) → o ≡ Some part → IfSome o P → P part
+part_read P o part is read = subst (λ (q : Option ScanPart). IfSome q P) is read
+
+-- a whole scan counts as one call, unless it was cut off
+pub cut_ends : {E : Type 0} (r : Result Scanned E) (old new : Caller) → is_cut_scan r ≡ true → new.index ≡ old.index → PartsEnd r old new → ScanEnds r old new
+cut_ends (Ok (scanned.Done parts)) old new is index ends = absurd (cc)
+cut_ends (Ok (scanned.Cut parts)) old new is index ends = (ends, index)
+cut_ends (Err error) old new is index ends = absurd (cc)
+
+pub end_counts : {E : Type 0} (r : Result Scanned E) (old new : Caller) (next : ℕ) → is_cut_scan r ≡ false → next ≡ next_index old.index → PartsEnd r old new → ScanEnds r old (record new { index = next })
+end_counts (Ok (scanned.Done parts)) old new next is counts ends = (ends, counts)
+end_counts (Ok (scanned.Cut parts)) old new next is counts ends = absurd (cc)
+end_counts (Err error) old new next is counts ends = (ends, counts)
+
 -- ---- the parts so far
+
+-- Whatever comes of a scan from this name on before it is cut off, comes behind these parts.
+abbrev CutsHere : (ℕ → Map) → List ℕ → ℕ → ℕ → Option (List ℕ) → ℕ → ℕ → List ScanPart → Type 0
+CutsHere map_at from count start None left place parts = Unit {0}
+CutsHere map_at from count start (Some low) left place parts = (more : List ScanPart) → AreParts map_at low left place true more → AreParts map_at from count start true (parts ++ more)
+
+cuts_next : (map_at : ℕ → Map) (from : List ℕ) (count start : ℕ) (low : List ℕ) (left place : ℕ) (parts : List ScanPart) (part : ScanPart) → CutsHere map_at from count start (Some low) left place parts → IsPart map_at low left place part → length part.pairs < left
+    → (high : Option (List ℕ)) → part.high ≡ high → CutsHere map_at from count start high (left - length part.pairs) part.place (parts ++ part ∷ [])
+cuts_next map_at from count start low left place parts part was is fewer None ends = tt
+cuts_next map_at from count start low left place parts part was is fewer (Some high) ends =
+    λ more are. subst (AreParts map_at from count start true) (sym (append_assoc parts (part ∷ []) more)) (was (part ∷ more) (goes_on high is fewer ends are))
 
 -- What a scan has so far that began at one view and stands at another: whatever history goes on from there, its parts are
 -- of the maps of that one, and it goes on.
@@ -86,6 +188,7 @@ pub record Scans (from : List ℕ) (count : ℕ) (old now : Member) (next : Opti
   pub place : ℕ
   pub reached : place ≤ length now.seen
   pub goes : (h : List Write) → Begins now.seen h → GoesOn (after (map_of old.about.base) h) from count (length old.seen) next left place parts
+  pub cuts : (h : List Write) → Begins now.seen h → CutsHere (after (map_of old.about.base) h) from count (length old.seen) next left place parts
   pub within : All (λ (p : ScanPart). p.place ≤ length now.seen) parts
   pub named : All IsNamed parts
 
@@ -98,6 +201,7 @@ scans_first from count old parts none = record {
   place = length old.seen;
   reached = omega arith;
   goes = λ h begins. rw none (λ more are. are);
+  cuts = λ h begins. rw none (λ more are. are);
   within = none_yet (λ (p : ScanPart). p.place ≤ length old.seen) parts none;
   named = none_yet IsNamed parts none;
 }
@@ -119,12 +223,14 @@ module _ (from : List ℕ) (count : ℕ) (old now new : Member) (low : List ℕ)
           ∙ ap (λ (l : List Write). after (map_of old.about.base) l part.place) begins.1
 
   scans_next : (next : Option (List ℕ)) → Scans from count old now (Some low) left parts → HasOnlyRead now new → IsRead low left now new part → parts' ≡ parts ++ part ∷ [] →
-      ((h : List Write) → Begins new.seen h → GoesOn (after (map_of old.about.base) h) from count (length old.seen) next left' part.place (parts ++ part ∷ [])) → Scans from count old new next left' parts'
-  scans_next next was reads is grown goes = record {
+      ((h : List Write) → Begins new.seen h → GoesOn (after (map_of old.about.base) h) from count (length old.seen) next left' part.place (parts ++ part ∷ [])) →
+      ((h : List Write) → Begins new.seen h → CutsHere (after (map_of old.about.base) h) from count (length old.seen) next left' part.place (parts ++ part ∷ [])) → Scans from count old new next left' parts'
+  scans_next next was reads is grown goes cuts = record {
     reads = back_trans old now new was.reads reads;
     place = part.place;
     reached = is.within;
     goes = rw grown goes;
+    cuts = rw grown cuts;
     within = rw grown (All-push (λ (p : ScanPart). p.place ≤ length new.seen) parts part (All-weaker (λ (p : ScanPart). p.place ≤ length now.seen) (λ (p : ScanPart). p.place ≤ length new.seen) (λ p here. let more = begins_le now.seen new.seen reads.seen in omega arith) parts was.within) is.within);
     named = rw grown (All-push IsNamed parts part was.named is.named);
   }
@@ -141,13 +247,15 @@ module _ (from : List ℕ) (count : ℕ) (old now new : Member) (low : List ℕ)
   scans_more was reads is fewer some grown =
       scans_next part.high was reads is grown
       (λ h begins. subst (λ (k : ℕ). GoesOn (after (map_of old.about.base) h) from count (length old.seen) part.high k part.place (parts ++ part ∷ [])) (sym fewer) ((follows was reads is h begins).0 (omega (arith, fewer, some))))
+      (λ h begins. subst (λ (k : ℕ). CutsHere (after (map_of old.about.base) h) from count (length old.seen) part.high k part.place (parts ++ part ∷ [])) (sym fewer)
+      (cuts_next (after (map_of old.about.base) h) from count (length old.seen) low left was.place parts part (was.cuts h (begins_trans now.seen new.seen h reads.seen begins)) (of_longer was.reads is was.place was.reached h begins) (omega (arith, fewer, some)) part.high refl))
 
   -- and with none it was the last one
   pub scans_last : Scans from count old now (Some low) left parts → HasOnlyRead now new → IsRead low left now new part → left' ≡ left - length part.pairs → left' ≤ 0 → parts' ≡ parts ++ part ∷ [] →
       Scans from count old new None left' parts'
-  scans_last was reads is fewer none grown = scans_next None was reads is grown (λ h begins. (follows was reads is h begins).1 (omega (arith, fewer, none)))
+  scans_last was reads is fewer none grown = scans_next None was reads is grown (λ h begins. (follows was reads is h begins).1 (omega (arith, fewer, none))) (λ h begins. tt)
 
-pub scans_end : (from : List ℕ) (count : ℕ) (old now : Member) (left : ℕ) (parts : List ScanPart) → Scans from count old now None left parts → AreScanned from count old now parts
+pub scans_end : (from : List ℕ) (count : ℕ) (old now : Member) (left : ℕ) (parts : List ScanPart) → Scans from count old now None left parts → AreScanned from count false old now parts
 scans_end from count old now left parts is =
     let scan = is.goes now.seen (begins_self now.seen) in
     record {
@@ -155,6 +263,17 @@ scans_end from count old now left parts is =
       within = is.within;
       rise = scan_rises (after (map_of old.about.base) now.seen) from count (length old.seen) false parts scan;
       named = is.named;
+    }
+
+-- one that is cut off behind these parts
+pub scans_cut : (from : List ℕ) (count : ℕ) (old now new : Member) (low : List ℕ) (left : ℕ) (parts : List ScanPart) → Scans from count old now (Some low) left parts → HasOnlyRead now new → AreScanned from count true old new parts
+scans_cut from count old now new low left parts was reads =
+    let scan = subst (AreParts (after (map_of old.about.base) new.seen) from count (length old.seen) true) (append-nil parts) (was.cuts new.seen reads.seen [] cut_off) in
+    record {
+      scan = scan;
+      within = All-weaker (λ (p : ScanPart). p.place ≤ length now.seen) (λ (p : ScanPart). p.place ≤ length new.seen) (λ p here. let more = begins_le now.seen new.seen reads.seen in omega arith) parts was.within;
+      rise = scan_rises (after (map_of old.about.base) new.seen) from count (length old.seen) true parts scan;
+      named = was.named;
     }
 
 -- ---- that it ends

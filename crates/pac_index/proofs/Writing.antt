@@ -1,6 +1,6 @@
 -- Tries of a put or a delete, the turns between them, and how they end.
-use Rattle.std.proofs.Common.{◌≡◌, ℕ, zero, suc, ◌+◌, ◌≤◌, Bool, true, false, ◌||◌, length, refl, sym, ap, ◌∙◌, subst, inl, ⊎_elim, arith}
-use Rattle.std.specs.Prelude.{Some, None, List}
+use Rattle.std.proofs.Common.{◌≡◌, ℕ, zero, suc, ◌+◌, ◌-◌, ◌≤◌, inr, Bool, true, false, ◌||◌, length, refl, sym, ap, ◌∙◌, subst, inl, ⊎_elim, arith}
+use Rattle.std.specs.Prelude.{Option, Some, None, IfSome, List, vec_len, vec_capacity}
 use Rattle.std.specs.FinMap.{len}
 use Rattle.cat_history.specs.Maps.{Map, map_of, at}
 use Rattle.cat_history.specs.Writes.{after}
@@ -18,124 +18,103 @@ use Rattle.index_core.specs.declared.party.CoreCall.{CoreCall}
 use Rattle.index_core.specs.declared.party.CoreCall.TheVariants as call
 use Rattle.index_core.specs.Answers.{FoundNoRoom}
 use Rattle.index_core.specs.CoreCalls.{op_of}
+use Rattle.index_core.specs.PartyStates.{next_index}
 use Rattle.index_core.specs.MachineLaws.{place_told}
 use Rattle.pac_index.specs.declared.tried.Tried.{Tried}
 use Rattle.pac_index.specs.declared.tried.Tried.TheVariants as tried
 use Rattle.pac_index.specs.declared.ended.Ended.{Ended}
 use Rattle.pac_index.specs.declared.ended.Ended.TheVariants as ended
 use Rattle.pac_index.specs.declared.caller.Caller.{Caller}
+use Rattle.pac_index.specs.declared.caller.CutCall.{CutCall}
 use Rattle.pac_index.specs.declared.rule.About.{About}
 use Rattle.pac_index.specs.declared.rule.Member.{Member}
 use Rattle.pac_index.specs.Kept.{Begins}
-use Rattle.pac_index.specs.Calls.{Answers, IsAnswered, counted_index, own_at, own_of}
-use Rattle.pac_index.specs.Callers.{seen_by, spare_of}
-use Rattle.pac_index.specs.Pinned.{Pinned}
-use Rattle.pac_index.specs.Ends.{ended_of, ended_by, EachIs, HasOnlyRead, AtLast, IsTry, MovedEpoch}
+use Rattle.pac_index.specs.declared.writes.WriteTry.TheVariants as write
+use Rattle.pac_index.specs.Budgets.{CutsOff, StopsAt, place_in}
+use Rattle.pac_index.specs.Cuts.{HasEnded, IsCutTry, IsCutWithin, IsTried, StopsTry}
+use Rattle.pac_index.specs.Calls.{Answers, OnTried, counted_index, own_at, own_of}
+use Rattle.pac_index.specs.Callers.{IsAtRest, pins_of, seen_by, spare_of}
+use Rattle.pac_index.specs.CutTurns.{IsCutTurn, TurnCutsOff}
+use Rattle.pac_index.specs.CutWrites.{CutInTurn, HasTurnedWithin, IsCutBehind, IsCutWrite, NextSo, TryAnswered, TryBack, TryCut, TryCutInTurn, TryRoom, WriteSo, next_of}
+use Rattle.pac_index.specs.Ends.{ended_of, EachIs, HasOnlyRead, AtLast, IsTry, MovedEpoch}
 use Rattle.pac_index.specs.Ends.EachIs.{no_step, one_more}
-use Rattle.pac_index.specs.Turns.{HasMadeTurn}
-use Rattle.pac_index.specs.Writes.{lacks_line, lacks_node, EndsSo, TurnedForRoom, TurnsBehind, WriteBack, HaveTurned, FoundFull}
+use Rattle.pac_index.specs.Turns.{FoundHeld, HasMadeTurn}
+use Rattle.pac_index.specs.Writes.{EndsSo, TurnedForRoom, TurnsBehind, WriteBack, HaveTurned, FoundFull}
 use Rattle.pac_index.proofs.Lists.{begins_le}
-use Rattle.pac_index.proofs.Repeating.{back_by, back_self, back_trans, had_pin, pinned_try, same_index, turn_reads}
+use Rattle.pac_index.proofs.Repeating.{StillOrRests, back_by, back_self, back_trans, cut_last, cut_room, cut_tells, cuts_turn_read, had_pin, pinned_try, same_index, tells_stopped, turn_reads}
 
-pub index_kept : (n j : ℕ) (t : Tried Placed) → ended_by t ≡ None → IsAnswered t (λ answer. j ≡ counted_index n answer) → j ≡ n
-index_kept n j (tried.Answered answer) none is = is ∙ same_index n answer none
-index_kept n j tried.Cut none is = absurd is
+-- one try, by what it comes to
+module _ (c : CoreCall) (b a : Caller) where
+  answered : (answer : Once Placed) → ((first second : ℕ) → answer ≡ once.Again (again.Epoch first second) → ⊥) → IsTried (Answers c) b answer a → spare_of b ≤ spare_of a + length (own_of b c answer) → TryAnswered c b answer a
+  answered answer other is spare = record { rests = is.rests; index = is.index; answers = had_pin (Answers c b.index) b a answer other is.pinned; spare = spare }
 
-pub spare_kept : (caller : Caller) (c : CoreCall) (a b : ℕ) (t : Tried Placed) → ended_by t ≡ None → IsAnswered t (λ answer. a ≤ b + length (own_of caller c answer)) → a ≤ b
-spare_kept caller c a b (tried.Answered (once.Done placed)) none is = absurd (cc)
-spare_kept caller c a b (tried.Answered (once.Spent clock)) none is = absurd (cc)
-spare_kept caller c a b (tried.Answered (once.Worn node word)) none is = omega arith
-spare_kept caller c a b (tried.Answered (once.Again why)) none is = omega arith
-spare_kept caller c a b tried.Cut none is = absurd is
+  back_so : (answer : Once Placed) → ended_of answer ≡ None → TurnsBehind answer (seen_by a) (seen_by a) → IsTried (Answers c) b answer a → spare_of b ≤ spare_of a → TryBack c b a
+  back_so answer none behind is spare = record {
+    rests = is.rests;
+    index = is.index ∙ same_index b.index answer none;
+    back = record { answer = answer; again = none; tried = seen_by a; told = pinned_try (Answers c b.index) b a answer is.pinned; next = behind };
+    spare = spare;
+  }
 
--- one that found no node
-lacked : (P : Once Placed → Type 0) (t : Tried Placed) → lacks_node t ≡ true → IsAnswered t P → P (once.Again again.NoFree)
-lacked P (tried.Answered (once.Done placed)) lacks is = absurd (cc)
-lacked P (tried.Answered (once.Spent clock)) lacks is = absurd (cc)
-lacked P (tried.Answered (once.Worn node word)) lacks is = absurd (cc)
-lacked P (tried.Answered (once.Again (again.Locked node word))) lacks is = absurd (cc)
-lacked P (tried.Answered (once.Again (again.Moved node first second))) lacks is = absurd (cc)
-lacked P (tried.Answered (once.Again (again.Hops count))) lacks is = absurd (cc)
-lacked P (tried.Answered (once.Again again.LogFull)) lacks is = absurd (cc)
-lacked P (tried.Answered (once.Again again.NoFree)) lacks is = is
-lacked P (tried.Answered (once.Again (again.NeedsSplit node))) lacks is = absurd (cc)
-lacked P (tried.Answered (once.Again (again.Held word))) lacks is = absurd (cc)
-lacked P (tried.Answered (once.Again (again.Epoch first second))) lacks is = absurd (cc)
-lacked P tried.Cut lacks is = absurd is
+  pub next_so : (t : Tried Placed) → OnTried t (λ answer. IsTried (Answers c) b answer a) (IsCutTry c b a) → OnTried t (λ answer. spare_of b ≤ spare_of a + length (own_of b c answer)) (Unit {0}) → NextSo c b (next_of t) a
+  next_so tried.Cut is spare = is
+  next_so (tried.Answered (once.Done placed)) is spare = answered (once.Done placed) (λ first second no. cc) is spare
+  next_so (tried.Answered (once.Spent clock)) is spare = answered (once.Spent clock) (λ first second no. cc) is spare
+  next_so (tried.Answered (once.Worn node word)) is spare = back_so (once.Worn node word) refl refl is (omega arith)
+  next_so (tried.Answered (once.Again (again.Locked node word))) is spare = back_so (once.Again (again.Locked node word)) refl refl is (omega arith)
+  next_so (tried.Answered (once.Again (again.Moved node first second))) is spare = back_so (once.Again (again.Moved node first second)) refl refl is (omega arith)
+  next_so (tried.Answered (once.Again (again.Hops count))) is spare = back_so (once.Again (again.Hops count)) refl refl is (omega arith)
+  next_so (tried.Answered (once.Again again.LogFull)) is spare = answered (once.Again again.LogFull) (λ first second no. cc) is spare
+  next_so (tried.Answered (once.Again again.NoFree)) is spare = answered (once.Again again.NoFree) (λ first second no. cc) is spare
+  next_so (tried.Answered (once.Again (again.NeedsSplit node))) is spare = back_so (once.Again (again.NeedsSplit node)) refl refl is (omega arith)
+  next_so (tried.Answered (once.Again (again.Held word))) is spare = back_so (once.Again (again.Held word)) refl refl is (omega arith)
+  next_so (tried.Answered (once.Again (again.Epoch first second))) is spare = back_so (once.Again (again.Epoch first second)) refl refl is (omega arith)
 
-pub lacked_so : (c : CoreCall) (n : ℕ) (b a : Caller) (t : Tried Placed) → lacks_node t ≡ true → IsAnswered t (λ answer. Pinned (Answers c n) b answer a) → Answers c n (seen_by b) (once.Again again.NoFree) (seen_by a)
-lacked_so c n b a t lacks is = had_pin (Answers c n) b a (once.Again again.NoFree) (λ first second no. cc) (lacked (λ answer. Pinned (Answers c n) b answer a) t lacks is)
+-- a turn within a call
+pub turned_within : (parties : ℕ) (old a : Caller) → IsCutTurn parties old a → HasTurnedWithin parties old None a
+turned_within parties old a is = ⊎_elim
+    (λ (same : a ≡ old). (is.spent, record { before = seen_by old; tries = no_step; back = back_self (seen_by old); last = inl (ap seen_by same, ap pins_of same) }))
+    (λ (cut : AtLast FoundHeld (λ before after. TurnCutsOff parties before (pins_of old) after (pins_of a)) (seen_by old) (seen_by a)). (is.spent, cut))
+    is.cut
 
--- one that found no EMPTY log line
-lacked_line : (P : Once Placed → Type 0) (t : Tried Placed) → lacks_line t ≡ true → IsAnswered t P → P (once.Again again.LogFull)
-lacked_line P (tried.Answered (once.Done placed)) lacks is = absurd (cc)
-lacked_line P (tried.Answered (once.Spent clock)) lacks is = absurd (cc)
-lacked_line P (tried.Answered (once.Worn node word)) lacks is = absurd (cc)
-lacked_line P (tried.Answered (once.Again (again.Locked node word))) lacks is = absurd (cc)
-lacked_line P (tried.Answered (once.Again (again.Moved node first second))) lacks is = absurd (cc)
-lacked_line P (tried.Answered (once.Again (again.Hops count))) lacks is = absurd (cc)
-lacked_line P (tried.Answered (once.Again again.LogFull)) lacks is = is
-lacked_line P (tried.Answered (once.Again again.NoFree)) lacks is = absurd (cc)
-lacked_line P (tried.Answered (once.Again (again.NeedsSplit node))) lacks is = absurd (cc)
-lacked_line P (tried.Answered (once.Again (again.Held word))) lacks is = absurd (cc)
-lacked_line P (tried.Answered (once.Again (again.Epoch first second))) lacks is = absurd (cc)
-lacked_line P tried.Cut lacks is = absurd is
+-- a turn behind a try
+module _ (parties : ℕ) (c : CoreCall) (b v a : Caller) (same : (a.number ≡ v.number) × (a.index ≡ v.index) × (a.kept ≡ v.kept) × (a.cut ≡ v.cut)) where
+  room_same : spare_of a ≡ spare_of v
+  room_same = ap (λ (k : _). vec_capacity k - vec_len k) same.2
 
-pub line_step : (c : CoreCall) (n : ℕ) (b a : Caller) (w : Member) (turned : Turned) (t : Tried Placed) → lacks_line t ≡ true → IsAnswered t (λ answer. Pinned (Answers c n) b answer a) → HasMadeTurn turned (seen_by a) w → WriteBack c n (seen_by b) w
-line_step c n b a w turned t lacks is turn = record {
-  answer = once.Again again.LogFull;
-  again = refl;
-  tried = seen_by a;
-  told = pinned_try (Answers c n) b a (once.Again again.LogFull) (lacked_line (λ answer. Pinned (Answers c n) b answer a) t lacks is);
-  next = (turned, turn);
-}
+  pub line_back : (turned : Turned) → TryAnswered c b (once.Again again.LogFull) v → HasTurnedWithin parties v (Some turned) a → TryBack c b a
+  line_back turned t turn = record {
+    rests = turn.0;
+    index = same.1 ∙ t.index;
+    back = record { answer = once.Again again.LogFull; again = refl; tried = seen_by v; told = inl t.answers; next = (turned, turn.1) };
+    spare = let less = t.spare in let room = room_same in omega arith;
+  }
 
--- and one with nothing behind it
-nothing_behind : (answer : Once Placed) (v : Member) → ended_of answer ≡ None → lacks_node (tried.Answered answer) ≡ false → lacks_line (tried.Answered answer) ≡ false → TurnsBehind answer v v
-nothing_behind (once.Done placed) v none node line = refl
-nothing_behind (once.Spent clock) v none node line = refl
-nothing_behind (once.Worn n word) v none node line = refl
-nothing_behind (once.Again (again.Locked n word)) v none node line = refl
-nothing_behind (once.Again (again.Moved n first second)) v none node line = refl
-nothing_behind (once.Again (again.Hops count)) v none node line = refl
-nothing_behind (once.Again again.LogFull) v none node line = absurd (cc)
-nothing_behind (once.Again again.NoFree) v none node line = absurd (cc)
-nothing_behind (once.Again (again.NeedsSplit n)) v none node line = refl
-nothing_behind (once.Again (again.Held word)) v none node line = refl
-nothing_behind (once.Again (again.Epoch first second)) v none node line = refl
+  pub node_room : (turned : Turned) → TryAnswered c b (once.Again again.NoFree) v → HasTurnedWithin parties v (Some turned) a → TryRoom c b turned.none_free a
+  node_room turned t turn = record {
+    rests = turn.0;
+    index = same.1 ∙ t.index;
+    room = record { tried = seen_by v; refused = t.answers; turned = turned; turn = turn.1; told = refl };
+    spare = let less = t.spare in let room = room_same in omega arith;
+  }
 
-pub plain_step : (c : CoreCall) (n : ℕ) (b a : Caller) (t : Tried Placed) → ended_by t ≡ None → lacks_node t ≡ false → lacks_line t ≡ false → IsAnswered t (λ answer. Pinned (Answers c n) b answer a) → WriteBack c n (seen_by b) (seen_by a)
-plain_step c n b a (tried.Answered answer) none node line is = record {
-  answer = answer;
-  again = none;
-  tried = seen_by a;
-  told = pinned_try (Answers c n) b a answer is;
-  next = nothing_behind answer (seen_by a) none node line;
-}
-plain_step c n b a tried.Cut none node line is = absurd is
+  pub line_cut : TryAnswered c b (once.Again again.LogFull) v → HasTurnedWithin parties v None a → TryCut parties c b a
+  line_cut t cut = inr (record {
+    spent = cut.0;
+    index = same.1 ∙ t.index;
+    uncut = same.3 ∙ t.rests.2;
+    cut = record { answer = once.Again again.LogFull; wants = inl refl; tried = seen_by v; told = t.answers; pins = pins_of v; pins_now = pins_of a; cut = cut.1 };
+    spare = let less = t.spare in let room = room_same in omega arith;
+  })
 
--- one that ends the call
-tried_ends : (P : Once Placed → Type 0) (t : Tried Placed) (end : Ended Placed) → ended_by t ≡ Some end → IsAnswered t P → EndsSo end P ⊥
-tried_ends P (tried.Answered (once.Done placed)) end ends is = let gives : ended.Done placed ≡ end = cc in subst (λ (e : Ended Placed). EndsSo e P ⊥) gives is
-tried_ends P (tried.Answered (once.Spent clock)) end ends is = let gives : ended.Spent clock ≡ end = cc in subst (λ (e : Ended Placed). EndsSo e P ⊥) gives is
-tried_ends P (tried.Answered (once.Worn node word)) end ends is = absurd (cc)
-tried_ends P (tried.Answered (once.Again why)) end ends is = absurd (cc)
-tried_ends P tried.Cut end ends is = absurd is
-
--- what holds of an answer that ends a call, holds so too
-pub ends_by : (P Q : Once Placed → Type 0) (full full' : Type 0) (end : Ended Placed) → ((placed : Placed) → P (once.Done placed) → Q (once.Done placed)) → ((clock : ℕ) → P (once.Spent clock) → Q (once.Spent clock)) → (full → full')
-    → EndsSo end P full → EndsSo end Q full'
-ends_by P Q full full' (ended.Done placed) done spent so is = done placed is
-ends_by P Q full full' (ended.Spent clock) done spent so is = spent clock is
-ends_by P Q full full' ended.Full done spent so is = so is
-ends_by P Q full full' ended.Cut done spent so is = absurd is
-
-pub ended_so : (c : CoreCall) (n : ℕ) (b a : Caller) (t : Tried Placed) (end : Ended Placed) → ended_by t ≡ Some end → IsAnswered t (λ answer. Pinned (Answers c n) b answer a) → EndsSo end (λ answer. Answers c n (seen_by b) answer (seen_by a)) ⊥
-ended_so c n b a t end ends is = ends_by (λ answer. Pinned (Answers c n) b answer a) (λ answer. Answers c n (seen_by b) answer (seen_by a)) ⊥ ⊥ end
-    (λ placed last. had_pin (Answers c n) b a (once.Done placed) (λ first second no. cc) last)
-    (λ clock last. had_pin (Answers c n) b a (once.Spent clock) (λ first second no. cc) last)
-    (λ no. no)
-    (tried_ends (λ answer. Pinned (Answers c n) b answer a) t end ends is)
+  pub node_cut : TryAnswered c b (once.Again again.NoFree) v → HasTurnedWithin parties v None a → TryCut parties c b a
+  node_cut t cut = inr (record {
+    spent = cut.0;
+    index = same.1 ∙ t.index;
+    uncut = same.3 ∙ t.rests.2;
+    cut = record { answer = once.Again again.NoFree; wants = inr refl; tried = seen_by v; told = t.answers; pins = pins_of v; pins_now = pins_of a; cut = cut.1 };
+    spare = let less = t.spare in let room = room_same in omega arith;
+  })
 
 pub turned_reads : (turned : Turned) (v w : Member) → HasMadeTurn turned v w → HasOnlyRead v w
 turned_reads turned v w is = back_trans v is.before w is.back (turn_reads is.last.0 is.before w (reply.Turned turned) is.last.1)
@@ -229,16 +208,22 @@ module _ (c : CoreCall) (n : ℕ) (old : Member) where
   writing_reads : (turns i : ℕ) (v : Member) → Writing c n turns old i v → HasOnlyRead old v
   writing_reads turns i v so = back_trans old so.mid v (all_read c n so.rounds old so.mid so.earlier) so.back
 
-  pub writing_ends : (turns i : ℕ) (v w : Member) (end : Ended Placed) → Writing c n turns old i v → EndsSo end (λ answer. Answers c i v answer w) ⊥
-      → EndsSo end (λ answer. AtLast (WriteBack c n) (λ before after. Answers c n before answer after) old w) (FoundFull c n old w)
-  writing_ends turns i v w end so is =
-      let at_last : (answer : Once Placed) → Answers c i v answer w → AtLast (WriteBack c n) (λ before after. Answers c n before answer after) old w = λ answer last. record {
-        before = v;
-        tries = each_join c n old so.mid v (all_tries c n so.rounds old so.mid so.earlier) so.tries;
-        back = writing_reads turns i v so;
-        last = subst (λ (k : ℕ). Answers c k v answer w) so.index last;
-      } in
-      ends_by (λ answer. Answers c i v answer w) (λ answer. AtLast (WriteBack c n) (λ before after. Answers c n before answer after) old w) ⊥ (FoundFull c n old w) end (λ placed last. at_last (once.Done placed) last) (λ clock last. at_last (once.Spent clock) last) (λ no. absurd no) is
+  pub writing_last : (turns i : ℕ) (v w : Member) (holds : ℕ → Member → Member → Type 0) → Writing c n turns old i v → holds i v w → AtLast (WriteBack c n) (holds n) old w
+  writing_last turns i v w holds so last = record {
+    before = v;
+    tries = each_join c n old so.mid v (all_tries c n so.rounds old so.mid so.earlier) so.tries;
+    back = writing_reads turns i v so;
+    last = subst (λ (k : ℕ). holds k v w) so.index last;
+  }
+
+-- a turn that was cut off behind a try has read alone
+in_turn_reads : (parties : ℕ) (c : CoreCall) (n : ℕ) (v w : Member) → CutInTurn parties c n v w → HasOnlyRead v w
+in_turn_reads parties c n v w is =
+    let tried : HasOnlyRead v is.tried = ⊎_elim
+    (λ (line : is.answer ≡ once.Again again.LogFull). back_by c n v is.tried (once.Again again.LogFull) refl (subst (λ (a : Once Placed). Answers c n v a is.tried) line is.told))
+    (λ (node : is.answer ≡ once.Again again.NoFree). back_by c n v is.tried (once.Again again.NoFree) refl (subst (λ (a : Once Placed). Answers c n v a is.tried) node is.told))
+    is.wants in
+    back_trans v is.tried w tried (back_trans is.tried is.cut.before w is.cut.back (cuts_turn_read parties is.cut.before w is.pins is.pins_now is.cut.last))
 
 -- what a call found of the history stays so
 room_stays : (slots slots' : ℕ) (base base' : Map) (h h' : List Write) (since until since' until' : ℕ) (name : List ℕ) → slots ≡ slots' → base ≡ base' → Begins h h' → until ≤ length h → since' ≤ since → until ≤ until'
@@ -282,16 +267,68 @@ found_full c n turns i old v w so enough last =
 pub never_full : (name : List ℕ) (limit n : ℕ) (old w : Member) → FoundFull (call.Del name limit) n old w → ⊥
 never_full name limit n old w full = (full.last.last.refused.says refl).0
 
+-- ---- how such a call ends
+
+abbrev WriteEnds : ℕ → CoreCall → Caller → Ended Placed → Caller → Type 0
+WriteEnds parties c old e a = EndsSo e (λ answer. HasEnded (AtLast (WriteBack c old.index) (λ before after. Answers c old.index before answer after)) old a) (HasEnded (FoundFull c old.index) old a) (IsCutWrite parties c old a)
+
+module _ (parties : ℕ) (c : CoreCall) (turns : ℕ) (old b a : Caller) (so : Writing c old.index turns (seen_by old) b.index (seen_by b)) where
+  done_so : (answer : Once Placed) → ((m : ℕ) → counted_index m answer ≡ next_index m) → TryAnswered c b answer a → HasEnded (AtLast (WriteBack c old.index) (λ before after. Answers c old.index before answer after)) old a
+  done_so answer counted t = record {
+    rests = t.rests;
+    index = t.index ∙ counted b.index ∙ ap next_index so.index;
+    ends = writing_last c old.index (seen_by old) turns b.index (seen_by b) (seen_by a) (λ k before after. Answers c k before answer after) so t.answers;
+  }
+
+  cut_so : CutsOff c b.index (seen_by b) (place_in a.cut) (seen_by a) → IfSome a.cut (λ (cut : CutCall). (cut.call ≡ c) × (cut.index ≡ old.index)) → IsCutWithin (WriteBack c old.index) c old a
+  cut_so now tells = record {
+    last = writing_last c old.index (seen_by old) turns b.index (seen_by b) (seen_by a) (λ k before after. CutsOff c k before (place_in a.cut) after) so now;
+    tells = tells;
+  }
+
+  behind_so : TryCutInTurn parties c b a → IsCutBehind parties c old a
+  behind_so is = record {
+    last = writing_last c old.index (seen_by old) turns b.index (seen_by b) (seen_by a) (λ k before after. CutInTurn parties c k before after) so is.cut;
+    uncut = is.uncut;
+    reads = back_trans (seen_by old) (seen_by b) (seen_by a) (writing_reads c old.index (seen_by old) turns b.index (seen_by b) so) (in_turn_reads parties c b.index (seen_by b) (seen_by a) is.cut);
+  }
+
+  pub write_cut : StillOrRests old b → b.number ≡ old.number → spare_of old ≤ spare_of b → TryCut parties c b a → IsCutWrite parties c old a
+  write_cut still number less = ⊎_elim
+      (λ (is : IsCutTry c b a). record {
+        spent = is.spent;
+        index = is.index ∙ so.index;
+        cut = ⊎_elim
+            (λ (first : b ≡ old). ⊎_elim
+            (λ (same : a ≡ b). inl (same ∙ first))
+            (λ (stops : StopsTry c b a). inr (inl (cut_so (inr (subst (λ (p : Option ℕ). StopsAt c b.index (seen_by b) p (seen_by a)) (sym (ap place_in stops.tells)) stops.stops)) (tells_stopped c old b a so.index stops))))
+            is.cut)
+            (λ (rests : IsAtRest b). inr (inl (cut_so (cut_last c b a rests is) (cut_tells c old b a rests so.index is))))
+            still;
+        spare = cut_room c old b a number so.index less is;
+      })
+      (λ (is : TryCutInTurn parties c b a). record {
+        spent = is.spent;
+        index = is.index ∙ so.index;
+        cut = inr (inr (behind_so is));
+        spare = let more = is.spare in omega arith;
+      })
+
+  pub write_ends : (e : Ended Placed) → StillOrRests old b → b.number ≡ old.number → spare_of old ≤ spare_of b → WriteSo parties c b (write.Ended e) a → WriteEnds parties c old e a
+  write_ends (ended.Done placed) still number less t = done_so (once.Done placed) (λ m. refl) t
+  write_ends (ended.Spent clock) still number less t = done_so (once.Spent clock) (λ m. refl) t
+  write_ends ended.Full still number less t = absurd t
+  write_ends ended.Cut still number less t = write_cut still number less t
+
 -- for how many more writes there is room
 own_same : (old now : Caller) (c : CoreCall) (answer : Once Placed) → now.number ≡ old.number → now.index ≡ old.index → length (own_of now c answer) ≡ length (own_of old c answer)
 own_same old now c answer number index =
     let change = change_of (op_of c) in
     ap (λ (k : ℕ). length (own_at k now.index change (place_told change answer))) number ∙ ap (λ (k : ℕ). length (own_at old.number k change (place_told change answer))) index
 
-pub spare_ends : (end : Ended Placed) (c : CoreCall) (old now : Caller) (left : ℕ) → now.number ≡ old.number → now.index ≡ old.index → spare_of old ≤ spare_of now → EndsSo end (λ answer. spare_of now ≤ left + length (own_of now c answer)) ⊥
-    → EndsSo end (λ answer. spare_of old ≤ left + length (own_of old c answer)) (spare_of old ≤ left)
-spare_ends end c old now left number index most is =
-    ends_by (λ answer. spare_of now ≤ left + length (own_of now c answer)) (λ answer. spare_of old ≤ left + length (own_of old c answer)) ⊥ (spare_of old ≤ left) end
-    (λ placed fits. let same = own_same old now c (once.Done placed) number index in omega arith)
-    (λ clock fits. let same = own_same old now c (once.Spent clock) number index in omega arith)
-    (λ no. absurd no) is
+pub spare_ends : (parties : ℕ) (end : Ended Placed) (c : CoreCall) (old now a : Caller) → now.number ≡ old.number → now.index ≡ old.index → spare_of old ≤ spare_of now → WriteSo parties c now (write.Ended end) a
+    → EndsSo end (λ answer. spare_of old ≤ spare_of a + length (own_of old c answer)) (spare_of old ≤ spare_of a) (Unit {0})
+spare_ends parties (ended.Done placed) c old now a number index most t = let same = own_same old now c (once.Done placed) number index in let fits = t.spare in omega arith
+spare_ends parties (ended.Spent clock) c old now a number index most t = let same = own_same old now c (once.Spent clock) number index in let fits = t.spare in omega arith
+spare_ends parties ended.Full c old now a number index most t = absurd t
+spare_ends parties ended.Cut c old now a number index most t = tt

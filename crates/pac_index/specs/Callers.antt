@@ -1,9 +1,17 @@
 -- A caller of a shared index.
-use Rattle.std.specs.Prelude.{◌≡◌, ℕ, ◌+◌, ◌-◌, ◌*◌, ◌/◌, ◌<◌, ◌≤◌, true, false, List, [], ◌∷◌, ◌++◌, length, map, slice_get, None, Some}
+use Rattle.std.specs.Prelude.{◌≡◌, ◌⊎◌, Option, ℕ, ◌+◌, ◌-◌, ◌*◌, ◌/◌, ◌<◌, ◌≤◌, true, false, List, []}
+use Rattle.std.specs.Prelude.{◌∷◌, ◌++◌, length, map, slice_get, None, Some}
 use Rattle.std.specs.Prelude.{vec_len, vec_capacity}
 use mathlib.Core.Option.{some}
 use lib.ListN.{get_elem?}
+use Rattle.call_stages.specs.Stages.{placed_in}
+use Rattle.node_ops.specs.declared.running.Running.{Running}
+use Rattle.node_ops.specs.Asked.{op_in}
+use Rattle.node_ops.specs.CallStages.{stage_of}
+use Rattle.index_core.specs.declared.party.PartyState.{PartyState}
+use Rattle.index_core.specs.CoreCalls.{op_of}
 use Rattle.index_core.specs.Indexes.{Index}
+use Rattle.pac_index.specs.declared.caller.CutCall.{CutCall}
 use Rattle.pac_index.specs.declared.rule.About.{About}
 use Rattle.cat_history.specs.declared.op.Write.{Write}
 use Rattle.pac_index.specs.declared.rule.Member.{Member}
@@ -37,13 +45,32 @@ pair_of p = (p.place, p.write)
 abbrev pub pairs : List PlacedWrite → List (ℕ × Write)
 pairs l = map {B = ℕ × Write} pair_of l
 
--- The caller is one of this index, with no call and no turn in flight, and keeps the writes that it placed.
+-- It has no call and no turn in flight, and tells of none that was cut off.
+abbrev pub IsAtRest : Caller → Type 0
+IsAtRest c = ((seen_by c).state.machine ≡ None) × ((seen_by c).state.turn ≡ None) × (c.cut ≡ None)
+
+-- This call is in flight: its machine asks what the call asks, its write has this place, if it has one, and this is the
+-- index of the call.
+pub record IsInFlight (cut : CutCall) (state : PartyState) : Type 0 where
+  pub machine : Running
+  pub flies : state.machine ≡ Some machine
+  pub op : op_in machine ≡ op_of cut.call
+  pub index : state.index ≡ cut.index
+  pub place : cut.place ≡ placed_in (stage_of machine)
+
+-- What a caller tells of a call that was cut off is so: that one is in flight, or none.
+abbrev pub TellsCut : Option CutCall → PartyState → Type 0
+TellsCut None state = state.machine ≡ None
+TellsCut (Some cut) state = IsInFlight cut state
+
+-- The caller is one of this index, and keeps the writes that it placed. It is at rest, or has no step left: only a call
+-- or a turn that was cut off is in flight.
 pub record IsCallerOf (s : Shared) (c : Caller) : Type 0 where
   pub table : c.seat.table_id ≡ s.table.shared.table_id
   pub lone : IsLone c.seat.me
   pub about : (party c.seat.me).about ≡ s.about
-  pub idle : (party c.seat.me).state.machine ≡ None
-  pub resting : (party c.seat.me).state.turn ≡ None
+  pub rests : IsAtRest c ⊎ (c.left ≡ Some 0)
+  pub tells : TellsCut c.cut (seen_by c).state
   pub number : (party c.seat.me).state.caller ≡ c.number
   pub within : c.number < parties_of s.about.layout
   pub kept : pairs c.kept.items ≡ placed_by c.number (party c.seat.me).seen
@@ -58,10 +85,14 @@ pub record HasCallers (s : Shared) (n : ℕ) (callers : List Caller) : Type 0 wh
   pub each : (i : ℕ) (c : Caller) → get_elem? callers i ≡ some c → IsCallerOf s c
   pub numbers : (i : ℕ) (c : Caller) → get_elem? callers i ≡ some c → c.number ≡ i
 
--- They have made no call yet.
+-- None of them has a call or a turn in flight.
+abbrev pub AreAtRest : List Caller → Type 0
+AreAtRest callers = (i : ℕ) (c : Caller) → get_elem? callers i ≡ some c → IsAtRest c
+
+-- They have made no call yet, and have no bound on their steps.
 abbrev pub AreNew : List Caller → Type 0
 AreNew callers = (i : ℕ) (c : Caller) → get_elem? callers i ≡ some c → ((seen_by c).seen ≡ []) × (c.index ≡ 0) ×
-    ((seen_by c).taken ≡ 0) × ((seen_by c).added ≡ 0) × ((seen_by c).none_free ≡ false)
+    ((seen_by c).taken ≡ 0) × ((seen_by c).added ≡ 0) × ((seen_by c).none_free ≡ false) × (c.left ≡ None)
 
 abbrev pub about_in : Index → About
 about_in core = record {

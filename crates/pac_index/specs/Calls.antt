@@ -37,13 +37,13 @@ use Rattle.pac_index.specs.declared.caller.Caller.{Caller}
 use Rattle.pac_index.specs.declared.rule.Member.{Member}
 use Rattle.index_core.specs.Causes.{HasCauseIn}
 use Rattle.index_core.specs.Heard.{RunningTold}
-use Rattle.pac_index.specs.Kept.{Begins, HasPart, KnowsStill, placed_by, noted, view_in, machine_in, added_now, Goes}
+use Rattle.pac_index.specs.Kept.{Begins, HasPart, KnowsStill, placed_by, noted, view_in, machine_in, added_now, Goes, GoesTimely}
 use Rattle.index_core.specs.Weights.{added_by}
 
--- The try was answered, so that its caller wasn't cut, and this holds of the answer.
-abbrev pub IsAnswered : {T : Type 0} → Tried T → (Once T → Type 0) → Type 0
-IsAnswered (tried.Answered answer) holds = holds answer
-IsAnswered tried.Cut holds = ⊥
+-- What holds of the answer of a try, or where it was cut off.
+abbrev pub OnTried : {T : Type 0} → Tried T → (Once T → Type 0) → Type 0 → Type 0
+OnTried (tried.Answered answer) answered cut = answered answer
+OnTried tried.Cut answered cut = cut
 
 -- The index of a caller's next call: one that is made again uses up none.
 abbrev pub counted_index : {T : Type 0} → ℕ → Once T → ℕ
@@ -134,6 +134,7 @@ pub record Runs (call : CoreCall) (index : ℕ) (old : Member) (turn : Turn Runn
   pub no_epoch : IsNoEpoch (reply_of turn)
   pub heard : RunningTold old.about.layout old.about.generation new.told turn
   pub ready : ReadyAfter old.about.layout old.about.generation turn
+  pub timely : GoesTimely since turn
 
 abbrev pub turn_left : Turn Running (Once Placed) → ℕ
 turn_left (Go machine) = suc (running_left machine)

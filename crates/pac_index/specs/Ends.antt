@@ -30,12 +30,12 @@ turn_ended_by (turn.Turned turned epoch advanced) = Some (ended.Done turned)
 turn_ended_by (turn.Held word) = None
 turn_ended_by turn.Cut = Some ended.Cut
 
--- It is done, and this holds of what it gave.
-abbrev pub IsDone : {T : Type 0} → Ended T → (T → Type 0) → Type 0
-IsDone (ended.Done value) holds = holds value
-IsDone ended.Full holds = ⊥
-IsDone (ended.Spent clock) holds = ⊥
-IsDone ended.Cut holds = ⊥
+-- It is done, and the first holds of what it gave, or it was cut off, where the second holds.
+abbrev pub OnDone : {T : Type 0} → Ended T → (T → Type 0) → Type 0 → Type 0
+OnDone (ended.Done value) done cut = done value
+OnDone ended.Full done cut = ⊥
+OnDone (ended.Spent clock) done cut = ⊥
+OnDone ended.Cut done cut = cut
 
 -- A caller that has placed no write since then: it has seen a longer history, with no more writes of its own.
 pub record HasOnlyRead (old new : Member) : Type 0 where

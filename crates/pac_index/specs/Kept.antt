@@ -35,6 +35,7 @@ use Rattle.index_core.specs.PartyStates.{idle_states, state_with, state_after}
 use Rattle.index_core.specs.Indexes.{Index, IsIndex, MakesCall, world, parties_of}
 use Rattle.index_core.specs.MachineLaws.{IsNoEpoch, ReadyAfter, showing}
 use Rattle.index_core.specs.Rechecks.{Knows}
+use Rattle.index_core.specs.CrashLaws.{TimelyIn}
 use Rattle.index_core.specs.Weights.{added_by}
 use Rattle.index_law.specs.Facts.{facts_of}
 use Rattle.index_law.specs.Weights.{index_weight, weight_sum}
@@ -228,6 +229,11 @@ KnowsStill old new = (j : ℕ) (a : AnsweredPart) → get_elem? old j ≡ some a
 abbrev pub HasPart : List AnsweredPart → AnsweredPart → Type 0
 HasPart known a = (j : ℕ) × (get_elem? known j ≡ some a)
 
+-- It goes on so that a write which has its place began below its limit.
+abbrev pub GoesTimely : ℕ → Turn Running (Once Placed) → Type 0
+GoesTimely since (Go machine) = TimelyIn since machine
+GoesTimely since (Done answer) = Unit {0}
+
 -- What a party's step with its machine, which is told this number, leaves and shows.
 pub record Goes (m : Running) (v : Member) (x : ℕ) (w : Member) : Type 0 where
   pub takes : running_takes m x
@@ -250,6 +256,7 @@ pub record Goes (m : Running) (v : Member) (x : ℕ) (w : Member) : Type 0 where
   pub op_on : IsOfAfter (op_in m) (running_turned m x)
   pub call_on : MakesCall (running_call m) (running_turned m x)
   pub ready : ReadyAfter v.about.layout v.about.generation (running_turned m x)
+  pub timely : GoesTimely v.state.since (running_turned m x)
 
 -- The step of the machine that is in flight.
 abbrev pub Tells : Me (Unit {0}) (List Member) → ℕ → Me (Unit {0}) (List Member) → Type 0

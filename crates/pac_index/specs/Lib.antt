@@ -2,6 +2,13 @@ pub mod Kept
 pub mod Calls
 pub mod Callers
 pub mod Stamps
+pub mod Budgets
+pub mod Cuts
+pub mod CutTurns
+pub mod CutWrites
+pub mod CutRechecks
+pub mod CutScans
+pub mod CrashMeetings
 pub mod Ends
 pub mod Scanned
 pub mod Turns

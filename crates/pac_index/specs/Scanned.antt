@@ -1,5 +1,5 @@
 -- What a whole range scan is answered.
-use Rattle.std.specs.Prelude.{ℕ, ◌<◌, ◌≤◌, ◌^◌, false, List, length, flat_map, All, IfSome}
+use Rattle.std.specs.Prelude.{ℕ, ◌<◌, ◌≤◌, ◌^◌, Bool, List, length, flat_map, All, IfSome}
 use Rattle.cat_key.specs.Names.{IsName}
 use Rattle.cat_key.specs.declared.Pair.{Pair}
 use Rattle.cat_history.specs.Maps.{map_of}
@@ -10,10 +10,10 @@ use Rattle.pac_index.specs.declared.rule.Member.{Member}
 use Rattle.pac_index.specs.declared.scans.Scanned.{Scanned}
 use Rattle.pac_index.specs.declared.scans.Scanned.TheVariants as scanned
 
--- It wasn't cut off, and this holds of its parts.
-abbrev pub IsScanned : Scanned → (List ScanPart → Type 0) → Type 0
-IsScanned (scanned.Done parts) holds = holds parts
-IsScanned (scanned.Cut parts) holds = ⊥
+-- What holds of the parts of a scan, where it is done, and where it was cut off behind these.
+abbrev pub OnScan : Scanned → (List ScanPart → Type 0) → (List ScanPart → Type 0) → Type 0
+OnScan (scanned.Done parts) done cut = done parts
+OnScan (scanned.Cut parts) done cut = cut parts
 
 -- The part begins at a name and ends below one, or nowhere; it lists names, each with a number. Numbers have 64 bits.
 pub record IsNamed (part : ScanPart) : Type 0 where
@@ -30,9 +30,10 @@ pub record IsRead (low : List ℕ) (left : ℕ) (old new : Member) (part : ScanP
 
 -- The parts of a scan of so many names from this one on, each of the map at a place of its own: after as many writes of
 -- the history as the caller had seen before the scan at least, and as it has seen behind it at most. No place is before
--- that of an earlier part, and the names rise through all parts.
-pub record AreScanned (from : List ℕ) (count : ℕ) (old new : Member) (parts : List ScanPart) : Type 0 where
-  pub scan : AreParts (after (map_of old.about.base) new.seen) from count (length old.seen) false parts
+-- that of an earlier part, and the names rise through all parts. Of a scan that was cut off these are the parts that
+-- were answered.
+pub record AreScanned (from : List ℕ) (count : ℕ) (cut : Bool) (old new : Member) (parts : List ScanPart) : Type 0 where
+  pub scan : AreParts (after (map_of old.about.base) new.seen) from count (length old.seen) cut parts
   pub within : All (λ part. part.place ≤ length new.seen) parts
   pub rise : Rise (flat_map (λ part. part.pairs) parts)
   pub named : All IsNamed parts

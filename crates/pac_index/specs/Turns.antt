@@ -185,12 +185,12 @@ pub record MadeTurn (parties : ℕ) (old : Member) (pins : PinMember) (turned : 
   pub answers : TurnAnswers epoch old (reply.Turned turned) new
   pub dated : IsDated parties pins epoch advanced pins_now
 
--- The try was answered, so that its caller wasn't cut: the first holds of the answer where the turn was made, the second
--- of the word where it found the updater lock taken.
-abbrev pub IsTold : TriedTurn → (Turned → ℕ → Result ℕ Advance → Type 0) → (ℕ → Type 0) → Type 0
-IsTold (tried.Turned turned epoch advanced) made held = made turned epoch advanced
-IsTold (tried.Held word) made held = held word
-IsTold tried.Cut made held = ⊥
+-- What a try of a turn comes to: the first holds of the answer where it was made, the second of the word where it found
+-- the updater lock taken, the last where it was cut off.
+abbrev pub OnTurn : TriedTurn → (Turned → ℕ → Result ℕ Advance → Type 0) → (ℕ → Type 0) → Type 0 → Type 0
+OnTurn (tried.Turned turned epoch advanced) made held cut = made turned epoch advanced
+OnTurn (tried.Held word) made held cut = held word
+OnTurn tried.Cut made held cut = cut
 
 -- A turn that was tried until it was made: each of its tries but the last found the updater lock taken, and until then
 -- its party made no step on the epoch.

@@ -1,5 +1,5 @@
 -- What a put or a delete comes to that is made again until it takes place, with turns of the updater between its tries.
-use Rattle.std.specs.Prelude.{◌≡◌, ℕ, zero, suc, ◌≤◌, Bool, true, false, length}
+use Rattle.std.specs.Prelude.{◌≡◌, ℕ, zero, suc, ◌≤◌, Bool, true, length}
 use Rattle.cat_history.specs.Maps.{map_of}
 use Rattle.pm_words.specs.declared.again.Again.TheVariants.{LogFull, NoFree}
 use Rattle.call_stages.specs.declared.once.Once.{Once}
@@ -10,33 +10,20 @@ use Rattle.updater.specs.declared.terms.Turned.{Turned}
 use Rattle.index_core.specs.declared.party.CoreCall.{CoreCall}
 use Rattle.index_core.specs.Answers.{FoundNoRoom}
 use Rattle.index_core.specs.CoreCalls.{op_of}
-use Rattle.pac_index.specs.declared.tried.Tried.{Tried}
-use Rattle.pac_index.specs.declared.tried.Tried.TheVariants as tried
 use Rattle.pac_index.specs.declared.ended.Ended.{Ended}
 use Rattle.pac_index.specs.declared.ended.Ended.TheVariants as ended
-use Rattle.pac_index.specs.declared.writes.WriteTry.{WriteTry}
-use Rattle.pac_index.specs.declared.writes.WriteTry.TheVariants as write
 use Rattle.pac_index.specs.declared.rule.Member.{Member}
 use Rattle.pac_index.specs.Calls.{Answers}
 use Rattle.pac_index.specs.Ends.{HasOnlyRead, AtLast, EachIs, TurnedBack}
 use Rattle.pac_index.specs.Turns.{HasMadeTurn}
 
--- The try was turned back, since none of its caller's log lines is EMPTY; or since there is no node to split its own
--- with.
-abbrev pub lacks_line : Tried Placed → Bool
-lacks_line (tried.Answered (once.Again LogFull)) = true
-lacks_line _ = false
-
-abbrev pub lacks_node : Tried Placed → Bool
-lacks_node (tried.Answered (once.Again NoFree)) = true
-lacks_node _ = false
-
--- How such a call ends: the first holds of the answer of its last try, or the second where it is full.
-abbrev pub EndsSo : Ended Placed → (Once Placed → Type 0) → Type 0 → Type 0
-EndsSo (ended.Done placed) answered full = answered (once.Done placed)
-EndsSo (ended.Spent clock) answered full = answered (once.Spent clock)
-EndsSo ended.Full answered full = full
-EndsSo ended.Cut answered full = ⊥
+-- How such a call ends: the first holds of the answer of its last try, the second where it is full, the third where it
+-- was cut off.
+abbrev pub EndsSo : Ended Placed → (Once Placed → Type 0) → Type 0 → Type 0 → Type 0
+EndsSo (ended.Done placed) answered full cut = answered (once.Done placed)
+EndsSo (ended.Spent clock) answered full cut = answered (once.Spent clock)
+EndsSo ended.Full answered full cut = full
+EndsSo ended.Cut answered full cut = cut
 
 -- What a put or a delete did behind a try that was answered so: one turn of the updater where the try found none of its
 -- caller's log lines EMPTY, or no node to split its own with, and nothing elsewhere.
@@ -78,10 +65,3 @@ pub record FoundFull (call : CoreCall) (index : ℕ) (old new : Member) : Type 0
   pub none_free : new.none_free ≡ true
   pub room : FoundNoRoom old.about.layout.slots (map_of old.about.base) new.seen (length old.seen) (length new.seen)
       (name_asked (op_of call))
-
--- What a try comes to, with the turn behind it: the first holds of an answer that ends the call, the second where it was
--- turned back, the third of what the turn told where it found no node.
-abbrev pub TriedSo : WriteTry → (Once Placed → Type 0) → Type 0 → (Bool → Type 0) → Type 0
-TriedSo (write.Ended ended) answered back no_room = EndsSo ended answered ⊥
-TriedSo write.Back answered back no_room = back
-TriedSo (write.NoRoom none_free) answered back no_room = no_room none_free

@@ -1,5 +1,5 @@
 ghost use Rattle.pac_index.specs.declared.shared.Shared.{Shared};
-ghost use Rattle.std.specs.Prelude.{OnOk, IfSome, ◌≡◌, ◌+◌, ◌++◌, ◌≤◌, ◌<◌, ◌^◌, length};
+ghost use Rattle.std.specs.Prelude.{OnOk, IfSome, Some, ◌≡◌, ◌+◌, ◌++◌, ◌≤◌, ◌<◌, ◌^◌, length};
 ghost use Rattle.cat_history.specs.Records.{change_of};
 ghost use Rattle.index_core.specs.CoreCalls.{MayBegin, op_of, most_writes};
 ghost use Rattle.index_core.specs.declared.party.CoreCall.TheVariants as call;
@@ -7,12 +7,13 @@ ghost use Rattle.pm_words.specs.declared.again.Again.TheVariants as again;
 ghost use Rattle.call_stages.specs.declared.once.Once.TheVariants as once;
 ghost use Rattle.index_core.specs.MachineLaws.{place_told};
 ghost use Rattle.pac_index.specs.declared.tried.Tried.TheVariants as tried;
-ghost use Rattle.pac_index.specs.Calls.{Answers, PartAnswers, IsAnswered, own_at, own_of, counted_index};
-ghost use Rattle.pac_index.specs.Callers.{IsCallerOf, spare_of, seen_by, pairs};
-ghost use Rattle.pac_index.specs.Pinned.{Pinned};
+ghost use Rattle.pac_index.specs.Cuts.{HasPaid, IsCutTry, IsTried};
+ghost use Rattle.pac_index.specs.Calls.{Answers, PartAnswers, OnTried, own_at, own_of, counted_index};
+ghost use Rattle.pac_index.specs.Callers.{IsCallerOf, spare_of, pairs};
 
-use crate::caller::{Caller, PlacedWrite};
+use crate::caller::{Caller, CutCall, PlacedWrite};
 use crate::gate::{Gate, OpenGate, Pace};
+use crate::ran::Ran;
 use crate::shared::Shared;
 use crate::tried::Tried;
 use call_stages::{Once, Placed};
@@ -45,11 +46,12 @@ impl Shared {
         requires spare { 1 ≤ spare_of caller.old }
         ensures caller { IsCallerOf self.now caller.new }
         ensures number { caller.new.number ≡ caller.old.number }
-        ensures index { IsAnswered result (λ answer. caller.new.index ≡ counted_index caller.old.index answer) }
-        ensures answered { IsAnswered result (λ answer. Pinned (Answers (call.Put name.now value limit) caller.old.index)
-            caller.old answer caller.new) }
-        ensures spare { IsAnswered result (λ answer. spare_of caller.old ≤ spare_of caller.new + length
-            (own_of caller.old (call.Put name.now value limit) answer)) }
+        ensures tried { OnTried result
+            (λ answer. IsTried (Answers (call.Put name.now value limit)) caller.old answer caller.new)
+            (IsCutTry (call.Put name.now value limit) caller.old caller.new) }
+        ensures paid { HasPaid caller.old caller.new }
+        ensures spare { OnTried result (λ answer. spare_of caller.old ≤ spare_of caller.new + length
+            (own_of caller.old (call.Put name.now value limit) answer)) (Unit {0}) }
     {
         let name = *name;
         self.try_call(caller, CoreCall::Put { name, value, limit }, &OpenGate)
@@ -61,9 +63,9 @@ impl Shared {
         requires worker { caller.old.number < self.now.about.layout.callers }
         ensures caller { IsCallerOf self.now caller.new }
         ensures number { caller.new.number ≡ caller.old.number }
-        ensures index { IsAnswered result (λ answer. caller.new.index ≡ counted_index caller.old.index answer) }
-        ensures answered { IsAnswered result (λ answer. Pinned (Answers (call.Get name.now) caller.old.index)
-            caller.old answer caller.new) }
+        ensures tried { OnTried result (λ answer. IsTried (Answers (call.Get name.now)) caller.old answer caller.new)
+            (IsCutTry (call.Get name.now) caller.old caller.new) }
+        ensures paid { HasPaid caller.old caller.new }
         ensures spare { spare_of caller.old ≤ spare_of caller.new }
     {
         self.try_call(caller, CoreCall::Get { name: *name }, &OpenGate)
@@ -78,11 +80,12 @@ impl Shared {
         requires spare { 1 ≤ spare_of caller.old }
         ensures caller { IsCallerOf self.now caller.new }
         ensures number { caller.new.number ≡ caller.old.number }
-        ensures index { IsAnswered result (λ answer. caller.new.index ≡ counted_index caller.old.index answer) }
-        ensures answered { IsAnswered result (λ answer. Pinned (Answers (call.Del name.now limit) caller.old.index)
-            caller.old answer caller.new) }
-        ensures spare { IsAnswered result (λ answer. spare_of caller.old ≤ spare_of caller.new + length
-            (own_of caller.old (call.Del name.now limit) answer)) }
+        ensures tried { OnTried result
+            (λ answer. IsTried (Answers (call.Del name.now limit)) caller.old answer caller.new)
+            (IsCutTry (call.Del name.now limit) caller.old caller.new) }
+        ensures paid { HasPaid caller.old caller.new }
+        ensures spare { OnTried result (λ answer. spare_of caller.old ≤ spare_of caller.new + length
+            (own_of caller.old (call.Del name.now limit) answer)) (Unit {0}) }
     {
         let name = *name;
         self.try_call(caller, CoreCall::Del { name, limit }, &OpenGate)
@@ -96,12 +99,12 @@ impl Shared {
         requires worker { caller.old.number < self.now.about.layout.callers }
         ensures caller { IsCallerOf self.now caller.new }
         ensures number { caller.new.number ≡ caller.old.number }
-        ensures index { IsAnswered result (λ answer. caller.new.index ≡ counted_index caller.old.index answer) }
-        ensures answered { IsAnswered result (λ answer. Pinned (PartAnswers low.now count caller.old.index)
-            caller.old answer caller.new) }
+        ensures tried { OnTried result (λ answer. IsTried (PartAnswers low.now count) caller.old answer caller.new)
+            (IsCutTry (call.Part low.now count) caller.old caller.new) }
+        ensures paid { HasPaid caller.old caller.new }
         ensures spare { spare_of caller.old ≤ spare_of caller.new }
     {
-        let mut pace = Pace::begin(&OpenGate, caller.number, caller.index);
+        let mut pace = Pace::begin(&OpenGate, caller, caller.index);
         self.try_part(caller, *low, count, &mut pace)
     }
 
@@ -113,52 +116,64 @@ impl Shared {
         requires spare { most_writes call ≤ spare_of caller.old }
         ensures caller { IsCallerOf self.now caller.new }
         ensures number { caller.new.number ≡ caller.old.number }
-        ensures index { IsAnswered result (λ answer. caller.new.index ≡ counted_index caller.old.index answer) }
-        ensures answered { IsAnswered result (λ answer. Pinned (Answers call caller.old.index)
-            caller.old answer caller.new) }
-        ensures spare { IsAnswered result (λ answer. spare_of caller.old ≤ spare_of caller.new + length
-            (own_of caller.old call answer)) }
+        ensures tried { OnTried result (λ answer. IsTried (Answers call) caller.old answer caller.new)
+            (IsCutTry call caller.old caller.new) }
+        ensures paid { HasPaid caller.old caller.new }
+        ensures spare { OnTried result (λ answer. spare_of caller.old ≤ spare_of caller.new + length
+            (own_of caller.old call answer)) (Unit {0}) }
     {
-        let mut pace = Pace::begin(gate, caller.number, caller.index);
-        self.try_at_pace(caller, call, &mut pace)
+        let mut pace = Pace::begin(gate, caller, caller.index);
+        self.try_at_pace(caller, &call, &mut pace)
     }
 
-    /// One try of a call on one name, of a whole call that goes at this pace, under a pin of its own.
+    /// One try of a call on one name, of a whole call that goes at this pace, under a pin of its own. Its pin is given
+    /// back where it is cut off too.
     pub(crate) fn try_at_pace<G: Gate>(
         &self,
         caller: &mut Caller,
-        call: CoreCall,
+        call: &CoreCall,
         pace: &mut Pace<'_, G>,
     ) -> Tried<Placed>
         requires caller { IsCallerOf self.now caller.old }
         requires worker { caller.old.number < self.now.about.layout.callers }
-        requires begins { MayBegin call }
-        requires spare { most_writes call ≤ spare_of caller.old }
+        requires begins { MayBegin call.now }
+        requires spare { most_writes call.now ≤ spare_of caller.old }
         ensures caller { IsCallerOf self.now caller.new }
         ensures number { caller.new.number ≡ caller.old.number }
-        ensures index { IsAnswered result (λ answer. caller.new.index ≡ counted_index caller.old.index answer) }
-        ensures answered { IsAnswered result (λ answer. Pinned (Answers call caller.old.index)
-            caller.old answer caller.new) }
-        ensures spare { IsAnswered result (λ answer. spare_of caller.old ≤ spare_of caller.new + length
-            (own_of caller.old call answer)) }
+        ensures tried { OnTried result (λ answer. IsTried (Answers call.now) caller.old answer caller.new)
+            (IsCutTry call.now caller.old caller.new) }
+        ensures paid { HasPaid caller.old caller.new }
+        ensures spare { OnTried result (λ answer. spare_of caller.old ≤ spare_of caller.new + length
+            (own_of caller.old call.now answer)) (Unit {0}) }
     {
+        if caller.is_spent() {
+            return Tried::Cut;
+        }
         let pin = match self.epochs.pin_once(&mut caller.pins) {
             Ok(pin) => pin,
             Err(moved) => return turned_back(moved),
         };
-        let change = change_of(&call);
-        let answer = self.run::<Brand, G>(
+        let ran = self.run::<Brand, G>(
             &mut caller.seat,
             caller.number,
             caller.index,
-            call,
+            *call,
             &caller.pins,
             &pin,
+            &mut caller.left,
             pace,
         );
         self.epochs.unpin(&mut caller.pins, pin);
-        caller.keep(change, answer);
-        Tried::Answered(answer)
+        match ran {
+            Ran::Answered(answer) => {
+                caller.keep(change_of(call), answer);
+                Tried::Answered(answer)
+            }
+            Ran::Cut { place } => {
+                caller.keep_cut(call, place);
+                Tried::Cut
+            }
+        }
     }
 
     /// One try of a get, of a whole call that goes at this pace.
@@ -172,12 +187,12 @@ impl Shared {
         requires worker { caller.old.number < self.now.about.layout.callers }
         ensures caller { IsCallerOf self.now caller.new }
         ensures number { caller.new.number ≡ caller.old.number }
-        ensures index { IsAnswered result (λ answer. caller.new.index ≡ counted_index caller.old.index answer) }
-        ensures answered { IsAnswered result (λ answer. Pinned (Answers (call.Get name) caller.old.index)
-            caller.old answer caller.new) }
+        ensures tried { OnTried result (λ answer. IsTried (Answers (call.Get name)) caller.old answer caller.new)
+            (IsCutTry (call.Get name) caller.old caller.new) }
+        ensures paid { HasPaid caller.old caller.new }
         ensures spare { spare_of caller.old ≤ spare_of caller.new }
     {
-        self.try_at_pace(caller, CoreCall::Get { name }, pace)
+        self.try_at_pace(caller, &CoreCall::Get { name }, pace)
     }
 
     /// One try of a part of a range scan, of a whole call that goes at this pace, under a pin of its own.
@@ -192,16 +207,19 @@ impl Shared {
         requires worker { caller.old.number < self.now.about.layout.callers }
         ensures caller { IsCallerOf self.now caller.new }
         ensures number { caller.new.number ≡ caller.old.number }
-        ensures index { IsAnswered result (λ answer. caller.new.index ≡ counted_index caller.old.index answer) }
-        ensures answered { IsAnswered result (λ answer. Pinned (PartAnswers low count caller.old.index)
-            caller.old answer caller.new) }
+        ensures tried { OnTried result (λ answer. IsTried (PartAnswers low count) caller.old answer caller.new)
+            (IsCutTry (call.Part low count) caller.old caller.new) }
+        ensures paid { HasPaid caller.old caller.new }
         ensures spare { spare_of caller.old ≤ spare_of caller.new }
     {
+        if caller.is_spent() {
+            return Tried::Cut;
+        }
         let pin = match self.epochs.pin_once(&mut caller.pins) {
             Ok(pin) => pin,
             Err(moved) => return turned_back(moved),
         };
-        let answer = self.run_part::<Brand, G>(
+        let ran = self.run_part::<Brand, G>(
             &mut caller.seat,
             caller.number,
             caller.index,
@@ -209,11 +227,20 @@ impl Shared {
             count,
             &caller.pins,
             &pin,
+            &mut caller.left,
             pace,
         );
         self.epochs.unpin(&mut caller.pins, pin);
-        caller.index = index_after(caller.index, &answer);
-        Tried::Answered(answer)
+        match ran {
+            Ran::Answered(answer) => {
+                caller.index = index_after(caller.index, &answer);
+                Tried::Answered(answer)
+            }
+            Ran::Cut { place } => {
+                caller.keep_cut(&CoreCall::Part { low, count }, place);
+                Tried::Cut
+            }
+        }
     }
 }
 
@@ -246,16 +273,18 @@ impl Caller {
         ensures same { (self.new.seat ≡ self.old.seat) × (self.new.number ≡ self.old.number) ×
             (self.new.index ≡ self.old.index) × (self.new.kept.items ≡ self.old.kept.items) }
         ensures pins { self.new.pins ≡ self.old.pins }
+        ensures bound { (self.new.left ≡ self.old.left) × (self.new.cut ≡ self.old.cut) }
         ensures caller { (s : Shared) → IsCallerOf s self.old → IsCallerOf s self.new }
     {
         self.kept.reserve(writes as usize)
     }
 
     /// Counts a call that was answered, and keeps its write if it was placed.
-    fn keep(&mut self, change: Option<Change>, answer: Once<Placed>)
+    pub(crate) fn keep(&mut self, change: Option<Change>, answer: Once<Placed>)
         requires { IfSome change (λ _. 1 ≤ spare_of self.old) }
         ensures seat { (self.new.seat ≡ self.old.seat) × (self.new.pins ≡ self.old.pins) ×
             (self.new.number ≡ self.old.number) }
+        ensures bound { (self.new.left ≡ self.old.left) × (self.new.cut ≡ self.old.cut) }
         ensures index { self.new.index ≡ counted_index self.old.index answer }
         ensures kept { pairs self.new.kept.items ≡ pairs self.old.kept.items ++ own_at self.old.number self.old.index
             change (place_told change answer) }
@@ -265,25 +294,60 @@ impl Caller {
         if let Once::Done(placed) = answer
             && let Some(change) = change
         {
-            let write = Write {
-                caller: self.number,
-                index: self.index,
-                change,
-            };
-            let Ok(()) = self.kept.push(PlacedWrite {
-                place: placed.place,
-                write,
-            })
-            else {
-                unreachable!()
-            };
+            self.keep_write(change, placed.place);
         }
         self.index = index_after(self.index, &answer);
+    }
+
+    /// Tells of a call that was cut off behind a step, and keeps its write if it has its place.
+    fn keep_cut(&mut self, call: &CoreCall, place: Option<u64>)
+        requires { most_writes call.now ≤ spare_of self.old }
+        ensures seat { (self.new.seat ≡ self.old.seat) × (self.new.pins ≡ self.old.pins) ×
+            (self.new.number ≡ self.old.number) }
+        ensures left { self.new.left ≡ self.old.left }
+        ensures cut { self.new.cut ≡ Some (record { call = call.now; index = self.old.index; place = place }) }
+        ensures index { self.new.index ≡ self.old.index }
+        ensures kept { pairs self.new.kept.items ≡ pairs self.old.kept.items ++ own_at self.old.number self.old.index
+            (change_of (op_of call.now)) place }
+        ensures spare { spare_of self.old ≤ spare_of self.new + length
+            (own_at self.old.number self.old.index (change_of (op_of call.now)) place) }
+    {
+        if let Some(place) = place
+            && let Some(change) = change_of(call)
+        {
+            self.keep_write(change, place);
+        }
+        self.cut = Some(CutCall {
+            call: *call,
+            index: self.index,
+            place,
+        });
+    }
+
+    /// Keeps the write of its call, which has this place.
+    fn keep_write(&mut self, change: Change, place: u64)
+        requires { 1 ≤ spare_of self.old }
+        ensures seat { (self.new.seat ≡ self.old.seat) × (self.new.pins ≡ self.old.pins) ×
+            (self.new.number ≡ self.old.number) }
+        ensures bound { (self.new.left ≡ self.old.left) × (self.new.cut ≡ self.old.cut) }
+        ensures index { self.new.index ≡ self.old.index }
+        ensures kept { pairs self.new.kept.items ≡ pairs self.old.kept.items ++ own_at self.old.number self.old.index
+            (Some change) (Some place) }
+        ensures spare { spare_of self.old ≤ spare_of self.new + 1 }
+    {
+        let write = Write {
+            caller: self.number,
+            index: self.index,
+            change,
+        };
+        let Ok(()) = self.kept.push(PlacedWrite { place, write }) else {
+            unreachable!()
+        };
     }
 }
 
 /// The change that a call makes, if it is a put or a delete.
-fn change_of(call: &CoreCall) -> Option<Change>
+pub(crate) fn change_of(call: &CoreCall) -> Option<Change>
     ensures change { result ≡ change_of (op_of call.now) }
     ensures writes { IfSome result (λ _. most_writes call.now ≡ 1) }
 {

@@ -12,7 +12,7 @@ pub enum Ended<T> {
     Full,
     /// The clock had reached the limit of a put or a delete.
     Spent { clock: u64 },
-    /// The caller had no step left. No caller has a bound on its steps yet, so no call ends so.
+    /// The caller had no step left before one that the call still had to make.
     Cut,
 }
 

@@ -1,5 +1,7 @@
 //! What is called between the steps of callers.
 
+use crate::caller::Caller;
+
 /// Is called between the steps of callers, and may hold them there.
 pub trait Gate: Sync {
     /// Before the first step of the caller's call of this index.
@@ -27,12 +29,15 @@ pub(crate) struct Pace<'g, G: Gate> {
 }
 
 impl<'g, G: Gate> Pace<'g, G> {
-    /// Before the call's first step.
-    pub(crate) fn begin(gate: &'g G, caller: u64, index: u64) -> Pace<'g, G> {
-        gate.before(caller, index);
+    /// Before the first step of the caller's call of this index, if the caller has a step left.
+    pub(crate) fn begin(gate: &'g G, caller: &Caller, index: u64) -> Pace<'g, G> {
+        let number = caller.number();
+        if !caller.is_spent() {
+            gate.before(number, index);
+        }
         Pace {
             gate,
-            caller,
+            caller: number,
             step: 0,
         }
     }

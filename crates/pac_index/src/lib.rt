@@ -13,12 +13,15 @@
 //! and no clause. What a try is answered doesn't rest on it: locks and version words make it right.
 #![tactic(auto)]
 
+mod budget;
 mod caller;
 mod calls;
+mod crashing;
 mod ended;
 mod gate;
 mod making;
 mod meeting;
+mod ran;
 mod rechecks;
 mod repeats;
 mod rule;
@@ -29,9 +32,11 @@ mod tried;
 mod turns;
 mod writes;
 
-pub use caller::{Caller, PlacedWrite};
+pub use caller::{Caller, CutCall, PlacedWrite};
+pub use crashing::Crashed;
 pub use ended::Ended;
 pub use gate::Gate;
+pub use meeting::have_steps;
 pub use rule::{
     About, AnsweredPart, BeginsCall, ByOutcome, ChecksNode, FirstRecheckStep, FirstStep,
     FirstTurnStep, FirstWorkStep, HasEpoch, JoinAll, LastRecheckStep, Member, Members, NextStep,

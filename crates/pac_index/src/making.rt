@@ -72,6 +72,8 @@ impl Shared {
                 pins,
                 number,
                 index: 0,
+                left: None,
+                cut: None,
                 kept,
             })?;
         }

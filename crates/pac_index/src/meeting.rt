@@ -1,11 +1,12 @@
-ghost use Rattle.std.specs.Prelude.{◌≡◌, ℕ, List, [], length, map, IfOk};
+ghost use Rattle.std.specs.Prelude.{◌≡◌, ℕ, List, [], length, map, IfOk, true};
 ghost use mathlib.Core.Option.{some};
 ghost use Rattle.index_core.specs.Indexes.{parties_of};
 ghost use Rattle.index_core.specs.MachineLaws.{AreIdle};
 ghost use lib.ListN.{get_elem?};
 ghost use Rattle.cat_history.specs.declared.op.Write.{Write};
-ghost use Rattle.pac_index.specs.Callers.{AreWritesOf, HasCallers, IsCallerOf, Meeting, kept_by, seen_by};
+ghost use Rattle.pac_index.specs.Callers.{AreAtRest, AreWritesOf, HasCallers, IsCallerOf, Meeting, kept_by, seen_by};
 ghost use Rattle.pac_index.specs.declared.caller.Caller.{Caller};
+ghost use Rattle.pac_index.specs.declared.shared.Shared.{Shared};
 ghost use Rattle.std.specs.Mem.Slots.{slots_items, slots_len, IsFull};
 
 use crate::caller::{Caller, PlacedWrite};
@@ -19,10 +20,11 @@ use pm_words::{Memory, NoMemory};
 use std::alloc::Global;
 
 impl Shared {
-    /// The core once more, when all callers are back, the updater's too. Each stamp that isn't 0 becomes 1. On
-    /// `NoMemory` the index is gone.
+    /// The core once more, when all callers are back, the updater's too, each with no call in flight. Each stamp that
+    /// isn't 0 becomes 1. On `NoMemory` the index is gone.
     pub fn close(self, alloc: Global, callers: Vec<Caller>) -> Result<Core, NoMemory>
         requires callers { HasCallers self (parties_of self.about.layout) callers.items }
+        requires rests { AreAtRest callers.items }
         ensures meeting { IfOk result (Meeting self callers.items) }
     {
         let states = idle_states(alloc, callers.as_slice())?;
@@ -57,8 +59,8 @@ impl Shared {
         }))
     }
 
-    /// One seat, which has the parties of all callers.
-    fn gathered(&self, mut callers: Vec<Caller>) -> Seat<(), Members>
+    /// One seat, which has the parties of all callers, whatever is in flight.
+    pub(crate) fn gathered(&self, mut callers: Vec<Caller>) -> Seat<(), Members>
         requires { (i : ℕ) (c : Caller) → get_elem? callers.items i ≡ some c → IsCallerOf self.now c }
         ensures table { result.table_id ≡ self.now.table.shared.table_id }
         ensures all { result.me ≡ (map seen_by callers.items, []) }
@@ -74,8 +76,20 @@ impl Shared {
     }
 }
 
+/// Whether each of these callers has a step left. Then none of them has a call or a turn in flight.
+pub fn have_steps(callers: &[Caller]) -> bool
+    ensures { result ≡ true → (s : Shared) (n : ℕ) → HasCallers s n callers.now → AreAtRest callers.now }
+{
+    for number in 0..callers.len() {
+        if callers[number].is_spent() {
+            return false;
+        }
+    }
+    true
+}
+
 /// The words of a closed table.
-fn read_words(
+pub(crate) fn read_words(
     alloc: Global,
     closed: &Closed<(), Global>,
     count: usize,

@@ -1,13 +1,17 @@
 //! Rechecks: whether what a part of a range scan told its caller is so still.
 
-ghost use Rattle.std.specs.Prelude.{◌≡◌, ◌<◌};
+ghost use Rattle.std.specs.Prelude.{◌≡◌, ◌≢◌, ◌<◌, Some};
 ghost use Rattle.epochs.specs.Seats.{Holds};
 ghost use Rattle.pac_index.specs.Kept.{IsLone, party};
-ghost use Rattle.pac_index.specs.Calls.{IsAnswered};
-ghost use Rattle.pac_index.specs.Callers.{IsCallerOf};
+ghost use Rattle.pac_index.specs.Budgets.{Pays};
+ghost use Rattle.pac_index.specs.Cuts.{HasPaid};
+ghost use Rattle.pac_index.specs.Calls.{OnTried};
+ghost use Rattle.pac_index.specs.Callers.{IsAtRest, IsCallerOf};
+ghost use Rattle.pac_index.specs.CutRechecks.{HasLookedOnce, IsCutRecheck};
 ghost use Rattle.pac_index.specs.Pinned.{Pinned};
 ghost use Rattle.pac_index.specs.Rechecked.{Rechecked};
 
+use crate::budget::{pay, pay_one};
 use crate::caller::Caller;
 use crate::calls::turned_back;
 use crate::gate::{Gate, OpenGate, Pace};
@@ -15,7 +19,6 @@ use crate::rule::{ChecksNode, FirstRecheckStep, LastRecheckStep, Members};
 use crate::shared::Shared;
 use crate::tried::Tried;
 use atomic_table::Seat;
-use call_stages::Once;
 use epochs::{EpochSeat, Pin};
 use node_ops::{Recheck, Same};
 use pm_words::{Machine, Turn};
@@ -36,28 +39,35 @@ impl Shared {
         ensures caller { IsCallerOf self.now caller.new }
         ensures same { (caller.new.number ≡ caller.old.number) × (caller.new.index ≡ caller.old.index) ×
             (caller.new.kept ≡ caller.old.kept) }
-        ensures answered { IsAnswered result (λ answer. Pinned (Rechecked node version) caller.old answer caller.new) }
+        ensures rests { OnTried result (λ answer. IsAtRest caller.new) (Unit {0}) }
+        ensures tried { OnTried result (λ answer. Pinned (Rechecked node version) caller.old answer caller.new)
+            (IsCutRecheck caller.old caller.new) }
+        ensures paid { HasPaid caller.old caller.new }
     {
-        let mut pace = Pace::begin(&OpenGate, caller.number, caller.index);
+        if caller.is_spent() {
+            return Tried::Cut;
+        }
+        let mut pace = Pace::begin(&OpenGate, caller, caller.index);
         let pin = match self.epochs.pin_once(&mut caller.pins) {
             Ok(pin) => pin,
             Err(moved) => return turned_back(moved),
         };
-        let answer = self.run_recheck::<Brand, OpenGate>(
+        let tried = self.run_recheck::<Brand, OpenGate>(
             &mut caller.seat,
             caller.number,
             node,
             version,
             &caller.pins,
             &pin,
+            &mut caller.left,
             &mut pace,
         );
         self.epochs.unpin(&mut caller.pins, pin);
-        Tried::Answered(answer)
+        tried
     }
 
-    /// A recheck by the seat's party, from its first step to its answer, with the gate before each step. Its pin is
-    /// held meanwhile.
+    /// A recheck by the seat's party, from its first step to its answer, or until it has no step left before its last
+    /// one, with the gate before each step. Its pin is held meanwhile.
     fn run_recheck<N: ChecksNode, G: Gate>(
         &self,
         seat: &mut Seat<(), Members>,
@@ -66,8 +76,9 @@ impl Shared {
         version: u64,
         pins: &EpochSeat,
         pin: &Pin,
+        left: &mut Option<u64>,
         pace: &mut Pace<'_, G>,
-    ) -> Once<Same>
+    ) -> Tried<Same>
         requires pinned { Holds pins.now pin.now }
         requires table { seat.old.table_id ≡ self.now.table.shared.table_id }
         requires chosen { node ≡ N.node }
@@ -75,24 +86,31 @@ impl Shared {
         requires about { (party seat.old.me).about ≡ self.now.about }
         requires number { ((party seat.old.me).state.caller ≡ number) × (number < self.now.about.layout.callers) }
         requires node { node < self.now.about.layout.nodes }
+        requires left { left.old ≢ Some 0 }
         ensures seat { (seat.new.table_id ≡ seat.old.table_id) × (seat.new.id ≡ seat.old.id) }
         ensures lone { IsLone seat.new.me }
-        ensures answered { Rechecked node version (party seat.old.me) result (party seat.new.me) }
+        ensures answered { OnTried result (λ answer. Rechecked node version (party seat.old.me) answer
+            (party seat.new.me)) ((left.new ≡ Some 0) × HasLookedOnce (party seat.old.me) (party seat.new.me)) }
+        ensures paid { Pays left.old left.new (party seat.old.me).taken (party seat.new.me).taken }
     {
         let view = self.view(number);
         let first = Recheck::new(view, node, version);
         let dates = first.action();
+        pay_one(left);
         pace.step();
         let clock = self.act::<FirstRecheckStep>(seat, dates);
         let Turn::Go(last) = first.resume(clock) else {
             unreachable!()
         };
+        if !pay(left) {
+            return Tried::Cut;
+        }
         let checks = last.action();
         pace.step();
         let found = self.act::<LastRecheckStep<N>>(seat, checks);
         let Turn::Done(answer) = last.resume(found) else {
             unreachable!()
         };
-        answer
+        Tried::Answered(answer)
     }
 }

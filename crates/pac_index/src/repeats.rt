@@ -3,10 +3,12 @@
 ghost use Rattle.std.specs.Prelude.{◌≡◌, ◌≤◌, ◌<◌};
 ghost use Rattle.call_stages.specs.declared.once.Once.TheVariants as once;
 ghost use Rattle.index_core.specs.declared.party.CoreCall.TheVariants as call;
-ghost use Rattle.index_core.specs.PartyStates.{next_index};
+ghost use Rattle.pac_index.specs.Budgets.{CallBack, PartBack};
+ghost use Rattle.pac_index.specs.Cuts.{HasEnded, HasPaid, IsCutCall};
 ghost use Rattle.pac_index.specs.Calls.{Answers, PartAnswers};
-ghost use Rattle.pac_index.specs.Callers.{IsCallerOf, pins_of, spare_of, seen_by};
-ghost use Rattle.pac_index.specs.Ends.{AtLast, DoesNothing, IsDone, TurnedBack};
+ghost use Rattle.pac_index.specs.Callers.{IsAtRest, IsCallerOf, pins_of, spare_of, seen_by};
+ghost use Rattle.pac_index.specs.CutTurns.{IsCutTurn};
+ghost use Rattle.pac_index.specs.Ends.{AtLast, OnDone};
 ghost use Rattle.pac_index.specs.Turns.{TurnedAtLast};
 
 use crate::caller::Caller;
@@ -28,10 +30,12 @@ impl Shared {
         requires worker { caller.old.number < self.now.about.layout.callers }
         ensures caller { IsCallerOf self.now caller.new }
         ensures number { caller.new.number ≡ caller.old.number }
-        ensures index { caller.new.index ≡ next_index caller.old.index }
-        ensures done { IsDone result (λ placed. AtLast (TurnedBack (Answers (call.Get name.now) caller.old.index)
-            DoesNothing) (λ before after. Answers (call.Get name.now) caller.old.index before (once.Done placed) after)
-            (seen_by caller.old) (seen_by caller.new)) }
+        ensures done { OnDone result
+            (λ placed. HasEnded (AtLast (CallBack (call.Get name.now) caller.old.index)
+            (λ before after. Answers (call.Get name.now) caller.old.index before (once.Done placed) after))
+            caller.old caller.new)
+            (IsCutCall (CallBack (call.Get name.now) caller.old.index) (call.Get name.now) caller.old caller.new) }
+        ensures paid { HasPaid caller.old caller.new }
         ensures spare { spare_of caller.old ≤ spare_of caller.new }
     {
         self.get_at(rt, caller, *name, &OpenGate)
@@ -49,13 +53,15 @@ impl Shared {
         requires worker { caller.old.number < self.now.about.layout.callers }
         ensures caller { IsCallerOf self.now caller.new }
         ensures number { caller.new.number ≡ caller.old.number }
-        ensures index { caller.new.index ≡ next_index caller.old.index }
-        ensures done { IsDone result (λ placed. AtLast (TurnedBack (Answers (call.Get name) caller.old.index)
-            DoesNothing) (λ before after. Answers (call.Get name) caller.old.index before (once.Done placed) after)
-            (seen_by caller.old) (seen_by caller.new)) }
+        ensures done { OnDone result
+            (λ placed. HasEnded (AtLast (CallBack (call.Get name) caller.old.index)
+            (λ before after. Answers (call.Get name) caller.old.index before (once.Done placed) after))
+            caller.old caller.new)
+            (IsCutCall (CallBack (call.Get name) caller.old.index) (call.Get name) caller.old caller.new) }
+        ensures paid { HasPaid caller.old caller.new }
         ensures spare { spare_of caller.old ≤ spare_of caller.new }
     {
-        let mut pace = Pace::begin(gate, caller.number, caller.index);
+        let mut pace = Pace::begin(gate, caller, caller.index);
         for _ in rt.forever() {
             if let Some(ended) = self.try_get(caller, name, &mut pace).ended() {
                 return ended;
@@ -77,10 +83,12 @@ impl Shared {
         requires worker { caller.old.number < self.now.about.layout.callers }
         ensures caller { IsCallerOf self.now caller.new }
         ensures number { caller.new.number ≡ caller.old.number }
-        ensures index { caller.new.index ≡ next_index caller.old.index }
-        ensures done { IsDone result (λ words. AtLast (TurnedBack (PartAnswers low.now count caller.old.index)
-            DoesNothing) (λ before after. PartAnswers low.now count caller.old.index before (once.Done words) after)
-            (seen_by caller.old) (seen_by caller.new)) }
+        ensures done { OnDone result
+            (λ words. HasEnded (AtLast (PartBack low.now count caller.old.index)
+            (λ before after. PartAnswers low.now count caller.old.index before (once.Done words) after))
+            caller.old caller.new)
+            (IsCutCall (PartBack low.now count caller.old.index) (call.Part low.now count) caller.old caller.new) }
+        ensures paid { HasPaid caller.old caller.new }
         ensures spare { spare_of caller.old ≤ spare_of caller.new }
     {
         self.part_at(rt, caller, *low, count, &OpenGate)
@@ -99,13 +107,15 @@ impl Shared {
         requires worker { caller.old.number < self.now.about.layout.callers }
         ensures caller { IsCallerOf self.now caller.new }
         ensures number { caller.new.number ≡ caller.old.number }
-        ensures index { caller.new.index ≡ next_index caller.old.index }
-        ensures done { IsDone result (λ words. AtLast (TurnedBack (PartAnswers low count caller.old.index) DoesNothing)
-            (λ before after. PartAnswers low count caller.old.index before (once.Done words) after)
-            (seen_by caller.old) (seen_by caller.new)) }
+        ensures done { OnDone result
+            (λ words. HasEnded (AtLast (PartBack low count caller.old.index)
+            (λ before after. PartAnswers low count caller.old.index before (once.Done words) after))
+            caller.old caller.new)
+            (IsCutCall (PartBack low count caller.old.index) (call.Part low count) caller.old caller.new) }
+        ensures paid { HasPaid caller.old caller.new }
         ensures spare { spare_of caller.old ≤ spare_of caller.new }
     {
-        let mut pace = Pace::begin(gate, caller.number, caller.index);
+        let mut pace = Pace::begin(gate, caller, caller.index);
         self.part_at_pace(rt, caller, low, count, &mut pace)
     }
 
@@ -122,10 +132,12 @@ impl Shared {
         requires worker { caller.old.number < self.now.about.layout.callers }
         ensures caller { IsCallerOf self.now caller.new }
         ensures number { caller.new.number ≡ caller.old.number }
-        ensures index { caller.new.index ≡ next_index caller.old.index }
-        ensures done { IsDone result (λ words. AtLast (TurnedBack (PartAnswers low count caller.old.index) DoesNothing)
-            (λ before after. PartAnswers low count caller.old.index before (once.Done words) after)
-            (seen_by caller.old) (seen_by caller.new)) }
+        ensures done { OnDone result
+            (λ words. HasEnded (AtLast (PartBack low count caller.old.index)
+            (λ before after. PartAnswers low count caller.old.index before (once.Done words) after))
+            caller.old caller.new)
+            (IsCutCall (PartBack low count caller.old.index) (call.Part low count) caller.old caller.new) }
+        ensures paid { HasPaid caller.old caller.new }
         ensures spare { spare_of caller.old ≤ spare_of caller.new }
     {
         for _ in rt.forever() {
@@ -143,9 +155,11 @@ impl Shared {
         requires caller { IsCallerOf self.now caller.old }
         ensures caller { IsCallerOf self.now caller.new }
         ensures same { (caller.new.number ≡ caller.old.number) × (caller.new.index ≡ caller.old.index) ×
-            (caller.new.kept ≡ caller.old.kept) }
-        ensures done { IsDone result (λ turned. TurnedAtLast self.now.epochs.parties (seen_by caller.old)
-            (pins_of caller.old) turned (seen_by caller.new) (pins_of caller.new)) }
+            (caller.new.kept ≡ caller.old.kept) × (caller.new.cut ≡ caller.old.cut) }
+        ensures done { OnDone result (λ turned. IsAtRest caller.new × TurnedAtLast self.now.epochs.parties
+            (seen_by caller.old) (pins_of caller.old) turned (seen_by caller.new) (pins_of caller.new))
+            (IsCutTurn self.now.epochs.parties caller.old caller.new) }
+        ensures paid { HasPaid caller.old caller.new }
     {
         self.turn_at(rt, caller, &OpenGate)
     }
@@ -155,11 +169,13 @@ impl Shared {
         requires caller { IsCallerOf self.now caller.old }
         ensures caller { IsCallerOf self.now caller.new }
         ensures same { (caller.new.number ≡ caller.old.number) × (caller.new.index ≡ caller.old.index) ×
-            (caller.new.kept ≡ caller.old.kept) }
-        ensures done { IsDone result (λ turned. TurnedAtLast self.now.epochs.parties (seen_by caller.old)
-            (pins_of caller.old) turned (seen_by caller.new) (pins_of caller.new)) }
+            (caller.new.kept ≡ caller.old.kept) × (caller.new.cut ≡ caller.old.cut) }
+        ensures done { OnDone result (λ turned. IsAtRest caller.new × TurnedAtLast self.now.epochs.parties
+            (seen_by caller.old) (pins_of caller.old) turned (seen_by caller.new) (pins_of caller.new))
+            (IsCutTurn self.now.epochs.parties caller.old caller.new) }
+        ensures paid { HasPaid caller.old caller.new }
     {
-        let mut pace = Pace::begin(gate, caller.number, caller.index);
+        let mut pace = Pace::begin(gate, caller, caller.index);
         self.turn_at_pace(rt, caller, &mut pace)
     }
 
@@ -173,9 +189,11 @@ impl Shared {
         requires caller { IsCallerOf self.now caller.old }
         ensures caller { IsCallerOf self.now caller.new }
         ensures same { (caller.new.number ≡ caller.old.number) × (caller.new.index ≡ caller.old.index) ×
-            (caller.new.kept ≡ caller.old.kept) }
-        ensures done { IsDone result (λ turned. TurnedAtLast self.now.epochs.parties (seen_by caller.old)
-            (pins_of caller.old) turned (seen_by caller.new) (pins_of caller.new)) }
+            (caller.new.kept ≡ caller.old.kept) × (caller.new.cut ≡ caller.old.cut) }
+        ensures done { OnDone result (λ turned. IsAtRest caller.new × TurnedAtLast self.now.epochs.parties
+            (seen_by caller.old) (pins_of caller.old) turned (seen_by caller.new) (pins_of caller.new))
+            (IsCutTurn self.now.epochs.parties caller.old caller.new) }
+        ensures paid { HasPaid caller.old caller.new }
     {
         for _ in rt.forever() {
             if let Some(ended) = self.try_turn(caller, pace).ended() {

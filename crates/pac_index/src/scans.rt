@@ -1,10 +1,11 @@
 //! Whole range scans: parts, one after another.
 
-ghost use Rattle.std.specs.Prelude.{◌≡◌, ◌≤◌, ◌<◌, IfOk};
-ghost use Rattle.index_core.specs.PartyStates.{next_index};
+ghost use Rattle.std.specs.Prelude.{◌≡◌, ◌≤◌, ◌<◌, IfOk, IfSome, false, true};
+ghost use Rattle.pac_index.specs.Cuts.{HasPaid};
 ghost use Rattle.pac_index.specs.Callers.{IsCallerOf, spare_of, seen_by};
 ghost use Rattle.pac_index.specs.Ends.{HasOnlyRead};
-ghost use Rattle.pac_index.specs.Scanned.{AreScanned, IsRead, IsScanned};
+ghost use Rattle.pac_index.specs.Scanned.{AreScanned, IsRead, OnScan};
+ghost use Rattle.pac_index.specs.CutScans.{PartEnds, PartsEnd, ScanEnds, is_cut_scan};
 
 use crate::caller::Caller;
 use crate::ended::Ended;
@@ -22,7 +23,7 @@ use std::sync::Wait;
 pub enum Scanned {
     /// All its parts.
     Done(Parts),
-    /// The caller had no step left behind these parts. No caller has a bound on its steps yet, so no scan ends so.
+    /// The caller had no step left. These parts were answered before.
     Cut(Parts),
 }
 
@@ -45,10 +46,12 @@ impl Shared {
         requires worker { caller.old.number < self.now.about.layout.callers }
         ensures caller { IsCallerOf self.now caller.new }
         ensures number { caller.new.number ≡ caller.old.number }
-        ensures index { caller.new.index ≡ next_index caller.old.index }
+        ensures ends { ScanEnds result caller.old caller.new }
         ensures reads { HasOnlyRead (seen_by caller.old) (seen_by caller.new) }
-        ensures done { IfOk result (λ scanned. IsScanned scanned
-            (AreScanned from.now count (seen_by caller.old) (seen_by caller.new))) }
+        ensures done { IfOk result (λ scanned. OnScan scanned
+            (AreScanned from.now count false (seen_by caller.old) (seen_by caller.new))
+            (AreScanned from.now count true (seen_by caller.old) (seen_by caller.new))) }
+        ensures paid { HasPaid caller.old caller.new }
         ensures spare { spare_of caller.old ≤ spare_of caller.new }
     {
         self.scan_at(rt, alloc, caller, *from, count, &OpenGate)
@@ -68,16 +71,21 @@ impl Shared {
         requires worker { caller.old.number < self.now.about.layout.callers }
         ensures caller { IsCallerOf self.now caller.new }
         ensures number { caller.new.number ≡ caller.old.number }
-        ensures index { caller.new.index ≡ next_index caller.old.index }
+        ensures ends { ScanEnds result caller.old caller.new }
         ensures reads { HasOnlyRead (seen_by caller.old) (seen_by caller.new) }
-        ensures done { IfOk result (λ scanned. IsScanned scanned
-            (AreScanned from count (seen_by caller.old) (seen_by caller.new))) }
+        ensures done { IfOk result (λ scanned. OnScan scanned
+            (AreScanned from count false (seen_by caller.old) (seen_by caller.new))
+            (AreScanned from count true (seen_by caller.old) (seen_by caller.new))) }
+        ensures paid { HasPaid caller.old caller.new }
         ensures spare { spare_of caller.old ≤ spare_of caller.new }
     {
-        let mut pace = Pace::begin(gate, caller.number, caller.index);
-        let parts = self.read_parts(rt, alloc, caller, from, count, &mut pace);
+        let mut pace = Pace::begin(gate, caller, caller.index);
+        let scanned = self.read_parts(rt, alloc, caller, from, count, &mut pace);
+        if is_cut(&scanned) {
+            return scanned;
+        }
         caller.index = caller.index.saturating_add(1);
-        Ok(Scanned::Done(parts?))
+        scanned
     }
 
     /// The parts of a scan, which isn't counted as a call yet.
@@ -89,30 +97,37 @@ impl Shared {
         from: Name,
         count: u64,
         pace: &mut Pace<'_, G>,
-    ) -> Result<Parts, NoMemory>
+    ) -> Result<Scanned, NoMemory>
         requires caller { IsCallerOf self.now caller.old }
         requires worker { caller.old.number < self.now.about.layout.callers }
         ensures caller { IsCallerOf self.now caller.new }
         ensures number { caller.new.number ≡ caller.old.number }
         ensures index { caller.new.index ≡ caller.old.index }
+        ensures ends { PartsEnd result caller.old caller.new }
         ensures reads { HasOnlyRead (seen_by caller.old) (seen_by caller.new) }
-        ensures parts { IfOk result (AreScanned from count (seen_by caller.old) (seen_by caller.new)) }
+        ensures parts { IfOk result (λ scanned. OnScan scanned
+            (AreScanned from count false (seen_by caller.old) (seen_by caller.new))
+            (AreScanned from count true (seen_by caller.old) (seen_by caller.new))) }
+        ensures paid { HasPaid caller.old caller.new }
         ensures spare { spare_of caller.old ≤ spare_of caller.new }
     {
         let mut parts = Vec::new(alloc);
         let mut left = count;
         let mut next = Some(from);
         while let Some(low) = next {
-            let part = self.read_part(rt, alloc, caller, low, left, pace)?;
+            let read = self.read_part(rt, alloc, caller, low, left, pace)?;
+            let Some(part) = read else {
+                return Ok(Scanned::Cut(Listed::of(parts)));
+            };
             left -= part.pairs.as_slice().len() as u64;
             let high = part.high;
             parts.push(part)?;
             next = if left > 0 { high } else { None };
         }
-        Ok(Listed::of(parts))
+        Ok(Scanned::Done(Listed::of(parts)))
     }
 
-    /// The part of a scan that begins at this name, with so many names left.
+    /// The part of a scan that begins at this name, with so many names left, unless it was cut off.
     fn read_part<R: Wait, G: Gate>(
         &self,
         rt: &R,
@@ -121,14 +136,17 @@ impl Shared {
         low: Name,
         left: u64,
         pace: &mut Pace<'_, G>,
-    ) -> Result<ScanPart, NoMemory>
+    ) -> Result<Option<ScanPart>, NoMemory>
         requires caller { IsCallerOf self.now caller.old }
         requires worker { caller.old.number < self.now.about.layout.callers }
         ensures caller { IsCallerOf self.now caller.new }
         ensures number { caller.new.number ≡ caller.old.number }
         ensures index { caller.new.index ≡ caller.old.index }
+        ensures ends { PartEnds result caller.old caller.new }
         ensures reads { HasOnlyRead (seen_by caller.old) (seen_by caller.new) }
-        ensures part { IfOk result (IsRead low left (seen_by caller.old) (seen_by caller.new)) }
+        ensures part { IfOk result (λ read. IfSome read
+            (IsRead low left (seen_by caller.old) (seen_by caller.new))) }
+        ensures paid { HasPaid caller.old caller.new }
         ensures spare { spare_of caller.old ≤ spare_of caller.new }
     {
         // All parts of a scan are one call.
@@ -136,13 +154,20 @@ impl Shared {
         let ended = self.part_at_pace(rt, caller, low, left, pace);
         caller.index = index;
         let Ended::Done(words) = ended else {
-            unreachable!()
+            return Ok(None);
         };
-        Ok(ScanPart {
+        Ok(Some(ScanPart {
             low,
             high: words.high,
             place: words.place,
             pairs: Listed::of(listed_pairs(alloc, &words)?),
-        })
+        }))
     }
+}
+
+/// The scan was cut off.
+fn is_cut(scanned: &Result<Scanned, NoMemory>) -> bool
+    ensures { result ≡ is_cut_scan scanned.now }
+{
+    matches!(scanned, Ok(Scanned::Cut(_)))
 }

@@ -1,4 +1,4 @@
-ghost use Rattle.std.specs.Prelude.{◌≡◌, ◌<◌, ◌^◌, None, Some, IsSome};
+ghost use Rattle.std.specs.Prelude.{◌≡◌, ◌≢◌, ◌+◌, ◌<◌, ◌^◌, None, Some, IsSome};
 ghost use Rattle.pm_words.specs.Layouts.{IsLayout};
 ghost use Rattle.pm_words.specs.Locations.{row_words};
 ghost use Rattle.version_lock.specs.declared.TheConstants.{GENERATION_LIMIT};
@@ -11,10 +11,13 @@ ghost use Rattle.index_core.specs.CoreCalls.{MayBegin, op_of};
 ghost use Rattle.index_core.specs.Indexes.{parties_of};
 ghost use Rattle.epochs.specs.Seats.{Holds};
 ghost use Rattle.index_core.specs.MachineLaws.{IsReady};
+ghost use Rattle.pac_index.specs.Budgets.{OnRan, Pays, StopsAt};
 ghost use Rattle.pac_index.specs.Kept.{May, WasTold, IsLone, party, machine_in};
 ghost use Rattle.pac_index.specs.Calls.{Answers, PartAnswers, Runs, FirstTurn, StepsOn};
 
+use crate::budget::{pay, pay_one};
 use crate::gate::{Gate, Pace};
+use crate::ran::Ran;
 use crate::rule::{About, BeginsCall, ByOutcome, FirstStep, Members, NextStep, Outcome, Ruled};
 use atomic_table::{Seat, Table};
 use call_stages::{Once, Placed, View};
@@ -76,8 +79,9 @@ impl Shared {
         }
     }
 
-    /// One call on one name by the seat's party, from its first step to its answer, with the gate before each step. Its
-    /// pin is held meanwhile, since it is lent with the seat that could give it back.
+    /// One call on one name by the seat's party, from its first step to its answer, or until it has no step left before
+    /// one that it still has to make, with the gate before each step. Its pin is held meanwhile, since it is lent with
+    /// the seat that could give it back.
     pub(crate) fn run<C: BeginsCall, G: Gate>(
         &self,
         seat: &mut Seat<(), Members>,
@@ -86,8 +90,9 @@ impl Shared {
         call: CoreCall,
         pins: &EpochSeat,
         pin: &Pin,
+        left: &mut Option<u64>,
         pace: &mut Pace<'_, G>,
-    ) -> Once<Placed>
+    ) -> Ran<Placed>
         requires pinned { Holds pins.now pin.now }
         requires table { seat.old.table_id ≡ self.now.table.shared.table_id }
         requires chosen { (call ≡ C.call) × (index ≡ C.index) }
@@ -96,15 +101,24 @@ impl Shared {
         requires idle { (party seat.old.me).state.machine ≡ None }
         requires number { ((party seat.old.me).state.caller ≡ number) × (number < self.now.about.layout.callers) }
         requires begins { MayBegin call }
+        requires left { left.old ≢ Some 0 }
         ensures seat { (seat.new.table_id ≡ seat.old.table_id) × (seat.new.id ≡ seat.old.id) }
         ensures lone { IsLone seat.new.me }
-        ensures answered { Answers call index (party seat.old.me) result (party seat.new.me) }
+        ensures ran { OnRan result (λ answer. Answers call index (party seat.old.me) answer (party seat.new.me))
+            (λ place. (left.new ≡ Some 0) × StopsAt call index (party seat.old.me) place (party seat.new.me)) }
+        ensures paid { Pays left.old left.new (party seat.old.me).taken (party seat.new.me).taken }
     {
         let mut machine = call.machine(self.view(number));
+        pay_one(left);
         let mut answer = self.begin::<C, G>(seat, &mut machine, pace);
         'steps: loop {
             if let Some(answer) = answer {
-                return answer;
+                return Ran::Answered(answer);
+            }
+            if !pay(left) {
+                return Ran::Cut {
+                    place: machine.place(),
+                };
             }
             answer = self.go_on(seat, &mut machine, pace);
         }
@@ -121,8 +135,9 @@ impl Shared {
         count: u64,
         pins: &EpochSeat,
         pin: &Pin,
+        left: &mut Option<u64>,
         pace: &mut Pace<'_, G>,
-    ) -> Once<PartWords>
+    ) -> Ran<PartWords>
         requires pinned { Holds pins.now pin.now }
         requires table { seat.old.table_id ≡ self.now.table.shared.table_id }
         requires chosen { (call.Part low count ≡ C.call) × (index ≡ C.index) }
@@ -130,16 +145,26 @@ impl Shared {
         requires about { (party seat.old.me).about ≡ self.now.about }
         requires idle { (party seat.old.me).state.machine ≡ None }
         requires number { ((party seat.old.me).state.caller ≡ number) × (number < self.now.about.layout.callers) }
+        requires left { left.old ≢ Some 0 }
         ensures seat { (seat.new.table_id ≡ seat.old.table_id) × (seat.new.id ≡ seat.old.id) }
         ensures lone { IsLone seat.new.me }
-        ensures answered { PartAnswers low count index (party seat.old.me) result (party seat.new.me) }
+        ensures ran { OnRan result (λ answer. PartAnswers low count index (party seat.old.me) answer
+            (party seat.new.me)) (λ place. (left.new ≡ Some 0) × StopsAt (call.Part low count) index
+            (party seat.old.me) place (party seat.new.me)) }
+        ensures paid { Pays left.old left.new (party seat.old.me).taken (party seat.new.me).taken }
     {
         let call = CoreCall::Part { low, count };
         let mut machine = call.machine(self.view(number));
+        pay_one(left);
         let mut answer = self.begin::<C, G>(seat, &mut machine, pace);
         'steps: loop {
             if let Some(answer) = answer {
-                return Part::early(answer);
+                return Ran::Answered(Part::early(answer));
+            }
+            if !pay(left) {
+                return Ran::Cut {
+                    place: machine.place(),
+                };
             }
             if machine.has_listed() {
                 let words = listing(&machine);
@@ -147,8 +172,8 @@ impl Shared {
                     unreachable!()
                 };
                 return match last {
-                    Once::Done(_) => Once::Done(words),
-                    _ => Part::early(last),
+                    Once::Done(_) => Ran::Answered(Once::Done(words)),
+                    _ => Ran::Answered(Part::early(last)),
                 };
             }
             answer = self.go_on(seat, &mut machine, pace);
@@ -173,7 +198,7 @@ impl Shared {
     }
 
     /// The first step of a call, with the gate before it.
-    fn begin<C: BeginsCall, G: Gate>(
+    pub(crate) fn begin<C: BeginsCall, G: Gate>(
         &self,
         seat: &mut Seat<(), Members>,
         machine: &mut Running,
@@ -190,6 +215,7 @@ impl Shared {
         ensures lone { IsLone seat.new.me }
         ensures runs { Runs C.call C.index (party seat.old.me) (turn_of machine.new result) (party seat.new.me) }
         ensures turned { FirstTurn machine.old machine.new result }
+        ensures taken { (party seat.new.me).taken ≡ (party seat.old.me).taken + 1 }
     {
         pace.step();
         let got = self.act::<FirstStep<C>>(seat, machine.action());
@@ -197,7 +223,7 @@ impl Shared {
     }
 
     /// The next step of the call in flight, with the gate before it.
-    fn go_on<G: Gate>(
+    pub(crate) fn go_on<G: Gate>(
         &self,
         seat: &mut Seat<(), Members>,
         machine: &mut Running,

@@ -8,7 +8,7 @@ use updater::Turned;
 #[derive(Clone, Copy, PartialEq, Eq, Debug)]
 pub enum Tried<T> {
     Answered(Once<T>),
-    /// The caller had no step left. No caller has a bound on its steps yet, so no try ends so.
+    /// The caller had no step left before one that the try still had to make.
     Cut,
 }
 
@@ -26,6 +26,6 @@ pub enum TriedTurn {
     Held {
         word: u64,
     },
-    /// The caller had no step left. No caller has a bound on its steps yet, so no try ends so.
+    /// The caller had no step left before one that the turn still had to make.
     Cut,
 }

@@ -1,16 +1,20 @@
 //! Turns of the updater beside calls.
 
-ghost use Rattle.std.specs.Prelude.{◌≡◌, ◌-◌, ◌<◌, ◌≤◌, ◌^◌, None, Some};
+ghost use Rattle.std.specs.Prelude.{◌≡◌, ◌≢◌, ◌-◌, ◌<◌, ◌≤◌, ◌^◌, None, Some};
 ghost use Rattle.pm_words.specs.declared.machine.Turn.TheVariants.{Go};
 ghost use Rattle.updater.specs.declared.making.MakeTurn.TheVariants.{Working};
 ghost use Rattle.updater.specs.Works.{IsWork, work_from};
 ghost use Rattle.epochs.specs.Kept.{first_epoch, last_epoch};
 ghost use Rattle.epochs.specs.Seats.{IsSeatOf, known_by};
 ghost use Rattle.pac_index.specs.Kept.{IsLone, party};
-ghost use Rattle.pac_index.specs.Callers.{IsCallerOf, pins_of, seen_by};
-ghost use Rattle.pac_index.specs.Turns.{IsDated, IsTold, MadeTurn, TurnHeld, TurnReady, WorkStepsOn};
+ghost use Rattle.pac_index.specs.Budgets.{Pays};
+ghost use Rattle.pac_index.specs.Cuts.{HasPaid};
+ghost use Rattle.pac_index.specs.Callers.{IsAtRest, IsCallerOf, pins_of, seen_by};
+ghost use Rattle.pac_index.specs.CutTurns.{IsCutTurnTry, TurnStops};
+ghost use Rattle.pac_index.specs.Turns.{IsDated, OnTurn, MadeTurn, TurnHeld, TurnReady, WorkStepsOn};
 ghost use Rattle.pac_index.specs.Turns.{turn_in, turning, turning_at, work_in, TurnGoes};
 
+use crate::budget::{pay, pay_one};
 use crate::caller::Caller;
 use crate::gate::{Gate, OpenGate, Pace};
 use crate::rule::{FirstTurnStep, FirstWorkStep, HasEpoch, Members, NextTurnStep};
@@ -23,7 +27,7 @@ use std::marker::Brand;
 use updater::{TakeTurn, Turned, Work};
 
 /// The word of the updater lock while no party has it.
-const UNTAKEN: u64 = 0;
+pub(crate) const UNTAKEN: u64 = 0;
 
 impl Shared {
     /// One try of a turn of the updater, beside the calls of the others: it takes the READY log lines to the search layer
@@ -36,13 +40,17 @@ impl Shared {
         requires caller { IsCallerOf self.now caller.old }
         ensures caller { IsCallerOf self.now caller.new }
         ensures same { (caller.new.number ≡ caller.old.number) × (caller.new.index ≡ caller.old.index) ×
-            (caller.new.kept ≡ caller.old.kept) }
-        ensures told { IsTold result (λ turned epoch advanced. MadeTurn self.now.epochs.parties (seen_by caller.old)
+            (caller.new.kept ≡ caller.old.kept) × (caller.new.cut ≡ caller.old.cut) }
+        ensures rests { OnTurn result (λ turned epoch advanced. IsAtRest caller.new) (λ word. IsAtRest caller.new)
+            (Unit {0}) }
+        ensures told { OnTurn result (λ turned epoch advanced. MadeTurn self.now.epochs.parties (seen_by caller.old)
             (pins_of caller.old) turned epoch advanced (seen_by caller.new) (pins_of caller.new))
             (λ word. TurnHeld word (seen_by caller.old) (seen_by caller.new) ×
-            (pins_of caller.new ≡ pins_of caller.old)) }
+            (pins_of caller.new ≡ pins_of caller.old))
+            (IsCutTurnTry self.now.epochs.parties caller.old caller.new) }
+        ensures paid { HasPaid caller.old caller.new }
     {
-        let mut pace = Pace::begin(&OpenGate, caller.number, caller.index);
+        let mut pace = Pace::begin(&OpenGate, caller, caller.index);
         self.try_turn(caller, &mut pace)
     }
 
@@ -53,13 +61,17 @@ impl Shared {
         requires updater { caller.old.number ≡ self.now.about.layout.callers }
         ensures caller { IsCallerOf self.now caller.new }
         ensures same { (caller.new.number ≡ caller.old.number) × (caller.new.index ≡ caller.old.index) ×
-            (caller.new.kept ≡ caller.old.kept) }
-        ensures told { IsTold result (λ turned epoch advanced. MadeTurn self.now.epochs.parties (seen_by caller.old)
+            (caller.new.kept ≡ caller.old.kept) × (caller.new.cut ≡ caller.old.cut) }
+        ensures rests { OnTurn result (λ turned epoch advanced. IsAtRest caller.new) (λ word. IsAtRest caller.new)
+            (Unit {0}) }
+        ensures told { OnTurn result (λ turned epoch advanced. MadeTurn self.now.epochs.parties (seen_by caller.old)
             (pins_of caller.old) turned epoch advanced (seen_by caller.new) (pins_of caller.new))
             (λ word. TurnHeld word (seen_by caller.old) (seen_by caller.new) ×
-            (pins_of caller.new ≡ pins_of caller.old)) }
+            (pins_of caller.new ≡ pins_of caller.old))
+            (IsCutTurnTry self.now.epochs.parties caller.old caller.new) }
+        ensures paid { HasPaid caller.old caller.new }
     {
-        let mut pace = Pace::begin(gate, caller.number, turn);
+        let mut pace = Pace::begin(gate, caller, turn);
         self.try_turn(caller, &mut pace)
     }
 
@@ -68,21 +80,29 @@ impl Shared {
         requires caller { IsCallerOf self.now caller.old }
         ensures caller { IsCallerOf self.now caller.new }
         ensures same { (caller.new.number ≡ caller.old.number) × (caller.new.index ≡ caller.old.index) ×
-            (caller.new.kept ≡ caller.old.kept) }
-        ensures told { IsTold result (λ turned epoch advanced. MadeTurn self.now.epochs.parties (seen_by caller.old)
+            (caller.new.kept ≡ caller.old.kept) × (caller.new.cut ≡ caller.old.cut) }
+        ensures rests { OnTurn result (λ turned epoch advanced. IsAtRest caller.new) (λ word. IsAtRest caller.new)
+            (Unit {0}) }
+        ensures told { OnTurn result (λ turned epoch advanced. MadeTurn self.now.epochs.parties (seen_by caller.old)
             (pins_of caller.old) turned epoch advanced (seen_by caller.new) (pins_of caller.new))
             (λ word. TurnHeld word (seen_by caller.old) (seen_by caller.new) ×
-            (pins_of caller.new ≡ pins_of caller.old)) }
+            (pins_of caller.new ≡ pins_of caller.old))
+            (IsCutTurnTry self.now.epochs.parties caller.old caller.new) }
+        ensures paid { HasPaid caller.old caller.new }
     {
-        self.run_turn(&mut caller.seat, &mut caller.pins, pace)
+        if caller.is_spent() {
+            return TriedTurn::Cut;
+        }
+        self.run_turn(&mut caller.seat, &mut caller.pins, &mut caller.left, pace)
     }
 
-    /// A turn by the seat's party, from its first step to its answer, with the gate before each step on the index.
-    /// Between the first step, by which it takes the updater lock, and the next one it steps on the epoch.
+    /// A turn by the seat's party, from its first step to its answer, or until it has no step left before one that it
+    /// still has to make, with the gate before each step on the index.
     fn run_turn<G: Gate>(
         &self,
         seat: &mut Seat<(), Members>,
         pins: &mut EpochSeat,
+        left: &mut Option<u64>,
         pace: &mut Pace<'_, G>,
     ) -> TriedTurn
         requires table { seat.old.table_id ≡ self.now.table.shared.table_id }
@@ -90,17 +110,25 @@ impl Shared {
         requires about { (party seat.old.me).about ≡ self.now.about }
         requires resting { (party seat.old.me).state.turn ≡ None }
         requires pins { IsSeatOf self.now.epochs pins.old }
+        requires left { left.old ≢ Some 0 }
         ensures seat { (seat.new.table_id ≡ seat.old.table_id) × (seat.new.id ≡ seat.old.id) }
         ensures lone { IsLone seat.new.me }
         ensures pins { IsSeatOf self.now.epochs pins.new × (pins.new.party ≡ pins.old.party) ×
             ((known_by pins.new).pin ≡ (known_by pins.old).pin) }
-        ensures told { IsTold result (λ turned epoch advanced. MadeTurn self.now.epochs.parties (party seat.old.me)
+        ensures told { OnTurn result (λ turned epoch advanced. MadeTurn self.now.epochs.parties (party seat.old.me)
             (known_by pins.old) turned epoch advanced (party seat.new.me) (known_by pins.new))
-            (λ word. TurnHeld word (party seat.old.me) (party seat.new.me) × (known_by pins.new ≡ known_by pins.old)) }
+            (λ word. TurnHeld word (party seat.old.me) (party seat.new.me) × (known_by pins.new ≡ known_by pins.old))
+            ((left.new ≡ Some 0) × TurnStops self.now.epochs.parties (party seat.old.me) (known_by pins.old)
+            (party seat.new.me) (known_by pins.new)) }
+        ensures paid { Pays left.old left.new (party seat.old.me).taken (party seat.new.me).taken }
     {
+        pay_one(left);
         let word = self.lock_turn(seat, pace);
         if word != UNTAKEN {
             return TriedTurn::Held { word };
+        }
+        if !pay(left) {
+            return TriedTurn::Cut;
         }
         let (epoch, advanced) = self.date_turn(seat, pins);
         let mut work = Work::new(self.about.layout, self.about.generation, epoch, epoch - 2);
@@ -113,13 +141,20 @@ impl Shared {
                     advanced,
                 };
             }
+            if !pay(left) {
+                return TriedTurn::Cut;
+            }
             turned = self.go_on_work(seat, &mut work, pace);
         }
     }
 
     /// The first step of a turn, with the gate before it: the exchange of the updater lock, and the word that it found
     /// there.
-    fn lock_turn<G: Gate>(&self, seat: &mut Seat<(), Members>, pace: &mut Pace<'_, G>) -> u64
+    pub(crate) fn lock_turn<G: Gate>(
+        &self,
+        seat: &mut Seat<(), Members>,
+        pace: &mut Pace<'_, G>,
+    ) -> u64
         requires table { seat.old.table_id ≡ self.now.table.shared.table_id }
         requires lone { IsLone seat.old.me }
         requires about { (party seat.old.me).about ≡ self.now.about }
@@ -135,7 +170,7 @@ impl Shared {
 
     /// Tries once to advance the epoch, and loads it, for a turn that has the updater lock and has done nothing under it:
     /// so the epoch stands still until that turn gives the lock back.
-    fn date_turn(
+    pub(crate) fn date_turn(
         &self,
         seat: &Seat<(), Members>,
         pins: &mut EpochSeat,
@@ -153,7 +188,7 @@ impl Shared {
     }
 
     /// The first step of a turn that has the updater lock, with the gate before it. From here on it is one at this epoch.
-    fn begin_work<E: HasEpoch, G: Gate>(
+    pub(crate) fn begin_work<E: HasEpoch, G: Gate>(
         &self,
         seat: &mut Seat<(), Members>,
         epoch: u64,
@@ -179,7 +214,7 @@ impl Shared {
     }
 
     /// The next step of a turn under the updater lock, with the gate before it.
-    fn go_on_work<G: Gate>(
+    pub(crate) fn go_on_work<G: Gate>(
         &self,
         seat: &mut Seat<(), Members>,
         work: &mut Work,

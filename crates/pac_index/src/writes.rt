@@ -3,13 +3,12 @@
 ghost use Rattle.std.specs.Prelude.{◌≡◌, ◌+◌, ◌≤◌, ◌<◌, ◌^◌, length};
 ghost use Rattle.index_core.specs.declared.party.CoreCall.TheVariants as call;
 ghost use Rattle.index_core.specs.CoreCalls.{MayBegin, most_writes};
-ghost use Rattle.index_core.specs.PartyStates.{next_index};
+ghost use Rattle.pac_index.specs.Cuts.{HasEnded, HasPaid};
 ghost use Rattle.pac_index.specs.Calls.{Answers, own_of};
-ghost use Rattle.pac_index.specs.Callers.{IsCallerOf, spare_of, seen_by};
+ghost use Rattle.pac_index.specs.Callers.{IsAtRest, IsCallerOf, spare_of};
+ghost use Rattle.pac_index.specs.CutWrites.{HasTurnedWithin, IsCutWrite, NextSo, WriteSo, next_of};
 ghost use Rattle.pac_index.specs.Ends.{AtLast};
-ghost use Rattle.pac_index.specs.Turns.{HasMadeTurn};
-ghost use Rattle.pac_index.specs.Writes.{EndsSo, FoundFull, TriedSo, TurnedForRoom, WriteBack};
-ghost use Rattle.pac_index.specs.Writes.{lacks_line, lacks_node};
+ghost use Rattle.pac_index.specs.Writes.{EndsSo, FoundFull, WriteBack};
 
 use crate::caller::Caller;
 use crate::ended::Ended;
@@ -26,7 +25,15 @@ use updater::Turned;
 
 /// From which of its turns for want of a node on a put may end full: until then nodes that are GONE as it begins may
 /// become FREE.
-const TURNS_FOR_ROOM: u64 = 4;
+pub(crate) const TURNS_FOR_ROOM: u64 = 4;
+
+/// What comes behind one try of a put or a delete.
+pub(crate) enum WriteNext {
+    End(Ended<Placed>),
+    Retry,
+    TurnForLine,
+    TurnForNode,
+}
 
 /// What one try of a put or a delete comes to, with a turn of the updater behind it where it wants one.
 pub(crate) enum WriteTry {
@@ -56,13 +63,16 @@ impl Shared {
         requires spare { 1 ≤ spare_of caller.old }
         ensures caller { IsCallerOf self.now caller.new }
         ensures number { caller.new.number ≡ caller.old.number }
-        ensures index { caller.new.index ≡ next_index caller.old.index }
-        ensures ends { EndsSo result (λ answer. AtLast (WriteBack (call.Put name.now value limit)
-            caller.old.index) (λ before after. Answers (call.Put name.now value limit) caller.old.index before answer
-            after) (seen_by caller.old) (seen_by caller.new))
-            (FoundFull (call.Put name.now value limit) caller.old.index (seen_by caller.old) (seen_by caller.new)) }
+        ensures ends { EndsSo result
+            (λ answer. HasEnded (AtLast (WriteBack (call.Put name.now value limit) caller.old.index)
+            (λ before after. Answers (call.Put name.now value limit) caller.old.index before answer after))
+            caller.old caller.new)
+            (HasEnded (FoundFull (call.Put name.now value limit) caller.old.index) caller.old caller.new)
+            (IsCutWrite self.now.epochs.parties (call.Put name.now value limit) caller.old caller.new) }
+        ensures paid { HasPaid caller.old caller.new }
         ensures spare { EndsSo result (λ answer. spare_of caller.old ≤ spare_of caller.new + length
-            (own_of caller.old (call.Put name.now value limit) answer)) (spare_of caller.old ≤ spare_of caller.new) }
+            (own_of caller.old (call.Put name.now value limit) answer))
+            (spare_of caller.old ≤ spare_of caller.new) (Unit {0}) }
     {
         let name = *name;
         self.write(rt, caller, CoreCall::Put { name, value, limit }, &OpenGate)
@@ -82,12 +92,15 @@ impl Shared {
         requires spare { 1 ≤ spare_of caller.old }
         ensures caller { IsCallerOf self.now caller.new }
         ensures number { caller.new.number ≡ caller.old.number }
-        ensures index { caller.new.index ≡ next_index caller.old.index }
-        ensures ends { EndsSo result (λ answer. AtLast (WriteBack (call.Del name.now limit) caller.old.index)
-            (λ before after. Answers (call.Del name.now limit) caller.old.index before answer after)
-            (seen_by caller.old) (seen_by caller.new)) ⊥ }
+        ensures ends { EndsSo result
+            (λ answer. HasEnded (AtLast (WriteBack (call.Del name.now limit) caller.old.index)
+            (λ before after. Answers (call.Del name.now limit) caller.old.index before answer after))
+            caller.old caller.new)
+            ⊥
+            (IsCutWrite self.now.epochs.parties (call.Del name.now limit) caller.old caller.new) }
+        ensures paid { HasPaid caller.old caller.new }
         ensures spare { EndsSo result (λ answer. spare_of caller.old ≤ spare_of caller.new + length
-            (own_of caller.old (call.Del name.now limit) answer)) ⊥ }
+            (own_of caller.old (call.Del name.now limit) answer)) ⊥ (Unit {0}) }
     {
         let name = *name;
         self.write(rt, caller, CoreCall::Del { name, limit }, &OpenGate)
@@ -107,14 +120,18 @@ impl Shared {
         requires spare { most_writes call ≤ spare_of caller.old }
         ensures caller { IsCallerOf self.now caller.new }
         ensures number { caller.new.number ≡ caller.old.number }
-        ensures index { caller.new.index ≡ next_index caller.old.index }
-        ensures ends { EndsSo result (λ answer. AtLast (WriteBack call caller.old.index) (λ before after. Answers call
-            caller.old.index before answer after) (seen_by caller.old) (seen_by caller.new))
-            (FoundFull call caller.old.index (seen_by caller.old) (seen_by caller.new)) }
+        ensures ends { EndsSo result
+            (λ answer. HasEnded (AtLast (WriteBack call caller.old.index)
+            (λ before after. Answers call caller.old.index before answer after))
+            caller.old caller.new)
+            (HasEnded (FoundFull call caller.old.index) caller.old caller.new)
+            (IsCutWrite self.now.epochs.parties call caller.old caller.new) }
+        ensures paid { HasPaid caller.old caller.new }
         ensures spare { EndsSo result (λ answer. spare_of caller.old ≤ spare_of caller.new + length
-            (own_of caller.old call answer)) (spare_of caller.old ≤ spare_of caller.new) }
+            (own_of caller.old call answer))
+            (spare_of caller.old ≤ spare_of caller.new) (Unit {0}) }
     {
-        let mut pace = Pace::begin(gate, caller.number, caller.index);
+        let mut pace = Pace::begin(gate, caller, caller.index);
         let mut turns = 0u64;
         for _ in rt.forever() {
             match self.try_to_write(rt, caller, &call, &mut pace) {
@@ -147,60 +164,78 @@ impl Shared {
         requires spare { most_writes call.now ≤ spare_of caller.old }
         ensures caller { IsCallerOf self.now caller.new }
         ensures number { caller.new.number ≡ caller.old.number }
-        ensures index { TriedSo result (λ answer. caller.new.index ≡ next_index caller.old.index)
-            (caller.new.index ≡ caller.old.index) (λ none_free. caller.new.index ≡ caller.old.index) }
-        ensures tried { TriedSo result (λ answer. Answers call.now caller.old.index (seen_by caller.old) answer
-            (seen_by caller.new)) (WriteBack call.now caller.old.index (seen_by caller.old) (seen_by caller.new))
-            (λ none_free. TurnedForRoom call.now caller.old.index none_free (seen_by caller.old) (seen_by caller.new)) }
-        ensures spare { TriedSo result (λ answer. spare_of caller.old ≤ spare_of caller.new + length
-            (own_of caller.old call.now answer)) (spare_of caller.old ≤ spare_of caller.new)
-            (λ none_free. spare_of caller.old ≤ spare_of caller.new) }
+        ensures tried { WriteSo self.now.epochs.parties call.now caller.old result caller.new }
+        ensures paid { HasPaid caller.old caller.new }
     {
-        let tried = self.try_at_pace(caller, *call, pace);
-        if let Some(ended) = tried.ended() {
-            return WriteTry::Ended(ended);
+        match self.try_next(caller, call, pace) {
+            WriteNext::End(ended) => WriteTry::Ended(ended),
+            WriteNext::Retry => WriteTry::Back,
+            WriteNext::TurnForLine => match self.turned(rt, caller, pace) {
+                Some(_) => WriteTry::Back,
+                None => WriteTry::Ended(Ended::Cut),
+            },
+            WriteNext::TurnForNode => match self.turned(rt, caller, pace) {
+                Some(turned) => WriteTry::NoRoom {
+                    none_free: turned.none_free,
+                },
+                None => WriteTry::Ended(Ended::Cut),
+            },
         }
-        if lacks_node(&tried) {
-            let none_free = self.turned(rt, caller, pace).none_free;
-            return WriteTry::NoRoom { none_free };
-        }
-        if lacks_line(&tried) {
-            self.turned(rt, caller, pace);
-            return WriteTry::Back;
-        }
-        WriteTry::Back
     }
 
-    /// A turn within a call, which is done.
+    /// One try of a put or a delete, and what comes behind it.
+    fn try_next<G: Gate>(
+        &self,
+        caller: &mut Caller,
+        call: &CoreCall,
+        pace: &mut Pace<'_, G>,
+    ) -> WriteNext
+        requires caller { IsCallerOf self.now caller.old }
+        requires worker { caller.old.number < self.now.about.layout.callers }
+        requires begins { MayBegin call.now }
+        requires spare { most_writes call.now ≤ spare_of caller.old }
+        ensures caller { IsCallerOf self.now caller.new }
+        ensures number { caller.new.number ≡ caller.old.number }
+        ensures next { NextSo call.now caller.old result caller.new }
+        ensures paid { HasPaid caller.old caller.new }
+    {
+        let tried = self.try_at_pace(caller, call, pace);
+        next_of(tried)
+    }
+
+    /// A turn within a call, unless it was cut off.
     fn turned<R: Wait, G: Gate>(
         &self,
         rt: &R,
         caller: &mut Caller,
         pace: &mut Pace<'_, G>,
-    ) -> Turned
+    ) -> Option<Turned>
         requires caller { IsCallerOf self.now caller.old }
+        requires rests { IsAtRest caller.old }
         ensures caller { IsCallerOf self.now caller.new }
         ensures same { (caller.new.number ≡ caller.old.number) × (caller.new.index ≡ caller.old.index) ×
-            (caller.new.kept ≡ caller.old.kept) }
-        ensures turned { HasMadeTurn result (seen_by caller.old) (seen_by caller.new) }
+            (caller.new.kept ≡ caller.old.kept) × (caller.new.cut ≡ caller.old.cut) }
+        ensures turned { HasTurnedWithin self.now.epochs.parties caller.old result caller.new }
+        ensures paid { HasPaid caller.old caller.new }
     {
         let Ended::Done(turned) = self.turn_at_pace(rt, caller, pace) else {
-            unreachable!()
+            return None;
         };
-        turned
+        Some(turned)
     }
 }
 
-/// The try was turned back since none of its caller's log lines is EMPTY.
-fn lacks_line(tried: &Tried<Placed>) -> bool
-    ensures { result ≡ lacks_line tried.now }
+/// What comes behind a try that comes to this.
+fn next_of(tried: Tried<Placed>) -> WriteNext
+    ensures { result ≡ next_of tried }
 {
-    matches!(tried, Tried::Answered(Once::Again(Again::LogFull)))
-}
-
-/// The try was turned back since there is no node to split its own with.
-fn lacks_node(tried: &Tried<Placed>) -> bool
-    ensures { result ≡ lacks_node tried.now }
-{
-    matches!(tried, Tried::Answered(Once::Again(Again::NoFree)))
+    match tried {
+        Tried::Cut => WriteNext::End(Ended::Cut),
+        Tried::Answered(Once::Done(placed)) => WriteNext::End(Ended::Done(placed)),
+        Tried::Answered(Once::Spent { clock }) => WriteNext::End(Ended::Spent { clock }),
+        Tried::Answered(Once::Worn { .. }) => WriteNext::Retry,
+        Tried::Answered(Once::Again(Again::LogFull)) => WriteNext::TurnForLine,
+        Tried::Answered(Once::Again(Again::NoFree)) => WriteNext::TurnForNode,
+        Tried::Answered(Once::Again(_)) => WriteNext::Retry,
+    }
 }

@@ -4,6 +4,8 @@
 #[cfg(test)]
 mod alone;
 #[cfg(test)]
+mod cuts;
+#[cfg(test)]
 mod held;
 #[cfg(test)]
 mod histories;

@@ -10,7 +10,7 @@ use crate::playing::{Finished, Notes, Plan, Reply, plays};
 use crate::telling::{are_told, do_rise};
 use crate::watch::Watch;
 use index_core::Core;
-use pac_index::{Caller, Ended, Shared};
+use pac_index::{Caller, Ended, Shared, have_steps};
 use pm_words::{Again, Layout, NoMemory};
 use std::alloc::Global;
 use std::sync::Wait;
@@ -240,6 +240,19 @@ pub(crate) struct Seen {
     pub(crate) first: First,
 }
 
+impl Seen {
+    /// Where the callers can't meet.
+    fn nothing() -> Seen {
+        Seen {
+            counts: [0; 3],
+            emptied: 0,
+            last: None,
+            told: false,
+            first: first_of(&[]),
+        }
+    }
+}
+
 /// What is seen of a reply that was the first.
 #[derive(Clone, Copy)]
 pub(crate) struct First {
@@ -356,6 +369,9 @@ pub(crate) fn met<R: Threads + Wait + Sync>(
         four.caller,
         updater,
     )?;
+    if !have_steps(callers.as_slice()) {
+        return Ok(Seen::nothing());
+    }
     let core = shared.close(alloc, callers)?;
     see(alloc, &core, all, emptied)
 }

@@ -10,7 +10,7 @@ use crate::watch::Watch;
 use call_stages::Once;
 use cat_history::ScanPart;
 use cat_key::Name;
-use pac_index::{Caller, Scanned, Shared};
+use pac_index::{Caller, Scanned, Shared, have_steps};
 use pm_words::{Layout, NoMemory};
 use std::alloc::Global;
 use std::sync::Wait;
@@ -146,6 +146,9 @@ fn scanned<R: Wait>(
     calls(&shared, &mut caller, 0, true);
     put_back(&shared, &mut callers, caller)?;
     put_back(&shared, &mut callers, updater)?;
+    if !have_steps(callers.as_slice()) {
+        return Ok((None, None, 0));
+    }
     let core = shared.close(alloc, callers)?;
     let history = core.history();
     let last = history.last().map(|write| write.index);

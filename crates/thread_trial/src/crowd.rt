@@ -8,7 +8,7 @@ ghost use Rattle.pac_index.specs.Callers.{IsCallerOf, HasCallers};
 use crate::calls::{LIMIT, Mix, is_put, name_of};
 use call_stages::Once;
 use index_core::Core;
-use pac_index::{Caller, Shared, Tried};
+use pac_index::{Caller, Shared, Tried, have_steps};
 use pm_words::{Layout, NoMemory};
 use std::alloc::Global;
 use std::thread::{Threads, map_vec, yield_now};
@@ -31,6 +31,10 @@ pub fn meet<R: Threads + Sync>(
     let core = fresh(alloc, layout)?;
     let (shared, callers) = Shared::new(alloc, core)?;
     let callers = all_play(rt, &shared, callers, active, calls, mix)?;
+    // No caller has a bound on its steps, so each has one left.
+    if !have_steps(callers.as_slice()) {
+        return Err(NoMemory);
+    }
     shared.close(alloc, callers)
 }
 

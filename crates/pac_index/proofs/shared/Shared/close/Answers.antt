@@ -18,7 +18,7 @@ in_order-requires c =
     let callers = c.args.callers.items in
     let seat = c.gathered-seat.result in
     let words = slots_items c.close_with-closed.result.words in
-    let z = closes s callers seat.id words (slots_items c.close_with-closed.result.slots) c.requires.callers
+    let z = closes s callers seat.id words (slots_items c.close_with-closed.result.slots) c.requires.callers c.requires.rests
     (subst (λ (v : List Member). Final (Seen (Kept s.table.shared.key) seat.id v) words (slots_items c.close_with-closed.result.slots)) (ap (λ q. q.0) c.gathered-seat.ensures.all) c.close_with-closed.ensures.values.2) in
     let idle = subst (λ (n : ℕ). AreIdle c.in_ok-states.states.items n) (ap length c.as_slice.ensures.value ∙ c.requires.callers.count) c.in_ok-states.ensures in
     let kept : kept_by callers ≡ c.as_slice-3.result.now = sym (c.as_slice-3.ensures.value ∙ c.in_ok-kept.ensures ∙ ap kept_by c.as_slice-2.ensures.value) in (
@@ -33,7 +33,7 @@ of_parts-requires-clause-index c =
     let callers = c.args.callers.items in
     let seat = c.gathered-seat.result in
     let words = slots_items c.close_with-closed.result.words in
-    let z = closes s callers seat.id words (slots_items c.close_with-closed.result.slots) c.requires.callers
+    let z = closes s callers seat.id words (slots_items c.close_with-closed.result.slots) c.requires.callers c.requires.rests
     (subst (λ (v : List Member). Final (Seen (Kept s.table.shared.key) seat.id v) words (slots_items c.close_with-closed.result.slots)) (ap (λ q. q.0) c.gathered-seat.ensures.all) c.close_with-closed.ensures.values.2) in
     let states = c.in_ok-states.states.items in
     let idle = subst (λ (n : ℕ). AreIdle states n) (ap length c.as_slice.ensures.value ∙ c.requires.callers.count) c.in_ok-states.ensures in
@@ -59,7 +59,7 @@ returns c =
     let callers = c.args.callers.items in
     let seat = c.gathered-seat.result in
     let words = slots_items c.close_with-closed.result.words in
-    let z = closes s callers seat.id words (slots_items c.close_with-closed.result.slots) c.requires.callers
+    let z = closes s callers seat.id words (slots_items c.close_with-closed.result.slots) c.requires.callers c.requires.rests
     (subst (λ (v : List Member). Final (Seen (Kept s.table.shared.key) seat.id v) words (slots_items c.close_with-closed.result.slots)) (ap (λ q. q.0) c.gathered-seat.ensures.all) c.close_with-closed.ensures.values.2) in
     let states = c.in_ok-states.states.items in
     let idle = subst (λ (n : ℕ). AreIdle states n) (ap length c.as_slice.ensures.value ∙ c.requires.callers.count) c.in_ok-states.ensures in

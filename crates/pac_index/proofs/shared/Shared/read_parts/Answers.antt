@@ -1,11 +1,13 @@
-use Rattle.std.proofs.Common.{rules, ◌≡◌, ◌-◌, ◌<◌, ◌∙◌, true, Option, length, refl, sym, ap, subst, arith}
+use Rattle.std.proofs.Common.{rules, ◌≡◌, ◌-◌, ◌<◌, ◌∙◌, true, false, Option, length, inl, inr, refl, sym, ap, subst, arith}
 use Rattle.std.specs.Prelude.{IfSome}
+use Rattle.std.specs.declared.alloc.AllocError.{AllocError}
 use Rattle.cat_key.specs.Names.{IsName}
 use Rattle.cat_history.specs.Scans.{is_below}
 use Rattle.pac_index.specs.Callers.{seen_by}
 use Rattle.pac_index.specs.Scanned.{AreScanned}
+use Rattle.pac_index.proofs.Budgeting.{pays_nothing, pays_then}
 use Rattle.pac_index.proofs.Repeating.{back_trans, none_else}
-use Rattle.pac_index.proofs.Scanning.{Scans, scans_first, scans_more, scans_last, scans_end, to_come, one_to_come, fewer_to_come}
+use Rattle.pac_index.proofs.Scanning.{Scans, scans_first, scans_more, scans_last, scans_cut, scans_end, part_read, part_rests, to_come, one_to_come, fewer_to_come}
 use Rattle.pac_index.proofs.shared.Shared.read_parts.Goals as goal
 
 pub loop-next-init : goal.loop-next-init
@@ -13,6 +15,9 @@ loop-next-init g c = record {
   caller = c.requires.caller;
   number = refl;
   index = refl;
+  still = inl refl;
+  over = λ none. absurd (cc);
+  paid = pays_nothing c.args.caller.now.left (seen_by c.args.caller.now).taken;
   spare = omega arith;
   scans = scans_first c.args.from c.args.count (seen_by c.args.caller.now) _ c.new-parts.ensures.items;
 }
@@ -21,8 +26,8 @@ loop-next-init g c = record {
 pub loop-next-smaller-then-left-gt0 : goal.loop-next-smaller-then-left-gt0
 loop-next-smaller-then-left-gt0 g c =
     let low = c.in-Some.low in
-    let part = c.in_ok-part.part in
-    let read = c.in_ok-part.ensures.part.part_of in
+    let part = c.in-Some-read.part in
+    let read = (part_read _ c.in_ok-read.read part c.in-Some-read.is c.in_ok-read.ensures.part).part_of in
     let named : IsName low = search rules in
     let ends : IfSome part.high IsName = search rules in
     let above = subst (λ l. IfSome part.high (λ high. is_below l high ≡ true)) read.begins read.bounds in
@@ -32,15 +37,19 @@ pub loop-next-preserved-then-left-gt0 : goal.loop-next-preserved-then-left-gt0
 loop-next-preserved-then-left-gt0 g c =
     let old = c.args.caller.now in
     let was = c.loop-next.invariant in
-    let on = c.in_ok-part.ensures in
-    let part = c.in_ok-part.part in
+    let on = c.in_ok-read.ensures in
+    let part = c.in-Some-read.part in
+    let here = part_read _ c.in_ok-read.read part c.in-Some-read.is on.part in
     let so_far = subst (λ (o : Option _). Scans c.args.from c.args.count (seen_by old) (seen_by c.loop-next.caller) o c.loop-next.left c.loop-next.parts.items) c.in-Some.is was.scans in
     record {
       caller = on.caller;
       number = on.number ∙ was.number;
       index = on.index ∙ was.index;
+      still = inr (part_rests AllocError c.in_ok-read.read part c.loop-next.caller c.read_part.new.caller c.in-Some-read.is on.ends);
+      over = λ none. part_rests AllocError c.in_ok-read.read part c.loop-next.caller c.read_part.new.caller c.in-Some-read.is on.ends;
+      paid = pays_then old.left c.loop-next.caller.left c.read_part.new.caller.left (seen_by old).taken (seen_by c.loop-next.caller).taken (seen_by c.read_part.new.caller).taken was.paid on.paid;
       spare = omega (arith, on.spare, was.spare);
-      scans = scans_more c.args.from c.args.count (seen_by old) (seen_by c.loop-next.caller) (seen_by c.read_part.new.caller) c.in-Some.low c.loop-next.left _ c.loop-next.parts.items _ part so_far on.reads on.part
+      scans = scans_more c.args.from c.args.count (seen_by old) (seen_by c.loop-next.caller) (seen_by c.read_part.new.caller) c.in-Some.low c.loop-next.left _ c.loop-next.parts.items _ part so_far on.reads here
           (ap (λ ps. c.loop-next.left - length ps) c.as_slice.ensures) c.if-left-gt0.true c.in_ok-push.ensures.items;
     }
 
@@ -55,32 +64,27 @@ pub loop-next-preserved : goal.loop-next-preserved
 loop-next-preserved g c =
     let old = c.args.caller.now in
     let was = c.loop-next.invariant in
-    let on = c.in_ok-part.ensures in
-    let part = c.in_ok-part.part in
+    let on = c.in_ok-read.ensures in
+    let part = c.in-Some-read.part in
+    let here = part_read _ c.in_ok-read.read part c.in-Some-read.is on.part in
     let so_far = subst (λ (o : Option _). Scans c.args.from c.args.count (seen_by old) (seen_by c.loop-next.caller) o c.loop-next.left c.loop-next.parts.items) c.in-Some.is was.scans in
     record {
       caller = on.caller;
       number = on.number ∙ was.number;
       index = on.index ∙ was.index;
+      still = inr (part_rests AllocError c.in_ok-read.read part c.loop-next.caller c.read_part.new.caller c.in-Some-read.is on.ends);
+      over = λ none. part_rests AllocError c.in_ok-read.read part c.loop-next.caller c.read_part.new.caller c.in-Some-read.is on.ends;
+      paid = pays_then old.left c.loop-next.caller.left c.read_part.new.caller.left (seen_by old).taken (seen_by c.loop-next.caller).taken (seen_by c.read_part.new.caller).taken was.paid on.paid;
       spare = omega (arith, on.spare, was.spare);
-      scans = scans_last c.args.from c.args.count (seen_by old) (seen_by c.loop-next.caller) (seen_by c.read_part.new.caller) c.in-Some.low c.loop-next.left _ c.loop-next.parts.items _ part so_far on.reads on.part
+      scans = scans_last c.args.from c.args.count (seen_by old) (seen_by c.loop-next.caller) (seen_by c.read_part.new.caller) c.in-Some.low c.loop-next.left _ c.loop-next.parts.items _ part so_far on.reads here
           (ap (λ ps. c.loop-next.left - length ps) c.as_slice.ensures) c.if-left-gt0.false c.in_ok-push.ensures.items;
     }
 
-pub returns-in_err-part-clause-reads : goal.returns-in_err-part-clause-reads
-returns-in_err-part-clause-reads g c = back_trans (seen_by c.args.caller.now) (seen_by c.loop-next.caller) (seen_by c.read_part.new.caller) c.loop-next.invariant.scans.reads c.read_part.ensures.reads
+pub returns-in_err-read-clause-reads : goal.returns-in_err-read-clause-reads
+returns-in_err-read-clause-reads g c = back_trans (seen_by c.args.caller.now) (seen_by c.loop-next.caller) (seen_by c.read_part.new.caller) c.loop-next.invariant.scans.reads c.read_part.ensures.reads
 
 pub returns-in_err-push-clause-reads : goal.returns-in_err-push-clause-reads
 returns-in_err-push-clause-reads g c = back_trans (seen_by c.args.caller.now) (seen_by c.loop-next.caller) (seen_by c.read_part.new.caller) c.loop-next.invariant.scans.reads c.read_part.ensures.reads
-
-pub returns-clause-caller : goal.returns-clause-caller
-returns-clause-caller g c = c.loop-next.invariant.caller
-
-pub returns-clause-number : goal.returns-clause-number
-returns-clause-number g c = c.loop-next.invariant.number
-
-pub returns-clause-index : goal.returns-clause-index
-returns-clause-index g c = c.loop-next.invariant.index
 
 pub returns-clause-reads : goal.returns-clause-reads
 returns-clause-reads g c = c.loop-next.invariant.scans.reads
@@ -90,7 +94,16 @@ returns-clause-parts g c =
     let old = seen_by c.args.caller.now in
     let now = seen_by c.loop-next.caller in
     let done = subst (λ (o : Option _). Scans c.args.from c.args.count old now o c.loop-next.left c.loop-next.parts.items) (none_else c.loop-next.next c.in_default.not-Some) c.loop-next.invariant.scans in
-    subst (AreScanned c.args.from c.args.count old now) (sym c.of.ensures) (scans_end c.args.from c.args.count old now c.loop-next.left c.loop-next.parts.items done)
+    subst (AreScanned c.args.from c.args.count false old now) (sym c.of-2.ensures) (scans_end c.args.from c.args.count old now c.loop-next.left c.loop-next.parts.items done)
 
-pub returns-clause-spare : goal.returns-clause-spare
-returns-clause-spare g c = c.loop-next.invariant.spare
+pub returns-clause-ends : goal.returns-clause-ends
+returns-clause-ends g c = c.loop-next.invariant.over (none_else c.loop-next.next c.in_default.not-Some)
+
+-- cut off within a part
+pub returns-in_default-read-clause-parts : goal.returns-in_default-read-clause-parts
+returns-in_default-read-clause-parts g c =
+    let old = seen_by c.args.caller.now in
+    let now = seen_by c.loop-next.caller in
+    let new = seen_by c.read_part.new.caller in
+    let so_far = subst (λ (o : Option _). Scans c.args.from c.args.count old now o c.loop-next.left c.loop-next.parts.items) c.in-Some.is c.loop-next.invariant.scans in
+    subst (AreScanned c.args.from c.args.count true old new) (sym c.of.ensures) (scans_cut c.args.from c.args.count old now new c.in-Some.low c.loop-next.left c.loop-next.parts.items so_far c.read_part.ensures.reads)

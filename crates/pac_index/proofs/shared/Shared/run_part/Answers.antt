@@ -9,18 +9,19 @@ use Rattle.node_ops.specs.RunningSteps.{listed_in}
 use Rattle.index_core.specs.declared.party.CoreCall.TheVariants as call
 use Rattle.pac_index.specs.Kept.{party}
 use Rattle.pac_index.specs.Calls.{PartAnswers}
+use Rattle.pac_index.proofs.Budgeting.{paid, pays_on}
 use Rattle.pac_index.proofs.Running.{going, lists_none, not_done, part_ends, part_moved, part_stops, runs_a_part, runs_stepped, stops_early}
 use Rattle.pac_index.proofs.shared.Shared.run_part.Goals as goal
 
-pub returns-in-Some-clause-answered : goal.returns-in-Some-clause-answered
-returns-in-Some-clause-answered g c =
+pub returns-in-Some-clause-ran : goal.returns-in-Some-clause-ran
+returns-in-Some-clause-ran g c =
     let old = party c.args.seat.now.me in
     let early = subst (λ (o : Option (Once Placed)). IfSome o IsEarly) c.in-Some.is c.steps.invariant.3 in
     subst (λ (r : Once PartWords). PartAnswers c.args.low c.args.count c.args.index old r (party c.steps.seat.me)) (sym c.early.ensures)
     (part_stops c.args.low c.args.count c.args.index old (party c.steps.seat.me) (turn_of c.steps.machine c.steps.answer) c.in-Some.answer c.steps.invariant.2 (ap (turn_of c.steps.machine) c.in-Some.is) early)
 
-pub returns-in-Done-clause-answered : goal.returns-in-Done-clause-answered
-returns-in-Done-clause-answered g c =
+pub returns-in-Done-clause-ran : goal.returns-in-Done-clause-ran
+returns-in-Done-clause-ran g c =
     let goes = going c.steps.machine c.steps.answer c.in_default.not-Some in
     let on = c.go_on.ensures.steps in
     let done = on.turned ∙ ap (turn_of c.go_on.new.machine) (c.in-Some-go_on.is ∙ ap (λ (a : Once Placed). Some a) c.in-Done.is) in
@@ -36,8 +37,9 @@ returns-in_default-last g c =
     record {
       seat = (c.go_on.ensures.seat.0 ∙ c.steps.invariant.0.0, c.go_on.ensures.seat.1 ∙ c.steps.invariant.0.1);
       lone = c.go_on.ensures.lone;
-      answered = subst (λ (r : Once PartWords). PartAnswers c.args.low c.args.count c.args.index old r (party c.go_on.new.seat.me)) (sym c.early-in_default-last.ensures)
+      ran = subst (λ (r : Once PartWords). PartAnswers c.args.low c.args.count c.args.index old r (party c.go_on.new.seat.me)) (sym c.early-in_default-last.ensures)
           (part_moved c.args.low c.args.count c.args.index old (party c.steps.seat.me) (party c.go_on.new.seat.me) (turn_of c.steps.machine c.steps.answer) c.steps.machine on.told c.in-Some-go_on.last c.steps.invariant.2 goes on.goes done early);
+      paid = pays_on c.args.left.now c.steps.left c.pay.new.left old.taken (party c.steps.seat.me).taken (party c.go_on.new.seat.me).taken c.steps.invariant.4 (paid c.pay.result _ _ c.if-not-pay.false c.pay.ensures) on.goes.taken;
     }
 
 pub steps-preserved : goal.steps-preserved
@@ -52,4 +54,5 @@ steps-preserved g c =
       on.lone,
       runs_stepped (call.Part c.args.low c.args.count) c.args.index old (party c.steps.seat.me) (party c.go_on-answer.new.seat.me) _ m c.go_on-answer.new.machine c.go_on-answer.result runs goes on.steps,
       stops_early m c.go_on-answer.new.machine on.steps.told c.go_on-answer.result (runs_a_part c.args.low c.args.count c.args.index old (party c.steps.seat.me) _ m runs goes) none on.steps.turned,
+      pays_on c.args.left.now c.steps.left c.pay.new.left old.taken (party c.steps.seat.me).taken (party c.go_on-answer.new.seat.me).taken c.steps.invariant.4 (paid c.pay.result _ _ c.if-not-pay.false c.pay.ensures) on.steps.goes.taken,
     )

@@ -10,7 +10,10 @@ use Rattle.node_ops.specs.RecheckSteps.{IsRecheck, recheck_asks, recheck_takes, 
 use Rattle.pac_index.specs.declared.rule.About.{About}
 use Rattle.pac_index.specs.Kept.{May, party}
 use Rattle.pac_index.specs.Rechecked.{Checks, Dates, EndsRecheck, Rechecked, StartsRecheck}
+use Rattle.std.specs.Prelude.{Option}
+use Rattle.pac_index.specs.Budgets.{Pays}
 use Rattle.pac_index.proofs.Allowed.{inside_table}
+use Rattle.pac_index.proofs.Budgeting.{paid, pays_first, pays_on, unpaid}
 use Rattle.pac_index.proofs.Looking.{checks_allowed, dates_allowed, ends_checked, goes_checking, load_inside, rechecks_so, takes_clock, takes_version}
 use Rattle.pac_index.proofs.shared.Shared.run_recheck.Goals as goal
 
@@ -86,6 +89,22 @@ resume-requires-2 g c =
     let generation : mid.about.generation ≡ view.generation = ap (λ (b : About). b.generation) about ∙ ap (λ (u : View). u.generation) (sym c.view-view.ensures.view) in
     subst (λ (q : Recheck). recheck_takes q c.act-found.result) (sym next) (takes_version mid w view c.args.node c.args.version clock c.act-found.result here layout generation checks)
 
+-- cut off behind the load of the clock
+pub returns-then-not-pay-clause-answered : goal.returns-then-not-pay-clause-answered
+returns-then-not-pay-clause-answered g c =
+    let first = c.new-first.ensures in
+    let told = c.act-clock.ensures.told in
+    let got : c.act-clock.result ≡ told.found = told.is ∙ ap (λ (a : Action). given a told.found) (c.action-dates.ensures ∙ ap recheck_asks first.new) in
+    let none = unpaid c.pay.result _ _ c.if-not-pay.true c.pay.ensures in
+    (none.1 ∙ none.0, (c.act-clock.result, subst (λ (n : ℕ). Dates (party c.args.seat.now.me) n (party c.act-clock.new.seat.me)) (sym got) told.heard.1))
+
+pub returns-then-not-pay-clause-paid : goal.returns-then-not-pay-clause-paid
+returns-then-not-pay-clause-paid g c =
+    let told = c.act-clock.ensures.told in
+    let none = unpaid c.pay.result _ _ c.if-not-pay.true c.pay.ensures in
+    let taken = told.heard.1.looks.taken in
+    subst (λ (o : Option ℕ). Pays c.args.left.now o (party c.args.seat.now.me).taken (party c.act-clock.new.seat.me).taken) (sym none.1) (pays_first c.args.left.now c.pay_one.new.left (party c.args.seat.now.me).taken (party c.act-clock.new.seat.me).taken c.pay_one.ensures taken)
+
 pub returns : goal.returns
 returns g c =
     let v = party c.args.seat.now.me in
@@ -109,4 +128,5 @@ returns g c =
       seat = (c.act-found.ensures.seat.0 ∙ seats.0, c.act-found.ensures.seat.1 ∙ seats.1);
       lone = heard.0;
       answered = subst (λ (a : Once Same). Rechecked c.args.node c.args.version v a w) (sym answer) (rechecks_so c.args.node c.args.version v mid w clock found dates checks);
+      paid = pays_on c.args.left.now c.pay_one.new.left c.pay.new.left v.taken mid.taken w.taken (pays_first c.args.left.now c.pay_one.new.left v.taken mid.taken c.pay_one.ensures dates.looks.taken) (paid c.pay.result _ _ c.if-not-pay.false c.pay.ensures) checks.looks.taken;
     }
