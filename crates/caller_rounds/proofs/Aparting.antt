@@ -1,20 +1,18 @@
 -- Callers whose names are apart: under each name their history leaves what the script's order does.
-use Rattle.std.proofs.Common.{◌≡◌, ◌≢◌, ℕ, zero, suc, ◌+◌, ◌<◌, ◌≤◌, ◌⊎◌, ⊎_elim, Bool, true, false, cond, List, [], ◌∷◌, ◌++◌, length, get_or, map, refl, sym, ap, subst, ◌∙◌, arith, eq-eqb, zero-add}
-use Rattle.std.specs.Prelude.{◌==◌, All, Contains, Option, Some, None, IfSome, option_map}
+use Rattle.std.proofs.Common.{◌≡◌, ℕ, zero, suc, ◌+◌, ◌<◌, ◌≤◌, ◌⊎◌, ⊎_elim, Bool, true, false, cond, List, [], ◌∷◌, length, get_or, map, refl, sym, ap, subst, ◌∙◌, arith, eq-eqb}
+use Rattle.std.specs.Prelude.{◌==◌, All, Contains, Option, Some, None, option_map}
 use Rattle.std.specs.List.{filter, filter_map, cons_option, enumerate_from, AllByRecursion}
 use Rattle.std.specs.FinMap.{same_map}
 use Rattle.std.specs.Cmp.Lexicographic.{nat_list_cmp_total}
-use Rattle.std.proofs.lemmas.Bool.{cases_eq, cases_order, eqb-true, ne_eqb}
-use Rattle.std.proofs.lemmas.List.Elements.{All-from_recursion, recursion_from_All, All-contains, All-head, All-tail, All-append}
+use Rattle.std.proofs.lemmas.Bool.{cases_order, eqb-true}
+use Rattle.std.proofs.lemmas.List.Elements.{recursion_from_All, All-contains}
 use Rattle.std.proofs.lemmas.Map.Lookups.{exact_bytes}
 use Rattle.std.proofs.lemmas.List.{get_or_default}
-use lib.ListN.{get_elem?}
-use mathlib.Core.Option.{some}
 use Rattle.cat_history.specs.Maps.{Map, at}
 use Rattle.cat_history.specs.CrashEnds.{after_changes}
 use Rattle.cat_history.specs.Writes.{after_all, changed, name_of}
 use Rattle.cat_history.specs.Records.{Call, call_of, change_asked, place_of, placed_write, placed_writes}
-use Rattle.cat_history.specs.Rounds.{IsAnswer, IsAnswered}
+use Rattle.cat_history.specs.Rounds.{IsAnswer}
 use Rattle.cat_history.specs.declared.op.CallerOp.{CallerOp}
 use Rattle.cat_history.specs.declared.op.Change.{Change}
 use Rattle.cat_history.specs.declared.op.Change.TheVariants as change
@@ -26,9 +24,9 @@ use Rattle.cat_history.specs.declared.record.Reply.{Reply}
 use Rattle.cat_history.specs.declared.record.Reply.TheVariants.{Old, Parts, Full, Spent, Cut, Unstarted}
 use Rattle.cat_history.proofs.NameLemmas.{same, same-Decides, by_names}
 use Rattle.cat_history.proofs.ChangeLemmas.{at-changed_other, changed_found}
-use Rattle.caller_rounds.specs.CallerRounds.{own_writes, asked_of, calls_from, HasAnswers, EachHasAnswers, by_caller}
+use Rattle.caller_rounds.specs.CallerRounds.{own_writes, asked_of, calls_from, EachHasReplies, by_caller}
 use Rattle.caller_rounds.specs.Apart.{changes_asked, AreApart, TookPlace, ApartIsInOrder}
-use Rattle.caller_rounds.proofs.Parting.{elem-within, all-flat, has-flat, has-first, has-later, given-by, map-has, filter-has}
+use Rattle.caller_rounds.proofs.Parting.{elem-within, has-flat, has-first, has-later, given-by, map-has, filter-has}
 use Rattle.caller_rounds.proofs.Meeting.{writers-few}
 use Rattle.caller_rounds.proofs.Calling.{some-same, none-some}
 
@@ -221,7 +219,7 @@ owner x whole (a ∷ asked) apart within = by (change_asked a.op) refl (owner x 
         (λ here. (a.caller, λ b has d asks_b is. apart b a d c (within b has) (within a (has-first a asked)) asks_b asks (sym is ∙ here)))
         (λ other. skip (λ d asks_d is. other (is ∙ ap name_of (some-same (sym asks_d ∙ asks)))) rest)
 
-module _ (base : Map) (limit : ℕ) (asked : List CallerOp) (history : List Write) (told : List (List Record)) (each : EachHasAnswers base limit asked history told)
+module _ (base : Map) (limit : ℕ) (asked : List CallerOp) (history : List Write) (told : List (List Record)) (each : EachHasReplies base limit asked history told)
     (writers : All (λ (w : Write). w.caller < length told) history) (callers : All (λ (a : CallerOp). a.caller < length told) asked) (apart : AreApart asked)
     (took : All (λ (r : Record). TookPlace r.reply) (by_caller told)) where
   -- a numbered write of the history is of a call that the script asks of its caller

@@ -1,26 +1,25 @@
--- A caller's answers, and one call more.
-use Rattle.std.proofs.Common.{◌≡◌, ◌≢◌, ℕ, zero, suc, ◌+◌, ◌-◌, ◌<◌, ◌≤◌, ◌⊎◌, inl, inr, ⊎_elim, Bool, true, false, List, [], ◌∷◌, ◌++◌, length, get_or, map, take, refl, sym, ap, subst, ◌∙◌, arith, add-zero, zero-add}
-use Rattle.std.specs.Prelude.{◌==◌, All, Contains, Option, Some, None, IfSome, option_map}
-use Rattle.std.specs.List.{filter, filter_map, cons_option, enumerate_from, AllByRecursion}
+-- A caller's replies, and one call more.
+use Rattle.std.proofs.Common.{◌≡◌, ℕ, zero, suc, ◌+◌, ◌-◌, ◌<◌, ◌≤◌, ⊎_elim, Bool, List, [], ◌∷◌, ◌++◌, length, get_or, map, take, refl, sym, ap, subst, ◌∙◌, arith, add-zero, zero-add}
+use Rattle.std.specs.Prelude.{◌==◌, All, Contains, Option, Some, None, IfSome}
+use Rattle.std.specs.List.{cons_option, enumerate_from, AllByRecursion}
 use Rattle.std.specs.Option.{option_to_list}
 use Rattle.std.proofs.lemmas.List.{map-append, length-append, take-append-le}
-use Rattle.std.proofs.lemmas.List.Elements.{All-push, All-append, All-nil, All-cons, All-filter, All-from_recursion, All-contains, All-weaker, All-map, Contains-push_cases, Contains-append_cases, filter_map-append}
+use Rattle.std.proofs.lemmas.List.Elements.{All-push, All-append, All-nil, All-cons, All-filter, All-from_recursion, All-contains, All-weaker, Contains-push_cases, Contains-append_cases, filter_map-append}
 use Rattle.cat_history.specs.Maps.{Map}
 use Rattle.cat_history.specs.Writes.{after, after_all}
-use Rattle.cat_history.specs.Scans.{IsPart, AreParts, IsLastPart, range}
+use Rattle.cat_history.specs.Scans.{IsPart, AreParts, range}
 use Rattle.cat_history.specs.Scans.AreParts.{cut_off, ends, goes_on}
 use Rattle.cat_history.specs.Records.{Call, call_of, placed_write, placed_writes, Interval, interval, interval_told, last_place}
-use Rattle.cat_history.specs.Rounds.{IsOld, AreItsParts, IsAnswer, IsAnswered, KeepsCallersOrder}
+use Rattle.cat_history.specs.Rounds.{IsOld, IsAnswer, KeepsCallersOrder}
 use Rattle.cat_history.specs.declared.op.Op.{Op}
 use Rattle.cat_history.specs.declared.op.Op.TheVariants.{Put, Get, Del, Scan}
 use Rattle.cat_history.specs.declared.op.Write.{Write}
 use Rattle.cat_history.specs.declared.record.Record.{Record}
-use Rattle.cat_history.specs.declared.record.CutMark.{CutMark}
 use Rattle.cat_history.specs.declared.record.CutMark.TheVariants.{At, Open, Found, Lost, Read}
 use Rattle.cat_history.specs.declared.record.Reply.{Reply}
 use Rattle.cat_history.specs.declared.record.Reply.TheVariants.{Old, Parts, Full, Spent, Cut, Unstarted}
 use Rattle.cat_history.specs.declared.record.ScanPart.{ScanPart}
-use Rattle.caller_rounds.specs.CallerRounds.{Begins, own_writes, calls_from, IsAnsweredSince, AreInTime, HasAnswers, AnswersFollow, AnswersStay}
+use Rattle.caller_rounds.specs.CallerRounds.{Begins, own_writes, calls_from, AreInTime, RepliesFollow, RepliesStay}
 use Rattle.caller_rounds.proofs.Parting.{map-has, numbers-within}
 
 pub begins-le : (xs ys : List Write) → Begins xs ys → length xs ≤ length ys
@@ -117,11 +116,10 @@ module _ (base : Map) (limit : ℕ) (seen new : List Write) (more : Begins seen 
   all-within : (records : List Record) → All (λ (r : Record). IfSome (interval r) (λ i. i.end ≤ length seen)) records → All (λ (r : Record). IfSome (interval r) (λ i. i.end ≤ length new)) records
   all-within records within k r less = some-within (interval (get_or records k r)) (within k r less)
 
-pub answers_stay : AnswersStay
-answers_stay base limit caller asked old new records has more same = record {
+pub replies_stay : RepliesStay
+replies_stay base limit caller asked old new records has more same = record {
   calls = has.calls;
   answers = all-stay base limit old new more records has.within has.answers;
-  answered = has.answered;
   within = all-within base limit old new more records has.within;
   in_order = has.in_order;
   own = same ∙ has.own;
@@ -169,11 +167,10 @@ last-gives : {X : Type 0} (o : Option X) → cons_option o [] ≡ option_to_list
 last-gives None = refl
 last-gives (Some x) = refl
 
-pub answers_follow : AnswersFollow
-answers_follow base limit caller asked old new records r has more call is own = record {
+pub replies_follow : RepliesFollow
+replies_follow base limit caller asked old new records r has more call is own = record {
   calls = map-append call_of records (r ∷ []) ∙ ap (λ cs. cs ++ call_of r ∷ []) has.calls ∙ ap (λ c. calls_from caller 0 asked ++ c ∷ []) (call ∙ first) ∙ sym (calls-push caller 0 asked r.op);
   answers = All-push (λ (q : Record). IsAnswer base new limit q.op q.reply) records r (all-stay base limit old new more records has.within has.answers) is.answer;
-  answered = All-push (λ (q : Record). IsAnswered q.reply) records r has.answered is.answered;
   within = All-push (λ (q : Record). IfSome (interval q) (λ i. i.end ≤ length new)) records r (all-within base limit old new more records has.within) is.within;
   in_order = in-order;
   own = own ∙ ap (λ ws. ws ++ option_to_list (placed_write r)) has.own ∙ sym told;

@@ -7,3 +7,5 @@ pub mod Aparting
 pub mod Stands
 pub mod Told
 pub mod LoneOrder
+pub mod Stopping
+pub mod Settling

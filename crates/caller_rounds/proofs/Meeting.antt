@@ -1,31 +1,29 @@
 -- Callers that have made their calls in one history.
-use Rattle.std.proofs.Common.{◌≡◌, ◌≢◌, ℕ, zero, suc, ◌+◌, ◌<◌, ◌≤◌, ◌⊎◌, ⊎_elim, Bool, true, false, cond, List, [], ◌∷◌, ◌++◌, length, get_or, map, refl, sym, ap, subst, ◌∙◌, arith, add-zero, zero-add, eq-eqb}
+use Rattle.std.proofs.Common.{◌≡◌, ◌≢◌, ℕ, ◌+◌, ◌<◌, ◌≤◌, ⊎_elim, true, false, cond, List, [], ◌∷◌, ◌++◌, length, get_or, map, refl, sym, ap, subst, ◌∙◌, arith, add-zero, zero-add, eq-eqb}
 use Rattle.std.specs.Prelude.{◌==◌, All, Contains, Option, Some, None, IfSome, count_by, slice_get, option_map}
-use Rattle.std.specs.List.{filter, flat_map, enumerate_from}
+use Rattle.std.specs.List.{filter, enumerate_from}
 use Rattle.std.specs.List.Sorted.{IsPermutation}
 use Rattle.std.proofs.lemmas.Bool.{cases_eq, ne_eqb}
 use Rattle.std.proofs.lemmas.List.{map-append}
 use Rattle.std.proofs.lemmas.List.FromFn.{length-enumerate_from, get_or-enumerate_from}
 use Rattle.std.proofs.lemmas.List.Sums.{sum_by_push}
-use Rattle.std.proofs.lemmas.List.Elements.{All-from_recursion, All-contains, All-weaker, All-head, All-tail, All-nil, All-cons, filter_map-append}
+use Rattle.std.proofs.lemmas.List.Elements.{All-contains, All-head, All-tail, All-nil, All-cons, filter_map-append}
 use Rattle.std.proofs.lemmas.List.Sorted.{IsPermutation-sym, Contains-permutation}
 use Rattle.std.proofs.lemmas.Option.{slice_get_within, get_or_from_slice_get, slice_get-get_or}
 use mathlib.Core.Option.{some, some-injective}
 use lib.ListN.{get_elem?}
 use Rattle.cat_history.specs.Maps.{Map}
-use Rattle.cat_history.specs.Writes.{after_all}
 use Rattle.cat_history.specs.Callers.{PlacesKeepLimit}
 use Rattle.cat_history.specs.Records.{Call, call_of, numbered, numbered_after, placed_write, placed_writes, interval, place_of, change_asked}
 use Rattle.cat_history.specs.declared.op.Change.{Change}
 use Rattle.cat_history.specs.declared.op.Change.TheVariants as change
-use Rattle.cat_history.specs.Rounds.{IsAnswer, IsAnswered, KeepsCallersOrder, IsLegalRound, IsJoinedRound}
+use Rattle.cat_history.specs.Rounds.{IsAnswer, IsAnswered, KeepsCallersOrder}
 use Rattle.cat_history.specs.declared.op.CallerOp.{CallerOp}
-use Rattle.cat_history.specs.declared.op.Op.{Op}
 use Rattle.cat_history.specs.declared.op.Write.{Write}
 use Rattle.cat_history.specs.declared.record.Record.{Record}
 use Rattle.cat_history.proofs.CallerLemmas.{late_writes_are_few}
-use Rattle.caller_rounds.specs.CallerRounds.{own_writes, asked_of, calls_from, HasAnswers, by_caller, EachHasAnswers, CallersMakeRound}
-use Rattle.caller_rounds.proofs.Parting.{with_key, with-here, with-other, by_key, parted, gathered, elem-within, all-flat, flat-has, has-flat, has-first, filter-has, map-has, given-by}
+use Rattle.caller_rounds.specs.CallerRounds.{own_writes, asked_of, calls_from, by_caller, EachHasReplies, RepliesMakeRound, CallersMakeRound}
+use Rattle.caller_rounds.proofs.Parting.{with_key, with-here, with-other, parted, gathered, elem-within, all-flat, flat-has, has-flat, filter-has, map-has, given-by}
 use Rattle.caller_rounds.proofs.Calling.{record-known, some-same, none-some}
 
 abbrev caller-of : Call → ℕ
@@ -115,7 +113,7 @@ writes-own r e is = by-parts r.caller r.index (place_of r.reply) (change_asked r
     by-parts caller index (Some place) None e is = absurd (none-some is)
     by-parts caller index (Some place) (Some c) e is = ap (λ (x : ℕ × Write). x.1.caller) (sym (some-same is))
 
-module _ (base : Map) (limit : ℕ) (asked : List CallerOp) (history : List Write) (told : List (List Record)) (each : EachHasAnswers base limit asked history told)
+module _ (base : Map) (limit : ℕ) (asked : List CallerOp) (history : List Write) (told : List (List Record)) (each : EachHasReplies base limit asked history told)
     (writers : All (λ (w : Write). w.caller < length told) history) (callers : All (λ (a : CallerOp). a.caller < length told) asked) where
   each-call : IsPermutation (numbered asked) (map call_of (by_caller told))
   each-call =
@@ -186,16 +184,19 @@ module _ (base : Map) (limit : ℕ) (asked : List CallerOp) (history : List Writ
           let below = has.in_time (p, v) (q, w) earlier by.2 less in
           omega arith
 
+pub replies_make_round : RepliesMakeRound
+replies_make_round base limit asked history told each writers callers = record {
+  each_call = each-call base limit asked history told each writers callers;
+  by_place = by-place base limit asked history told each writers callers;
+  answers = all-flat (λ (r : Record). IsAnswer base history limit r.op r.reply) told (λ i records there. (each i records there).answers);
+  within = all-flat (λ (r : Record). IfSome (interval r) (λ i. i.end ≤ length history)) told (λ i records there. (each i records there).within);
+  in_order = in-order base limit asked history told each writers callers;
+  in_time = in-time base limit asked history told each writers callers;
+}
+
 pub callers_make_round : CallersMakeRound
 callers_make_round base limit asked history told each writers callers = record {
-  legal = record {
-    each_call = each-call base limit asked history told each writers callers;
-    by_place = by-place base limit asked history told each writers callers;
-    answers = all-flat (λ (r : Record). IsAnswer base history limit r.op r.reply) told (λ i records there. (each i records there).answers);
-    within = all-flat (λ (r : Record). IfSome (interval r) (λ i. i.end ≤ length history)) told (λ i records there. (each i records there).within);
-    in_order = in-order base limit asked history told each writers callers;
-    in_time = in-time base limit asked history told each writers callers;
-  };
+  legal = replies_make_round base limit asked history told (λ i records there. (each i records there).replies) writers callers;
   answered = all-flat (λ (r : Record). IsAnswered r.reply) told (λ i records there. (each i records there).answered);
   leaves = refl;
 }

@@ -1,8 +1,7 @@
 -- Records by caller, each caller's in the order of its calls.
-use Rattle.std.proofs.Common.{◌≡◌, ℕ, zero, suc, ◌+◌, ◌<◌, inl, inr, List, [], ◌∷◌, ◌++◌, map, refl, sym, ap, subst, ◌∙◌, arith, add-zero, zero-add}
+use Rattle.std.proofs.Common.{◌≡◌, ℕ, suc, ◌+◌, ◌<◌, inl, inr, List, [], ◌∷◌, ◌++◌, map, refl, sym, ap, subst, arith, add-zero, zero-add}
 use mathlib.Core.Option.{some}
 use lib.ListN.{get_elem?}
-use Rattle.std.specs.Prelude.{flat_map}
 use Rattle.cat_history.specs.Records.{Call, call_of}
 use Rattle.cat_history.specs.declared.op.Op.{Op}
 use Rattle.cat_history.specs.declared.record.Record.{Record}

@@ -12,7 +12,7 @@ use Rattle.cat_history.specs.declared.op.Write.{Write}
 use Rattle.cat_history.specs.declared.record.Record.{Record}
 use Rattle.cat_history.specs.declared.record.Reply.{Reply}
 use Rattle.cat_history.specs.declared.record.Reply.TheVariants.{Old, Parts, Full, Spent, Cut, Unstarted}
-use Rattle.caller_rounds.specs.CallerRounds.{EachHasAnswers, by_caller}
+use Rattle.caller_rounds.specs.CallerRounds.{EachHasReplies, by_caller}
 
 -- The changes that the script asks for, in its order.
 abbrev pub changes_asked : List CallerOp → List Change
@@ -35,7 +35,7 @@ TookPlace Unstarted = ⊥
 -- Where the callers' names are apart and no call was refused, the map is that of the calls done in the script's order.
 abbrev pub ApartIsInOrder : Type 0
 ApartIsInOrder = (base : Map) (limit : ℕ) (asked : List CallerOp) (history : List Write) (told : List (List Record)) →
-    EachHasAnswers base limit asked history told → All (λ w. w.caller < length told) history →
+    EachHasReplies base limit asked history told → All (λ w. w.caller < length told) history →
     All (λ a. a.caller < length told) asked → AreApart asked →
     All (λ r. TookPlace r.reply) (by_caller told) →
     after_all base history ≡ after_changes base (changes_asked asked)

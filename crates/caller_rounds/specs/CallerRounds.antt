@@ -8,7 +8,9 @@ use lib.ListN.{get_elem?}
 use Rattle.cat_history.specs.Maps.{Map}
 use Rattle.cat_history.specs.Writes.{after, after_all}
 use Rattle.cat_history.specs.Records.{Call, call_of, numbered, placed_write, placed_writes, interval}
-use Rattle.cat_history.specs.Rounds.{IsAnswer, IsAnswered, KeepsCallersOrder, IsJoinedRound}
+use Rattle.cat_history.specs.CrashEnds.{IsCrashEnd}
+use Rattle.cat_history.specs.CrashRounds.{changes_cut}
+use Rattle.cat_history.specs.Rounds.{IsAnswer, IsAnswered, KeepsCallersOrder, IsJoinedRound, IsLegalRound}
 use Rattle.cat_history.specs.declared.op.CallerOp.{CallerOp}
 use Rattle.cat_history.specs.declared.op.Op.{Op}
 use Rattle.cat_history.specs.declared.op.Write.{Write}
@@ -34,11 +36,10 @@ calls_from caller index [] = []
 calls_from caller index (op ∷ ops) =
     record { caller = caller; index = index; op = op } ∷ calls_from caller (index + 1) ops
 
--- A call was answered by a caller that had seen so many writes as the call began, and has seen these writes now: the
--- answer is the map's at a place of that time, and a write began below the limit.
-pub record IsAnsweredSince (base : Map) (limit since : ℕ) (seen : List Write) (r : Record) : Type 0 where
+-- A call came to its reply by a caller that had seen so many writes as the call began, and has seen these writes now:
+-- what the reply tells is the map's at a place of that time, and a write that has its place began below the limit.
+pub record IsRepliedSince (base : Map) (limit since : ℕ) (seen : List Write) (r : Record) : Type 0 where
   pub answer : IsAnswer base seen limit r.op r.reply
-  pub answered : IsAnswered r.reply
   pub later : IfSome (interval r) (λ i. since ≤ i.start)
   pub within : IfSome (interval r) (λ i. i.end ≤ length seen)
   pub below : IfSome (placed_write r) (λ _. since < limit)
@@ -47,42 +48,58 @@ pub record IsAnsweredSince (base : Map) (limit since : ℕ) (seen : List Write) 
 abbrev pub AreInTime : ℕ → List (ℕ × Write) → Type 0
 AreInTime limit writes = (p q : ℕ × Write) → Contains writes p → Contains writes q → p.0 < q.0 → p.0 + 1 < limit
 
--- A caller that was asked these has made its calls, each behind the one before, and has seen these writes now. Its own
--- among them are just those that its records tell.
-pub record HasAnswers (base : Map) (limit caller : ℕ) (asked : List Op) (seen : List Write) (records : List Record) :
+-- A caller that was asked these has come so far with its calls, each behind the one before, and has seen these writes
+-- now. Its own among them are just those that its records tell. A call that was not begun has a record too.
+pub record HasReplies (base : Map) (limit caller : ℕ) (asked : List Op) (seen : List Write) (records : List Record) :
     Type 0 where
   pub calls : map call_of records ≡ calls_from caller 0 asked
   pub answers : All (λ r. IsAnswer base seen limit r.op r.reply) records
-  pub answered : All (λ r. IsAnswered r.reply) records
   pub within : All (λ r. IfSome (interval r) (λ i. i.end ≤ length seen)) records
   pub in_order : KeepsCallersOrder records
   pub own : own_writes caller seen ≡ placed_writes records
   pub begun : All (λ (w : ℕ × Write). 0 < limit) (placed_writes records)
   pub in_time : AreInTime limit (placed_writes records)
 
+-- Each of its calls was answered.
+pub record HasAnswers (base : Map) (limit caller : ℕ) (asked : List Op) (seen : List Write) (records : List Record) :
+    Type 0 where
+  pub replies : HasReplies base limit caller asked seen records
+  pub answered : All (λ r. IsAnswered r.reply) records
+
 -- One call more.
-abbrev pub AnswersFollow : Type 0
-AnswersFollow = (base : Map) (limit caller : ℕ) (asked : List Op) (old new : List Write) (records : List Record)
-    (r : Record) → HasAnswers base limit caller asked old records → Begins old new →
+abbrev pub RepliesFollow : Type 0
+RepliesFollow = (base : Map) (limit caller : ℕ) (asked : List Op) (old new : List Write) (records : List Record)
+    (r : Record) → HasReplies base limit caller asked old records → Begins old new →
     call_of r ≡ record { caller = caller; index = length asked; op = r.op } →
-    IsAnsweredSince base limit (length old) new r →
+    IsRepliedSince base limit (length old) new r →
     own_writes caller new ≡ own_writes caller old ++ option_to_list (placed_write r) →
-    HasAnswers base limit caller (asked ++ r.op ∷ []) new (records ++ r ∷ [])
+    HasReplies base limit caller (asked ++ r.op ∷ []) new (records ++ r ∷ [])
 
 -- More writes, of others.
-abbrev pub AnswersStay : Type 0
-AnswersStay = (base : Map) (limit caller : ℕ) (asked : List Op) (old new : List Write) (records : List Record) →
-    HasAnswers base limit caller asked old records → Begins old new → own_writes caller new ≡ own_writes caller old →
-    HasAnswers base limit caller asked new records
+abbrev pub RepliesStay : Type 0
+RepliesStay = (base : Map) (limit caller : ℕ) (asked : List Op) (old new : List Write) (records : List Record) →
+    HasReplies base limit caller asked old records → Begins old new → own_writes caller new ≡ own_writes caller old →
+    HasReplies base limit caller asked new records
 
 -- All records, those of the first caller first.
 abbrev pub by_caller : List (List Record) → List Record
 by_caller told = flat_map (λ records. records) told
 
--- Each caller's records, at the place of its number, are answers to its calls of the script in this history.
+-- Each caller's records, at the place of its number, tell how far it came with its calls of the script in this history.
+abbrev pub EachHasReplies : Map → ℕ → List CallerOp → List Write → List (List Record) → Type 0
+EachHasReplies base limit asked history told = (i : ℕ) (records : List Record) → get_elem? told i ≡ some records →
+    HasReplies base limit i (asked_of i asked) history records
+
+-- And they are answers.
 abbrev pub EachHasAnswers : Map → ℕ → List CallerOp → List Write → List (List Record) → Type 0
 EachHasAnswers base limit asked history told = (i : ℕ) (records : List Record) → get_elem? told i ≡ some records →
     HasAnswers base limit i (asked_of i asked) history records
+
+abbrev pub RepliesMakeRound : Type 0
+RepliesMakeRound = (base : Map) (limit : ℕ) (asked : List CallerOp) (history : List Write)
+    (told : List (List Record)) → EachHasReplies base limit asked history told →
+    All (λ w. w.caller < length told) history → All (λ a. a.caller < length told) asked →
+    IsLegalRound base (numbered asked) limit (by_caller told) history
 
 abbrev pub CallersMakeRound : Type 0
 CallersMakeRound = (base : Map) (limit : ℕ) (asked : List CallerOp) (history : List Write)
@@ -90,11 +107,18 @@ CallersMakeRound = (base : Map) (limit : ℕ) (asked : List CallerOp) (history :
     All (λ w. w.caller < length told) history → All (λ a. a.caller < length told) asked →
     IsJoinedRound base (numbered asked) limit (by_caller told) history (after_all base history)
 
--- At each place of a joined round there are at most as many names as at its start and the puts that added one.
+-- At each place of a legal round there are at most as many names as at its start and the puts that added one, or may
+-- have added one as they were cut off.
 abbrev pub NamesRise : Type 0
-NamesRise = (base : Map) (calls : List Call) (limit : ℕ) (records : List Record) (history : List Write) (end : Map)
-    (place : ℕ) → IsJoinedRound base calls limit records history end → place ≤ length history →
+NamesRise = (base : Map) (calls : List Call) (limit : ℕ) (records : List Record) (history : List Write)
+    (place : ℕ) → IsLegalRound base calls limit records history → place ≤ length history →
     len (after base history place) ≤ len base + puts_added records
+
+-- And so it is in what a crash leaves behind the round.
+abbrev pub CrashNamesRise : Type 0
+CrashNamesRise = (base : Map) (calls : List Call) (limit : ℕ) (records : List Record) (history : List Write)
+    (end : Map) → IsLegalRound base calls limit records history →
+    IsCrashEnd (after_all base history) (changes_cut records) end → len end ≤ len base + puts_added records
 
 -- ---- room
 
@@ -102,18 +126,18 @@ NamesRise = (base : Map) (calls : List Call) (limit : ℕ) (records : List Recor
 abbrev pub HadManyNames : ℕ → Map → List Write → Type 0
 HadManyNames slots base seen = (place : ℕ) × (place ≤ length seen) × (slots ≤ len (after base seen place))
 
--- What a caller knows of room that has seen these writes: how many names its puts have added; and where one of its calls
--- was full, that no node was FREE, which it has noted, and that there were many names.
+-- What a caller knows of room that has seen these writes: how many names its puts have added, of which its records tell;
+-- and where one of its calls was full, that no node was FREE, which it has noted, and that there were many names.
 pub record KnowsRoom (slots : ℕ) (base : Map) (seen : List Write) (noted : Bool) (added : ℕ) (records : List Record) :
     Type 0 where
-  pub added_is : added ≡ puts_added records
+  pub told : added ≤ puts_added records
   pub full : All (λ r. r.reply ≡ Full → (noted ≡ true) × HadManyNames slots base seen) records
 
 -- One call more.
 abbrev pub RoomFollows : Type 0
 RoomFollows = (slots : ℕ) (base : Map) (old new : List Write) (noted notes : Bool) (added adds : ℕ)
     (records : List Record) (r : Record) → KnowsRoom slots base old noted added records → Begins old new →
-    (noted ≡ true → notes ≡ true) → adds ≡ added + one_added r.op r.reply →
+    (noted ≡ true → notes ≡ true) → adds ≤ added + one_added r.op r.reply →
     (r.reply ≡ Full → (notes ≡ true) × HadManyNames slots base new) →
     KnowsRoom slots base new notes adds (records ++ r ∷ [])
 
@@ -139,12 +163,12 @@ pub record EachKnowsRoom (slots nodes weighs : ℕ) (base : Map) (history : List
   pub paid : (i : ℕ) (room : CallerRoom) → get_elem? rooms i ≡ some room → room.noted ≡ true →
       nodes * (slots / 2) ≤ weighs + added_of_all rooms
 
--- In a joined round of callers that know so much, each full answer is paid for by the weight at the start, the names
--- then, and the puts that added one.
+-- In a legal round of callers that know so much the puts that their records tell are at least those that have added a
+-- name; and each full answer is paid for by the weight at the start, the names then, and those puts.
 abbrev pub FullRoundsArePaid : Type 0
 FullRoundsArePaid = (slots nodes weighs : ℕ) (base : Map) (calls : List Call) (limit : ℕ) (history : List Write)
-    (end : Map) (rooms : List CallerRoom) → EachKnowsRoom slots nodes weighs base history rooms →
-    IsJoinedRound base calls limit (by_caller (records_of_all rooms)) history end →
-    (added_of_all rooms ≡ puts_added (by_caller (records_of_all rooms)))
+    (rooms : List CallerRoom) → EachKnowsRoom slots nodes weighs base history rooms →
+    IsLegalRound base calls limit (by_caller (records_of_all rooms)) history →
+    (added_of_all rooms ≤ puts_added (by_caller (records_of_all rooms)))
     × All (FullIsPaid slots nodes (weighs + puts_added (by_caller (records_of_all rooms)))
     (len base + puts_added (by_caller (records_of_all rooms)))) (by_caller (records_of_all rooms))

@@ -5,3 +5,4 @@ pub mod Meeting
 pub mod Gathering
 pub mod Rows
 pub mod Turning
+pub mod PlacedCounts

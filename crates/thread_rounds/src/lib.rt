@@ -1,8 +1,9 @@
 //! Rounds of several callers: each caller's calls in a thread of its own, all at once on one index, with the updater's
-//! turns beside them, and joined at the end.
+//! turns beside them, and joined at the end, or each within a budget of steps up to a crash.
 #![tactic(auto)]
 
 mod answering;
+mod counting;
 mod round;
 mod worker;
 

@@ -1,17 +1,18 @@
 //! Running a round.
 
-ghost use Rattle.std.specs.Prelude.{◌≡◌, ◌<◌, ◌≤◌, ◌^◌, [], None, All, IfOk, length};
+ghost use Rattle.std.specs.Prelude.{◌≡◌, ◌<◌, ◌≤◌, ◌^◌, [], All, IfOk};
 ghost use Rattle.index_core.specs.Lone.{IsQuiet};
 ghost use Rattle.index_core.specs.Indexes.{parties_of};
-ghost use Rattle.pac_index.specs.Callers.{HasCallers, AreNew, IsCallerOf};
-ghost use Rattle.thread_rounds.specs.Gathered.{ArePlayed, IsGathered};
+ghost use Rattle.pac_index.specs.Callers.{AreAtRest, AreNew, HasCallers, IsCallerOf};
+ghost use Rattle.thread_rounds.specs.Gathered.{ArePlayed, HasEndedByCrash, HasMet, IsGathered};
 ghost use Rattle.thread_rounds.specs.Played.{IsNew, IsPlayedBy};
 ghost use Rattle.thread_rounds.specs.RunRounds.{IsRun};
 
+use crate::counting::placed;
 use crate::worker::{Played, plays};
 use cat_history::{Listed, NoMemory, Record, Records, RoundPlan};
 use index_core::Core;
-use pac_index::{Caller, Gate, Shared};
+use pac_index::{Caller, Crashed, Gate, Shared};
 use pm_words::Image;
 use std::alloc::Global;
 use std::sync::Wait;
@@ -30,12 +31,14 @@ pub struct Round {
 pub enum Finish {
     /// The callers were joined, in this core.
     Joined(Core),
-    /// A crash left this image. No plan has a crash yet.
+    /// A crash left this image.
     Crashed(Image),
 }
 
 /// Runs a round: each caller makes its calls in a thread of its own, in the order of the plan, and the updater its
-/// turns; all are joined at the end.
+/// turns. All are joined at the end; or, where the plan has a crash, each comes as far as its budget of steps lets it,
+/// and when all have stopped, power fails. The marks of its records are open then, as long as the map that is found in
+/// the image was not asked for them.
 pub fn run_round<R: Threads + Wait + Sync, G: Gate>(
     rt: &R,
     alloc: Global,
@@ -47,18 +50,54 @@ pub fn run_round<R: Threads + Wait + Sync, G: Gate>(
     requires start { core.history ≡ [] }
     requires callers { All (λ a. a.caller < core.layout.callers) plan.now.ops }
     requires limit { plan.now.limit ≤ 2 ^ 62 }
-    requires joined { plan.now.crash ≡ None }
     ensures run { IfOk result (IsRun core plan.now) }
 {
     let (shared, callers) = Shared::new(alloc, core)?;
     let played = all_play(rt, alloc, &shared, callers, plan, gate)?;
     let (callers, records) = gathered(alloc, played)?;
+    match &plan.crash {
+        None => joined(alloc, shared, callers, records),
+        Some(crash) => crashed(alloc, shared, callers, records, crash.seed),
+    }
+}
+
+/// The round of callers that are joined now.
+fn joined(
+    alloc: Global,
+    shared: Shared,
+    callers: Vec<Caller>,
+    records: Vec<Record>,
+) -> Result<Round, NoMemory>
+    requires callers { HasCallers shared (parties_of shared.about.layout) callers.items }
+    requires rests { AreAtRest callers.items }
+    ensures { IfOk result (HasMet shared callers.items records.items) }
+{
     let met = shared.close(alloc, callers)?;
     let writes = met.history().len() as u64;
     Ok(Round {
         records: Listed::of(records),
         writes,
         finish: Finish::Joined(met),
+    })
+}
+
+/// The round of callers for which power fails now.
+fn crashed(
+    alloc: Global,
+    shared: Shared,
+    callers: Vec<Caller>,
+    records: Vec<Record>,
+    seed: u64,
+) -> Result<Round, NoMemory>
+    requires callers { HasCallers shared (parties_of shared.about.layout) callers.items }
+    ensures { IfOk result (HasEndedByCrash shared callers.items records.items seed) }
+{
+    let Crashed { image, cuts: _ } = shared.crash(alloc, callers, seed)?;
+    let writes = placed(records.as_slice());
+    Ok(Round {
+        records: Listed::of(records),
+        writes,
+        finish: Finish::Crashed(image),
     })
 }
 

@@ -1,20 +1,44 @@
-use Rattle.std.proofs.Common.{◌<◌, ◌^◌, length, subst, arith}
+use Rattle.std.proofs.Common.{ℕ, ◌<◌, ◌^◌, false, true, length, subst, arith}
+use Rattle.std.specs.Prelude.{Ok}
 use Rattle.pac_index.specs.Callers.{seen_by}
-use Rattle.pac_index.specs.Scanned.{AreScanned, IsScanned}
+use Rattle.pac_index.specs.CutScans.{ScanEnds}
+use Rattle.pac_index.specs.Scanned.{AreScanned, OnScan}
 use Rattle.pac_index.specs.declared.scans.Scanned.{Scanned}
-use Rattle.thread_rounds.proofs.Making.{scan-made, scan-told}
+use Rattle.pac_index.proofs.Remaining.{has_step}
+use Rattle.thread_rounds.proofs.Making.{scan-cut, scan-made, scan-told}
+use Rattle.thread_rounds.proofs.answering.scan_reply.Goals.{In-Cut, In-Done}
 use Rattle.thread_rounds.proofs.answering.scan_reply.Goals as goal
 
-pub returns-clause-made : goal.returns-clause-made
-returns-clause-made g c =
+-- what the scan was answered, or what was before it was cut off
+done-parts : (g : _) (c : In-Done g) → AreScanned c.args.from c.args.count false (seen_by c.args.caller.now) (seen_by c.scan_at.new.caller) c.in-Done.parts
+done-parts g c =
     let old = seen_by c.args.caller.now in
     let new = seen_by c.scan_at.new.caller in
-    scan-made c.args.from c.args.count c.args.limit c.args.caller.now.number c.args.caller.now.index old new c.in-Done.parts c.requires.caller.number c.in_ok-parts.ensures.reads
-    (subst (λ (s : Scanned). IsScanned s (AreScanned c.args.from c.args.count old new)) c.in-Done.is c.in_ok-parts.ensures.done)
+    subst (λ (s : Scanned). OnScan s (AreScanned c.args.from c.args.count false old new) (AreScanned c.args.from c.args.count true old new)) c.in-Done.is c.in_ok-parts.ensures.done
 
-pub returns-clause-told : goal.returns-clause-told
-returns-clause-told g c =
+cut-parts : (g : _) (c : In-Cut g) → AreScanned c.args.from c.args.count true (seen_by c.args.caller.now) (seen_by c.scan_at.new.caller) c.in-Cut.parts
+cut-parts g c =
     let old = seen_by c.args.caller.now in
     let new = seen_by c.scan_at.new.caller in
+    subst (λ (s : Scanned). OnScan s (AreScanned c.args.from c.args.count false old new) (AreScanned c.args.from c.args.count true old new)) c.in-Cut.is c.in_ok-parts.ensures.done
+
+pub returns-in-Done-clause-made : goal.returns-in-Done-clause-made
+returns-in-Done-clause-made g c =
+    let ends = subst (λ (s : Scanned). ScanEnds {E = ℕ} (Ok s) c.args.caller.now c.scan_at.new.caller) c.in-Done.is c.in_ok-parts.ensures.ends in
+    scan-made c.args.limit c.args.from c.args.count c.args.caller.now c.scan_at.new.caller c.in-Done.parts c.requires.caller.number c.in_ok-parts.ensures.reads ends.0 (done-parts g c)
+
+pub returns-in-Done-clause-told : goal.returns-in-Done-clause-told
+returns-in-Done-clause-told g c =
     let long : length c.in-Done.parts < 2 ^ 64 = search arith in
-    (scan-told c.args.from c.args.count old new c.in-Done.parts (subst (λ (s : Scanned). IsScanned s (AreScanned c.args.from c.args.count old new)) c.in-Done.is c.in_ok-parts.ensures.done), long)
+    (scan-told c.args.from c.args.count false (seen_by c.args.caller.now) (seen_by c.scan_at.new.caller) c.in-Done.parts (done-parts g c), long)
+
+pub returns-in-Cut-clause-made : goal.returns-in-Cut-clause-made
+returns-in-Cut-clause-made g c =
+    let ends = subst (λ (s : Scanned). ScanEnds {E = ℕ} (Ok s) c.args.caller.now c.scan_at.new.caller) c.in-Cut.is c.in_ok-parts.ensures.ends in
+    scan-cut c.args.limit c.args.from c.args.count c.args.caller.now c.scan_at.new.caller c.in-Cut.parts c.requires.caller.number (has_step c.args.shared.now c.args.caller.now c.requires.caller c.requires.steps).2
+    c.in_ok-parts.ensures.reads ends.0 (cut-parts g c)
+
+pub returns-in-Cut-clause-told : goal.returns-in-Cut-clause-told
+returns-in-Cut-clause-told g c =
+    let long : length c.in-Cut.parts < 2 ^ 64 = search arith in
+    (scan-told c.args.from c.args.count true (seen_by c.args.caller.now) (seen_by c.scan_at.new.caller) c.in-Cut.parts (cut-parts g c), long)

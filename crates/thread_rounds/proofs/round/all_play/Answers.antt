@@ -1,10 +1,7 @@
-use Rattle.std.proofs.Common.{◌≡◌, ℕ, ◌<◌, length, ◌∙◌, sym, ap, subst, arith}
-use Rattle.std.specs.Prelude.{Ok, Result, IfOk}
-use mathlib.Core.Option.{some}
-use lib.ListN.{get_elem?}
+use Rattle.std.proofs.Common.{◌≡◌, ◌<◌, length, ◌∙◌, sym, subst, arith}
+use Rattle.std.specs.Prelude.{Ok, IfOk}
 use Rattle.pac_index.specs.declared.caller.Caller.{Caller}
-use Rattle.pac_index.specs.Callers.{IsCallerOf}
-use Rattle.thread_rounds.specs.declared.worker.Played.{Played}
+use Rattle.pac_index.proofs.Remaining.{unbounded_rests}
 use Rattle.thread_rounds.specs.Played.{IsPlayedBy}
 use Rattle.thread_rounds.proofs.Rows.{read_stands, stands_within, stands_read}
 use Rattle.thread_rounds.proofs.round.all_play.Goals as goal
@@ -13,7 +10,7 @@ pub map_vec-requires-after_bounds : goal.map_vec-requires-after_bounds
 map_vec-requires-after_bounds g c κs within i x less is =
     let stands = read_stands c.args.callers.items i x less is in
     let fresh = c.requires.new i x stands in
-    (c.requires.callers.each i x stands, (record { seen = fresh.0; index = fresh.1; added = fresh.3 }, (c.requires.asked, (c.requires.limit, (record { shared = c.type_bounds.sync-R.shared }, record { shared = c.type_bounds.sync-G.shared })))))
+    (c.requires.callers.each i x stands, (record { seen = fresh.0; index = fresh.1; added = fresh.3; rests = unbounded_rests c.args.shared.now x (c.requires.callers.each i x stands) fresh.5; left = fresh.5 }, (c.requires.asked, (c.requires.limit, (record { shared = c.type_bounds.sync-R.shared }, record { shared = c.type_bounds.sync-G.shared })))))
 
 as_many : (g : _) (c : goal.In_ok-played g) → length c.in_ok-played.played.items ≡ length c.args.callers.items
 as_many g c =

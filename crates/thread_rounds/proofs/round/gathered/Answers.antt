@@ -1,7 +1,7 @@
-use Rattle.std.proofs.Common.{◌≡◌, List, [], ◌∷◌, ◌++◌, sym, ap, subst, ◌∙◌}
+use Rattle.std.proofs.Common.{List, [], ◌∷◌, ◌++◌, sym, ap, subst, ◌∙◌}
 use Rattle.cat_history.specs.declared.record.Record.{Record}
 use Rattle.pac_index.specs.declared.caller.Caller.{Caller}
-use Rattle.thread_rounds.proofs.Gathering.{Takes, begins-taking, takes-one, all-taken}
+use Rattle.thread_rounds.proofs.Gathering.{Takes, takes-one}
 use Rattle.thread_rounds.proofs.round.gathered.Goals as goal
 
 pub loop-played-preserved : goal.loop-played-preserved

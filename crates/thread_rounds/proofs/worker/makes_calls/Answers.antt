@@ -3,15 +3,16 @@ use Rattle.cat_history.specs.declared.op.CallerOp.{CallerOp}
 use Rattle.cat_history.specs.declared.record.Record.{Record}
 use Rattle.pac_index.specs.declared.caller.Caller.{Caller}
 use Rattle.pac_index.specs.Callers.{IsCallerOf}
-use Rattle.thread_rounds.proofs.Playing.{PlaysSoFar, index-is, none-made, one-made}
 use Rattle.thread_rounds.specs.Made.{made}
+use Rattle.thread_rounds.specs.Played.{budget_of}
+use Rattle.thread_rounds.proofs.Playing.{PlaysSoFar, index-is, none-made, one-made}
 use Rattle.thread_rounds.proofs.worker.makes_calls.Goals.{then-call-number+in_ok-reply+in_ok-push, else-call-number}
 use Rattle.thread_rounds.proofs.worker.makes_calls.Goals as goal
 
 pub overflow_add-index : goal.overflow_add-index
 overflow_add-index g c =
     let records = c.loop-at.records in
-    let is = index-is c.args.plan.now c.args.caller.number c.loop-at.at c.loop-at.caller c.loop-at.index records.items c.loop-at.invariant.2 in
+    let is = index-is c.args.plan.now c.args.caller.number (budget_of c.args.plan.now.crash c.args.caller.number) c.loop-at.at c.loop-at.caller c.loop-at.index records.items c.loop-at.invariant.2 in
     omega (arith, is, records.ok.0, records.ok.1, records.small)
 
 pub loop-at-preserved : goal.loop-at-preserved
@@ -20,26 +21,27 @@ loop-at-preserved g c =
     let less : c.loop-at.at < length plan.ops = subst (λ (l : List CallerOp). c.loop-at.at < length l) c.as_slice-asked.ensures c.loop-at-test.true in
     let there = c.index-asked-at.is ∙ ap (λ (l : List CallerOp). get_or l c.loop-at.at c.index-asked-at.result) c.as_slice-asked.ensures in
     let before = c.loop-at.invariant in
-    let is = index-is plan c.args.caller.number c.loop-at.at c.loop-at.caller c.loop-at.index c.loop-at.records.items before.2 in
+    let budget = budget_of plan.crash c.args.caller.number in
+    let is = index-is plan c.args.caller.number budget c.loop-at.at c.loop-at.caller c.loop-at.index c.loop-at.records.items before.2 in
     let small : c.loop-at.index + 1 < 2 ^ 64 = omega (arith, is, c.loop-at.records.ok.0, c.loop-at.records.ok.1, c.loop-at.records.small) in
     elim c.if-call-number.branch [
       | then-call-number+in_ok-reply+in_ok-push w ↦
           let pushed : c.loop-at.records.items ++ made c.number-number.result c.loop-at.index c.index-asked-at.result.op w.in_ok-reply.reply ∷ [] ≡ c.loop-at.records.items ++ made c.args.caller.number c.loop-at.index c.index-asked-at.result.op w.in_ok-reply.reply ∷ [] =
           ap (λ (n : ℕ). c.loop-at.records.items ++ made n c.loop-at.index c.index-asked-at.result.op w.in_ok-reply.reply ∷ []) before.1 in
-          let next = one-made plan c.args.caller.number c.loop-at.at c.loop-at.caller c.loop-at.index c.loop-at.records.items before.2 c.index-asked-at.result less there
-          w.answer.new.caller w.in_ok-reply.reply (w.if-call-number.true ∙ before.1) w.answer.ensures.number w.in_ok-reply.ensures.index small w.in_ok-reply.ensures.made w.in_ok-reply.ensures.told in (
-            subst (IsCallerOf c.args.shared.now) (sym w.caller-is) w.answer.ensures.caller,
+          let next = one-made plan c.args.caller.number budget c.loop-at.at c.loop-at.caller c.loop-at.index c.loop-at.records.items before.2 c.index-asked-at.result less there
+          w.reply_to.new.caller w.in_ok-reply.reply (w.if-call-number.true ∙ before.1) w.reply_to.ensures.number small w.in_ok-reply.ensures.paid w.in_ok-reply.ensures.gone w.in_ok-reply.ensures.told in (
+            subst (IsCallerOf c.args.shared.now) (sym w.caller-is) w.reply_to.ensures.caller,
             before.1,
-            subst (λ (i : ℕ). PlaysSoFar plan c.args.caller.number (c.loop-at.at + 1) c.if-call-number.caller i c.if-call-number.records.items) (sym w.index-is)
-                (subst (λ (rs : List Record). PlaysSoFar plan c.args.caller.number (c.loop-at.at + 1) c.if-call-number.caller (c.loop-at.index + 1) rs) (sym (ap (λ v. v.items) w.records-is ∙ w.in_ok-push.ensures.items ∙ pushed))
-                (subst (λ (d : Caller). PlaysSoFar plan c.args.caller.number (c.loop-at.at + 1) d (c.loop-at.index + 1) (c.loop-at.records.items ++ made c.args.caller.number c.loop-at.index c.index-asked-at.result.op w.in_ok-reply.reply ∷ [])) (sym w.caller-is) next)),
+            subst (λ (i : ℕ). PlaysSoFar plan c.args.caller.number budget (c.loop-at.at + 1) c.if-call-number.caller i c.if-call-number.records.items) (sym w.index-is)
+                (subst (λ (rs : List Record). PlaysSoFar plan c.args.caller.number budget (c.loop-at.at + 1) c.if-call-number.caller (c.loop-at.index + 1) rs) (sym (ap (λ v. v.items) w.records-is ∙ w.in_ok-push.ensures.items ∙ pushed))
+                (subst (λ (d : Caller). PlaysSoFar plan c.args.caller.number budget (c.loop-at.at + 1) d (c.loop-at.index + 1) (c.loop-at.records.items ++ made c.args.caller.number c.loop-at.index c.index-asked-at.result.op w.in_ok-reply.reply ∷ [])) (sym w.caller-is) next)),
           )
       | else-call-number w ↦ (
         subst (IsCallerOf c.args.shared.now) (sym w.caller-is) before.0,
         before.1,
-        subst (λ (i : ℕ). PlaysSoFar plan c.args.caller.number (c.loop-at.at + 1) c.if-call-number.caller i c.if-call-number.records.items) (sym w.index-is)
-            (subst (λ (rs : List Record). PlaysSoFar plan c.args.caller.number (c.loop-at.at + 1) c.if-call-number.caller c.loop-at.index rs) (sym (ap (λ v. v.items) w.records-is))
-            (subst (λ (d : Caller). PlaysSoFar plan c.args.caller.number (c.loop-at.at + 1) d c.loop-at.index c.loop-at.records.items) (sym w.caller-is)
-            (none-made plan c.args.caller.number c.loop-at.at c.loop-at.caller c.loop-at.index c.loop-at.records.items before.2 c.index-asked-at.result less there (λ same. w.if-call-number.false (same ∙ sym before.1))))),
+        subst (λ (i : ℕ). PlaysSoFar plan c.args.caller.number budget (c.loop-at.at + 1) c.if-call-number.caller i c.if-call-number.records.items) (sym w.index-is)
+            (subst (λ (rs : List Record). PlaysSoFar plan c.args.caller.number budget (c.loop-at.at + 1) c.if-call-number.caller c.loop-at.index rs) (sym (ap (λ v. v.items) w.records-is))
+            (subst (λ (d : Caller). PlaysSoFar plan c.args.caller.number budget (c.loop-at.at + 1) d c.loop-at.index c.loop-at.records.items) (sym w.caller-is)
+            (none-made plan c.args.caller.number budget c.loop-at.at c.loop-at.caller c.loop-at.index c.loop-at.records.items before.2 c.index-asked-at.result less there (λ same. w.if-call-number.false (same ∙ sym before.1))))),
       )
     ]
