@@ -378,13 +378,13 @@ opened_line image s j is small =
     ∙ sym (word_if-here (nat_lt j (line_count l) && nat_lt 0 8) (positions.at l s.words (Cached (line_word 0 j))) inside)
     ∙ is.rests.empty j
 
-all_many : (test : ℕ → Bool) (n : ℕ) → ((k : ℕ) → k < n → test k ≡ true) → how_many test n ≡ n
+pub all_many : (test : ℕ → Bool) (n : ℕ) → ((k : ℕ) → k < n → test k ≡ true) → how_many test n ≡ n
 all_many test zero all = refl
 all_many test (suc n) all =
     let before = all_many test n (λ k small. all k (omega arith)) in
     ap (λ b. cond b (how_many test n + 1) (how_many test n)) (all n (omega arith)) ∙ omega (arith, before)
 
-none_many : (test : ℕ → Bool) (n : ℕ) → ((k : ℕ) → k < n → test k ≡ false) → how_many test n ≡ 0
+pub none_many : (test : ℕ → Bool) (n : ℕ) → ((k : ℕ) → k < n → test k ≡ false) → how_many test n ≡ 0
 none_many test zero none = refl
 none_many test (suc n) none = ap (λ b. cond b (how_many test n + 1) (how_many test n)) (none n (omega arith)) ∙ none_many test n (λ k small. none k (omega arith))
 

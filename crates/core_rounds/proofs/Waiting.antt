@@ -28,7 +28,7 @@ use Rattle.core_rounds.specs.Waiting.{one_if}
 use Rattle.core_rounds.proofs.CoreMaps.{locks_remain, next_unworn}
 
 -- a call for which there is room needs no turn
-needs_none : (caller : ℕ) (s : Index) (c : CoreCall) (changes writes puts : ℕ) → caller < s.layout.callers → IsIndex s → IsQuiet s → 0 < calls_left_of s →
+pub needs_none : (caller : ℕ) (s : Index) (c : CoreCall) (changes writes puts : ℕ) → caller < s.layout.callers → IsIndex s → IsQuiet s → 0 < calls_left_of s →
     Waits s changes (writes + most_writes c) (puts + puts_for c) → NeedsNoTurn caller c s
 needs_none caller s (call.Put name value limit) changes writes puts here is quiet left waits =
     let lines = waits.lines caller here in

@@ -95,7 +95,8 @@ abbrev pub HasNoLines : Index → Type 0
 HasNoLines s = (j : ℕ) → line_state (world s) j ≡ empty_state
 
 -- What is known of an index that an image was opened as, before anything is done with it: the names, the shape and the
--- weight of the image. Its base has each name once. No line waits, and the first caller's eight are EMPTY; all nodes but those of the list are FREE.
+-- weight of the image. Its base has each name once. No line waits, and the first caller's eight are EMPTY; all nodes but
+-- those of the list are FREE.
 pub record IsOpenedMap (image : Row) (s : Index) : Type 0 where
   pub contents : map_of_index s ≡ image_map image.layout image.words
   pub anchors : anchors_in (world s) ≡ image_anchors image.layout image.words

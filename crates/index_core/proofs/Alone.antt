@@ -500,7 +500,7 @@ split_on s0 s1 s (call.Put name value limit) list cut = (cut.0, ap anchors_of li
 split_on s0 s1 s c list cut = absurd cut
 
 -- then the put has room
-split_has_room : (s0 s1 : Index) (c : CoreCall) → IsAtRest (world s1) → map_of_index s1 ≡ map_of_index s0 → IsHalvedSince (name_asked (op_of c)) (world s0) (world s1) → FindsFull (world s1) (op_of c) → ⊥
+pub split_has_room : (s0 s1 : Index) (c : CoreCall) → IsAtRest (world s1) → map_of_index s1 ≡ map_of_index s0 → IsHalvedSince (name_asked (op_of c)) (world s0) (world s1) → FindsFull (world s1) (op_of c) → ⊥
 split_has_room s0 s1 (call.Put name value limit) rest map halved full =
     let less = cut_has_room (world s0) (world s1) name rest map halved in
     let most = full.1 in

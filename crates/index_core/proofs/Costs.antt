@@ -1,26 +1,19 @@
 -- How many actions a lone call makes.
-use Rattle.std.proofs.Common.{◌⊎◌, inl, inr, ◌≡◌, ℕ, suc, ◌+◌, ◌-◌, ◌*◌, ◌<◌, ◌≤◌, Bool, true, false, cond, Option, Some, None, List, length, refl, sym, subst, ap, ◌∙◌, arith}
+use Rattle.std.proofs.Common.{◌⊎◌, inl, inr, ◌≡◌, ℕ, ◌+◌, ◌-◌, ◌*◌, ◌≤◌, Bool, true, false, cond, Option, Some, None, List, length, refl, ap, ◌∙◌, arith}
 use mathlib.Core.Option.{some}
 use lib.ListN.{get_elem?}
-use Rattle.pm_words.specs.declared.again.Again.{Again}
 use Rattle.pm_words.specs.declared.again.Again.TheVariants as again
 use Rattle.pm_words.specs.declared.layout.Layout.{Layout}
-use Rattle.pm_words.specs.Layouts.{IsLayout}
-use Rattle.pm_words.specs.declared.machine.Turn.{Turn}
-use Rattle.pm_words.specs.declared.machine.Turn.TheVariants.{Go, Done}
-use Rattle.pm_words.specs.Turns.{GoesBelow}
+use Rattle.pm_words.specs.declared.machine.Turn.TheVariants.{Done}
 use Rattle.cat_history.specs.declared.op.NameOp.{NameOp}
-use Rattle.cat_history.specs.declared.op.NameOp.TheVariants as op
 use Rattle.call_stages.specs.declared.once.Once.{Once}
 use Rattle.call_stages.specs.declared.once.Once.TheVariants as once
 use Rattle.call_stages.specs.declared.once.Placed.{Placed}
 use Rattle.call_stages.specs.declared.view.View.{View}
 use Rattle.node_ops.specs.declared.call.Call.{Call}
-use Rattle.node_ops.specs.declared.lookup.Hold.{Hold}
 use Rattle.node_ops.specs.declared.lookup.LookupAt.{LookupAt}
 use Rattle.node_ops.specs.declared.lookup.LookupAt.TheVariants as look
 use Rattle.node_ops.specs.declared.get.Get.TheVariants as get
-use Rattle.node_ops.specs.declared.put.Put.{Put}
 use Rattle.node_ops.specs.declared.put.Put.TheVariants as put
 use Rattle.node_ops.specs.declared.single_put.SinglePut.TheVariants as single_put
 use Rattle.node_ops.specs.declared.del.Del.TheVariants as del
@@ -30,21 +23,20 @@ use Rattle.node_ops.specs.declared.part.PartWords.{PartWords}
 use Rattle.node_ops.specs.PartSteps.{early_of}
 use Rattle.node_ops.specs.declared.running.Running.{Running}
 use Rattle.node_ops.specs.declared.running.Running.TheVariants.{Getting, Putting, Deleting, Parting}
-use Rattle.node_ops.specs.Asked.{IsOf, name_asked, op_in}
+use Rattle.node_ops.specs.Asked.{IsOf, name_asked}
 use Rattle.node_ops.specs.Calls.{name_in}
 use Rattle.node_ops.specs.Costs.{EndsInWalk, has_landed, hops_spared, lookup_landed, spared, split_spared}
 use Rattle.node_ops.specs.RunningSteps.{IsRunning, running_call, running_left, running_turned}
-use Rattle.node_ops.proofs.Costs.{puts_spare_splits, turns_spare, walks_end_so}
+use Rattle.node_ops.proofs.Costs.{puts_spare_splits, walks_end_so}
 use Rattle.index_law.specs.Worlds.{Party, World}
 use Rattle.index_law.proofs.Parties.{set_here}
 use Rattle.lone_law.specs.LoneCalls.{FindsFull, IsAnswered, IsLate, IsThere}
-use Rattle.lone_law.specs.There.{HasCome, IsAtNode, LookupStands, WalksBy}
+use Rattle.lone_law.specs.There.{HasCome, LookupStands, WalksBy}
 use Rattle.lone_turn.specs.CallLogs.{LeavesLines, ready_lines}
 use Rattle.index_core.specs.declared.party.CoreCall.{CoreCall}
 use Rattle.index_core.specs.declared.party.CoreCall.TheVariants as call
-use Rattle.index_core.specs.declared.party.PartyState.{PartyState}
 use Rattle.index_core.specs.CoreCalls.{limit_of, machine_of, op_of}
-use Rattle.index_core.specs.Costs.{ActionsAreFew, ActsWithin, AreFewActions, IsUnworn, IsUnwornWhole, TriesWithin, list_actions, look_actions, merge_actions, most_actions, other_actions, split_actions}
+use Rattle.index_core.specs.Costs.{ActionsAreFew, ActsWithin, IsUnworn, IsUnwornWhole, TriesWithin, list_actions, look_actions, merge_actions, most_actions, other_actions, split_actions}
 use Rattle.index_core.specs.Indexes.{Index, IsIndex, Starts, TurnsTo, room_of, told, view_of, world}
 use Rattle.index_core.specs.Lone.{HasShortWays, IsQuiet, IsWholeAnswer, NeedsNoTurn, TriesAlone, lacks_line, lacks_node, needs_split, part_whole, whole_of}
 use Rattle.index_core.specs.PartyStates.{party_of, state_with}
@@ -90,7 +82,7 @@ node_walks : (l : Layout) (words0 words : List ℕ) (limit : Option ℕ) (call :
 node_walks l words0 words None call word come = come.0.hops
 node_walks l words0 words (Some most) call word come = come.0.hops
 
-look_walks : (l : Layout) (words0 words : List ℕ) (call : Call) (at : LookupAt) → LookupStands l words0 words call at → lookup_landed at ≡ true → WalksBy l words0 (name_in call) call.hops
+pub look_walks : (l : Layout) (words0 words : List ℕ) (call : Call) (at : LookupAt) → LookupStands l words0 words call at → lookup_landed at ≡ true → WalksBy l words0 (name_in call) call.hops
 look_walks l words0 words call (look.Floor floor) stands landed = absurd (cc)
 look_walks l words0 words call (look.Walk walk) stands landed = absurd (cc)
 look_walks l words0 words call (look.Read seen) stands landed = stands.1.hops
@@ -102,7 +94,7 @@ look_walks l words0 words call (look.Prints hold bitmap prints k) stands landed 
 look_walks l words0 words call (look.Name hold directory left slot k) stands landed = node_walks l words0 words call.limit call hold.locked stands
 look_walks l words0 words call (look.Value hold directory slot) stands landed = node_walks l words0 words call.limit call hold.locked stands
 
-landed_walks : (l : Layout) (words0 words : List ℕ) (m : Running) → IsThere l words0 words m → has_landed m ≡ true → WalksBy l words0 (name_in (running_call m)) (running_call m).hops
+pub landed_walks : (l : Layout) (words0 words : List ℕ) (m : Running) → IsThere l words0 words m → has_landed m ≡ true → WalksBy l words0 (name_in (running_call m)) (running_call m).hops
 landed_walks l words0 words (Getting (get.Looking lookup)) there landed = look_walks l words0 words lookup.call lookup.at there landed
 landed_walks l words0 words (Getting (get.Checking call hold old)) there landed = there.0.hops
 landed_walks l words0 words (Putting (put.Single (single_put.Looking lookup value))) there landed = look_walks l words0 words lookup.call lookup.at there landed
@@ -241,7 +233,7 @@ tries_are_whole s0 i c answer before after tries short none unworn = at c answer
     at (call.Turn stamp release) answer few = omega (arith, few)
 
 -- a try that has split its node leaves one line more READY, and wasn't late
-split_lines : (name : List ℕ) (caller : ℕ) (w0 w : World) (r : Once Placed) → w.layout ≡ w0.layout → LeavesLines name caller w0 w r → needs_split r ≡ true → ready_lines w ≡ ready_lines w0 + 1
+pub split_lines : (name : List ℕ) (caller : ℕ) (w0 w : World) (r : Once Placed) → w.layout ≡ w0.layout → LeavesLines name caller w0 w r → needs_split r ≡ true → ready_lines w ≡ ready_lines w0 + 1
 split_lines name caller w0 w (once.Again (again.NeedsSplit node)) layout made is = (ready_are_counted caller w0 w layout).1 made
 split_lines name caller w0 w (once.Again (again.Locked node word)) layout made is = absurd (cc)
 split_lines name caller w0 w (once.Again (again.Moved node first second)) layout made is = absurd (cc)

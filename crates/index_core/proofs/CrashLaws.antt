@@ -1,15 +1,12 @@
 -- Evictions and crashes, over plain data.
-use Rattle.std.proofs.Common.{◌≡◌, ℕ, zero, suc, ◌<◌, ◌≤◌, ◌==◌, Bool, true, false, cond, List, refl, sym, ap, ◌∙◌, subst, arith}
-use Rattle.pm_words.specs.declared.layout.Layout.{Layout}
+use Rattle.std.proofs.Common.{◌≡◌, ℕ, zero, suc, ◌<◌, ◌≤◌, Bool, true, false, cond, refl, ◌∙◌, arith}
 use Rattle.pm_words.specs.Locations.{Header, image_words}
-use Rattle.pm_words.specs.Rows.{evicted, durable_row}
+use Rattle.pm_words.specs.Rows.{evicted}
 use Rattle.pm_words.proofs.Made.{durable_row-at}
-use Rattle.sound_image.specs.Rules.{header_generation}
-use Rattle.index_core.specs.Crashes.{IsCrash, evicted_index}
 use Rattle.index_law.specs.Weights.{weight_sum}
 use Rattle.index_law.proofs.Weights.{evict_weighs}
 use Rattle.index_core.specs.Indexes.{Index, IsIndex, world}
-use Rattle.index_core.specs.CrashLaws.{is_chosen, evicted_by, chosen_index, crash_image, ChosenKeep, ChosenWeigh, CrashLeaves, CrashKeepsGeneration}
+use Rattle.index_core.specs.CrashLaws.{is_chosen, evicted_by, crash_image, ChosenKeep, ChosenWeigh, CrashLeaves, CrashKeepsGeneration}
 use Rattle.std.specs.Prelude.{Option, Some, None, IfSome}
 use Rattle.call_stages.specs.Stages.{placed_in}
 use Rattle.node_ops.specs.CallStages.{stage_of}

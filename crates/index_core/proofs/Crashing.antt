@@ -1,7 +1,6 @@
 -- What an eviction keeps, and what a crash leaves of a lawful index.
 use Rattle.std.proofs.Common.{◌≡◌, ⊎_elim, ℕ, zero, suc, ◌<◌, ◌≤◌, List, [], ◌∷◌, refl, sym, ap, ◌∙◌, subst, arith}
 use Rattle.std.specs.Prelude.{Option, Some, None, IfSome, IsSomeAnd, slice_get, Contains}
-use Rattle.std.proofs.lemmas.Option.{IfSome_then}
 use Rattle.std.proofs.lemmas.List.Elements.{Contains-append_left, Contains-append_right}
 use mathlib.Core.Option.{some, some-injective, some-ne-none}
 use lib.ListN.{get_elem?}
@@ -16,7 +15,6 @@ use Rattle.node_ops.specs.RunningSteps.{IsRunning, Sound}
 use Rattle.node_ops.specs.CallStages.{stage_of}
 use Rattle.node_ops.proofs.OpLaw.{pends_own_change, holds_own_name}
 use Rattle.index_law.specs.Worlds.{Party, facts}
-use Rattle.index_law.specs.Facts.{Facts}
 use Rattle.index_law.specs.Lawful.{Sure, IsPlaced}
 use Rattle.index_law.specs.Laws.{HasPending}
 use Rattle.sound_image.specs.Sound.{image_map}
@@ -24,7 +22,7 @@ use Rattle.data_node.specs.Lists.{members_from}
 use Rattle.data_node.specs.Weights.{list_weight}
 use Rattle.index_law.specs.Weights.{weight_sum}
 use Rattle.index_law.proofs.Images.{image_law, in_image}
-use Rattle.index_law.proofs.Evictions.{evict_facts, evict_law}
+use Rattle.index_law.proofs.Evictions.{evict_law}
 use Rattle.index_law.proofs.Weights.{crash_weighs}
 use Rattle.crash_image.proofs.CrashLaw.{crash_leaves_sound_by_all}
 use Rattle.index_core.specs.declared.party.PartyState.{PartyState}

@@ -1,5 +1,5 @@
 -- What a whole call comes to within a budget, from what it was made of.
-use Rattle.std.proofs.Common.{◌≡◌, ℕ, ◌<◌, refl, sym, ◌∙◌, subst}
+use Rattle.std.proofs.Common.{◌≡◌, ℕ, ◌<◌, refl, sym, subst}
 use Rattle.std.specs.Prelude.{Option, Some, None}
 use Rattle.updater.specs.declared.terms.Turned.{Turned}
 use Rattle.index_core.specs.declared.party.CoreCall.{CoreCall}
@@ -10,7 +10,7 @@ use Rattle.index_core.specs.declared.party.Within.TheVariants as within
 use Rattle.index_core.specs.CoreCalls.{IfTurn, MayBegin}
 use Rattle.index_core.specs.Indexes.{Index}
 use Rattle.index_core.specs.Turns.{IsTurnedAnd, TurnsAlone}
-use Rattle.index_core.specs.Withins.{ComesTo, CutsOff, CutsTurnOff, EndsWithin, RanAlone}
+use Rattle.index_core.specs.Withins.{ComesInTime, ComesTo, CutsOff, CutsTurnOff, EndsInTime, EndsWithin, RanAlone}
 use Rattle.index_core.proofs.Either.{IsNoTurn, no_turn, no_name}
 use Rattle.index_core.specs.declared.party.CoreCall.TheVariants as call
 
@@ -52,3 +52,9 @@ pub spent_ends : (T : Type 0) (answer : Option T) (to : T → Whole) (result : W
     → EndsWithin result (λ _. 0 < before) ((0 < before) × (after ≡ 0)) (before ≡ 0)
 spent_ends T (Some given) to result before after some spent is = subst (λ (r : Within). EndsWithin r (λ _. 0 < before) ((0 < before) × (after ≡ 0)) (before ≡ 0)) (sym is) some
 spent_ends T None to result before after some spent is = subst (λ (r : Within). EndsWithin r (λ _. 0 < before) ((0 < before) × (after ≡ 0)) (before ≡ 0)) (sym is) (some, spent refl)
+
+-- how many events it has made at most
+pub in_time_ends : (T : Type 0) (answer : Option T) (to : T → Whole) (result : Within) (budget before after most : ℕ) → ComesTo answer (λ given. result ≡ within.Answered (to given)) (result ≡ within.Cut) → ComesInTime answer budget before after most
+    → EndsInTime result budget before after most
+in_time_ends T (Some given) to result budget before after most is few = subst (λ (r : Within). EndsInTime r budget before after most) (sym is) few
+in_time_ends T None to result budget before after most is few = subst (λ (r : Within). EndsInTime r budget before after most) (sym is) few

@@ -1,6 +1,6 @@
 -- A fresh index is lawful.
 use Rattle.std.proofs.Common.{◌≡◌, ℕ, zero, suc, ◌<◌, ◌≤◌, List, [], map, refl, sym, ap, ◌∙◌, subst, arith}
-use Rattle.std.specs.Prelude.{Some, None, IfSome}
+use Rattle.std.specs.Prelude.{Some, None}
 use Rattle.std.proofs.lemmas.List.{take_all}
 use Rattle.cat_history.specs.Maps.{map_of}
 use Rattle.cat_history.specs.Writes.{after_all}
@@ -11,7 +11,7 @@ use Rattle.pm_words.specs.Layouts.{IsLayout}
 use Rattle.version_lock.specs.declared.TheConstants.{LAST_COUNT}
 use Rattle.call_stages.specs.Stages.{Idle}
 use Rattle.index_law.specs.Facts.{version_in}
-use Rattle.index_law.specs.Worlds.{Party, facts}
+use Rattle.index_law.specs.Worlds.{Party}
 use Rattle.index_law.specs.Lawful.{Each, HasNames}
 use Rattle.index_law.specs.Laws.{fresh_row, fresh_world}
 use Rattle.index_law.proofs.Fresh.{fresh_law, fresh_versions}
@@ -20,7 +20,7 @@ use Rattle.lone_law.specs.Locks.{locks_of, fewest_locks}
 use Rattle.index_core.specs.PartyStates.{idle_state, idle_states, party_of, IsPartyState}
 use Rattle.index_core.specs.declared.party.PartyState.{PartyState}
 use Rattle.index_core.specs.Fresh.{IsFreshIndex}
-use Rattle.index_core.specs.Indexes.{Index, IsIndex, parties_of, world}
+use Rattle.index_core.specs.Indexes.{Index, IsIndex, parties_of}
 use Rattle.index_core.specs.Lone.{IsQuiet, locks_left}
 use Rattle.index_law.proofs.Footed.{fresh_footed}
 use Rattle.index_core.proofs.Layering.{fresh_layered}

@@ -55,5 +55,6 @@ pub mod ScheduleCrashes
 pub mod Logs
 pub mod CrashLaws
 pub mod Withins
+pub mod InTime
 pub mod Ends
 pub mod CutCrashes

@@ -1,70 +1,35 @@
 -- What a part of a scan has of its node's range while it is in flight, and what it lists.
-use Rattle.std.proofs.Common.{◌≡◌, ⊎_elim, ℕ, ◌+◌, ◌<◌, ◌≤◌, ◌^◌, Bool, true, false, List, ◌++◌, length, refl, sym, ap, ◌∙◌, subst, arith}
-use Rattle.std.specs.Prelude.{◌==◌, ◌&&◌, if◌then◌else◌, nat_lt, Option, Some, None, slice_index, take}
-use Rattle.std.proofs.lemmas.Bool.{cases_lt, eqb-true, eq-eqb}
+use Rattle.std.proofs.Common.{◌≡◌, ⊎_elim, ℕ, ◌<◌, ◌≤◌, ◌^◌, true, false, List, ◌++◌, length, sym, ap, ◌∙◌, subst, arith}
+use Rattle.std.specs.Prelude.{◌&&◌, if◌then◌else◌, nat_lt, Some, slice_index, take}
+use Rattle.std.proofs.lemmas.Bool.{cases_lt}
 use Rattle.std.proofs.lemmas.List.{length-append, set-get_or, take_all}
 use Rattle.std.proofs.lemmas.Option.{IfSome_then}
 use Rattle.pm_words.specs.declared.layout.Layout.{Layout}
-use Rattle.pm_words.specs.declared.action.Action.{Action}
-use Rattle.pm_words.specs.declared.action.Action.TheVariants.{Load, Store, Exchange}
-use Rattle.pm_words.specs.declared.machine.Turn.{Turn}
-use Rattle.pm_words.specs.declared.machine.Turn.TheVariants.{Go, Done}
+use Rattle.pm_words.specs.declared.action.Action.TheVariants.{Load}
 use Rattle.pm_words.specs.Locations.{node_words}
 use Rattle.pm_words.specs.Rows.{IsRow, acted, got}
 use Rattle.cat_key.specs.Names.{IsName}
 use Rattle.cat_history.specs.Maps.{Map}
 use Rattle.cat_history.specs.Writes.{after, after_all}
 use Rattle.cat_history.specs.declared.op.Write.{Write}
-use Rattle.cat_key.specs.declared.TheConstants.{WORDS}
-use Rattle.version_lock.specs.Versions.{is_worn_word}
-use Rattle.data_node.specs.declared.slots.TheConstants.{PRINT_WORDS}
-use Rattle.data_node.specs.Bits.{lowest_live}
-use Rattle.data_node.specs.Lists.{ListNode, range_in}
-use Rattle.data_list.proofs.WalkLaw.{walk_loose}
-use Rattle.pm_words.specs.declared.again.Again.TheVariants.{Moved}
-use Rattle.data_list.specs.declared.walk.WalkAt.{WalkAt}
-use Rattle.data_list.specs.declared.walk.WalkAt.TheVariants as walk_at
-use Rattle.data_list.specs.declared.walk.Walk.{Walk}
-use Rattle.data_list.specs.declared.target.Next.{Next}
-use Rattle.data_list.specs.declared.target.Sighting.{Sighting}
-use Rattle.data_list.specs.declared.target.Walked.{Walked}
-use Rattle.data_list.specs.declared.target.Walked.TheVariants as walked
-use Rattle.data_list.specs.Walks.{high_of, walk_at_asks, walk_turned}
-use Rattle.data_list.specs.WalkStages.{walk_at_stage}
-use Rattle.call_stages.specs.declared.once.Once.{Once}
-use Rattle.call_stages.specs.declared.once.Once.TheVariants as once
+use Rattle.data_list.specs.Walks.{high_of}
 use Rattle.call_stages.specs.Kinds.{version_address, word_address}
-use Rattle.call_stages.specs.Stages.{IsLoose, Held, Stage, Idle, Saw, Wears, Reads, Holds, Eyes, Splits, Leaves, Meets, Joins}
-use Rattle.node_ops.specs.declared.call.Call.{Call}
-use Rattle.node_ops.specs.declared.lookup.Directory.{Directory}
-use Rattle.node_ops.specs.declared.lookup.Hold.{Hold}
-use Rattle.node_ops.specs.declared.lookup.Looked.{Looked}
-use Rattle.node_ops.specs.declared.lookup.Lookup.{Lookup}
-use Rattle.node_ops.specs.declared.lookup.LookupAt.{LookupAt}
-use Rattle.node_ops.specs.declared.lookup.LookupAt.TheVariants as look
 use Rattle.node_ops.specs.declared.part.PartWords.{PartWords}
-use Rattle.node_ops.specs.declared.part.Reading.{Reading}
-use Rattle.node_ops.specs.declared.part.ReadingAt.{ReadingAt}
-use Rattle.node_ops.specs.declared.part.ReadingAt.TheVariants as at
 use Rattle.node_ops.specs.declared.part.Part.{Part}
 use Rattle.node_ops.specs.declared.part.Part.TheVariants as part
-use Rattle.node_ops.specs.declared.running.Running.{Running}
-use Rattle.node_ops.specs.declared.running.Running.TheVariants.{Getting, Putting, Deleting, Parting}
+use Rattle.node_ops.specs.declared.running.Running.TheVariants.{Parting}
 use Rattle.node_ops.specs.Calls.{IsCall, name_in}
-use Rattle.node_ops.specs.CallStages.{stage_of, part_stage, lookup_at_stage}
-use Rattle.search_layer.specs.declared.floor.Floor.{Floor}
-use Rattle.search_layer.specs.FloorSteps.{floor_turned}
-use Rattle.node_ops.specs.LookupSteps.{goes_to, ends, tried_lock, saw_clock, lookup_at_asks, lookup_at_turned, floored, walked_on, saw_name, saw_prints, candidate_turned, is_spent}
-use Rattle.node_ops.specs.PartSteps.{IsPart, part_call, part_asks, part_behind, part_count, part_listed, part_looked, part_turned, behind_of, reading_turned, reading_at_asks}
-use Rattle.node_ops.specs.Parts.{HaveWords, EndsAt, IsPartOf}
+use Rattle.node_ops.specs.CallStages.{part_stage}
+use Rattle.node_ops.specs.PartSteps.{IsPart, part_call, part_asks, part_behind, part_count, part_listed}
+use Rattle.node_ops.specs.Parts.{HaveWords, EndsAt}
 use Rattle.node_ops.specs.RunningSteps.{Sound}
 use Rattle.node_ops.proofs.PartBounds.{parts_end_there, ends_are_ranges, parts_see_behind}
 use Rattle.node_ops.proofs.PartListing.{listed_is_told}
 use Rattle.node_ops.proofs.PartTelling.{part_tells, parts_hear}
-use Rattle.index_law.specs.Facts.{Facts, facts_of, list_in, range_of, map_now, spot_in, version_in}
+use Rattle.index_law.specs.Facts.{Facts, facts_of, range_of, map_now, spot_in}
 use Rattle.index_law.specs.Lawful.{HasNames, IsList, Sure}
 use Rattle.index_law.proofs.Maps.{after-longer}
-use Rattle.index_law.proofs.Rows.{facts-version, version_in-here}
+use Rattle.index_law.proofs.Rows.{version_in-here}
 use Rattle.index_core.specs.Listings.{IsPartAt, ListsRange}
 
 -- the words of nodes have 64 bits

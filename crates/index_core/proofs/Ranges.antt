@@ -1,42 +1,27 @@
 -- What parts of scans list is the map's.
-use Rattle.std.proofs.Common.{◌≡◌, ◌≢◌, ⊎_elim, ℕ, ◌<◌, ◌≤◌, List, ◌++◌, set, refl, sym, ap, ◌∙◌, subst, arith}
+use Rattle.std.proofs.Common.{◌≡◌, ℕ, ◌<◌, ◌≤◌, ◌++◌, refl, ap, ◌∙◌, subst, arith}
 use Rattle.std.specs.Prelude.{Option, Some, None, IfSome}
 use Rattle.std.proofs.lemmas.List.{append-nil}
 use mathlib.Core.Option.{some}
 use lib.ListN.{get_elem?}
 use Rattle.pm_words.specs.declared.layout.Layout.{Layout}
-use Rattle.pm_words.specs.declared.machine.Turn.{Turn}
-use Rattle.pm_words.specs.declared.machine.Turn.TheVariants.{Go, Done}
-use Rattle.pm_words.specs.Rows.{acted}
 use Rattle.cat_history.specs.Maps.{map_of}
 use Rattle.cat_history.specs.Writes.{after}
 use Rattle.cat_history.specs.declared.op.Change.{Change}
-use Rattle.data_node.specs.Lists.{ListNode, range_in}
-use Rattle.call_stages.specs.declared.once.Once.{Once}
-use Rattle.call_stages.specs.declared.once.Placed.{Placed}
-use Rattle.call_stages.specs.AnySteps.{AnyStep}
-use Rattle.call_stages.specs.Stages.{Stage, counted}
-use Rattle.node_ops.specs.declared.get.Get.{Get}
-use Rattle.node_ops.specs.declared.put.Put.{Put}
-use Rattle.node_ops.specs.declared.del.Del.{Del}
+use Rattle.call_stages.specs.Stages.{counted}
 use Rattle.node_ops.specs.declared.part.Part.{Part}
 use Rattle.node_ops.specs.declared.part.PartWords.{PartWords}
 use Rattle.node_ops.specs.declared.running.Running.{Running}
 use Rattle.node_ops.specs.declared.running.Running.TheVariants.{Getting, Putting, Deleting, Parting}
 use Rattle.node_ops.specs.Calls.{name_in}
-use Rattle.node_ops.specs.CallStages.{stage_of, stage_after, part_stage, reply_of}
-use Rattle.node_ops.specs.DelSteps.{del_turned}
-use Rattle.node_ops.specs.GetSteps.{get_turned}
-use Rattle.node_ops.specs.PartSteps.{part_asks, part_call, part_count, part_listed, part_turned}
-use Rattle.node_ops.specs.PutSteps.{put_turned}
-use Rattle.node_ops.specs.RunningSteps.{running_asks, running_turned, wrapped, wrapped_part, Sound}
-use Rattle.index_law.specs.Facts.{Facts, list_in}
+use Rattle.node_ops.specs.CallStages.{stage_of, part_stage}
+use Rattle.node_ops.specs.PartSteps.{part_call, part_count, part_listed}
+use Rattle.node_ops.specs.RunningSteps.{Sound}
+use Rattle.index_law.specs.Facts.{Facts}
 use Rattle.index_law.specs.Lawful.{HasNames, Lawful, Sure}
 use Rattle.index_law.specs.Worlds.{facts, written}
-use Rattle.index_law.proofs.AnySteps.{held_ranges_stay}
-use Rattle.index_law.proofs.Parties.{at_set, set_here}
 use Rattle.index_core.specs.declared.party.PartyState.{PartyState}
-use Rattle.index_core.specs.PartyStates.{machine_stage, party_of, state_after}
+use Rattle.index_core.specs.PartyStates.{machine_stage, party_of}
 use Rattle.index_core.specs.Indexes.{Index, IsIndex, world, told, stepped_index}
 use Rattle.index_core.specs.Listings.{IsPartAt, ListsAt}
 use Rattle.index_core.proofs.Lists.{map_there}

@@ -1,6 +1,6 @@
 -- The next round of an index with no call in flight.
 use Rattle.std.proofs.Common.{◌≡◌, ℕ, zero, suc, ◌+◌, ◌-◌, ◌<◌, ◌≤◌, ◌==◌, cond, List, [], ◌∷◌, ◌++◌, length, map, set, drop, refl, sym, ap, ◌∙◌, subst, arith}
-use Rattle.std.specs.Prelude.{Some, None, IfSome}
+use Rattle.std.specs.Prelude.{Some, None}
 use Rattle.std.proofs.lemmas.List.{take_all, drop-set-lt, length-drop}
 use Rattle.std.proofs.Math.Numerals.{add-one}
 use mathlib.Core.Option.{some}

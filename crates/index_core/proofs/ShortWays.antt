@@ -1,5 +1,5 @@
 -- What is done to an index between lone calls keeps its ways short.
-use Rattle.std.proofs.Common.{◌≡◌, ◌≢◌, ℕ, ◌<◌, slice_index, refl, sym, arith}
+use Rattle.std.proofs.Common.{◌≡◌, ℕ, slice_index, arith}
 use Rattle.std.proofs.lemmas.List.{get_or-set_other}
 use Rattle.pm_words.specs.Locations.{Location, Clock, Updater, Volatile, Mark, Cached, Durable, HasLocation, address_of, at, cached_address, durable_address}
 use Rattle.pm_words.specs.Rows.{evicted}

@@ -19,7 +19,7 @@ use Rattle.node_ops.specs.Asked.{op_in, name_asked}
 use Rattle.node_ops.specs.CallStages.{reply_of}
 use Rattle.node_ops.specs.PartSteps.{IsEarly, words_placed}
 use Rattle.node_ops.specs.RunningSteps.{IsRunning, running_turned, count_in, listed_in}
-use Rattle.node_ops.proofs.PartListing.{listed_is_answered, done_is_listed}
+use Rattle.node_ops.proofs.PartListing.{done_is_listed}
 use Rattle.index_law.specs.Facts.{Facts}
 use Rattle.index_law.specs.Lawful.{HasNames}
 use Rattle.index_law.proofs.Maps.{after-longer}

@@ -1,7 +1,6 @@
 -- Each step of a turn of the updater keeps the index.
 use Rattle.std.proofs.Common.{◌≡◌, ◌≢◌, ℕ, ◌+◌, ◌/◌, ◌<◌, ◌≤◌, ◌^◌, inl, inr, ⊎_elim, true, List, [], ◌∷◌, set, map, refl, sym, ap, ◌∙◌, subst, arith}
 use Rattle.std.specs.Prelude.{Option, Some, IfSome}
-use Rattle.std.proofs.lemmas.Option.{IfSome_then}
 use mathlib.Core.Option.{some}
 use lib.ListN.{get_elem?, length-set}
 use Rattle.pm_words.specs.declared.layout.Layout.{Layout}
@@ -13,7 +12,6 @@ use Rattle.pm_words.specs.Locations.{Volatile}
 use Rattle.call_stages.specs.Kinds.{gone_status, free_status}
 use Rattle.call_stages.specs.Stages.{Stage, Idle, Saw, Wears, Reads, Holds, Eyes, Splits, Leaves, Meets, Joins}
 use Rattle.call_stages.specs.Watches.{Nothing}
-use Rattle.node_ops.specs.declared.running.Running.{Running}
 use Rattle.index_law.specs.Facts.{Facts}
 use Rattle.index_law.specs.Worlds.{Party, World, facts}
 use Rattle.index_law.specs.InUse.{AreInUse}
@@ -49,7 +47,7 @@ use Rattle.layer_law.proofs.TurnTerms.{terms_may_begin}
 use Rattle.index_core.specs.declared.party.PartyState.{PartyState}
 use Rattle.index_core.specs.PartyStates.{party_of, resting, turning_of, turn_after, IsTurnOf}
 use Rattle.index_core.specs.Indexes.{Index, IsIndex, world, footed, layered}
-use Rattle.index_core.specs.Turns.{turn_told, turned_index, FindsNoneFree, FreesReleased, TurnLaw, TurnKeeps, TurnBegins, with_terms, TermsLaw, TermsMayBeSet}
+use Rattle.index_core.specs.Turns.{turn_told, turned_index, FindsNoneFree, FreesReleased, TurnLaw, TurnKeeps, TurnBegins, TermsMayBeSet}
 use Rattle.index_core.proofs.Footings.{line_of, debt_of}
 use Rattle.index_core.proofs.Freeing.{AboutToFree, only_frees, comes_from}
 use Rattle.index_core.proofs.InUse.{ends_counting, counted_none, in_use_weighs}

@@ -1,5 +1,4 @@
 -- Only a write finds the node of its name worn, and only since no lock can be taken of it.
-use Rattle.std.proofs.Common.{ℕ, List}
 use Rattle.std.specs.Prelude.{IsSome}
 use Rattle.cat_history.specs.declared.op.NameOp.{NameOp}
 use Rattle.cat_history.specs.declared.op.NameOp.TheVariants as op

@@ -42,6 +42,23 @@ other_actions l (call.Part low count) _ = list_actions l
 other_actions l (call.Recheck node version) _ = 1
 other_actions l (call.Turn stamp release) _ = 1
 
+-- Those of any such try, whatever it is answered; and where a put's node has room for its name, so that it isn't split.
+abbrev pub behind_actions : Layout → CoreCall → ℕ
+behind_actions l (call.Put name value limit) = split_actions
+behind_actions l (call.Get name) = 1
+behind_actions l (call.Del name limit) = merge_actions
+behind_actions l (call.Part low count) = list_actions l
+behind_actions l (call.Recheck node version) = 1
+behind_actions l (call.Turn stamp release) = 1
+
+abbrev pub room_actions : Layout → CoreCall → ℕ
+room_actions l (call.Put name value limit) = fill_actions
+room_actions l (call.Get name) = 1
+room_actions l (call.Del name limit) = merge_actions
+room_actions l (call.Part low count) = list_actions l
+room_actions l (call.Recheck node version) = 1
+room_actions l (call.Turn stamp release) = 1
+
 -- Those of a whole call that needs no turn of the updater, as so many log lines are READY: a put may split its node, and
 -- is made again then.
 abbrev pub most_actions : Layout → CoreCall → ℕ → ℕ
@@ -76,6 +93,10 @@ TriesWithin s c answer before after = HasShortWays s → IsUnworn answer →
 abbrev pub ActsWithin : Index → ℕ → CoreCall → Whole → ℕ → ℕ → Type 0
 ActsWithin s caller c result before after = HasShortWays s → NeedsNoTurn caller c s → IsUnwornWhole result →
     after ≤ before + most_actions s.layout c (ready_lines (world s))
+
+-- This holds of the most actions that the call makes, if it needs no turn and the index has short ways.
+abbrev pub WithMost : Index → ℕ → CoreCall → (ℕ → Type 0) → Type 0
+WithMost s caller c P = HasShortWays s → NeedsNoTurn caller c s → P (most_actions s.layout c (ready_lines (world s)))
 
 -- In plain numbers, for the largest layout: fewer than 20480 for a get or a part of a scan, than 65536 for a put or a
 -- delete, and 32 or 64 for each line that is READY.

@@ -10,14 +10,12 @@ use Rattle.pm_words.specs.Rows.{acted, got}
 use Rattle.cat_history.specs.Maps.{Map, map_of}
 use Rattle.cat_history.specs.Writes.{after, after_all}
 use Rattle.cat_history.specs.declared.op.Write.{Write}
-use Rattle.call_stages.specs.Stages.{Stage, Idle, Saw, Wears, Reads, Holds, Eyes, Splits, Leaves, Meets, Joins, counted}
+use Rattle.call_stages.specs.Stages.{counted}
 use Rattle.call_stages.specs.Stages.{placed_in}
 use Rattle.call_stages.specs.AnySteps.{AnyStep}
 use Rattle.call_stages.specs.Kinds.{free_status}
 use Rattle.call_stages.specs.declared.view.View.{View}
-use Rattle.data_list.specs.Walks.{high_of}
 use Rattle.node_ops.specs.declared.running.Running.{Running}
-use Rattle.node_ops.specs.declared.running.Running.TheVariants.{Getting, Putting, Deleting, Parting}
 use Rattle.pm_words.specs.declared.machine.Turn.{Turn}
 use Rattle.pm_words.specs.declared.machine.Turn.TheVariants.{Go, Done}
 use Rattle.pm_words.specs.Turns.{GoesBelow}
@@ -25,13 +23,10 @@ use Rattle.call_stages.specs.declared.once.Once.{Once}
 use Rattle.call_stages.specs.declared.once.Placed.{Placed}
 use Rattle.cat_history.specs.declared.op.NameOp.{NameOp}
 use Rattle.node_ops.specs.declared.call.Call.{Call}
-use Rattle.node_ops.specs.Calls.{IsSame, name_in}
+use Rattle.node_ops.specs.Calls.{IsSame}
 use Rattle.node_ops.specs.Asked.{IsOf, IsOfAfter, op_in}
 use Rattle.node_ops.specs.RunningSteps.{running_asks, running_turned, running_call, running_left}
-use Rattle.node_ops.specs.CallStages.{stage_of, stage_after, reply_of, part_stage}
-use Rattle.node_ops.specs.PartSteps.{part_call, part_behind}
-use Rattle.node_ops.specs.Parts.{EndsAt}
-use Rattle.index_law.specs.Facts.{Facts, range_of}
+use Rattle.node_ops.specs.CallStages.{stage_of, stage_after, reply_of}
 use Rattle.index_law.specs.Worlds.{World, facts, written}
 use Rattle.index_law.specs.Lawful.{HasNames, Lawful}
 use Rattle.index_law.specs.Laws.{IsLegal}

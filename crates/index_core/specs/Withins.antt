@@ -1,5 +1,5 @@
 -- Calls that are made with no other in flight, within a budget of events, and what is in flight where one is cut off.
-use Rattle.std.specs.Prelude.{◌≡◌, ℕ, ◌+◌, ◌≤◌, ◌⊎◌, List, [], ◌∷◌, ◌++◌, length, slice_set, Option, Some, None, IfSome}
+use Rattle.std.specs.Prelude.{◌≡◌, ℕ, ◌+◌, ◌<◌, ◌≤◌, ◌⊎◌, [], ◌∷◌, ◌++◌, length, slice_set, Option, Some, None, IfSome}
 use mathlib.Core.Option.{some}
 use lib.ListN.{get_elem?}
 use Rattle.cat_history.specs.Records.{change_of}
@@ -7,25 +7,23 @@ use Rattle.cat_history.specs.declared.op.Change.{Change}
 use Rattle.call_stages.specs.Stages.{placed_in}
 use Rattle.call_stages.specs.declared.once.Once.{Once}
 use Rattle.call_stages.specs.declared.once.Placed.{Placed}
-use Rattle.node_ops.specs.declared.part.PartWords.{PartWords}
 use Rattle.node_ops.specs.declared.running.Running.{Running}
 use Rattle.node_ops.specs.Asked.{op_in}
 use Rattle.node_ops.specs.CallStages.{stage_of}
+use Rattle.lone_law.specs.LoneCalls.{FindsFull}
+use Rattle.lone_turn.specs.CallLogs.{ready_lines}
 use Rattle.updater.specs.declared.making.MakeTurn.{MakeTurn}
-use Rattle.updater.specs.declared.terms.Turned.{Turned}
 use Rattle.index_core.specs.declared.party.CoreCall.{CoreCall}
-use Rattle.index_core.specs.declared.party.CoreCall.TheVariants as call
 use Rattle.index_core.specs.declared.party.PartyState.{PartyState}
 use Rattle.index_core.specs.declared.party.Whole.{Whole}
-use Rattle.index_core.specs.declared.party.Whole.TheVariants as whole
 use Rattle.index_core.specs.declared.party.Within.{Within}
 use Rattle.index_core.specs.declared.party.Within.TheVariants as within
 use Rattle.index_core.specs.CoreCalls.{op_of}
+use Rattle.index_core.specs.Costs.{behind_actions, look_actions, room_actions}
 use Rattle.index_core.specs.Crashes.{cut_change, cut_changes}
 use Rattle.index_core.specs.Indexes.{Index, IsBusy, world}
-use Rattle.index_core.specs.Lone.{IsQuiet, LoseAtMost, RunsAlone, TakesEachLock, TakesLocks, TriesAlone, TriesBehindTurn, locks_left}
-use Rattle.index_core.specs.Lone.{part_whole, whole_of}
-use Rattle.index_core.specs.Turns.{TurnsAlone}
+use Rattle.index_core.specs.Lone.{HasShortWays, IsQuiet, LoseAtMost, RunsAlone}
+use Rattle.index_core.specs.Lone.{TakesEachLock, TakesLocks, TriesAlone, TriesBehindTurn, locks_left}
 use Rattle.index_core.specs.Weights.{put_count, weight_of}
 use Rattle.index_law.specs.Weights.{weight_sum}
 
@@ -103,6 +101,23 @@ abbrev pub EndsWithin : Within → (Whole → Type 0) → Type 0 → Type 0 → 
 EndsWithin (within.Answered result) answered cut unstarted = answered result
 EndsWithin within.Cut answered cut unstarted = cut
 EndsWithin within.Unstarted answered cut unstarted = unstarted
+
+-- It takes so many events at most: where it was answered it has made no more of them, from the first number to the
+-- second, and where it was cut off the budget was below that.
+abbrev pub ComesInTime : {T : Type 0} → Option T → ℕ → ℕ → ℕ → ℕ → Type 0
+ComesInTime result budget before after most = ComesTo result (λ _. after ≤ before + most) (budget < most)
+
+abbrev pub EndsInTime : Within → ℕ → ℕ → ℕ → ℕ → Type 0
+EndsInTime result budget before after most =
+    EndsWithin result (λ _. after ≤ before + most) (budget < most) (Unit {0})
+
+-- So one try of a call, on an index whose ways are short, also of a put whose node has room for its name.
+abbrev pub TriesInTime : {T : Type 0} → Index → CoreCall → Option T → ℕ → ℕ → ℕ → Type 0
+TriesInTime s c result budget before after = HasShortWays s →
+    ComesInTime result budget before after
+    (look_actions s.layout (ready_lines (world s)) + behind_actions s.layout c) ×
+    (¬ FindsFull (world s) (op_of c) → ComesInTime result budget before after
+    (look_actions s.layout (ready_lines (world s)) + room_actions s.layout c))
 
 -- A crash behind a call that was cut off may find that call's own change, where it has no place yet, and behind a turn none.
 abbrev pub CutLeavesOne : Type 0

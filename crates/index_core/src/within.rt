@@ -8,11 +8,12 @@ ghost use Rattle.index_core.specs.declared.party.CoreCall.TheVariants as CoreCal
 ghost use Rattle.index_core.specs.declared.party.Whole.TheVariants as Whole;
 ghost use Rattle.index_core.specs.declared.party.Within.TheVariants as Within;
 ghost use Rattle.index_core.specs.CoreCalls.{IfTurn, MayBegin, MayStart, count_of, most_writes};
+ghost use Rattle.index_core.specs.Costs.{WithMost, turn_actions};
 ghost use Rattle.index_core.specs.Indexes.{IsIndex};
 ghost use Rattle.index_core.specs.Lone.{IsQuiet, part_whole, whole_of};
 ghost use Rattle.index_core.specs.Turns.{IsTurnedAnd, TurnsAlone};
-ghost use Rattle.index_core.specs.Withins.{ComesTo, CutsOff, CutsTurnOff, EndsWithin, RanAlone, TriedAlone};
-ghost use Rattle.index_core.specs.Withins.{TriedBehindTurn};
+ghost use Rattle.index_core.specs.Withins.{ComesInTime, ComesTo, CutsOff, CutsTurnOff, EndsInTime, EndsWithin};
+ghost use Rattle.index_core.specs.Withins.{RanAlone, TriedAlone, TriedBehindTurn, TriesInTime};
 
 use crate::index::Core;
 use crate::party::{CoreCall, Whole, Within, lacks_line, lacks_node, needs_split};
@@ -31,6 +32,9 @@ impl Core {
     /// takes one for each that it makes. It is `Unstarted` exactly where the budget was 0, and then nothing changes. It
     /// is `Cut` only where the budget is used up: then the call is in flight, or a turn of the updater is that it wanted,
     /// by the same party.
+    ///
+    /// On an index whose ways are short a call that needs no turn makes no more than `most_actions`, whatever it is
+    /// answered, and is cut off only with a budget below that; so is a turn of the updater with one below `turn_actions`.
     pub fn run_within<L: Ledger>(
         &mut self,
         caller: u64,
@@ -49,6 +53,10 @@ impl Core {
             (self.new ≡ self.old) }
         ensures budget { EndsWithin result (λ whole. 0 < budget.old) ((0 < budget.old) × (budget.new ≡ 0)) (budget.old ≡ 0) }
         ensures events { steps.new + budget.new ≡ steps.old + budget.old }
+        ensures in_time { MayBegin call →
+            WithMost self.old caller call (EndsInTime result budget.old steps.old steps.new) }
+        ensures turn_in_time { IfTurn call (λ stamp release.
+            EndsInTime result budget.old steps.old steps.new (turn_actions self.old.layout)) }
         ensures index { IsIndex self.new }
     {
         let _ = &self.memory;
@@ -83,6 +91,7 @@ impl Core {
             (CutsOff self.old caller call self.new) }
         ensures spent { result ≡ None → budget.new ≡ 0 }
         ensures events { steps.new + budget.new ≡ steps.old + budget.old }
+        ensures in_time { WithMost self.old caller call (ComesInTime result budget.old steps.old steps.new) }
         ensures index { IsIndex self.new }
     {
         let Some(mut answer) = self.try_within(caller, &call, budget, steps) else {
@@ -128,6 +137,8 @@ impl Core {
             (CutsOff self.old caller (CoreCall.Part low count) self.new) }
         ensures spent { result ≡ None → budget.new ≡ 0 }
         ensures events { steps.new + budget.new ≡ steps.old + budget.old }
+        ensures in_time { WithMost self.old caller (CoreCall.Part low count)
+            (ComesInTime result budget.old steps.old steps.new) }
         ensures index { IsIndex self.new }
     {
         let Ok(()) = self.start_name(caller, CoreCall::Part { low, count }) else {
@@ -166,6 +177,7 @@ impl Core {
         ensures quiet { IfSome result (λ _. IsQuiet self.new) }
         ensures spent { result ≡ None → budget.new ≡ 0 }
         ensures events { steps.new + budget.new ≡ steps.old + budget.old }
+        ensures in_time { ComesInTime result budget.old steps.old steps.new (turn_actions self.old.layout) }
         ensures before { IsIndex self.old }
         ensures index { IsIndex self.new }
     {
@@ -227,6 +239,7 @@ impl Core {
             (CutsOff self.old caller call.now self.new) }
         ensures spent { result ≡ None → budget.new ≡ 0 }
         ensures events { steps.new + budget.new ≡ steps.old + budget.old }
+        ensures in_time { TriesInTime self.old call.now result budget.old steps.old steps.new }
         ensures before { IsIndex self.old }
         ensures index { IsIndex self.new }
     {

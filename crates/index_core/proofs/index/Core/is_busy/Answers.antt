@@ -1,10 +1,8 @@
-use Rattle.std.proofs.Common.{◌≡◌, true, ap, sym, ◌∙◌, arith}
-use mathlib.Core.Option.{some}
+use Rattle.std.proofs.Common.{ap, sym, ◌∙◌, arith}
 use lib.ListN.{get_elem?}
-use Rattle.index_core.specs.declared.party.PartyState.{PartyState}
 use Rattle.index_core.specs.PartyStates.{is_busy}
 use Rattle.index_core.specs.Cores.{index_with}
-use Rattle.index_core.specs.Indexes.{Index, IsBusy}
+use Rattle.index_core.specs.Indexes.{Index}
 use Rattle.index_core.proofs.Busy.{busy_told, busy_tells}
 use Rattle.index_core.proofs.Lists.{there_is, read_is}
 use Rattle.index_core.proofs.index.Core.is_busy.Goals as goal

@@ -1,12 +1,17 @@
-use Rattle.std.proofs.Common.{◌≡◌, ◌+◌, ◌<◌, ℕ, length, sym, ap, ◌∙◌, subst, arith}
+use Rattle.std.proofs.Common.{◌≡◌, ◌+◌, ◌≤◌, true, false, length, sym, ap, ◌∙◌, subst, arith}
 use Rattle.call_stages.specs.declared.once.Once.{Once}
 use Rattle.call_stages.specs.declared.once.Placed.{Placed}
 use Rattle.pm_words.specs.declared.layout.Layout.{Layout}
-use Rattle.index_core.specs.Indexes.{Index, IsIndex}
-use Rattle.index_core.specs.Lone.{IsQuiet, whole_of}
+use Rattle.std.specs.Prelude.{Some, None}
+use Rattle.lone_turn.specs.CallLogs.{ready_lines}
+use Rattle.index_core.specs.Costs.{most_actions}
+use Rattle.index_core.specs.Indexes.{Index, world}
+use Rattle.index_core.specs.Lone.{lacks_node, whole_of}
 use Rattle.index_core.proofs.Alone.{ran_runs, ran_each, ran_locks, full_runs, full_again, counted_each, counted_locks, count_quiet}
 use Rattle.index_core.proofs.Retrying.{HasItsLine, HasItsNode, RanAll, tried_first, line_at_once, line_behind_turn, node_at_once, node_behind_turn, ran_once, ran_twice}
 use Rattle.index_core.proofs.Withins.{Stood, stood_first, stood_behind, stood_again, stood_spare, cut_behind, back_line, back_node, back_split}
+use Rattle.index_core.proofs.Costs.{needs_none}
+use Rattle.index_core.proofs.InTime.{again_so, try_in_time}
 use Rattle.index_core.proofs.index.Core.name_within.Goals as goal
 use Rattle.index_core.proofs.index.Core.name_within.Goals.{then-lacks_line+in-Some-try_behind_turn_within, else-lacks_line, then-lacks_node+in-Some-try_behind_turn_within-2, else-lacks_node, then-needs_split+in-Some-try_within, else-needs_split}
 
@@ -240,6 +245,79 @@ returns-in-Again-clause-events g c =
     ] in
     e4
 
+pub returns-in_default-clause-in_time : goal.returns-in_default-clause-in_time
+returns-in_default-clause-in_time g c = λ short none.
+    try_in_time (Once Placed) c.args.self.now c.args.call None c.args.budget.now c.args.steps.now c.try_within.new.steps short c.in_default.ensures.in_time
+
+pub returns-in_default-try_behind_turn_within-clause-in_time : goal.returns-in_default-try_behind_turn_within-clause-in_time
+returns-in_default-try_behind_turn_within-clause-in_time g c = λ short none.
+    let s0 = c.args.self.now in
+    let i = c.args.caller in
+    let d = c.args.call in
+    let needs = needs_none s0 c.try_within.new.self i d c.in-Some.answer c.try_within.ensures.before c.requires.quiet c.in-Some.ensures.tries.tries none in
+    absurd (let no : true ≡ false = sym (sym c.lacks_line.ensures ∙ c.if-lacks_line.true) ∙ needs.0 in cc)
+
+pub returns-in_default-try_behind_turn_within-2-clause-in_time : goal.returns-in_default-try_behind_turn_within-2-clause-in_time
+returns-in_default-try_behind_turn_within-2-clause-in_time g c = λ short none.
+    let s0 = c.args.self.now in
+    let i = c.args.caller in
+    let d = c.args.call in
+    let needs = needs_none s0 c.try_within.new.self i d c.in-Some.answer c.try_within.ensures.before c.requires.quiet c.in-Some.ensures.tries.tries none in
+    let line : (c.if-lacks_line.self ≡ c.try_within.new.self) × (c.if-lacks_line.answer ≡ c.in-Some.answer) × (c.if-lacks_line.steps ≡ c.try_within.new.steps) × (c.if-lacks_line.budget ≡ c.try_within.new.budget) =
+    elim c.if-lacks_line.branch [
+      | then-lacks_line+in-Some-try_behind_turn_within w ↦ absurd (let no : true ≡ false = sym (sym c.lacks_line.ensures ∙ w.if-lacks_line.true) ∙ needs.0 in cc)
+      | else-lacks_line w ↦ (w.self-is, w.answer-is, w.steps-is, w.budget-is)
+    ] in
+    absurd (let no : true ≡ false = sym (sym (c.lacks_node.ensures ∙ ap lacks_node line.1) ∙ c.if-lacks_node.true) ∙ needs.1 in cc)
+
+pub returns-in_default-try_within-clause-in_time : goal.returns-in_default-try_within-clause-in_time
+returns-in_default-try_within-clause-in_time g c = λ short none.
+    let s0 = c.args.self.now in
+    let i = c.args.caller in
+    let d = c.args.call in
+    let needs = needs_none s0 c.try_within.new.self i d c.in-Some.answer c.try_within.ensures.before c.requires.quiet c.in-Some.ensures.tries.tries none in
+    let line : (c.if-lacks_line.self ≡ c.try_within.new.self) × (c.if-lacks_line.answer ≡ c.in-Some.answer) × (c.if-lacks_line.steps ≡ c.try_within.new.steps) × (c.if-lacks_line.budget ≡ c.try_within.new.budget) =
+    elim c.if-lacks_line.branch [
+      | then-lacks_line+in-Some-try_behind_turn_within w ↦ absurd (let no : true ≡ false = sym (sym c.lacks_line.ensures ∙ w.if-lacks_line.true) ∙ needs.0 in cc)
+      | else-lacks_line w ↦ (w.self-is, w.answer-is, w.steps-is, w.budget-is)
+    ] in
+    let node : (c.if-lacks_node.self ≡ c.try_within.new.self) × (c.if-lacks_node.answer ≡ c.in-Some.answer) × (c.if-lacks_node.steps ≡ c.try_within.new.steps) × (c.if-lacks_node.budget ≡ c.try_within.new.budget) =
+    elim c.if-lacks_node.branch [
+      | then-lacks_node+in-Some-try_behind_turn_within-2 w ↦ absurd (let no : true ≡ false = sym (sym (c.lacks_node.ensures ∙ ap lacks_node line.1) ∙ w.if-lacks_node.true) ∙ needs.1 in cc)
+      | else-lacks_node w ↦ (w.self-is ∙ line.0, w.answer-is ∙ line.1, w.steps-is ∙ line.2, w.budget-is ∙ line.3)
+    ] in
+    again_so (Once Placed) s0 c.try_within.new.self c.if-lacks_node.self i d c.in-Some.answer c.if-lacks_node.answer None c.args.budget.now c.try_within.new.budget c.if-lacks_node.budget c.args.steps.now c.try_within.new.steps c.if-lacks_node.steps c.try_within-then-needs_split.new.steps
+    c.try_within.ensures.index c.in-Some.ensures.tries.quiet c.in-Some.ensures.tries.tries c.in-Some.ensures.in_time c.try_within.ensures.events node (sym c.needs_split.ensures ∙ c.if-needs_split.true) c.in_default-try_within.ensures.in_time short
+
+pub returns-in-Again-clause-in_time : goal.returns-in-Again-clause-in_time
+returns-in-Again-clause-in_time g c = λ short none.
+    let s0 = c.args.self.now in
+    let i = c.args.caller in
+    let d = c.args.call in
+    let needs = needs_none s0 c.try_within.new.self i d c.in-Some.answer c.try_within.ensures.before c.requires.quiet c.in-Some.ensures.tries.tries none in
+    let line : (c.if-lacks_line.self ≡ c.try_within.new.self) × (c.if-lacks_line.answer ≡ c.in-Some.answer) × (c.if-lacks_line.steps ≡ c.try_within.new.steps) × (c.if-lacks_line.budget ≡ c.try_within.new.budget) =
+    elim c.if-lacks_line.branch [
+      | then-lacks_line+in-Some-try_behind_turn_within w ↦ absurd (let no : true ≡ false = sym (sym c.lacks_line.ensures ∙ w.if-lacks_line.true) ∙ needs.0 in cc)
+      | else-lacks_line w ↦ (w.self-is, w.answer-is, w.steps-is, w.budget-is)
+    ] in
+    let node : (c.if-lacks_node.self ≡ c.try_within.new.self) × (c.if-lacks_node.answer ≡ c.in-Some.answer) × (c.if-lacks_node.steps ≡ c.try_within.new.steps) × (c.if-lacks_node.budget ≡ c.try_within.new.budget) =
+    elim c.if-lacks_node.branch [
+      | then-lacks_node+in-Some-try_behind_turn_within-2 w ↦ absurd (let no : true ≡ false = sym (sym (c.lacks_node.ensures ∙ ap lacks_node line.1) ∙ w.if-lacks_node.true) ∙ needs.1 in cc)
+      | else-lacks_node w ↦ (w.self-is ∙ line.0, w.answer-is ∙ line.1, w.steps-is ∙ line.2, w.budget-is ∙ line.3)
+    ] in
+    let few : c.if-needs_split.steps ≤ c.args.steps.now + most_actions s0.layout d (ready_lines (world s0)) =
+    elim c.if-needs_split.branch [
+      | then-needs_split+in-Some-try_within w ↦
+          let two = again_so (Once Placed) s0 c.try_within.new.self c.if-lacks_node.self i d c.in-Some.answer c.if-lacks_node.answer (Some w.in-Some-try_within.again) c.args.budget.now c.try_within.new.budget c.if-lacks_node.budget c.args.steps.now c.try_within.new.steps c.if-lacks_node.steps w.try_within-then-needs_split.new.steps
+          c.try_within.ensures.index c.in-Some.ensures.tries.quiet c.in-Some.ensures.tries.tries c.in-Some.ensures.in_time c.try_within.ensures.events node (sym c.needs_split.ensures ∙ w.if-needs_split.true) w.in-Some-try_within.ensures.in_time short in
+          omega (arith, two, w.steps-is)
+      | else-needs_split w ↦
+          let one = try_in_time (Once Placed) s0 d (Some c.in-Some.answer) c.args.budget.now c.args.steps.now c.try_within.new.steps short c.in-Some.ensures.in_time in
+          let same = node.2 in
+          omega (arith, one, same, w.steps-is)
+    ] in
+    few
+
 pub returns-in_default-answer : goal.returns-in_default-answer
 returns-in_default-answer g c =
     let s0 = c.args.self.now in
@@ -315,5 +393,29 @@ returns-in_default-answer g c =
       };
       spent = λ none. cc;
       events = e4;
+      in_time = λ short none.
+          let needs = needs_none s0 c.try_within.new.self i d c.in-Some.answer c.try_within.ensures.before c.requires.quiet c.in-Some.ensures.tries.tries none in
+          let line : (c.if-lacks_line.self ≡ c.try_within.new.self) × (c.if-lacks_line.answer ≡ c.in-Some.answer) × (c.if-lacks_line.steps ≡ c.try_within.new.steps) × (c.if-lacks_line.budget ≡ c.try_within.new.budget) =
+          elim c.if-lacks_line.branch [
+            | then-lacks_line+in-Some-try_behind_turn_within w ↦ absurd (let no : true ≡ false = sym (sym c.lacks_line.ensures ∙ w.if-lacks_line.true) ∙ needs.0 in cc)
+            | else-lacks_line w ↦ (w.self-is, w.answer-is, w.steps-is, w.budget-is)
+          ] in
+          let node : (c.if-lacks_node.self ≡ c.try_within.new.self) × (c.if-lacks_node.answer ≡ c.in-Some.answer) × (c.if-lacks_node.steps ≡ c.try_within.new.steps) × (c.if-lacks_node.budget ≡ c.try_within.new.budget) =
+          elim c.if-lacks_node.branch [
+            | then-lacks_node+in-Some-try_behind_turn_within-2 w ↦ absurd (let no : true ≡ false = sym (sym (c.lacks_node.ensures ∙ ap lacks_node line.1) ∙ w.if-lacks_node.true) ∙ needs.1 in cc)
+            | else-lacks_node w ↦ (w.self-is ∙ line.0, w.answer-is ∙ line.1, w.steps-is ∙ line.2, w.budget-is ∙ line.3)
+          ] in
+          let few : c.if-needs_split.steps ≤ c.args.steps.now + most_actions s0.layout d (ready_lines (world s0)) =
+          elim c.if-needs_split.branch [
+            | then-needs_split+in-Some-try_within w ↦
+                let two = again_so (Once Placed) s0 c.try_within.new.self c.if-lacks_node.self i d c.in-Some.answer c.if-lacks_node.answer (Some w.in-Some-try_within.again) c.args.budget.now c.try_within.new.budget c.if-lacks_node.budget c.args.steps.now c.try_within.new.steps c.if-lacks_node.steps w.try_within-then-needs_split.new.steps
+                c.try_within.ensures.index c.in-Some.ensures.tries.quiet c.in-Some.ensures.tries.tries c.in-Some.ensures.in_time c.try_within.ensures.events node (sym c.needs_split.ensures ∙ w.if-needs_split.true) w.in-Some-try_within.ensures.in_time short in
+                omega (arith, two, w.steps-is)
+            | else-needs_split w ↦
+                let one = try_in_time (Once Placed) s0 d (Some c.in-Some.answer) c.args.budget.now c.args.steps.now c.try_within.new.steps short c.in-Some.ensures.in_time in
+                let same = node.2 in
+                omega (arith, one, same, w.steps-is)
+          ] in
+          few;
       index = split.index;
     }

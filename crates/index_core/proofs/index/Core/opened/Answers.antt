@@ -1,4 +1,4 @@
-use Rattle.std.proofs.Common.{◌≡◌, ℕ, ◌+◌, List, slice_index, ap, sym, ◌∙◌, subst, arith}
+use Rattle.std.proofs.Common.{◌≡◌, ℕ, List, slice_index, ap, sym, ◌∙◌, subst, arith}
 use Rattle.cat_key.specs.declared.Pair.{Pair}
 use Rattle.cat_history.specs.declared.op.Write.{Write}
 use Rattle.pm_words.specs.declared.layout.Layout.{Layout}

@@ -1,19 +1,31 @@
-use Rattle.std.proofs.Common.{inl, suc, ◌≤◌, refl, sym, subst, arith}
+use Rattle.std.proofs.Common.{inl, refl, sym, subst, arith}
+use Rattle.std.specs.Prelude.{Some, None}
 use Rattle.call_stages.specs.declared.once.Once.{Once}
+use Rattle.call_stages.specs.declared.once.Once.TheVariants as once
 use Rattle.node_ops.specs.declared.part.PartWords.{PartWords}
 use Rattle.index_core.specs.Lone.{RunsAlone, part_whole}
 use Rattle.index_core.specs.declared.party.CoreCall.TheVariants as call
 use Rattle.index_core.proofs.PartTries.{part_ends, part_is_early, part_stops}
-use Rattle.index_core.proofs.Tries.{Lone, left_at, lone_start, lone_flies, lone_goes}
+use Rattle.index_core.proofs.Costs.{cost_begins}
+use Rattle.index_core.proofs.InTime.{cut_in_time, end_in_time, try_in_time}
+use Rattle.index_core.proofs.Tries.{lone_costs, lone_start, lone_flies, lone_goes}
 use Rattle.index_core.proofs.Withins.{lone_cut}
 use Rattle.index_core.proofs.index.Core.part_within.Goals as goal
 
 pub steps-init : goal.steps-init
-steps-init g c =
-    (lone_start c.args.self.now c.start_name.new.self c.args.caller (call.Part c.args.low c.args.count) c.start_name.ensures.before c.requires.quiet c.in-Ok.ensures.started c.in-Ok.ensures.spare c.start_name.ensures.index, refl)
+steps-init g c = (
+  lone_start c.args.self.now c.start_name.new.self c.args.caller (call.Part c.args.low c.args.count) c.start_name.ensures.before c.requires.quiet c.in-Ok.ensures.started c.in-Ok.ensures.spare c.start_name.ensures.index,
+  refl,
+  (let begins = cost_begins c.args.self.now c.start_name.new.self c.args.caller (call.Part c.args.low c.args.count) c.in-Ok.ensures.started in omega (arith, begins)),
+)
 
 pub returns-then-budget-eq0-clause-runs : goal.returns-then-budget-eq0-clause-runs
 returns-then-budget-eq0-clause-runs g c = lone_cut c.args.self.now c.steps.self c.args.caller (call.Part c.args.low c.args.count) c.steps.invariant.0
+
+pub returns-then-budget-eq0-clause-in_time : goal.returns-then-budget-eq0-clause-in_time
+returns-then-budget-eq0-clause-in_time g c = λ short none.
+    try_in_time (Once PartWords) c.args.self.now (call.Part c.args.low c.args.count) None c.args.budget.now c.args.steps.now c.steps.steps short
+    (cut_in_time (Once PartWords) c.args.self.now c.steps.self c.args.caller (call.Part c.args.low c.args.count) c.steps.invariant.0 c.args.budget.now c.args.steps.now c.steps.steps c.steps.invariant.2 (omega (arith, c.steps.invariant.1, c.if-budget-eq0.true)))
 
 pub has_listed-requires : goal.has_listed-requires
 has_listed-requires g c = lone_flies _ _ _ _ c.steps.invariant.0
@@ -26,6 +38,11 @@ returns-then-has_listed-clause-runs g c =
     let t = c.turn.ensures in
     let e = part_ends c.args.self.now c.steps.self c.turn.new.self c.args.caller c.args.low c.args.count c.turn.result c.steps.invariant.0 t.turned t.index t.spare.all c.listing-words.result c.listing-words.ensures in
     record { runs = e.runs; quiet = e.quiet; spare = e.spare; each_lock = inl e.each_lock; locks = inl e.locks }
+
+pub returns-then-has_listed-clause-in_time : goal.returns-then-has_listed-clause-in_time
+returns-then-has_listed-clause-in_time g c = λ short none.
+    try_in_time (Once PartWords) c.args.self.now (call.Part c.args.low c.args.count) (Some (once.Done c.listing-words.result)) c.args.budget.now c.args.steps.now c.turn.new.steps short
+    (end_in_time c.args.self.now c.steps.self c.args.caller (call.Part c.args.low c.args.count) c.steps.invariant.0 c.args.budget.now c.args.steps.now c.steps.steps c.turn.new.steps c.steps.invariant.2 c.turn.ensures.tick (once.Done c.listing-words.result))
 
 pub turn-requires-in-steps : goal.turn-requires-in-steps
 turn-requires-in-steps g c = record { flies = lone_flies _ _ _ _ c.steps.invariant.0 }
@@ -49,11 +66,18 @@ returns-in-Some-clause-runs g c =
       locks = inl e.locks;
     }
 
+pub returns-in-Some-clause-in_time : goal.returns-in-Some-clause-in_time
+returns-in-Some-clause-in_time g c = λ short none.
+    try_in_time (Once PartWords) c.args.self.now (call.Part c.args.low c.args.count) (Some c.early.result) c.args.budget.now c.args.steps.now c.turn-in-steps.new.steps short
+    (end_in_time c.args.self.now c.steps.self c.args.caller (call.Part c.args.low c.args.count) c.steps.invariant.0 c.args.budget.now c.args.steps.now c.steps.steps c.turn-in-steps.new.steps c.steps.invariant.2 c.turn-in-steps.ensures.tick c.early.result)
+
 pub steps-preserved : goal.steps-preserved
 steps-preserved g c =
     let t = c.turn-in-steps.ensures in (
       (lone_goes c.args.self.now c.steps.self c.turn-in-steps.new.self c.args.caller (call.Part c.args.low c.args.count) c.turn-in-steps.result c.steps.invariant.0 t.turned t.index t.spare.all c.in_default-turn.is).0,
       omega (arith, t.tick, c.steps.invariant.1, c.if-budget-eq0.false),
+      (let costs = lone_costs c.args.self.now c.steps.self c.turn-in-steps.new.self c.args.caller (call.Part c.args.low c.args.count) c.turn-in-steps.result c.steps.invariant.0 t.turned t.index t.spare.all c.in_default-turn.is in
+          omega (arith, costs, t.tick, c.steps.invariant.2)),
     )
 
 pub steps-smaller : goal.steps-smaller

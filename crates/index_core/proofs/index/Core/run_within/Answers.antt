@@ -1,9 +1,16 @@
-use Rattle.std.proofs.Common.{◌≡◌, ℕ, ◌<◌, refl, subst, arith}
+use Rattle.std.proofs.Common.{◌<◌, refl, sym, subst, arith}
 use Rattle.call_stages.specs.declared.once.Once.{Once}
 use Rattle.call_stages.specs.declared.once.Placed.{Placed}
-use Rattle.index_core.specs.Indexes.{IsIndex}
-use Rattle.index_core.specs.Lone.{whole_of}
-use Rattle.index_core.proofs.Ends.{name_ends, spent_ends}
+use Rattle.node_ops.specs.declared.part.PartWords.{PartWords}
+use Rattle.lone_turn.specs.CallLogs.{ready_lines}
+use Rattle.index_core.specs.declared.party.CoreCall.{CoreCall}
+use Rattle.index_core.specs.declared.party.CoreCall.TheVariants as call
+use Rattle.index_core.specs.Costs.{most_actions}
+use Rattle.index_core.specs.Indexes.{IsIndex, world}
+use Rattle.index_core.specs.Lone.{part_whole, whole_of}
+use Rattle.index_core.specs.Withins.{EndsInTime}
+use Rattle.index_core.proofs.Either.{no_turn}
+use Rattle.index_core.proofs.Ends.{in_time_ends, name_ends, spent_ends}
 use Rattle.index_core.proofs.Stepping.{respare}
 use Rattle.index_core.proofs.index.Core.run_within.Goals as goal
 
@@ -17,5 +24,13 @@ returns-in_default g c =
       ends = name_ends (Once Placed) c.name_within.result whole_of c.within_name.result c.args.self.now c.name_within.new.self c.args.caller c.args.call c.args.call refl c.in_default.not-Turn c.within_name.ensures c.name_within.ensures.runs;
       budget = spent_ends (Once Placed) c.name_within.result whole_of c.within_name.result c.args.budget.now c.name_within.new.budget some c.name_within.ensures.spent c.within_name.ensures;
       events = c.name_within.ensures.events;
+      in_time = λ may short none. in_time_ends (Once Placed) c.name_within.result whole_of c.within_name.result c.args.budget.now c.args.steps.now c.name_within.new.steps (most_actions c.args.self.now.layout c.args.call (ready_lines (world c.args.self.now))) c.within_name.ensures (c.name_within.ensures.in_time short none);
+      turn_in_time = no_turn c.args.call _ c.in_default.not-Turn;
       index = c.name_within.ensures.index;
     }
+
+pub returns-in-Part-clause-in_time : goal.returns-in-Part-clause-in_time
+returns-in-Part-clause-in_time g c = λ may short none.
+    subst (λ (d : CoreCall). EndsInTime c.within_part.result c.args.budget.now c.args.steps.now c.part_within.new.steps (most_actions c.args.self.now.layout d (ready_lines (world c.args.self.now)))) (sym c.in-Part.is)
+    (in_time_ends (Once PartWords) c.part_within.result part_whole c.within_part.result c.args.budget.now c.args.steps.now c.part_within.new.steps (most_actions c.args.self.now.layout (call.Part c.in-Part.low c.in-Part.count) (ready_lines (world c.args.self.now)))
+    c.within_part.ensures (c.part_within.ensures.in_time short tt))

@@ -1,4 +1,4 @@
-use Rattle.std.proofs.Common.{◌<◌, length, sym, subst, arith}
+use Rattle.std.proofs.Common.{◌<◌, length, arith}
 use Rattle.index_core.proofs.Lists.{there_is}
 use Rattle.index_core.proofs.Withins.{behind_turn, turn_cuts_call}
 use Rattle.index_core.proofs.index.Core.try_behind_turn_within.Goals as goal

@@ -1,6 +1,10 @@
 use Rattle.std.proofs.Common.{refl, arith}
 use Rattle.index_core.proofs.Busy.{quiet_is_idle}
-use Rattle.index_core.proofs.Tries.{lone_start, lone_flies, lone_goes, lone_tries, lone_quiet, lone_locks, lone_each, spare_left}
+use Rattle.call_stages.specs.declared.once.Once.{Once}
+use Rattle.call_stages.specs.declared.once.Placed.{Placed}
+use Rattle.index_core.proofs.Costs.{cost_begins}
+use Rattle.index_core.proofs.InTime.{cut_in_time, end_in_time}
+use Rattle.index_core.proofs.Tries.{lone_costs, lone_start, lone_flies, lone_goes, lone_tries, lone_quiet, lone_locks, lone_each, spare_left}
 use Rattle.index_core.proofs.Withins.{lone_cut}
 use Rattle.index_core.proofs.index.Core.try_within.Goals as goal
 
@@ -9,11 +13,18 @@ unreachable-requires g c =
     absurd (quiet_is_idle c.args.self.now c.args.caller c.requires.quiet (c.in_default.ensures.in_flight.0 refl))
 
 pub steps-init : goal.steps-init
-steps-init g c =
-    (lone_start c.args.self.now c.start_name.new.self c.args.caller c.args.call.now c.start_name.ensures.before c.requires.quiet c.in-Ok.ensures.started c.in-Ok.ensures.spare c.start_name.ensures.index, refl)
+steps-init g c = (
+  lone_start c.args.self.now c.start_name.new.self c.args.caller c.args.call.now c.start_name.ensures.before c.requires.quiet c.in-Ok.ensures.started c.in-Ok.ensures.spare c.start_name.ensures.index,
+  refl,
+  (let begins = cost_begins c.args.self.now c.start_name.new.self c.args.caller c.args.call.now c.in-Ok.ensures.started in omega (arith, begins)),
+)
 
 pub returns-then-budget-eq0-clause-tries : goal.returns-then-budget-eq0-clause-tries
 returns-then-budget-eq0-clause-tries g c = lone_cut c.args.self.now c.steps.self c.args.caller c.args.call.now c.steps.invariant.0
+
+pub returns-then-budget-eq0-clause-in_time : goal.returns-then-budget-eq0-clause-in_time
+returns-then-budget-eq0-clause-in_time g c =
+    cut_in_time (Once Placed) c.args.self.now c.steps.self c.args.caller c.args.call.now c.steps.invariant.0 c.args.budget.now c.args.steps.now c.steps.steps c.steps.invariant.2 (omega (arith, c.steps.invariant.1, c.if-budget-eq0.true))
 
 pub turn-requires : goal.turn-requires
 turn-requires g c = record { flies = lone_flies _ _ _ _ c.steps.invariant.0 }
@@ -31,6 +42,10 @@ returns-in-Some-clause-tries g c =
       locks = lone_locks c.args.self.now c.steps.self c.turn.new.self c.args.caller c.args.call.now c.turn.result o t.turned t.index t.spare.all c.in-Some.answer c.in-Some.is;
     }
 
+pub returns-in-Some-clause-in_time : goal.returns-in-Some-clause-in_time
+returns-in-Some-clause-in_time g c =
+    end_in_time c.args.self.now c.steps.self c.args.caller c.args.call.now c.steps.invariant.0 c.args.budget.now c.args.steps.now c.steps.steps c.turn.new.steps c.steps.invariant.2 c.turn.ensures.tick c.in-Some.answer
+
 pub steps-smaller : goal.steps-smaller
 steps-smaller g c =
     (lone_goes c.args.self.now c.steps.self c.turn.new.self c.args.caller c.args.call.now c.turn.result c.steps.invariant.0 c.turn.ensures.turned c.turn.ensures.index c.turn.ensures.spare.all c.in_default-turn.is).1
@@ -39,4 +54,6 @@ pub steps-preserved : goal.steps-preserved
 steps-preserved g c = (
   (lone_goes c.args.self.now c.steps.self c.turn.new.self c.args.caller c.args.call.now c.turn.result c.steps.invariant.0 c.turn.ensures.turned c.turn.ensures.index c.turn.ensures.spare.all c.in_default-turn.is).0,
   omega (arith, c.turn.ensures.tick, c.steps.invariant.1, c.if-budget-eq0.false),
+  (let costs = lone_costs c.args.self.now c.steps.self c.turn.new.self c.args.caller c.args.call.now c.turn.result c.steps.invariant.0 c.turn.ensures.turned c.turn.ensures.index c.turn.ensures.spare.all c.in_default-turn.is in
+      omega (arith, costs, c.turn.ensures.tick, c.steps.invariant.2)),
 )

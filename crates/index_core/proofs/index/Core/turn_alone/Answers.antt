@@ -2,7 +2,7 @@ use Rattle.std.proofs.Common.{◌≡◌, refl, sym, ◌∙◌, subst, arith}
 use Rattle.updater.specs.declared.terms.Turned.{Turned}
 use Rattle.index_core.specs.Turns.{TurnsAlone}
 use Rattle.index_core.proofs.Busy.{quiet_is_idle}
-use Rattle.index_core.proofs.LoneTurning.{turn_left_at, turn_left_begins, lone_turn_begins, lone_turn_flies, lone_turn_goes, lone_turn_ends, turned_same}
+use Rattle.index_core.proofs.LoneTurning.{turn_left_begins, lone_turn_begins, lone_turn_flies, lone_turn_goes, lone_turn_ends, turned_same}
 use Rattle.index_core.proofs.Retrying.{turned_short}
 use Rattle.index_core.proofs.index.Core.turn_alone.Goals as goal
 

@@ -2,7 +2,7 @@ use Rattle.std.proofs.Common.{◌≡◌, refl, sym, ◌∙◌, subst, arith}
 use Rattle.updater.specs.declared.terms.Turned.{Turned}
 use Rattle.index_core.specs.Turns.{TurnsAlone}
 use Rattle.index_core.proofs.Busy.{quiet_is_idle}
-use Rattle.index_core.proofs.LoneTurning.{lone_turn_begins, lone_turn_flies, lone_turn_goes, lone_turn_ends, turned_same}
+use Rattle.index_core.proofs.LoneTurning.{turn_left_begins, lone_turn_begins, lone_turn_flies, lone_turn_goes, lone_turn_ends, turned_same}
 use Rattle.index_core.proofs.Withins.{turn_cut}
 use Rattle.index_core.proofs.index.Core.turn_within.Goals as goal
 
@@ -11,11 +11,17 @@ unreachable-requires g c =
     absurd (quiet_is_idle c.args.self.now c.args.party c.requires.quiet (c.in_default.ensures.in_flight.0 refl))
 
 pub steps-init : goal.steps-init
-steps-init g c =
-    (lone_turn_begins c.args.self.now c.start_turn.new.self c.args.party c.args.stamp c.args.release c.start_turn.ensures.before c.requires.quiet c.requires.stamp c.ranges.stamp.fits c.in-Ok.ensures.started c.start_turn.ensures.index, refl)
+steps-init g c = (
+  lone_turn_begins c.args.self.now c.start_turn.new.self c.args.party c.args.stamp c.args.release c.start_turn.ensures.before c.requires.quiet c.requires.stamp c.ranges.stamp.fits c.in-Ok.ensures.started c.start_turn.ensures.index,
+  refl,
+  (let begins = turn_left_begins c.args.self.now c.start_turn.new.self c.args.party c.args.stamp c.args.release c.start_turn.ensures.before.lawful.row.layout.callers.0 c.in-Ok.ensures.started in omega (arith, begins)),
+)
 
 pub returns-then-budget-eq0-clause-turns : goal.returns-then-budget-eq0-clause-turns
 returns-then-budget-eq0-clause-turns g c = turn_cut c.args.self.now c.steps.self c.args.party c.args.stamp c.args.release c.steps.invariant.0
+
+pub returns-then-budget-eq0-clause-in_time : goal.returns-then-budget-eq0-clause-in_time
+returns-then-budget-eq0-clause-in_time g c = omega (arith, c.steps.invariant.1, c.steps.invariant.2, c.if-budget-eq0.true)
 
 pub step_turn-requires : goal.step_turn-requires
 step_turn-requires g c = record { turns = lone_turn_flies _ _ _ _ _ c.steps.invariant.0 }
@@ -24,6 +30,8 @@ pub steps-preserved : goal.steps-preserved
 steps-preserved g c = (
   (lone_turn_goes c.args.self.now c.steps.self c.step_turn.new.self c.args.party c.args.stamp c.args.release c.steps.invariant.0 c.step_turn.result c.step_turn.ensures.stepped c.step_turn.ensures.index c.in_default-step_turn.is).0,
   omega (arith, c.step_turn.ensures.tick, c.steps.invariant.1, c.if-budget-eq0.false),
+  (let less = (lone_turn_goes c.args.self.now c.steps.self c.step_turn.new.self c.args.party c.args.stamp c.args.release c.steps.invariant.0 c.step_turn.result c.step_turn.ensures.stepped c.step_turn.ensures.index c.in_default-step_turn.is).1 in
+      omega (arith, less, c.step_turn.ensures.tick, c.steps.invariant.2)),
 )
 
 pub steps-smaller : goal.steps-smaller
@@ -44,3 +52,6 @@ returns-in-Some-clause-turns g c =
 pub returns-in-Some-clause-quiet : goal.returns-in-Some-clause-quiet
 returns-in-Some-clause-quiet g c =
     (lone_turn_ends c.args.self.now c.steps.self c.step_turn.new.self c.args.party c.args.stamp c.args.release c.steps.invariant.0 c.step_turn.result c.step_turn.ensures.stepped c.step_turn.ensures.index c.in-Some.reply c.in-Some.is).3
+
+pub returns-in-Some-clause-in_time : goal.returns-in-Some-clause-in_time
+returns-in-Some-clause-in_time g c = omega (arith, c.step_turn.ensures.tick, c.steps.invariant.2)
