@@ -2,3 +2,4 @@ pub mod Settled
 mod Failing
 mod CrashMaps
 mod Played
+pub mod Turnless

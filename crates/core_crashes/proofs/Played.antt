@@ -26,6 +26,7 @@ use Rattle.shapes.specs.Runs.{IsFullInTime, opening}
 use Rattle.shapes.specs.ShapeRounds.{FullIsPaid, IsBoundedByShape, IsShapeWithin, RoundInShape, puts_added}
 use Rattle.shapes.proofs.PaidRounds.{timely_rounds_are_paid}
 use Rattle.shapes.proofs.RoundLemmas.{stops_within}
+use Rattle.stopped_rounds.specs.InTime.{AreInTime, AreOnNames, HasNoTurns}
 use Rattle.stopped_rounds.specs.Replies.{SettlesToReport}
 use Rattle.stopped_rounds.specs.Stops.{HasStopped}
 use Rattle.stopped_rounds.specs.declared.crash_round.StoppedRound.{StoppedRound}
@@ -47,11 +48,12 @@ use Rattle.index_core.proofs.Rounds.{round_is}
 use Rattle.core_rounds.specs.CoreMaps.{IsCoreMap}
 use Rattle.core_rounds.specs.Rounds.{IsLoneCrash}
 use Rattle.core_rounds.proofs.CoreMaps.{core_light, core_shape, opened_is_map}
-use Rattle.core_crashes.specs.CrashMaps.{Stoppable, anchors_by, members_by, members_of, state_of, weighs_of}
+use Rattle.core_crashes.specs.CrashMaps.{MakeNoTurns, Stoppable, anchors_by, members_by, members_of, most_events, state_of, weighs_of}
 use Rattle.core_crashes.specs.Power.{IsBehindCrash}
 use Rattle.core_crashes.specs.Rounds.{IsPlayedLoneCrash}
 use Rattle.core_crashes.specs.Stops.{StopsOn}
 use Rattle.core_crashes.proofs.Settled.{added-settled, answered-settled, calls-settled, names-found, paid-settled, told-settled, writes-settled}
+use Rattle.core_crashes.proofs.Turnless.{in_time-of, in_time-settled}
 
 -- ---- a core in which the round begins
 
@@ -117,8 +119,9 @@ has_budget caller callers budgets read within sizes same =
 pub stopped_on : (first : Anchors) (core new : Index) (m m' : Stoppable) (plan : RoundPlan) (budget : ℕ) (round : StoppedRound) → m ≡ record { index = core; stopped = false; placed = false } → new ≡ m'.index →
     core.history ≡ [] → first ≡ anchors_in (world core) → IsIndex new → new.layout ≡ core.layout → new.generation ≡ core.generation →
     HasStopped m.index.layout.slots m.index.layout.nodes plan.limit budget (state_of first m) plan.ops round.records (state_of first m') → round.writes ≡ length (writes_of round.records) →
-    All SettlesToReport round.records → weighs_of m' ≤ weighs_of m + puts_added round.records → StopsOn core plan budget round new
-stopped_on first core new m m' plan budget round is left begins anchors index layout generation stopped placed told weighs =
+    All SettlesToReport round.records → weighs_of m' ≤ weighs_of m + puts_added round.records → (MakeNoTurns core plan.ops → AreOnNames plan.ops → HasNoTurns plan → AreInTime most_events budget round.records) →
+    StopsOn core plan budget round new
+stopped_on first core new m m' plan budget round is left begins anchors index layout generation stopped placed told weighs in_time =
     let begin : Stoppable = record { index = core; stopped = false; placed = false } in
     let members : members_by first core ≡ anchors_in (world core) = ap (anchors_by core.layout.slots (map_of core.base) first) begins ∙ anchors in
     let here : HasStopped core.layout.slots core.layout.nodes plan.limit budget (state_of first begin) plan.ops round.records (state_of first m') =
@@ -134,6 +137,7 @@ stopped_on first core new m m' plan budget round is left begins anchors index la
           let before = ap weighs_of is in
           let after = ap (λ (n : Index). weight_sum (world n)) left in
           omega (arith, weighs, before, after);
+      in_time = in_time;
       index = index;
       layout = layout;
       generation = generation;
@@ -143,7 +147,7 @@ stopped_on first core new m m' plan budget round is left begins anchors index la
 
 module _ (core mid stopped next : Index) (plan : RoundPlan) (crash : CrashPlan) (caller budget : ℕ) (round : StoppedRound) (index : IsIndex core) (quiet : IsQuiet core) (stamps : HasLowStamps core)
     (begun : IsBegun core mid) (still : IsQuiet mid) (stops : StopsOn mid plan budget round stopped) (behind : IsBehindCrash crash.seed stopped next)
-    (lone : All (λ (a : CallerOp). a.caller ≡ caller) plan.ops) (has : slice_get crash.budgets caller ≡ Some budget) where
+    (lone : All (λ (a : CallerOp). a.caller ≡ caller) plan.ops) (has : slice_get crash.budgets caller ≡ Some budget) (turnless : MakeNoTurns core plan.ops → MakeNoTurns mid plan.ops) where
   abbrev base : Map
   base = map_of_index core
 
@@ -259,6 +263,8 @@ module _ (core mid stopped next : Index) (plan : RoundPlan) (crash : CrashPlan) 
         };
         within = subst (λ (n : ℕ). IsShapeWithin slots nodes (weight_of core + n) (len base + n) end (anchors_in (world next))) (sym same) within;
         weighs = omega (arith, light, same);
+        in_time = λ of given own gives none named still. in_time-settled end most_events given round.records
+            (in_time-of caller of budget given plan.ops crash.budgets most_events round.records lone own h.in_script_order has gives (stops.in_time (turnless none) named still));
         layout = layout_is;
         generation = behind.generation ∙ ap suc (stops.generation ∙ begun.generation);
         image = image;

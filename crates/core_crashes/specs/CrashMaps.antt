@@ -1,9 +1,11 @@
 -- The index, called by one caller within budgets of events, up to a call or a turn that is cut off, as a map of names.
-use Rattle.std.specs.Prelude.{◌≡◌, ℕ, ◌^◌, Bool, false, if◌then◌else◌, List, [], ◌∷◌, Option, Some, None, Result, Ok, Err, MatchResult}
+use Rattle.std.specs.Prelude.{◌≡◌, ℕ, ◌+◌, ◌≤◌, ◌^◌, Bool, false, if◌then◌else◌, List}
+use Rattle.std.specs.Prelude.{[], ◌∷◌, Option, Some, None, Result, Ok, Err, MatchResult}
 use Rattle.version_lock.specs.declared.TheConstants.{LAST_COUNT}
 use Rattle.cat_history.specs.Maps.{Map, map_of, at}
 use Rattle.cat_history.specs.Records.{as_op, change_of}
 use Rattle.cat_history.specs.Writes.{changed}
+use Rattle.cat_history.specs.declared.op.CallerOp.{CallerOp}
 use Rattle.cat_history.specs.declared.op.Change.{Change}
 use Rattle.cat_history.specs.declared.op.Change.TheVariants.{Put, Del}
 use Rattle.cat_history.specs.declared.op.NameOp.{NameOp}
@@ -20,10 +22,11 @@ use Rattle.index_core.specs.CoreCalls.{op_of}
 use Rattle.index_core.specs.Crashes.{cut_changes}
 use Rattle.index_core.specs.Fulls.{HasLowStamps}
 use Rattle.index_core.specs.Indexes.{Index, IsIndex, map_of_index, world}
-use Rattle.index_core.specs.Lone.{IsQuiet}
+use Rattle.index_core.specs.Lone.{HasShortWays, IsQuiet}
 use Rattle.index_core.specs.Weights.{added_if, put_count}
 use Rattle.index_law.specs.Weights.{weight_sum}
-use Rattle.core_rounds.specs.CoreMaps.{calls_left_of, writes_left_of}
+use Rattle.core_rounds.specs.CoreMaps.{Waits, calls_left_of, writes_left_of}
+use Rattle.core_rounds.specs.Waiting.{puts_among, writes_among}
 use Rattle.stopped_rounds.specs.Bounded.{MapState, IsSame, WasCut}
 use Rattle.stopped_rounds.specs.declared.bounded_map.Bounded.{Bounded}
 use Rattle.stopped_rounds.specs.declared.bounded_map.Bounded.TheVariants as bounded
@@ -71,6 +74,24 @@ writes_of m = if m.stopped then 2 ^ 62 else writes_left_of m.index
 -- What it weighs, with what deletes that aren't counted yet have lowered it by. A crash leaves no more.
 abbrev pub weighs_of : Stoppable → ℕ
 weighs_of m = weight_sum (world m.index)
+
+-- None of these calls, made one after another by any one caller, makes a turn of the updater itself: ways are short, for
+-- each put and delete there is an EMPTY log line of each caller, and for each put a FREE node; and when all are made no
+-- more than eight lines are READY.
+pub record MakeNoTurns (s : Index) (asked : List CallerOp) : Type 0 where
+  pub short : HasShortWays s
+  pub changes : ℕ
+  pub few : changes + writes_among asked ≤ 8
+  pub waits : Waits s changes (writes_among asked) (puts_among asked)
+
+-- Then a call on a name makes so many events at most, on the largest layout.
+abbrev pub most_events : ℕ
+most_events = 70000
+
+-- So it is where none was cut off.
+pub record IsTurnless (m : Stoppable) (asked : List CallerOp) : Type 0 where
+  pub going : m.stopped ≡ false
+  pub turnless : MakeNoTurns m.index asked
 
 -- Nothing is in flight, no node has a stamp that turns don't release, and the members begin where the writes say.
 pub record IsStill (first : Anchors) (s : Index) : Type 0 where

@@ -1,5 +1,5 @@
 -- A round of one caller that a crash ended, and the core that its image opens as.
-use Rattle.std.specs.Prelude.{◌≡◌, suc, ◌+◌, ◌≤◌, All}
+use Rattle.std.specs.Prelude.{◌≡◌, ℕ, suc, ◌+◌, ◌≤◌, All, Some, slice_get}
 use Rattle.std.specs.FinMap.{len}
 use Rattle.cat_history.specs.LoneRounds.{writes_of}
 use Rattle.cat_history.specs.Writes.{after_all}
@@ -14,7 +14,9 @@ use Rattle.index_core.specs.CrashLaws.{chosen_index, crash_image}
 use Rattle.index_core.specs.Indexes.{Index, map_of_index, world}
 use Rattle.index_core.specs.Weights.{weight_of}
 use Rattle.recovery.specs.Opened.{IsOpenedFrom}
+use Rattle.stopped_rounds.specs.InTime.{AreInTime, AreOnNames, HasNoTurns}
 use Rattle.core_rounds.specs.Rounds.{IsCrashedRound, IsLoneCrash}
+use Rattle.core_crashes.specs.CrashMaps.{MakeNoTurns, most_events}
 
 -- A round of one caller was played on the map of this core up to its crash, and reported; and the image was opened that
 -- the crash left. That has the map which is reported found, and a shape that the weight and the names before the round
@@ -30,6 +32,11 @@ pub record IsPlayedLoneCrash (core : Index) (plan : RoundPlan) (crash : CrashPla
   pub within : IsShapeWithin core.layout.slots core.layout.nodes (weight_of core + puts_added report.records)
       (len (map_of_index core) + puts_added report.records) (map_of_index next) (anchors_in (world next))
   pub weighs : weight_of next ≤ weight_of core + puts_added report.records
+  -- where neither the calls nor the updater make turns, each call on a name is answered for which, and for each one before
+  -- it, its caller's budget has 70,000 events
+  pub in_time : (caller budget : ℕ) → All (λ a. a.caller ≡ caller) plan.ops →
+      slice_get crash.budgets caller ≡ Some budget → MakeNoTurns core plan.ops → AreOnNames plan.ops → HasNoTurns plan →
+      AreInTime most_events budget report.records
   pub layout : next.layout ≡ core.layout
   pub generation : next.generation ≡ suc core.generation
   pub image : Row

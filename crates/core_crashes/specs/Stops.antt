@@ -8,9 +8,11 @@ use Rattle.index_law.specs.Anchors.{anchors_in}
 use Rattle.index_law.specs.Weights.{weight_sum}
 use Rattle.index_core.specs.Crashes.{cut_changes}
 use Rattle.index_core.specs.Indexes.{Index, IsIndex, map_of_index, world}
+use Rattle.stopped_rounds.specs.InTime.{AreInTime, AreOnNames, HasNoTurns}
 use Rattle.stopped_rounds.specs.Replies.{SettlesToReport}
 use Rattle.stopped_rounds.specs.Stops.{HasStopped}
 use Rattle.stopped_rounds.specs.declared.crash_round.StoppedRound.{StoppedRound}
+use Rattle.core_crashes.specs.CrashMaps.{MakeNoTurns, most_events}
 
 -- The round stopped within this budget, and its index is as the calls left it and what was cut off. A report can tell of
 -- its records once their marks are settled.
@@ -24,6 +26,8 @@ pub record StopsOn (core : Index) (plan : RoundPlan) (budget : ℕ) (round : Sto
   pub placed : round.writes ≡ length (writes_of round.records)
   pub told : All SettlesToReport round.records
   pub weighs : weight_sum (world new) ≤ weight_sum (world core) + puts_added round.records
+  pub in_time : MakeNoTurns core plan.ops → AreOnNames plan.ops → HasNoTurns plan →
+      AreInTime most_events budget round.records
   pub index : IsIndex new
   pub layout : new.layout ≡ core.layout
   pub generation : new.generation ≡ core.generation

@@ -1,14 +1,15 @@
 //! The core of the index as a map of names whose calls have a budget of events.
 
-ghost use Rattle.std.specs.Prelude.{◌≡◌, ℕ, ◌+◌, ◌<◌, ◌≤◌, [], IfOk, false};
-ghost use Rattle.cat_history.specs.Records.{change_of};
+ghost use Rattle.std.specs.Prelude.{◌≡◌, ℕ, ◌+◌, ◌<◌, ◌≤◌, List, [], ◌∷◌, IfOk, false};
+ghost use Rattle.cat_history.specs.Records.{as_op, change_of};
 ghost use Rattle.index_core.specs.CoreCalls.{most_writes, op_of};
 ghost use Rattle.index_core.specs.Indexes.{IsIndex};
 ghost use Rattle.index_core.specs.Listings.{ListsRange};
 ghost use Rattle.shapes.specs.Anchors.{next_of};
-ghost use Rattle.stopped_rounds.specs.Bounded.{ComesTo, IsSame};
+ghost use Rattle.cat_history.specs.declared.op.CallerOp.{CallerOp};
+ghost use Rattle.stopped_rounds.specs.Bounded.{ComesTo, IsInTime, IsSame};
 ghost use Rattle.core_rounds.specs.CoreMaps.{IsOfRun, IsUnlimited};
-ghost use Rattle.core_crashes.specs.CrashMaps.{Gave, IsStill, WasCutBy, added_within};
+ghost use Rattle.core_crashes.specs.CrashMaps.{Gave, IsStill, IsTurnless, WasCutBy, added_within, most_events};
 ghost use Rattle.index_core.specs.Fulls.{HasLowStamps};
 ghost use Rattle.index_core.specs.Lone.{IsQuiet};
 ghost use Rattle.index_law.specs.Anchors.{anchors_in};
@@ -130,6 +131,8 @@ impl<L: Ledger, K: CrashRun> CrashMap<L, K> {
         ensures calls_left { calls_of self.old ≤ calls_of self.new + 1 }
         ensures writes_left { writes_of self.old ≤ writes_of self.new + most_writes call }
         ensures weighs { weighs_of self.new ≤ weighs_of self.old + added_within (op_of call) result }
+        ensures in_time { (a : CallerOp) (rest : List CallerOp) → a.op ≡ as_op (op_of call) → IsTurnless self.old (a ∷ rest) →
+            IsInTime result most_events budget.old budget.new (IsTurnless self.new rest) }
     {
         if self.stopped {
             *budget = 0;
@@ -189,7 +192,7 @@ impl<L: Ledger, K: CrashRun> CrashMap<L, K> {
 }
 
 impl<L: Ledger, K: CrashRun> BoundedMap for CrashMap<L, K> {
-    ghost use Rattle.core_crashes.specs.CrashMaps.{calls_of, state_of, weighs_of, writes_of};
+    ghost use Rattle.core_crashes.specs.CrashMaps.{IsTurnless, calls_of, most_events, state_of, weighs_of, writes_of};
 
     ghost state = { state_of K.anchors };
 
@@ -202,6 +205,10 @@ impl<L: Ledger, K: CrashRun> BoundedMap for CrashMap<L, K> {
     ghost writes_left = { writes_of };
 
     ghost weighs = { weighs_of };
+
+    ghost turnless = { IsTurnless };
+
+    ghost call_events = { most_events };
 
     fn has_shape(&self) {
         // Its fields have what is known of it.

@@ -4,3 +4,4 @@ pub mod ScanStops
 pub mod Came
 pub mod Replying
 pub mod Stopping
+pub mod Timing

@@ -1,5 +1,5 @@
 -- What a call on a map comes to within a budget.
-use Rattle.std.specs.Prelude.{◌≡◌, ℕ, Bool, List, [], ◌∷◌, Option, Some, None, MatchBool, MatchResult, Result, Ok, Err}
+use Rattle.std.specs.Prelude.{◌≡◌, ℕ, ◌+◌, ◌<◌, ◌≤◌, Bool, List, [], ◌∷◌, Option, Some, None, MatchBool, MatchResult, Result, Ok, Err}
 use Rattle.std.specs.FinMap.{insert, remove}
 use Rattle.cat_history.specs.Maps.{Map, at}
 use Rattle.cat_history.specs.Writes.{changed}
@@ -14,6 +14,12 @@ use Rattle.stopped_rounds.specs.declared.bounded_map.Bounded.TheVariants as boun
 abbrev pub ComesTo : {T : Type 0} → Bounded T → (T → Type 0) → (Bool → Type 0) → Type 0
 ComesTo (bounded.Answered answer) answered cut = answered answer
 ComesTo (bounded.Cut placed) answered cut = cut placed
+
+-- It takes so many events at most: it was answered, has taken no more of its budget, and this holds behind it; or it was
+-- cut off, with a budget below that.
+abbrev pub IsInTime : {T : Type 0} → Bounded T → ℕ → ℕ → ℕ → Type 0 → Type 0
+IsInTime (bounded.Answered answer) most before after Then = (before ≤ after + most) × Then
+IsInTime (bounded.Cut placed) most before after Then = before < most
 
 -- A map and where its members begin, and the changes that were cut off and may be found or not.
 pub record MapState : Type 0 where

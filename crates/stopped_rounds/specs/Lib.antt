@@ -1,5 +1,6 @@
 pub mod MoreCuts
 pub mod LoneStops
 pub mod Bounded
+pub mod InTime
 pub mod Stops
 pub mod Replies

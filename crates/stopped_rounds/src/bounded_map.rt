@@ -1,13 +1,15 @@
 //! A map of names whose calls have a budget of events.
 
-ghost use Rattle.std.specs.Prelude.{◌≡◌, ◌+◌, ◌<◌, ◌≤◌, ◌^◌, [], ℕ, All, IfOk, take, MatchResult};
+ghost use Rattle.std.specs.Prelude.{◌≡◌, ◌+◌, ◌<◌, ◌≤◌, ◌^◌, [], ◌∷◌, ℕ, List, All, IfOk, take, MatchResult};
 ghost use Rattle.cat_key.specs.Names.{IsName};
 ghost use Rattle.cat_history.specs.Maps.{at};
 ghost use Rattle.cat_history.specs.Scans.{range};
 ghost use Rattle.cat_history.specs.declared.op.Change.TheVariants as change;
 ghost use Rattle.shapes.specs.Anchors.{next_of};
 ghost use Rattle.shapes.specs.Weights.{IsShape};
-ghost use Rattle.stopped_rounds.specs.Bounded.{ComesTo, DelGave, IsSame, PutGave, WasCut, put_added};
+ghost use Rattle.cat_history.specs.declared.op.CallerOp.{CallerOp};
+ghost use Rattle.cat_history.specs.declared.op.Op.TheVariants as Op;
+ghost use Rattle.stopped_rounds.specs.Bounded.{ComesTo, DelGave, IsInTime, IsSame, PutGave, WasCut, put_added};
 
 use cat_history::NoMemory;
 use cat_key::Name;
@@ -26,6 +28,8 @@ pub enum Bounded<T> {
 /// which isn't 0 as it begins, and is cut off where that is used up. Then no call is made any more.
 pub trait BoundedMap {
     ghost use Rattle.std.specs.Prelude.{ℕ};
+    ghost use Rattle.std.specs.Prelude.{List};
+    ghost use Rattle.cat_history.specs.declared.op.CallerOp.{CallerOp};
     ghost use Rattle.stopped_rounds.specs.Bounded.{MapState};
 
     /// The map, however it is kept, where its members begin, and the changes that were cut off without a place.
@@ -47,10 +51,18 @@ pub trait BoundedMap {
     /// and so does one that is cut off.
     ghost weighs: { Self → ℕ };
 
-    /// Its members are of a shape that they can have. It does nothing.
+    /// Whether none of these calls, made one after another with no turn of the updater between, makes one itself.
+    ghost turnless: { Self → List CallerOp → Type 0 };
+
+    /// So many events a call on a name makes at most that makes no turn of the updater.
+    ghost call_events: { ℕ };
+
+    /// Its members are of a shape that they can have, and where calls make no turns, those behind the first of them make
+    /// none without it. It does nothing.
     fn has_shape(&self)
         requires { (state self.now).cut ≡ [] }
-        ensures { IsShape (slots self.now) (most self.now) (state self.now).contents (state self.now).anchors };
+        ensures shape { IsShape (slots self.now) (most self.now) (state self.now).contents (state self.now).anchors }
+        ensures fewer { (a : CallerOp) (rest : List CallerOp) → turnless self.now (a ∷ rest) → turnless self.now rest };
 
     /// The number of a name.
     fn get(&mut self, name: &Name, budget: &mut u64) -> Bounded<Option<u64>>
@@ -60,6 +72,9 @@ pub trait BoundedMap {
         ensures same { IsSame (state self.old) (state self.new) }
         ensures ends { ComesTo result (λ number. number ≡ at (state self.old).contents name.now)
             (λ placed. budget.new ≡ 0) }
+        ensures in_time { (a : CallerOp) (rest : List CallerOp) → a.op ≡ Op.Get name.now →
+            turnless self.old (a ∷ rest) →
+            IsInTime result call_events budget.old budget.new (turnless self.new rest) }
         ensures slots { slots self.new ≡ slots self.old }
         ensures most { most self.new ≡ most self.old }
         ensures calls_left { calls_left self.old ≤ calls_left self.new + 1 }
@@ -106,6 +121,9 @@ pub trait BoundedMap {
             (λ answer. PutGave (slots self.old) (most self.old) (state self.old) name.now value answer (state self.new))
             (λ placed. (budget.new ≡ 0) ×
             WasCut (state self.old) (change.Put name.now value) placed (state self.new)) }
+        ensures in_time { (a : CallerOp) (rest : List CallerOp) → a.op ≡ Op.Put name.now value →
+            turnless self.old (a ∷ rest) →
+            IsInTime result call_events budget.old budget.new (turnless self.new rest) }
         ensures slots { slots self.new ≡ slots self.old }
         ensures most { most self.new ≡ most self.old }
         ensures calls_left { calls_left self.old ≤ calls_left self.new + 1 }
@@ -122,6 +140,9 @@ pub trait BoundedMap {
             (λ answer. DelGave (slots self.old) (state self.old) name.now answer (state self.new))
             (λ placed. (budget.new ≡ 0) ×
             WasCut (state self.old) (change.Del name.now) placed (state self.new)) }
+        ensures in_time { (a : CallerOp) (rest : List CallerOp) → a.op ≡ Op.Del name.now →
+            turnless self.old (a ∷ rest) →
+            IsInTime result call_events budget.old budget.new (turnless self.new rest) }
         ensures slots { slots self.new ≡ slots self.old }
         ensures most { most self.new ≡ most self.old }
         ensures calls_left { calls_left self.old ≤ calls_left self.new + 1 }

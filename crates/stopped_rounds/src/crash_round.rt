@@ -1,6 +1,6 @@
 //! Running a round in which one caller alone has calls, within a budget.
 
-ghost use Rattle.std.specs.Prelude.{◌≡◌, ℕ, ◌+◌, ◌*◌, ◌<◌, ◌≤◌, ◌^◌, ◌↔◌, List, [], if◌then◌else◌, is_some, length};
+ghost use Rattle.std.specs.Prelude.{◌≡◌, ℕ, ◌+◌, ◌*◌, ◌<◌, ◌≤◌, ◌^◌, ◌↔◌, ◌⊎◌, List, [], ◌∷◌, if◌then◌else◌, is_some, length};
 ghost use Rattle.std.specs.Prelude.{All, IfOk, IfSome, IsTrue, MatchResult, None, true};
 ghost use Rattle.cat_history.specs.Records.{mark_place};
 ghost use Rattle.cat_history.specs.LoneRounds.{write_of, writes_of};
@@ -9,6 +9,8 @@ ghost use Rattle.cat_text.specs.ReportGrammar.{IsReportOp, IsReportPart};
 ghost use Rattle.shapes.specs.Anchors.{next_of, past};
 ghost use Rattle.shapes.specs.ShapeRounds.{one_added, puts_added};
 ghost use Rattle.stopped_rounds.specs.Bounded.{ComesTo, IsSame};
+ghost use Rattle.cat_history.specs.declared.op.CallerOp.{CallerOp};
+ghost use Rattle.stopped_rounds.specs.InTime.{AreInTime, AreOnNames, HasNoTurns, IsOnName, RepliesInTime};
 ghost use Rattle.stopped_rounds.specs.Replies.{IsLate, IsTold, Replies, SettlesToReport, write_mark};
 ghost use Rattle.cat_history.specs.declared.op.Op.TheVariants as Op;
 ghost use Rattle.cat_history.specs.declared.record.Reply.TheVariants as Reply;
@@ -55,6 +57,9 @@ pub fn run_crash_round<M: BoundedMap>(
     // Once its marks are settled, a report can tell of it.
     ensures told { IfOk result (λ round. All SettlesToReport round.records) }
     ensures weighs { IfOk result (λ round. M.weighs map.new ≤ M.weighs map.old + puts_added round.records) }
+    // Where neither the calls nor the updater make turns, each call is answered for which the budget is enough.
+    ensures in_time { IfOk result (λ round. 0 < M.call_events → M.turnless map.old plan.now.ops → AreOnNames plan.now.ops →
+        HasNoTurns plan.now → AreInTime M.call_events budget round.records) }
 {
     let asked = plan.ops.as_slice();
     let mut records = Vec::with_capacity(alloc, asked.len())?;
@@ -91,6 +96,7 @@ fn turn_if_due<M: BoundedMap>(map: &mut M, turns: u64, calls: u64, left: u64, bu
     ensures calls_left { M.calls_left map.old ≤ M.calls_left map.new }
     ensures writes_left { M.writes_left map.old ≤ M.writes_left map.new }
     ensures weighs { M.weighs map.new ≤ M.weighs map.old }
+    ensures none { (turns ≡ 0) ⊎ ((0 < calls) × (calls < turns)) → map.new ≡ map.old }
 {
     if left == 0 {
         return;
@@ -121,15 +127,18 @@ fn reply_to<M: BoundedMap>(
     ensures calls_left { M.calls_left map.old ≤ M.calls_left map.new + M.most map.old }
     ensures writes_left { M.writes_left map.old ≤ M.writes_left map.new + 1 }
     ensures weighs { IfOk result (λ reply. M.weighs map.new ≤ M.weighs map.old + one_added op.now reply) }
+    ensures in_time { IfOk result (λ reply. (a : CallerOp) (rest : List CallerOp) → a.op ≡ op.now → IsOnName a.op →
+        0 < budget.old → M.turnless map.old (a ∷ rest) →
+        RepliesInTime M.call_events budget.old reply budget.new (M.turnless map.new rest)) }
 {
     if *budget == 0 {
         return Ok(Reply::Unstarted);
     }
+    // So there are no more members than calls are left, and one member at least.
+    map.has_shape();
     if comes_late(op, place, limit) {
         return Ok(Reply::Spent { clock: place });
     }
-    // So there are no more members than calls are left, and one member at least.
-    map.has_shape();
     match op {
         Op::Put { name, value } => Ok(put_reply(map.put(name, *value, budget), place)),
         Op::Get { name } => Ok(get_reply(map.get(name, budget), place)),

@@ -5,6 +5,7 @@ use Rattle.cat_history.specs.declared.op.CallerOp.{CallerOp}
 use Rattle.cat_key.specs.declared.Pair.{Pair}
 use Rattle.pm_words.specs.declared.layout.Layout.{Layout}
 use Rattle.core_crashes.proofs.Played.{begun, begun_index, begun_quiet, begun_stamps, caller_within, crash_played, has_budget}
+use Rattle.core_crashes.proofs.Turnless.{begun_turnless}
 use Rattle.core_crashes.proofs.round.crash_round.Goals as goal
 
 pub offset_bounds-as_slice-caller : goal.offset_bounds-as_slice-caller
@@ -45,5 +46,6 @@ returns c =
     (begun_quiet c.args.core c.new_round.new.self mid c.in_ok-new_round.ensures.ok c.reserve.ensures.kept c.new_round.ensures.quiet)
     c.in_ok-round.ensures c.in_ok-core.ensures lone
     (has_budget c.lone_caller-caller.result c.args.core.layout.callers c.args.crash.now.budgets c.as_slice-2.result.now within c.requires.budgets c.as_slice-2.ensures)
+    (begun_turnless c.args.core c.new_round.new.self mid c.in_ok-new_round.ensures.ok c.reserve.ensures.kept c.new_round.ensures.short c.args.plan.now.ops)
     (length c.as_slice-4.result.now) (ap length (c.as_slice-4.ensures ∙ c.base-2.ensures)) (search arith) (search arith) c.settle.new.records
     (c.settle.ensures ∙ ap (λ (pairs : List Pair). all_settled (map_of pairs) round.records) c.base.ensures)

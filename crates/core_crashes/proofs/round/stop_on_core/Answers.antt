@@ -1,5 +1,5 @@
-use Rattle.std.proofs.Common.{sym, ◌∙◌, ap}
-use Rattle.core_crashes.specs.CrashMaps.{Stoppable, state_of}
+use Rattle.std.proofs.Common.{refl, sym, ◌∙◌, ap, subst, arith}
+use Rattle.core_crashes.specs.CrashMaps.{IsTurnless, Stoppable, state_of}
 use Rattle.core_crashes.proofs.CrashMaps.{quiet_none}
 use Rattle.core_crashes.proofs.Played.{stopped_on}
 use Rattle.core_crashes.proofs.round.stop_on_core.Goals as goal
@@ -16,3 +16,4 @@ returns g c =
     let new = c.into_core.ensures in
     stopped_on g.K.CrashRun.anchors c.args.core c.into_core.result c.of_core-map.result c.run_crash_round.new.map c.args.plan.now c.args.budget c.in_ok-round.round c.of_core-map.ensures new.core
     c.requires.begins c.requires.anchors new.index (new.run.layout ∙ sym c.requires.run.layout) (new.run.generation ∙ sym c.requires.run.generation) told.stopped told.placed told.told told.weighs
+    (λ easy named none. told.in_time (omega arith) (subst (λ (m : Stoppable). IsTurnless m c.args.plan.now.ops) (sym c.of_core-map.ensures) (record { going = refl; turnless = easy })) named none)

@@ -1,38 +1,40 @@
-use Rattle.std.proofs.Common.{◌+◌, ◌<◌, ◌≤◌, refl, sym, subst, arith}
+use Rattle.std.proofs.Common.{◌∙◌, ◌+◌, ◌<◌, ◌≤◌, inl, refl, sym, subst, arith}
 use Rattle.cat_history.specs.declared.op.Op.{Op}
 use Rattle.cat_history.specs.declared.record.Reply.TheVariants.{Parts}
 use Rattle.shapes.specs.ShapeRounds.{one_added}
 use Rattle.stopped_rounds.specs.Replies.{IsLate, IsTold, Replies}
 use Rattle.stopped_rounds.proofs.ScanStops.{parts-fit}
 use Rattle.stopped_rounds.proofs.Replying.{put_weighs, put_replies, del_replies, get_replies, scan_replies}
+use Rattle.stopped_rounds.specs.InTime.{IsOnName}
+use Rattle.stopped_rounds.proofs.Timing.{old_in_time, put_in_time}
 use Rattle.stopped_rounds.proofs.crash_round.reply_to.Goals as goal
 
 pub put-requires-clause-calls : goal.put-requires-clause-calls
-put-requires-clause-calls g c = omega (arith, c.requires.calls, parts-fit _ _ _ _ c.in-Put.name c.has_shape.ensures)
+put-requires-clause-calls g c = omega (arith, c.requires.calls, parts-fit _ _ _ _ c.in-Put.name c.has_shape.ensures.shape)
 
 pub get-requires-clause-calls : goal.get-requires-clause-calls
-get-requires-clause-calls g c = omega (arith, c.requires.calls, parts-fit _ _ _ _ c.in-Get.name c.has_shape.ensures)
+get-requires-clause-calls g c = omega (arith, c.requires.calls, parts-fit _ _ _ _ c.in-Get.name c.has_shape.ensures.shape)
 
 pub del-requires-clause-calls : goal.del-requires-clause-calls
-del-requires-clause-calls g c = omega (arith, c.requires.calls, parts-fit _ _ _ _ c.in-Del.name c.has_shape.ensures)
+del-requires-clause-calls g c = omega (arith, c.requires.calls, parts-fit _ _ _ _ c.in-Del.name c.has_shape.ensures.shape)
 
 pub scan-requires-clause-calls : goal.scan-requires-clause-calls
-scan-requires-clause-calls g c = omega (arith, c.requires.calls, parts-fit _ _ _ _ c.in-Scan.from c.has_shape.ensures)
+scan-requires-clause-calls g c = omega (arith, c.requires.calls, parts-fit _ _ _ _ c.in-Scan.from c.has_shape.ensures.shape)
 
 pub returns-in_err-parts-in-Scan-clause-calls_left : goal.returns-in_err-parts-in-Scan-clause-calls_left
-returns-in_err-parts-in-Scan-clause-calls_left g c = omega (arith, c.scan.ensures.calls_left, parts-fit _ _ _ _ c.in-Scan.from c.has_shape.ensures)
+returns-in_err-parts-in-Scan-clause-calls_left g c = omega (arith, c.scan.ensures.calls_left, parts-fit _ _ _ _ c.in-Scan.from c.has_shape.ensures.shape)
 
 pub returns-in_ok-parts-in-Scan-clause-calls_left : goal.returns-in_ok-parts-in-Scan-clause-calls_left
-returns-in_ok-parts-in-Scan-clause-calls_left g c = omega (arith, c.scan.ensures.calls_left, parts-fit _ _ _ _ c.in-Scan.from c.has_shape.ensures)
+returns-in_ok-parts-in-Scan-clause-calls_left g c = omega (arith, c.scan.ensures.calls_left, parts-fit _ _ _ _ c.in-Scan.from c.has_shape.ensures.shape)
 
 pub returns-in-Put-clause-calls_left : goal.returns-in-Put-clause-calls_left
-returns-in-Put-clause-calls_left g c = omega (arith, c.put.ensures.calls_left, parts-fit _ _ _ _ c.in-Put.name c.has_shape.ensures)
+returns-in-Put-clause-calls_left g c = omega (arith, c.put.ensures.calls_left, parts-fit _ _ _ _ c.in-Put.name c.has_shape.ensures.shape)
 
 pub returns-in-Get-clause-calls_left : goal.returns-in-Get-clause-calls_left
-returns-in-Get-clause-calls_left g c = omega (arith, c.get.ensures.calls_left, parts-fit _ _ _ _ c.in-Get.name c.has_shape.ensures)
+returns-in-Get-clause-calls_left g c = omega (arith, c.get.ensures.calls_left, parts-fit _ _ _ _ c.in-Get.name c.has_shape.ensures.shape)
 
 pub returns-in-Del-clause-calls_left : goal.returns-in-Del-clause-calls_left
-returns-in-Del-clause-calls_left g c = omega (arith, c.del.ensures.calls_left, parts-fit _ _ _ _ c.in-Del.name c.has_shape.ensures)
+returns-in-Del-clause-calls_left g c = omega (arith, c.del.ensures.calls_left, parts-fit _ _ _ _ c.in-Del.name c.has_shape.ensures.shape)
 
 pub returns-in-Put-clause-reply : goal.returns-in-Put-clause-reply
 returns-in-Put-clause-reply g c =
@@ -76,3 +78,24 @@ returns-in-Put-clause-weighs g c =
 
 pub returns-in-Put-clause-told : goal.returns-in-Put-clause-told
 returns-in-Put-clause-told g c = subst (λ (op : Op). IsTold op c.put_reply.result) (sym c.in-Put.is) (c.put_reply.ensures.told c.in-Put.name c.in-Put.value)
+
+pub returns-then-budget-eq0-clause-in_time : goal.returns-then-budget-eq0-clause-in_time
+returns-then-budget-eq0-clause-in_time g c = λ a rest same named some turnless. absurd (omega (arith, some, c.if-budget-eq0.true))
+
+pub returns-then-comes_late-clause-in_time : goal.returns-then-comes_late-clause-in_time
+returns-then-comes_late-clause-in_time g c = λ a rest same named some turnless. inl (tt, omega arith, c.has_shape.ensures.fewer a rest turnless)
+
+pub returns-in-Put-clause-in_time : goal.returns-in-Put-clause-in_time
+returns-in-Put-clause-in_time g c = λ a rest same named some turnless.
+    put_in_time g.M.BoundedMap.call_events c.args.budget.now c.put.new.budget (g.M.BoundedMap.turnless c.put.new.self rest) c.put.result c.args.place c.put_reply.result _ c.put_reply.ensures.reply (c.put.ensures.in_time a rest (same ∙ c.in-Put.is) turnless)
+
+pub returns-in-Get-clause-in_time : goal.returns-in-Get-clause-in_time
+returns-in-Get-clause-in_time g c = λ a rest same named some turnless.
+    old_in_time g.M.BoundedMap.call_events c.args.budget.now c.get.new.budget (g.M.BoundedMap.turnless c.get.new.self rest) c.get.result c.args.place c.get_reply.result _ c.get_reply.ensures.reply (c.get.ensures.in_time a rest (same ∙ c.in-Get.is) turnless)
+
+pub returns-in-Del-clause-in_time : goal.returns-in-Del-clause-in_time
+returns-in-Del-clause-in_time g c = λ a rest same named some turnless.
+    old_in_time g.M.BoundedMap.call_events c.args.budget.now c.del.new.budget (g.M.BoundedMap.turnless c.del.new.self rest) c.del.result c.args.place c.del_reply.result _ c.del_reply.ensures.reply (c.del.ensures.in_time a rest (same ∙ c.in-Del.is) turnless)
+
+pub returns-in_ok-parts-in-Scan-clause-in_time : goal.returns-in_ok-parts-in-Scan-clause-in_time
+returns-in_ok-parts-in-Scan-clause-in_time g c = λ a rest same named some turnless. absurd (subst IsOnName (same ∙ c.in-Scan.is) named)

@@ -1,7 +1,9 @@
-use Rattle.std.proofs.Common.{◌≡◌, ◌+◌, ◌*◌, ◌≤◌, length, take, vec_len, All}
+use Rattle.std.proofs.Common.{◌≡◌, ◌+◌, ◌*◌, ◌<◌, ◌≤◌, drop, length, take, vec_len, All}
 use Rattle.std.specs.Vec.{vec_capacity}
 use Rattle.shapes.specs.ShapeRounds.{puts_added}
 use Rattle.stopped_rounds.specs.Replies.{SettlesToReport}
+use Rattle.stopped_rounds.specs.InTime.{AreInTime, AreOnNames, HasNoTurns}
+use Rattle.stopped_rounds.proofs.Timing.{HasLeft}
 use Rattle.stopped_rounds.proofs.Stopping.{Stopping}
 use Rattle.stopped_rounds.proofs.crash_round.run_crash_round.Given as goal
 
@@ -18,6 +20,8 @@ invariant-loop-index g l =
       writes_left : M.writes_left l.fn.map ≤ M.writes_left l.map + l.index;
       weighs_so : M.weighs l.map ≤ M.weighs l.fn.map + puts_added l.records.items;
       told : All SettlesToReport l.records.items;
+      in_time : 0 < M.call_events → M.turnless l.fn.map l.plan.ops → AreOnNames l.plan.ops → HasNoTurns l.plan →
+          AreInTime M.call_events l.budget l.records.items × HasLeft M.call_events l.budget l.left l.index (M.turnless l.map (drop l.index l.plan.ops));
       made : vec_len l.records ≡ l.index;
       reserved : length l.asked ≤ vec_capacity l.records;
     }

@@ -1,4 +1,4 @@
-use Rattle.std.proofs.Common.{◌≡◌, ◌+◌, ◌<◌, ◌≤◌, ℕ, length, inl, inr, [], true, arith, refl, sym, subst}
+use Rattle.std.proofs.Common.{◌≡◌, ◌+◌, ◌<◌, ◌≤◌, ℕ, length, inl, inr, [], ◌∷◌, true, arith, refl, sym, ap, ◌∙◌, subst}
 use Rattle.std.specs.Prelude.{Option, Result, Ok, Err, nat_lt}
 use Rattle.shapes.specs.declared.map.Full.{Full}
 use Rattle.stopped_rounds.specs.declared.bounded_map.Bounded.{Bounded}
@@ -9,8 +9,12 @@ use Rattle.index_core.specs.CoreCalls.{most_writes, op_of}
 use Rattle.index_core.specs.Lone.{whole_of}
 use Rattle.stopped_rounds.specs.Bounded.{ComesTo}
 use Rattle.core_rounds.proofs.CoreMaps.{goes_through, same_run, writes_fall}
-use Rattle.core_crashes.specs.CrashMaps.{Gave, Stoppable, WasCutBy, added_within, calls_of, state_of, weighs_of, writes_of}
+use Rattle.core_crashes.specs.CrashMaps.{Gave, IsTurnless, Stoppable, WasCutBy, added_within, calls_of, most_events, state_of, weighs_of, writes_of}
 use Rattle.core_crashes.proofs.CrashMaps.{few_calls, calls_are, cut_name, cut_weighs, gave, gave_weighs, some_calls, still, writes_are, writes_now}
+use Rattle.std.proofs.lemmas.Bool.{false≢true}
+use Rattle.pm_words.specs.declared.layout.Layout.{Layout}
+use Rattle.stopped_rounds.specs.Bounded.{IsInTime}
+use Rattle.core_crashes.proofs.Turnless.{answered_in_time, cut_in_time}
 use Rattle.core_crashes.proofs.crash_map.CrashMap.name_call.Goals as goal
 use Rattle.core_crashes.proofs.crash_map.CrashMap.name_call.Goals.{in-Done, in-Again}
 
@@ -101,3 +105,30 @@ returns-clause-weighs g c =
       | in-Done w ↦ subst (λ (r : Bounded (Result (Option ℕ) Full)). weighs_of left ≤ weighs_of (record { index = c.self.inside.core; stopped = c.self.inside.stopped; placed = c.self.inside.placed }) + added_within (op_of c.args.call) r) (sym w.result-is) (light (Ok w.in-Done.placed.old) (inl (w.in-Done.placed, w.in-Done.is, refl)))
       | in-Again w ↦ subst (λ (r : Bounded (Result (Option ℕ) Full)). weighs_of left ≤ weighs_of (record { index = c.self.inside.core; stopped = c.self.inside.stopped; placed = c.self.inside.placed }) + added_within (op_of c.args.call) r) (sym w.result-is) (light (Err (record {})) (inr (_, w.in-Again.is, refl)))
     ])
+
+pub returns-then-self-clause-in_time : goal.returns-then-self-clause-in_time
+returns-then-self-clause-in_time g c = λ a rest same turnless. absurd (false≢true (sym turnless.going ∙ sym (ap (λ (m : Stoppable). m.stopped) c.self.view_is) ∙ c.if-self.true))
+
+pub returns-in_default-clause-in_time : goal.returns-in_default-clause-in_time
+returns-in_default-clause-in_time g c = λ a rest same turnless.
+    let old = subst (λ (m : Stoppable). IsTurnless m (a ∷ rest)) (sym c.self.view_is) turnless in
+    let calls = some_calls g.K.CrashRun.anchors c.self.inside.core c.self.inside.stopped c.self.inside.placed c.self.invariant.0 c.if-self.false (subst (λ (m : Stoppable). 0 < calls_of m) (sym c.self.view_is) c.requires.calls) in
+    let here = still g.K.CrashRun.anchors c.self.inside.core c.self.inside.stopped c.self.inside.placed c.self.invariant.0 c.if-self.false in
+    let within = subst (λ (l : Layout). c.self.inside.caller < l.callers) (sym c.self.invariant.1.layout) c.self.invariant.2 in
+    cut_in_time c.self.inside.core c.self.inside.caller c.args.call a rest within c.self.invariant.0.index here.quiet calls c.requires.unlimited same old.turnless c.args.budget.now c.self.inside.steps c.name_within.new.steps c.in_default.ensures.in_time
+
+pub returns-clause-in_time : goal.returns-clause-in_time
+returns-clause-in_time g c = λ a rest same turnless.
+    let old = subst (λ (m : Stoppable). IsTurnless m (a ∷ rest)) (sym c.self.view_is) turnless in
+    let calls = some_calls g.K.CrashRun.anchors c.self.inside.core c.self.inside.stopped c.self.inside.placed c.self.invariant.0 c.if-self.false (subst (λ (m : Stoppable). 0 < calls_of m) (sym c.self.view_is) c.requires.calls) in
+    let here = still g.K.CrashRun.anchors c.self.inside.core c.self.inside.stopped c.self.inside.placed c.self.invariant.0 c.if-self.false in
+    let within = subst (λ (l : Layout). c.self.inside.caller < l.callers) (sym c.self.invariant.1.layout) c.self.invariant.2 in
+    let left : Stoppable = record { index = c.name_within.new.self; stopped = c.self.inside.stopped; placed = c.self.inside.placed } in
+    let both = answered_in_time c.self.inside.core c.self.inside.caller c.args.call a rest within c.self.invariant.0.index here.quiet calls c.requires.unlimited same old.turnless c.name_within.new.self c.in-Some.answer c.in-Some.ensures.runs.runs
+    c.args.budget.now c.name_within.new.budget c.self.inside.steps c.name_within.new.steps c.in-Some.ensures.in_time c.name_within.ensures.events in
+    elim c.match-answer.branch [
+      | in-Done w ↦ subst (λ (r : Bounded (Result (Option ℕ) Full)). IsInTime r most_events c.args.budget.now c.name_within.new.budget (IsTurnless left rest)) (sym w.result-is)
+          (let done = both (inl (w.in-Done.placed, w.in-Done.is)) in (done.0, record { going = c.if-self.false; turnless = done.1 }))
+      | in-Again w ↦ subst (λ (r : Bounded (Result (Option ℕ) Full)). IsInTime r most_events c.args.budget.now c.name_within.new.budget (IsTurnless left rest)) (sym w.result-is)
+          (let full = both (inr (_, w.in-Again.is)) in (full.0, record { going = c.if-self.false; turnless = full.1 }))
+    ]

@@ -1,0 +1,238 @@
+-- Calls that make no turns of the updater: how many events each takes of its budget, and what it leaves to those behind it.
+use Rattle.std.proofs.Common.{◌≡◌, ℕ, ◌+◌, ◌*◌, ◌<◌, ◌≤◌, ◌==◌, ◌⊎◌, ⊎_elim, Bool, true, false, List, [], ◌∷◌, length, map, All, refl, sym, ap, subst, ◌∙◌, arith}
+use Rattle.std.proofs.lemmas.List.Sums.{sum_by-cons}
+use Rattle.std.proofs.lemmas.Option.{slice_get-map, slice_get_within}
+use Rattle.std.specs.Prelude.{Option, Some, None, option_map, slice_get}
+use Rattle.cat_history.specs.Maps.{Map}
+use Rattle.cat_history.specs.Records.{as_op, call_of, numbered}
+use Rattle.cat_history.specs.Rounds.{IsAnswered}
+use Rattle.cat_history.specs.CrashRounds.{all_settled, settled, settled_reply}
+use Rattle.cat_history.specs.declared.op.CallerOp.{CallerOp}
+use Rattle.cat_history.specs.declared.op.Op.{Op}
+use Rattle.cat_history.specs.declared.record.Record.{Record}
+use Rattle.cat_history.specs.declared.record.Reply.{Reply}
+use Rattle.cat_history.specs.declared.record.Reply.TheVariants.{Old, Parts, Full, Spent, Cut, Unstarted}
+use Rattle.pm_words.specs.declared.again.Again.{Again}
+use Rattle.pm_words.specs.declared.layout.Layout.{Layout}
+use Rattle.pm_words.specs.Locations.{Cached, Clock}
+use Rattle.pm_words.proofs.Apart.{at-set_other}
+use Rattle.call_stages.specs.declared.once.Once.{Once}
+use Rattle.call_stages.specs.declared.once.Once.TheVariants as once
+use Rattle.call_stages.specs.declared.once.Placed.{Placed}
+use Rattle.lone_turn.specs.CallLogs.{empty_lines, ready_lines}
+use Rattle.lone_turn.specs.LoneTurns.{line_state}
+use Rattle.turn_law.specs.Covers.{empty_state, ready_state}
+use Rattle.turn_row.specs.Columns.{line_count, line_word}
+use Rattle.turn_row.proofs.RowColumns.{column-same}
+use Rattle.updater.specs.Events.{how_many}
+use Rattle.index_core.specs.CoreCalls.{most_writes, op_of}
+use Rattle.index_core.specs.Costs.{WithMost, most_actions}
+use Rattle.index_core.specs.Indexes.{Index, IsIndex, map_of_index, world}
+use Rattle.index_core.specs.Lone.{HasShortWays, IsQuiet, NeedsNoTurn, RunsAlone, taken_nodes, whole_of}
+use Rattle.index_core.specs.Rounds.{BeginsRound, round_index}
+use Rattle.index_core.specs.Withins.{ComesInTime}
+use Rattle.index_core.specs.declared.party.CoreCall.{CoreCall}
+use Rattle.index_core.specs.declared.party.CoreCall.TheVariants as call
+use Rattle.index_core.proofs.Costs.{actions_are_few}
+use Rattle.index_core.proofs.Taken.{taken_kept}
+use Rattle.shapes.specs.Anchors.{merges, splits}
+use Rattle.index_law.specs.Anchors.{anchors_in}
+use Rattle.stopped_rounds.specs.InTime.{AreInTime, AreOnNames, HasNoTurns}
+use Rattle.core_rounds.specs.CoreMaps.{IsUnlimited, Waits, calls_left_of, changes_for, puts_for}
+use Rattle.core_rounds.specs.Waiting.{one_if, one_put, one_write, puts_among, writes_among}
+use Rattle.core_rounds.proofs.Waiting.{needs_none, waits_full, waits_placed}
+use Rattle.core_crashes.specs.CrashMaps.{IsTurnless, MakeNoTurns, Stoppable, most_events}
+
+-- ---- the calls, counted
+
+one_so : (c : CoreCall) (op : Op) → IsUnlimited c → op ≡ as_op (op_of c) → (one_write op ≡ most_writes c) × (one_put op ≡ puts_for c)
+one_so (call.Put name value limit) op unlimited same = (ap one_write same, ap one_put same)
+one_so (call.Get name) op unlimited same = (ap one_write same, ap one_put same)
+one_so (call.Del name limit) op unlimited same = (ap one_write same, ap one_put same)
+one_so (call.Part low count) op unlimited same = absurd unlimited
+one_so (call.Recheck node version) op unlimited same = absurd unlimited
+one_so (call.Turn stamp release) op unlimited same = absurd unlimited
+
+writes_more : (a : CallerOp) (rest : List CallerOp) → writes_among (a ∷ rest) ≡ one_write a.op + writes_among rest
+writes_more a rest = sum_by-cons (λ (b : CallerOp). one_write b.op) a rest
+
+puts_more : (a : CallerOp) (rest : List CallerOp) → puts_among (a ∷ rest) ≡ one_put a.op + puts_among rest
+puts_more a rest = sum_by-cons (λ (b : CallerOp). one_put b.op) a rest
+
+-- room for more calls is room for those behind the first of them
+pub fewer_turns : (s : Index) (a : CallerOp) (rest : List CallerOp) → MakeNoTurns s (a ∷ rest) → MakeNoTurns s rest
+fewer_turns s a rest m =
+    let writes = writes_more a rest in
+    let puts = puts_more a rest in
+    let few = m.few in
+    let nodes = m.waits.nodes in
+    record {
+      short = m.short;
+      changes = m.changes;
+      few = omega (arith, few, writes);
+      waits = record { ready = m.waits.ready; lines = λ caller here. (let lines = m.waits.lines caller here in omega (arith, lines, writes)); nodes = omega (arith, nodes, puts) };
+    }
+
+-- ---- one call
+
+changes_few : (s : Index) (c : CoreCall) → IsUnlimited c → changes_for s c ≤ most_writes c
+changes_few s (call.Put name value limit) unlimited = one_few (splits s.layout.slots (map_of_index s) (anchors_in (world s)) name)
+  where
+    one_few : (b : Bool) → one_if b ≤ 1
+    one_few true = omega arith
+    one_few false = omega arith
+changes_few s (call.Get name) unlimited = omega arith
+changes_few s (call.Del name limit) unlimited = one_few (merges s.layout.slots (map_of_index s) (anchors_in (world s)) name)
+  where
+    one_few : (b : Bool) → one_if b ≤ 1
+    one_few true = omega arith
+    one_few false = omega arith
+changes_few s (call.Part low count) unlimited = absurd unlimited
+changes_few s (call.Recheck node version) unlimited = absurd unlimited
+changes_few s (call.Turn stamp release) unlimited = absurd unlimited
+
+few_events : (s : Index) (c : CoreCall) → IsIndex s → IsUnlimited c → ready_lines (world s) ≤ 8 → most_actions s.layout c (ready_lines (world s)) ≤ 70000
+few_events s (call.Put name value limit) is unlimited few = let most = actions_are_few s.layout (call.Put name value limit) (ready_lines (world s)) is.lawful.row.layout in omega (arith, few, most)
+few_events s (call.Get name) is unlimited few = let most = actions_are_few s.layout (call.Get name) (ready_lines (world s)) is.lawful.row.layout in omega (arith, few, most)
+few_events s (call.Del name limit) is unlimited few = let most = actions_are_few s.layout (call.Del name limit) (ready_lines (world s)) is.lawful.row.layout in omega (arith, few, most)
+few_events s (call.Part low count) is unlimited few = absurd unlimited
+few_events s (call.Recheck node version) is unlimited few = absurd unlimited
+few_events s (call.Turn stamp release) is unlimited few = absurd unlimited
+
+module _ (s : Index) (caller : ℕ) (c : CoreCall) (a : CallerOp) (rest : List CallerOp) (here : caller < s.layout.callers) (is : IsIndex s) (quiet : IsQuiet s) (left : 0 < calls_left_of s)
+    (unlimited : IsUnlimited c) (same : a.op ≡ as_op (op_of c)) (m : MakeNoTurns s (a ∷ rest)) where
+  writes : writes_among (a ∷ rest) ≡ writes_among rest + most_writes c
+  writes = let more = writes_more a rest in let one = (one_so c a.op unlimited same).0 in omega (arith, more, one)
+
+  puts : puts_among (a ∷ rest) ≡ puts_among rest + puts_for c
+  puts = let more = puts_more a rest in let one = (one_so c a.op unlimited same).1 in omega (arith, more, one)
+
+  waits : Waits s m.changes (writes_among rest + most_writes c) (puts_among rest + puts_for c)
+  waits = subst (λ (q : ℕ × ℕ). Waits s m.changes q.0 q.1) (λ k. (writes k, puts k)) m.waits
+
+  needs : NeedsNoTurn caller c s
+  needs = needs_none caller s c m.changes (writes_among rest) (puts_among rest) here is quiet left waits
+
+  few : most_actions s.layout c (ready_lines (world s)) ≤ 70000
+  few = let ready = m.waits.ready in let small = m.few in few_events s c is unlimited (omega (arith, ready, small))
+
+  -- it is cut off only with little
+  pub cut_in_time : (budget before after : ℕ) → WithMost s caller c (ComesInTime {T = Once Placed} None budget before after) → budget < most_events
+  cut_in_time budget before after told = let little = told m.short needs in let most = few in omega (arith, little, most)
+
+  -- it was answered
+  taken : (answer : Once Placed) (budget left' before after : ℕ) → WithMost s caller c (ComesInTime (Some answer) budget before after) → after + left' ≡ before + budget → budget ≤ left' + most_events
+  taken answer budget left' before after told spent = let most = few in let made = told m.short needs in omega (arith, made, most, spent)
+
+  module _ (new : Index) (answer : Once Placed) (ran : RunsAlone s caller c new (whole_of answer)) where
+    short_then : HasShortWays new
+    short_then = (ran.short m.short).0
+
+    placed_then : (placed : Placed) → answer ≡ once.Done placed → MakeNoTurns new rest
+    placed_then placed done =
+        let more = changes_few s c unlimited in
+        let small = m.few in
+        let all = writes in
+        record {
+          short = short_then;
+          changes = m.changes + changes_for s c;
+          few = omega (arith, more, small, all);
+          waits = waits_placed caller s new c (whole_of answer) placed here is quiet left (ap whole_of done) ran m.changes (writes_among rest) (puts_among rest) waits;
+        }
+
+    full_then : (why : Again) → answer ≡ once.Again why → MakeNoTurns new rest
+    full_then why full =
+        let small = m.few in
+        let all = writes in
+        record {
+          short = short_then;
+          changes = m.changes;
+          few = omega (arith, small, all);
+          waits = waits_full caller s new c (whole_of answer) here is quiet left (ap whole_of full) ran m.changes (writes_among rest) (puts_among rest) waits;
+        }
+
+    pub answered_in_time : (budget left' before after : ℕ) → WithMost s caller c (ComesInTime (Some answer) budget before after) → after + left' ≡ before + budget
+        → ((placed : Placed) × (answer ≡ once.Done placed)) ⊎ ((why : Again) × (answer ≡ once.Again why)) → (budget ≤ left' + most_events) × MakeNoTurns new rest
+    answered_in_time budget left' before after told spent ends = (
+      taken answer budget left' before after told spent,
+      ⊎_elim
+          (λ (done : (placed : Placed) × (answer ≡ once.Done placed)). placed_then done.0 done.1)
+          (λ (full : (why : Again) × (answer ≡ once.Again why)). full_then full.0 full.1)
+          ends,
+    )
+
+-- ---- a round begins
+
+module _ (core round mid : Index) (begins : BeginsRound core round) (kept : mid ≡ record round { spare = mid.spare }) where
+  same_layout : round.layout ≡ core.layout
+  same_layout = ap (λ (s : Index). s.layout) begins.is
+
+  -- log lines stand in words of their own
+  lines_stay : line_state (world (round_index core 0)) ≡ line_state (world core)
+  lines_stay = column-same core.layout core.words (round_index core 0).words (line_count core.layout) (λ j. Cached (line_word 0 j))
+      (λ j here. at-set_other core.layout core.words Clock (Cached (line_word 0 j)) 0 tt (omega (arith, here), omega (arith, here), omega arith) (λ e. cc))
+
+  lines_are : line_state (world round) ≡ line_state (world core)
+  lines_are = ap (λ (s : Index). line_state (world s)) begins.is ∙ lines_stay
+
+  ready_is : ready_lines (world round) ≡ ready_lines (world core)
+  ready_is = λ k. how_many (λ j. lines_are k j == ready_state) (line_count (same_layout k))
+
+  empty_is : (caller : ℕ) → empty_lines caller (world round) ≡ empty_lines caller (world core)
+  empty_is caller = λ k. how_many (λ j. lines_are k (8 * caller + j) == empty_state) 8
+
+  taken_is : taken_nodes round ≡ taken_nodes core
+  taken_is = taken_kept core round same_layout (begins.list, begins.most)
+
+  pub begun_turnless : (HasShortWays core → HasShortWays round) → (asked : List CallerOp) → MakeNoTurns core asked → MakeNoTurns mid asked
+  begun_turnless short asked m =
+      subst (λ (s : Index). MakeNoTurns s asked) (sym kept) (record {
+        short = short m.short;
+        changes = m.changes;
+        few = m.few;
+        waits = record {
+          ready = ready_is ∙ m.waits.ready;
+          lines = λ caller here.
+              (let callers : round.layout.callers ≡ core.layout.callers = ap (λ (l : Layout). l.callers) same_layout in
+              let lines = m.waits.lines caller (omega (arith, here, callers)) in
+              let same = empty_is caller in
+              omega (arith, lines, same));
+          nodes =
+              let nodes : round.layout.nodes ≡ core.layout.nodes = ap (λ (l : Layout). l.nodes) same_layout in
+              let taken = taken_is in
+              let room = m.waits.nodes in
+              omega (arith, nodes, taken, room);
+        };
+      })
+
+-- ---- settled records
+
+answered_stays : (end : Map) (op : Op) (reply : Reply) → IsAnswered reply → IsAnswered (settled_reply end op reply)
+answered_stays end op (Old old place) is = is
+answered_stays end op (Parts parts cut) is = is
+answered_stays end op Full is = is
+answered_stays end op (Spent clock) is = is
+answered_stays end op (Cut mark) is = absurd is
+answered_stays end op Unstarted is = absurd is
+
+was_some : {A B : Type 0} (f : A → B) (o : Option A) (y : B) → option_map f o ≡ Some y → (x : A) × (o ≡ Some x) × (f x ≡ y)
+was_some f (Some x) y is = (x, refl, cc)
+was_some f None y is = absurd (cc)
+
+pub in_time-settled : (end : Map) (most budget : ℕ) (records : List Record) → AreInTime most budget records → AreInTime most budget (all_settled end records)
+in_time-settled end most budget records all i r at enough =
+    let was = was_some (settled end) (slice_get records i) r (sym (slice_get-map (settled end) records i) ∙ at) in
+    subst (λ (q : Record). IsAnswered q.reply) was.2 (answered_stays end was.0.op was.0.reply (all i was.0 was.1 enough))
+
+-- the one caller of the calls has one budget
+pub in_time-of : (caller of budget given : ℕ) (ops : List CallerOp) (budgets : List ℕ) (most : ℕ) (records : List Record) → All (λ (a : CallerOp). a.caller ≡ caller) ops → All (λ (a : CallerOp). a.caller ≡ of) ops → map call_of records ≡ numbered ops
+    → slice_get budgets caller ≡ Some budget → slice_get budgets of ≡ Some given → AreInTime most budget records → AreInTime most given records
+in_time-of caller of budget given [] budgets most [] lone own calls has gives all = λ i r at enough. absurd (let within = slice_get_within [] i r at in omega (arith, within))
+in_time-of caller of budget given [] budgets most (q ∷ records) lone own calls has gives all = absurd (let no = ap length calls in omega (arith, no))
+in_time-of caller of budget given (a ∷ ops) budgets most records lone own calls has gives all =
+    let same : caller ≡ of = sym (lone 0 a (omega arith)) ∙ own 0 a (omega arith) in
+    let one : Some budget ≡ Some given = sym has ∙ ap (slice_get budgets) same ∙ gives in
+    subst (λ n. AreInTime most n records) (some_same one) all
+  where
+    some_same : {x y : ℕ} → Some x ≡ Some y → x ≡ y
+    some_same e = cc

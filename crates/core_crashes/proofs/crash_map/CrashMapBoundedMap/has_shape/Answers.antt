@@ -1,0 +1,5 @@
+use Rattle.core_crashes.proofs.Turnless.{fewer_turns}
+use Rattle.core_crashes.proofs.crash_map.CrashMapBoundedMap.has_shape.Goals as goal
+
+pub returns-clause-fewer : goal.returns-clause-fewer
+returns-clause-fewer g c = λ a rest turnless. record { going = turnless.going; turnless = fewer_turns _ a rest turnless.turnless }
