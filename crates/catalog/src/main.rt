@@ -15,8 +15,8 @@ const BUILT: &str = "\
     catalog gen SEED COUNT CALLERS, which plays COUNT calls that are made from SEED and sums them up,\n\
     catalog format FILE NODES SLOTS CALLERS, which makes a file of an empty catalogue,\n\
     and catalog words FILE FROM COUNT, which prints COUNT words of one from number FROM on\n\
-    lines built so far: CALLER put NAME NUMBER, CALLER get NAME, CALLER del NAME, CALLER scan NAME COUNT, join, \
-    updater CALLS, limit WRITES\n\
+    lines of a script: CALLER put NAME NUMBER, CALLER get NAME, CALLER del NAME, CALLER scan NAME COUNT, join, \
+    crash SEED BUDGETS, updater CALLS, limit WRITES\n\
     the callers of a round make their calls at once, each in a thread of its own: a report of several callers differs \
     from run to run";
 

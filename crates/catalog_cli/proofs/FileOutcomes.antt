@@ -275,8 +275,6 @@ tells-file words told written written' writes writes' status.Shelf sink cause fi
 tells-file words told written written' writes writes' status.NoMemory sink cause files refusal is same source refused = inr refl
 tells-file words told written written' writes writes' (status.Image other) sink cause files refusal is same source refused =
     inl (ap status.Image (one-file-cause words told.left told.left files other refusal (subst (λ (fs : Option FileMap). IsFileCause words told.left fs other) is cause) refused))
-tells-file words told written written' writes writes' (status.NotBuilt verb) sink cause files refusal is same source refused =
-    absurd (no-script-cause words told (status.NotBuilt verb) files refusal is source cause refused)
 
 -- a command that can be done on its file isn't refused for a script
 not-script-cause : (words : List (List ℕ)) (told : Seen) (answer : Status) (files : FileMap) → told.files ≡ Some files → (RunsScript words → TellsSource told) → IsScriptCause words told answer →
@@ -300,7 +298,6 @@ finishes-on-file words told writes writes' status.Shelf cause files is same sour
 finishes-on-file words told writes writes' status.NoMemory cause files is same source same' can = inr refl
 finishes-on-file words told writes writes' (status.Image refusal) cause files is same source same' can =
     absurd (not-refused words told files refusal source can (subst (λ (fs : Option FileMap). IsFileCause words told.left fs refusal) is cause))
-finishes-on-file words told writes writes' (status.NotBuilt verb) cause files is same source same' can = absurd (not-script-cause words told (status.NotBuilt verb) files is source cause can)
 
 -- ---- a script that is refused for a run
 
@@ -380,8 +377,6 @@ no-script-told words told written written' writes writes' status.Shelf sink caus
 no-script-told words told written written' writes writes' status.NoMemory sink cause bytes fault run left same none = inr refl
 no-script-told words told written written' writes writes' (status.Image refusal) sink cause bytes fault run left same none =
     absurd (had-script words told run bytes left fault none (image-has words told.left told.files refusal run cause))
-no-script-told words told written written' writes writes' (status.NotBuilt verb) sink cause bytes fault run left same none =
-    refused-first words told run bytes left fault (status.NotBuilt verb) none (run-cause words told (status.NotBuilt verb) run cause)
 
 on-file-told : (words : List (List ℕ)) (told : Seen) (written written' : Option (List ℕ)) (writes writes' : ℕ) (answer : Status) → LeavesSink words told answer written written' →
     IsCauseOf words told writes writes' answer → (bytes : List ℕ) (files : FileMap) (wanted : Status) → RunsScript words → told.left ≡ Some bytes → told.reads' ≡ told.reads → told.files ≡ Some files →
@@ -399,8 +394,6 @@ on-file-told words told written written' writes writes' status.NoMemory sink cau
 on-file-told words told written written' writes writes' (status.Image refusal) sink cause bytes files wanted run left same is same' refused =
     absurd (not-openable told.left bytes refused.bytes refused.script files (file_of words) refused.old refusal left (subst (λ (l : Option (List ℕ)). AreBytesLeft l refused.bytes) (sym left) refused.source) refused.is_script
     refused.had refused.openable (as-run words told.left (Some files) refusal (not-formatted words run) (subst (λ (fs : Option FileMap). IsFileCause words told.left fs refusal) is cause)))
-on-file-told words told written written' writes writes' (status.NotBuilt verb) sink cause bytes files wanted run left same is same' refused =
-    refused-then words told run bytes left files wanted (status.NotBuilt verb) is refused (run-cause words told (status.NotBuilt verb) run cause)
 
 pub tells-run : (words : List (List ℕ)) (told : Seen) (written written' : Option (List ℕ)) (writes writes' : ℕ) (answer : Status) → LeavesSink words told answer written written' →
     IsCauseOf words told writes writes' answer → TellsRunRefusal words told answer
@@ -427,7 +420,6 @@ not-told words told from count name (status.Image (image.Bytes fault)) is same r
     (inl (from, count, is), (refused.0, subst (λ (n : List ℕ). HasBytes told.files n refused.0) same refused.1, refused.2))
 not-told words told from count name (status.Image (image.Damaged rule word)) is same refused = absurd refused
 not-told words told from count name (status.Image image.Generations) is same refused = absurd refused
-not-told words told from count name (status.NotBuilt verb) is same refused = absurd refused
 
 -- a run that is refused
 run-file-cause : (words : List (List ℕ)) (told : Seen) (refusal : ImageRefusal) → RunsScript words → HasScript told.left → IsRunFileCause told.left told.files (file_of words) refusal → IsFileCause words told.left told.files refusal
@@ -449,7 +441,6 @@ not-run words told name answer run same refused = by_case answer (subst (λ (n :
   by_case status.Shelf refused = (inr (inr (run, refused.0)), refused.1)
   by_case status.NoMemory refused = inr (inr (inr run))
   by_case (status.Image refusal) refused = run-file-cause words told refusal run refused.0 refused.1
-  by_case (status.NotBuilt verb) refused = inr (run, refused)
 
 -- it isn't refused as words alone are
 pub run-not-of-words : (left : Option (List ℕ)) (files : Option FileMap) (name : List ℕ) (reads reads' shelves shelves' : ℕ) (answer : Status) → IsRunRefused left files name reads reads' shelves shelves' answer → IsOfWords answer → ⊥
@@ -461,7 +452,6 @@ run-not-of-words left files name reads reads' shelves shelves' status.Write refu
 run-not-of-words left files name reads reads' shelves shelves' status.Shelf refused of_words = of_words
 run-not-of-words left files name reads reads' shelves shelves' status.NoMemory refused of_words = of_words
 run-not-of-words left files name reads reads' shelves shelves' (status.Image refusal) refused of_words = of_words
-run-not-of-words left files name reads reads' shelves shelves' (status.NotBuilt verb) refused of_words = of_words
 
 -- and what it leaves
 pub run-leaves : (words : List (List ℕ)) (told : Seen) (name : List ℕ) (answer : Status) → RunsScript words → name ≡ file_of words → IsRunRefused told.left told.files name told.reads told.reads' told.shelves told.shelves' answer →
@@ -477,7 +467,6 @@ run-leaves words told name answer run same refused leaves = by_case answer refus
   by_case status.Shelf refused (inr after) = inr (inr (run, after))
   by_case status.NoMemory refused leaves = inl leaves
   by_case (status.Image refusal) refused leaves = leaves
-  by_case (status.NotBuilt verb) refused leaves = leaves
 
 -- what is left of the files where a text is made stays so where it can't be written whole
 pub left-then : (words : List (List ℕ)) (told : Seen) → LeavesFiles words told → LeavesOldOrNew words told

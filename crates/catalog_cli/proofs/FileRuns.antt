@@ -40,8 +40,6 @@ not-played-on left files name bytes script old reads reads' shelves shelves' (st
 not-played-on left files name bytes script old reads reads' shelves shelves' (status.Image (image.Damaged rule word)) source is had refused = ((bytes, script, source, is), (old, had, refused))
 not-played-on left files name bytes script old reads reads' shelves shelves' (status.Image image.Generations) source is had refused =
     ((bytes, script, source, is), record { bytes = bytes; source = source; script = script; is_script = is; old = old; had = had; late = refused })
-not-played-on left files name bytes script old reads reads' shelves shelves' (status.NotBuilt verb) source is had refused =
-    inr (record { bytes = bytes; source = source; script = script; is_script = is; old = old; had = had; openable = refused.0; refused = refused.1 })
 
 -- one that is, and whose image is saved
 pub ran-on-file : (left : Option (List ℕ)) (files between files' : Option FileMap) (name bytes text : List ℕ) (old new : Row) → AreBytesLeft left bytes → HasImage files name old → IsRunOn old bytes text new →
@@ -62,4 +60,3 @@ not-saved left files between files' name bytes text old new shelves shelves' sta
     inr (text, ran-on-file left files between files' name bytes text old new source had run kept saves)
 not-saved left files between files' name bytes text old new shelves shelves' status.NoMemory source had run kept refused = keeps-after files between files' kept refused
 not-saved left files between files' name bytes text old new shelves shelves' (status.Image refusal) source had run kept refused = absurd refused
-not-saved left files between files' name bytes text old new shelves shelves' (status.NotBuilt verb) source had run kept refused = absurd refused

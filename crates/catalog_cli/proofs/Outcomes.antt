@@ -21,7 +21,6 @@ use Rattle.cat_script.specs.declared.script.Script.{Script}
 use Rattle.cat_script.specs.declared.script.ScriptLine.{ScriptLine}
 use Rattle.pm_words.specs.declared.layout.Layout.{Layout}
 use Rattle.cat_text.specs.Outside.{AppendsPart}
-use Rattle.catalog_cli.specs.Built.{first_unbuilt}
 use Rattle.catalog_cli.specs.Headline.{IsFileCause}
 use Rattle.catalog_cli.specs.Files.{FormatsSome, ListsSome, NamesFile, RunsScript}
 use Rattle.catalog_cli.specs.Headline.{ReadsScript, NamesCommand, LeavesShelf, LeavesSink, IsRefusalOf, IsScriptCause, IsCauseOf, HasNoReport, HasNoText, IsOfWords, Seen, TellsRefusal, FinishesAccepted, FinishesGenerated, PlaysScript, ReadsSome, GeneratesSome, PlaysSome, Prints, PrintsAll, PrintsPart, ReachesFile, ReadsFile, IsFileCause}
@@ -200,8 +199,6 @@ unrefused callers bytes script status.Write is refused = refused
 unrefused callers bytes script status.Shelf is refused = refused
 unrefused callers bytes script status.NoMemory is refused = refused
 unrefused callers bytes script (status.Image refusal) is refused = refused
-unrefused callers bytes script (status.NotBuilt verb) is refused =
-    none-some verb (sym is.built ∙ ap (λ (s : Script). first_unbuilt s.rounds) (one_script bytes script refused.0 is.is_script refused.1) ∙ refused.3)
 
 -- bytes are refused in one way
 pub one-refusal : (callers : ℕ) (bytes : List ℕ) (a b : Status) → IsRefusedBy callers bytes a → IsRefusedBy callers bytes b → a ≡ b
@@ -220,17 +217,6 @@ one-refusal callers bytes (status.Script what) status.Shelf is is' = absurd is'
 one-refusal callers bytes (status.Script what) status.NoMemory is is' = absurd is'
 one-refusal callers bytes (status.Script what) (status.Image refusal) is is' = absurd is'
 one-refusal callers bytes (status.Script what) (status.Script other) is is' = ap status.Script (one-fault callers bytes what other is is')
-one-refusal callers bytes (status.Script what) (status.NotBuilt verb) is is' = absurd (faultless callers bytes is'.0 what is'.1 is'.2 is)
-one-refusal callers bytes (status.NotBuilt verb) status.Done is is' = absurd is'
-one-refusal callers bytes (status.NotBuilt verb) status.Usage is is' = absurd is'
-one-refusal callers bytes (status.NotBuilt verb) status.Read is is' = absurd is'
-one-refusal callers bytes (status.NotBuilt verb) status.Write is is' = absurd is'
-one-refusal callers bytes (status.NotBuilt verb) status.Shelf is is' = absurd is'
-one-refusal callers bytes (status.NotBuilt verb) status.NoMemory is is' = absurd is'
-one-refusal callers bytes (status.NotBuilt verb) (status.Image refusal) is is' = absurd is'
-one-refusal callers bytes (status.NotBuilt verb) (status.Script what) is is' = absurd (faultless callers bytes is.0 what is.1 is.2 is')
-one-refusal callers bytes (status.NotBuilt verb) (status.NotBuilt other) is is' =
-    ap status.NotBuilt (same_Some verb other (sym is.3 ∙ ap (λ (s : Script). first_unbuilt s.rounds) (one_script bytes is.0 is'.0 is.1 is'.1) ∙ is'.3))
 
 -- such a cause is that of a command that reads a script
 pub cause-reads : (words : List (List ℕ)) (told : Seen) (answer : Status) → IsScriptCause words told answer → ReadsSome words
@@ -251,7 +237,6 @@ not-of-words callers left reads reads' status.Write cause of_words = of_words
 not-of-words callers left reads reads' status.Shelf cause of_words = of_words
 not-of-words callers left reads reads' status.NoMemory cause of_words = of_words
 not-of-words callers left reads reads' (status.Image refusal) cause of_words = of_words
-not-of-words callers left reads reads' (status.NotBuilt verb) cause of_words = of_words
 
 -- why no report was made is why there is nothing to print
 pub no-report : (words : List (List ℕ)) (layout : Layout) (told : Seen) (answer : Status) → ReadsScript words layout →
@@ -264,7 +249,6 @@ no-report words layout told status.Write is cause = cause
 no-report words layout told status.Shelf is cause = absurd cause
 no-report words layout told status.NoMemory is cause = inl (inl (layout, is))
 no-report words layout told (status.Image refusal) is cause = absurd cause
-no-report words layout told (status.NotBuilt verb) is cause = inl (layout, is, cause)
 
 -- nor is there for words that name no command
 pub no-command : (words : List (List ℕ)) (told : Seen) (answer : Status) → IsOfNoCommand words answer → HasNoText words told answer
@@ -276,7 +260,6 @@ no-command words told status.Write cause = cause
 no-command words told status.Shelf cause = absurd cause
 no-command words told status.NoMemory cause = absurd cause
 no-command words told (status.Image refusal) cause = absurd cause
-no-command words told (status.NotBuilt verb) cause = absurd cause
 
 -- they leave the files as they were
 pub no-command-keeps : (words : List (List ℕ)) (told : Seen) (answer : Status) → IsOfNoCommand words answer → KeepsFiles told.files told.files' → LeavesShelf words told answer
@@ -288,7 +271,6 @@ no-command-keeps words told status.Write cause keeps = absurd cause
 no-command-keeps words told status.Shelf cause keeps = absurd cause
 no-command-keeps words told status.NoMemory cause keeps = absurd cause
 no-command-keeps words told (status.Image refusal) cause keeps = keeps
-no-command-keeps words told (status.NotBuilt verb) cause keeps = absurd cause
 
 -- so does a script for which there is no report
 pub no-report-keeps : (words : List (List ℕ)) (callers : ℕ) (told : Seen) (answer : Status) → HasNoReport callers told.left told.reads told.reads' answer → KeepsFiles told.files told.files' →
@@ -301,7 +283,6 @@ no-report-keeps words callers told status.Write cause keeps = absurd cause
 no-report-keeps words callers told status.Shelf cause keeps = absurd cause
 no-report-keeps words callers told status.NoMemory cause keeps = inl keeps
 no-report-keeps words callers told (status.Image refusal) cause keeps = keeps
-no-report-keeps words callers told (status.NotBuilt verb) cause keeps = keeps
 
 -- a run that has nothing to print ends so
 pub ends-so : (words : List (List ℕ)) (told : Seen) (writes : ℕ) (answer : Status) → HasNoText words told answer → IsCauseOf words told writes writes answer
@@ -313,7 +294,6 @@ ends-so words told writes status.Write cause = absurd cause
 ends-so words told writes status.Shelf cause = cause
 ends-so words told writes status.NoMemory cause = cause
 ends-so words told writes (status.Image refusal) cause = cause
-ends-so words told writes (status.NotBuilt verb) cause = cause
 
 -- and leaves the sink as it was
 pub writes-none : (words : List (List ℕ)) (told : Seen) (written : Option (List ℕ)) (answer : Status) → HasNoText words told answer → Keeps written written → LeavesSink words told answer written written
@@ -325,7 +305,6 @@ writes-none words told written status.Write cause keeps = absurd cause
 writes-none words told written status.Shelf cause keeps = keeps
 writes-none words told written status.NoMemory cause keeps = inl keeps
 writes-none words told written (status.Image refusal) cause keeps = keeps
-writes-none words told written (status.NotBuilt verb) cause keeps = keeps
 
 -- what is printed is that of a command
 pub printed-named : (words : List (List ℕ)) (told : Seen) (text : List ℕ) → Prints words told text → NamesCommand words
@@ -398,8 +377,6 @@ tells words told written written' writes writes' status.Shelf sink cause layout 
 tells words told written written' writes writes' status.NoMemory sink cause layout bytes wanted is left same refused = inr refl
 tells words told written written' writes writes' (status.Image refusal) sink cause layout bytes wanted is left same refused =
     absurd (no-file-read words (layout, is) (file-cause-names words told.left told.files refusal cause))
-tells words told written written' writes writes' (status.NotBuilt verb) sink cause layout bytes wanted is left same refused =
-    inl (one-refusal layout.callers bytes (status.NotBuilt verb) wanted (plays-cause words told layout bytes (status.NotBuilt verb) is left cause) refused)
 
 pub finishes : (words : List (List ℕ)) (told : Seen) (writes writes' : ℕ) (answer : Status) → IsCauseOf words told writes writes' answer → FinishesAccepted words told writes writes' answer
 finishes words told writes writes' status.Done cause layout bytes script is left same same' accepted = inl refl
@@ -412,8 +389,6 @@ finishes words told writes writes' status.Shelf cause layout bytes script is lef
 finishes words told writes writes' status.NoMemory cause layout bytes script is left same same' accepted = inr refl
 finishes words told writes writes' (status.Image refusal) cause layout bytes script is left same same' accepted =
     absurd (no-file-read words (layout, is) (file-cause-names words told.left told.files refusal cause))
-finishes words told writes writes' (status.NotBuilt verb) cause layout bytes script is left same same' accepted =
-    absurd (unrefused layout.callers bytes script (status.NotBuilt verb) accepted (plays-cause words told layout bytes (status.NotBuilt verb) is left cause))
 
 -- a generated round is played to its end
 pub finishes-generated : (words : List (List ℕ)) (told : Seen) (writes writes' : ℕ) (answer : Status) → IsCauseOf words told writes writes' answer → FinishesGenerated words writes writes' answer
@@ -425,7 +400,6 @@ finishes-generated words told writes writes' status.Write cause makes same = abs
 finishes-generated words told writes writes' status.Shelf cause makes same = absurd (no-file-made words makes (reaches-names words told.left cause.0))
 finishes-generated words told writes writes' status.NoMemory cause makes same = inr refl
 finishes-generated words told writes writes' (status.Image refusal) cause makes same = absurd (no-file-made words makes (file-cause-names words told.left told.files refusal cause))
-finishes-generated words told writes writes' (status.NotBuilt verb) cause makes same = absurd (not-read-made words (cause-reads words told (status.NotBuilt verb) cause) makes)
 
 -- words of no form come to their status
 of-no-form : (words : List (List ℕ)) (told : Seen) (writes writes' : ℕ) (answer : Status) → IsCauseOf words told writes writes' answer →
@@ -438,7 +412,6 @@ of-no-form words told writes writes' status.Write cause none = absurd (no-form w
 of-no-form words told writes writes' status.Shelf cause none = absurd (no-form words (inr (reaches-names words told.left cause.0)) none)
 of-no-form words told writes writes' status.NoMemory cause none = absurd (no-form words cause none)
 of-no-form words told writes writes' (status.Image refusal) cause none = absurd (no-form words (inr (file-cause-names words told.left told.files refusal cause)) none)
-of-no-form words told writes writes' (status.NotBuilt verb) cause none = absurd (no-form words (reads-named words (cause-reads words told (status.NotBuilt verb) cause)) none)
 
 pub usage-exactly : (words : List (List ℕ)) (told : Seen) (writes writes' : ℕ) (answer : Status) → IsCauseOf words told writes writes' answer →
     (answer ≡ status.Usage) ↔ ((command : Command) → ¬ IsCommand words command)

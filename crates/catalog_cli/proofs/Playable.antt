@@ -21,11 +21,8 @@ use Rattle.cat_script.specs.declared.script.Script.{Script}
 use Rattle.cat_text.specs.ReportGrammar.{IsReportOp}
 use Rattle.shapes.proofs.NameLists.{all_append, all_first, all_second}
 use Rattle.core_rounds.specs.LoneCalls.{AreReportCalls, IsReportCall, is_crowd}
-use Rattle.crowd_rounds.specs.Segments.{CrowdsAreJoined, HasBudgets}
-use Rattle.catalog_cli.specs.Built.{first_unbuilt, is_crowd_crash}
+use Rattle.crowd_rounds.specs.Segments.{HasBudgets}
 use Rattle.catalog_cli.specs.Reports.{IsAccepted}
-use Rattle.catalog_cli.specs.declared.status.Verb.{Verb}
-use Rattle.catalog_cli.specs.declared.status.Verb.TheVariants as word
 
 -- a call of a report, by one of so many callers
 abbrev IsPlayableCall : ℕ → CallerOp → Type 0
@@ -149,28 +146,6 @@ all-playable callers bytes script plans accepted same =
     subst (All (IsPlayablePlan callers)) (sym same)
     (All-from_recursion (IsPlayablePlan callers) script.rounds
     (rounds-playable callers is.said script.rounds is.rounds (lines-playable callers 1 _ is.said is.lines fits)))
-
--- no crash ends one of several callers
-none-here : (b : Bool) (rest : Option Verb) → (if b then Some word.Crash else rest) ≡ None → (b ≡ false) × (rest ≡ None)
-none-here true rest none = absurd (none-some word.Crash (sym none))
-none-here false rest none = (refl, none)
-
-joined-crowd : (crash : Option CrashPlan) (crowd : Bool) → (is_some crash && crowd) ≡ false → crowd ≡ true → crash ≡ None
-joined-crowd None crowd none several = refl
-joined-crowd (Some crash) crowd none several = absurd (false≢true (sym none ∙ several))
-
-abbrev IsJoinedCrowd : RoundPlan → Type 0
-IsJoinedCrowd plan = is_crowd plan.ops ≡ true → plan.crash ≡ None
-
-joined-crowds : (plans : List RoundPlan) → first_unbuilt plans ≡ None → AllByRecursion IsJoinedCrowd plans
-joined-crowds [] built = tt
-joined-crowds (plan ∷ plans) built =
-    let both = none-here (is_crowd_crash plan) (first_unbuilt plans) built in
-    (joined-crowd plan.crash (is_crowd plan.ops) both.0, joined-crowds plans both.1)
-
-pub crowds-joined : (callers : ℕ) (bytes : List ℕ) (script : Script) (plans : List RoundPlan) → IsAccepted callers bytes script → plans ≡ script.rounds → CrowdsAreJoined plans
-crowds-joined callers bytes script plans accepted same =
-    subst CrowdsAreJoined (sym same) (All-from_recursion IsJoinedCrowd script.rounds (joined-crowds script.rounds accepted.built))
 
 some-ended : (closed : List Line) (plans : List RoundPlan) → AreEnded [] closed plans → (closed ≡ [] → ⊥) → 1 ≤ length plans
 some-ended closed [] ended some = absurd (some ended)

@@ -65,7 +65,6 @@ not-accepted image bytes plans status.Write openable refused = absurd refused
 not-accepted image bytes plans status.Shelf openable refused = absurd refused
 not-accepted image bytes plans status.NoMemory openable refused = absurd refused
 not-accepted image bytes plans (status.Image refusal) openable refused = absurd refused
-not-accepted image bytes plans (status.NotBuilt verb) openable refused = (openable, refused)
 
 -- ---- rounds that were played
 

@@ -133,7 +133,6 @@ LeavesSink words told status.Shelf written written' = Keeps written written'
 LeavesSink words told status.NoMemory written written' =
     Keeps written written' ⊎ PrintsPart words told written written'
 LeavesSink words told (status.Image refusal) written written' = Keeps written written'
-LeavesSink words told (status.NotBuilt verb) written written' = Keeps written written'
 
 -- The file that the command names wasn't there, it is the fresh image of the command's layout now, and no other file
 -- changed.
@@ -167,7 +166,6 @@ LeavesShelf words told status.Write = LeavesFiles words told
 LeavesShelf words told status.Shelf = LeavesOldOrNew words told
 LeavesShelf words told status.NoMemory = LeavesOldOrNew words told
 LeavesShelf words told (status.Image refusal) = KeepsFiles told.files told.files'
-LeavesShelf words told (status.NotBuilt verb) = KeepsFiles told.files told.files'
 
 -- The status is that of a run that wrote nothing.
 abbrev pub WritesNothing : Status → Type 0
@@ -179,7 +177,6 @@ WritesNothing status.Write = ⊥
 WritesNothing status.Shelf = Unit {0}
 WritesNothing status.NoMemory = ⊥
 WritesNothing (status.Image refusal) = Unit {0}
-WritesNothing (status.NotBuilt verb) = Unit {0}
 
 -- The status is that of words alone: nothing is read for it.
 abbrev pub IsOfWords : Status → Type 0
@@ -191,7 +188,6 @@ IsOfWords status.Write = ⊥
 IsOfWords status.Shelf = ⊥
 IsOfWords status.NoMemory = ⊥
 IsOfWords (status.Image refusal) = ⊥
-IsOfWords (status.NotBuilt verb) = ⊥
 
 -- The status comes only when the source was read to its end, where a script is read.
 abbrev pub IsAfterReading : Status → Type 0
@@ -203,7 +199,6 @@ IsAfterReading status.Write = Unit {0}
 IsAfterReading status.Shelf = Unit {0}
 IsAfterReading status.NoMemory = ⊥
 IsAfterReading (status.Image refusal) = Unit {0}
-IsAfterReading (status.NotBuilt verb) = Unit {0}
 
 -- ---- causes
 
@@ -261,7 +256,7 @@ IsFileCause words left files image.Generations = (RunsScript words × HasScript 
     IsRunFileCause left files (file_of words) image.Generations
 
 -- A run can be done on the file of this name with what the source had left: there is an image, and a script that fits
--- its layout, is built, and has rounds that can be played on it.
+-- its layout and has rounds that can be played on it.
 pub record CanBeRun (left : Option (List ℕ)) (files : Option FileMap) (name : List ℕ) : Type 0 where
   pub bytes : List ℕ
   pub source : AreBytesLeft left bytes
@@ -289,7 +284,6 @@ IsCauseOf words told writes writes' status.Shelf =
     ReachesFile words told.left × (told.shelves < told.shelves')
 IsCauseOf words told writes writes' status.NoMemory = NamesCommand words
 IsCauseOf words told writes writes' (status.Image refusal) = IsFileCause words told.left told.files refusal
-IsCauseOf words told writes writes' (status.NotBuilt verb) = IsScriptCause words told (status.NotBuilt verb)
 
 -- Why a command has nothing to print.
 abbrev pub HasNoText : List (List ℕ) → Seen → Status → Type 0
@@ -302,7 +296,6 @@ HasNoText words told status.Shelf =
     ReachesFile words told.left × (told.shelves < told.shelves')
 HasNoText words told status.NoMemory = NamesCommand words
 HasNoText words told (status.Image refusal) = IsFileCause words told.left told.files refusal
-HasNoText words told (status.NotBuilt verb) = IsScriptCause words told (status.NotBuilt verb)
 
 -- Why no report was made of what a source had left, on a layout of so many callers.
 abbrev pub HasNoReport : ℕ → Option (List ℕ) → (reads reads' : ℕ) → Status → Type 0
@@ -314,7 +307,6 @@ HasNoReport callers left reads reads' status.Write = ⊥
 HasNoReport callers left reads reads' status.Shelf = ⊥
 HasNoReport callers left reads reads' status.NoMemory = Unit {0}
 HasNoReport callers left reads reads' (status.Image refusal) = ⊥
-HasNoReport callers left reads reads' (status.NotBuilt verb) = IsRefusalOf callers left (status.NotBuilt verb)
 
 -- ---- exactly
 

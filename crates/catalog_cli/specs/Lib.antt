@@ -1,5 +1,4 @@
 pub mod Statuses
-pub mod Built
 pub mod Files
 pub mod Reports
 pub mod Runs

@@ -17,7 +17,6 @@ IsOfNoCommand words status.Write = ⊥
 IsOfNoCommand words status.Shelf = ⊥
 IsOfNoCommand words status.NoMemory = ⊥
 IsOfNoCommand words (status.Image refusal) = ⊥
-IsOfNoCommand words (status.NotBuilt verb) = ⊥
 
 -- The bytes are refused so, unless memory ran out.
 abbrev pub IsRefusedText : ℕ → List ℕ → Status → Type 0

@@ -1,5 +1,5 @@
 -- What a script plays, and what is reported of it: from what its rounds begin, how they go on, and where they end.
-use Rattle.std.specs.Prelude.{◌≡◌, ℕ, ◌/◌, ◌<◌, ◌⊎◌, List, [], ◌∷◌, Some, None, All, length}
+use Rattle.std.specs.Prelude.{◌≡◌, ℕ, ◌/◌, ◌<◌, ◌⊎◌, List, [], ◌∷◌, All, length}
 use Rattle.std.specs.FinMap.{empty, len}
 use Rattle.cat_history.specs.Maps.{Map}
 use Rattle.cat_script.specs.Fits.{FitsCallers, IsUnfitBy}
@@ -16,19 +16,16 @@ use Rattle.sound_image.specs.Sound.{image_map}
 use Rattle.sound_image.specs.Weights.{image_weight}
 use Rattle.shapes.specs.Anchors.{Anchors}
 use Rattle.index_law.specs.Anchors.{image_anchors}
-use Rattle.catalog_cli.specs.Built.{first_unbuilt}
 use Rattle.core_rounds.specs.Rounds.{ArePlayed}
-use Rattle.catalog_cli.specs.declared.status.Verb.{Verb}
 use Rattle.catalog_cli.specs.declared.status.Status.{Status}
 use Rattle.catalog_cli.specs.declared.status.Status.TheVariants as status
 
 -- ---- scripts
 
--- The bytes are this script, it fits so many callers, and each of its lines is built.
+-- The bytes are this script, and it fits so many callers.
 pub record IsAccepted (callers : ℕ) (bytes : List ℕ) (script : Script) : Type 0 where
   pub is_script : IsScript bytes script
   pub fits : All (FitsCallers callers) script.lines
-  pub built : first_unbuilt script.rounds ≡ None
 
 -- The bytes are a script that doesn't fit so many callers, for this fault.
 abbrev pub IsUnfitScript : ℕ → List ℕ → ScriptFault → Type 0
@@ -39,12 +36,7 @@ abbrev pub HasFault : ℕ → List ℕ → ScriptFault → Type 0
 HasFault callers bytes fault =
     ((fault ≡ Bytes) × (MOST_BYTES < length bytes)) ⊎ IsFirstFault bytes fault ⊎ IsUnfitScript callers bytes fault
 
--- The bytes are a script that fits so many callers, and one of its lines that isn't built has this word.
-abbrev pub IsUnbuiltScript : ℕ → List ℕ → Verb → Type 0
-IsUnbuiltScript callers bytes verb = (script : Script) × IsScript bytes script ×
-    All (FitsCallers callers) script.lines × (first_unbuilt script.rounds ≡ Some verb)
-
--- The bytes are refused so: in this order for their fault, or for a line that isn't built.
+-- The bytes are refused so, for their fault.
 abbrev pub IsRefusedBy : ℕ → List ℕ → Status → Type 0
 IsRefusedBy callers bytes status.Done = ⊥
 IsRefusedBy callers bytes status.Usage = ⊥
@@ -54,7 +46,6 @@ IsRefusedBy callers bytes status.Write = ⊥
 IsRefusedBy callers bytes status.Shelf = ⊥
 IsRefusedBy callers bytes status.NoMemory = ⊥
 IsRefusedBy callers bytes (status.Image refusal) = ⊥
-IsRefusedBy callers bytes (status.NotBuilt verb) = IsUnbuiltScript callers bytes verb
 
 -- ---- reports
 

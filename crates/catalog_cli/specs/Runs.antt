@@ -109,7 +109,7 @@ IsNoScript left fault = ((fault ≡ Bytes) × IfSome left (λ bytes. MOST_BYTES 
     ((bytes : List ℕ) × AreBytesLeft left bytes × IsFirstFault bytes fault)
 
 -- A script is refused so on a file: the file is one on which its rounds could be played, and the script doesn't fit its
--- layout, or has a line that isn't built.
+-- layout.
 pub record IsRefusedOnFile (left : Option (List ℕ)) (files : Option FileMap) (name : List ℕ) (answer : Status) : Type 0
   where
     pub bytes : List ℕ
@@ -160,8 +160,6 @@ IsPlayRefused old bytes plans status.NoMemory = Unit {0}
 IsPlayRefused old bytes plans (status.Image (image.Damaged rule word)) =
     IsFirstOfAll old.layout old.words (record { rule = rule; word = word })
 IsPlayRefused old bytes plans (status.Image image.Generations) = IsTooLate old plans
-IsPlayRefused old bytes plans (status.NotBuilt verb) =
-    IsOpenable old plans × IsRefusedBy old.layout.callers bytes (status.NotBuilt verb)
 IsPlayRefused old bytes plans other = ⊥
 
 -- Why a run on a file came to no report. As many calls of the source and of the shelf had failed before as the first
@@ -175,8 +173,6 @@ IsRunRefused left files name reads reads' shelves shelves' status.Shelf = HasScr
 IsRunRefused left files name reads reads' shelves shelves' status.NoMemory = Unit {0}
 IsRunRefused left files name reads reads' shelves shelves' (status.Image refusal) =
     HasScript left × IsRunFileCause left files name refusal
-IsRunRefused left files name reads reads' shelves shelves' (status.NotBuilt verb) =
-    IsRunRefusal left files name (status.NotBuilt verb)
 IsRunRefused left files name reads reads' shelves shelves' other = ⊥
 
 -- What it leaves of the files then: each as it was, or, where the shelf failed, as a run leaves them.

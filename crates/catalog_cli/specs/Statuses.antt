@@ -16,10 +16,8 @@ use Rattle.recovery.specs.declared.opening.OpenFault.{OpenFault}
 use Rattle.recovery.specs.declared.opening.OpenFault.TheVariants as opening
 use Rattle.catalog_cli.specs.declared.status.ImageRefusal.{ImageRefusal}
 use Rattle.catalog_cli.specs.declared.status.ImageRefusal.TheVariants as image
-use Rattle.catalog_cli.specs.declared.status.Verb.{Verb}
-use Rattle.catalog_cli.specs.declared.status.Verb.TheVariants.{Crash}
 use Rattle.catalog_cli.specs.declared.status.Status.{Status}
-use Rattle.catalog_cli.specs.declared.status.Status.TheVariants.{Done, Usage, Script, Read, Write, Shelf, NoMemory, Image, NotBuilt}
+use Rattle.catalog_cli.specs.declared.status.Status.TheVariants.{Done, Usage, Script, Read, Write, Shelf, NoMemory, Image}
 
 -- The exit code of a status.
 abbrev pub code_of : Status → ℕ
@@ -31,11 +29,6 @@ code_of Write = 5
 code_of Shelf = 6
 code_of NoMemory = 7
 code_of (Image refusal) = 8
-code_of (NotBuilt verb) = 9
-
--- The word of a line that isn't built yet.
-abbrev pub verb_text : Verb → List ℕ
-verb_text Crash = codes "crash"
 
 -- The forms of the command line.
 abbrev pub usage_text : List ℕ
@@ -70,7 +63,6 @@ status_text Write = codes "report: cannot write"
 status_text Shelf = codes "file: cannot load or save"
 status_text NoMemory = codes "out of memory"
 status_text (Image refusal) = codes "image: " ++ refusal_text refusal
-status_text (NotBuilt verb) = codes "not built: " ++ verb_text verb
 
 -- What a source comes to that was not read whole.
 abbrev pub status_of_read : ReadFault → Status

@@ -45,7 +45,7 @@ use std::thread::Threads;
 /// In a round that one caller has calls in, they are made one after another. In one of several callers each makes its
 /// own in a thread of the runtime, all at once, and the gate is called between their steps; there a call may wait for a
 /// node that another caller holds. A crash that ends a round cuts off what has used up its budget by then, and the next
-/// round is played on what is found in the image that the crash left. It may not end a round of several callers yet.
+/// round is played on what is found in the image that the crash left.
 ///
 /// Only `play` and `run` read. What is written is made whole before its first byte is written, and a file is saved
 /// before that.

@@ -1,7 +1,6 @@
 //! What `catalog` does: plays scripts of calls on a catalogue of names, and reports what each call was answered.
 #![tactic(auto)]
 
-mod built;
 mod commands;
 mod files;
 mod generated;
@@ -11,4 +10,4 @@ mod run_file;
 mod status;
 
 pub use commands::catalog;
-pub use status::{ImageRefusal, Status, Verb};
+pub use status::{ImageRefusal, Status};

@@ -8,14 +8,13 @@ ghost use Rattle.catalog_cli.specs.Refused.{IsRefusedText, IsUnread};
 ghost use Rattle.catalog_cli.specs.Reports.{IsAccepted, IsRefusedBy};
 ghost use Rattle.catalog_cli.specs.Runs.{AreBytesLeft};
 
-use crate::built::first_unbuilt;
 use crate::status::Status;
 use cat_script::{MOST_BYTES, Script, fits, read_script};
 use cat_text::{Source, read_whole};
 use pm_words::Layout;
 use std::alloc::Global;
 
-/// Reads a text as a script that fits a layout and of which each line is built.
+/// Reads a text as a script that fits a layout.
 pub(crate) fn read_accepted(alloc: Global, layout: Layout, bytes: &[u8]) -> Result<Script, Status>
     ensures accepted { IfOk result (IsAccepted layout.callers bytes.now) }
     ensures refused { IfErr result (IsRefusedText layout.callers bytes.now) }
@@ -25,7 +24,7 @@ pub(crate) fn read_accepted(alloc: Global, layout: Layout, bytes: &[u8]) -> Resu
     Ok(script)
 }
 
-/// Whether a script fits a layout, and each of its lines is built.
+/// Whether a script fits a layout.
 pub(crate) fn accept(script: &Script, layout: Layout) -> Result<(), Status>
     ensures accepted { OnOk result ((bytes : List ℕ) → IsScript bytes script.now →
         IsAccepted layout.callers bytes script.now) }
@@ -33,10 +32,7 @@ pub(crate) fn accept(script: &Script, layout: Layout) -> Result<(), Status>
         IsRefusedBy layout.callers bytes status) }
 {
     fits(script, layout)?;
-    match first_unbuilt(script.rounds.as_slice()) {
-        Some(verb) => Err(Status::NotBuilt(verb)),
-        None => Ok(()),
-    }
+    Ok(())
 }
 
 /// Reads the script that a source gives, to its end.

@@ -1,7 +1,7 @@
 //! How a run of the program ends.
 
 ghost use Rattle.std.specs.Prelude.{◌≡◌, Some};
-ghost use Rattle.catalog_cli.specs.Statuses.{code_of, refusal_text, status_text, verb_text};
+ghost use Rattle.catalog_cli.specs.Statuses.{code_of, refusal_text, status_text};
 
 use cat_history::NoMemory;
 use cat_script::ScriptFault;
@@ -9,22 +9,6 @@ use cat_text::{LoadFault, ReadFault, SaveFault};
 use pm_words::{Field, ImageFault};
 use recovery::OpenFault;
 use std::fmt;
-
-/// The word of a script's line that isn't built yet.
-#[derive(Clone, Copy)]
-pub enum Verb {
-    Crash,
-}
-
-impl fmt::Display for Verb {
-    ghost output = { λ verb. Some (verb_text verb) };
-
-    fn fmt<W: fmt::Write>(&self, f: &mut fmt::Formatter<W>) -> fmt::Result {
-        match self {
-            Verb::Crash => write!(f, "crash"),
-        }
-    }
-}
 
 /// Why a command was not done on a file.
 #[derive(Clone, Copy)]
@@ -83,8 +67,6 @@ pub enum Status {
     NoMemory,
     /// The file was refused.
     Image(ImageRefusal),
-    /// This isn't built yet.
-    NotBuilt(Verb),
 }
 
 impl Status {
@@ -101,7 +83,6 @@ impl Status {
             Status::Shelf => 6,
             Status::NoMemory => 7,
             Status::Image(_) => 8,
-            Status::NotBuilt(_) => 9,
         }
     }
 }
@@ -238,7 +219,6 @@ impl fmt::Display for Status {
             Status::Shelf => write!(f, "file: cannot load or save"),
             Status::NoMemory => write!(f, "out of memory"),
             Status::Image(refusal) => write!(f, "image: {refusal}"),
-            Status::NotBuilt(verb) => write!(f, "not built: {verb}"),
         }
     }
 }

@@ -33,7 +33,7 @@ same-layout core mid begins = ap (λ (s : Index). s.layout) begins.is
 pub same-generation : (core mid : Index) → BeginsRound core mid → mid.generation ≡ core.generation
 same-generation core mid begins = ap (λ (s : Index). s.generation) begins.is
 
-base-is : (core mid : Index) → BeginsRound core mid → map_of mid.base ≡ map_of_index core
+pub base-is : (core mid : Index) → BeginsRound core mid → map_of mid.base ≡ map_of_index core
 base-is core mid begins = sym (ap (after_all (map_of mid.base)) (no-history core mid begins)) ∙ begins.map
 
 module _ (core mid met next : Index) (plan : RoundPlan) (records : List Record) (writes names : ℕ) (begins : BeginsRound core mid) (run : IsRunRound mid plan records writes met)
@@ -61,7 +61,7 @@ module _ (core mid met next : Index) (plan : RoundPlan) (records : List Record) 
       let shape = (opened_is_map reopened.image next reopened.opened).within in
       let all : len left ≤ len (map_of mid.base) + puts_added records =
       subst (λ (ws : List Write). len (after_all (map_of mid.base) ws) ≤ len (map_of mid.base) + puts_added records) (take_all (length met.history) met.history (omega arith))
-      (names_rise (map_of mid.base) _ plan.limit records met.history left (length met.history) run.legal (omega arith)) in
+      (names_rise (map_of mid.base) _ plan.limit records met.history (length met.history) run.legal.legal (omega arith)) in
       let here = subst (λ (m : Map). IsShapeWithin next.layout.slots next.layout.nodes (weight_of next) (len m) m (anchors_in (world next))) map-is shape in
       let there = subst (λ (l : Layout). IsShapeWithin l.slots l.nodes (weight_of next) (len left) left (anchors_in (world next))) (reopened.layout ∙ run.layout) here in
       let heavy = there.light in
@@ -76,7 +76,7 @@ module _ (core mid met next : Index) (plan : RoundPlan) (records : List Record) 
         writes = met.history;
         round = here-round;
         told = record {
-          records = records_are_told (map_of mid.base) plan.ops plan.limit records met.history left run.legal told run.replies;
+          records = records_are_told (map_of mid.base) plan.ops plan.limit records met.history run.legal.legal told run.replies;
           by_caller = run.stand;
           writes = writes-fit;
           names = names-fit;

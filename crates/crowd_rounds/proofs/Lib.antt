@@ -1,3 +1,4 @@
+pub mod CrashedCrowds
 pub mod CrowdRounds
 pub mod Restarts
 pub mod Segmenting

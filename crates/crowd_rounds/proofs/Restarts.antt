@@ -1,8 +1,6 @@
 -- Rounds behind which the index is opened again: of several callers, and of one that a crash ends.
-use Rattle.std.proofs.Common.{◌≡◌, ℕ, List, [], ◌∷◌, ◌∙◌, sym, ap, subst, arith}
-use Rattle.std.specs.Prelude.{◌||◌, Option, IfSome, Some, None, is_some, length, true}
-use Rattle.std.proofs.lemmas.Bool.{false_from_ne_true}
-use Rattle.std.proofs.lemmas.Option.{none-some}
+use Rattle.std.proofs.Common.{◌≡◌, [], ◌∷◌, sym, ap, subst, arith}
+use Rattle.std.specs.Prelude.{Option, Some, None, true}
 use Rattle.std.specs.FinMap.{len}
 use Rattle.cat_history.specs.Maps.{Map}
 use Rattle.cat_history.specs.declared.plan.CrashPlan.{CrashPlan}
@@ -11,15 +9,15 @@ use Rattle.cat_text.specs.declared.report.RoundReport.{RoundReport}
 use Rattle.index_law.specs.Anchors.{anchors_in}
 use Rattle.index_core.specs.Indexes.{Index, map_of_index, world}
 use Rattle.index_core.specs.Weights.{weight_of}
-use Rattle.core_rounds.specs.LoneCalls.{AreLoneCalls, has_restart, is_crowd}
-use Rattle.core_rounds.specs.Rounds.{ArePlayed, crowd, ends, lone_crash}
+use Rattle.core_rounds.specs.LoneCalls.{AreLoneCalls, is_crowd}
+use Rattle.core_rounds.specs.Rounds.{ArePlayed, crowd, crowd_crash, ends, lone_crash}
 use Rattle.core_rounds.proofs.Restarting.{crowd_or_lone}
 use Rattle.core_crashes.specs.Rounds.{IsPlayedLoneCrash}
-use Rattle.crowd_rounds.specs.Crowds.{IsPlayedCrowd}
-use Rattle.crowd_rounds.specs.Segments.{HasBudgets, IsPlayedRestart}
+use Rattle.crowd_rounds.specs.Crowds.{IsPlayedAs, IsPlayedCrowd, IsPlayedCrowdCrash}
+use Rattle.crowd_rounds.specs.Segments.{IsPlayedRestart}
 
-pub crowd-restart : (core next : Index) (plan : RoundPlan) (report : RoundReport) → is_crowd plan.ops ≡ true → plan.crash ≡ None → IsPlayedCrowd core plan report next → IsPlayedRestart core plan report next
-crowd-restart core next plan report several joined round =
+joined-restart : (core next : Index) (plan : RoundPlan) (report : RoundReport) → is_crowd plan.ops ≡ true → plan.crash ≡ None → IsPlayedCrowd core plan report next → IsPlayedRestart core plan report next
+joined-restart core next plan report several joined round =
     let few = round.within.few in
     let names = ap len round.map in
     record {
@@ -35,6 +33,25 @@ crowd-restart core next plan report several joined round =
       opened = round.opened;
     }
 
+crashed-restart : (core next : Index) (plan : RoundPlan) (crash : CrashPlan) (report : RoundReport) → is_crowd plan.ops ≡ true → plan.crash ≡ Some crash → IsPlayedCrowdCrash core plan crash report next →
+    IsPlayedRestart core plan report next
+crashed-restart core next plan crash report several ended round = record {
+  played = crowd_crash ((crowd_or_lone plan.ops).0 several) crash ended round.writes round.round round.paid (anchors_in (world next)) round.within ends;
+  told = round.told;
+  weighs = round.weighs;
+  names = round.within.few;
+  layout = round.layout;
+  generation = round.generation;
+  image = round.image;
+  opened = round.opened;
+}
+
+-- one of several callers, joined or ended by its crash
+pub crowd-restart : (core next : Index) (plan : RoundPlan) (report : RoundReport) (crash : Option CrashPlan) → plan.crash ≡ crash → is_crowd plan.ops ≡ true → IsPlayedAs crash core plan report next →
+    IsPlayedRestart core plan report next
+crowd-restart core next plan report None is several round = joined-restart core next plan report several is round
+crowd-restart core next plan report (Some crash) is several round = crashed-restart core next plan crash report several is round
+
 pub crash-restart : (core next : Index) (plan : RoundPlan) (crash : CrashPlan) (report : RoundReport) → AreLoneCalls plan.ops → plan.crash ≡ Some crash → IsPlayedLoneCrash core plan crash report next →
     IsPlayedRestart core plan report next
 crash-restart core next plan crash report lone ended round = record {
@@ -47,14 +64,3 @@ crash-restart core next plan crash report lone ended round = record {
   image = round.image;
   opened = round.opened;
 }
-
--- a crash ends a round of one caller alone, with a budget for each caller of the index,
-pub lone-crashed : (plan : RoundPlan) (crash : CrashPlan) → plan.crash ≡ Some crash → (is_crowd plan.ops ≡ true → plan.crash ≡ None) → AreLoneCalls plan.ops
-lone-crashed plan crash ended joined = (crowd_or_lone plan.ops).1 (false_from_ne_true (is_crowd plan.ops) (λ several. none-some crash (sym (joined several) ∙ ended)))
-
-pub budgets-of : (callers : ℕ) (plan : RoundPlan) (crash : CrashPlan) → plan.crash ≡ Some crash → HasBudgets callers plan → length crash.budgets ≡ callers
-budgets-of callers plan crash ended budgets = subst (λ (o : Option CrashPlan). IfSome o (λ c. length c.budgets ≡ callers)) ended budgets
-
--- and behind any other the index is opened again only where it is of several
-pub crowd-there : (plan : RoundPlan) → has_restart plan ≡ true → plan.crash ≡ None → is_crowd plan.ops ≡ true
-crowd-there plan again none = sym (ap (λ (o : Option CrashPlan). is_some o || is_crowd plan.ops) none) ∙ again

@@ -1,11 +1,11 @@
 -- Rounds that are played in stretches, each behind an opening of the index.
-use Rattle.std.proofs.Common.{◌≡◌, ℕ, suc, ◌+◌, ◌<◌, ◌≤◌, List, [], ◌∷◌, ◌++◌, length, take, drop, get_or, true, false, refl, sym, ap, ◌∙◌, subst, arith, All, length-append}
+use Rattle.std.proofs.Common.{◌≡◌, ℕ, suc, ◌+◌, ◌<◌, ◌≤◌, ◌^◌, List, [], ◌∷◌, ◌++◌, length, take, drop, get_or, true, false, refl, sym, ap, ◌∙◌, subst, arith, All, length-append}
 use Rattle.std.proofs.Math.Seq.{take-add}
 use Rattle.std.proofs.lemmas.List.{get_or-drop, length-drop, length-take-le, take-append-drop, take_all, take_more}
-use Rattle.std.proofs.lemmas.List.Elements.{All-append, All-from_recursion, All-push}
+use Rattle.std.proofs.lemmas.List.Elements.{All-append, All-drop, All-from_recursion}
 use Rattle.std.proofs.lemmas.List.Sums.{sum_by-take-drop, sum_by_push}
 use Rattle.std.specs.FinMap.{len}
-use Rattle.cat_history.specs.Maps.{Map}
+use Rattle.cat_history.specs.declared.op.CallerOp.{CallerOp}
 use Rattle.cat_history.specs.declared.plan.RoundPlan.{RoundPlan}
 use Rattle.cat_text.specs.ReportGrammar.{IsReportRound}
 use Rattle.cat_text.specs.declared.report.RoundReport.{RoundReport}
@@ -18,13 +18,13 @@ use Rattle.index_core.specs.Lone.{IsQuiet}
 use Rattle.index_core.specs.Weights.{weight_of}
 use Rattle.recovery.specs.Opened.{IsOpenedFrom}
 use Rattle.core_rounds.specs.CoreMaps.{HasNoLines}
-use Rattle.core_rounds.specs.LoneCalls.{calls_in, has_restart, restarts}
+use Rattle.core_rounds.specs.LoneCalls.{AreReportCalls, calls_in, has_restart, restarts}
 use Rattle.core_rounds.specs.Rounds.{ArePlayed, RoundsEndWithTurn, added_in, ends}
 use Rattle.core_rounds.specs.Waiting.{one_if}
 use Rattle.core_rounds.proofs.CoreMaps.{opened_is_map}
 use Rattle.core_rounds.proofs.Restarting.{restarts_add_up}
 use Rattle.core_rounds.proofs.Played.{each_is_reported, more_pays, rounds_go_on}
-use Rattle.crowd_rounds.specs.Segments.{AreFirstPlain, AreFirstPlayed, ArePlayedOn, IsPlayedRestart}
+use Rattle.crowd_rounds.specs.Segments.{AreFirstPlain, AreFirstPlayed, ArePlayable, ArePlayedOn, HasBudgets, IsPlayedRestart}
 
 -- the last of rounds behind others is the last of all
 ends-behind : (plans more : List RoundPlan) → 0 < length more → RoundsEndWithTurn (plans ++ more) → RoundsEndWithTurn more
@@ -208,17 +208,33 @@ next-there number plans count is first less plan =
     restarts-split n ps = ap restarts (sym (take-append-drop n ps)) ∙ restarts_add_up (take n ps) (drop n ps)
 
 -- as there are for the rounds that are left
-pub generations-left : (number now : ℕ) (plans : List RoundPlan) (n : ℕ) → IsGeneration (number + restarts plans) → now ≡ number + restarts (take n plans) → IsGeneration (now + restarts (drop n plans))
+generations-left : (number now : ℕ) (plans : List RoundPlan) (n : ℕ) → IsGeneration (number + restarts plans) → now ≡ number + restarts (take n plans) → IsGeneration (now + restarts (drop n plans))
 generations-left number now plans n is so =
     let both = ap restarts (sym (take-append-drop n plans)) ∙ restarts_add_up (take n plans) (drop n plans) in
     subst IsGeneration (omega (arith, both, so)) is
 
 -- no more calls are left than there were
-pub calls-left : (plans : List RoundPlan) (n : ℕ) → calls_in (drop n plans) ≤ calls_in plans
+calls-left : (plans : List RoundPlan) (n : ℕ) → calls_in (drop n plans) ≤ calls_in plans
 calls-left plans n = let both = sum_by-take-drop (λ (p : RoundPlan). length p.ops) plans n in omega (arith, both)
 
 pub calls-first : (plans : List RoundPlan) (n : ℕ) → calls_in (take n plans) ≤ calls_in plans
 calls-first plans n = let both = sum_by-take-drop (λ (p : RoundPlan). length p.ops) plans n in omega (arith, both)
+
+-- what is left of rounds that can be played on a core can be played on the one that the others left
+pub playable-left : (core now : Index) (plans : List RoundPlan) (at : ℕ) → ArePlayable core plans → now.layout ≡ core.layout → now.generation ≡ core.generation + restarts (take at plans) →
+    ArePlayable now (drop at plans)
+playable-left core now plans at is same gone =
+    let fewer = calls-left plans at in
+    let most = is.calls in
+    record {
+      generations = generations-left core.generation now.generation plans at is.generations gone;
+      callers = All-drop (λ (p : RoundPlan). All (λ (a : CallerOp). a.caller < now.layout.callers) p.ops) at plans
+          (subst (λ (l : Layout). All (λ (p : RoundPlan). All (λ (a : CallerOp). a.caller < l.callers) p.ops) plans) (sym same) is.callers);
+      told = All-drop (λ (p : RoundPlan). AreReportCalls p.ops) at plans is.told;
+      limits = All-drop (λ (p : RoundPlan). p.limit ≤ 2 ^ 62) at plans is.limits;
+      budgets = All-drop (HasBudgets now.layout.callers) at plans (subst (λ (l : Layout). All (HasBudgets l.callers) plans) (sym same) is.budgets);
+      calls = omega (arith, fewer, most);
+    }
 
 -- with those before it, one round takes no more than there were
 pub calls-before : (plans : List RoundPlan) (count : ℕ) (plan : RoundPlan) → count < length plans → plan ≡ get_or plans count plan →

@@ -1,27 +1,34 @@
 -- Rounds one after another, and those between two openings of the index.
-use Rattle.std.specs.Prelude.{◌≡◌, ℕ, suc, ◌+◌, ◌<◌, ◌≤◌, List, [], ◌∷◌, None, All, IfSome, length, take, get_or, true}
+use Rattle.std.specs.Prelude.{◌≡◌, ℕ, suc, ◌+◌, ◌<◌, ◌≤◌, ◌^◌, List, [], ◌∷◌, All, IfSome, length, take, get_or, true}
 use Rattle.std.specs.FinMap.{len}
 use Rattle.cat_history.specs.declared.plan.RoundPlan.{RoundPlan}
 use Rattle.cat_text.specs.ReportGrammar.{IsReportRound}
 use Rattle.cat_text.specs.declared.report.RoundReport.{RoundReport}
 use Rattle.pm_words.specs.Images.{Row}
 use Rattle.shapes.specs.ShapeRounds.{puts_added}
+use Rattle.version_lock.specs.Versions.{IsGeneration}
 use Rattle.index_law.specs.Anchors.{anchors_in}
 use Rattle.index_core.specs.Indexes.{Index, IsIndex, map_of_index, world}
 use Rattle.index_core.specs.Lone.{IsQuiet}
 use Rattle.index_core.specs.Weights.{weight_of}
 use Rattle.recovery.specs.Opened.{IsOpenedFrom}
 use Rattle.core_rounds.specs.CoreMaps.{HasNoLines}
-use Rattle.core_rounds.specs.LoneCalls.{has_restart, is_crowd, restarts}
+use Rattle.core_rounds.specs.LoneCalls.{AreReportCalls, calls_in, has_restart, restarts}
 use Rattle.core_rounds.specs.Rounds.{ArePlayed, RoundsEndWithTurn, added_in}
-
--- No crash ends a round of several callers.
-abbrev pub CrowdsAreJoined : List RoundPlan → Type 0
-CrowdsAreJoined plans = All (λ (plan : RoundPlan). is_crowd plan.ops ≡ true → plan.crash ≡ None) plans
 
 -- A crash that ends a round has a budget for each of so many callers.
 abbrev pub HasBudgets : ℕ → RoundPlan → Type 0
 HasBudgets callers plan = IfSome plan.crash (λ crash. length crash.budgets ≡ callers)
+
+-- Rounds can be played on this core, one after another: there are as many generations behind its own as it is opened
+-- again, each call is one of a report, by one of its callers, and there are not too many.
+pub record ArePlayable (core : Index) (plans : List RoundPlan) : Type 0 where
+  pub generations : IsGeneration (core.generation + restarts plans)
+  pub callers : All (λ (plan : RoundPlan). All (λ a. a.caller < core.layout.callers) plan.ops) plans
+  pub told : All (λ (plan : RoundPlan). AreReportCalls plan.ops) plans
+  pub limits : All (λ (plan : RoundPlan). plan.limit ≤ 2 ^ 62) plans
+  pub budgets : All (HasBudgets core.layout.callers) plans
+  pub calls : calls_in plans ≤ 100000
 
 -- Behind none of the first so many rounds the index is opened again, and behind the next one, if there is one, it is.
 pub record AreFirstPlain (plans : List RoundPlan) (count : ℕ) : Type 0 where

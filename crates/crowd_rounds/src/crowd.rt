@@ -1,30 +1,37 @@
-//! A round of several callers, and the core that its image opens as.
+//! A round of several callers, and the core that an image opens as behind it.
 
-ghost use Rattle.std.specs.Prelude.{◌≡◌, ◌<◌, ◌≤◌, ◌^◌, None, All, IfOk, suc};
+ghost use Rattle.std.specs.Prelude.{◌≡◌, ◌<◌, ◌≤◌, ◌^◌, All, IfOk, length, suc};
 ghost use Rattle.core_rounds.specs.LoneCalls.{AreReportCalls};
 ghost use Rattle.index_core.specs.Lone.{IsQuiet};
+ghost use Rattle.recovery.specs.Opened.{IsOpenedFrom};
+ghost use Rattle.recovery.specs.declared.opening.OpenFault.TheVariants.{NoMemory as OutOfMemory};
+ghost use Rattle.sound_image.specs.Rules.{header_generation};
+ghost use Rattle.sound_layer.specs.Sound.{IsSoundByAll};
 ghost use Rattle.version_lock.specs.Versions.{IsGeneration};
-ghost use Rattle.crowd_rounds.specs.Crowds.{IsPlayedCrowd};
+ghost use Rattle.crowd_rounds.specs.Crowds.{IsPlayedAs, IsReportedBehind, IsReportedCrash};
 
-use cat_history::{NoMemory, RoundPlan};
+use cat_history::{NoMemory, Records, RoundPlan, settle};
 use cat_text::RoundReport;
 use core_rounds::reopen;
 use index_core::Core;
 use pac_index::Gate;
+use pm_words::Image;
+use recovery::{OpenFault, recover};
 use std::alloc::Global;
 use std::sync::Wait;
 use std::thread::Threads;
 use thread_rounds::{Finish, Round, run_round};
 
-/// A round of several callers that was played: what is reported of it, and the core that its image opens as.
+/// A round of several callers that was played: what is reported of it, and the core that an image opens as behind it.
 #[derive(Drop)]
 pub(crate) struct Crowd {
     pub(crate) report: RoundReport,
     pub(crate) core: Core,
 }
 
-/// Plays a round of several callers on the map of a core, and opens the image again in which they meet. So each version
-/// word begins anew, and the next round finds no worn node.
+/// Plays a round of several callers on the map of a core. Where they are joined, the image is opened again in which they
+/// meet: so each version word begins anew, and the next round finds no worn node. Where a crash ends the round, the image
+/// is opened that it leaves, and the map that is found there says what became of each write that was cut off.
 pub(crate) fn play_crowd<R: Threads + Wait + Sync, G: Gate>(
     rt: &R,
     alloc: Global,
@@ -37,8 +44,7 @@ pub(crate) fn play_crowd<R: Threads + Wait + Sync, G: Gate>(
     requires callers { All (λ a. a.caller < core.layout.callers) plan.now.ops }
     requires told { AreReportCalls plan.now.ops }
     requires limit { plan.now.limit ≤ 2 ^ 62 }
-    requires joined { plan.now.crash ≡ None }
-    ensures { IfOk result (λ crowd. IsPlayedCrowd core plan.now crowd.report crowd.core) }
+    ensures { IfOk result (λ crowd. IsPlayedAs plan.now.crash core plan.now crowd.report crowd.core) }
 {
     let mut core = core;
     core.new_round()?;
@@ -47,11 +53,20 @@ pub(crate) fn play_crowd<R: Threads + Wait + Sync, G: Gate>(
         writes,
         finish,
     } = run_round(rt, alloc, core, plan, gate)?;
-    let Finish::Joined(met) = finish else {
-        unreachable!()
-    };
+    match finish {
+        Finish::Joined(met) => reopened(alloc, records, writes, met),
+        Finish::Crashed(image) => recovered(alloc, records, writes, image),
+    }
+}
+
+/// The report of a round whose callers met in this core, and the core that its image opens as.
+fn reopened(alloc: Global, records: Records, writes: u64, met: Core) -> Result<Crowd, NoMemory>
+    requires quiet { IsQuiet met }
+    requires next { IsGeneration (suc met.generation) }
+    ensures { IfOk result (λ crowd. IsReportedBehind met records writes crowd.report crowd.core) }
+{
     let core = reopen(alloc, met)?;
-    let names = core.base().as_slice().len() as u64;
+    let names = names_in(&core);
     Ok(Crowd {
         report: RoundReport {
             records,
@@ -61,4 +76,54 @@ pub(crate) fn play_crowd<R: Threads + Wait + Sync, G: Gate>(
         },
         core,
     })
+}
+
+/// The report of a round that a crash ended, which left this image, and the core that it opens as.
+fn recovered(alloc: Global, records: Records, writes: u64, image: Image) -> Result<Crowd, NoMemory>
+    requires sound { IsSoundByAll image.layout image.words }
+    requires next { IsGeneration (suc (header_generation image.layout image.words)) }
+    ensures { IfOk result (λ crowd. IsReportedCrash image records writes crowd.report crowd.core) }
+{
+    let core = opened(alloc, image)?;
+    let mut records = records;
+    settle(&mut records, core.base());
+    let names = names_in(&core);
+    Ok(Crowd {
+        report: RoundReport {
+            records,
+            crashed: true,
+            writes,
+            names,
+        },
+        core,
+    })
+}
+
+/// Opens an image that is sound, and of which there is a next generation.
+fn opened(alloc: Global, image: Image) -> Result<Core, NoMemory>
+    requires sound { IsSoundByAll image.layout image.words }
+    requires next { IsGeneration (suc (header_generation image.layout image.words)) }
+    ensures { IfOk result (IsOpenedFrom image) }
+{
+    match recover(alloc, image) {
+        Ok(core) => Ok(core),
+        Err(fault) => Err(no_memory(fault)),
+    }
+}
+
+/// How many names a core has that was opened.
+fn names_in(core: &Core) -> u64
+    ensures { result ≡ length core.now.base }
+{
+    core.base().as_slice().len() as u64
+}
+
+/// Why an image isn't opened that is sound, and of which there is a next generation.
+fn no_memory(fault: OpenFault) -> NoMemory
+    requires { fault ≡ OutOfMemory }
+{
+    match fault {
+        OpenFault::NoMemory => NoMemory,
+        OpenFault::Damaged { .. } | OpenFault::Generations => unreachable!(),
+    }
 }

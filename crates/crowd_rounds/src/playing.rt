@@ -1,6 +1,6 @@
 //! Playing the rounds of a script.
 
-ghost use Rattle.std.specs.Prelude.{◌≡◌, ℕ, ◌+◌, ◌/◌, ◌*◌, ◌<◌, ◌≤◌, ◌^◌, [], ◌∷◌, None, Some, All};
+ghost use Rattle.std.specs.Prelude.{◌≡◌, ℕ, ◌+◌, ◌/◌, ◌*◌, ◌<◌, ◌≤◌, ◌^◌, [], ◌∷◌, All};
 ghost use Rattle.std.specs.Prelude.{IfOk, length, suc, true};
 ghost use Rattle.std.specs.FinMap.{empty, len};
 ghost use Rattle.cat_text.specs.ReportGrammar.{IsReportRound};
@@ -15,17 +15,17 @@ ghost use Rattle.index_core.specs.Weights.{weight_of};
 ghost use Rattle.recovery.specs.Opened.{IsOpenedFrom};
 ghost use Rattle.core_rounds.specs.CoreMaps.{HasNoLines, Waits, calls_left_of};
 ghost use Rattle.core_rounds.specs.LoneCalls.{AreJoined, AreLoneRounds, AreReportCalls, calls_in};
-ghost use Rattle.core_rounds.specs.LoneCalls.{has_restart, is_crowd, restarts};
+ghost use Rattle.core_rounds.specs.LoneCalls.{has_restart, restarts};
 ghost use Rattle.core_rounds.specs.Rounds.{ArePlayed, RoundsEndWithTurn};
 ghost use Rattle.core_rounds.specs.Waiting.{HaveNoTurns, changes_made, puts_asked, writes_asked};
-ghost use Rattle.crowd_rounds.specs.Segments.{AreFirstPlain, AreFirstPlayed, ArePlayedOn, CrowdsAreJoined, HasBudgets};
+ghost use Rattle.crowd_rounds.specs.Segments.{AreFirstPlain, AreFirstPlayed, ArePlayable, ArePlayedOn, HasBudgets};
 ghost use Rattle.crowd_rounds.specs.Segments.{IsPlayedRestart};
 
 use crate::crowd::{Crowd, play_crowd};
 use cat_history::{Listed, NoMemory, RoundPlan};
 use cat_text::{Report, RoundReport};
 use core_crashes::{CrashedRound, crash_round};
-use core_rounds::{LoneRounds, has_restart, open_fresh, play_lone, restarts};
+use core_rounds::{LoneRounds, has_restart, is_crowd, open_fresh, play_lone, restarts};
 use index_core::Core;
 use pac_index::Gate;
 use pm_words::Layout;
@@ -43,7 +43,7 @@ pub struct PlayedRounds {
 /// Plays the rounds, one after another, from an empty catalogue of this layout.
 ///
 /// In a round of several callers each waits for nodes that others hold, and `gate` is called before each call and before
-/// each of its steps. Memory that runs out is the only refusal. No crash may end such a round yet.
+/// each of its steps. Memory that runs out is the only refusal.
 pub fn play_plans<R: Threads + Wait + Sync, G: Gate>(
     rt: &R,
     alloc: Global,
@@ -55,7 +55,6 @@ pub fn play_plans<R: Threads + Wait + Sync, G: Gate>(
     requires callers { All (λ plan. All (λ a. a.caller < layout.now.callers) plan.ops) plans.now }
     requires told { All (λ plan. AreReportCalls plan.ops) plans.now }
     requires limits { All (λ plan. plan.limit ≤ 2 ^ 62) plans.now }
-    requires joined { CrowdsAreJoined plans.now }
     requires budgets { All (HasBudgets layout.now.callers) plans.now }
     // So there are generations enough.
     requires rounds { length plans.now ≤ 1001 }
@@ -71,7 +70,7 @@ pub fn play_plans<R: Threads + Wait + Sync, G: Gate>(
 /// Plays the rounds, one after another, on a core that an image was opened as, with nothing done with it since.
 ///
 /// Behind each round of several callers the image is opened again, and so it is behind each one that a crash ends; that
-/// takes the next generation. Memory that runs out is the only refusal. No crash may end a round of several callers yet.
+/// takes the next generation. Memory that runs out is the only refusal.
 pub fn play_rounds<R: Threads + Wait + Sync, G: Gate>(
     rt: &R,
     alloc: Global,
@@ -85,7 +84,6 @@ pub fn play_rounds<R: Threads + Wait + Sync, G: Gate>(
     requires callers { All (λ plan. All (λ a. a.caller < core.layout.callers) plan.ops) plans.now }
     requires told { All (λ plan. AreReportCalls plan.ops) plans.now }
     requires limits { All (λ plan. plan.limit ≤ 2 ^ 62) plans.now }
-    requires joined { CrowdsAreJoined plans.now }
     requires budgets { All (HasBudgets core.layout.callers) plans.now }
     requires calls { calls_in plans.now ≤ 100000 }
     // Each round is legal and reported, and the core has the map and the shape that follow the last one.
@@ -124,13 +122,7 @@ fn play_mixed<R: Threads + Wait + Sync, G: Gate>(
     gate: &G,
 ) -> Result<PlayedRounds, NoMemory>
     requires opened { (image : Row) × IsOpenedFrom image core }
-    requires generations { IsGeneration (core.generation + restarts plans.now) }
-    requires callers { All (λ plan. All (λ a. a.caller < core.layout.callers) plan.ops) plans.now }
-    requires told { All (λ plan. AreReportCalls plan.ops) plans.now }
-    requires limits { All (λ plan. plan.limit ≤ 2 ^ 62) plans.now }
-    requires joined { CrowdsAreJoined plans.now }
-    requires budgets { All (HasBudgets core.layout.callers) plans.now }
-    requires calls { calls_in plans.now ≤ 100000 }
+    requires playable { ArePlayable core plans.now }
     ensures { IfOk result (λ done. ArePlayedOn core plans.now done.report done.core) }
 {
     let mut core = core;
@@ -161,13 +153,7 @@ fn play_segment<R: Threads + Wait + Sync, G: Gate>(
     gate: &G,
 ) -> Result<LoneRounds, NoMemory>
     requires opened { (image : Row) × IsOpenedFrom image core }
-    requires generations { IsGeneration (core.generation + restarts plans.now) }
-    requires callers { All (λ plan. All (λ a. a.caller < core.layout.callers) plan.ops) plans.now }
-    requires told { All (λ plan. AreReportCalls plan.ops) plans.now }
-    requires limits { All (λ plan. plan.limit ≤ 2 ^ 62) plans.now }
-    requires joined { CrowdsAreJoined plans.now }
-    requires budgets { All (HasBudgets core.layout.callers) plans.now }
-    requires calls { calls_in plans.now ≤ 100000 }
+    requires playable { ArePlayable core plans.now }
     ensures first { IfOk result (λ done. AreFirstPlayed core plans.now done.reports.items done.core) }
     ensures some { IfOk result (λ done. 0 < length plans.now → 0 < length done.reports.items) }
     ensures opened { IfOk result (λ done. length done.reports.items < length plans.now →
@@ -203,7 +189,7 @@ struct Restarted {
     core: Core,
 }
 
-/// Plays a round behind which the index is opened again: one that a crash ends, or one of several callers.
+/// Plays a round behind which the index is opened again: one of several callers, or one of one caller that a crash ends.
 fn play_restart<R: Threads + Wait + Sync, G: Gate>(
     rt: &R,
     alloc: Global,
@@ -219,19 +205,23 @@ fn play_restart<R: Threads + Wait + Sync, G: Gate>(
     requires told { AreReportCalls plan.now.ops }
     requires limit { plan.now.limit ≤ 2 ^ 62 }
     requires restart { has_restart plan.now ≡ true }
-    requires joined { is_crowd plan.now.ops ≡ true → plan.now.crash ≡ None }
     requires budgets { HasBudgets core.layout.callers plan.now }
     requires calls { length plan.now.ops * core.layout.nodes ≤ calls_left_of core }
     ensures { IfOk result (λ done. IsPlayedRestart core plan.now done.report done.core) }
 {
-    match &plan.crash {
-        Some(crash) => {
-            let CrashedRound { report, core } = crash_round(alloc, core, plan, crash)?;
-            Ok(Restarted { report, core })
-        }
-        None => {
-            let Crowd { report, core } = play_crowd(rt, alloc, core, plan, gate)?;
-            Ok(Restarted { report, core })
-        }
+    if is_crowd(plan.ops.as_slice()) {
+        let Crowd {
+            report: told,
+            core: next,
+        } = play_crowd(rt, alloc, core, plan, gate)?;
+        return Ok(Restarted {
+            report: told,
+            core: next,
+        });
     }
+    let Some(crash) = &plan.crash else {
+        unreachable!()
+    };
+    let CrashedRound { report, core } = crash_round(alloc, core, plan, crash)?;
+    Ok(Restarted { report, core })
 }

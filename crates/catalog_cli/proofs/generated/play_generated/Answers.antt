@@ -27,10 +27,6 @@ play_plans-requires-clause-told g c κs lives =
 pub play_plans-requires-clause-limits : goal.play_plans-requires-clause-limits
 play_plans-requires-clause-limits g c κs lives = all-of-one (λ (p : RoundPlan). p.limit ≤ 2 ^ 62) _ c.in_ok-plan.plan c.from_ref.ensures.value (omega (arith, ap (λ (p : RoundPlan). p.limit) c.in_ok-plan.ensures))
 
-pub play_plans-requires-clause-joined : goal.play_plans-requires-clause-joined
-play_plans-requires-clause-joined g c κs lives =
-    all-of-one (λ (p : RoundPlan). is_crowd p.ops ≡ true → p.crash ≡ None) _ c.in_ok-plan.plan c.from_ref.ensures.value (λ several. ap (λ (p : RoundPlan). p.crash) c.in_ok-plan.ensures)
-
 -- no crash ends the round
 pub play_plans-requires-clause-budgets : goal.play_plans-requires-clause-budgets
 play_plans-requires-clause-budgets g c κs lives =

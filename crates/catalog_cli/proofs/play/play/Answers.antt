@@ -6,7 +6,7 @@ use Rattle.index_core.specs.Indexes.{map_of_index, world}
 use Rattle.core_rounds.specs.Rounds.{ArePlayed}
 use Rattle.core_rounds.specs.LoneCalls.{calls_in}
 use Rattle.core_rounds.proofs.Played.{each_is_reported}
-use Rattle.catalog_cli.proofs.Playable.{all-playable, crowds-joined, some-round}
+use Rattle.catalog_cli.proofs.Playable.{all-playable, some-round}
 use Rattle.catalog_cli.proofs.PlayedReports.{played-report}
 use Rattle.catalog_cli.proofs.ScriptCalls.{calls-of-script, rounds-of-script}
 use Rattle.catalog_cli.proofs.play.play.Goals as goal
@@ -19,9 +19,6 @@ play_plans-requires-clause-told g c κs lives i d within = (all-playable _ c.req
 
 pub play_plans-requires-clause-limits : goal.play_plans-requires-clause-limits
 play_plans-requires-clause-limits g c κs lives i d within = (all-playable _ c.requires.accepted.0 c.args.script.now _ c.requires.accepted.1 c.as_slice.ensures i d within).limit
-
-pub play_plans-requires-clause-joined : goal.play_plans-requires-clause-joined
-play_plans-requires-clause-joined g c κs lives = crowds-joined _ c.requires.accepted.0 c.args.script.now _ c.requires.accepted.1 c.as_slice.ensures
 
 pub play_plans-requires-clause-budgets : goal.play_plans-requires-clause-budgets
 play_plans-requires-clause-budgets g c κs lives i d within = (all-playable _ c.requires.accepted.0 c.args.script.now _ c.requires.accepted.1 c.as_slice.ensures i d within).budgets

@@ -9,7 +9,7 @@ use Rattle.core_rounds.proofs.Played.{each_is_reported}
 use Rattle.crowd_rounds.specs.Segments.{HasBudgets}
 use Rattle.catalog_cli.specs.Reports.{IsAccepted, IsRefusedBy}
 use Rattle.catalog_cli.specs.Runs.{IsOpenable, IsPlayRefused}
-use Rattle.catalog_cli.proofs.Playable.{all-playable, crowds-joined, some-round}
+use Rattle.catalog_cli.proofs.Playable.{all-playable, some-round}
 use Rattle.catalog_cli.proofs.PlayedReports.{played-report}
 use Rattle.catalog_cli.proofs.RunEnds.{generations-left, not-accepted, run-ends}
 use Rattle.catalog_cli.proofs.ScriptCalls.{calls-of-script, rounds-of-script}
@@ -53,11 +53,6 @@ pub play_rounds-requires-clause-limits : goal.play_rounds-requires-clause-limits
 play_rounds-requires-clause-limits g c κs lives i d within =
     let script = c.requires in
     (all-playable _ script.0 c.args.script.now _ (c.in_ok-accept.ensures.accepted script.0 script.1) c.as_slice-plans.ensures i d within).limit
-
-pub play_rounds-requires-clause-joined : goal.play_rounds-requires-clause-joined
-play_rounds-requires-clause-joined g c κs lives =
-    let script = c.requires in
-    crowds-joined _ script.0 c.args.script.now _ (c.in_ok-accept.ensures.accepted script.0 script.1) c.as_slice-plans.ensures
 
 pub play_rounds-requires-clause-budgets : goal.play_rounds-requires-clause-budgets
 play_rounds-requires-clause-budgets g c κs lives =

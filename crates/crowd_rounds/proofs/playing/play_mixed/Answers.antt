@@ -1,22 +1,15 @@
-use Rattle.std.proofs.Common.{◌≡◌, ℕ, ◌+◌, ◌-◌, ◌<◌, ◌≤◌, ◌^◌, List, length, take, drop, None, true, sym, ap, ◌∙◌, subst, arith, All, length-append}
+use Rattle.std.proofs.Common.{◌≡◌, ℕ, ◌+◌, ◌-◌, List, length, take, drop, sym, ap, ◌∙◌, subst, arith, length-append}
 use Rattle.std.proofs.lemmas.List.{length-drop, take_all}
-use Rattle.std.proofs.lemmas.List.Elements.{All-drop}
-use Rattle.cat_history.specs.declared.op.CallerOp.{CallerOp}
 use Rattle.cat_history.specs.declared.plan.RoundPlan.{RoundPlan}
 use Rattle.cat_text.specs.declared.report.RoundReport.{RoundReport}
-use Rattle.pm_words.specs.declared.layout.Layout.{Layout}
-use Rattle.version_lock.specs.Versions.{IsGeneration}
-use Rattle.core_rounds.specs.LoneCalls.{AreReportCalls, calls_in, is_crowd, restarts}
-use Rattle.crowd_rounds.specs.Segments.{AreFirstPlayed, HasBudgets}
-use Rattle.crowd_rounds.proofs.Segmenting.{all-played, calls-left, generations-left, goes-on, none-played}
+use Rattle.core_rounds.specs.LoneCalls.{restarts}
+use Rattle.crowd_rounds.specs.Segments.{AreFirstPlayed, ArePlayable}
+use Rattle.crowd_rounds.proofs.Segmenting.{all-played, goes-on, none-played, playable-left}
 use Rattle.crowd_rounds.proofs.playing.play_mixed.Goals as goal
 
 -- what is left of the plans
 rest : (plans : List RoundPlan) (at : ℕ) → take (length plans - at) (drop at plans) ≡ drop at plans
 rest plans at = let long = length-drop at plans in take_all (length plans - at) (drop at plans) (omega (arith, long))
-
-of-rest : (P : RoundPlan → Type 0) (plans : List RoundPlan) (at : ℕ) → All P plans → All P (take (length plans - at) (drop at plans))
-of-rest P plans at all = subst (All P) (sym (rest plans at)) (All-drop P at plans all)
 
 pub loop-at-init : goal.loop-at-init
 loop-at-init g c = record {
@@ -25,38 +18,12 @@ loop-at-init g c = record {
   opened = λ some. c.requires.opened;
 }
 
-pub play_segment-requires-clause-generations : goal.play_segment-requires-clause-generations
-play_segment-requires-clause-generations g c κs within =
+pub play_segment-requires-clause-playable : goal.play_segment-requires-clause-playable
+play_segment-requires-clause-playable g c κs within =
     let was = c.loop-at.invariant in
-    let plans = c.args.plans.now in
-    subst (λ (ps : List RoundPlan). IsGeneration (c.loop-at.core.generation + restarts ps)) (sym (rest plans c.loop-at.at))
-    (generations-left c.args.core.generation c.loop-at.core.generation plans c.loop-at.at c.requires.generations
-    (was.first.generation ∙ ap (λ (k : ℕ). c.args.core.generation + restarts (take k plans)) (sym was.many)))
-
-pub play_segment-requires-clause-callers : goal.play_segment-requires-clause-callers
-play_segment-requires-clause-callers g c κs within =
-    of-rest (λ (p : RoundPlan). All (λ (a : CallerOp). a.caller < c.loop-at.core.layout.callers) p.ops) c.args.plans.now c.loop-at.at
-    (subst (λ (l : Layout). All (λ (p : RoundPlan). All (λ (a : CallerOp). a.caller < l.callers) p.ops) c.args.plans.now) (sym c.loop-at.invariant.first.layout) c.requires.callers)
-
-pub play_segment-requires-clause-told : goal.play_segment-requires-clause-told
-play_segment-requires-clause-told g c κs within = of-rest (λ (p : RoundPlan). AreReportCalls p.ops) c.args.plans.now c.loop-at.at c.requires.told
-
-pub play_segment-requires-clause-limits : goal.play_segment-requires-clause-limits
-play_segment-requires-clause-limits g c κs within = of-rest (λ (p : RoundPlan). p.limit ≤ 2 ^ 62) c.args.plans.now c.loop-at.at c.requires.limits
-
-pub play_segment-requires-clause-joined : goal.play_segment-requires-clause-joined
-play_segment-requires-clause-joined g c κs within = of-rest (λ (p : RoundPlan). is_crowd p.ops ≡ true → p.crash ≡ None) c.args.plans.now c.loop-at.at c.requires.joined
-
-pub play_segment-requires-clause-budgets : goal.play_segment-requires-clause-budgets
-play_segment-requires-clause-budgets g c κs within =
-    of-rest (HasBudgets c.loop-at.core.layout.callers) c.args.plans.now c.loop-at.at
-    (subst (λ (l : Layout). All (HasBudgets l.callers) c.args.plans.now) (sym c.loop-at.invariant.first.layout) c.requires.budgets)
-
-pub play_segment-requires-clause-calls : goal.play_segment-requires-clause-calls
-play_segment-requires-clause-calls g c κs within =
-    let fewer = calls-left c.args.plans.now c.loop-at.at in
-    let same = ap calls_in (rest c.args.plans.now c.loop-at.at) in
-    omega (arith, fewer, same, c.requires.calls)
+    subst (ArePlayable c.loop-at.core) (sym (rest c.args.plans.now c.loop-at.at))
+    (playable-left c.args.core c.loop-at.core c.args.plans.now c.loop-at.at c.requires.playable was.first.layout
+    (was.first.generation ∙ ap (λ (k : ℕ). c.args.core.generation + restarts (take k c.args.plans.now)) (sym was.many)))
 
 pub loop-at-preserved : goal.loop-at-preserved
 loop-at-preserved g c =

@@ -1,15 +1,18 @@
-use Rattle.crowd_rounds.proofs.Restarts.{crash-restart, crowd-restart, crowd-there, lone-crashed}
+use Rattle.std.proofs.Common.{◌∙◌, sym, ap, refl}
+use Rattle.core_rounds.proofs.Restarting.{crowd_or_lone}
+use Rattle.core_rounds.specs.LoneCalls.{is_crowd}
+use Rattle.crowd_rounds.proofs.Restarts.{crash-restart, crowd-restart}
 use Rattle.crowd_rounds.proofs.playing.play_restart.Goals as goal
 
+pub returns-then-is_crowd : goal.returns-then-is_crowd
+returns-then-is_crowd g c =
+    crowd-restart c.args.core c.in_ok-told.field-0.core c.args.plan.now c.in_ok-told.field-0.report c.args.plan.now.crash refl (ap is_crowd (sym c.as_slice.ensures) ∙ sym c.is_crowd.ensures ∙ c.if-is_crowd.true)
+    c.in_ok-told.ensures
+
 pub crash_round-requires-clause-lone : goal.crash_round-requires-clause-lone
-crash_round-requires-clause-lone g c = lone-crashed c.args.plan.now c.in-Some.crash c.in-Some.is c.requires.joined
+crash_round-requires-clause-lone g c = (crowd_or_lone c.args.plan.now.ops).1 (ap is_crowd (sym c.as_slice.ensures) ∙ sym c.is_crowd.ensures ∙ c.if-is_crowd.false)
 
-pub returns-in_ok-report-in-Some : goal.returns-in_ok-report-in-Some
-returns-in_ok-report-in-Some g c =
-    crash-restart c.args.core c.in_ok-report-in-Some.field-0.core c.args.plan.now c.in-Some.crash c.in_ok-report-in-Some.field-0.report
-    (lone-crashed c.args.plan.now c.in-Some.crash c.in-Some.is c.requires.joined) c.in-Some.is c.in_ok-report-in-Some.ensures
-
-pub returns-in_ok-report-in-None : goal.returns-in_ok-report-in-None
-returns-in_ok-report-in-None g c =
-    crowd-restart c.args.core c.in_ok-report-in-None.field-0.core c.args.plan.now c.in_ok-report-in-None.field-0.report (crowd-there c.args.plan.now c.requires.restart c.in-None.is) c.in-None.is
-    c.in_ok-report-in-None.ensures
+pub returns : goal.returns
+returns g c =
+    crash-restart c.args.core c.in_ok-report.field-0.core c.args.plan.now c.in-Some.crash c.in_ok-report.field-0.report
+    ((crowd_or_lone c.args.plan.now.ops).1 (ap is_crowd (sym c.as_slice.ensures) ∙ sym c.is_crowd.ensures ∙ c.if-is_crowd.false)) c.in-Some.is c.in_ok-report.ensures

@@ -1,5 +1,4 @@
-use Rattle.std.proofs.Common.{◌≡◌, ℕ, suc, ◌*◌, ◌^◌, ◌<◌, ◌≤◌, length, take, sym, ap, ◌∙◌, subst, arith, All}
-use Rattle.std.specs.Prelude.{None, true}
+use Rattle.std.proofs.Common.{ℕ, suc, ◌*◌, ◌^◌, ◌<◌, ◌≤◌, length, take, sym, ap, ◌∙◌, subst, arith, All}
 use Rattle.std.proofs.lemmas.List.Elements.{All-take}
 use Rattle.cat_history.specs.declared.op.CallerOp.{CallerOp}
 use Rattle.cat_history.specs.declared.plan.RoundPlan.{RoundPlan}
@@ -7,7 +6,7 @@ use Rattle.pm_words.specs.declared.layout.Layout.{Layout}
 use Rattle.version_lock.specs.Versions.{IsGeneration}
 use Rattle.core_rounds.proofs.Restarting.{joined_lone_have_no_restart}
 use Rattle.core_rounds.specs.CoreMaps.{calls_left_of}
-use Rattle.core_rounds.specs.LoneCalls.{AreReportCalls, has_restart, is_crowd}
+use Rattle.core_rounds.specs.LoneCalls.{AreReportCalls, has_restart}
 use Rattle.crowd_rounds.specs.Segments.{HasBudgets}
 use Rattle.crowd_rounds.proofs.Segmenting.{LoneDone, as-many, calls-before, next-there, plain-first, plain-then-restart}
 use Rattle.crowd_rounds.proofs.playing.play_segment.Goals.{Then-count-plans, After-index-plans-count, In_ok-push}
@@ -52,10 +51,10 @@ pub play_lone-requires-clause-joined : goal.play_lone-requires-clause-joined
 play_lone-requires-clause-joined g c = ((joined_lone_have_no_restart (take c.plain_at_first-count.result c.args.plans.now)).1 c.plain_at_first-count.ensures.none).1
 
 pub play_lone-requires-clause-callers : goal.play_lone-requires-clause-callers
-play_lone-requires-clause-callers g c = All-take (λ (p : RoundPlan). All (λ (a : CallerOp). a.caller < c.args.core.layout.callers) p.ops) c.plain_at_first-count.result c.args.plans.now c.requires.callers
+play_lone-requires-clause-callers g c = All-take (λ (p : RoundPlan). All (λ (a : CallerOp). a.caller < c.args.core.layout.callers) p.ops) c.plain_at_first-count.result c.args.plans.now c.requires.playable.callers
 
 pub play_lone-requires-clause-told : goal.play_lone-requires-clause-told
-play_lone-requires-clause-told g c = All-take (λ (p : RoundPlan). AreReportCalls p.ops) c.plain_at_first-count.result c.args.plans.now c.requires.told
+play_lone-requires-clause-told g c = All-take (λ (p : RoundPlan). AreReportCalls p.ops) c.plain_at_first-count.result c.args.plans.now c.requires.playable.told
 
 pub returns-then-count-plans-clause-first : goal.returns-then-count-plans-clause-first
 returns-then-count-plans-clause-first g c =
@@ -78,39 +77,35 @@ fewer g c = let few = c.plain_at_first-count.ensures.few in let other = c.if-cou
 pub play_restart-requires-clause-next : goal.play_restart-requires-clause-next
 play_restart-requires-clause-next g c κs within =
     subst (λ (n : ℕ). IsGeneration (suc n)) (sym c.in_ok-reports.ensures.generation)
-    (next-there c.args.core.generation c.args.plans.now c.plain_at_first-count.result c.requires.generations c.plain_at_first-count.ensures (fewer g c) c.index-plans-count.result)
+    (next-there c.args.core.generation c.args.plans.now c.plain_at_first-count.result c.requires.playable.generations c.plain_at_first-count.ensures (fewer g c) c.index-plans-count.result)
 
 pub play_restart-requires-clause-callers : goal.play_restart-requires-clause-callers
 play_restart-requires-clause-callers g c κs within =
     subst (λ (l : Layout). All (λ (a : CallerOp). a.caller < l.callers) c.index-plans-count.result.ops) (sym c.in_ok-reports.ensures.layout)
     (subst (λ (p : RoundPlan). All (λ (a : CallerOp). a.caller < c.args.core.layout.callers) p.ops) (sym c.index-plans-count.is)
-    (c.requires.callers c.plain_at_first-count.result c.index-plans-count.result (fewer g c)))
+    (c.requires.playable.callers c.plain_at_first-count.result c.index-plans-count.result (fewer g c)))
 
 pub play_restart-requires-clause-told : goal.play_restart-requires-clause-told
 play_restart-requires-clause-told g c κs within =
-    subst (λ (p : RoundPlan). AreReportCalls p.ops) (sym c.index-plans-count.is) (c.requires.told c.plain_at_first-count.result c.index-plans-count.result (fewer g c))
+    subst (λ (p : RoundPlan). AreReportCalls p.ops) (sym c.index-plans-count.is) (c.requires.playable.told c.plain_at_first-count.result c.index-plans-count.result (fewer g c))
 
 pub play_restart-requires-clause-limit : goal.play_restart-requires-clause-limit
 play_restart-requires-clause-limit g c κs within =
-    subst (λ (p : RoundPlan). p.limit ≤ 2 ^ 62) (sym c.index-plans-count.is) (c.requires.limits c.plain_at_first-count.result c.index-plans-count.result (fewer g c))
+    subst (λ (p : RoundPlan). p.limit ≤ 2 ^ 62) (sym c.index-plans-count.is) (c.requires.playable.limits c.plain_at_first-count.result c.index-plans-count.result (fewer g c))
 
 pub play_restart-requires-clause-restart : goal.play_restart-requires-clause-restart
 play_restart-requires-clause-restart g c κs within = ap has_restart c.index-plans-count.is ∙ c.plain_at_first-count.ensures.next c.index-plans-count.result (fewer g c)
 
-pub play_restart-requires-clause-joined : goal.play_restart-requires-clause-joined
-play_restart-requires-clause-joined g c κs within =
-    subst (λ (p : RoundPlan). is_crowd p.ops ≡ true → p.crash ≡ None) (sym c.index-plans-count.is) (c.requires.joined c.plain_at_first-count.result c.index-plans-count.result (fewer g c))
-
 pub play_restart-requires-clause-budgets : goal.play_restart-requires-clause-budgets
 play_restart-requires-clause-budgets g c κs within =
     subst (λ (l : Layout). HasBudgets l.callers c.index-plans-count.result) (sym c.in_ok-reports.ensures.layout)
-    (subst (HasBudgets c.args.core.layout.callers) (sym c.index-plans-count.is) (c.requires.budgets c.plain_at_first-count.result c.index-plans-count.result (fewer g c)))
+    (subst (HasBudgets c.args.core.layout.callers) (sym c.index-plans-count.is) (c.requires.playable.budgets c.plain_at_first-count.result c.index-plans-count.result (fewer g c)))
 
 pub play_restart-requires-clause-calls : goal.play_restart-requires-clause-calls
 play_restart-requires-clause-calls g c κs within =
     let few = calls-before c.args.plans.now c.plain_at_first-count.result c.index-plans-count.result (fewer g c) c.index-plans-count.is in
     subst (λ (l : Layout). length c.index-plans-count.result.ops * l.nodes ≤ calls_left_of c.in_ok-reports.field-0.core) (sym c.in_ok-reports.ensures.layout)
-    (c.in_ok-reports.ensures.calls_left (length c.index-plans-count.result.ops) (omega (arith, few, c.requires.calls)))
+    (c.in_ok-reports.ensures.calls_left (length c.index-plans-count.result.ops) (omega (arith, few, c.requires.playable.calls)))
 
 pub returns-clause-first : goal.returns-clause-first
 returns-clause-first g c =
