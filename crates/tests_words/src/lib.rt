@@ -1,4 +1,4 @@
-//! Tests of the names, the words of simulated persistent memory, version words, histories, the plain map and the slots
+//! Tests of the names, the words of simulated persistent memory, version words, histories, the plain maps and the slots
 //! of a node. They stand in a crate of their own, so that what they test is proved once.
 #![tactic(auto)]
 
@@ -10,6 +10,8 @@ mod histories;
 mod locks;
 #[cfg(test)]
 mod maps;
+#[cfg(test)]
+mod members;
 #[cfg(test)]
 mod memory;
 #[cfg(test)]

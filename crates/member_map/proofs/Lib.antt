@@ -1,0 +1,4 @@
+mod OrderedPairs
+mod BoundLemmas
+mod ShapeLemmas
+mod Keeping
