@@ -1,4 +1,5 @@
 pub mod Keys
+pub mod Advances
 pub mod Walks
 pub mod WalkStages
 pub mod Hops

@@ -103,81 +103,25 @@ impl Machine for Walk {
     ghost left = { walk_left };
 
     fn action(&self) -> Action {
-        Action::Load(match self.at {
+        Action::Load(match &self.at {
             WalkAt::Version => self.address(self.node, node::VERSION),
             WalkAt::Status { .. } => self.layout.node_volatile(self.node, volatile::STATUS),
             WalkAt::First { .. } => self.address(self.node, node::ANCHOR),
             WalkAt::Second { .. } => self.address(self.node, node::ANCHOR + 1),
             WalkAt::Third { .. } => self.address(self.node, node::ANCHOR + 2),
             WalkAt::Next { .. } => self.address(self.node, node::NEXT),
-            WalkAt::HighFirst { next, .. } => self.address(next, node::ANCHOR),
-            WalkAt::HighSecond { next, .. } => self.address(next, node::ANCHOR + 1),
-            WalkAt::HighThird { next, .. } => self.address(next, node::ANCHOR + 2),
+            WalkAt::HighFirst { next, .. } => self.address(*next, node::ANCHOR),
+            WalkAt::HighSecond { next, .. } => self.address(*next, node::ANCHOR + 1),
+            WalkAt::HighThird { next, .. } => self.address(*next, node::ANCHOR + 2),
             WalkAt::Prev => self.layout.node_volatile(self.node, volatile::PREV),
         })
     }
 
     fn resume(self, got: u64) -> Turn<Walk, Walked> {
-        match self.at {
-            WalkAt::Version => self.saw_version(got),
-            WalkAt::Status { version } => self.saw_status(version, got),
-            WalkAt::First { version } => self.loads_at(WalkAt::Second {
-                version,
-                first: got,
-            }),
-            WalkAt::Second { version, first } => self.loads_at(WalkAt::Third {
-                version,
-                first,
-                second: got,
-            }),
-            WalkAt::Third {
-                version,
-                first,
-                second,
-            } => self.saw_anchor(
-                version,
-                KeyWords {
-                    first,
-                    second,
-                    third: got,
-                },
-            ),
-            WalkAt::Next { version, low } => self.saw_next(version, low, got),
-            WalkAt::HighFirst { version, low, next } => self.loads_at(WalkAt::HighSecond {
-                version,
-                low,
-                next,
-                first: got,
-            }),
-            WalkAt::HighSecond {
-                version,
-                low,
-                next,
-                first,
-            } => self.loads_at(WalkAt::HighThird {
-                version,
-                low,
-                next,
-                first,
-                second: got,
-            }),
-            WalkAt::HighThird {
-                version,
-                low,
-                next,
-                first,
-                second,
-            } => self.saw_high(
-                version,
-                low,
-                next,
-                KeyWords {
-                    first,
-                    second,
-                    third: got,
-                },
-            ),
-            WalkAt::Prev => self.hops_to(got),
+        let mut next = self;
+        match next.advance(got) {
+            None => Turn::Go(next),
+            Some(walked) => Turn::Done(walked),
         }
     }
 }
@@ -186,10 +130,13 @@ impl Walk {
     ghost use Rattle.std.specs.Prelude.{◌≡◌, ℕ, ◌+◌, ◌*◌, ◌^◌, ◌<◌, ◌≤◌};
     ghost use Rattle.pm_words.specs.Layouts.{IsLayout};
     ghost use Rattle.pm_words.specs.Locations.{node_words};
+    ghost use Rattle.pm_words.specs.Turns.{GoesBelow};
     ghost use Rattle.call_stages.specs.Kinds.{word_address};
     ghost use Rattle.data_list.specs.Keys.{key_words};
-    ghost use Rattle.data_list.specs.Walks.{IsWalk, walk_from, target, loads_at, landing, hops_to, saw_version};
-    ghost use Rattle.data_list.specs.Walks.{saw_status, saw_anchor, saw_next, saw_high};
+    ghost use Rattle.data_list.specs.declared.walk.WalkAt.TheVariants as WalkAt;
+    ghost use Rattle.data_list.specs.Advances.{AdvancesTo};
+    ghost use Rattle.data_list.specs.Walks.{IsWalk, walk_from, walk_takes, walk_turned, walk_left, target, loads_at};
+    ghost use Rattle.data_list.specs.Walks.{landing, hops_to, saw_version, saw_status, saw_anchor, saw_next, saw_high};
 
     /// A walk to the node of a key, in this generation, that begins at the node `hint`.
     pub fn new(layout: Layout, generation: u64, hint: u64, key: [u64; WORDS]) -> Walk
@@ -208,7 +155,7 @@ impl Walk {
         }
     }
 
-    /// The node that it is at. Each `resume` keeps node and hops, or changes the node and adds one hop.
+    /// The node that it is at. Each turn keeps node and hops, or changes the node and adds one hop.
     pub fn node(&self) -> u64
         ensures { result ≡ self.now.node }
     {
@@ -231,16 +178,54 @@ impl Walk {
         self.layout.cached(self.layout.node_word(node, offset))
     }
 
-    /// It goes on there.
-    fn loads_at(self, at: WalkAt) -> Turn<Walk, Walked>
-        ensures { result ≡ loads_at self at }
+    /// Tells it in place the word that it asked for. It goes on, or is done where there is an answer.
+    pub fn advance(&mut self, got: u64) -> Option<Walked>
+        requires { walk_takes self.old got }
+        ensures turned { AdvancesTo (walk_turned self.old got) self.new result }
+        ensures fewer { GoesBelow walk_left (walk_left self.old) (walk_turned self.old got) }
     {
-        Turn::Go(Walk { at, ..self })
+        match self.at {
+            WalkAt::Version => self.saw_version(got),
+            WalkAt::Status { version } => self.saw_status(version, got),
+            WalkAt::First { version } => self.saw_first(version, got),
+            WalkAt::Second { version, first } => self.saw_second(version, first, got),
+            WalkAt::Third {
+                version,
+                first,
+                second,
+            } => self.saw_anchor(version, KeyWords::of([first, second, got])),
+            WalkAt::Next { version, low } => self.saw_next(version, low, got),
+            WalkAt::HighFirst { version, low, next } => self.saw_high_first(
+                version, low, next, got,
+            ),
+            WalkAt::HighSecond {
+                version,
+                low,
+                next,
+                first,
+            } => self.saw_high_second(version, low, next, first, got),
+            WalkAt::HighThird {
+                version,
+                low,
+                next,
+                first,
+                second,
+            } => self.saw_high(version, low, next, KeyWords::of([first, second, got])),
+            WalkAt::Prev => self.hops_to(got),
+        }
+    }
+
+    /// It goes on there.
+    fn loads_at(&mut self, at: WalkAt) -> Option<Walked>
+        ensures { AdvancesTo (loads_at self.old at) self.new result }
+    {
+        self.at = at;
+        None
     }
 
     /// The node of this number; node 0 where there is none, or where it is at that node already.
-    fn landing(self, number: u64) -> u64
-        ensures { result ≡ landing self number }
+    fn landing(&self, number: u64) -> u64
+        ensures { result ≡ landing self.now number }
     {
         if number == self.node {
             0
@@ -252,33 +237,29 @@ impl Walk {
     }
 
     /// It goes on at the node of this number.
-    fn hops_to(self, node: u64) -> Turn<Walk, Walked>
-        requires layout { IsLayout self.layout }
-        requires hops { self.hops < 2 * self.layout.nodes }
-        ensures { result ≡ hops_to self node }
+    fn hops_to(&mut self, node: u64) -> Option<Walked>
+        requires layout { IsLayout self.old.layout }
+        requires hops { self.old.hops < 2 * self.old.layout.nodes }
+        ensures { AdvancesTo (hops_to self.old node) self.new result }
     {
         let hops = self.hops + 1;
         if hops < 2 * self.layout.nodes() {
-            Turn::Go(Walk {
-                node: self.landing(node),
-                hops,
-                at: WalkAt::Version,
-                ..self
-            })
-        } else {
-            Turn::Done(Walked::Again(Again::Hops { count: hops }))
+            self.node = self.landing(node);
+            self.hops = hops;
+            return self.loads_at(WalkAt::Version);
         }
+        Some(Walked::Again(Again::Hops { count: hops }))
     }
 
     /// The node that it is at is its target.
-    fn is_at_target(self, version: u64, low: KeyWords, next: Option<Next>) -> Turn<Walk, Walked>
-        ensures { result ≡ target self version low next }
+    fn is_at_target(&self, version: u64, low: KeyWords, next: Option<Next>) -> Option<Walked>
+        ensures { AdvancesTo (target self.now version low next) self.now result }
     {
         let high = match next {
             Some(next) => KeyWords::of(next.anchor).name(),
             None => None,
         };
-        Turn::Done(Walked::Target(Target {
+        Some(Walked::Target(Target {
             node: self.node,
             version,
             low: low.words(),
@@ -288,23 +269,23 @@ impl Walk {
         }))
     }
 
-    fn saw_version(self, word: u64) -> Turn<Walk, Walked>
-        ensures { result ≡ saw_version self word }
+    fn saw_version(&mut self, word: u64) -> Option<Walked>
+        ensures { AdvancesTo (saw_version self.old word) self.new result }
     {
         if is_free(word, self.generation) {
             self.loads_at(WalkAt::Status { version: word })
         } else {
-            Turn::Done(Walked::Again(Again::Locked {
+            Some(Walked::Again(Again::Locked {
                 node: self.node,
                 word,
             }))
         }
     }
 
-    fn saw_status(self, version: u64, status: u64) -> Turn<Walk, Walked>
-        requires layout { IsLayout self.layout }
-        requires hops { self.hops < 2 * self.layout.nodes }
-        ensures { result ≡ saw_status self version status }
+    fn saw_status(&mut self, version: u64, status: u64) -> Option<Walked>
+        requires layout { IsLayout self.old.layout }
+        requires hops { self.old.hops < 2 * self.old.layout.nodes }
+        ensures { AdvancesTo (saw_status self.old version status) self.new result }
     {
         if status == LIVE {
             self.loads_at(WalkAt::First { version })
@@ -315,8 +296,24 @@ impl Walk {
         }
     }
 
-    fn saw_anchor(self, version: u64, low: KeyWords) -> Turn<Walk, Walked>
-        ensures { result ≡ saw_anchor self version low }
+    fn saw_first(&mut self, version: u64, first: u64) -> Option<Walked>
+        ensures { AdvancesTo (loads_at self.old (WalkAt.Second version first)) self.new result }
+    {
+        self.loads_at(WalkAt::Second { version, first })
+    }
+
+    fn saw_second(&mut self, version: u64, first: u64, second: u64) -> Option<Walked>
+        ensures { AdvancesTo (loads_at self.old (WalkAt.Third version first second)) self.new result }
+    {
+        self.loads_at(WalkAt::Third {
+            version,
+            first,
+            second,
+        })
+    }
+
+    fn saw_anchor(&mut self, version: u64, low: KeyWords) -> Option<Walked>
+        ensures { AdvancesTo (saw_anchor self.old version low) self.new result }
     {
         if self.key.is_below(low) {
             self.loads_at(WalkAt::Prev)
@@ -325,10 +322,10 @@ impl Walk {
         }
     }
 
-    fn saw_next(self, version: u64, low: KeyWords, next: u64) -> Turn<Walk, Walked>
-        requires layout { IsLayout self.layout }
-        requires hops { self.hops < 2 * self.layout.nodes }
-        ensures { result ≡ saw_next self version low next }
+    fn saw_next(&mut self, version: u64, low: KeyWords, next: u64) -> Option<Walked>
+        requires layout { IsLayout self.old.layout }
+        requires hops { self.old.hops < 2 * self.old.layout.nodes }
+        ensures { AdvancesTo (saw_next self.old version low next) self.new result }
     {
         if next == 0 {
             self.is_at_target(version, low, None)
@@ -339,10 +336,46 @@ impl Walk {
         }
     }
 
-    fn saw_high(self, version: u64, low: KeyWords, next: u64, high: KeyWords) -> Turn<Walk, Walked>
-        requires layout { IsLayout self.layout }
-        requires hops { self.hops < 2 * self.layout.nodes }
-        ensures { result ≡ saw_high self version low next high }
+    fn saw_high_first(
+        &mut self,
+        version: u64,
+        low: KeyWords,
+        next: u64,
+        first: u64,
+    ) -> Option<Walked>
+        ensures { AdvancesTo (loads_at self.old (WalkAt.HighSecond version low next first)) self.new result }
+    {
+        self.loads_at(WalkAt::HighSecond {
+            version,
+            low,
+            next,
+            first,
+        })
+    }
+
+    fn saw_high_second(
+        &mut self,
+        version: u64,
+        low: KeyWords,
+        next: u64,
+        first: u64,
+        second: u64,
+    ) -> Option<Walked>
+        ensures { AdvancesTo (loads_at self.old (WalkAt.HighThird version low next first second)) self.new result }
+    {
+        self.loads_at(WalkAt::HighThird {
+            version,
+            low,
+            next,
+            first,
+            second,
+        })
+    }
+
+    fn saw_high(&mut self, version: u64, low: KeyWords, next: u64, high: KeyWords) -> Option<Walked>
+        requires layout { IsLayout self.old.layout }
+        requires hops { self.old.hops < 2 * self.old.layout.nodes }
+        ensures { AdvancesTo (saw_high self.old version low next high) self.new result }
     {
         if self.key.is_below(high) {
             let next = Next {

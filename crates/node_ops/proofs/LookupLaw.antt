@@ -61,7 +61,7 @@ use Rattle.node_ops.specs.declared.lookup.LookupAt.{LookupAt}
 use Rattle.node_ops.specs.declared.lookup.LookupAt.TheVariants as look
 use Rattle.node_ops.specs.declared.lookup.Lookup.{Lookup}
 use Rattle.node_ops.specs.Calls.{IsCall, name_in, call_address, at_node}
-use Rattle.node_ops.specs.LookupSteps.{floored, came_by, walked_on, IsFlooring, IsWalking, is_spent as has_reached, value_of, goes_to, ends, finds, tried_lock, saw_clock, saw_prints, saw_name, saw_directory, next_candidate, candidate_turned, lookup_at_asks, lookup_at_turned, IsComparing, IsAtSeen, IsLookupAt, IsTargetOf}
+use Rattle.node_ops.specs.LookupSteps.{floored, came_by, walked_on, IsFlooring, IsWalking, is_spent as has_reached, value_of, goes_to, ends, finds, tried_lock, saw_clock, saw_prints, saw_name, saw_directory, next_candidate, candidate_turned, lookup_at_asks, lookup_at_turned, IsComparing, IsAtSeen, IsLookupAt}
 use Rattle.node_ops.specs.CallStages.{words_from, nothing, knows, timed, decided, held_by, walk_by, at_hold, lookup_at_stage}
 use Rattle.node_ops.proofs.SeenLemmas.{Seen, Stand, seen_append, seen_front, seen_back, stand_taken, taken_stand, stand_whole, whole_stand, stand_more, stand_set, name_stands}
 
@@ -187,15 +187,6 @@ pub told_target : (call : Call) (walk : Walk) (x : ℕ) (target : Target) → Is
 told_target call walk x target here told is =
     let walks = subst (Walks call.view.layout call.view.generation (key_words call.name) (walk_stage walk) (walk_asks walk) x) is (own_walks call walk x here told) in
     walks.1
-
--- where the walk ended at its target, that one can be locked, or is worn
-pub walked_target : (call : Call) (walk : Walk) (x : ℕ) → IsWalking call walk → Told call.view.layout call.view.generation (walk_asks walk) x → IsTargetOf call (walk_turned walk x)
-walked_target call walk x here told =
-    elim (walk_turned walk x) as (λ turn. walk_turned walk x ≡ turn → IsTargetOf call turn) [
-      | Go next ↦ λ is. tt
-      | Done (walked.Again why) ↦ λ is. tt
-      | Done (walked.Target target) ↦ λ is. let seen = (told_target call walk x target here told is).seen in (seen.free.known, seen.free.free)
-    ] refl
 
 -- the key of the walk is the name's
 pub key_is : (call : Call) → IsCall call → key_number (key_words call.name) ≡ key_of (name_in call)

@@ -15,35 +15,24 @@ use Rattle.node_ops.specs.declared.lookup.LookupAt.{LookupAt}
 use Rattle.node_ops.specs.declared.lookup.LookupAt.TheVariants as look
 use Rattle.node_ops.specs.declared.lookup.Lookup.{Lookup}
 use Rattle.node_ops.specs.declared.lookup.Looked.{Looked}
-use Rattle.pm_words.specs.declared.fence.Fence.{Fence}
-use Rattle.node_ops.specs.declared.fill.Fill.{Fill}
-use Rattle.node_ops.specs.declared.fill.FillAt.{FillAt}
-use Rattle.node_ops.specs.declared.fill.FillAt.TheVariants as fill_at
-use Rattle.node_ops.specs.declared.finish.Finish.{Finish}
 use Rattle.call_stages.specs.declared.once.Once.{Once}
 use Rattle.call_stages.specs.declared.once.Placed.{Placed}
 use Rattle.node_ops.specs.declared.running.Running.{Running}
-use Rattle.pm_words.specs.Fences.{fence_next}
 use Rattle.node_ops.specs.RunningSteps.{running_left}
-use Rattle.node_ops.specs.LookupSteps.{IsFlooring, floored, IsLookup, IsLookupAt, IsComparing, lookup_left, lookup_at_left, lookup_at_turned, saw_name, next_candidate, candidate_turned}
-use Rattle.pm_words.specs.declared.layout.Layout.{Layout}
-use Rattle.pm_words.specs.Layouts.{IsLayout}
-use Rattle.search_layer.specs.declared.floor.Floor.{Floor}
-use Rattle.search_layer.specs.FloorSteps.{floor_turned, floor_left}
-use Rattle.search_layer.specs.Laws.{FloorAfter}
-use Rattle.search_layer.proofs.FloorTold.{floor_fewer, left_some}
-use Rattle.node_ops.proofs.LookupLaw.{floor_after}
-use Rattle.node_ops.specs.FinishSteps.{finish_left}
-use Rattle.smo_log.specs.declared.take.Take.{Take}
-use Rattle.smo_log.specs.declared.take.Taken.{Taken}
-use Rattle.smo_log.specs.declared.take.Taken.TheVariants.{Line, Full}
-use Rattle.smo_log.specs.Takes.{IsTake, take_left}
+use Rattle.call_stages.specs.declared.once.Once.TheVariants as once
+use Rattle.version_lock.specs.Versions.{kept_count, locked_word, is_worn_word}
+use Rattle.data_list.specs.declared.walk.Walk.{Walk}
+use Rattle.data_list.specs.declared.target.Walked.{Walked}
+use Rattle.data_list.specs.declared.target.Walked.TheVariants as walked
+use Rattle.data_list.specs.Walks.{sighting_of, walk_left, walk_turned}
+use Rattle.node_ops.specs.Calls.{at_node}
+use Rattle.node_ops.specs.LookupSteps.{walked_on, came_by, ends, goes_to}
+use Rattle.node_ops.specs.LookupSteps.{IsLookup, IsLookupAt, IsComparing, lookup_left, lookup_at_left, lookup_at_turned, saw_name, next_candidate, candidate_turned}
 use Rattle.node_ops.specs.declared.lookup.Hit.{Hit}
 use Rattle.node_ops.specs.declared.lookup.Found.{Found}
 use Rattle.node_ops.specs.declared.del.Del.TheVariants as del
 use Rattle.node_ops.specs.declared.single_del.SingleDel.TheVariants as single_del
-use Rattle.node_ops.specs.DelSteps.{names_left, del_hit, del_found, took, del_left}
-use Rattle.node_ops.specs.FillSteps.{fill_turned, fill_at_turned, fill_left, fill_at_left, filled, slot_fenced, print_fenced}
+use Rattle.node_ops.specs.DelSteps.{names_left, del_hit, del_found, del_left}
 
 -- the slot that is compared is one of the slots
 pub comparing_within : (slots bitmap left slot : ℕ) → IsComparing slots bitmap left slot → slot < slots
@@ -98,21 +87,29 @@ name_goes_below call at hold directory left slot k word turn is turned limit com
     subst (λ (a : LookupAt). GoesBelow {A = Looked} lookup_left (lookup_at_left call.view.layout.slots a) turn) (sym is)
     (subst (GoesBelow {A = Looked} lookup_left (3 * (call.view.layout.slots - slot) + 1 - k)) (sym turned) (name_fewer call hold directory left slot k word limit comparing small))
 
--- the floor reads on, or the walk begins
-floor_fewer_by : (call : Call) (floor : Floor) (turn : Turn Floor ℕ) → IsLayout call.view.layout → FloorAfter call.view.layout turn → GoesBelow {A = ℕ} floor_left (floor_left floor) turn → 1 ≤ floor_left floor
-    → GoesBelow {A = Looked} lookup_left (floor_left floor + 20 * call.view.layout.nodes + (3 * call.view.layout.slots + 13)) (floored call turn)
-floor_fewer_by call floor (Go next) layout after fewer some = subst (λ (l : Layout). floor_left next + 20 * l.nodes + (3 * call.view.layout.slots + 13) < floor_left floor + 20 * call.view.layout.nodes + (3 * call.view.layout.slots + 13)) (sym after.1) (omega arith)
-floor_fewer_by call floor (Done node) layout after fewer some = let nodes : 1 ≤ call.view.layout.nodes = layout.nodes.0 in omega arith
-
-pub floor_goes_below : (call : Call) (at : LookupAt) (floor : Floor) (x : ℕ) → at ≡ look.Floor floor → IsLayout call.view.layout → IsFlooring call floor
-    → GoesBelow {A = Looked} lookup_left (lookup_at_left call.view.layout.slots at) (lookup_at_turned call at x)
-floor_goes_below call at floor x is layout here =
-    subst (λ (a : LookupAt). GoesBelow {A = Looked} lookup_left (lookup_at_left call.view.layout.slots a) (lookup_at_turned call a x)) (sym is)
-    (subst (λ (l : Layout). GoesBelow {A = Looked} lookup_left (floor_left floor + 20 * l.nodes + (3 * call.view.layout.slots + 13)) (floored call (floor_turned floor x))) (sym here.layout)
-    (floor_fewer_by call floor (floor_turned floor x) layout (floor_after call floor x here) (floor_fewer floor x) some))
+-- the walk goes on, or has ended
+walk_fewer_by : (call : Call) (walk : Walk) (turn : Turn Walk Walked) → GoesBelow {A = Walked} walk_left (walk_left walk) turn
+    → GoesBelow {A = Looked} lookup_left (walk_left walk + (3 * call.view.layout.slots + 13)) (walked_on call turn)
+walk_fewer_by call walk (Go next) fewer = omega arith
+walk_fewer_by call walk (Done (walked.Again why)) fewer = tt
+walk_fewer_by call walk (Done (walked.Target target)) fewer = by call.limit
   where
-    some : 1 ≤ floor_left floor
-    some = let one = left_some floor.reader.at in omega arith
+    by : (limit : Option ℕ) → GoesBelow {A = Looked} lookup_left (walk_left walk + (3 * call.view.layout.slots + 13)) (came_by limit call target)
+    by None = omega arith
+    by (Some limit) =
+        elim (is_worn_word target.version call.view.generation) as (λ b. GoesBelow {A = Looked} lookup_left (walk_left walk + (3 * call.view.layout.slots + 13)) (cond b
+        (ends (once.Worn target.node target.version))
+        (goes_to (at_node call target.node target.hops) (look.Lock (sighting_of target) (locked_word call.view.generation (kept_count target.version call.view.generation)))))) [
+          | true ↦ tt
+          | false ↦ omega arith
+        ]
+
+pub walk_goes_below : (call : Call) (at : LookupAt) (walk other : Walk) (x : ℕ) → at ≡ look.Walk walk → at ≡ look.Walk other → GoesBelow {A = Walked} walk_left (walk_left walk) (walk_turned walk x)
+    → GoesBelow {A = Looked} lookup_left (lookup_at_left call.view.layout.slots at) (walked_on call (walk_turned other x))
+walk_goes_below call at walk other x is same fewer =
+    subst (λ (a : LookupAt). GoesBelow {A = Looked} lookup_left (lookup_at_left call.view.layout.slots at) (lookup_at_turned call a x)) same
+    (subst (λ (a : LookupAt). GoesBelow {A = Looked} lookup_left (lookup_at_left call.view.layout.slots a) (lookup_at_turned call a x)) (sym is)
+    (walk_fewer_by call walk (walk_turned walk x) fewer))
 
 -- a look-up has an action left
 pub lookup_left_some : (lookup : Lookup) → IsLookup lookup → 0 < lookup_left lookup
@@ -131,26 +128,7 @@ lookup_left_some lookup sound = at lookup.call lookup.at sound.here
         let within : slot < call.view.layout.slots = comparing_within call.view.layout.slots directory.bitmap left slot sound.2 in let small : k < 3 = sound.3 in omega arith
     at call (look.Value hold directory slot) sound = omega arith
 
--- what is left once the bitmap is stored
-pub filled_fewer : (fill : Fill) (got : ℕ) (finish : Finish) → Done finish ≡ fill_turned fill got → finish_left finish < fill_left fill + 18
-filled_fewer fill got finish is = at fill.at is
-  where
-    slot_goes_on : (o : Option Fence) → Done finish ≡ slot_fenced fill o → ⊥
-    slot_goes_on (Some fence) is = cc
-    slot_goes_on None is = cc
-
-    print_goes_on : (o : Option Fence) → Done finish ≡ print_fenced fill o → ⊥
-    print_goes_on (Some fence) is = cc
-    print_goes_on None is = cc
-
-    at : (at : FillAt) → Done finish ≡ fill_at_turned fill at got → finish_left finish < fill_at_left at + 18
-    at (fill_at.Word k) is = absurd (elim (ltb (k + 1) 4) as (λ b. Done finish ≡ cond b (Go (record fill { at = fill_at.Word (k + 1) })) (Go (record fill { at = fill_at.Print })) → ⊥) [ true ↦ λ e. cc | false ↦ λ e. cc ] is)
-    at fill_at.Print is = absurd (cc)
-    at (fill_at.FenceSlot fence) is = absurd (slot_goes_on (fence_next fence got) is)
-    at (fill_at.FencePrint fence) is = absurd (print_goes_on (fence_next fence got) is)
-    at fill_at.Bitmap is = let same : finish ≡ filled fill = cc in subst (λ (f : Finish). finish_left f < 19) (sym same) (omega arith)
-
--- what a delete has left once its name is looked up, and once it has looked for a line
+-- what a delete has left once its name is looked up
 pub found_fewer : (call : Call) (found : Found) (more : ℕ) → del_left (del_found call found) < more + 30052
 found_fewer call found more = at found.hit
   where
@@ -162,11 +140,6 @@ found_fewer call found more = at found.hit
           | true ↦ omega arith
           | false ↦ omega arith
         ]
-
-pub taken_fewer : (call : Call) (hold : Hold) (bitmap : ℕ) (hit : Hit) (take : Take) (taken : Taken) → IsTake take
-    → del_left (took call hold bitmap hit taken) < take_left take + 30025
-taken_fewer call hold bitmap hit take (Line line) is = let index : take.index < 8 = is.index in omega arith
-taken_fewer call hold bitmap hit take Full is = omega arith
 
 -- what is left after a turn: nothing once it is done
 abbrev pub turn_left : Turn Running (Once Placed) → ℕ

@@ -1,5 +1,6 @@
 -- Writing a pair into a clear slot, step by step.
-use Rattle.std.specs.Prelude.{ℕ, ◌+◌, ◌-◌, ◌^◌, ◌<◌, nat_lt, if◌then◌else◌, Option, Some, None, IfSome, slice_index}
+use Rattle.std.specs.Prelude.{◌≡◌, ℕ, ◌+◌, ◌-◌, ◌^◌, ◌<◌, Bool, true, false, nat_lt, if◌then◌else◌, Option, Some, None}
+use Rattle.std.specs.Prelude.{IfSome, slice_index}
 use Rattle.cat_key.specs.declared.TheConstants.{WORDS}
 use Rattle.pm_words.specs.declared.action.Action.{Action}
 use Rattle.pm_words.specs.declared.action.Action.TheVariants.{Store}
@@ -85,6 +86,11 @@ fill_at_turned fill at.Bitmap got = Done (filled fill)
 
 abbrev pub fill_turned : Fill → ℕ → Turn Fill Finish
 fill_turned fill got = fill_at_turned fill fill.at got
+
+-- The turn leaves this fill where it isn't done, and ends where it is.
+abbrev pub FillTurns : Turn Fill Finish → Fill → Bool → Type 0
+FillTurns turn fill false = turn ≡ Go fill
+FillTurns turn fill true = turn ≡ Done (filled fill)
 
 abbrev pub IsFillAt : FillAt → Type 0
 IsFillAt (at.Word k) = k < WORDS + 1

@@ -56,10 +56,10 @@ impl Machine for Fill {
 
     fn action(&self) -> Action {
         let call = &self.call;
-        match self.at {
+        match &self.at {
             FillAt::Word { k } => Action::Store(
-                call.address(slot_word(self.slot, k)),
-                self.word(k),
+                call.address(slot_word(self.slot, *k)),
+                self.word(*k),
             ),
             FillAt::Print => Action::Store(call.address(print_word(self.slot)), self.print()),
             FillAt::FenceSlot { fence } => {
@@ -73,51 +73,72 @@ impl Machine for Fill {
     }
 
     fn resume(self, got: u64) -> Turn<Fill, Finish> {
-        match self.at {
-            FillAt::Word { k } => {
-                if k + 1 < WORDS as u64 + 1 {
-                    self.goes_to(FillAt::Word { k: k + 1 })
-                } else {
-                    self.goes_to(FillAt::Print)
-                }
-            }
-            FillAt::Print => self.goes_to(FillAt::FenceSlot {
-                fence: Fence::new(),
-            }),
-            FillAt::FenceSlot { fence } => match fence.next(got) {
-                Some(fence) => self.goes_to(FillAt::FenceSlot { fence }),
-                None => self.goes_to(FillAt::FencePrint {
-                    fence: Fence::new(),
-                }),
-            },
-            FillAt::FencePrint { fence } => match fence.next(got) {
-                Some(fence) => self.goes_to(FillAt::FencePrint { fence }),
-                None => self.goes_to(FillAt::Bitmap),
-            },
-            FillAt::Bitmap => Turn::Done(Finish {
-                call: self.call,
-                hold: self.hold,
-                old: Hit::value_of(self.hit),
-                new: Some(self.value),
-                at: FinishAt::Fence {
-                    line: line_of(node::BITMAP),
-                    fence: Fence::new(),
-                },
-            }),
+        let mut next = self;
+        if next.advance(got) {
+            Turn::Done(next.finish())
+        } else {
+            Turn::Go(next)
         }
     }
 }
 
 impl Fill {
     ghost use Rattle.std.specs.Prelude.{◌≡◌, ◌<◌, IfSome};
+    ghost use Rattle.pm_words.specs.Turns.{GoesBelow};
     ghost use Rattle.data_node.specs.Bits.{printed};
-    ghost use Rattle.node_ops.specs.FillSteps.{fills_on, fill_word, bitmap_after};
+    ghost use Rattle.node_ops.specs.FillSteps.{FillTurns, fill_takes, fill_turned, fill_left, fill_word, bitmap_after};
+    ghost use Rattle.node_ops.specs.FillSteps.{filled};
 
-    /// It goes on there.
-    fn goes_to(self, at: FillAt) -> Turn<Fill, Finish>
-        ensures { result ≡ fills_on self at }
+    /// Tells it in place the number that its action gave, and answers whether it is done.
+    pub(crate) fn advance(&mut self, got: u64) -> bool
+        requires { fill_takes self.old got }
+        ensures turned { FillTurns (fill_turned self.old got) self.new result }
+        ensures fewer { GoesBelow fill_left (fill_left self.old) (fill_turned self.old got) }
     {
-        Turn::Go(Fill { at, ..self })
+        match &mut self.at {
+            FillAt::Word { k } => {
+                if *k + 1 < WORDS as u64 + 1 {
+                    *k += 1;
+                } else {
+                    self.at = FillAt::Print;
+                }
+            }
+            FillAt::Print => {
+                self.at = FillAt::FenceSlot {
+                    fence: Fence::new(),
+                };
+            }
+            FillAt::FenceSlot { fence } => match fence.next(got) {
+                Some(next) => *fence = next,
+                None => {
+                    self.at = FillAt::FencePrint {
+                        fence: Fence::new(),
+                    };
+                }
+            },
+            FillAt::FencePrint { fence } => match fence.next(got) {
+                Some(next) => *fence = next,
+                None => self.at = FillAt::Bitmap,
+            },
+            FillAt::Bitmap => return true,
+        }
+        false
+    }
+
+    /// What is left to do once it is done.
+    pub(crate) fn finish(&self) -> Finish
+        ensures { result ≡ filled self.now }
+    {
+        Finish {
+            call: self.call,
+            hold: self.hold,
+            old: Hit::value_of(self.hit),
+            new: Some(self.value),
+            at: FinishAt::Fence {
+                line: line_of(node::BITMAP),
+                fence: Fence::new(),
+            },
+        }
     }
 
     /// Word `k` of the slot.

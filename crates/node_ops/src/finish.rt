@@ -48,8 +48,8 @@ impl Machine for Finish {
     ghost left = { finish_left };
 
     fn action(&self) -> Action {
-        match self.at {
-            FinishAt::Fence { line, fence } => fence.action(self.call.address(line + fence.word)),
+        match &self.at {
+            FinishAt::Fence { line, fence } => fence.action(self.call.address(*line + fence.word)),
             FinishAt::Add => Action::Add(CLOCK),
             FinishAt::Unlock { .. } => {
                 Action::Store(self.call.address(node::VERSION), freed_of(self.hold.locked))
@@ -58,34 +58,48 @@ impl Machine for Finish {
     }
 
     fn resume(self, got: u64) -> Turn<Finish, Once<Placed>> {
-        match self.at {
-            FinishAt::Fence { line, fence } => match fence.next(got) {
-                Some(fence) => self.goes_to(FinishAt::Fence { line, fence }),
-                None => self.goes_to(FinishAt::Add),
-            },
-            FinishAt::Add => self.goes_to(FinishAt::Unlock { place: got }),
-            FinishAt::Unlock { place } => Turn::Done(Once::Done(Placed {
-                old: self.old,
-                place,
-                hops: self.call.hops,
-            })),
+        let mut next = self;
+        match next.advance(got) {
+            None => Turn::Go(next),
+            Some(answer) => Turn::Done(answer),
         }
     }
 }
 
 impl Finish {
     ghost use Rattle.std.specs.Prelude.{◌≡◌};
+    ghost use Rattle.pm_words.specs.Turns.{GoesBelow};
+    ghost use Rattle.data_list.specs.Advances.{AdvancesTo};
     ghost use Rattle.call_stages.specs.Stages.{counted, placed_in};
     ghost use Rattle.node_ops.specs.Calls.{IsCall, name_in};
-    ghost use Rattle.node_ops.specs.FinishSteps.{IsFinish, finishes_on};
+    ghost use Rattle.node_ops.specs.FinishSteps.{IsFinish, finish_takes, finish_turned, finish_left};
     ghost use Rattle.node_ops.specs.CallStages.{change_to, finish_stage};
     ghost use Rattle.node_ops.specs.Asked.{op_of_finish};
 
-    /// It goes on there.
-    fn goes_to(self, at: FinishAt) -> Turn<Finish, Once<Placed>>
-        ensures { result ≡ finishes_on self at }
+    /// Tells it in place the number that its action gave. It goes on, or is done where there is an answer.
+    pub(crate) fn advance(&mut self, got: u64) -> Option<Once<Placed>>
+        requires { finish_takes self.now got }
+        ensures turned { AdvancesTo (finish_turned self.entry.now got) self.exit.now result }
+        ensures fewer { GoesBelow finish_left (finish_left self.entry.now) (finish_turned self.entry.now got) }
     {
-        Turn::Go(Finish { at, ..self })
+        match &mut self.at {
+            FinishAt::Fence { fence, .. } => {
+                match fence.next(got) {
+                    Some(next) => *fence = next,
+                    None => self.at = FinishAt::Add,
+                }
+                None
+            }
+            FinishAt::Add => {
+                self.at = FinishAt::Unlock { place: got };
+                None
+            }
+            FinishAt::Unlock { place } => Some(Once::Done(Placed {
+                old: self.old,
+                place: *place,
+                hops: self.call.hops,
+            })),
+        }
     }
 
     /// The change that the write makes.
@@ -116,8 +130,8 @@ impl Finish {
     pub(crate) fn place(&self) -> Option<u64>
         ensures { result ≡ placed_in (finish_stage self.now) }
     {
-        match self.at {
-            FinishAt::Unlock { place } => Some(place),
+        match &self.at {
+            FinishAt::Unlock { place } => Some(*place),
             FinishAt::Fence { .. } | FinishAt::Add => None,
         }
     }
@@ -127,7 +141,7 @@ impl Finish {
         requires { IsFinish self.now }
         ensures { result ≡ counted (finish_stage self.now) }
     {
-        match self.at {
+        match &self.at {
             FinishAt::Add => Some(self.change()),
             FinishAt::Fence { .. } | FinishAt::Unlock { .. } => None,
         }

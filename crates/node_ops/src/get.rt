@@ -51,9 +51,9 @@ impl Get {
     pub(crate) fn call(&self) -> Call
         ensures { result ≡ get_call self.now }
     {
-        match *self {
+        match self {
             Get::Looking { lookup } => lookup.call,
-            Get::Checking { call, .. } => call,
+            Get::Checking { call, .. } => *call,
         }
     }
 }
@@ -74,7 +74,7 @@ impl Machine for Get {
     ghost left = { get_left };
 
     fn action(&self) -> Action {
-        match *self {
+        match self {
             Get::Looking { lookup } => lookup.action(),
             Get::Checking { call, .. } => Action::Load(call.address(node::VERSION)),
         }
@@ -92,8 +92,9 @@ impl Machine for Get {
 impl Get {
     ghost use Rattle.std.specs.Prelude.{◌≡◌};
     ghost use Rattle.pm_words.specs.Turns.{GoesBelow};
-    ghost use Rattle.split_merge.specs.Advances.{AdvancesTo};
-    ghost use Rattle.node_ops.specs.GetSteps.{get_left, get_takes, get_turned};
+    ghost use Rattle.data_list.specs.Advances.{AdvancesTo};
+    ghost use Rattle.node_ops.specs.LookupSteps.{lookup_turned};
+    ghost use Rattle.node_ops.specs.GetSteps.{get_left, get_looked, get_takes, get_turned};
 
     /// Tells it in place the number that its action gave. It goes on, or is done where there is an answer.
     pub(crate) fn advance(&mut self, got: u64) -> Option<Once<Placed>>
@@ -102,17 +103,7 @@ impl Get {
         ensures fewer { GoesBelow get_left (get_left self.old) (get_turned self.old got) }
     {
         match self {
-            Get::Looking { lookup } => match lookup.advance(got)? {
-                Looked::Early(answer) => Some(answer),
-                Looked::Found(found) => {
-                    *self = Get::Checking {
-                        call: lookup.call,
-                        hold: found.hold,
-                        old: Hit::value_of(found.hit),
-                    };
-                    None
-                }
-            },
+            Get::Looking { .. } => self.looked(got),
             Get::Checking { call, hold, old } => Some(if got == hold.locked {
                 Once::Done(Placed {
                     old: *old,
@@ -126,6 +117,30 @@ impl Get {
                     second: got,
                 })
             }),
+        }
+    }
+
+    /// Where it looks, it has one number more, and once it has looked it checks.
+    fn looked(&mut self, got: u64) -> Option<Once<Placed>>
+        requires { get_takes self.old got }
+        ensures turned { (lookup : Lookup) → self.old ≡ Get.Looking lookup
+            → AdvancesTo (get_looked lookup.call (lookup_turned lookup got)) self.new result }
+        ensures fewer { (lookup : Lookup) → self.old ≡ Get.Looking lookup
+            → GoesBelow get_left (get_left self.old) (get_looked lookup.call (lookup_turned lookup got)) }
+    {
+        let Get::Looking { lookup } = self else {
+            return None;
+        };
+        match lookup.advance(got)? {
+            Looked::Early(answer) => Some(answer),
+            Looked::Found(found) => {
+                *self = Get::Checking {
+                    call: lookup.call,
+                    hold: found.hold,
+                    old: Hit::value_of(found.hit),
+                };
+                None
+            }
         }
     }
 }

@@ -152,21 +152,21 @@ impl Machine for Lookup {
 
     fn action(&self) -> Action {
         let call = &self.call;
-        match self.at {
+        match &self.at {
             LookupAt::Floor { floor } => floor.action(),
             LookupAt::Walk { walk } => walk.action(),
             LookupAt::Lock { seen, locked } => {
-                Action::Exchange(call.address(node::VERSION), seen.version, locked)
+                Action::Exchange(call.address(node::VERSION), seen.version, *locked)
             }
             LookupAt::Read { .. } | LookupAt::Clock { .. } => Action::Load(CLOCK),
             LookupAt::Spent { hold } => {
                 Action::Store(call.address(node::VERSION), freed_of(hold.locked))
             }
             LookupAt::Bitmap { .. } => Action::Load(call.address(node::BITMAP)),
-            LookupAt::Prints { at, .. } => Action::Load(call.address(node::PRINTS + at)),
-            LookupAt::Name { slot, at, .. } => Action::Load(call.address(slot_word(slot, at))),
+            LookupAt::Prints { at, .. } => Action::Load(call.address(node::PRINTS + *at)),
+            LookupAt::Name { slot, at, .. } => Action::Load(call.address(slot_word(*slot, *at))),
             LookupAt::Value { slot, .. } => Action::Load(call.address(slot_word(
-                slot,
+                *slot,
                 WORDS as u64,
             ))),
         }
@@ -182,17 +182,19 @@ impl Machine for Lookup {
 }
 
 impl Lookup {
-    ghost use Rattle.std.specs.Prelude.{◌≡◌, ℕ, ◌^◌, ◌<◌, ◌≤◌, List, IfSome};
+    ghost use Rattle.std.specs.Prelude.{◌≡◌, ℕ, ◌^◌, ◌<◌, ◌≤◌, List, Some, IfSome, replicate};
     ghost use Rattle.pm_words.specs.Turns.{GoesBelow};
     ghost use Rattle.pm_words.specs.Layouts.{IsLayout};
-    ghost use Rattle.search_layer.specs.Laws.{FloorAfter};
-    ghost use Rattle.split_merge.specs.Advances.{AdvancesTo};
+    ghost use Rattle.pm_words.specs.declared.machine.Turn.TheVariants.{Done};
+    ghost use Rattle.data_list.specs.Advances.{AdvancesTo};
+    ghost use Rattle.data_node.specs.Bits.{without_live};
     ghost use Rattle.data_node.specs.Slots.{IsLive};
+    ghost use Rattle.data_list.specs.Walks.{walk_turned};
     ghost use Rattle.version_lock.specs.Versions.{generation_of, IsFree};
     ghost use Rattle.node_ops.specs.Calls.{IsCall};
-    ghost use Rattle.node_ops.specs.LookupSteps.{IsLookup, starts, came_to, tried_lock, saw_clock, saw_prints};
-    ghost use Rattle.node_ops.specs.LookupSteps.{saw_name, next_candidate, walked_on, IsTargetOf, lookup_left, lookup_takes};
-    ghost use Rattle.node_ops.specs.LookupSteps.{floored, lookup_turned};
+    ghost use Rattle.node_ops.specs.LookupSteps.{IsLookup, starts, floored, walked_on, came_to, tried_lock, saw_clock};
+    ghost use Rattle.node_ops.specs.LookupSteps.{saw_prints, saw_directory, saw_name, next_candidate, goes_to, finds};
+    ghost use Rattle.node_ops.specs.LookupSteps.{lookup_left, lookup_takes, lookup_turned};
 
     pub(crate) fn new(call: Call) -> Lookup
         requires { IsCall call }
@@ -216,20 +218,13 @@ impl Lookup {
     {
         match &mut self.at {
             LookupAt::Floor { floor } => {
-                let turn = floor.resume(got);
-                self.floored(turn)
+                let node = floor.advance(got)?;
+                self.floored(node)
             }
-            LookupAt::Walk { walk } => {
-                let turn = walk.resume(got);
-                self.walked(turn)
-            }
+            LookupAt::Walk { .. } => self.walked(got),
             LookupAt::Read { seen } => {
-                let hold = Hold {
-                    locked: seen.version,
-                    clock: got,
-                };
-                self.at = LookupAt::Bitmap { hold };
-                None
+                let locked = seen.version;
+                self.dated(Hold { locked, clock: got })
             }
             LookupAt::Lock { seen, locked } => {
                 let (version, locked) = (seen.version, *locked);
@@ -241,63 +236,44 @@ impl Lookup {
             }
             LookupAt::Spent { hold } => Some(Looked::Early(Once::Spent { clock: hold.clock })),
             LookupAt::Bitmap { hold } => {
-                self.at = LookupAt::Prints {
-                    hold: *hold,
-                    bitmap: got,
-                    prints: [0; PRINT_WORDS],
-                    at: 0,
-                };
-                None
+                let hold = *hold;
+                self.saw_bitmap(hold, got)
             }
             LookupAt::Prints { .. } => self.saw_prints(got),
             LookupAt::Name { .. } => self.saw_name(got),
-            LookupAt::Value {
-                hold,
-                directory,
-                slot,
-            } => Some(Looked::Found(Found {
-                hold: *hold,
-                directory: *directory,
-                hit: Some(Hit {
-                    slot: *slot,
-                    value: got,
-                }),
-            })),
+            LookupAt::Value { .. } => self.saw_value(got),
         }
     }
 
-    /// After a turn of the floor: it walks from the node that the layer leads to.
-    fn floored(&mut self, turn: Turn<Floor, u64>) -> Option<Looked>
+    /// It walks from the node that the layer leads to.
+    fn floored(&mut self, node: u64) -> Option<Looked>
         requires layout { IsLayout self.old.call.view.layout }
-        requires node { FloorAfter self.old.call.view.layout turn }
-        ensures advances { AdvancesTo (floored self.old.call turn) self.new result }
+        requires node { node < self.old.call.view.layout.nodes }
+        ensures advances { AdvancesTo (floored self.old.call (Done node)) self.new result }
         ensures call { IfSome result (λ _. self.new.call ≡ self.old.call) }
     {
-        self.at = match turn {
-            Turn::Go(floor) => LookupAt::Floor { floor },
-            Turn::Done(node) => {
-                let view = self.call.view;
-                let walk = Walk::new(view.layout, view.generation, node, self.call.name);
-                LookupAt::Walk { walk }
-            }
-        };
+        let view = self.call.view;
+        let walk = Walk::new(view.layout, view.generation, node, self.call.name);
+        self.at = LookupAt::Walk { walk };
         None
     }
 
-    /// After a turn of the walk.
-    fn walked(&mut self, turn: Turn<Walk, Walked>) -> Option<Looked>
-        requires generation { self.old.call.view.generation < 2 ^ 24 }
-        requires target { IsTargetOf self.old.call turn }
-        ensures advances { AdvancesTo (walked_on self.old.call turn) self.new result }
+    /// Where it walks, it has one word more, and at the end of the walk it knows its target.
+    fn walked(&mut self, got: u64) -> Option<Looked>
+        requires takes { lookup_takes self.old got }
+        ensures advances { (walk : Walk) → self.old.at ≡ LookupAt.Walk walk
+            → AdvancesTo (walked_on self.old.call (walk_turned walk got)) self.new result }
+        ensures fewer { (walk : Walk) → self.old.at ≡ LookupAt.Walk walk
+            → GoesBelow lookup_left (lookup_left self.old) (walked_on self.old.call (walk_turned walk got)) }
         ensures call { IfSome result (λ _. self.new.call ≡ self.old.call) }
     {
-        match turn {
-            Turn::Go(walk) => {
-                self.at = LookupAt::Walk { walk };
-                None
-            }
-            Turn::Done(Walked::Again(why)) => Some(Looked::Early(Once::Again(why))),
-            Turn::Done(Walked::Target(target)) => self.came_to(target),
+        let LookupAt::Walk { walk } = &mut self.at else {
+            return None;
+        };
+        match walk.advance(got) {
+            None => None,
+            Some(Walked::Again(why)) => Some(Looked::Early(Once::Again(why))),
+            Some(Walked::Target(target)) => self.came_to(target),
         }
     }
 
@@ -355,6 +331,30 @@ impl Lookup {
         None
     }
 
+    /// It has the clock, and loads the bitmap next.
+    fn dated(&mut self, hold: Hold) -> Option<Looked>
+        ensures advances { AdvancesTo (goes_to self.old.call (LookupAt.Bitmap hold)) self.new result }
+        ensures call { self.new.call ≡ self.old.call }
+    {
+        self.at = LookupAt::Bitmap { hold };
+        None
+    }
+
+    /// It has the bitmap, and loads the fingerprints next.
+    fn saw_bitmap(&mut self, hold: Hold, bitmap: u64) -> Option<Looked>
+        ensures advances { AdvancesTo (goes_to self.old.call (LookupAt.Prints hold bitmap (replicate 8 0) 0)) self.new
+            result }
+        ensures call { self.new.call ≡ self.old.call }
+    {
+        self.at = LookupAt::Prints {
+            hold,
+            bitmap,
+            prints: [0; PRINT_WORDS],
+            at: 0,
+        };
+        None
+    }
+
     /// Where it loads fingerprints, it has one word more of them, and after the last it knows the candidates.
     fn saw_prints(&mut self, word: u64) -> Option<Looked>
         requires here { IsLookup self.old }
@@ -363,31 +363,48 @@ impl Lookup {
             → AdvancesTo (saw_prints self.old.call hold bitmap prints k word) self.new result }
         ensures call { self.new.call ≡ self.old.call }
     {
-        let LookupAt::Prints {
-            hold,
-            bitmap,
-            at,
-            ..
-        } = self.at
-        else {
+        let LookupAt::Prints { at, .. } = &self.at else {
             return None;
         };
+        let at = *at;
         let LookupAt::Prints { prints, .. } = &mut self.at else {
             return None;
         };
         prints[at as usize] = word;
-        if at + 1 < PRINT_WORDS as u64 {
-            if let LookupAt::Prints { at, .. } = &mut self.at {
-                *at += 1;
-            }
-            return None;
+        if at + 1 == PRINT_WORDS as u64 {
+            return self.has_prints();
         }
-        let directory = Directory {
+        if let LookupAt::Prints { at, .. } = &mut self.at {
+            *at += 1;
+        }
+        None
+    }
+
+    /// Where it has all fingerprints, it goes on with the candidates.
+    fn has_prints(&mut self) -> Option<Looked>
+        requires layout { IsLayout self.old.call.view.layout }
+        ensures advances { (hold : Hold) (bitmap : ℕ) (prints : List ℕ) (k : ℕ)
+            → self.old.at ≡ LookupAt.Prints hold bitmap prints k
+            → AdvancesTo (saw_directory self.old.call hold (record { bitmap = bitmap; prints = prints })) self.new
+            result }
+        ensures call { self.new.call ≡ self.old.call }
+    {
+        let LookupAt::Prints {
+            hold,
             bitmap,
+            prints,
+            ..
+        } = &self.at
+        else {
+            return None;
+        };
+        let hold = *hold;
+        let directory = Directory {
+            bitmap: *bitmap,
             prints: *prints,
         };
         let slots = self.call.view.layout.slots();
-        let left = candidates(bitmap, &directory.prints, self.call.print, slots);
+        let left = candidates(directory.bitmap, &directory.prints, self.call.print, slots);
         self.next_candidate(hold, directory, left)
     }
 
@@ -399,29 +416,86 @@ impl Lookup {
             → AdvancesTo (saw_name self.old.call hold directory left slot k word) self.new result }
         ensures call { self.new.call ≡ self.old.call }
     {
+        let LookupAt::Name { at, .. } = &self.at else {
+            return None;
+        };
+        let at = *at;
+        if word != self.call.name[at as usize] {
+            return self.has_other_name();
+        }
+        if at + 1 == WORDS as u64 {
+            return self.has_name();
+        }
+        if let LookupAt::Name { at, .. } = &mut self.at {
+            *at += 1;
+        }
+        None
+    }
+
+    /// Where it compares names, the slot has another one.
+    fn has_other_name(&mut self) -> Option<Looked>
+        requires here { IsLookup self.old }
+        ensures advances { (hold : Hold) (directory : Directory) (left slot k : ℕ)
+            → self.old.at ≡ LookupAt.Name hold directory left slot k
+            → AdvancesTo (next_candidate self.old.call hold directory (without_live left slot)) self.new result }
+        ensures call { self.new.call ≡ self.old.call }
+    {
         let LookupAt::Name {
             hold,
             directory,
             left,
             slot,
-            at,
-        } = self.at
+            ..
+        } = &self.at
         else {
             return None;
         };
-        if word != self.call.name[at as usize] {
-            return self.next_candidate(hold, directory, without_live(left, slot));
-        }
-        if at + 1 == WORDS as u64 {
-            self.at = LookupAt::Value {
-                hold,
-                directory,
-                slot,
-            };
-        } else if let LookupAt::Name { at, .. } = &mut self.at {
-            *at += 1;
-        }
+        let (hold, directory, left) = (*hold, *directory, without_live(*left, *slot));
+        self.next_candidate(hold, directory, left)
+    }
+
+    /// Where it compares names, the slot has its own: it loads the value.
+    fn has_name(&mut self) -> Option<Looked>
+        ensures advances { (hold : Hold) (directory : Directory) (left slot k : ℕ)
+            → self.old.at ≡ LookupAt.Name hold directory left slot k
+            → AdvancesTo (goes_to self.old.call (LookupAt.Value hold directory slot)) self.new result }
+        ensures call { self.new.call ≡ self.old.call }
+    {
+        let LookupAt::Name {
+            hold,
+            directory,
+            slot,
+            ..
+        } = &self.at
+        else {
+            return None;
+        };
+        self.at = LookupAt::Value {
+            hold: *hold,
+            directory: *directory,
+            slot: *slot,
+        };
         None
+    }
+
+    /// Where it loads the value, it has found the slot.
+    fn saw_value(&self, value: u64) -> Option<Looked>
+        ensures { (hold : Hold) (directory : Directory) (slot : ℕ) → self.now.at ≡ LookupAt.Value hold directory slot
+            → AdvancesTo (finds hold directory (Some (record { slot = slot; value = value }))) self.now result }
+    {
+        let LookupAt::Value {
+            hold,
+            directory,
+            slot,
+        } = &self.at
+        else {
+            return None;
+        };
+        Some(Looked::Found(Found {
+            hold: *hold,
+            directory: *directory,
+            hit: Some(Hit { slot: *slot, value }),
+        }))
     }
 
     /// It goes on with the lowest of these slots. Where there is none, no live slot has the name.

@@ -252,7 +252,7 @@ impl Machine for Part {
 impl Part {
     ghost use Rattle.std.specs.Prelude.{◌≡◌, ◌<◌};
     ghost use Rattle.pm_words.specs.Turns.{GoesBelow};
-    ghost use Rattle.split_merge.specs.Advances.{AdvancesTo};
+    ghost use Rattle.data_list.specs.Advances.{AdvancesTo};
     ghost use Rattle.node_ops.specs.PartSteps.{part_left, part_takes, part_turned};
 
     /// Tells it in place the number that its action gave. It goes on, or is done where there is an answer.

@@ -78,11 +78,12 @@ pub enum SingleDelDone {
 }
 
 impl SingleDel {
-    ghost use Rattle.std.specs.Prelude.{◌<◌};
+    ghost use Rattle.std.specs.Prelude.{◌≡◌};
     ghost use Rattle.pm_words.specs.Turns.{GoesBelow};
     ghost use Rattle.node_ops.specs.declared.del.Del.TheVariants as Del;
     ghost use Rattle.node_ops.specs.FinishSteps.{finish_turned};
-    ghost use Rattle.node_ops.specs.DelSteps.{IsDel, SingleDelTurns, del_finished, del_left, del_takes, del_turned};
+    ghost use Rattle.node_ops.specs.LookupSteps.{lookup_turned};
+    ghost use Rattle.node_ops.specs.DelSteps.{SingleDelTurns, del_finished, del_left, del_looked, del_takes, del_turned};
 
     /// Tells it in place the number that its action gave. It goes on, or its work on the node is done.
     pub(crate) fn advance(&mut self, got: u64) -> Option<SingleDelDone>
@@ -91,41 +92,47 @@ impl SingleDel {
         ensures fewer { GoesBelow del_left (del_left (Del.Single self.old)) (del_turned (Del.Single self.old) got) }
     {
         match self {
-            SingleDel::Looking { lookup } => match lookup.advance(got)? {
-                Looked::Early(answer) => return Some(SingleDelDone::Answered(answer)),
-                Looked::Found(found) => *self = SingleDel::found(lookup.call, found),
-            },
-            SingleDel::Next {
-                call,
-                hold,
-                bitmap,
-                hit,
-            } => *self = SingleDel::saw_next(*call, *hold, *bitmap, *hit, got),
-            SingleDel::Taking {
-                call,
-                hold,
-                bitmap,
-                hit,
-                take,
-            } => match take.resume(got) {
-                Turn::Go(next) => *take = next,
-                Turn::Done(taken) => *self = SingleDel::took(*call, *hold, *bitmap, *hit, taken),
-            },
-            SingleDel::Refusing { .. } => {
-                return Some(SingleDelDone::Answered(Once::Again(Again::LogFull)));
+            SingleDel::Looking { .. } => self.looked(got),
+            SingleDel::Next { .. } => {
+                self.saw_next(got);
+                None
             }
-            SingleDel::Clearing {
-                call,
-                hold,
-                hit,
-                line,
-                ..
-            } => *self = SingleDel::cleared(*call, *hold, *hit, *line),
+            SingleDel::Taking { .. } => {
+                self.took(got);
+                None
+            }
+            SingleDel::Refusing { .. } => {
+                Some(SingleDelDone::Answered(Once::Again(Again::LogFull)))
+            }
+            SingleDel::Clearing { .. } => {
+                self.cleared();
+                None
+            }
             SingleDel::Finishing { finish, line } => {
-                return SingleDel::finishes(finish, *line, got);
+                let line = *line;
+                SingleDel::finishes(finish, line, got)
             }
         }
-        None
+    }
+
+    /// Where it looks, it has one number more, and once it has looked it goes on with what it found.
+    fn looked(&mut self, got: u64) -> Option<SingleDelDone>
+        requires { del_takes (Del.Single self.old) got }
+        ensures turned { (lookup : Lookup) → self.old ≡ SingleDel.Looking lookup
+            → SingleDelTurns (del_looked lookup.call (lookup_turned lookup got)) self.new result }
+        ensures fewer { (lookup : Lookup) → self.old ≡ SingleDel.Looking lookup
+            → GoesBelow del_left (del_left (Del.Single self.old)) (del_looked lookup.call (lookup_turned lookup got)) }
+    {
+        let SingleDel::Looking { lookup } = self else {
+            return None;
+        };
+        match lookup.advance(got)? {
+            Looked::Early(answer) => Some(SingleDelDone::Answered(answer)),
+            Looked::Found(found) => {
+                *self = SingleDel::found(lookup.call, found);
+                None
+            }
+        }
     }
 
     /// Tells the end of a write in place the number that its action gave. With a line, it ends with its place.
@@ -136,9 +143,8 @@ impl SingleDel {
         ensures fewer { GoesBelow del_left (del_left (Del.Single (SingleDel.Finishing finish.entry.now line)))
             (del_finished line (finish_turned finish.entry.now got)) }
     {
-        match finish.resume(got) {
-            Turn::Go(next) => *finish = next,
-            Turn::Done(answer) => return Some(SingleDelDone::Answered(answer)),
+        if let Some(answer) = finish.advance(got) {
+            return Some(SingleDelDone::Answered(answer));
         }
         if let (FinishAt::Unlock { place }, Some(line)) = (finish.at, line) {
             return Some(SingleDelDone::Counted(CountedDel {
@@ -152,10 +158,14 @@ impl SingleDel {
 }
 
 impl SingleDel {
+    ghost use Rattle.std.specs.Prelude.{◌≡◌, ℕ, Option};
+    ghost use Rattle.pm_words.specs.Turns.{GoesBelow};
+    ghost use Rattle.pm_words.specs.declared.machine.Turn.TheVariants.{Go};
+    ghost use Rattle.smo_log.specs.Takes.{take_turned};
     ghost use Rattle.node_ops.specs.declared.del.Del.TheVariants as Del;
     ghost use Rattle.node_ops.specs.Calls.{IsCall};
     ghost use Rattle.node_ops.specs.LookupSteps.{IsFoundBy, IsHit};
-    ghost use Rattle.node_ops.specs.DelSteps.{cleared, del_found, del_slot, saw_next, took};
+    ghost use Rattle.node_ops.specs.DelSteps.{IsDel, cleared, del_found, del_left, del_slot, del_taken, del_takes, saw_next};
 
     /// What a delete does once it has looked its name up: of a name that is not there it has only to take its place.
     fn found(call: Call, found: Found) -> SingleDel
@@ -207,67 +217,114 @@ impl SingleDel {
         }
     }
 
-    /// Its node leads to this one; 0 is none.
-    fn saw_next(call: Call, hold: Hold, bitmap: u64, hit: Hit, next: u64) -> SingleDel
-        requires { IsCall call }
-        ensures { Del.Single result ≡ saw_next call hold bitmap hit next }
+    /// Where it loads where its node leads, that is to this one; 0 is none.
+    fn saw_next(&mut self, next: u64)
+        requires { IsDel (Del.Single self.old) }
+        ensures { (call : Call) (hold : Hold) (bitmap : ℕ) (hit : Hit) → self.old ≡ SingleDel.Next call hold bitmap hit
+            → Del.Single self.new ≡ saw_next call hold bitmap hit next }
     {
+        let SingleDel::Next {
+            call,
+            hold,
+            bitmap,
+            hit,
+        } = self
+        else {
+            return;
+        };
+        let (call, hold, bitmap, hit) = (*call, *hold, *bitmap, *hit);
         if next == 0 {
-            return SingleDel::Clearing {
+            *self = SingleDel::Clearing {
                 call,
                 hold,
                 bitmap,
                 hit,
                 line: None,
             };
+            return;
         }
-        SingleDel::Taking {
+        *self = SingleDel::Taking {
             call,
             hold,
             bitmap,
             hit,
             take: Take::new(call.view.layout, call.view.caller),
+        };
+    }
+
+    /// Where it looks for a line, it has looked at one word more.
+    fn took(&mut self, got: u64)
+        requires { del_takes (Del.Single self.old) got }
+        ensures turned { (call : Call) (hold : Hold) (bitmap : ℕ) (hit : Hit) (take : Take)
+            → self.old ≡ SingleDel.Taking call hold bitmap hit take
+            → del_taken call hold bitmap hit (take_turned take got) ≡ Go (Del.Single self.new) }
+        ensures fewer { (call : Call) (hold : Hold) (bitmap : ℕ) (hit : Hit) (take : Take)
+            → self.old ≡ SingleDel.Taking call hold bitmap hit take
+            → GoesBelow del_left (del_left (Del.Single self.old))
+            (del_taken call hold bitmap hit (take_turned take got)) }
+    {
+        let SingleDel::Taking {
+            call,
+            hold,
+            bitmap,
+            hit,
+            take,
+        } = self
+        else {
+            return;
+        };
+        match take.resume(got) {
+            Turn::Go(next) => *take = next,
+            Turn::Done(Taken::Line { line }) => {
+                *self = SingleDel::Clearing {
+                    call: *call,
+                    hold: *hold,
+                    bitmap: *bitmap,
+                    hit: *hit,
+                    line: Some(line),
+                };
+            }
+            Turn::Done(Taken::Full) => {
+                *self = SingleDel::Refusing {
+                    call: *call,
+                    hold: *hold,
+                    bitmap: *bitmap,
+                    hit: *hit,
+                };
+            }
         }
     }
 
-    /// It has looked for a line.
-    fn took(call: Call, hold: Hold, bitmap: u64, hit: Hit, taken: Taken) -> SingleDel
-        ensures { Del.Single result ≡ took call hold bitmap hit taken }
+    /// Where it clears the bit, that is clear, and it finishes.
+    fn cleared(&mut self)
+        ensures { (call : Call) (hold : Hold) (bitmap : ℕ) (hit : Hit) (line : Option ℕ)
+            → self.old ≡ SingleDel.Clearing call hold bitmap hit line
+            → self.new ≡ SingleDel.Finishing (cleared call hold hit) line }
     {
-        match taken {
-            Taken::Line { line } => SingleDel::Clearing {
-                call,
-                hold,
-                bitmap,
-                hit,
-                line: Some(line),
-            },
-            Taken::Full => SingleDel::Refusing {
-                call,
-                hold,
-                bitmap,
-                hit,
-            },
-        }
-    }
-
-    /// What it does once the bit is clear.
-    fn cleared(call: Call, hold: Hold, hit: Hit, line: Option<u64>) -> SingleDel
-        ensures { result ≡ SingleDel.Finishing (cleared call hold hit) line }
-    {
-        SingleDel::Finishing {
-            finish: Finish {
-                call,
-                hold,
-                old: Some(hit.value),
-                new: None,
-                at: FinishAt::Fence {
-                    line: line_of(node::BITMAP),
-                    fence: Fence::new(),
-                },
-            },
+        let SingleDel::Clearing {
+            call,
+            hold,
+            hit,
             line,
-        }
+            ..
+        } = self
+        else {
+            return;
+        };
+        let finish = Finish {
+            call: *call,
+            hold: *hold,
+            old: Some(hit.value),
+            new: None,
+            at: FinishAt::Fence {
+                line: line_of(node::BITMAP),
+                fence: Fence::new(),
+            },
+        };
+        *self = SingleDel::Finishing {
+            finish,
+            line: *line,
+        };
     }
 }
 

@@ -58,13 +58,15 @@ pub enum SinglePutDone {
 }
 
 impl SinglePut {
-    ghost use Rattle.std.specs.Prelude.{◌<◌};
+    ghost use Rattle.std.specs.Prelude.{◌≡◌, ℕ};
     ghost use Rattle.pm_words.specs.Turns.{GoesBelow};
     ghost use Rattle.pm_words.specs.declared.machine.Turn.TheVariants.{Go};
     ghost use Rattle.node_ops.specs.declared.put.Put.TheVariants as Put;
     ghost use Rattle.node_ops.specs.Calls.{IsCall};
-    ghost use Rattle.node_ops.specs.LookupSteps.{IsFoundBy};
-    ghost use Rattle.node_ops.specs.PutSteps.{SinglePutTurns, put_found, put_left, put_takes, put_turned, replaced};
+    ghost use Rattle.node_ops.specs.LookupSteps.{IsFoundBy, lookup_turned};
+    ghost use Rattle.node_ops.specs.FillSteps.{filled};
+    ghost use Rattle.node_ops.specs.PutSteps.{IsPut, SinglePutTurns, put_found, put_left, put_looked, put_takes};
+    ghost use Rattle.node_ops.specs.PutSteps.{put_turned, replaced};
 
     /// Tells it in place the number that its action gave. It goes on, or its work on the node is done.
     pub(crate) fn advance(&mut self, got: u64) -> Option<SinglePutDone>
@@ -73,38 +75,42 @@ impl SinglePut {
         ensures fewer { GoesBelow put_left (put_left (Put.Single self.old)) (put_turned (Put.Single self.old) got) }
     {
         match self {
-            SinglePut::Looking { lookup, value } => match lookup.advance(got)? {
-                Looked::Early(answer) => Some(SinglePutDone::Answered(answer)),
-                Looked::Found(found) => {
-                    let (call, value) = (lookup.call, *value);
-                    self.found(call, found, value)
-                }
-            },
+            SinglePut::Looking { .. } => self.looked(got),
             SinglePut::Filling { fill } => {
-                match fill.resume(got) {
-                    Turn::Go(next) => *fill = next,
-                    Turn::Done(finish) => *self = SinglePut::Finishing { finish },
+                if fill.advance(got) {
+                    self.filled();
                 }
                 None
             }
-            SinglePut::Replacing {
-                call,
-                hold,
-                hit,
-                value,
-                ..
-            } => {
-                let finish = SinglePut::replaced(*call, *hold, *hit, *value);
-                *self = SinglePut::Finishing { finish };
+            SinglePut::Replacing { .. } => {
+                self.replaced();
                 None
             }
-            SinglePut::Finishing { finish } => match finish.resume(got) {
-                Turn::Go(next) => {
-                    *finish = next;
-                    None
-                }
-                Turn::Done(answer) => Some(SinglePutDone::Answered(answer)),
-            },
+            SinglePut::Finishing { finish } => {
+                let answer = finish.advance(got)?;
+                Some(SinglePutDone::Answered(answer))
+            }
+        }
+    }
+
+    /// Where it looks, it has one number more, and once it has looked it goes on with what it found.
+    fn looked(&mut self, got: u64) -> Option<SinglePutDone>
+        requires { put_takes (Put.Single self.old) got }
+        ensures turned { (lookup : Lookup) (value : ℕ) → self.old ≡ SinglePut.Looking lookup value
+            → SinglePutTurns (put_looked lookup.call value (lookup_turned lookup got)) self.new result }
+        ensures fewer { (lookup : Lookup) (value : ℕ) → self.old ≡ SinglePut.Looking lookup value
+            → GoesBelow put_left (put_left (Put.Single self.old))
+            (put_looked lookup.call value (lookup_turned lookup got)) }
+    {
+        let SinglePut::Looking { lookup, value } = self else {
+            return None;
+        };
+        match lookup.advance(got)? {
+            Looked::Early(answer) => Some(SinglePutDone::Answered(answer)),
+            Looked::Found(found) => {
+                let (call, value) = (lookup.call, *value);
+                self.found(call, found, value)
+            }
         }
     }
 
@@ -152,21 +158,45 @@ impl SinglePut {
         None
     }
 
-    /// What it does once the value is stored in place.
-    fn replaced(call: Call, hold: Hold, hit: Hit, value: u64) -> Finish
-        requires { hit.slot < 64 }
-        ensures { result ≡ replaced call hold hit value }
+    /// Where its slot is filled, it finishes.
+    fn filled(&mut self)
+        ensures { (fill : Fill) → self.old ≡ SinglePut.Filling fill → self.new ≡ SinglePut.Finishing (filled fill) }
     {
-        Finish {
+        let SinglePut::Filling { fill } = self else {
+            return;
+        };
+        let finish = fill.finish();
+        *self = SinglePut::Finishing { finish };
+    }
+
+    /// Where its value is stored in place, it finishes.
+    fn replaced(&mut self)
+        requires { IsPut (Put.Single self.old) }
+        ensures { (call : Call) (hold : Hold) (bitmap : ℕ) (hit : Hit) (value : ℕ)
+            → self.old ≡ SinglePut.Replacing call hold bitmap hit value
+            → self.new ≡ SinglePut.Finishing (replaced call hold hit value) }
+    {
+        let SinglePut::Replacing {
             call,
             hold,
+            hit,
+            value,
+            ..
+        } = self
+        else {
+            return;
+        };
+        let finish = Finish {
+            call: *call,
+            hold: *hold,
             old: Some(hit.value),
-            new: Some(value),
+            new: Some(*value),
             at: FinishAt::Fence {
                 line: line_of(slot_word(hit.slot, WORDS as u64)),
                 fence: Fence::new(),
             },
-        }
+        };
+        *self = SinglePut::Finishing { finish };
     }
 }
 

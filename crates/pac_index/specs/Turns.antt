@@ -20,7 +20,7 @@ use Rattle.updater.specs.Takings.{untaken}
 use Rattle.updater.specs.Makings.{IsMaking, making_from, making_asks, making_turned, making_takes, making_left, worked}
 use Rattle.updater.specs.Works.{work_from, work_turned}
 use Rattle.updater.specs.declared.work.Work.{Work}
-use Rattle.split_merge.specs.Advances.{AdvancesTo, turn_of}
+use Rattle.data_list.specs.Advances.{AdvancesTo, turn_of}
 use Rattle.index_core.specs.PartyStates.{state_turned}
 use Rattle.atomic_table.specs.Table.{Me}
 use Rattle.pac_index.specs.declared.rule.Member.{Member}

@@ -2,6 +2,7 @@ pub mod Layers
 pub mod Keys
 pub mod Leaves
 pub mod Reading
+pub mod Advances
 pub mod FloorSteps
 pub mod ChangeSteps
 pub mod SetSteps

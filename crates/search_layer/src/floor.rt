@@ -1,7 +1,7 @@
 ghost use Rattle.std.specs.Prelude.{◌≡◌, ◌^◌, ◌<◌};
 
 use crate::key::{Key, is_at_most};
-use crate::reader::{Read, Reader, ReaderAt};
+use crate::reader::{Reader, ReaderAt};
 use pm_words::{Action, Layout, Machine, Turn};
 
 /// Reads the row of leaves, and answers the node of the greatest key that is at most its own; node 0 where no key is.
@@ -43,10 +43,10 @@ impl Machine for Floor {
     }
 
     fn resume(self, got: u64) -> Turn<Floor, u64> {
-        match self.reader.read(got) {
-            Read::Part(at) => self.reads_on(at),
-            Read::Unused => self.past(self.best),
-            Read::Used { node, key } => self.past(self.better(node, key)),
+        let mut next = self;
+        match next.advance(got) {
+            None => Turn::Go(next),
+            Some(node) => Turn::Done(node),
         }
     }
 }
@@ -55,7 +55,11 @@ impl Floor {
     ghost use Rattle.std.specs.Prelude.{◌≡◌, ◌^◌, ◌<◌};
     ghost use Rattle.pm_words.specs.Layouts.{IsLayout};
     ghost use Rattle.pm_words.specs.Locations.{leaf_count};
-    ghost use Rattle.search_layer.specs.FloorSteps.{IsFloor, floor_starts, reads_on, floor_past, better};
+    ghost use Rattle.pm_words.specs.Turns.{GoesBelow};
+    ghost use Rattle.search_layer.specs.declared.reader.ReaderAt.TheVariants as ReaderAt;
+    ghost use Rattle.search_layer.specs.Advances.{AdvancesTo};
+    ghost use Rattle.search_layer.specs.FloorSteps.{IsFloor, floor_starts, floor_takes, floor_turned, floor_left};
+    ghost use Rattle.search_layer.specs.FloorSteps.{floor_past, better};
 
     /// The floor of this key.
     pub fn new(layout: Layout, key: Key) -> Floor
@@ -71,31 +75,64 @@ impl Floor {
         }
     }
 
-    /// It reads on in the same leaf.
-    fn reads_on(self, at: ReaderAt) -> Turn<Floor, u64>
-        ensures { result ≡ reads_on self at }
+    /// Tells it in place the word that it asked for. It goes on, or is done where there is an answer.
+    pub fn advance(&mut self, got: u64) -> Option<u64>
+        requires { floor_takes self.old got }
+        ensures turned { AdvancesTo (floor_turned self.old got) self.new result }
+        ensures fewer { GoesBelow floor_left (floor_left self.old) (floor_turned self.old got) }
     {
-        let reader = Reader { at, ..self.reader };
-        Turn::Go(Floor { reader, ..self })
+        match self.reader.at {
+            ReaderAt::Node => {
+                if got == 0 {
+                    return self.goes_past();
+                }
+                self.reader.at = ReaderAt::First { node: got };
+                None
+            }
+            ReaderAt::First { node } => {
+                self.reader.at = ReaderAt::Second { node, first: got };
+                None
+            }
+            ReaderAt::Second { node, first } => {
+                self.reader.at = ReaderAt::Third {
+                    node,
+                    first,
+                    second: got,
+                };
+                None
+            }
+            ReaderAt::Third {
+                node,
+                first,
+                second,
+            } => self.has_read(node, [first, second, got]),
+        }
     }
 
-    /// It has read this leaf, and goes on to the next, if there is one.
-    fn past(self, best: Option<Entry>) -> Turn<Floor, u64>
-        requires layout { IsLayout self.layout }
-        requires leaf { self.reader.leaf < leaf_count self.layout }
-        ensures { result ≡ floor_past self best }
+    /// It has read a leaf in use, with this node word and key.
+    fn has_read(&mut self, node: u64, key: Key) -> Option<u64>
+        requires { IsFloor self.old }
+        ensures { AdvancesTo (floor_past self.old (better self.old node key)) self.new result }
+    {
+        self.best = self.better(node, key);
+        self.reader.at = ReaderAt::Node;
+        self.goes_past()
+    }
+
+    /// It is done with this leaf, and goes on to the next, if there is one.
+    fn goes_past(&mut self) -> Option<u64>
+        requires layout { IsLayout self.old.layout }
+        requires at { self.old.reader.at ≡ ReaderAt.Node }
+        requires leaf { self.old.reader.leaf < leaf_count self.old.layout }
+        ensures { AdvancesTo (floor_past self.old self.old.best) self.new result }
     {
         if self.reader.leaf + 1 < self.layout.nodes() + 4 {
-            let reader = Reader::of(self.reader.leaf + 1);
-            return Turn::Go(Floor {
-                best,
-                reader,
-                ..self
-            });
+            self.reader.leaf += 1;
+            return None;
         }
-        match best {
-            Some(entry) => Turn::Done(entry.node),
-            None => Turn::Done(0),
+        match &self.best {
+            Some(entry) => Some(entry.node),
+            None => Some(0),
         }
     }
 

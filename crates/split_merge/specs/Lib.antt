@@ -1,4 +1,3 @@
-pub mod Advances
 pub mod Plans
 pub mod Moves
 pub mod MoveStages

@@ -117,7 +117,7 @@ impl Split {
     ghost use Rattle.call_stages.specs.Kinds.{word_address};
     ghost use Rattle.call_stages.specs.Views.{IsView};
     ghost use Rattle.version_lock.specs.Versions.{IsLockWord};
-    ghost use Rattle.split_merge.specs.Advances.{AdvancesTo};
+    ghost use Rattle.data_list.specs.Advances.{AdvancesTo};
     ghost use Rattle.split_merge.specs.Splits.{IsSplit, split_from, split_left, split_takes, split_turned};
     ghost use Rattle.split_merge.specs.Splits.{taken, claimed, has_read};
 

@@ -160,7 +160,7 @@ impl Work {
     ghost use Rattle.std.specs.Prelude.{◌≡◌, ◌≤◌};
     ghost use Rattle.pm_words.specs.Layouts.{IsLayout};
     ghost use Rattle.pm_words.specs.Turns.{GoesBelow};
-    ghost use Rattle.split_merge.specs.Advances.{AdvancesTo};
+    ghost use Rattle.data_list.specs.Advances.{AdvancesTo};
     ghost use Rattle.updater.specs.Works.{IsWork, work_from, work_takes, work_turned, work_left};
 
     /// A turn with this stamp and release, in the generation of this run.

@@ -1,10 +1,10 @@
 use Rattle.std.proofs.Common.{◌<◌, ◌≤◌, subst, arith}
 use Rattle.node_ops.specs.LookupSteps.{IsLookupAt}
 use Rattle.node_ops.proofs.Measures.{comparing_within}
-use Rattle.node_ops.proofs.lookup.Lookup.saw_name.Goals as goal
+use Rattle.node_ops.proofs.lookup.Lookup.has_other_name.Goals as goal
 
-pub without_live-requires : goal.without_live-requires
-without_live-requires c =
+pub without_live-left-requires : goal.without_live-left-requires
+without_live-left-requires c =
     let call = c.args.self.now.call in
     let here = subst (IsLookupAt call) c.in-Name.is c.requires.here.here in
     let within : c.in-Name.slot < call.view.layout.slots = comparing_within _ _ _ _ here.2 in
