@@ -1,5 +1,5 @@
 -- A whole call, with no other in flight: one try, or one that split and another.
-use Rattle.std.proofs.Common.{◌≡◌, ◌≢◌, ℕ, ◌+◌, ◌<◌, ◌≤◌, ◌⊎◌, inl, inr, ⊎_elim, List, ◌++◌, length, set, slice_set, refl, sym, ap, ◌∙◌, subst, arith}
+use Rattle.std.proofs.Common.{◌≡◌, ℕ, ◌+◌, ◌<◌, ◌≤◌, ◌⊎◌, inl, inr, ⊎_elim, List, ◌++◌, length, set, slice_set, refl, sym, ap, ◌∙◌, subst, arith}
 use Rattle.std.specs.Prelude.{Option, Some, None, IsSome, IsSomeAnd, IsTrue, true, false}
 use Rattle.std.proofs.lemmas.Bool.{leb-true, le-leb, cases_lt}
 use Rattle.std.proofs.lemmas.List.{append-nil}
@@ -28,7 +28,7 @@ use Rattle.index_law.specs.Worlds.{World, facts}
 use Rattle.index_law.specs.Laws.{IsAtRest}
 use Rattle.index_law.specs.Anchors.{anchors_of, anchors_in, members_most}
 use Rattle.shapes.specs.Anchors.{merges}
-use Rattle.index_law.proofs.Parties.{at_set, set_here}
+use Rattle.index_law.proofs.Parties.{set_here}
 use Rattle.index_law.proofs.Starts.{listed_within}
 use Rattle.lone_law.specs.LoneCalls.{FindsFull, NeedsLine, FindsWorn, IsLate, IsAnswered}
 use Rattle.lone_law.specs.Splitting.{HasFree, LacksFree, LacksLine}
@@ -42,11 +42,12 @@ use Rattle.lone_law.proofs.Shapes.{room_is_no_split, cut_is_split}
 use Rattle.index_core.specs.declared.party.PartyState.{PartyState}
 use Rattle.index_core.specs.declared.party.CoreCall.{CoreCall}
 use Rattle.index_core.specs.declared.party.CoreCall.TheVariants as call
+use Rattle.index_core.specs.declared.party.Whole.{Whole}
 use Rattle.index_core.specs.declared.party.Whole.TheVariants as whole
 use Rattle.index_core.specs.CoreCalls.{op_of, limit_of, count_of}
 use Rattle.index_core.specs.PartyStates.{party_of, state_counted}
 use Rattle.index_core.specs.Indexes.{Index, world, map_of_index, IsIndex}
-use Rattle.index_core.specs.Lone.{IsQuiet, FindsNoRoom, HasSameList, SplitsFor, SplitsNothing, MergesFor, MergesNothing, LeavesList, TakesLocks, LoseAtMost, TakesEachLock, names_beside, locks_left, IsWholeAnswer, TriesAlone, RunsAlone, CountsCall, ComesFree, KeepsStamps, IsMadeAgain, NeedsNoTurn, LandsIn, HasShortWays, HopsAreFew, WalksShort, LeavesLog, most_tries, alone_writes, lacks_line, lacks_node, needs_split, node_for, part_whole, taken_nodes, whole_of, state_tried, state_done}
+use Rattle.index_core.specs.Lone.{HasNoCalls, IsQuiet, IsStill, FindsNoRoom, HasSameList, SplitsFor, SplitsNothing, MergesFor, MergesNothing, LeavesList, TakesLocks, LoseAtMost, TakesEachLock, names_beside, locks_left, IsWholeAnswer, TriesAlone, RunsAlone, CountsCall, ComesFree, KeepsStamps, IsMadeAgain, NeedsNoTurn, LandsIn, HasShortWays, HopsAreFew, WalksShort, LeavesLog, most_tries, alone_writes, lacks_line, lacks_node, needs_split, node_for, part_whole, taken_nodes, whole_of, state_tried, state_done}
 use Rattle.index_core.specs.Weights.{weight_of, added_by, added_if, added_whole}
 use Rattle.index_core.specs.Listings.{IsPartAt}
 use Rattle.lone_law.specs.There.{WalksBy}
@@ -58,7 +59,7 @@ use Rattle.index_core.proofs.Lists.{set_twice}
 use Rattle.index_core.proofs.Taken.{taken_kept, taken_merged, taken_split}
 use Rattle.index_core.proofs.Tries.{ready_with_parties}
 use Rattle.index_core.proofs.PartsAlone.{whole_part}
-use Rattle.index_core.proofs.Quiet.{rests, can_walk}
+use Rattle.index_core.proofs.Quiet.{quiet_then, quiet_was, rests, still_then, walks_come}
 
 -- to the node of a name belong as many names of the map as the node has
 pub target_has : (s : Index) → IsAtRest (world s) → (name : List ℕ) → target_names (world s) name ≡ length (names_beside s name)
@@ -102,16 +103,24 @@ late_was (Some limit) n over = le-leb limit n over
 
 -- to count a call of a quiet index is no call in flight
 pub count_quiet : (s : Index) (i : ℕ) (new : Index) → IsQuiet s → CountsCall s i new → IsQuiet new
-count_quiet s i new quiet t = subst IsQuiet (sym t.is) (record {
-  calls = λ j state at. ⊎_elim
-      (λ (mine : (j ≡ i) × (state_counted t.state ≡ state)). ap (λ (d : PartyState). d.machine) (sym mine.1) ∙ quiet.calls i t.state t.there)
-      (λ (other : (j ≢ i) × (get_elem? s.states j ≡ some state)). quiet.calls j state other.1)
-      (at_set s.states i j (state_counted t.state) state at);
-  turns = λ j state at. ⊎_elim
-      (λ (mine : (j ≡ i) × (state_counted t.state ≡ state)). ap (λ (d : PartyState). d.turn) (sym mine.1) ∙ quiet.turns i t.state t.there)
-      (λ (other : (j ≢ i) × (get_elem? s.states j ≡ some state)). quiet.turns j state other.1)
-      (at_set s.states i j (state_counted t.state) state at);
-})
+count_quiet s i new quiet t = quiet_then s new i t.state (state_counted t.state) t.there (ap (λ (v : Index). v.states) t.is) (quiet.calls i t.state t.there) refl quiet
+
+-- nor is one try
+pub tried_quiet : (s new : Index) (i : ℕ) (c : CoreCall) (answer : Once Placed) → TriesAlone s i c new answer → IsQuiet s → IsQuiet new
+tried_quiet s new i c answer t = quiet_then s new i t.state (state_tried t.state (length s.history) answer) t.there t.states refl refl
+
+pub tried_was : (s new : Index) (i : ℕ) (c : CoreCall) (answer : Once Placed) → TriesAlone s i c new answer → HasNoCalls s → IsQuiet new → IsQuiet s
+tried_was s new i c answer t = quiet_was s new i t.state (state_tried t.state (length s.history) answer) t.there t.states refl refl
+
+pub tried_still : (s new : Index) (i : ℕ) (c : CoreCall) (answer : Once Placed) → TriesAlone s i c new answer → (party : ℕ) → IsStill party s → IsStill party new
+tried_still s new i c answer t = still_then s new i t.state (state_tried t.state (length s.history) answer) t.there t.states refl refl
+
+-- nor is a whole call
+pub ran_quiet : (s new : Index) (i : ℕ) (c : CoreCall) (r : Whole) → RunsAlone s i c new r → IsQuiet s → IsQuiet new
+ran_quiet s new i c r t = quiet_then s new i t.state (state_done t.state (length s.history)) t.there t.states refl refl
+
+pub ran_still : (s new : Index) (i : ℕ) (c : CoreCall) (r : Whole) → RunsAlone s i c new r → (party : ℕ) → IsStill party s → IsStill party new
+ran_still s new i c r t = still_then s new i t.state (state_done t.state (length s.history)) t.there t.states refl refl
 
 -- What so many tries of a whole call answer and leave, before it is counted where it was turned back.
 pub record Ran (s0 s : Index) (i : ℕ) (c : CoreCall) (answer : Once Placed) (tries : ℕ) : Type 0 where
@@ -134,9 +143,9 @@ pub record Ran (s0 s : Index) (i : ℕ) (c : CoreCall) (answer : Once Placed) (t
   pub weighs : weight_of s ≤ weight_of s0 + added_whole (op_of c) (whole_of answer)
 
 -- a walk there makes no more hops than lines are READY
-pub walk_is_short : (s : Index) → IsIndex s → IsQuiet s → (name : List ℕ) (hops : ℕ) → HasShortWays s → WalksBy s.layout s.words name hops → hops ≤ ready_lines (world s)
-walk_is_short s is quiet name hops short walks =
-    let can = can_walk s is quiet in
+pub walk_is_short : (s : Index) → IsIndex s → HasNoCalls s → (name : List ℕ) (hops : ℕ) → HasShortWays s → WalksBy s.layout s.words name hops → hops ≤ ready_lines (world s)
+walk_is_short s is none name hops short walks =
+    let can = walks_come s is none in
     short_walks (world s) (key_of name) walks.start hops can.quiet can.order short walks.begins walks.comes
 
 -- a call that took place leaves no fewer lines READY
@@ -149,7 +158,7 @@ lands_short : (s0 s : Index) (i : ℕ) (c : CoreCall) (placed : Placed) → Land
 lands_short s0 s i c placed lands short = of c lands.began
   where
     few : placed.hops ≤ ready_lines (world lands.last)
-    few = walk_is_short lands.last lands.index lands.quiet (name_asked (op_of c)) placed.hops (lands.short short) lands.hops
+    few = walk_is_short lands.last lands.index lands.still.calls (name_asked (op_of c)) placed.hops (lands.short short) lands.hops
 
     more : ready_lines (world lands.last) ≤ ready_lines (world s)
     more = ready_rises (world lands.last) (world s) (name_asked (op_of c)) lands.tries.state.caller placed lands.tries.layout lands.tries.lines
@@ -340,10 +349,10 @@ on_name c (once.Worn node word) none = tt
 on_name c (once.Again why) none = tt
 
 -- a try that didn't split is the whole call
-module _ (s0 s : Index) (i : ℕ) (c : CoreCall) (is0 : IsIndex s0) (quiet0 : IsQuiet s0) (answer : Once Placed) (t : TriesAlone s0 i c s answer)
+module _ (s0 s : Index) (i : ℕ) (c : CoreCall) (is0 : IsIndex s0) (still0 : IsStill i s0) (answer : Once Placed) (t : TriesAlone s0 i c s answer)
     (each : LoseAtMost 1 s0 s) (locks : locks_left s0 ≤ locks_left s + 1) where
   rest0 : IsAtRest (world s0)
-  rest0 = rests s0 is0 quiet0
+  rest0 = rests s0 is0 still0.calls
 
   -- where it had room its put splits nothing
   splits_nothing : (c : CoreCall) → IsName (name_asked (op_of c)) → (FindsFull (world s0) (op_of c) → ⊥) → SplitsNothing c s0
@@ -399,7 +408,8 @@ module _ (s0 s : Index) (i : ℕ) (c : CoreCall) (is0 : IsIndex s0) (quiet0 : Is
             last = s0;
             began = inl refl;
             index = is0;
-            quiet = quiet0;
+            quiet = λ quiet. quiet;
+            still = still0;
             layout = refl;
             generation = refl;
             base = refl;
@@ -534,14 +544,14 @@ put_needs (call.Put name value limit) w0 w1 full needs = needs
 put_needs c w0 w1 full needs = absurd full
 
 -- a try that split, and another
-module _ (s0 s1 s : Index) (i : ℕ) (c : CoreCall) (is0 : IsIndex s0) (quiet0 : IsQuiet s0) (is1 : IsIndex s1) (quiet1 : IsQuiet s1) (first answer : Once Placed)
+module _ (s0 s1 s : Index) (i : ℕ) (c : CoreCall) (is0 : IsIndex s0) (still0 : IsStill i s0) (is1 : IsIndex s1) (first answer : Once Placed)
     (none : count_of c ≡ None) (t : TriesAlone s0 i c s1 first) (u : TriesAlone s1 i c s answer)
     (each : LoseAtMost 1 s0 s1) (each_then : LoseAtMost 1 s1 s) (locks : locks_left s0 ≤ locks_left s1 + 1) (locks_then : locks_left s1 ≤ locks_left s + 1) where
   rest_before : IsAtRest (world s0)
-  rest_before = rests s0 is0 quiet0
+  rest_before = rests s0 is0 still0.calls
 
   rest_between : IsAtRest (world s1)
-  rest_between = rests s1 is1 quiet1
+  rest_between = rests s1 is1 (tried_still s0 s1 i c first t i still0).calls
 
   splits_first : (r : Once Placed) → needs_split r ≡ true → IsAnswered (world s0) (op_of c) (limit_of c) (world s1) (party_of t.state) r → Split s0 s1 c
   splits_first (once.Worn node word) again end = absurd (cc)
@@ -620,7 +630,8 @@ module _ (s0 s1 s : Index) (i : ℕ) (c : CoreCall) (is0 : IsIndex s0) (quiet0 :
                 last = s1;
                 began = inr (full_again_if s0 i c rest_before cut.full);
                 index = is1;
-                quiet = quiet1;
+                quiet = tried_quiet s0 s1 i c first t;
+                still = tried_still s0 s1 i c first t i still0;
                 layout = t.layout;
                 generation = t.generation;
                 base = t.base;
@@ -703,6 +714,23 @@ module _ (s0 s1 s : Index) (i : ℕ) (c : CoreCall) (is0 : IsIndex s0) (quiet0 :
   list_then cut (once.Again (again.Epoch one two)) end = absurd end
   list_then cut (once.Done placed) (causes, old, place, hops, write, shape) = put_keeps c (world s0) (world s1) (world s) cut.full shape
 
+  -- the other one isn't turned back
+  pub answered_then : needs_split first ≡ true → (why : Again) → answer ≡ once.Again why → ⊥
+  answered_then made why is = by_cause why (subst (IsAnswered (world s1) (op_of c) (limit_of c) (world s) (party_of u.state)) is u.answered)
+    where
+      cut : Split s0 s1 c
+      cut = splits_first first made t.answered
+
+      by_cause : (why : Again) → IsAnswered (world s1) (op_of c) (limit_of c) (world s) (party_of u.state) (once.Again why) → ⊥
+      by_cause again.NoFree (unworn, below, full, has, lacks, same, kept, unmoved) = not_full cut full
+      by_cause (again.NeedsSplit n) (unworn, below, full, has, free, same, halved, most) = not_full cut full
+      by_cause again.LogFull (unworn, below, needs, lacks, same, kept, unmoved) = not_full cut (put_needs c (world s0) (world s1) cut.full needs)
+      by_cause (again.Locked n word) end = end
+      by_cause (again.Moved n one two) end = end
+      by_cause (again.Hops count) end = end
+      by_cause (again.Held word) end = end
+      by_cause (again.Epoch one two) end = end
+
   -- both tries take two locks of a node at most
   each_two : LoseAtMost 2 s0 s
   each_two n =
@@ -756,14 +784,14 @@ gets_add_nothing name None = refl
 gets_add_nothing name (Some value) = refl
 
 -- the whole call of a part of a scan is one try
-module _ (s0 s : Index) (i : ℕ) (low : List ℕ) (count : ℕ) (is0 : IsIndex s0) (quiet0 : IsQuiet s0) where
+module _ (s0 s : Index) (i : ℕ) (low : List ℕ) (count : ℕ) (is0 : IsIndex s0) (still0 : IsStill i s0) where
   abbrev c : CoreCall
   c = call.Part low count
 
   -- one that ended early is worn
   pub part_early : (r : Once Placed) → IsEarly r → TriesAlone s0 i c s r → LoseAtMost 1 s0 s → locks_left s0 ≤ locks_left s + 1 → RunsAlone s0 i c s (part_whole (early_of r))
   part_early (once.Worn node word) early t each locks =
-      ran_runs s0 s i c (once.Worn node word) 1 (one_try s0 s i c is0 quiet0 (once.Worn node word) t each locks refl refl (λ e. cc) tt) (omega arith) (λ full. cc)
+      ran_runs s0 s i c (once.Worn node word) 1 (one_try s0 s i c is0 still0 (once.Worn node word) t each locks refl refl (λ e. cc) tt) (omega arith) (λ full. cc)
   part_early (once.Spent clock) early t each locks = absurd (let late = t.answered.1 in cc)
   part_early (once.Again again.NoFree) early t each locks = absurd t.answered.2
   part_early (once.Again (again.NeedsSplit n)) early t each locks = absurd t.answered.2
@@ -793,7 +821,7 @@ module _ (s0 s : Index) (i : ℕ) (low : List ℕ) (count : ℕ) (is0 : IsIndex 
         state = t.state;
         there = t.there;
         named = t.named;
-        answer = (t.answered.0.0, whole_part s0 s low count words is0 quiet0 t.base history kept.0 t.named node t.answered.2 t.answered.3 t.answered.1 is);
+        answer = (t.answered.0.0, whole_part s0 s low count words is0 still0.calls t.base history kept.0 t.named node t.answered.2 t.answered.3 t.answered.1 is);
         history = t.answered.4;
         states = t.states;
         layout = t.layout;
@@ -802,6 +830,6 @@ module _ (s0 s : Index) (i : ℕ) (low : List ℕ) (count : ℕ) (is0 : IsIndex 
         list = kept.0;
         stamps = λ n here. inl (ap (λ (stamp : ℕ → ℕ). stamp n) t.stamps);
         log = λ _. record { layer = t.layer; lines = inl (kept.0, lines); taken = inl (taken_kept s0 s t.layout kept) };
-        short = λ short. (short_stays (world s0) (world s) t.layer t.ways short, walk_is_short s0 is0 quiet0 low words.hops short t.answered.3);
+        short = λ short. (short_stays (world s0) (world s) t.layer t.ways short, walk_is_short s0 is0 still0.calls low words.hops short t.answered.3);
         weighs = omega arith;
       }

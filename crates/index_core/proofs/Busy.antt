@@ -1,5 +1,5 @@
 -- Whether a party's last call isn't answered.
-use Rattle.std.proofs.Common.{◌≡◌, ℕ, ◌||◌, inl, inr, true, false, refl, sym, ap, ◌∙◌}
+use Rattle.std.proofs.Common.{◌≡◌, ◌≢◌, ℕ, ◌||◌, inl, inr, ⊎_elim, true, false, refl, sym, ap, ◌∙◌}
 use Rattle.std.specs.Prelude.{Option, Some, None, is_some}
 use mathlib.Core.Option.{some, some-injective}
 use lib.ListN.{get_elem?}
@@ -8,7 +8,7 @@ use Rattle.updater.specs.declared.making.MakeTurn.{MakeTurn}
 use Rattle.index_core.specs.declared.party.PartyState.{PartyState}
 use Rattle.index_core.specs.PartyStates.{is_busy}
 use Rattle.index_core.specs.Indexes.{Index, IsBusy}
-use Rattle.index_core.specs.Lone.{IsQuiet}
+use Rattle.index_core.specs.Lone.{HoldsLock, IsQuiet, IsStill}
 
 pub busy_told : (s : Index) (i : ℕ) (e : PartyState) → get_elem? s.states i ≡ some e → is_busy e ≡ true → IsBusy s i
 busy_told s i e there busy = by_calls e.machine e.turn refl refl busy
@@ -29,6 +29,14 @@ idle_told e idle = by_calls e.machine e.turn idle
 pub quiet_is_idle : (s : Index) (i : ℕ) → IsQuiet s → IsBusy s i → ⊥
 quiet_is_idle s i quiet (inl f) = let both : None ≡ Some f.machine = sym (quiet.calls i f.state f.there) ∙ f.flies in cc
 quiet_is_idle s i quiet (inr f) = let both : None ≡ Some f.making = sym (quiet.turns i f.state f.there) ∙ f.turns in cc
+
+-- a still index has nothing in flight of this party
+pub still_is_idle : (s : Index) (i : ℕ) → IsStill i s → IsBusy s i → ⊥
+still_is_idle s i still (inl f) = let both : None ≡ Some f.machine = sym (still.calls i f.state f.there) ∙ f.flies in cc
+still_is_idle s i still (inr f) = ⊎_elim
+    (λ (none : f.state.turn ≡ None). let both : None ≡ Some f.making = sym none ∙ f.turns in absurd (cc))
+    (λ (stopped : (i ≢ i) × HoldsLock f.state.turn). absurd (stopped.0 refl))
+    (still.turns i f.state f.there)
 
 pub busy_tells : (s : Index) (i : ℕ) (e : PartyState) → get_elem? s.states i ≡ some e → IsBusy s i → is_busy e ≡ true
 busy_tells s i e there (inl f) =

@@ -38,7 +38,7 @@ use Rattle.index_core.specs.declared.party.CoreCall.TheVariants as call
 use Rattle.index_core.specs.CoreCalls.{limit_of, machine_of, op_of}
 use Rattle.index_core.specs.Costs.{ActionsAreFew, ActsWithin, IsUnworn, IsUnwornWhole, TriesWithin, list_actions, look_actions, merge_actions, most_actions, other_actions, split_actions}
 use Rattle.index_core.specs.Indexes.{Index, IsIndex, Starts, TurnsTo, room_of, told, view_of, world}
-use Rattle.index_core.specs.Lone.{HasShortWays, IsQuiet, IsWholeAnswer, NeedsNoTurn, TriesAlone, lacks_line, lacks_node, needs_split, part_whole, whole_of}
+use Rattle.index_core.specs.Lone.{HasNoCalls, HasShortWays, IsWholeAnswer, NeedsNoTurn, TriesAlone, lacks_line, lacks_node, needs_split, part_whole, whole_of}
 use Rattle.index_core.specs.PartyStates.{party_of, state_with}
 use Rattle.lone_turn.proofs.ReadyCounts.{ready_are_counted}
 use Rattle.staleness.proofs.Short.{short_stays}
@@ -163,7 +163,7 @@ module _ (s0 s s' : Index) (i : ℕ) (c : CoreCall) (result : Option (Once Place
           (walks_end_so o.machine (told s o.machine) answer o.call.sound.here walking done))
       at true landed done tries =
           let walks = landed_walks s0.layout s0.words s.words o.machine o.call.stands landed in
-          let few = walk_is_short s0 o.before o.quiet (name_in (running_call o.machine)) (running_call o.machine).hops short walks in
+          let few = walk_is_short s0 o.before o.still.calls (name_in (running_call o.machine)) (running_call o.machine).hops short walks in
           let nodes : (running_call o.machine).view.layout.nodes ≡ s0.layout.nodes = ap (λ (l : Layout). l.nodes) (o.call.sound.layout ∙ o.call.trying.layout) in
           let is : spared o.machine ≡ hops_spared (running_call o.machine) + split_spared o.machine = ap (λ (b : Bool). cond b (hops_spared (running_call o.machine)) 0 + split_spared o.machine) landed in
           let spares : hops_spared (running_call o.machine) ≡ 10 * (2 * s0.layout.nodes - ((running_call o.machine).hops + 1)) = ap (λ n. 10 * (2 * n - ((running_call o.machine).hops + 1))) nodes in
@@ -197,14 +197,14 @@ actions_are_few l (call.Turn stamp release) lines is = let nodes = is.nodes.1 in
 -- ---- whole calls
 
 -- a call that needs no turn isn't turned back for want of a line, or of a node
-pub needs_none : (s s1 : Index) (i : ℕ) (c : CoreCall) (r : Once Placed) → IsIndex s → IsQuiet s → TriesAlone s i c s1 r → NeedsNoTurn i c s → (lacks_line r ≡ false) × (lacks_node r ≡ false)
-needs_none s s1 i c r is quiet t none = (
+pub needs_none : (s s1 : Index) (i : ℕ) (c : CoreCall) (r : Once Placed) → IsIndex s → HasNoCalls s → TriesAlone s i c s1 r → NeedsNoTurn i c s → (lacks_line r ≡ false) × (lacks_node r ≡ false)
+needs_none s s1 i c r is idle t none = (
   not_so (lacks_line r) (λ lacks. back (inl lacks)),
   not_so (lacks_node r) (λ lacks. back (inr lacks)),
 )
   where
     back : (lacks_line r ≡ true) ⊎ (lacks_node r ≡ true) → ⊥
-    back lacks = (turned_back s s1 i c is quiet t.state (is.states i t.state t.there).caller r lacks t.answered).turned none
+    back lacks = (turned_back s s1 i c is idle t.state (is.states i t.state t.there).caller r lacks t.answered).turned none
 
     not_so : (b : Bool) → (b ≡ true → ⊥) → b ≡ false
     not_so true never = absurd (never refl)

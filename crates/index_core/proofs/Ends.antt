@@ -1,6 +1,6 @@
 -- What a whole call comes to within a budget, from what it was made of.
-use Rattle.std.proofs.Common.{◌≡◌, ℕ, ◌<◌, refl, sym, subst}
-use Rattle.std.specs.Prelude.{Option, Some, None}
+use Rattle.std.proofs.Common.{◌≡◌, ◌≢◌, ℕ, ◌<◌, refl, sym, subst}
+use Rattle.std.specs.Prelude.{Option, Some, None, IfSome}
 use Rattle.updater.specs.declared.terms.Turned.{Turned}
 use Rattle.index_core.specs.declared.party.CoreCall.{CoreCall}
 use Rattle.index_core.specs.declared.party.Whole.{Whole}
@@ -9,6 +9,7 @@ use Rattle.index_core.specs.declared.party.Within.{Within}
 use Rattle.index_core.specs.declared.party.Within.TheVariants as within
 use Rattle.index_core.specs.CoreCalls.{IfTurn, MayBegin}
 use Rattle.index_core.specs.Indexes.{Index}
+use Rattle.index_core.specs.Lone.{IsQuiet, IsStill}
 use Rattle.index_core.specs.Turns.{IsTurnedAnd, TurnsAlone}
 use Rattle.index_core.specs.Withins.{ComesInTime, ComesTo, CutsOff, CutsTurnOff, EndsInTime, EndsWithin, RanAlone}
 use Rattle.index_core.proofs.Either.{IsNoTurn, no_turn, no_name}
@@ -46,6 +47,15 @@ turn_ends answer result s0 s i stamp release d same is runs =
     (comes_to Turned (λ turned. TurnsAlone s0 stamp release turned s) (λ turned. Ran s0 i d s (whole.Turned turned)) (CutsTurnOff s0 i s) (Cuts s0 i d s) answer
     (λ turned ran. (λ may. absurd (no_name d stamp release same may), subst (λ (e : CoreCall). IfTurn e (λ stamp release. TurnsAlone s0 stamp release turned s)) (sym same) ran))
     (λ cut. (λ may. absurd (no_name d stamp release same may), subst (λ (e : CoreCall). IfTurn e (λ stamp release. CutsTurnOff s0 i s)) (sym same) cut)) runs)
+
+-- what it finds in flight, and leaves
+pub stays_end : (answer : Option Turned) (result : Within) (s0 s : Index) (i before : ℕ) → 0 < before → IfSome answer (λ _. IsQuiet s0 × IsQuiet s) → (answer ≡ None → IsQuiet s0 → 0 < before → (party : ℕ) → party ≢ i → IsStill party s)
+    → ComesTo answer (λ given. result ≡ within.Answered (whole.Turned given)) (result ≡ within.Cut)
+    → EndsWithin result (λ _. IsQuiet s0 × IsQuiet s) (IsQuiet s0 → (party : ℕ) → party ≢ i → IsStill party s) (s ≡ s0)
+stays_end (Some given) result s0 s i before some quiet stays is =
+    subst (λ (r : Within). EndsWithin r (λ _. IsQuiet s0 × IsQuiet s) (IsQuiet s0 → (party : ℕ) → party ≢ i → IsStill party s) (s ≡ s0)) (sym is) quiet
+stays_end None result s0 s i before some quiet stays is =
+    subst (λ (r : Within). EndsWithin r (λ _. IsQuiet s0 × IsQuiet s) (IsQuiet s0 → (party : ℕ) → party ≢ i → IsStill party s) (s ≡ s0)) (sym is) (λ was. stays refl was some)
 
 -- what is left of the budget
 pub spent_ends : (T : Type 0) (answer : Option T) (to : T → Whole) (result : Within) (before after : ℕ) → 0 < before → (answer ≡ None → after ≡ 0) → ComesTo answer (λ given. result ≡ within.Answered (to given)) (result ≡ within.Cut)

@@ -46,7 +46,7 @@ most_are_all s left low lacks =
 
 pub no_room_is_full_put : NoRoomIsFullPut
 no_room_is_full_put s name value limit is quiet named left low =
-    let rest = rests s is quiet in
+    let rest = rests s is quiet.calls in
     let same = target_has s rest name in
     let counts = nodes_are_counted (world s) is.lawful in (
       (λ none. subst (λ (most : ℕ). IsFullPut s.layout.slots most (map_of_index s) (anchors_in (world s)) name) (most_are_all s left low none.1)

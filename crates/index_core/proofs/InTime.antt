@@ -34,7 +34,7 @@ use Rattle.index_core.specs.declared.party.CoreCall.TheVariants as call
 use Rattle.index_core.specs.CoreCalls.{limit_of, op_of}
 use Rattle.index_core.specs.Costs.{behind_actions, look_actions, most_actions, room_actions}
 use Rattle.index_core.specs.Indexes.{Index, IsIndex, world}
-use Rattle.index_core.specs.Lone.{HasShortWays, IsQuiet, TriesAlone, needs_split}
+use Rattle.index_core.specs.Lone.{HasNoCalls, HasShortWays, TriesAlone, needs_split}
 use Rattle.index_core.specs.PartyStates.{party_of}
 use Rattle.index_core.specs.Withins.{ComesInTime, TriesInTime}
 use Rattle.index_core.proofs.Alone.{split_has_room, walk_is_short}
@@ -155,7 +155,7 @@ module _ (s0 s : Index) (i : ℕ) (c : CoreCall) (o : Lone s0 s i c) (before now
       let was = lone_cost s0 s i c o in
       let nodes : (running_call o.machine).view.layout.nodes ≡ s0.layout.nodes = ap (λ (l : Layout). l.nodes) (o.call.sound.layout ∙ o.call.trying.layout) in
       let of_call = call_left s0.layout s0.words s.words (ready_lines (world s0)) o.machine o.call.sound.here o.call.stands nodes
-      (λ hops walks. walk_is_short s0 o.before o.quiet (name_in (running_call o.machine)) hops short walks) in
+      (λ hops walks. walk_is_short s0 o.before o.still.calls (name_in (running_call o.machine)) hops short walks) in
       omega (arith, was, of_call)
 
   next_in_time : now + 1 ≤ before + (look_actions s0.layout (ready_lines (world s0)) + behind_actions s0.layout c)
@@ -203,12 +203,12 @@ try_in_time T s0 c result budget before after short tries =
     in_less_time result budget before after (look_actions s0.layout (ready_lines (world s0)) + behind_actions s0.layout c) (most_actions s0.layout c (ready_lines (world s0))) (try_most s0.layout c (ready_lines (world s0))) (tries short).0
 
 -- a put that has split its node has room there
-split_room : (s0 s1 : Index) (i : ℕ) (c : CoreCall) (first : Once Placed) → IsIndex s1 → IsQuiet s1 → (t : TriesAlone s0 i c s1 first) → needs_split first ≡ true → FindsFull (world s1) (op_of c) → ⊥
-split_room s0 s1 i c first is quiet t made = at first made t.answered
+split_room : (s0 s1 : Index) (i : ℕ) (c : CoreCall) (first : Once Placed) → IsIndex s1 → HasNoCalls s1 → (t : TriesAlone s0 i c s1 first) → needs_split first ≡ true → FindsFull (world s1) (op_of c) → ⊥
+split_room s0 s1 i c first is idle t made = at first made t.answered
   where
     at : (r : Once Placed) → needs_split r ≡ true → IsAnswered (world s0) (op_of c) (limit_of c) (world s1) (party_of t.state) r → FindsFull (world s1) (op_of c) → ⊥
     at (once.Again (again.NeedsSplit node)) made (unworn, below, full, has, free, same, halved, most) =
-        split_has_room s0 s1 c (rests s1 is quiet) (λ k. after_all (map_of (t.base k)) (same k)) halved
+        split_has_room s0 s1 c (rests s1 is idle) (λ k. after_all (map_of (t.base k)) (same k)) halved
     at (once.Again again.NoFree) made end = absurd (cc)
     at (once.Again again.LogFull) made end = absurd (cc)
     at (once.Again (again.Locked node word)) made end = absurd end
@@ -230,11 +230,11 @@ split_most l (call.Recheck node version) lines w full = absurd full
 split_most l (call.Turn stamp release) lines w full = absurd full
 
 -- both tries of such a put
-pub again_in_time : (T : Type 0) (s0 s1 : Index) (i : ℕ) (c : CoreCall) (first : Once Placed) (result : Option T) (budget left before between after : ℕ) → IsIndex s1 → IsQuiet s1 → (t : TriesAlone s0 i c s1 first) → needs_split first ≡ true
+pub again_in_time : (T : Type 0) (s0 s1 : Index) (i : ℕ) (c : CoreCall) (first : Once Placed) (result : Option T) (budget left before between after : ℕ) → IsIndex s1 → HasNoCalls s1 → (t : TriesAlone s0 i c s1 first) → needs_split first ≡ true
     → TriesInTime s0 c (Some first) budget before between → TriesInTime s1 c result left between after → between + left ≡ before + budget → HasShortWays s0
     → ComesInTime result budget before after (most_actions s0.layout c (ready_lines (world s0)))
-again_in_time T s0 s1 i c first result budget left before between after is quiet t again one two spent short =
-    at result ((two (short_stays (world s0) (world s1) t.layer t.ways short)).1 (split_room s0 s1 i c first is quiet t again))
+again_in_time T s0 s1 i c first result budget left before between after is idle t again one two spent short =
+    at result ((two (short_stays (world s0) (world s1) t.layer t.ways short)).1 (split_room s0 s1 i c first is idle t again))
   where
     lines : ready_lines (world s1) ≡ ready_lines (world s0) + 1
     lines = split_lines (name_asked (op_of c)) t.state.caller (world s0) (world s1) first t.layout t.lines again
@@ -250,9 +250,9 @@ again_in_time T s0 s1 i c first result budget left before between after is quiet
     at None few = let first_few = (one short).0 in omega (arith, few, first_few, same, all, spent)
 
 -- as a whole call has it that needs no turn, and so stands as its first try left it
-pub again_so : (T : Type 0) (s0 s1 s : Index) (i : ℕ) (c : CoreCall) (first answer : Once Placed) (result : Option T) (budget left1 left before steps1 steps after : ℕ) → IsIndex s1 → IsQuiet s1 → TriesAlone s0 i c s1 first
+pub again_so : (T : Type 0) (s0 s1 s : Index) (i : ℕ) (c : CoreCall) (first answer : Once Placed) (result : Option T) (budget left1 left before steps1 steps after : ℕ) → IsIndex s1 → HasNoCalls s1 → TriesAlone s0 i c s1 first
     → TriesInTime s0 c (Some first) budget before steps1 → steps1 + left1 ≡ before + budget → (s ≡ s1) × (answer ≡ first) × (steps ≡ steps1) × (left ≡ left1) → needs_split answer ≡ true → TriesInTime s c result left steps after → HasShortWays s0
     → ComesInTime result budget before after (most_actions s0.layout c (ready_lines (world s0)))
-again_so T s0 s1 s i c first answer result budget left1 left before steps1 steps after is quiet t one spent same made two short =
-    again_in_time T s0 s1 i c first result budget left1 before steps1 after is quiet t (sym (ap needs_split same.1) ∙ made) one
+again_so T s0 s1 s i c first answer result budget left1 left before steps1 steps after is idle t one spent same made two short =
+    again_in_time T s0 s1 i c first result budget left1 before steps1 after is idle t (sym (ap needs_split same.1) ∙ made) one
     (subst (λ (q : Index × ℕ × ℕ). TriesInTime q.0 c result q.2 q.1 after) (λ k. (same.0 k, same.2 k, same.3 k)) two) spent short

@@ -55,6 +55,7 @@ pub mod ScheduleCrashes
 pub mod Logs
 pub mod CrashLaws
 pub mod Withins
+pub mod Waiting
 pub mod InTime
 pub mod Ends
 pub mod CutCrashes

@@ -33,7 +33,7 @@ use Rattle.updater.specs.Makings.{making_terms, making_from, making_asks, making
 use Rattle.updater.specs.Watches.{turning_after}
 use Rattle.updater.specs.Works.{work_from, work_turned, work_asks}
 use Rattle.layer_law.specs.Layers.{Layered, IsLayered}
-use Rattle.layer_law.specs.Laws.{IsAtRest, turned}
+use Rattle.layer_law.specs.Laws.{IsAtRest, LeavesNodes, turned}
 use Rattle.lone_turn.specs.Laws.{LoneTurning, GoesOn}
 use Rattle.lone_turn.specs.LoneTurns.{line_state, frees_node, status_then, AreEmptyOrReady, IsIdle, IsLoneTurn}
 use Rattle.call_stages.specs.Kinds.{free_status, gone_status}
@@ -48,13 +48,13 @@ use Rattle.lone_turn.proofs.Going.{turns_go}
 use Rattle.index_core.specs.declared.party.PartyState.{PartyState}
 use Rattle.index_core.specs.PartyStates.{resting, turning_of, turn_after, turn_reply}
 use Rattle.index_core.specs.Indexes.{Index, IsIndex, IsTurning, footed, layered, world}
-use Rattle.index_core.specs.Lone.{IsQuiet}
+use Rattle.index_core.specs.Lone.{HasNoCalls, HoldsLock, IsQuiet}
 use Rattle.index_core.specs.Costs.{turn_actions}
-use Rattle.index_core.specs.Turns.{StartsTurn, TurnSteps, TurnsAlone, turn_begun, turn_told, turned_index}
+use Rattle.index_core.specs.Turns.{KeepsNodes, StartsTurn, TurnSteps, TurnsAlone, turn_told, turned_index}
 use Rattle.index_core.proofs.Layering.{turn_of, rest_turns, at_rest}
 use Rattle.index_core.proofs.Lists.{map_there, set_twice}
-use Rattle.index_core.proofs.Quiet.{quiet_parties, quiet_lines}
-use Rattle.index_core.proofs.MachineLaw.{idle_weigh}
+use Rattle.index_core.proofs.Quiet.{idle_lines, quiet_parties}
+use Rattle.index_core.proofs.MachineLaw.{none_weigh}
 use Rattle.index_core.proofs.Turning.{layered_is, parties_same, turns_keep}
 
 -- An index with nothing in flight is idle for a turn.
@@ -72,7 +72,7 @@ quiet_is_idle_for_turns s is quiet = record {
         column-here s.layout s.words (line_count s.layout) (λ k. Cached (line_word 0 k)) j here ∙ sym (line-here s.layout s.words (j / 8) (j % 8) 0 (omega arith, omega arith, omega arith)) in
         ⊎_elim
         (λ (none : NeedsNoParty (line_in s.layout s.words (j / 8) (j % 8) 0)). ⊎_elim (λ empty. inl (same ∙ empty)) (λ ready. inr (same ∙ ready)) none)
-        (λ (hand : IsInHand (footed s) (j / 8) (j % 8)). absurd (let none = quiet_lines s quiet hand.number (Some hand.line) hand.there in cc))
+        (λ (hand : IsInHand (footed s) (j / 8) (j % 8)). absurd (let none = idle_lines s quiet.calls hand.number (Some hand.line) hand.there in cc))
         (is.tended (j / 8) (j % 8) (omega arith) (omega arith))
 
 -- Where a lone turn is: it has still to take the lock, or works.
@@ -92,7 +92,32 @@ pub record LoneTurn (s0 s : Index) (i stamp release : ℕ) : Type 0 where
   pub there : get_elem? s0.states i ≡ some state
   pub is : s ≡ record s0 { words = s.words; states = set s0.states i (record state { turn = Some making }) }
   pub stands : TurnStands s0 s i stamp release making
+  pub keeps : KeepsNodes s0 s
   pub weighs : weight_sum (world s) ≤ weight_of s0
+
+-- Nodes that one step leaves, and another, both leave.
+leaves_both : (a b c : Facts) → LeavesNodes a b → LeavesNodes b c → LeavesNodes a c
+leaves_both a b c one two = record {
+  nodes = two.nodes ∙ ap (λ (f : Facts). record f { status = c.status }) one.nodes;
+  frees = λ n. ⊎_elim
+      (λ (same : c.status n ≡ b.status n). ⊎_elim
+      (λ (was : b.status n ≡ a.status n). inl (same ∙ was))
+      (λ (free : b.status n ≡ free_status). inr (same ∙ free))
+      (one.frees n))
+      (λ (free : c.status n ≡ free_status). inr free)
+      (two.frees n);
+}
+
+-- as a turn begins, all nodes are as they were, and the weight is
+pub begun_keeps : (s0 s : Index) (i stamp release : ℕ) → StartsTurn s0 i stamp release s → KeepsNodes s0 s
+begun_keeps s0 s i stamp release starts =
+    subst (KeepsNodes s0) (sym starts.is) (record { nodes = refl; frees = λ n. inl refl })
+
+pub begun_weighs : (s0 s : Index) (i stamp release : ℕ) → HasNoCalls s0 → StartsTurn s0 i stamp release s → weight_sum (world s) ≡ weight_of s0
+begun_weighs s0 s i stamp release calls starts =
+    ap (λ (v : Index). weight_sum (world v)) starts.is
+    ∙ ap (λ (ps : List Party). weight_sum (record (world s0) { parties = ps })) (parties_same s0 i starts.state (Some (making_from s0.layout s0.generation stamp release)) starts.there)
+    ∙ none_weigh s0 calls
 
 pub lone_turn_begins : (s0 s : Index) (i stamp release : ℕ) → IsIndex s0 → IsQuiet s0 → 1 ≤ stamp → stamp < 2 ^ 64 → StartsTurn s0 i stamp release s → IsIndex s → LoneTurn s0 s i stamp release
 lone_turn_begins s0 s i stamp release is0 quiet some_stamp small starts is = record {
@@ -106,13 +131,8 @@ lone_turn_begins s0 s i stamp release is0 quiet some_stamp small starts is = rec
   there = starts.there;
   is = starts.is ∙ ap (λ (w : List ℕ). record s0 { words = w; states = set s0.states i (record (starts.state) { turn = Some (making_from s0.layout s0.generation stamp release) }) }) (sym (ap (λ (v : Index). v.words) starts.is));
   stands = (ap (λ (v : Index). v.words) starts.is, refl);
-  weighs =
-      let begun : Index = turn_begun s0 i starts.state stamp release in
-      let same : weight_sum (world begun) ≡ weight_sum (world s0) =
-      ap (λ (ps : List Party). weight_sum (record (world s0) { parties = ps })) (parties_same s0 i starts.state (Some (making_from s0.layout s0.generation stamp release)) starts.there) in
-      let light = ap (λ (v : Index). weight_sum (world v)) starts.is in
-      let rests = idle_weigh s0 quiet in
-      omega (arith, same, light, rests);
+  keeps = begun_keeps s0 s i stamp release starts;
+  weighs = let same = begun_weighs s0 s i stamp release quiet.calls starts in omega (arith, same);
 }
 
 pub lone_turn_there : (s0 s : Index) (i stamp release : ℕ) (o : LoneTurn s0 s i stamp release) → get_elem? s.states i ≡ some (record (o.state) { turn = Some o.making })
@@ -320,13 +340,13 @@ module _ (s0 s s' : Index) (i stamp release : ℕ) (o : LoneTurn s0 s i stamp re
           subst StandsAfter (sym (turn_by (Working work) same)) (works work (work_turned work x) same refl (turns_go (layered s0) stamp release i work (layered s) x stands refl).on)
 
   -- how it goes on
-  pub lone_turn_goes : result ≡ None → LoneTurn s0 s' i stamp release × (turn_left_at s' i < turn_left_at s i)
+  pub lone_turn_goes : result ≡ None → (next : LoneTurn s0 s' i stamp release) × (turn_left_at s' i < turn_left_at s i) × HoldsLock (Some next.making)
   lone_turn_goes going = by_turn turn refl stands_after fewer
     where
       left_in : mathlib.Core.Option.Option PartyState → ℕ
       left_in found = elim found [ none ↦ 0 | some e ↦ left_of_turn e.turn ]
 
-      by_turn : (u : Turn MakeTurn TurnReply) → turn ≡ u → StandsAfter u → GoesBelow making_left (making_left o.making) u → LoneTurn s0 s' i stamp release × (turn_left_at s' i < turn_left_at s i)
+      by_turn : (u : Turn MakeTurn TurnReply) → turn ≡ u → StandsAfter u → GoesBelow making_left (making_left o.making) u → (next : LoneTurn s0 s' i stamp release) × (turn_left_at s' i < turn_left_at s i) × HoldsLock (Some next.making)
       by_turn (Go (Working work)) same stands less =
           let now : PartyState = record (o.state) { turn = Some (Working work) } in
           let is : s' ≡ with_words s'.words (Some (Working work)) = left_is ∙ ap (λ (u : Turn MakeTurn TurnReply). with_words s'.words (turn_after u)) same in
@@ -342,6 +362,7 @@ module _ (s0 s s' : Index) (i stamp release : ℕ) (o : LoneTurn s0 s i stamp re
               there = o.there;
               is = is;
               stands = stands;
+              keeps = leaves_both (facts (world s0)) (facts (world s)) (facts (world s')) o.keeps t.keeps;
               weighs =
                   let before = o.weighs in
                   let step = (turns_keep s i st o.making o.index at_i refl).weighs in
@@ -351,6 +372,7 @@ module _ (s0 s s' : Index) (i stamp release : ℕ) (o : LoneTurn s0 s i stamp re
             let was : turn_left_at s i ≡ making_left o.making = ap left_in at_i in
                 let left : turn_left_at s' i ≡ making_left (Working work) = ap left_in there in
                 omega (arith, less, was, left),
+            tt,
           )
       by_turn (Go (Taking terms)) same stands less = absurd stands
       by_turn (Done answer) same stands less = absurd (let none : None ≡ Some answer = sym going ∙ answered ∙ ap turn_reply same in cc)

@@ -31,6 +31,7 @@ use Rattle.index_core.specs.PartyStates.{IsPartyState, IsTurnOf, state_after, st
 use Rattle.updater.specs.declared.making.MakeTurn.{MakeTurn}
 use Rattle.index_core.proofs.Layering.{one_layered, idle_layered}
 use Rattle.index_core.specs.Indexes.{Index, IsIndex, footed, world, told, view_of, stepped_index}
+use Rattle.index_core.specs.Lone.{HasNoCalls}
 use Rattle.index_core.specs.MachineLaws.{IsReady, ReadyAfter, MachineKeeps, BeginKeeps, FirstIsReady, IdleKeep, place_told, place_now, place_next, PlacesFollow}
 use Rattle.cat_history.specs.declared.op.Change.TheVariants as change
 use Rattle.cat_history.specs.declared.op.NameOp.{NameOp}
@@ -40,7 +41,7 @@ use Rattle.call_stages.specs.Stages.{pending_in}
 use Rattle.node_ops.specs.CallStages.{stage_after}
 use Rattle.node_ops.proofs.OpLaw.{op_told, pends_own_change}
 use Rattle.index_law.specs.Weights.{AddsName, RisesBy, weight_sum}
-use Rattle.index_core.specs.Weights.{added_if}
+use Rattle.index_core.specs.Weights.{added_if, weight_of}
 use Rattle.index_core.specs.MachineLaws.{IdleWeigh, shows, put_shows, showing, showing_after}
 use Rattle.index_core.proofs.Shown.{new_if, told_new, step_shows, adds_shows}
 use Rattle.index_core.proofs.Answering.{says_of}
@@ -207,8 +208,12 @@ begin_law s i e index c is there idle here =
       shows_none = none_shown s i c;
     }
 
+-- with no call in flight what those have lowered the weight by is nothing
+pub none_weigh : (s : Index) → HasNoCalls s → weight_sum (world s) ≡ weight_of s
+none_weigh s none = idle_weighs (world s) (λ i p at. let from = map_from party_of s.states i p at in sym (ap (λ (q : Party). q.stage) from.2) ∙ ap machine_stage (none i from.0 from.1))
+
 pub idle_weigh : IdleWeigh
-idle_weigh s quiet = idle_weighs (world s) (λ i p at. let from = map_from party_of s.states i p at in sym (ap (λ (q : Party). q.stage) from.2) ∙ ap machine_stage (quiet.calls i from.0 from.1))
+idle_weigh s quiet = none_weigh s quiet.calls
 
 pub first_ready : FirstIsReady
 first_ready v (call.Put name value limit) here = ready_idle v.layout v.generation (machine_of v (call.Put name value limit)) here.0.call.view.layout.nodes.0 (record { layout = refl; generation = refl; here = here }) refl

@@ -24,13 +24,13 @@ use Rattle.index_core.specs.declared.party.Whole.TheVariants as whole
 use Rattle.index_core.specs.PartyStates.{state_with}
 use Rattle.index_core.specs.Indexes.{Index, room_of, told, world, IsIndex, IsInFlight, TurnsTo}
 use Rattle.index_core.specs.Listings.{IsPartAt, ListsAt}
-use Rattle.index_core.specs.Lone.{HasListed, HasListing, IsQuiet, LoseAtMost, RunsAlone, locks_left, part_whole, node_for}
+use Rattle.index_core.specs.Lone.{HasListed, HasListing, IsQuiet, IsStill, IsWholeAnswer, LoseAtMost, RunsAlone, locks_left, most_tries, part_whole, node_for}
 use Rattle.index_core.proofs.Alone.{part_early, part_done}
 use Rattle.index_core.proofs.PartsAlone.{listed_node, listed_word}
 use Rattle.pm_words.specs.declared.layout.Layout.{Layout}
 use Rattle.lone_law.specs.LoneCalls.{IsThere}
 use Rattle.index_core.proofs.Told.{done_of, is_early}
-use Rattle.index_core.proofs.Tries.{Lone, lone_each, lone_locks, lone_machine, lone_quiet, lone_there, lone_tries, spare_left, turn_machine, turn_told}
+use Rattle.index_core.proofs.Tries.{Lone, lone_each, lone_locks, lone_machine, lone_none, lone_quiet, lone_still, lone_there, lone_tries, spare_left, turn_machine, turn_told}
 
 some_same : {a b : Running} → Some a ≡ Some b → a ≡ b
 some_same e = cc
@@ -52,10 +52,16 @@ has_listing s i f m same = (
     on None is has = absurd (cc)
     on (Some words) is has = (words, record { state = f.state; machine = f.machine; there = f.there; flies = f.flies; listed = ap listed_in (sym same) ∙ is })
 
+-- A part of a scan is never answered that there is no room.
+pub part_is_not_full : (s0 s : Index) (i : ℕ) (low : List ℕ) (count : ℕ) (r : Whole) → RunsAlone s0 i (call.Part low count) s r → r ≡ whole.Full → ⊥
+part_is_not_full s0 s i low count r runs is =
+    (subst (IsWholeAnswer (most_tries (call.Part low count)) s0 i (call.Part low count) s) is runs.answer).2
+
 -- What a whole part of a scan leaves.
 pub record EndsAlone (s0 s : Index) (i : ℕ) (low : List ℕ) (count : ℕ) (r : Whole) : Type 0 where
   pub runs : RunsAlone s0 i (call.Part low count) s r
-  pub quiet : IsQuiet s
+  pub quiet : IsQuiet s0 → IsQuiet s
+  pub still : (party : ℕ) → IsStill party s0 → IsStill party s
   pub spare : s0.spare + length s0.history ≤ s.spare + length s.history
   pub each_lock : LoseAtMost 1 s0 s
   pub locks : locks_left s0 ≤ locks_left s + 1
@@ -82,11 +88,11 @@ module _ (s0 s s' : Index) (i : ℕ) (low : List ℕ) (count : ℕ) (result : Op
   -- with an answer it leaves
   ends_alone : (answer : Once Placed) → result ≡ Some answer → (r : Whole) → RunsAlone s0 i c s' r → EndsAlone s0 s' i low count r
   ends_alone answer answered r runs =
-      let quiet = lone_quiet s0 s s' i c result o t is' room answer answered in
       record {
         runs = runs;
-        quiet = quiet;
-        spare = spare_left s0 s s' i c o room quiet;
+        quiet = lone_quiet s0 s s' i c result o t is' room answer answered;
+        still = lone_still s0 s s' i c result o t is' room answer answered;
+        spare = spare_left s0 s s' i c o room (lone_none s0 s s' i c result o t is' room answer answered);
         each_lock = lone_each s0 s s' i c result o t is' room answer answered;
         locks = lone_locks s0 s s' i c result o t is' room answer answered;
       }
@@ -104,7 +110,7 @@ module _ (s0 s s' : Index) (i : ℕ) (low : List ℕ) (count : ℕ) (result : Op
       subst (λ (asked : NameOp). IsPartAt s'.layout (facts (world s')) (name_asked asked) count words) op_is
       (subst (λ (found : Option ℕ). IfSome found (λ (n : ℕ). told s m ≡ words.version → IsPartAt s'.layout (facts (world s')) (name_asked (op_in m)) n words)) o.count of_words (its_word words h)) in
       ends_alone (once.Done (words_placed words)) answered (whole.Part words)
-      (part_done s0 s' i low count o.before o.quiet words (lone_tries s0 s s' i c result o t is' room (once.Done (words_placed words)) answered) node is)
+      (part_done s0 s' i low count o.before o.still words (lone_tries s0 s s' i c result o t is' room (once.Done (words_placed words)) answered) node is)
 
   -- one that is answered before is told early
   pub part_is_early : (answer : Once Placed) → (HasListing s i → ⊥) → result ≡ Some answer → IsEarly answer
@@ -119,5 +125,5 @@ module _ (s0 s s' : Index) (i : ℕ) (low : List ℕ) (count : ℕ) (result : Op
   pub part_stops : (answer : Once Placed) → (HasListing s i → ⊥) → result ≡ Some answer → EndsAlone s0 s' i low count (part_whole (early_of answer))
   part_stops answer none answered =
       ends_alone answer answered (part_whole (early_of answer))
-      (part_early s0 s' i low count o.before o.quiet answer (part_is_early answer none answered) (lone_tries s0 s s' i c result o t is' room answer answered)
+      (part_early s0 s' i low count o.before o.still answer (part_is_early answer none answered) (lone_tries s0 s s' i c result o t is' room answer answered)
       (lone_each s0 s s' i c result o t is' room answer answered) (lone_locks s0 s s' i c result o t is' room answer answered))

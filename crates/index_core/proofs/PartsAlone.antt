@@ -46,7 +46,7 @@ use Rattle.node_ops.specs.RunningSteps.{IsRunning, listed_in, running_asks, runn
 use Rattle.lone_law.specs.LoneCalls.{IsThere, PartIsThere}
 use Rattle.index_core.specs.Indexes.{Index, world, map_of_index, IsIndex}
 use Rattle.index_core.specs.Listings.{IsPartAt, ListsRange}
-use Rattle.index_core.specs.Lone.{IsQuiet, IsWholePart, node_for}
+use Rattle.index_core.specs.Lone.{HasNoCalls, IsWholePart, node_for}
 use Rattle.lone_law.specs.There.{WalksBy}
 use Rattle.index_core.proofs.PartFacts.{lists_range, sound_call}
 use Rattle.index_core.proofs.Quiet.{rests}
@@ -155,7 +155,7 @@ listed_word l words0 words (Parting p) listing lists there sound layout =
     let here : listing.node < l.nodes = subst (λ (n : ℕ). n < l.nodes) (sym hears.node) (subst (λ (m : Layout). (part_call p).node < m.nodes) layout (sound_call p sound).node) in
     ap (got l words) loads ∙ sym (version_in-here l words listing.node here) ∙ word_stands l words0 words p listing lists there
 
-module _ (s0 s : Index) (low : List ℕ) (count : ℕ) (words : PartWords) (is0 : IsIndex s0) (quiet0 : IsQuiet s0) where
+module _ (s0 s : Index) (low : List ℕ) (count : ℕ) (words : PartWords) (is0 : IsIndex s0) (none : HasNoCalls s0) where
   abbrev l : Layout
   l = s0.layout
 
@@ -166,7 +166,7 @@ module _ (s0 s : Index) (low : List ℕ) (count : ℕ) (words : PartWords) (is0 
   n = node_for s0 low
 
   rest : IsAtRest (world s0)
-  rest = rests s0 is0 quiet0
+  rest = rests s0 is0 none
 
   inside : range_of l f n low ≡ true
   inside = eq-eqb n n refl

@@ -6,6 +6,7 @@ use Rattle.std.specs.List.{filter}
 use Rattle.std.proofs.lemmas.Bool.{cases_eq, eq-eqb, ne_eqb, eqb-true, leb-true, le-leb}
 use mathlib.Core.Option.{some, some-injective}
 use lib.ListN.{get_elem?}
+use Rattle.pm_words.specs.declared.again.Again.{Again}
 use Rattle.pm_words.specs.declared.again.Again.TheVariants as again
 use Rattle.pm_words.specs.declared.layout.Layout.{Layout}
 use Rattle.pm_words.specs.Locations.{Cached}
@@ -50,14 +51,14 @@ use Rattle.index_core.specs.CoreCalls.{op_of, limit_of, count_of}
 use Rattle.index_core.specs.PartyStates.{party_of}
 use Rattle.staleness.proofs.Short.{empty_is_short}
 use Rattle.index_core.specs.Indexes.{Index, IsIndex, layered, map_of_index, world}
-use Rattle.index_core.specs.Lone.{HasShortWays, IsQuiet, ComesFree, LacksNode, FindsFullNode, FindsNoRoom, FindsWornNode, HasSameList, IsMadeAgain, NeedsNoTurn, IsOver, IsWholeAnswer, KeepsStamps, LeavesList, LoseAtMost, MergesFor, MergesNothing, SplitsFor, SplitsNothing, TriesAlone, TriesBehindTurn, alone_writes, lacks_line, lacks_node, locks_left, most_tries, needs_split, node_for, state_tried, whole_of}
+use Rattle.index_core.specs.Lone.{HasNoCalls, HasShortWays, IsQuiet, IsStill, ComesFree, LacksNode, FindsFullNode, FindsNoRoom, FindsWornNode, HasSameList, IsMadeAgain, NeedsNoTurn, IsOver, IsWholeAnswer, KeepsStamps, LeavesList, LoseAtMost, MergesFor, MergesNothing, SplitsFor, SplitsNothing, TriesAlone, TriesBehindTurn, alone_writes, lacks_line, lacks_node, locks_left, most_tries, needs_split, node_for, state_tried, whole_of}
 use Rattle.index_core.specs.Turns.{TurnsAlone}
 use Rattle.index_core.specs.Weights.{weight_of, added_by}
 use Rattle.cat_history.specs.declared.op.NameOp.{NameOp}
 use Rattle.index_core.proofs.WornNodes.{worn_found, worn_target}
-use Rattle.index_core.proofs.Alone.{IsSwept, Ran, full_again_if, late_was, on_name, one_try, two_tries}
+use Rattle.index_core.proofs.Alone.{IsSwept, Ran, answered_then, full_again_if, late_was, on_name, one_try, two_tries}
 use Rattle.index_core.proofs.Lists.{set_twice}
-use Rattle.index_core.proofs.Quiet.{rests, can_walk}
+use Rattle.index_core.proofs.Quiet.{quiet_is_still, rests, can_walk}
 
 -- a node with a stamp is GONE
 pub stamped_are_gone : (s : Index) → IsLayered (layered s) → (n : ℕ) → stamp_in (world s) n ≢ 0 → (facts (world s)).status n ≡ gone_status
@@ -98,9 +99,9 @@ pub record TurnedBack (s s1 : Index) (i : ℕ) (c : CoreCall) : Type 0 where
   list : HasSameList s s1
   unmoved : IsUnmoved s.layout s.words s1.words (node_for s (name_asked (op_of c)))
 
-module _ (s s1 : Index) (i : ℕ) (c : CoreCall) (is : IsIndex s) (quiet : IsQuiet s) (state : PartyState) (caller : state.caller ≡ i) where
+module _ (s s1 : Index) (i : ℕ) (c : CoreCall) (is : IsIndex s) (idle : HasNoCalls s) (state : PartyState) (caller : state.caller ≡ i) where
   needs_line : (c : CoreCall) → Rattle.lone_law.specs.LoneCalls.NeedsLine (world s) (op_of c) → LacksLine s.layout s.words i → IsMadeAgain i c s
-  needs_line (call.Put name value limit) needs lacks = full_again_if s i (call.Put name value limit) (rests s is quiet) needs
+  needs_line (call.Put name value limit) needs lacks = full_again_if s i (call.Put name value limit) (rests s is idle) needs
   needs_line (call.Del name limit) needs lacks = (needs, lacks)
   needs_line (call.Get name) needs lacks = absurd needs
   needs_line (call.Part low count) needs lacks = absurd needs
@@ -137,7 +138,7 @@ module _ (s s1 : Index) (i : ℕ) (c : CoreCall) (is : IsIndex s) (quiet : IsQui
   turned_back (once.Again again.NoFree) lacks (unworn, below, full, has, none, same, kept, unmoved) = record {
     unworn = unworn;
     below = λ over. below (late_was (limit_of c) (length s.history) over);
-    again = full_again_if s i c (rests s is quiet) full;
+    again = full_again_if s i c (rests s is idle) full;
     turned = λ has_both. noded c full has_both none;
     history = same;
     list = kept.0;
@@ -187,7 +188,7 @@ pub turned_short : (old new : Index) (stamp release : ℕ) (answer : Turned) →
 turned_short old new stamp release answer turned is quiet = empty_is_short (layered new) is.layered (can_walk new is quiet).quiet turned.lone.empty
 
 -- one try that was turned back, and a turn
-module _ (s s1 s2 : Index) (i : ℕ) (c : CoreCall) (answer : Once Placed) (turned : Turned) (is : IsIndex s) (quiet : IsQuiet s) (is2 : IsIndex s2) (quiet2 : IsQuiet s2) (t : TriesAlone s i c s1 answer) (b : TurnedBack s s1 i c) (u : TurnsAlone s1 1 1 turned s2)
+module _ (s s1 s2 : Index) (i : ℕ) (c : CoreCall) (answer : Once Placed) (turned : Turned) (is : IsIndex s) (idle : HasNoCalls s) (is2 : IsIndex s2) (quiet2 : IsQuiet s2) (t : TriesAlone s i c s1 answer) (b : TurnedBack s s1 i c) (u : TurnsAlone s1 1 1 turned s2)
     (each : LoseAtMost 1 s s1) (locks : locks_left s ≤ locks_left s1 + 1) (adds_nothing : weight_of s1 ≤ weight_of s)
     (tried_now : (since : ℕ) (r : Once Placed) → state_tried (state_tried t.state (length s.history) answer) since r ≡ state_tried t.state since r) (index_now : (state_tried t.state (length s.history) answer).index ≡ t.state.index) where
   abbrev f : Facts
@@ -426,7 +427,7 @@ later_then s0 s s2 i c tries first then =
     }
 
 -- What tries from there on answer and leave is what all tries do.
-module _ (s0 s s' : Index) (i : ℕ) (c : CoreCall) (before tries : ℕ) (answer : Once Placed) (is : IsIndex s) (quiet : IsQuiet s) (o : Later s0 s i c before) (some_try : 1 ≤ tries) (ran : Ran s s' i c answer tries) where
+module _ (s0 s s' : Index) (i : ℕ) (c : CoreCall) (before tries : ℕ) (answer : Once Placed) (is : IsIndex s) (quiet : IsQuiet s0 → IsQuiet s) (o : Later s0 s i c before) (some_try : 1 ≤ tries) (ran : Ran s s' i c answer tries) where
   abbrev name : List ℕ
   name = name_asked (op_of c)
 
@@ -504,7 +505,8 @@ module _ (s0 s s' : Index) (i : ℕ) (c : CoreCall) (before tries : ℕ) (answer
       last = lands.last;
       began = inr o.again;
       index = lands.index;
-      quiet = lands.quiet;
+      quiet = λ quiet0. lands.quiet (quiet quiet0);
+      still = lands.still;
       layout = lands.layout ∙ o.layout;
       generation = lands.generation ∙ o.generation;
       base = lands.base ∙ o.base;
@@ -586,18 +588,20 @@ pub record Tried (s0 s : Index) (i : ℕ) (c : CoreCall) (answer : Once Placed) 
   before : Index
   begun : Begun s0 i c before tries
   index_before : IsIndex before
-  quiet_before : IsQuiet before
+  quiet_before : IsQuiet s0 → IsQuiet before
+  still_before : IsStill i before
   last : TriesAlone before i c s answer
   each : LoseAtMost 1 before s
   locks : locks_left before ≤ locks_left s + 1
 
 -- its first try
-pub tried_first : (s0 s : Index) (i : ℕ) (c : CoreCall) (answer : Once Placed) → IsIndex s0 → IsQuiet s0 → TriesAlone s0 i c s answer → LoseAtMost 1 s0 s → locks_left s0 ≤ locks_left s + 1 → Tried s0 s i c answer 0
-tried_first s0 s i c answer is0 quiet0 t each locks = record {
+pub tried_first : (s0 s : Index) (i : ℕ) (c : CoreCall) (answer : Once Placed) → IsIndex s0 → IsStill i s0 → TriesAlone s0 i c s answer → LoseAtMost 1 s0 s → locks_left s0 ≤ locks_left s + 1 → Tried s0 s i c answer 0
+tried_first s0 s i c answer is0 still0 t each locks = record {
   before = s0;
   begun = at_first;
   index_before = is0;
-  quiet_before = quiet0;
+  quiet_before = λ quiet. quiet;
+  still_before = still0;
   last = t;
   each = each;
   locks = locks;
@@ -634,7 +638,7 @@ module _ (s0 s s' : Index) (i : ℕ) (c : CoreCall) (answer then : Once Placed) 
   same_caller = (t.index_before.states i t.last.state t.last.there).caller
 
   turned : TurnedBack t.before s i c
-  turned = turned_back t.before s i c t.index_before t.quiet_before t.last.state same_caller answer lacks t.last.answered
+  turned = turned_back t.before s i c t.index_before t.still_before.calls t.last.state same_caller answer lacks t.last.answered
 
   light : weight_of s ≤ weight_of t.before
   light =
@@ -643,11 +647,11 @@ module _ (s0 s s' : Index) (i : ℕ) (c : CoreCall) (answer then : Once Placed) 
       omega arith
 
   later : Later t.before b.between i c 1
-  later = later_once t.before s b.between i c answer b.turned t.index_before t.quiet_before b.index b.quiet t.last turned b.turn t.each t.locks light
+  later = later_once t.before s b.between i c answer b.turned t.index_before t.still_before.calls b.index b.quiet t.last turned b.turn t.each t.locks light
       (turned_state answer lacks t.last.state (length t.before.history)) (turned_index answer lacks t.last.state (length t.before.history))
 
   pub swept_between : IsSwept b.between
-  swept_between = swept t.before s b.between i c answer b.turned t.index_before t.quiet_before b.index b.quiet t.last turned b.turn t.each t.locks light
+  swept_between = swept t.before s b.between i c answer b.turned t.index_before t.still_before.calls b.index b.quiet t.last turned b.turn t.each t.locks light
       (turned_state answer lacks t.last.state (length t.before.history)) (turned_index answer lacks t.last.state (length t.before.history))
 
   pub later_begun : Later s0 b.between i c (tries + 1)
@@ -662,7 +666,8 @@ module _ (s0 s s' : Index) (i : ℕ) (c : CoreCall) (answer then : Once Placed) 
     before = b.between;
     begun = behind_turn later_begun swept_between;
     index_before = b.index;
-    quiet_before = b.quiet;
+    quiet_before = λ _. b.quiet;
+    still_before = quiet_is_still i b.between b.quiet;
     last = b.tries;
     each = b.each_lock;
     locks = b.locks;
@@ -785,7 +790,7 @@ pub record RanAll (s0 s : Index) (i : ℕ) (c : CoreCall) (answer : Once Placed)
   pub few : tries ≤ most_tries c
 
 -- behind those before the last ones
-ran_all : (s0 v s : Index) (i : ℕ) (c : CoreCall) (answer : Once Placed) (before tries : ℕ) → IsIndex v → IsQuiet v → Begun s0 i c v before → 1 ≤ tries → before + tries ≤ most_tries c → Ran v s i c answer tries → RanAll s0 s i c answer
+ran_all : (s0 v s : Index) (i : ℕ) (c : CoreCall) (answer : Once Placed) (before tries : ℕ) → IsIndex v → (IsQuiet s0 → IsQuiet v) → Begun s0 i c v before → 1 ≤ tries → before + tries ≤ most_tries c → Ran v s i c answer tries → RanAll s0 s i c answer
 ran_all s0 v s i c answer before tries is quiet at_first some_try few ran = record { tries = tries; ran = ran; few = omega arith }
 ran_all s0 v s i c answer before tries is quiet (behind_turn o sweeps) some_try few ran = record { tries = before + tries; ran = ran_later s0 v s i c before tries answer is quiet o some_try ran; few = few }
 
@@ -799,7 +804,7 @@ ran_once s0 s i c answer none h one =
     let allowed = h.allowed in
     let most = turns_and_one c in
     ran_all s0 t.before s i c answer h.tries 1 t.index_before t.quiet_before t.begun (omega arith) (omega arith)
-    (one_try t.before s i c t.index_before t.quiet_before answer t.last t.each t.locks one (unlacking (lacks_line answer) h.lined) h.sweeps (on_name c answer none))
+    (one_try t.before s i c t.index_before t.still_before answer t.last t.each t.locks one (unlacking (lacks_line answer) h.lined) h.sweeps (on_name c answer none))
 
 pub split_is_full : (w w' : World) (c : CoreCall) (p : Party) (r : Once Placed) → IsAnswered w (op_of c) (limit_of c) w' p r → needs_split r ≡ true → FindsFull w (op_of c)
 split_is_full w w' c p (once.Again (again.NeedsSplit n)) (unworn, below, full, has, free, same, halved, most) is = full
@@ -814,11 +819,33 @@ split_is_full w w' c p (once.Done placed) end is = absurd (cc)
 split_is_full w w' c p (once.Spent clock) end is = absurd (cc)
 split_is_full w w' c p (once.Worn node word) end is = absurd (cc)
 
-pub ran_twice : (s0 s s' : Index) (i : ℕ) (c : CoreCall) (answer then : Once Placed) → count_of c ≡ None → HasItsNode s0 s i c answer → needs_split answer ≡ true → IsIndex s → IsQuiet s → TriesAlone s i c s' then → LoseAtMost 1 s s'
+-- a put that has split its node isn't turned back
+pub twice_answered : (s0 s s' : Index) (i : ℕ) (c : CoreCall) (answer then : Once Placed) → count_of c ≡ None → HasItsNode s0 s i c answer → needs_split answer ≡ true → IsIndex s → TriesAlone s i c s' then → LoseAtMost 1 s s'
+    → locks_left s ≤ locks_left s' + 1 → (why : Again) → then ≡ once.Again why → ⊥
+twice_answered s0 s s' i c answer then none h again is u each locks =
+    let t = h.tried in
+    answered_then t.before s s' i c t.index_before t.still_before is answer then none t.last u t.each each t.locks locks again
+
+-- nor is a call that lacks nothing
+pub answered_at_once : (s s' : Index) (i : ℕ) (c : CoreCall) (answer : Once Placed) → TriesAlone s i c s' answer → lacks_line answer ≡ false → lacks_node answer ≡ false → needs_split answer ≡ false → (why : Again) → answer ≡ once.Again why → ⊥
+answered_at_once s s' i c answer t lined noded unsplit why is =
+    by_cause why (sym (ap lacks_line is) ∙ lined) (sym (ap lacks_node is) ∙ noded) (sym (ap needs_split is) ∙ unsplit) (subst (IsAnswered (world s) (op_of c) (limit_of c) (world s') (party_of t.state)) is t.answered)
+  where
+    by_cause : (why : Again) → lacks_line (once.Again why) ≡ false → lacks_node (once.Again why) ≡ false → needs_split (once.Again why) ≡ false → IsAnswered (world s) (op_of c) (limit_of c) (world s') (party_of t.state) (once.Again why) → ⊥
+    by_cause again.NoFree lined noded unsplit end = cc
+    by_cause (again.NeedsSplit n) lined noded unsplit end = cc
+    by_cause again.LogFull lined noded unsplit end = cc
+    by_cause (again.Locked n word) lined noded unsplit end = end
+    by_cause (again.Moved n one two) lined noded unsplit end = end
+    by_cause (again.Hops count) lined noded unsplit end = end
+    by_cause (again.Held word) lined noded unsplit end = end
+    by_cause (again.Epoch one two) lined noded unsplit end = end
+
+pub ran_twice : (s0 s s' : Index) (i : ℕ) (c : CoreCall) (answer then : Once Placed) → count_of c ≡ None → HasItsNode s0 s i c answer → needs_split answer ≡ true → IsIndex s → TriesAlone s i c s' then → LoseAtMost 1 s s'
     → locks_left s ≤ locks_left s' + 1 → RanAll s0 s' i c then
-ran_twice s0 s s' i c answer then none h again is quiet u each locks =
+ran_twice s0 s s' i c answer then none h again is u each locks =
     let t = h.tried in
     let allowed = h.allowed in
     let most = (full_is_put c (world t.before) (split_is_full (world t.before) (world s) c (party_of t.last.state) answer t.last.answered again)).1 in
     ran_all s0 t.before s' i c then h.tries 2 t.index_before t.quiet_before t.begun (omega arith) (omega arith)
-    (two_tries t.before s s' i c t.index_before t.quiet_before is quiet answer then none t.last u t.each each t.locks locks again)
+    (two_tries t.before s s' i c t.index_before t.still_before is answer then none t.last u t.each each t.locks locks again)

@@ -64,7 +64,7 @@ module _ (s : Index) (is : IsIndex s) (quiet : IsQuiet s) where
   numbers i state at = ap (λ (d : PartyState). d.caller) (idle-each (parties_of s.layout) i state at)
 
   round_lawful : Lawful round
-  round_lawful = rest_law round (round_law (world s) parties (rests s is quiet) (each_idle (λ p. p.stage ≡ Idle) (λ i. refl)) (each_idle (λ p. p.since ≤ 0) (λ i. omega arith)))
+  round_lawful = rest_law round (round_law (world s) parties (rests s is quiet.calls) (each_idle (λ p. p.stage ≡ Idle) (λ i. refl)) (each_idle (λ p. p.since ≤ 0) (λ i. omega arith)))
 
   -- with whatever pairs of the same map as its base
   pub round_is : (spare : ℕ) → IsIndex (round_index s spare)

@@ -1,5 +1,5 @@
 -- One try of a call, with no other in flight.
-use Rattle.std.proofs.Common.{true, false, ◌⊎◌, ◌≡◌, ◌≢◌, ℕ, suc, ◌+◌, ◌<◌, ◌≤◌, ◌^◌, inl, inr, ⊎_elim, List, [], ◌++◌, length, set, slice_set, map, refl, sym, ap, ◌∙◌, subst, arith}
+use Rattle.std.proofs.Common.{true, false, ◌≡◌, ℕ, suc, ◌+◌, ◌<◌, ◌≤◌, ◌^◌, inl, inr, ⊎_elim, List, [], ◌++◌, length, set, slice_set, map, refl, sym, ap, ◌∙◌, subst, arith}
 use Rattle.std.specs.Prelude.{Option, Some, None, IfSome}
 use mathlib.Core.Option.{some, none, some-injective}
 use lib.ListN.{get_elem?}
@@ -26,7 +26,7 @@ use Rattle.node_ops.proofs.OpLaw.{op_told}
 use Rattle.index_law.specs.Facts.{Facts}
 use Rattle.index_law.specs.Worlds.{Party, World, facts, stepped, started, moved_on, written}
 use Rattle.index_law.specs.Weights.{weight_sum}
-use Rattle.index_law.proofs.Parties.{at_set, set_here}
+use Rattle.index_law.proofs.Parties.{set_here}
 use Rattle.lone_law.specs.Locks.{locks_of, fewest_locks}
 use Rattle.lone_law.specs.Merging.{FindsMerge, HasKeptList, IsMergedSince, LeavesShape}
 use Rattle.lone_law.specs.LoneCalls.{LoneCall, IsAnswered, LosesLocks, AfterCall, ValueFits, begun_party}
@@ -40,15 +40,15 @@ use Rattle.index_core.specs.declared.party.CoreCall.TheVariants as call
 use Rattle.index_core.specs.CoreCalls.{machine_of, op_of, limit_of, count_of, most_writes}
 use Rattle.index_core.specs.PartyStates.{party_of, machine_footing, state_with, state_after, machine_owes, owed}
 use Rattle.index_core.specs.Indexes.{Index, room_of, layered, world, IsIndex, IsInFlight, view_of, Starts, started_index, told, stepped_index, TurnsTo}
-use Rattle.index_core.specs.Lone.{IsQuiet, TriesAlone, locks_left, LoseAtMost}
+use Rattle.index_core.specs.Lone.{HasNoCalls, IsQuiet, IsStill, TriesAlone, locks_left, LoseAtMost}
 use Rattle.index_core.specs.MachineLaws.{MachineLaw, showing, showing_after}
 use Rattle.index_core.specs.Weights.{weight_of, added_by}
 use Rattle.index_core.proofs.Bounds.{bounded_small}
 use Rattle.index_core.proofs.Lists.{map_there, map_set, set_twice, owed-set, quiet-owed}
-use Rattle.index_core.proofs.Quiet.{rests, can_walk}
+use Rattle.index_core.proofs.Quiet.{none_then, quiet_then, rests, still_then, walks_come}
 use Rattle.index_law.specs.Laws.{IsAtRest}
 use Rattle.cat_history.specs.declared.op.NameOp.TheVariants as op
-use Rattle.index_core.proofs.MachineLaw.{machine_law, begin_law, idle_weigh}
+use Rattle.index_core.proofs.MachineLaw.{machine_law, begin_law, none_weigh}
 use Rattle.index_core.proofs.Stepping.{begins_count, machine_idle, machine_writes, step_facts}
 use Rattle.node_ops.specs.Costs.{spared}
 use Rattle.node_ops.proofs.Costs.{turns_spare}
@@ -75,7 +75,7 @@ use Rattle.node_ops.proofs.CallLaw.{footing_stage}
 pub record Lone (s0 s : Index) (i : ℕ) (c : CoreCall) : Type 0 where
   pub state : PartyState
   pub machine : Running
-  pub quiet : IsQuiet s0
+  pub still : IsStill i s0
   pub before : IsIndex s0
   pub named : IsName (name_asked (op_of c))
   pub there : get_elem? s0.states i ≡ some state
@@ -162,14 +162,14 @@ begins_alone w0 i (call.Turn stamp release) p index v rest can there layout gene
     lone_calls_begin w0 i (op.Get []) None p index v rest can there ask.view layout generation own ask.named ask.limit refl ask.value
 
 -- the call as it begins
-begun_call : (s0 : Index) (i : ℕ) (e : PartyState) (c : CoreCall) (n : ℕ) → IsIndex s0 → IsQuiet s0 → get_elem? s0.states i ≡ some e → IsRunning (machine_of (view_of s0 i) c)
+begun_call : (s0 : Index) (i : ℕ) (e : PartyState) (c : CoreCall) (n : ℕ) → IsIndex s0 → HasNoCalls s0 → get_elem? s0.states i ≡ some e → IsRunning (machine_of (view_of s0 i) c)
     → IsOf (op_of c) (machine_of (view_of s0 i) c)
     → LoneCall (world s0) i (op_of c) (limit_of c) (world (started_index s0 i e c n)) (party_of (state_with e (length s0.history) (machine_of (view_of s0 i) c))) (machine_of (view_of s0 i) c)
-begun_call s0 i e c n is quiet there here of =
+begun_call s0 i e c n is calls there here of =
     let v = view_of s0 i in
     let m = machine_of v c in
     let now = state_with e (length s0.history) m in
-    let first = begins_alone (world s0) i c (party_of e) e.index v (rests s0 is quiet) (can_walk s0 is quiet) (map_there party_of s0.states i e there) refl refl (sym (is.states i e there).caller) (asks v c here of) in
+    let first = begins_alone (world s0) i c (party_of e) e.index v (rests s0 is calls) (walks_come s0 is calls) (map_there party_of s0.states i e there) refl refl (sym (is.states i e there).caller) (asks v c here of) in
     let idle : Party = begun_party (world s0) (party_of e) e.index in
     let party : idle ≡ party_of now = (λ k. record { caller = e.caller; index = e.index; since = length s0.history; stage = sym (machine_idle s0 i c) k }) in
     let parties : slice_set (map party_of s0.states) i idle ≡ map party_of (slice_set s0.states i now) =
@@ -200,29 +200,29 @@ begun_nodes : (s0 : Index) (i : ℕ) (e : PartyState) (c : CoreCall) (n : ℕ) �
 begun_nodes s0 i e c n =
     record { stay = λ m gone. (gone, refl); left_out = λ merged. absurd (let no : false ≡ true = sym (ap has_merged (machine_idle s0 i c)) ∙ merged in cc) }
 
-pub lone_start : (s0 s : Index) (i : ℕ) (c : CoreCall) → IsIndex s0 → IsQuiet s0 → Starts s0 i c s → s.spare + most_writes c ≡ s0.spare → IsIndex s → Lone s0 s i c
-lone_start s0 s i c is0 quiet t spare is =
+pub lone_start : (s0 s : Index) (i : ℕ) (c : CoreCall) → IsIndex s0 → IsStill i s0 → Starts s0 i c s → s.spare + most_writes c ≡ s0.spare → IsIndex s → Lone s0 s i c
+lone_start s0 s i c is0 still t spare is =
     let is' : IsIndex (started_index s0 i t.state c s.spare) = subst IsIndex t.is is in
     let m = machine_of (view_of s0 i) c in
     let now = state_with t.state (length s0.history) m in
     let owing = owed-set s0.states i t.state now t.there in
-    let none : machine_owes t.state.machine ≡ 0 = ap machine_owes (quiet.calls i t.state t.there) in
+    let none : machine_owes t.state.machine ≡ 0 = ap machine_owes (still.calls i t.state t.there) in
     let own = machine_writes s0 i c in
     let room : length s0.history + s0.spare ≤ length s0.history + (owed (set s0.states i now) + s.spare) = omega arith in
     let here : IsRunning m = (is'.states i now (set_here s0.states i now t.state t.there)).machine.here in
-    let begins = begin_law s0 i t.state t.state.index c is0 t.there (quiet.calls i t.state t.there) here in
-    let weight = begins.weighs ∙ idle_weigh s0 quiet in
+    let begins = begin_law s0 i t.state t.state.index c is0 t.there (still.calls i t.state t.there) here in
+    let weight = begins.weighs ∙ none_weigh s0 still.calls in
     let shown = begins.shows_none in
     subst (λ (v : Index). Lone s0 v i c) (sym t.is) (record {
       state = t.state;
       machine = m;
-      quiet = quiet;
+      still = still;
       before = is0;
       named = (asks (view_of s0 i) c here t.of).named;
       there = t.there;
       states = refl;
       index = is';
-      call = begun_call s0 i t.state c s.spare is0 quiet t.there here t.of;
+      call = begun_call s0 i t.state c s.spare is0 still.calls t.there here t.of;
       count = begins_count (view_of s0 i) c;
       log = begun_log s0 i t.state c s.spare;
       nodes = begun_nodes s0 i t.state c s.spare;
@@ -280,7 +280,7 @@ module _ (s0 s s' : Index) (i : ℕ) (c : CoreCall) (result : Option (Once Place
   fewer = subst (λ (m : Running). GoesBelow running_left (running_left m) (running_turned m (told s m))) turn_machine t.fewer
 
   goes : AfterCall (world s0) i (op_of c) (limit_of c) (world s) p o.machine (running_turned o.machine x)
-  goes = lone_calls_go (world s0) i (op_of c) (limit_of c) (world s) p o.machine x o.call (rests s0 o.before o.quiet) refl (bounded_small s o.index)
+  goes = lone_calls_go (world s0) i (op_of c) (limit_of c) (world s) p o.machine x o.call (rests s0 o.before o.still.calls) refl (bounded_small s o.index)
 
   -- the history after the step
   history_is : s'.history ≡ s.history ++ written e.caller e.index (counted (stage_of o.machine))
@@ -370,7 +370,7 @@ module _ (s0 s s' : Index) (i : ℕ) (c : CoreCall) (result : Option (Once Place
         record {
           state = o.state;
           machine = next;
-          quiet = o.quiet;
+          still = o.still;
           before = o.before;
           named = o.named;
           there = o.there;
@@ -406,22 +406,15 @@ module _ (s0 s s' : Index) (i : ℕ) (c : CoreCall) (result : Option (Once Place
   pub lone_done : (answer : Once Placed) → result ≡ Some answer → running_turned o.machine x ≡ Done answer
   lone_done answer answered = done_of (running_turned o.machine x) answer (sym turn_told ∙ answered)
 
-  pub lone_quiet : (answer : Once Placed) → result ≡ Some answer → IsQuiet s'
-  lone_quiet answer answered =
-      let done = done_of (running_turned o.machine x) answer (sym turn_told ∙ answered) in
-      let states = entries_are (Done answer) done in
-      let was : (j : ℕ) (state : PartyState) → get_elem? s'.states j ≡ some state → ((j ≡ i) × (state_after e (Done answer) ≡ state)) ⊎ ((j ≢ i) × (get_elem? s0.states j ≡ some state)) =
-      λ j state at. at_set s0.states i j (state_after e (Done answer)) state (ap (λ (l : List PartyState). get_elem? l j) (sym states) ∙ at) in
-      record {
-        calls = λ j state at. ⊎_elim
-            (λ (mine : (j ≡ i) × (state_after e (Done answer) ≡ state)). ap (λ (d : PartyState). d.machine) (sym mine.1))
-            (λ (other : (j ≢ i) × (get_elem? s0.states j ≡ some state)). o.quiet.calls j state other.1)
-            (was j state at);
-        turns = λ j state at. ⊎_elim
-            (λ (mine : (j ≡ i) × (state_after e (Done answer) ≡ state)). ap (λ (d : PartyState). d.turn) (sym mine.1) ∙ o.quiet.turns i o.state o.there)
-            (λ (other : (j ≢ i) × (get_elem? s0.states j ≡ some state)). o.quiet.turns j state other.1)
-            (was j state at);
-      }
+  -- no call is in flight then, and the turns of the updater are as they were
+  pub lone_none : (answer : Once Placed) → result ≡ Some answer → HasNoCalls s'
+  lone_none answer answered = none_then s0 s' i o.state (state_after e (Done answer)) o.there (entries_are (Done answer) (lone_done answer answered)) refl refl o.still.calls
+
+  pub lone_quiet : (answer : Once Placed) → result ≡ Some answer → IsQuiet s0 → IsQuiet s'
+  lone_quiet answer answered = quiet_then s0 s' i o.state (state_after e (Done answer)) o.there (entries_are (Done answer) (lone_done answer answered)) refl refl
+
+  pub lone_still : (answer : Once Placed) → result ≡ Some answer → (party : ℕ) → IsStill party s0 → IsStill party s'
+  lone_still answer answered = still_then s0 s' i o.state (state_after e (Done answer)) o.there (entries_are (Done answer) (lone_done answer answered)) refl refl
 
   -- how it ends
   module _ (answer : Once Placed) (answered : result ≡ Some answer) where
@@ -489,8 +482,8 @@ module _ (s0 s s' : Index) (i : ℕ) (c : CoreCall) (result : Option (Once Place
     ended_ways : LengthenWithin (world s0) (stepped (world s) i p (running_asks o.machine) Idle)
     ended_ways =
         tries_lengthen (name_asked (op_of c)) (change_of (op_of c)) (world s0) (stepped (world s) i p (running_asks o.machine) Idle) p.stage o.state.caller answer
-        o.call.trying.layout o.call.trying.generation (can_walk s0 o.before o.quiet).quiet
-        (subst (λ (v : Index). AreQuiet v.layout v.generation (nodes_of (world v))) is (can_walk s' is' (lone_quiet answer answered)).quiet)
+        o.call.trying.layout o.call.trying.generation (walks_come s0 o.before o.still.calls).quiet
+        (subst (λ (v : Index). AreQuiet v.layout v.generation (nodes_of (world v))) is (walks_come s' is' (lone_none answer answered)).quiet)
         ended_nodes.0 ended_nodes.1 (subst (AfterCall (world s0) i (op_of c) (limit_of c) (world s) p o.machine) done goes).3 ended_log.1
 
     weighs : weight_of s' ≤ weight_of s0 + added_by (op_of c) answer
@@ -501,7 +494,7 @@ module _ (s0 s s' : Index) (i : ℕ) (c : CoreCall) (result : Option (Once Place
         subst (λ (turn : Turn Running (Once Placed)). weight_sum (world (stepped_index s i e o.machine s.spare)) + showing (Some o.machine) ≤ weight_sum (world s) + showing_after (op_in o.machine) turn) done law.weighs in
         let added : added_by (op_in o.machine) answer ≡ added_by (op_of c) answer = ap (λ (op : NameOp). added_by op answer) op_same in
         let before = o.weighs in
-        let after = idle_weigh s' (lone_quiet answer answered) in
+        let after = none_weigh s' (lone_none answer answered) in
         omega arith
 
     pub lone_tries : TriesAlone s0 i c s' answer
@@ -537,8 +530,8 @@ module _ (s0 s s' : Index) (i : ℕ) (c : CoreCall) (result : Option (Once Place
       subst (λ (g : ℕ). locks_of s0.generation ((facts (world s0)).version n) ≤ locks_of g ((facts (world s')).version n) + 1) (sym same_generation) (locks_after answer answered n)
 
 -- what a try leaves spare
-pub spare_left : (s0 s s' : Index) (i : ℕ) (c : CoreCall) → Lone s0 s i c → room_of s ≤ room_of s' → IsQuiet s' → s0.spare + length s0.history ≤ s'.spare + length s'.history
-spare_left s0 s s' i c o room quiet =
+pub spare_left : (s0 s s' : Index) (i : ℕ) (c : CoreCall) → Lone s0 s i c → room_of s ≤ room_of s' → HasNoCalls s' → s0.spare + length s0.history ≤ s'.spare + length s'.history
+spare_left s0 s s' i c o room idle =
     let before = o.room in
-    let none = quiet-owed s'.states quiet.calls in
+    let none = quiet-owed s'.states idle in
     omega arith

@@ -19,25 +19,30 @@ use Rattle.node_ops.specs.declared.running.Running.{Running}
 use Rattle.node_ops.specs.Asked.{op_in}
 use Rattle.node_ops.specs.CallStages.{stage_of}
 use Rattle.node_ops.proofs.OpLaw.{op_told}
+use Rattle.index_law.specs.Anchors.{anchors_of}
+use Rattle.index_law.specs.Facts.{Facts}
 use Rattle.index_law.specs.Worlds.{Party, World}
 use Rattle.index_law.proofs.Parties.{set_here}
 use Rattle.lone_law.specs.LoneCalls.{IsAnswered}
+use Rattle.lone_law.specs.Locks.{fewest_locks, locks_of}
 use Rattle.updater.specs.declared.terms.Turned.{Turned}
 use Rattle.index_core.specs.declared.party.CoreCall.{CoreCall}
 use Rattle.index_core.specs.declared.party.PartyState.{PartyState}
 use Rattle.index_core.specs.CoreCalls.{op_of, limit_of}
 use Rattle.index_core.specs.PartyStates.{party_of, state_with}
 use Rattle.index_core.specs.Indexes.{Index, IsIndex, world}
-use Rattle.index_core.specs.Lone.{IsQuiet, TriesAlone, lacks_line, lacks_node, needs_split, state_tried}
+use Rattle.index_core.specs.Lone.{HasNoCalls, IsQuiet, IsStill, TriesAlone, lacks_line, lacks_node, locks_left, needs_split, node_locks, state_tried}
 use Rattle.index_core.specs.MachineLaws.{put_shows, shows}
 use Rattle.index_core.specs.Turns.{TurnsAlone}
 use Rattle.index_core.specs.Weights.{added_by, put_count, weight_of}
 use Rattle.index_core.specs.CoreCalls.{most_writes}
 use Rattle.index_core.specs.Withins.{ComesTo, flight_place, HasWritten, CutsOff, CutsTurnOff, TriedAlone, TriedBehindTurn}
+use Rattle.index_core.proofs.Alone.{tried_was}
 use Rattle.index_core.proofs.Crashing.{placed_since}
 use Rattle.index_core.proofs.Lists.{set_twice}
 use Rattle.index_core.proofs.Shown.{shows_few}
 use Rattle.index_core.proofs.LoneTurning.{LoneTurn}
+use Rattle.index_core.proofs.Quiet.{quiet_is_still}
 use Rattle.index_core.proofs.Tries.{Lone, lone_flies, lone_there}
 
 -- what a call in flight has written
@@ -97,14 +102,22 @@ turn_cut s0 s i stamp release o = record {
   layout = ap (λ (v : Index). v.layout) o.is;
   generation = ap (λ (v : Index). v.generation) o.is;
   base = ap (λ (v : Index). v.base) o.is;
+  spare = ap (λ (v : Index). v.spare) o.is;
+  anchors = ap (λ (f : Facts). anchors_of f.list) o.keeps.nodes;
+  each_lock = λ n.
+      let same : node_locks s n ≡ node_locks s0 n = λ k. locks_of (o.is k).generation ((o.keeps.nodes k).version n) in
+      omega (arith, same);
+  locks =
+      let same : locks_left s ≡ locks_left s0 = λ k. fewest_locks (o.is k).generation (o.keeps.nodes k).version (o.is k).layout.nodes in
+      omega (arith, same);
   weighs = o.weighs;
 }
 
 -- whichever call wanted the turn
-pub turn_cuts_call : (s0 s : Index) (i : ℕ) (c : CoreCall) → IsQuiet s0 → CutsTurnOff s0 i s → CutsOff s0 i c s
-turn_cuts_call s0 s i c quiet t =
+pub turn_cuts_call : (s0 s : Index) (i : ℕ) (c : CoreCall) → HasNoCalls s0 → CutsTurnOff s0 i s → CutsOff s0 i c s
+turn_cuts_call s0 s i c idle t =
     let cut : PartyState = record (t.state) { turn = Some t.making } in
-    let none = quiet.calls i t.state t.there in
+    let none = idle i t.state t.there in
     record {
       state = t.state;
       there = t.there;
@@ -247,15 +260,17 @@ cut_behind s0 v s i c b t =
 -- How a whole call stands behind some of its tries.
 pub record Stood (s0 s : Index) (i : ℕ) (c : CoreCall) (answer : Once Placed) : Type 0 where
   pub index : IsIndex s
-  pub quiet : IsQuiet s
+  pub still : IsStill i s
+  pub was : IsQuiet s → IsQuiet s0
   pub spare : s0.spare + length s0.history ≤ s.spare + length s.history
   pub layout : s.layout ≡ s0.layout
   pub back : (why : Again) → answer ≡ once.Again why → Backs s0 s i
 
-pub stood_first : (s0 s : Index) (i : ℕ) (c : CoreCall) (answer : Once Placed) → TriedAlone s0 i c s answer → IsIndex s → Stood s0 s i c answer
-stood_first s0 s i c answer t is = record {
+pub stood_first : (s0 s : Index) (i : ℕ) (c : CoreCall) (answer : Once Placed) → IsStill i s0 → TriedAlone s0 i c s answer → IsIndex s → Stood s0 s i c answer
+stood_first s0 s i c answer still t is = record {
   index = is;
-  quiet = t.quiet;
+  still = t.still i still;
+  was = tried_was s0 s i c answer t.tries still.calls;
   spare = t.spare;
   layout = t.tries.layout;
   back = λ why told. backs_first s0 s0 s i c answer why refl t.tries told;
@@ -264,7 +279,8 @@ stood_first s0 s i c answer t is = record {
 pub stood_again : (s0 s s' : Index) (i : ℕ) (c : CoreCall) (answer then : Once Placed) (why : Again) → Stood s0 s i c answer → answer ≡ once.Again why → TriedAlone s i c s' then → IsIndex s' → Stood s0 s' i c then
 stood_again s0 s s' i c answer then why b told t is = record {
   index = is;
-  quiet = t.quiet;
+  still = t.still i b.still;
+  was = λ quiet. b.was (tried_was s s' i c then t.tries b.still.calls quiet);
   spare = let first = b.spare in let more = t.spare in omega arith;
   layout = t.tries.layout ∙ b.layout;
   back = λ other is'. backs_try s0 s s' i c then other (b.back why told) t.tries is';
@@ -276,7 +292,8 @@ stood_behind s0 s s' i c answer then why b told t is =
     let turned = backs_turn s0 s u.between i 1 1 u.turned (b.back why told) u.turn in
     record {
       index = is;
-      quiet = t.quiet;
+      still = quiet_is_still i s' t.quiet;
+      was = λ _. b.was t.before;
       spare = let first = b.spare in let more = t.spare in omega arith;
       layout = u.tries.layout ∙ turned.layout;
       back = λ other is'. backs_try s0 u.between s' i c then other turned u.tries is';
@@ -294,7 +311,8 @@ pub behind_turn : (s0 between s : Index) (i : ℕ) (c : CoreCall) (turned : Turn
     → ComesTo result (λ answer. TriedAlone between i c s answer) (CutsOff between i c s) → (state : PartyState) → get_elem? s0.states i ≡ some state → ComesTo result (λ answer. TriedBehindTurn s0 i c s answer) (CutsOff s0 i c s)
 behind_turn s0 between s i c turned (Some answer) is quiet here turn still index t state there = record {
   tries = record { between = between; turned = turned; turn = turn; quiet = still; index = index; tries = t.tries; each_lock = t.each_lock; locks = t.locks };
-  quiet = t.quiet;
+  before = quiet;
+  quiet = t.quiet still;
   spare = let same = ap (λ (v : Index). v.spare + length v.history) turn.is in let more = t.spare in omega arith;
 }
 behind_turn s0 between s i c turned None is quiet here turn still index t state there =

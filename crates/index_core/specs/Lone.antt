@@ -1,5 +1,6 @@
 -- A call that is made with no other in flight.
-use Rattle.std.specs.Prelude.{◌≡◌, ℕ, ◌+◌, ◌<◌, ◌≤◌, ◌==◌, ◌⊎◌, Bool, true, false, List, [], ◌++◌, length, slice_set, Some, None, IsSomeAnd}
+use Rattle.std.specs.Prelude.{◌≡◌, ◌≢◌, ℕ, ◌+◌, ◌<◌, ◌≤◌, ◌==◌, ◌⊎◌, Bool, true, false, List, [], ◌++◌, length, slice_set}
+use Rattle.std.specs.Prelude.{Option, Some, None, IsSomeAnd}
 use Rattle.std.specs.FinMap.{keys}
 use Rattle.std.specs.List.{filter}
 use mathlib.Core.Option.{some}
@@ -32,6 +33,8 @@ use Rattle.lone_turn.specs.CallLogs.{KeepsLayer, KeepsLines, MakesReady, LeavesL
 use Rattle.lone_turn.specs.LoneTurns.{stamp_in}
 use Rattle.staleness.specs.LoneNodes.{LengthenWithin}
 use Rattle.staleness.specs.Short.{WaysAreShort}
+use Rattle.updater.specs.declared.making.MakeTurn.{MakeTurn}
+use Rattle.updater.specs.declared.making.MakeTurn.TheVariants.{Taking, Working}
 use Rattle.updater.specs.declared.terms.Turned.{Turned}
 use Rattle.index_core.specs.declared.party.CoreCall.{CoreCall}
 use Rattle.index_core.specs.declared.party.CoreCall.TheVariants as call
@@ -45,10 +48,27 @@ use Rattle.index_core.specs.Indexes.{Index, IsIndex, map_of_index, world}
 use Rattle.index_core.specs.Turns.{TurnsAlone}
 use Rattle.index_core.specs.Weights.{weight_of, added_by, added_whole}
 
+-- No call is in flight.
+abbrev pub HasNoCalls : Index → Type 0
+HasNoCalls s = (i : ℕ) (state : PartyState) → get_elem? s.states i ≡ some state → state.machine ≡ None
+
 -- No call is in flight, and no turn of the updater.
 pub record IsQuiet (s : Index) : Type 0 where
-  pub calls : (i : ℕ) (state : PartyState) → get_elem? s.states i ≡ some state → state.machine ≡ None
+  pub calls : HasNoCalls s
   pub turns : (i : ℕ) (state : PartyState) → get_elem? s.states i ≡ some state → state.turn ≡ None
+
+-- The turn has the updater lock, which it takes by its first event.
+abbrev pub HoldsLock : Option MakeTurn → Type 0
+HoldsLock None = ⊥
+HoldsLock (Some (Taking terms)) = ⊥
+HoldsLock (Some (Working work)) = Unit {0}
+
+-- No call is in flight, and no turn of the updater but, maybe, one of another party than this, which has stopped under
+-- the updater lock. So a quiet index is, for each party.
+pub record IsStill (party : ℕ) (s : Index) : Type 0 where
+  pub calls : HasNoCalls s
+  pub turns : (i : ℕ) (state : PartyState) → get_elem? s.states i ≡ some state →
+      (state.turn ≡ None) ⊎ ((i ≢ party) × HoldsLock state.turn)
 
 -- How many more times its nodes can be locked in this run of the index: the fewest of any node. Each try of a call takes
 -- one of each node at most.
@@ -203,7 +223,8 @@ pub record LandsIn (s : Index) (caller : ℕ) (c : CoreCall) (new : Index) (plac
   pub last : Index
   pub began : (last ≡ s) ⊎ IsMadeAgain caller c s
   pub index : IsIndex last
-  pub quiet : IsQuiet last
+  pub quiet : IsQuiet s → IsQuiet last
+  pub still : IsStill caller last
   pub layout : last.layout ≡ s.layout
   pub generation : last.generation ≡ s.generation
   pub base : last.base ≡ s.base

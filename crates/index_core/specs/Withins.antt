@@ -1,4 +1,5 @@
--- Calls that are made with no other in flight, within a budget of events, and what is in flight where one is cut off.
+-- Calls that are made with no other in flight, within a budget of events, and what is in flight where one is cut off. A
+-- turn of the updater may be, which has stopped under the updater lock.
 use Rattle.std.specs.Prelude.{◌≡◌, ℕ, ◌+◌, ◌<◌, ◌≤◌, ◌⊎◌, [], ◌∷◌, ◌++◌, length, slice_set, Option, Some, None, IfSome}
 use mathlib.Core.Option.{some}
 use lib.ListN.{get_elem?}
@@ -10,22 +11,24 @@ use Rattle.call_stages.specs.declared.once.Placed.{Placed}
 use Rattle.node_ops.specs.declared.running.Running.{Running}
 use Rattle.node_ops.specs.Asked.{op_in}
 use Rattle.node_ops.specs.CallStages.{stage_of}
+use Rattle.index_law.specs.Anchors.{anchors_in}
+use Rattle.index_law.specs.Weights.{weight_sum}
 use Rattle.lone_law.specs.LoneCalls.{FindsFull}
 use Rattle.lone_turn.specs.CallLogs.{ready_lines}
 use Rattle.updater.specs.declared.making.MakeTurn.{MakeTurn}
 use Rattle.index_core.specs.declared.party.CoreCall.{CoreCall}
 use Rattle.index_core.specs.declared.party.PartyState.{PartyState}
 use Rattle.index_core.specs.declared.party.Whole.{Whole}
+use Rattle.index_core.specs.declared.party.Whole.TheVariants as whole
 use Rattle.index_core.specs.declared.party.Within.{Within}
 use Rattle.index_core.specs.declared.party.Within.TheVariants as within
 use Rattle.index_core.specs.CoreCalls.{op_of}
 use Rattle.index_core.specs.Costs.{behind_actions, look_actions, room_actions}
 use Rattle.index_core.specs.Crashes.{cut_change, cut_changes}
 use Rattle.index_core.specs.Indexes.{Index, IsBusy, world}
-use Rattle.index_core.specs.Lone.{HasShortWays, IsQuiet, LoseAtMost, RunsAlone}
+use Rattle.index_core.specs.Lone.{HasShortWays, IsQuiet, IsStill, LoseAtMost, RunsAlone}
 use Rattle.index_core.specs.Lone.{TakesEachLock, TakesLocks, TriesAlone, TriesBehindTurn, locks_left}
 use Rattle.index_core.specs.Weights.{put_count, weight_of}
-use Rattle.index_law.specs.Weights.{weight_sum}
 
 -- The place of the write of a call in flight, if it has one.
 abbrev pub flight_place : Option Running → Option ℕ
@@ -57,7 +60,7 @@ pub record CutsOff (old : Index) (caller : ℕ) (c : CoreCall) (new : Index) : T
   -- with what deletes that aren't counted yet have lowered it by, it weighs one more at most, and that for a put
   pub weighs : weight_sum (world new) ≤ weight_of old + put_count (op_of c)
 
--- A turn of this party is cut off.
+-- A turn of this party is cut off. The map and the list are as they were, and so are the locks that nodes have left.
 pub record CutsTurnOff (old : Index) (party : ℕ) (new : Index) : Type 0 where
   pub state : PartyState
   pub there : get_elem? old.states party ≡ some state
@@ -67,26 +70,34 @@ pub record CutsTurnOff (old : Index) (party : ℕ) (new : Index) : Type 0 where
   pub layout : new.layout ≡ old.layout
   pub generation : new.generation ≡ old.generation
   pub base : new.base ≡ old.base
+  pub spare : new.spare ≡ old.spare
+  pub anchors : anchors_in (world new) ≡ anchors_in (world old)
+  pub each_lock : LoseAtMost 0 old new
+  pub locks : locks_left old ≤ locks_left new
   pub weighs : weight_sum (world new) ≤ weight_of old
 
 -- A try that was answered leaves room, and takes few locks.
 pub record TriedAlone (old : Index) (caller : ℕ) (c : CoreCall) (new : Index) (answer : Once Placed) : Type 0 where
   pub tries : TriesAlone old caller c new answer
-  pub quiet : IsQuiet new
+  pub quiet : IsQuiet old → IsQuiet new
+  pub still : (party : ℕ) → IsStill party old → IsStill party new
   pub spare : old.spare + length old.history ≤ new.spare + length new.history
   pub each_lock : LoseAtMost 1 old new
   pub locks : locks_left old ≤ locks_left new + 1
 
--- The same behind a turn.
+-- The same behind a turn, which was made with nothing else in flight.
 pub record TriedBehindTurn (old : Index) (caller : ℕ) (c : CoreCall) (new : Index) (answer : Once Placed) : Type 0 where
   pub tries : TriesBehindTurn old caller c new answer
+  pub before : IsQuiet old
   pub quiet : IsQuiet new
   pub spare : old.spare + length old.history ≤ new.spare + length new.history
 
--- And of a whole call.
+-- And of a whole call, which is answered that there is no room only behind a turn of its own.
 pub record RanAlone (old : Index) (caller : ℕ) (c : CoreCall) (new : Index) (result : Whole) : Type 0 where
   pub runs : RunsAlone old caller c new result
-  pub quiet : IsQuiet new
+  pub full : result ≡ whole.Full → IsQuiet old
+  pub quiet : IsQuiet old → IsQuiet new
+  pub still : (party : ℕ) → IsStill party old → IsStill party new
   pub spare : old.spare + length old.history ≤ new.spare + length new.history
   pub each_lock : TakesEachLock caller c old new
   pub locks : TakesLocks caller c old new
@@ -121,8 +132,8 @@ TriesInTime s c result budget before after = HasShortWays s →
 
 -- A crash behind a call that was cut off may find that call's own change, where it has no place yet, and behind a turn none.
 abbrev pub CutLeavesOne : Type 0
-CutLeavesOne = (old new : Index) (i : ℕ) (c : CoreCall) → IsQuiet old → (t : CutsOff old i c new) →
+CutLeavesOne = (old new : Index) (i : ℕ) (c : CoreCall) → IsStill i old → (t : CutsOff old i c new) →
     cut_changes new.states ≡ cut_change t.cut.machine
 
 abbrev pub CutTurnLeavesNone : Type 0
-CutTurnLeavesNone = (old new : Index) (i : ℕ) → IsQuiet old → CutsTurnOff old i new → cut_changes new.states ≡ []
+CutTurnLeavesNone = (old new : Index) (i : ℕ) → IsStill i old → CutsTurnOff old i new → cut_changes new.states ≡ []

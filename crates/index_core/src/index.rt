@@ -12,7 +12,7 @@ ghost use Rattle.index_core.specs.Opened.{opened_index};
 ghost use Rattle.pm_words.specs.Locations.{image_words};
 ghost use Rattle.index_core.specs.Crashes.{IsCrash, evicted_index};
 ghost use Rattle.index_core.specs.PartsOf.{index_in};
-ghost use Rattle.index_core.specs.Lone.{CountsCall, HasListed, HasListing, HasShortWays, IsQuiet};
+ghost use Rattle.index_core.specs.Lone.{CountsCall, HasListed, HasListing, HasNoCalls, HasShortWays, IsQuiet};
 ghost use Rattle.index_core.specs.PartyStates.{idle_states};
 ghost use Rattle.index_core.specs.Rounds.{BeginsRound};
 
@@ -371,7 +371,7 @@ impl Core {
     /// Counts a whole call of the party that was turned back for want of room: to its caller it was answered.
     pub(crate) fn count_call(&mut self, party: u64)
         requires party { party < self.old.layout.callers }
-        requires quiet { IsQuiet self.old }
+        requires idle { HasNoCalls self.old }
         ensures counts { CountsCall self.old party self.new }
         ensures spare { self.new.spare ≡ self.old.spare }
         ensures index { IsIndex self.new }

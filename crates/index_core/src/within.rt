@@ -2,16 +2,19 @@
 //!
 //! Each event takes one of the budget. Where it is used up before an event that the call still has to make, the call
 //! stays in flight as it is, or the turn of the updater does that it wanted, which the party makes itself.
+//!
+//! Beside them a turn of the updater by another party may have stopped so, and has the updater lock for ever. A call that
+//! needs no turn is made as if it weren't there; one that needs a turn tries for the lock until its budget is used up.
 
-ghost use Rattle.std.specs.Prelude.{◌≡◌, ◌+◌, ◌<◌, ◌≤◌, length, None, IfSome};
+ghost use Rattle.std.specs.Prelude.{◌≡◌, ◌≢◌, ◌+◌, ◌<◌, ◌≤◌, ℕ, length, None, IfSome};
 ghost use Rattle.index_core.specs.declared.party.CoreCall.TheVariants as CoreCall;
 ghost use Rattle.index_core.specs.declared.party.Whole.TheVariants as Whole;
 ghost use Rattle.index_core.specs.declared.party.Within.TheVariants as Within;
 ghost use Rattle.index_core.specs.CoreCalls.{IfTurn, MayBegin, MayStart, count_of, most_writes};
 ghost use Rattle.index_core.specs.Costs.{WithMost, turn_actions};
 ghost use Rattle.index_core.specs.Indexes.{IsIndex};
-ghost use Rattle.index_core.specs.Lone.{IsQuiet, part_whole, whole_of};
-ghost use Rattle.index_core.specs.Turns.{IsTurnedAnd, TurnsAlone};
+ghost use Rattle.index_core.specs.Lone.{IsQuiet, IsStill, part_whole, whole_of};
+ghost use Rattle.index_core.specs.Turns.{IsTurnedAnd, StartsTurn, TurnsAlone};
 ghost use Rattle.index_core.specs.Withins.{ComesInTime, ComesTo, CutsOff, CutsTurnOff, EndsInTime, EndsWithin};
 ghost use Rattle.index_core.specs.Withins.{RanAlone, TriedAlone, TriedBehindTurn, TriesInTime};
 
@@ -31,10 +34,13 @@ impl Core {
     /// A whole call of a party, with no other in flight, as `run_alone` makes it, within a budget of events, of which it
     /// takes one for each that it makes. It is `Unstarted` exactly where the budget was 0, and then nothing changes. It
     /// is `Cut` only where the budget is used up: then the call is in flight, or a turn of the updater is that it wanted,
-    /// by the same party.
+    /// by the same party. A turn of another party may have stopped under the updater lock: beside it each turn is `Cut`,
+    /// and each call that wants one. So a turn is `Turned` only with nothing else in flight; and where it is `Cut` there,
+    /// others may still make their calls beside it.
     ///
     /// On an index whose ways are short a call that needs no turn makes no more than `most_actions`, whatever it is
-    /// answered, and is cut off only with a budget below that; so is a turn of the updater with one below `turn_actions`.
+    /// answered, and is cut off only with a budget below that; so is a turn of the updater with one below `turn_actions`,
+    /// where no other turn is in flight.
     pub fn run_within<L: Ledger>(
         &mut self,
         caller: u64,
@@ -44,18 +50,22 @@ impl Core {
     ) -> Within
         requires may { MayStart self.old.layout caller call }
         requires spare { most_writes call ≤ self.old.spare }
-        requires quiet { IsQuiet self.old }
+        requires still { IsStill caller self.old }
         ensures ends { EndsWithin result
             (λ whole. (MayBegin call → RanAlone self.old caller call self.new whole) × (IfTurn call
             (λ stamp release. IsTurnedAnd whole (λ turned. TurnsAlone self.old stamp release turned self.new))))
             ((MayBegin call → CutsOff self.old caller call self.new) ×
             IfTurn call (λ stamp release. CutsTurnOff self.old caller self.new))
             (self.new ≡ self.old) }
+        ensures turn_stays { IfTurn call (λ stamp release. EndsWithin result
+            (λ whole. IsQuiet self.old × IsQuiet self.new)
+            (IsQuiet self.old → (party : ℕ) → party ≢ caller → IsStill party self.new)
+            (self.new ≡ self.old)) }
         ensures budget { EndsWithin result (λ whole. 0 < budget.old) ((0 < budget.old) × (budget.new ≡ 0)) (budget.old ≡ 0) }
         ensures events { steps.new + budget.new ≡ steps.old + budget.old }
         ensures in_time { MayBegin call →
             WithMost self.old caller call (EndsInTime result budget.old steps.old steps.new) }
-        ensures turn_in_time { IfTurn call (λ stamp release.
+        ensures turn_in_time { IfTurn call (λ stamp release. IsQuiet self.old →
             EndsInTime result budget.old steps.old steps.new (turn_actions self.old.layout)) }
         ensures index { IsIndex self.new }
     {
@@ -86,7 +96,7 @@ impl Core {
         requires begins { MayBegin call }
         requires name { count_of call ≡ None }
         requires spare { most_writes call ≤ self.old.spare }
-        requires quiet { IsQuiet self.old }
+        requires still { IsStill caller self.old }
         ensures runs { ComesTo result (λ answer. RanAlone self.old caller call self.new (whole_of answer))
             (CutsOff self.old caller call self.new) }
         ensures spent { result ≡ None → budget.new ≡ 0 }
@@ -131,7 +141,7 @@ impl Core {
         steps: &mut Steps<L>,
     ) -> Option<Once<PartWords>>
         requires caller { caller < self.old.layout.callers }
-        requires quiet { IsQuiet self.old }
+        requires still { IsStill caller self.old }
         ensures runs { ComesTo result
             (λ answer. RanAlone self.old caller (CoreCall.Part low count) self.new (part_whole answer))
             (CutsOff self.old caller (CoreCall.Part low count) self.new) }
@@ -160,7 +170,9 @@ impl Core {
         }
     }
 
-    /// A whole turn of the updater, as `turn_alone` makes it, within a budget.
+    /// A whole turn of the updater, as `turn_alone` makes it, within a budget. It begins with the updater lock, and as
+    /// long as another party has that, it is begun again and again, each time by one event. So it is answered only where
+    /// no other turn is in flight; and where it is cut off there with an event made, it has the lock itself.
     pub fn turn_within<L: Ledger>(
         &mut self,
         party: u64,
@@ -171,31 +183,45 @@ impl Core {
     ) -> Option<Turned>
         requires party { party ≤ self.old.layout.callers }
         requires stamp { 1 ≤ stamp }
-        requires quiet { IsQuiet self.old }
+        requires still { IsStill party self.old }
         ensures turns { ComesTo result (λ turned. TurnsAlone self.old stamp release turned self.new)
             (CutsTurnOff self.old party self.new) }
-        ensures quiet { IfSome result (λ _. IsQuiet self.new) }
+        ensures quiet { IfSome result (λ _. IsQuiet self.old × IsQuiet self.new) }
+        ensures stays { result ≡ None → IsQuiet self.old → 0 < budget.old →
+            (caller : ℕ) → caller ≢ party → IsStill caller self.new }
         ensures spent { result ≡ None → budget.new ≡ 0 }
         ensures events { steps.new + budget.new ≡ steps.old + budget.old }
-        ensures in_time { ComesInTime result budget.old steps.old steps.new (turn_actions self.old.layout) }
+        ensures in_time { IsQuiet self.old →
+            ComesInTime result budget.old steps.old steps.new (turn_actions self.old.layout) }
+        ensures before { IsIndex self.old }
+        ensures index { IsIndex self.new }
+    {
+        self.begin_turn(party, stamp, release);
+        'tries: loop {
+            if *budget == 0 {
+                return None;
+            }
+            *budget -= 1;
+            match self.step_turn(party, steps) {
+                None => {}
+                Some(TurnReply::Turned(turned)) => return Some(turned),
+                Some(TurnReply::Held { .. }) => self.begin_turn(party, stamp, release),
+            }
+        }
+    }
+
+    /// Begins a turn of the updater by a party that has nothing in flight.
+    fn begin_turn(&mut self, party: u64, stamp: u64, release: u64)
+        requires party { party ≤ self.old.layout.callers }
+        requires stamp { 1 ≤ stamp }
+        requires still { IsStill party self.old }
+        ensures started { StartsTurn self.old party stamp release self.new }
         ensures before { IsIndex self.old }
         ensures index { IsIndex self.new }
     {
         let Ok(()) = self.start_turn(party, stamp, release) else {
             unreachable!()
         };
-        'steps: loop {
-            if *budget == 0 {
-                return None;
-            }
-            *budget -= 1;
-            if let Some(reply) = self.step_turn(party, steps) {
-                let TurnReply::Turned(turned) = reply else {
-                    unreachable!()
-                };
-                return Some(turned);
-            }
-        }
     }
 
     /// A turn of the updater by the caller itself, and one try of its call behind it, within a budget.
@@ -209,7 +235,7 @@ impl Core {
         requires caller { caller < self.old.layout.callers }
         requires begins { MayBegin call.now }
         requires spare { most_writes call.now ≤ self.old.spare }
-        requires quiet { IsQuiet self.old }
+        requires still { IsStill caller self.old }
         ensures tries { ComesTo result (λ answer. TriedBehindTurn self.old caller call.now self.new answer)
             (CutsOff self.old caller call.now self.new) }
         ensures spent { result ≡ None → budget.new ≡ 0 }
@@ -234,7 +260,7 @@ impl Core {
         requires caller { caller < self.old.layout.callers }
         requires begins { MayBegin call.now }
         requires spare { most_writes call.now ≤ self.old.spare }
-        requires quiet { IsQuiet self.old }
+        requires still { IsStill caller self.old }
         ensures tries { ComesTo result (λ answer. TriedAlone self.old caller call.now self.new answer)
             (CutsOff self.old caller call.now self.new) }
         ensures spent { result ≡ None → budget.new ≡ 0 }

@@ -29,7 +29,7 @@ counts_at c =
     record {
       state = here.0;
       there = here.1;
-      idle = c.requires.quiet.calls i here.0 (sym (ap (λ (v : Index). get_elem? v.states i) c.self.view_is) ∙ here.1);
+      idle = c.requires.idle i here.0 (sym (ap (λ (v : Index). get_elem? v.states i) c.self.view_is) ∙ here.1);
       now = now;
       owing = ap (λ (d : PartyState). owed (set s.states i d)) now ∙ count_owes s i here.0 here.1;
     }

@@ -3,7 +3,8 @@ use Rattle.call_stages.specs.declared.once.Once.{Once}
 use Rattle.call_stages.specs.declared.once.Placed.{Placed}
 use Rattle.index_core.specs.Indexes.{Index, IsIndex}
 use Rattle.index_core.specs.Costs.{ActsWithin, TriesWithin}
-use Rattle.index_core.specs.Lone.{IsQuiet, IsWholeAnswer, NeedsNoTurn, TriesAlone, lacks_line, lacks_node, needs_split, whole_of}
+use Rattle.index_core.specs.Lone.{HasNoCalls, IsQuiet, IsWholeAnswer, NeedsNoTurn, TriesAlone, lacks_line, lacks_node, needs_split, whole_of}
+use Rattle.index_core.proofs.Quiet.{quiet_is_still}
 use Rattle.index_core.proofs.Costs.{needs_none, split_acts, tries_are_whole}
 use Rattle.index_core.proofs.Alone.{ran_runs, ran_each, ran_locks, full_runs, full_again, counted_each, counted_locks, count_quiet}
 use Rattle.index_core.proofs.Retrying.{HasItsLine, HasItsNode, RanAll, tried_first, line_at_once, line_behind_turn, node_at_once, node_behind_turn, ran_once, ran_twice}
@@ -14,7 +15,7 @@ use Rattle.index_core.proofs.index.Core.name_alone.Goals.{After-needs_split, the
 has_line : (g : _) (c : After-needs_split g) → HasItsLine c.args.self.now c.if-lacks_line.self c.args.caller c.args.call c.if-lacks_line.answer
 has_line g c =
     let first = c.try_alone-answer.ensures in
-    let tried = tried_first c.args.self.now c.try_alone-answer.new.self c.args.caller c.args.call c.try_alone-answer.result first.before c.requires.quiet first.tries first.each_lock first.locks in
+    let tried = tried_first c.args.self.now c.try_alone-answer.new.self c.args.caller c.args.call c.try_alone-answer.result first.before (quiet_is_still c.args.caller c.args.self.now c.requires.quiet) first.tries first.each_lock first.locks in
     elim c.if-lacks_line.branch [
       | then-lacks_line w ↦ subst (λ (q : Index × Once Placed). HasItsLine c.args.self.now q.0 c.args.caller c.args.call q.1) (λ k. (sym w.self-is k, sym w.answer-is k))
           (line_behind_turn c.args.self.now _ _ c.args.caller c.args.call _ _ tried (sym c.lacks_line.ensures ∙ w.if-lacks_line.true) w.try_behind_turn-answer.ensures.tries c.requires.caller)
@@ -69,8 +70,7 @@ full_ran g c =
     let split = sym c.needs_split.ensures in
     elim c.if-needs_split.branch [
       | then-needs_split w ↦ subst (λ (q : Index × Once Placed). RanAll c.args.self.now q.0 c.args.caller c.args.call q.1) (λ k. (sym w.self-is k, sym w.answer-is k))
-          (ran_twice c.args.self.now _ _ c.args.caller c.args.call _ _ c.requires.name has (split ∙ w.if-needs_split.true) w.try_alone-answer-then-needs_split.ensures.before
-          (node_quiet g (goal.at.returns-in-Again-clause-runs g c).After-needs_split) w.try_alone-answer-then-needs_split.ensures.tries w.try_alone-answer-then-needs_split.ensures.each_lock w.try_alone-answer-then-needs_split.ensures.locks)
+          (ran_twice c.args.self.now _ _ c.args.caller c.args.call _ _ c.requires.name has (split ∙ w.if-needs_split.true) w.try_alone-answer-then-needs_split.ensures.before w.try_alone-answer-then-needs_split.ensures.tries w.try_alone-answer-then-needs_split.ensures.each_lock w.try_alone-answer-then-needs_split.ensures.locks)
       | else-needs_split w ↦ subst (λ (q : Index × Once Placed). RanAll c.args.self.now q.0 c.args.caller c.args.call q.1) (λ k. (sym w.self-is k, sym w.answer-is k))
           (ran_once c.args.self.now _ c.args.caller c.args.call _ c.requires.name has (split ∙ w.if-needs_split.false))
     ]
@@ -81,10 +81,10 @@ tried_quiet g c = elim c.if-needs_split.branch [
   | else-needs_split w ↦ subst IsQuiet (sym w.self-is) (node_quiet g (goal.at.returns-in-Again-clause-runs g c).After-needs_split)
 ]
 
-pub count_call-requires-clause-quiet : goal.count_call-requires-clause-quiet
-count_call-requires-clause-quiet g c = elim c.if-needs_split.branch [
-  | then-needs_split w ↦ subst IsQuiet (sym w.self-is) w.try_alone-answer-then-needs_split.ensures.quiet
-  | else-needs_split w ↦ subst IsQuiet (sym w.self-is) (node_quiet g (goal.at.count_call-requires-clause-quiet g c).After-needs_split)
+pub count_call-requires-clause-idle : goal.count_call-requires-clause-idle
+count_call-requires-clause-idle g c = elim c.if-needs_split.branch [
+  | then-needs_split w ↦ subst HasNoCalls (sym w.self-is) w.try_alone-answer-then-needs_split.ensures.quiet.calls
+  | else-needs_split w ↦ subst HasNoCalls (sym w.self-is) (node_quiet g (goal.at.count_call-requires-clause-idle g c).After-needs_split).calls
 ]
 
 pub returns-in-Again-clause-runs : goal.returns-in-Again-clause-runs
@@ -111,8 +111,7 @@ other_ran g c =
     let split = sym c.needs_split.ensures in
     elim c.if-needs_split.branch [
       | then-needs_split w ↦ subst (λ (q : Index × Once Placed). RanAll c.args.self.now q.0 c.args.caller c.args.call q.1) (λ k. (sym w.self-is k, sym w.answer-is k))
-          (ran_twice c.args.self.now _ _ c.args.caller c.args.call _ _ c.requires.name has (split ∙ w.if-needs_split.true) w.try_alone-answer-then-needs_split.ensures.before
-          (node_quiet g (goal.at.returns-in_default-clause-runs g c).After-needs_split) w.try_alone-answer-then-needs_split.ensures.tries w.try_alone-answer-then-needs_split.ensures.each_lock w.try_alone-answer-then-needs_split.ensures.locks)
+          (ran_twice c.args.self.now _ _ c.args.caller c.args.call _ _ c.requires.name has (split ∙ w.if-needs_split.true) w.try_alone-answer-then-needs_split.ensures.before w.try_alone-answer-then-needs_split.ensures.tries w.try_alone-answer-then-needs_split.ensures.each_lock w.try_alone-answer-then-needs_split.ensures.locks)
       | else-needs_split w ↦ subst (λ (q : Index × Once Placed). RanAll c.args.self.now q.0 c.args.caller c.args.call q.1) (λ k. (sym w.self-is k, sym w.answer-is k))
           (ran_once c.args.self.now _ c.args.caller c.args.call _ c.requires.name has (split ∙ w.if-needs_split.false))
     ]
@@ -174,7 +173,7 @@ at_first g c none = elim c.if-lacks_node.branch [
 ]
   where
     needs : (lacks_line c.try_alone-answer.result ≡ false) × (lacks_node c.try_alone-answer.result ≡ false)
-    needs = needs_none c.args.self.now c.try_alone-answer.new.self c.args.caller c.args.call c.try_alone-answer.result c.try_alone-answer.ensures.before c.requires.quiet c.try_alone-answer.ensures.tries none
+    needs = needs_none c.args.self.now c.try_alone-answer.new.self c.args.caller c.args.call c.try_alone-answer.result c.try_alone-answer.ensures.before c.requires.quiet.calls c.try_alone-answer.ensures.tries none
 
     line : (c.if-lacks_line.self ≡ c.try_alone-answer.new.self) × (c.if-lacks_line.answer ≡ c.try_alone-answer.result) × (c.if-lacks_line.steps ≡ c.try_alone-answer.new.steps)
     line = elim c.if-lacks_line.branch [

@@ -7,6 +7,7 @@ use Rattle.call_stages.specs.declared.once.Once.TheVariants as once
 use Rattle.node_ops.specs.PartSteps.{early_of, words_placed}
 use Rattle.index_core.specs.Costs.{ActsWithin}
 use Rattle.index_core.proofs.Costs.{cost_begins, costs_end, early_unworn, part_acts, tries_within}
+use Rattle.index_core.proofs.Quiet.{quiet_is_still}
 use Rattle.index_core.proofs.PartTries.{part_ends, part_is_early, part_last, part_stops}
 use Rattle.index_core.proofs.Tries.{Lone, cost_at, left_at, lone_costs, lone_start, lone_flies, lone_goes}
 use Rattle.index_core.proofs.index.Core.part_alone.Goals as goal
@@ -14,7 +15,7 @@ use Rattle.index_core.proofs.index.Core.part_alone.Goals.{In_default-turn}
 
 pub steps-init : goal.steps-init
 steps-init g c = (
-  lone_start c.args.self.now c.start_name.new.self c.args.caller (call.Part c.args.low c.args.count) c.start_name.ensures.before c.requires.quiet c.in-Ok.ensures.started c.in-Ok.ensures.spare c.start_name.ensures.index,
+  lone_start c.args.self.now c.start_name.new.self c.args.caller (call.Part c.args.low c.args.count) c.start_name.ensures.before (quiet_is_still c.args.caller c.args.self.now c.requires.quiet) c.in-Ok.ensures.started c.in-Ok.ensures.spare c.start_name.ensures.index,
   omega arith,
   (let begins = cost_begins c.args.self.now c.start_name.new.self c.args.caller (call.Part c.args.low c.args.count) c.in-Ok.ensures.started in omega (arith, begins)),
 )
@@ -31,7 +32,7 @@ returns-then-has_listed g c =
     let e = part_ends c.args.self.now c.steps.self c.turn.new.self c.args.caller c.args.low c.args.count c.turn.result c.steps.invariant.0 t.turned t.index t.spare.all c.listing-words.result c.listing-words.ensures in
     record {
       runs = e.runs;
-      quiet = e.quiet;
+      quiet = e.quiet c.requires.quiet;
       spare = e.spare;
       each_lock = e.each_lock;
       locks = e.locks;
@@ -60,7 +61,7 @@ returns-in-Some g c =
     (λ h. let yes = c.has_listed.ensures.1 h in let no = c.if-has_listed.false in cc) c.in-Some.is in
     record {
       runs = subst (λ (r : Once PartWords). RunsAlone c.args.self.now c.args.caller (call.Part c.args.low c.args.count) c.turn-in-steps.new.self (part_whole r)) (sym c.early.ensures) e.runs;
-      quiet = e.quiet;
+      quiet = e.quiet c.requires.quiet;
       spare = e.spare;
       each_lock = e.each_lock;
       locks = e.locks;

@@ -5,16 +5,21 @@ use Rattle.call_stages.specs.declared.once.Once.TheVariants as once
 use Rattle.node_ops.specs.declared.part.PartWords.{PartWords}
 use Rattle.index_core.specs.Lone.{RunsAlone, part_whole}
 use Rattle.index_core.specs.declared.party.CoreCall.TheVariants as call
-use Rattle.index_core.proofs.PartTries.{part_ends, part_is_early, part_stops}
+use Rattle.index_core.proofs.Busy.{still_is_idle}
+use Rattle.index_core.proofs.PartTries.{part_ends, part_is_early, part_is_not_full, part_stops}
 use Rattle.index_core.proofs.Costs.{cost_begins}
 use Rattle.index_core.proofs.InTime.{cut_in_time, end_in_time, try_in_time}
 use Rattle.index_core.proofs.Tries.{lone_costs, lone_start, lone_flies, lone_goes}
 use Rattle.index_core.proofs.Withins.{lone_cut}
 use Rattle.index_core.proofs.index.Core.part_within.Goals as goal
 
+pub unreachable-requires : goal.unreachable-requires
+unreachable-requires g c =
+    absurd (still_is_idle c.args.self.now c.args.caller c.requires.still (c.in_default.ensures.in_flight.0 refl))
+
 pub steps-init : goal.steps-init
 steps-init g c = (
-  lone_start c.args.self.now c.start_name.new.self c.args.caller (call.Part c.args.low c.args.count) c.start_name.ensures.before c.requires.quiet c.in-Ok.ensures.started c.in-Ok.ensures.spare c.start_name.ensures.index,
+  lone_start c.args.self.now c.start_name.new.self c.args.caller (call.Part c.args.low c.args.count) c.start_name.ensures.before c.requires.still c.in-Ok.ensures.started c.in-Ok.ensures.spare c.start_name.ensures.index,
   refl,
   (let begins = cost_begins c.args.self.now c.start_name.new.self c.args.caller (call.Part c.args.low c.args.count) c.in-Ok.ensures.started in omega (arith, begins)),
 )
@@ -37,7 +42,7 @@ pub returns-then-has_listed-clause-runs : goal.returns-then-has_listed-clause-ru
 returns-then-has_listed-clause-runs g c =
     let t = c.turn.ensures in
     let e = part_ends c.args.self.now c.steps.self c.turn.new.self c.args.caller c.args.low c.args.count c.turn.result c.steps.invariant.0 t.turned t.index t.spare.all c.listing-words.result c.listing-words.ensures in
-    record { runs = e.runs; quiet = e.quiet; spare = e.spare; each_lock = inl e.each_lock; locks = inl e.locks }
+    record { runs = e.runs; full = λ full. absurd (part_is_not_full c.args.self.now c.turn.new.self c.args.caller c.args.low c.args.count (part_whole (once.Done c.listing-words.result)) e.runs full); quiet = e.quiet; still = e.still; spare = e.spare; each_lock = inl e.each_lock; locks = inl e.locks }
 
 pub returns-then-has_listed-clause-in_time : goal.returns-then-has_listed-clause-in_time
 returns-then-has_listed-clause-in_time g c = λ short none.
@@ -58,9 +63,12 @@ returns-in-Some-clause-runs g c =
     let t = c.turn-in-steps.ensures in
     let e = part_stops c.args.self.now c.steps.self c.turn-in-steps.new.self c.args.caller c.args.low c.args.count c.turn-in-steps.result c.steps.invariant.0 t.turned t.index t.spare.all c.in-Some.answer
     (λ h. let yes = c.has_listed.ensures.1 h in let no = c.if-has_listed.false in cc) c.in-Some.is in
+    let runs = subst (λ (r : Once PartWords). RunsAlone c.args.self.now c.args.caller (call.Part c.args.low c.args.count) c.turn-in-steps.new.self (part_whole r)) (sym c.early.ensures) e.runs in
     record {
-      runs = subst (λ (r : Once PartWords). RunsAlone c.args.self.now c.args.caller (call.Part c.args.low c.args.count) c.turn-in-steps.new.self (part_whole r)) (sym c.early.ensures) e.runs;
+      runs = runs;
+      full = λ full. absurd (part_is_not_full c.args.self.now c.turn-in-steps.new.self c.args.caller c.args.low c.args.count (part_whole c.early.result) runs full);
       quiet = e.quiet;
+      still = e.still;
       spare = e.spare;
       each_lock = inl e.each_lock;
       locks = inl e.locks;

@@ -9,8 +9,8 @@ use Rattle.index_core.specs.Costs.{most_actions}
 use Rattle.index_core.specs.Indexes.{IsIndex, world}
 use Rattle.index_core.specs.Lone.{part_whole, whole_of}
 use Rattle.index_core.specs.Withins.{EndsInTime}
-use Rattle.index_core.proofs.Either.{no_turn}
-use Rattle.index_core.proofs.Ends.{in_time_ends, name_ends, spent_ends}
+use Rattle.index_core.proofs.Either.{a_turn, no_turn}
+use Rattle.index_core.proofs.Ends.{in_time_ends, name_ends, spent_ends, stays_end}
 use Rattle.index_core.proofs.Stepping.{respare}
 use Rattle.index_core.proofs.index.Core.run_within.Goals as goal
 
@@ -22,12 +22,19 @@ returns-in_default g c =
     let some : 0 < c.args.budget.now = omega (arith, c.if-budget-eq0.false) in
     record {
       ends = name_ends (Once Placed) c.name_within.result whole_of c.within_name.result c.args.self.now c.name_within.new.self c.args.caller c.args.call c.args.call refl c.in_default.not-Turn c.within_name.ensures c.name_within.ensures.runs;
+      turn_stays = no_turn c.args.call _ c.in_default.not-Turn;
       budget = spent_ends (Once Placed) c.name_within.result whole_of c.within_name.result c.args.budget.now c.name_within.new.budget some c.name_within.ensures.spent c.within_name.ensures;
       events = c.name_within.ensures.events;
       in_time = λ may short none. in_time_ends (Once Placed) c.name_within.result whole_of c.within_name.result c.args.budget.now c.args.steps.now c.name_within.new.steps (most_actions c.args.self.now.layout c.args.call (ready_lines (world c.args.self.now))) c.within_name.ensures (c.name_within.ensures.in_time short none);
       turn_in_time = no_turn c.args.call _ c.in_default.not-Turn;
       index = c.name_within.ensures.index;
     }
+
+pub returns-in-Turn-clause-turn_stays : goal.returns-in-Turn-clause-turn_stays
+returns-in-Turn-clause-turn_stays g c =
+    let some : 0 < c.args.budget.now = omega (arith, c.if-budget-eq0.false) in
+    a_turn c.args.call _ c.in-Turn.stamp c.in-Turn.release c.in-Turn.is
+    (stays_end c.turn_within.result c.within_turn.result c.args.self.now c.turn_within.new.self c.args.caller c.args.budget.now some c.turn_within.ensures.quiet c.turn_within.ensures.stays c.within_turn.ensures)
 
 pub returns-in-Part-clause-in_time : goal.returns-in-Part-clause-in_time
 returns-in-Part-clause-in_time g c = λ may short none.

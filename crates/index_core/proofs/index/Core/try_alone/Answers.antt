@@ -1,7 +1,8 @@
 use Rattle.std.proofs.Common.{refl, arith}
 use Rattle.index_core.proofs.Busy.{quiet_is_idle}
+use Rattle.index_core.proofs.Quiet.{quiet_is_still}
 use Rattle.index_core.proofs.Costs.{cost_begins, costs_end, tries_within}
-use Rattle.index_core.proofs.Tries.{cost_at, lone_costs, lone_start, lone_flies, lone_goes, lone_tries, lone_quiet, lone_locks, lone_each, spare_left}
+use Rattle.index_core.proofs.Tries.{cost_at, lone_costs, lone_start, lone_flies, lone_goes, lone_none, lone_quiet, lone_tries, lone_locks, lone_each, spare_left}
 use Rattle.index_core.proofs.index.Core.try_alone.Goals as goal
 
 pub unreachable-requires : goal.unreachable-requires
@@ -10,7 +11,7 @@ unreachable-requires g c =
 
 pub steps-init : goal.steps-init
 steps-init g c = (
-  lone_start c.args.self.now c.start_name.new.self c.args.caller c.args.call.now c.start_name.ensures.before c.requires.quiet c.in-Ok.ensures.started c.in-Ok.ensures.spare c.start_name.ensures.index,
+  lone_start c.args.self.now c.start_name.new.self c.args.caller c.args.call.now c.start_name.ensures.before (quiet_is_still c.args.caller c.args.self.now c.requires.quiet) c.in-Ok.ensures.started c.in-Ok.ensures.spare c.start_name.ensures.index,
   omega arith,
   (let begins = cost_begins c.args.self.now c.start_name.new.self c.args.caller c.args.call.now c.in-Ok.ensures.started in omega (arith, begins)),
 )
@@ -36,12 +37,12 @@ returns-in-Some-clause-tries g c =
 
 pub returns-in-Some-clause-quiet : goal.returns-in-Some-clause-quiet
 returns-in-Some-clause-quiet g c =
-    lone_quiet c.args.self.now c.steps.self c.turn.new.self c.args.caller c.args.call.now c.turn.result c.steps.invariant.0 c.turn.ensures.turned c.turn.ensures.index c.turn.ensures.spare.all c.in-Some.answer c.in-Some.is
+    lone_quiet c.args.self.now c.steps.self c.turn.new.self c.args.caller c.args.call.now c.turn.result c.steps.invariant.0 c.turn.ensures.turned c.turn.ensures.index c.turn.ensures.spare.all c.in-Some.answer c.in-Some.is c.requires.quiet
 
 pub returns-in-Some-clause-spare : goal.returns-in-Some-clause-spare
 returns-in-Some-clause-spare g c =
     spare_left c.args.self.now c.steps.self c.turn.new.self c.args.caller c.args.call.now c.steps.invariant.0 c.turn.ensures.spare.all
-    (lone_quiet c.args.self.now c.steps.self c.turn.new.self c.args.caller c.args.call.now c.turn.result c.steps.invariant.0 c.turn.ensures.turned c.turn.ensures.index c.turn.ensures.spare.all c.in-Some.answer c.in-Some.is)
+    (lone_none c.args.self.now c.steps.self c.turn.new.self c.args.caller c.args.call.now c.turn.result c.steps.invariant.0 c.turn.ensures.turned c.turn.ensures.index c.turn.ensures.spare.all c.in-Some.answer c.in-Some.is)
 
 pub returns-in-Some-clause-locks : goal.returns-in-Some-clause-locks
 returns-in-Some-clause-locks g c =

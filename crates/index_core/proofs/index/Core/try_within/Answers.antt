@@ -1,20 +1,20 @@
 use Rattle.std.proofs.Common.{refl, arith}
-use Rattle.index_core.proofs.Busy.{quiet_is_idle}
+use Rattle.index_core.proofs.Busy.{still_is_idle}
 use Rattle.call_stages.specs.declared.once.Once.{Once}
 use Rattle.call_stages.specs.declared.once.Placed.{Placed}
 use Rattle.index_core.proofs.Costs.{cost_begins}
 use Rattle.index_core.proofs.InTime.{cut_in_time, end_in_time}
-use Rattle.index_core.proofs.Tries.{lone_costs, lone_start, lone_flies, lone_goes, lone_tries, lone_quiet, lone_locks, lone_each, spare_left}
+use Rattle.index_core.proofs.Tries.{lone_costs, lone_start, lone_flies, lone_goes, lone_none, lone_quiet, lone_still, lone_tries, lone_locks, lone_each, spare_left}
 use Rattle.index_core.proofs.Withins.{lone_cut}
 use Rattle.index_core.proofs.index.Core.try_within.Goals as goal
 
 pub unreachable-requires : goal.unreachable-requires
 unreachable-requires g c =
-    absurd (quiet_is_idle c.args.self.now c.args.caller c.requires.quiet (c.in_default.ensures.in_flight.0 refl))
+    absurd (still_is_idle c.args.self.now c.args.caller c.requires.still (c.in_default.ensures.in_flight.0 refl))
 
 pub steps-init : goal.steps-init
 steps-init g c = (
-  lone_start c.args.self.now c.start_name.new.self c.args.caller c.args.call.now c.start_name.ensures.before c.requires.quiet c.in-Ok.ensures.started c.in-Ok.ensures.spare c.start_name.ensures.index,
+  lone_start c.args.self.now c.start_name.new.self c.args.caller c.args.call.now c.start_name.ensures.before c.requires.still c.in-Ok.ensures.started c.in-Ok.ensures.spare c.start_name.ensures.index,
   refl,
   (let begins = cost_begins c.args.self.now c.start_name.new.self c.args.caller c.args.call.now c.in-Ok.ensures.started in omega (arith, begins)),
 )
@@ -33,11 +33,12 @@ pub returns-in-Some-clause-tries : goal.returns-in-Some-clause-tries
 returns-in-Some-clause-tries g c =
     let o = c.steps.invariant.0 in
     let t = c.turn.ensures in
-    let quiet = lone_quiet c.args.self.now c.steps.self c.turn.new.self c.args.caller c.args.call.now c.turn.result o t.turned t.index t.spare.all c.in-Some.answer c.in-Some.is in
+    let none = lone_none c.args.self.now c.steps.self c.turn.new.self c.args.caller c.args.call.now c.turn.result o t.turned t.index t.spare.all c.in-Some.answer c.in-Some.is in
     record {
       tries = lone_tries c.args.self.now c.steps.self c.turn.new.self c.args.caller c.args.call.now c.turn.result o t.turned t.index t.spare.all c.in-Some.answer c.in-Some.is;
-      quiet = quiet;
-      spare = spare_left c.args.self.now c.steps.self c.turn.new.self c.args.caller c.args.call.now o t.spare.all quiet;
+      quiet = lone_quiet c.args.self.now c.steps.self c.turn.new.self c.args.caller c.args.call.now c.turn.result o t.turned t.index t.spare.all c.in-Some.answer c.in-Some.is;
+      still = lone_still c.args.self.now c.steps.self c.turn.new.self c.args.caller c.args.call.now c.turn.result o t.turned t.index t.spare.all c.in-Some.answer c.in-Some.is;
+      spare = spare_left c.args.self.now c.steps.self c.turn.new.self c.args.caller c.args.call.now o t.spare.all none;
       each_lock = lone_each c.args.self.now c.steps.self c.turn.new.self c.args.caller c.args.call.now c.turn.result o t.turned t.index t.spare.all c.in-Some.answer c.in-Some.is;
       locks = lone_locks c.args.self.now c.steps.self c.turn.new.self c.args.caller c.args.call.now c.turn.result o t.turned t.index t.spare.all c.in-Some.answer c.in-Some.is;
     }

@@ -1,57 +1,63 @@
-use Rattle.std.proofs.Common.{◌≡◌, refl, sym, ◌∙◌, subst, arith}
-use Rattle.updater.specs.declared.terms.Turned.{Turned}
-use Rattle.index_core.specs.Turns.{TurnsAlone}
-use Rattle.index_core.proofs.Busy.{quiet_is_idle}
-use Rattle.index_core.proofs.LoneTurning.{turn_left_begins, lone_turn_begins, lone_turn_flies, lone_turn_goes, lone_turn_ends, turned_same}
-use Rattle.index_core.proofs.Withins.{turn_cut}
+use Rattle.std.proofs.Common.{refl, ◌∙◌, ap, arith}
+use Rattle.std.specs.Prelude.{Some}
+use Rattle.updater.specs.declared.making.TurnReply.{TurnReply}
+use Rattle.index_core.proofs.Waiting.{turns_again, turns_begin_so, turns_cut, turns_end_so, turns_flies, turns_go_so, turns_late, turns_stay, turns_still}
 use Rattle.index_core.proofs.index.Core.turn_within.Goals as goal
 
-pub unreachable-requires : goal.unreachable-requires
-unreachable-requires g c =
-    absurd (quiet_is_idle c.args.self.now c.args.party c.requires.quiet (c.in_default.ensures.in_flight.0 refl))
-
-pub steps-init : goal.steps-init
-steps-init g c = (
-  lone_turn_begins c.args.self.now c.start_turn.new.self c.args.party c.args.stamp c.args.release c.start_turn.ensures.before c.requires.quiet c.requires.stamp c.ranges.stamp.fits c.in-Ok.ensures.started c.start_turn.ensures.index,
+pub tries-init : goal.tries-init
+tries-init g c = (
+  turns_begin_so c.args.self.now c.begin_turn.new.self c.args.party c.args.stamp c.args.release c.args.steps.now c.begin_turn.ensures.before c.requires.still c.requires.stamp c.ranges.stamp.fits c.begin_turn.ensures.started c.begin_turn.ensures.index,
   refl,
-  (let begins = turn_left_begins c.args.self.now c.start_turn.new.self c.args.party c.args.stamp c.args.release c.start_turn.ensures.before.lawful.row.layout.callers.0 c.in-Ok.ensures.started in omega (arith, begins)),
 )
 
 pub returns-then-budget-eq0-clause-turns : goal.returns-then-budget-eq0-clause-turns
-returns-then-budget-eq0-clause-turns g c = turn_cut c.args.self.now c.steps.self c.args.party c.args.stamp c.args.release c.steps.invariant.0
+returns-then-budget-eq0-clause-turns g c = turns_cut c.args.self.now c.tries.self c.args.party c.args.stamp c.args.release c.args.steps.now c.tries.steps c.tries.invariant.0
+
+pub returns-then-budget-eq0-clause-stays : goal.returns-then-budget-eq0-clause-stays
+returns-then-budget-eq0-clause-stays g c = λ none quiet some.
+    turns_stay c.args.self.now c.tries.self c.args.party c.args.stamp c.args.release c.args.steps.now c.tries.steps c.tries.invariant.0 quiet (omega (arith, some, c.tries.invariant.1, c.if-budget-eq0.true))
 
 pub returns-then-budget-eq0-clause-in_time : goal.returns-then-budget-eq0-clause-in_time
-returns-then-budget-eq0-clause-in_time g c = omega (arith, c.steps.invariant.1, c.steps.invariant.2, c.if-budget-eq0.true)
+returns-then-budget-eq0-clause-in_time g c = λ quiet.
+    let late = turns_late c.args.self.now c.tries.self c.args.party c.args.stamp c.args.release c.args.steps.now c.tries.steps c.tries.invariant.0 quiet in
+    omega (arith, late, c.tries.invariant.1, c.if-budget-eq0.true)
 
 pub step_turn-requires : goal.step_turn-requires
-step_turn-requires g c = record { turns = lone_turn_flies _ _ _ _ _ c.steps.invariant.0 }
+step_turn-requires g c = record {
+  turns = turns_flies c.args.self.now c.tries.self c.args.party c.args.stamp c.args.release c.args.steps.now c.tries.steps c.tries.invariant.0;
+}
 
-pub steps-preserved : goal.steps-preserved
-steps-preserved g c = (
-  (lone_turn_goes c.args.self.now c.steps.self c.step_turn.new.self c.args.party c.args.stamp c.args.release c.steps.invariant.0 c.step_turn.result c.step_turn.ensures.stepped c.step_turn.ensures.index c.in_default-step_turn.is).0,
-  omega (arith, c.step_turn.ensures.tick, c.steps.invariant.1, c.if-budget-eq0.false),
-  (let less = (lone_turn_goes c.args.self.now c.steps.self c.step_turn.new.self c.args.party c.args.stamp c.args.release c.steps.invariant.0 c.step_turn.result c.step_turn.ensures.stepped c.step_turn.ensures.index c.in_default-step_turn.is).1 in
-      omega (arith, less, c.step_turn.ensures.tick, c.steps.invariant.2)),
+pub tries-preserved-in-None : goal.tries-preserved-in-None
+tries-preserved-in-None g c = (
+  turns_go_so c.args.self.now c.tries.self c.args.party c.args.stamp c.args.release c.args.steps.now c.tries.steps c.tries.invariant.0 c.step_turn.new.self c.step_turn.result c.step_turn.ensures.stepped c.step_turn.ensures.index
+      c.in-None.is c.step_turn.new.steps c.step_turn.ensures.tick,
+  omega (arith, c.step_turn.ensures.tick, c.tries.invariant.1, c.if-budget-eq0.false),
 )
 
-pub steps-smaller : goal.steps-smaller
-steps-smaller g c =
-    (lone_turn_goes c.args.self.now c.steps.self c.step_turn.new.self c.args.party c.args.stamp c.args.release c.steps.invariant.0 c.step_turn.result c.step_turn.ensures.stepped c.step_turn.ensures.index c.in_default-step_turn.is).1
+pub returns-in-Some-Turned-clause-turns : goal.returns-in-Some-Turned-clause-turns
+returns-in-Some-Turned-clause-turns g c =
+    (turns_end_so c.args.self.now c.tries.self c.args.party c.args.stamp c.args.release c.args.steps.now c.tries.steps c.tries.invariant.0 c.step_turn.new.self c.step_turn.result c.step_turn.ensures.stepped c.step_turn.ensures.index
+    c.in-Some-Turned.turned (c.in-Some-Turned.is ∙ ap (λ (r : TurnReply). Some r) c.in-Some-Turned.field-0-is)).0
 
-pub unreachable-requires-in_default-reply : goal.unreachable-requires-in_default-reply
-unreachable-requires-in_default-reply g c =
-    let ended = lone_turn_ends c.args.self.now c.steps.self c.step_turn.new.self c.args.party c.args.stamp c.args.release c.steps.invariant.0 c.step_turn.result c.step_turn.ensures.stepped c.step_turn.ensures.index c.in-Some.reply c.in-Some.is in
-    c.in_default-reply.not-Turned ended.0 ended.1
+pub returns-in-Some-Turned-clause-quiet : goal.returns-in-Some-Turned-clause-quiet
+returns-in-Some-Turned-clause-quiet g c =
+    let ended = turns_end_so c.args.self.now c.tries.self c.args.party c.args.stamp c.args.release c.args.steps.now c.tries.steps c.tries.invariant.0 c.step_turn.new.self c.step_turn.result c.step_turn.ensures.stepped c.step_turn.ensures.index
+    c.in-Some-Turned.turned (c.in-Some-Turned.is ∙ ap (λ (r : TurnReply). Some r) c.in-Some-Turned.field-0-is) in
+    (ended.1, ended.2)
 
-pub returns-in-Some-clause-turns : goal.returns-in-Some-clause-turns
-returns-in-Some-clause-turns g c =
-    let ended = lone_turn_ends c.args.self.now c.steps.self c.step_turn.new.self c.args.party c.args.stamp c.args.release c.steps.invariant.0 c.step_turn.result c.step_turn.ensures.stepped c.step_turn.ensures.index c.in-Some.reply c.in-Some.is in
-    let same : ended.0 ≡ c.in-Turned.turned = turned_same (sym ended.1 ∙ c.in-Turned.is) in
-    subst (λ (answer : Turned). TurnsAlone c.args.self.now c.args.stamp c.args.release answer c.step_turn.new.self) same ended.2
+pub returns-in-Some-Turned-clause-in_time : goal.returns-in-Some-Turned-clause-in_time
+returns-in-Some-Turned-clause-in_time g c = λ quiet.
+    let late = turns_late c.args.self.now c.tries.self c.args.party c.args.stamp c.args.release c.args.steps.now c.tries.steps c.tries.invariant.0 quiet in
+    omega (arith, late, c.step_turn.ensures.tick)
 
-pub returns-in-Some-clause-quiet : goal.returns-in-Some-clause-quiet
-returns-in-Some-clause-quiet g c =
-    (lone_turn_ends c.args.self.now c.steps.self c.step_turn.new.self c.args.party c.args.stamp c.args.release c.steps.invariant.0 c.step_turn.result c.step_turn.ensures.stepped c.step_turn.ensures.index c.in-Some.reply c.in-Some.is).3
+pub begin_turn-requires-in-Some-Held-clause-still : goal.begin_turn-requires-in-Some-Held-clause-still
+begin_turn-requires-in-Some-Held-clause-still g c =
+    turns_still c.args.self.now c.tries.self c.args.party c.args.stamp c.args.release c.args.steps.now c.tries.steps c.tries.invariant.0 c.step_turn.new.self c.step_turn.result c.step_turn.ensures.stepped c.step_turn.ensures.index
+    c.in-Some-Held.field-0-0 (c.in-Some-Held.is ∙ ap (λ (r : TurnReply). Some r) c.in-Some-Held.field-0-is)
 
-pub returns-in-Some-clause-in_time : goal.returns-in-Some-clause-in_time
-returns-in-Some-clause-in_time g c = omega (arith, c.step_turn.ensures.tick, c.steps.invariant.2)
+pub tries-preserved : goal.tries-preserved
+tries-preserved g c = (
+  turns_again c.args.self.now c.tries.self c.args.party c.args.stamp c.args.release c.args.steps.now c.tries.steps c.tries.invariant.0 c.step_turn.new.self c.step_turn.result c.step_turn.ensures.stepped c.step_turn.ensures.index
+      c.in-Some-Held.field-0-0 (c.in-Some-Held.is ∙ ap (λ (r : TurnReply). Some r) c.in-Some-Held.field-0-is) c.begin_turn-in-Some-Held.new.self c.step_turn.new.steps c.begin_turn-in-Some-Held.ensures.started,
+  omega (arith, c.step_turn.ensures.tick, c.tries.invariant.1, c.if-budget-eq0.false),
+)
