@@ -27,6 +27,11 @@ module _ {A : Type 0} where
   got_is (x ∷ xs) zero less = (x, refl)
   got_is (x ∷ xs) (suc i) less = got_is xs i (omega arith)
 
+  pub got_at : (l : List A) (i : ℕ) (a : A) → slice_get l i ≡ Some a → get_elem? l i ≡ some a
+  got_at [] i a at = absurd (let none : None ≡ Some a = at in cc)
+  got_at (x ∷ xs) zero a at = ap some (some_same at)
+  got_at (x ∷ xs) (suc i) a at = got_at xs i a at
+
   pub take_more : (l : List A) (i : ℕ) (a : A) → slice_get l i ≡ Some a → take (suc i) l ≡ take i l ++ a ∷ []
   take_more [] i a at = absurd (let none : None ≡ Some a = at in cc)
   take_more (x ∷ xs) zero a at = ap (λ (y : A). y ∷ []) (some_same at)
@@ -119,11 +124,6 @@ writes_gathered callers h own writers = record {
 pub kept_append : (cs ds : List Caller) → kept_by (cs ++ ds) ≡ kept_by cs ++ kept_by ds
 kept_append [] ds = refl
 kept_append (c ∷ cs) ds = ap (λ (l : List PlacedWrite). c.kept.items ++ l) (kept_append cs ds) ∙ sym (append_assoc c.kept.items (kept_by cs) (kept_by ds))
-
-got_at : (l : List Caller) (i : ℕ) (a : Caller) → slice_get l i ≡ Some a → get_elem? l i ≡ some a
-got_at [] i a at = absurd (let none : None ≡ Some a = at in cc)
-got_at (x ∷ xs) zero a at = ap some (some_same at)
-got_at (x ∷ xs) (suc i) a at = got_at xs i a at
 
 -- one caller's more
 pub kept_more : (cs : List Caller) (n : ℕ) (c d : Caller) → n < length cs → get_or cs n d ≡ c → kept_by (take (n + 1) cs) ≡ kept_by (take n cs) ++ c.kept.items

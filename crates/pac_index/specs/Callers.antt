@@ -1,5 +1,5 @@
 -- A caller of a shared index.
-use Rattle.std.specs.Prelude.{◌≡◌, ◌⊎◌, Option, ℕ, ◌+◌, ◌-◌, ◌*◌, ◌/◌, ◌<◌, ◌≤◌, true, false, List, []}
+use Rattle.std.specs.Prelude.{◌≡◌, ◌≢◌, ◌⊎◌, Option, ℕ, ◌+◌, ◌-◌, ◌*◌, ◌/◌, ◌<◌, ◌≤◌, true, false, List, []}
 use Rattle.std.specs.Prelude.{◌∷◌, ◌++◌, length, map, slice_get, None, Some}
 use Rattle.std.specs.Prelude.{vec_len, vec_capacity}
 use mathlib.Core.Option.{some}
@@ -88,6 +88,14 @@ pub record HasCallers (s : Shared) (n : ℕ) (callers : List Caller) : Type 0 wh
 -- None of them has a call or a turn in flight.
 abbrev pub AreAtRest : List Caller → Type 0
 AreAtRest callers = (i : ℕ) (c : Caller) → get_elem? callers i ≡ some c → IsAtRest c
+
+-- Each of them has a step left.
+abbrev pub HaveSteps : List Caller → Type 0
+HaveSteps callers = (i : ℕ) (c : Caller) → get_elem? callers i ≡ some c → c.left ≢ Some 0
+
+-- One of them has none left.
+abbrev pub SomeIsSpent : List Caller → Type 0
+SomeIsSpent callers = (i : ℕ) × (c : Caller) × (get_elem? callers i ≡ some c) × (c.left ≡ Some 0)
 
 -- They have made no call yet, and have no bound on their steps.
 abbrev pub AreNew : List Caller → Type 0

@@ -1,10 +1,11 @@
-ghost use Rattle.std.specs.Prelude.{◌≡◌, ℕ, List, [], length, map, IfOk, true};
+ghost use Rattle.std.specs.Prelude.{◌≡◌, ℕ, List, [], length, map, IfOk, MatchBool, true};
 ghost use mathlib.Core.Option.{some};
 ghost use Rattle.index_core.specs.Indexes.{parties_of};
 ghost use Rattle.index_core.specs.MachineLaws.{AreIdle};
 ghost use lib.ListN.{get_elem?};
 ghost use Rattle.cat_history.specs.declared.op.Write.{Write};
-ghost use Rattle.pac_index.specs.Callers.{AreAtRest, AreWritesOf, HasCallers, IsCallerOf, Meeting, kept_by, seen_by};
+ghost use Rattle.pac_index.specs.Callers.{AreAtRest, AreWritesOf, HasCallers, HaveSteps, IsCallerOf, Meeting};
+ghost use Rattle.pac_index.specs.Callers.{SomeIsSpent, kept_by, seen_by};
 ghost use Rattle.pac_index.specs.declared.caller.Caller.{Caller};
 ghost use Rattle.pac_index.specs.declared.shared.Shared.{Shared};
 ghost use Rattle.std.specs.Mem.Slots.{slots_items, slots_len, IsFull};
@@ -78,7 +79,8 @@ impl Shared {
 
 /// Whether each of these callers has a step left. Then none of them has a call or a turn in flight.
 pub fn have_steps(callers: &[Caller]) -> bool
-    ensures { result ≡ true → (s : Shared) (n : ℕ) → HasCallers s n callers.now → AreAtRest callers.now }
+    ensures steps { MatchBool result (HaveSteps callers.now) (SomeIsSpent callers.now) }
+    ensures rests { result ≡ true → (s : Shared) (n : ℕ) → HasCallers s n callers.now → AreAtRest callers.now }
 {
     for number in 0..callers.len() {
         if callers[number].is_spent() {

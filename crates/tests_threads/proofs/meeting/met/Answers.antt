@@ -7,4 +7,4 @@ close-requires-clause-rests g c =
     let s = c.in_ok-shared.shared in
     let cs = c.put_all_back.new.callers.items in
     let here = c.as_slice.ensures.value in
-    subst AreAtRest here (c.have_steps.ensures c.if-not-have_steps.false s (length cs) (subst (HasCallers s (length cs)) (sym here) c.in_ok-put_all_back.ensures.0))
+    subst AreAtRest here (c.have_steps.ensures.rests c.if-not-have_steps.false s (length cs) (subst (HasCallers s (length cs)) (sym here) c.in_ok-put_all_back.ensures.0))
