@@ -222,15 +222,3 @@ idle_layered s states is none idle resting_turns some_party footed_after =
     let words : slice_set s.words (clock_address s.layout) clock ≡ s.words = set-get_or s.words (clock_address s.layout) 0 in
     subst (λ (w : List ℕ). IsLayered (layered (record s { words = w; states = states }))) words
     (rest_layered s clock states s.base s.history is none idle resting_turns some_party (subst (λ (w : List ℕ). IsFooted (footed (record s { words = w; states = states }))) (sym words) footed_after))
-
--- A fresh index.
-pub fresh_layered : (l : Layout) → IsLayout l → IsFooted (record { world = fresh_world l (map party_of (idle_states (parties_of l))); lines = map line_of (idle_states (parties_of l)); debts = map debt_of (idle_states (parties_of l)) })
-    → Each (λ p. p.stage ≡ Idle) (map party_of (idle_states (parties_of l)))
-    → IsLayered (record { whole = record { world = fresh_world l (map party_of (idle_states (parties_of l))); lines = map line_of (idle_states (parties_of l)); debts = map debt_of (idle_states (parties_of l)) }; turns = map turn_of (idle_states (parties_of l)) })
-fresh_layered l layout footed_fresh idle =
-    let n = parties_of l in
-    let states = idle_states n in
-    let none : (i : ℕ) (e : PartyState) → get_elem? states i ≡ some e → e.turn ≡ None = λ i e at. ap (λ (d : PartyState). d.turn) (idle-each n i e at) in
-    let first = first_turn states (subst (λ k. 0 < k) (sym (idle-length n)) (omega arith)) in
-    fresh_is_layered l (map party_of states) (map line_of states) (map debt_of states) (map turn_of states) 0 first.0 layout footed_fresh.0 footed_fresh.1 idle
-    (λ j u at. at_rest u (rest_turns states none j u at)) first.1

@@ -10,7 +10,6 @@ pub mod Freeing
 pub mod Stepping
 pub mod Reading
 pub mod Crashing
-pub mod Fresh
 pub mod Answering
 pub mod Flights
 pub mod Scheduling

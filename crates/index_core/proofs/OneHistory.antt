@@ -31,7 +31,7 @@ use Rattle.index_core.specs.declared.party.PartyState.{PartyState}
 use Rattle.index_core.specs.Answers.{IsAnswerOf}
 use Rattle.index_core.specs.Indexes.{Index, IsIndex, IsInFlight, parties_of, told, world}
 use Rattle.index_core.specs.Lone.{IsQuiet, alone_writes, state_done}
-use Rattle.index_core.specs.Schedules.{BegunCall, AnsweredCall, begun_call, flying_call, once_of, listed_of, CallLists, Runs, begins, starts, goes_on, answers, alone, evicts, reserves, begins_turn, steps_turn, turns_alone, StandsNowhere, StandsAt, WroteNothing, IsLegalAnswer, IsNext, interval_of, AnswersKeepOrder, EachWritesOnce, IsAnsweredWrite, IsWriteInFlight, IsLegalHistory, AreCounted, OneLegalHistory, FreshIndexBegins, flying_in, calls_in_flight}
+use Rattle.index_core.specs.Schedules.{BegunCall, AnsweredCall, begun_call, flying_call, once_of, listed_of, CallLists, Runs, begins, starts, goes_on, answers, alone, evicts, reserves, begins_turn, steps_turn, turns_alone, StandsNowhere, StandsAt, WroteNothing, IsLegalAnswer, IsNext, interval_of, AnswersKeepOrder, EachWritesOnce, IsAnsweredWrite, IsWriteInFlight, IsLegalHistory, AreCounted, OneLegalHistory, IdleAreCounted, flying_in, calls_in_flight}
 use Rattle.index_core.proofs.Crashing.{placed_later}
 use Rattle.index_core.proofs.Limits.{write_end, places_keep_limit}
 use Rattle.index_core.proofs.Beginning.{kept_start, kept_alone}
@@ -43,7 +43,6 @@ use Rattle.index_core.proofs.Flights.{each_goes_on}
 use Rattle.index_core.proofs.Indexed.{states_set}
 use Rattle.index_core.proofs.Scheduling.{IsEarlier, AnswerHolds, CountsUpTo, counts_as, in_flight, Kept, place_le_end, else_there, took_one}
 use Rattle.index_core.specs.PartyStates.{idle_state, next_index, index_after, stepped_of, reply_with, answer_in, listed_by, turn_after}
-use Rattle.index_core.proofs.Fresh.{fresh_quiet}
 use Rattle.index_core.proofs.Lists.{some_same, idle-each}
 use Rattle.index_core.proofs.Told.{go_of, done_of, told_lists}
 use Rattle.index_core.proofs.Scheduling as along
@@ -382,13 +381,8 @@ module _ (first : Index) (begun : List BegunCall) (calls : List AnsweredCall) (s
 pub one_legal_history : OneLegalHistory
 one_legal_history first last begun calls index quiet fresh run few = legal_history first begun calls last (kept first index quiet fresh run few)
 
-pub fresh_begins : FreshIndexBegins
-fresh_begins l first fresh = (
-  fresh.index,
-  fresh_quiet l first fresh,
-  fresh.history,
-  λ begun few i state there.
-      let same : state ≡ idle_state i = idle-each (parties_of l) i state (subst (λ (states : List PartyState). get_elem? states i ≡ some state) fresh.states there) in
-      let none = ap (λ (d : PartyState). d.index) same in
-      omega arith,
-)
+pub idle_are_counted : IdleAreCounted
+idle_are_counted first begun idle few i state there =
+    let same : state ≡ idle_state i = idle-each (parties_of first.layout) i state (subst (λ (states : List PartyState). get_elem? states i ≡ some state) idle there) in
+    let none = ap (λ (d : PartyState). d.index) same in
+    omega arith

@@ -57,6 +57,7 @@ use Rattle.index_core.specs.declared.party.PartyState.{PartyState}
 use Rattle.index_core.specs.declared.party.CoreCall.{CoreCall}
 use Rattle.index_core.specs.declared.party.CoreCall.TheVariants as call
 use Rattle.index_core.specs.CoreCalls.{machine_of, most_writes, limit_of, count_of}
+use Rattle.index_core.specs.Cores.{IsAdd}
 use Rattle.index_core.specs.PartyStates.{machine_stage, machine_footing, party_of, state_with, state_after, state_counted, machine_owes, owes, owed, IsTurnOf, IsPartyState}
 use Rattle.node_ops.specs.Calls.{IsSame}
 use Rattle.index_core.specs.Listings.{ListsAt}
@@ -412,6 +413,11 @@ step_room s i e m history states len cap len' cap' there flies h same was now la
     let owing = ap owed same in
     let longer = ap length h ∙ length-append s.history (written e.caller e.index (counted (stage_of m))) in
     (omega arith, omega arith)
+
+-- a step that counts adds
+pub adds_if_counts : (l : Layout) (long : ℕ) (a : Action) (x : ℕ) (change : Option Change) → Counts l long a x change → IfSome change (λ _. IsAdd a)
+adds_if_counts l long a x None counts = tt
+adds_if_counts l long a x (Some change) counts = subst IsAdd (sym counts.0) tt
 
 -- there is room for the write that a step counts
 pub count_room : (s : Index) (i : ℕ) (e r : PartyState) (m : Running) (counts : Option Change) (len cap : ℕ) → get_elem? s.states i ≡ some e → e.machine ≡ Some m → r ≡ e → counts ≡ counted (stage_of m)

@@ -7,7 +7,6 @@ pub mod Heard
 pub mod Listings
 pub mod Indexes
 pub mod Cores
-pub mod Fresh
 pub mod Lone
 pub mod Turns
 pub mod SteppedTurns

@@ -35,10 +35,9 @@ use Rattle.index_core.specs.declared.party.Whole.TheVariants as whole
 use Rattle.index_core.specs.Answers.{TookPlace, WasReached, FoundNoRoom}
 use Rattle.index_core.specs.CoreCalls.{op_of, limit_of, count_of}
 use Rattle.index_core.specs.Listings.{ListsRange}
-use Rattle.index_core.specs.PartyStates.{next_index, index_after, answer_in, listed_by}
-use Rattle.index_core.specs.Indexes.{Index, IsBusy, IsInFlight, IsIndex, Starts, StepsTo}
+use Rattle.index_core.specs.PartyStates.{next_index, index_after, answer_in, idle_states, listed_by}
+use Rattle.index_core.specs.Indexes.{Index, IsBusy, IsInFlight, IsIndex, Starts, StepsTo, parties_of}
 use Rattle.index_core.specs.Crashes.{evicted_index}
-use Rattle.index_core.specs.Fresh.{IsFreshIndex}
 use Rattle.updater.specs.declared.making.TurnReply.{TurnReply}
 use Rattle.updater.specs.declared.terms.Turned.{Turned}
 use Rattle.index_core.specs.Turns.{StartsTurn, TurnSteps, TurnsAlone}
@@ -384,8 +383,7 @@ OneLegalHistory = (first last : Index) (begun : List BegunCall) (calls : List An
     IsQuiet first → first.history ≡ [] →
     Runs first begun calls last → AreCounted first begun → IsLegalHistory first begun calls last
 
--- A fresh index is one that a schedule may begin with.
-abbrev pub FreshIndexBegins : Type 0
-FreshIndexBegins = (l : Layout) (first : Index) → IsFreshIndex l first →
-    IsIndex first × IsQuiet first × (first.history ≡ []) × ((begun : List BegunCall) → length begun < 2 ^ 64 →
-    AreCounted first begun)
+-- Where no party has made a call, as of an image that was just opened, each schedule of fewer than 2^64 calls is so.
+abbrev pub IdleAreCounted : Type 0
+IdleAreCounted = (first : Index) (begun : List BegunCall) → first.states ≡ idle_states (parties_of first.layout) →
+    length begun < 2 ^ 64 → AreCounted first begun

@@ -1,5 +1,5 @@
-ghost use Rattle.std.specs.Prelude.{◌≡◌, ℕ, ◌+◌, ◌-◌, ◌<◌, ◌≤◌, ◌↔◌, List, ◌++◌, length, replicate, IfOk, OnOk, OnErr};
-ghost use Rattle.std.specs.Prelude.{IsErr, IsTrue, vec_len, vec_capacity, Some, None};
+ghost use Rattle.std.specs.Prelude.{◌≡◌, ℕ, ◌+◌, ◌-◌, ◌<◌, ◌≤◌, ◌↔◌, List, ◌++◌, length, replicate, OnOk, OnErr};
+ghost use Rattle.std.specs.Prelude.{IsErr, IsTrue, IfSome, vec_len, vec_capacity, Some, None};
 ghost use Rattle.pm_words.specs.Layouts.{IsLayout};
 ghost use Rattle.index_law.specs.Worlds.{written};
 ghost use Rattle.index_core.specs.CoreCalls.{IfTurn, MayBegin, MayStart, most_writes};
@@ -7,7 +7,6 @@ ghost use Rattle.index_core.specs.Indexes.{IsBusy, IsInFlight, IsIndex, KeepsRoo
 ghost use Rattle.index_core.specs.Indexes.{parties_of};
 ghost use Rattle.index_core.specs.Turns.{StartsTurn, TurnStepsTo};
 ghost use Rattle.index_core.specs.declared.party.Stepped.TheVariants.{Going};
-ghost use Rattle.index_core.specs.Fresh.{IsFreshIndex};
 ghost use Rattle.index_core.specs.Opened.{opened_index};
 ghost use Rattle.pm_words.specs.Locations.{image_words};
 ghost use Rattle.index_core.specs.Crashes.{IsCrash, evicted_index};
@@ -15,24 +14,21 @@ ghost use Rattle.index_core.specs.PartsOf.{index_in};
 ghost use Rattle.index_core.specs.Lone.{CountsCall, HasListed, HasListing, HasNoCalls, HasShortWays, IsQuiet};
 ghost use Rattle.index_core.specs.PartyStates.{idle_states};
 ghost use Rattle.index_core.specs.Rounds.{BeginsRound};
+ghost use Rattle.call_stages.specs.Stages.{counted};
+ghost use Rattle.node_ops.specs.CallStages.{stage_of};
+ghost use Rattle.node_ops.specs.RunningSteps.{IsRunning};
+ghost use Rattle.index_core.specs.Cores.{IsAdd};
 
 use crate::crash::{Crashed, Cuts};
-use crate::party::{CoreCall, CoreReply, InFlight, PartyState, Stepped, idle_states};
+use crate::party::{CoreCall, CoreReply, InFlight, PartyState, Stepped};
 use call_stages::{Once, Placed, View};
 use cat_history::{Change, Listed, Write, replay};
 use cat_key::Pair;
-use node_ops::PartWords;
-use pm_words::offsets::{header, volatile};
-use pm_words::{Image, Layout, Machine, Memory, NoMemory, Steps};
-use std::alloc::Global;
+use node_ops::{PartWords, Running};
+use pm_words::offsets::header;
+use pm_words::{Action, Layout, Machine, Memory, NoMemory, Steps};
 use std::marker::Model;
 use std::sync::ledger::Ledger;
-
-/// The generation of a fresh image.
-const FIRST_GENERATION: u64 = 1;
-
-/// The status of a listed node.
-const LIVE: u64 = 1;
 
 /// The address of the clock.
 const CLOCK: u64 = 0;
@@ -112,23 +108,6 @@ impl Core {
             base,
             history,
         }
-    }
-
-    /// An index without names, whose only listed node is node 0. Every caller is idle, and so is the updater, whose
-    /// number is that of the callers.
-    pub fn fresh(alloc: Global, layout: Layout) -> Result<Core, NoMemory>
-        requires layout { IsLayout layout }
-        ensures { IfOk result (IsFreshIndex layout) }
-    {
-        let mut memory = Memory::of(alloc, Image::fresh(alloc, layout)?)?;
-        memory.store(layout.node_volatile(0, volatile::STATUS), LIVE);
-        Ok(Core {
-            memory,
-            generation: FIRST_GENERATION,
-            states: idle_states(alloc, layout.callers() + 1)?,
-            base: Listed::of(Vec::new(alloc)),
-            history: Vec::new(alloc),
-        })
     }
 
     /// An index of these words, in the run that their header tells, with this base and this history. No call is in
@@ -282,7 +261,7 @@ impl Core {
         } = &self.states[at];
         let machine = machine.running();
         let action = machine.action();
-        let counts = machine.counts();
+        let counts = counted_by(machine, action);
         let (caller, index) = (*caller, *index);
         let got = self.memory.act(action, steps);
         count(&mut self.history, caller, index, counts);
@@ -399,6 +378,19 @@ impl Core {
         ensures valid { IsLayout result }
     {
         self.memory.layout()
+    }
+}
+
+/// The change that the machine counts in the clock by this action, which it asks for next. It counts one only where that
+/// adds, so it isn't asked otherwise.
+fn counted_by(machine: &Running, action: Action) -> Option<Change>
+    requires fits { IsRunning machine.now }
+    requires adds { IfSome (counted (stage_of machine.now)) (λ _. IsAdd action) }
+    ensures { result ≡ counted (stage_of machine.now) }
+{
+    match action {
+        Action::Add(_) => machine.counts(),
+        _ => None,
     }
 }
 

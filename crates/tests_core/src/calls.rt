@@ -9,6 +9,7 @@ ghost use Rattle.index_core.specs.Lone.{IsQuiet};
 use call_stages::Once;
 use cat_history::Change;
 use cat_key::Name;
+use core_rounds::open_fresh;
 use index_core::{Core, CoreCall, CoreReply, Stepped, Whole};
 use node_ops::PartWords;
 use pm_words::{Layout, Steps};
@@ -85,7 +86,7 @@ pub(super) fn fresh(alloc: Global, nodes: u64, slots: u64) -> Option<Core>
     let Ok(layout) = Layout::new(nodes, slots, CALLERS) else {
         return None;
     };
-    match Core::fresh(alloc, layout) {
+    match open_fresh(alloc, layout) {
         Ok(core) => Some(core),
         Err(_) => None,
     }

@@ -299,8 +299,8 @@ fn tell_all(alloc: Global) -> [(u64, [u64; 2]); 2] {
 
 #[test]
 fn what_is_saved_is_there_when_it_is_opened_again(rt: HostRuntime) -> Result<(), Fail> {
-    // 0 to 8, and 9
+    // A fresh image is opened in generation 2. The names are 0 to 8, and then 9 besides.
     let found = tell_all(rt.alloc());
-    assert_eq!(rt; found, [(2, [9, 36]), (3, [10, 45])]);
+    assert_eq!(rt; found, [(3, [9, 36]), (4, [10, 45])]);
     Ok(())
 }

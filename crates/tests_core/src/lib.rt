@@ -26,3 +26,5 @@ mod rechecks;
 mod rows;
 #[cfg(test)]
 mod stopped;
+#[cfg(test)]
+mod waiting;

@@ -6,7 +6,7 @@ ghost use Rattle.thread_rounds.specs.RunRounds.{IsJoinedAnd};
 
 use cat_history::{CallerOp, Listed, Op, RoundPlan};
 use cat_key::Name;
-use index_core::Core;
+use core_rounds::open_fresh;
 use pac_index::Gate;
 use pm_words::Layout;
 use std::alloc::Global;
@@ -236,7 +236,7 @@ fn first_line(alloc: Global, finish: Finish) -> Result<[u64; 2], Fail>
 
 #[test]
 fn callers_run_beside_each_other(rt: HostRuntime) -> Result<(), Fail> {
-    let core = Core::fresh(rt.alloc(), Layout::new(8, 4, 2)?)?;
+    let core = open_fresh(rt.alloc(), Layout::new(8, 4, 2)?)?;
     let plan = planned(puts_and_gets(rt.alloc())?, 0)?;
     let gate = Beside::new();
     let round = run_round(&rt, rt.alloc(), core, &plan, &gate)?;
@@ -248,7 +248,7 @@ fn callers_run_beside_each_other(rt: HostRuntime) -> Result<(), Fail> {
 
 #[test]
 fn the_updater_turns_beside_callers(rt: HostRuntime) -> Result<(), Fail> {
-    let core = Core::fresh(rt.alloc(), Layout::new(8, 4, 2)?)?;
+    let core = open_fresh(rt.alloc(), Layout::new(8, 4, 2)?)?;
     let plan = planned(puts_and_a_get_each(rt.alloc())?, 1)?;
     let gate = Turns::new();
     let round = run_round(&rt, rt.alloc(), core, &plan, &gate)?;

@@ -4,7 +4,7 @@ ghost use Rattle.std.specs.Prelude.{◌≡◌, ◌<◌, ◌≤◌, ◌^◌, All,
 
 use cat_history::{CallerOp, Listed, Op, Reply, RoundPlan};
 use cat_key::Name;
-use index_core::Core;
+use core_rounds::open_fresh;
 use pac_index::Gate;
 use pm_words::Layout;
 use std::alloc::Global;
@@ -96,7 +96,7 @@ fn names(alloc: Global, finish: Finish) -> Result<u64, Fail> {
 
 #[test]
 fn two_callers_place_each_write_once(rt: HostRuntime) -> Result<(), Fail> {
-    let core = Core::fresh(rt.alloc(), Layout::new(512, 8, 2)?)?;
+    let core = open_fresh(rt.alloc(), Layout::new(512, 8, 2)?)?;
     let plan = planned(puts(rt.alloc(), Style::Short, 2, 500)?, 2)?;
     let round = run_round(&rt, rt.alloc(), core, &plan, &Open)?;
     let told = (round.writes, news(&round));
@@ -109,7 +109,7 @@ fn two_callers_place_each_write_once(rt: HostRuntime) -> Result<(), Fail> {
 /// Each split leaves 32 names on both sides, so the nodes suffice.
 #[test]
 fn four_callers_fill_five_hundred_nodes(rt: HostRuntime) -> Result<(), Fail> {
-    let core = Core::fresh(rt.alloc(), Layout::new(1024, 64, 4)?)?;
+    let core = open_fresh(rt.alloc(), Layout::new(1024, 64, 4)?)?;
     let plan = planned(puts(rt.alloc(), Style::Long, 4, 5000)?, 4)?;
     let round = run_round(&rt, rt.alloc(), core, &plan, &Open)?;
     let told = (round.writes, news(&round));

@@ -9,6 +9,7 @@ ghost use Rattle.pac_index.specs.Callers.{IsCallerOf, HasCallers};
 use crate::playing::{Finished, Notes, Plan, Reply, plays};
 use crate::telling::{are_told, do_rise};
 use crate::watch::Watch;
+use core_rounds::open_fresh;
 use index_core::Core;
 use pac_index::{Caller, Ended, Shared, have_steps};
 use pm_words::{Again, Layout, NoMemory};
@@ -188,7 +189,7 @@ pub(crate) fn fresh(alloc: Global, layout: Layout) -> Result<Core, NoMemory>
     requires { IsLayout layout }
     ensures { IfOk result (λ core. IsQuiet core × (core.history ≡ []) × (core.layout ≡ layout)) }
 {
-    let core = Core::fresh(alloc, layout)?;
+    let core = open_fresh(alloc, layout)?;
     Ok(core)
 }
 

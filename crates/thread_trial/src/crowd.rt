@@ -7,6 +7,7 @@ ghost use Rattle.pac_index.specs.Callers.{IsCallerOf, HasCallers};
 
 use crate::calls::{LIMIT, Mix, is_put, name_of};
 use call_stages::Once;
+use core_rounds::open_fresh;
 use index_core::Core;
 use pac_index::{Caller, Shared, Tried, have_steps};
 use pm_words::{Layout, NoMemory};
@@ -43,7 +44,7 @@ pub fn fresh(alloc: Global, layout: Layout) -> Result<Core, NoMemory>
     requires { IsLayout layout }
     ensures { IfOk result (λ core. IsQuiet core × (core.history ≡ []) × (core.layout ≡ layout)) }
 {
-    let core = Core::fresh(alloc, layout)?;
+    let core = open_fresh(alloc, layout)?;
     Ok(core)
 }
 

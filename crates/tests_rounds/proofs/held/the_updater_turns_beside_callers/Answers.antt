@@ -2,7 +2,6 @@ use Rattle.cat_history.specs.declared.plan.CrashPlan.{CrashPlan}
 use Rattle.index_core.specs.Lone.{IsQuiet}
 use Rattle.thread_rounds.specs.RunRounds.{EndsAs}
 use Rattle.tests_rounds.proofs.Finishes.{joined-so}
-use Rattle.index_core.proofs.Fresh.{fresh_quiet}
 use Rattle.std.proofs.Common.{ap, subst}
 use Rattle.std.specs.Prelude.{Option}
 use Rattle.pm_words.specs.declared.layout.Layout.{Layout}
@@ -10,7 +9,7 @@ use Rattle.tests_rounds.proofs.Callers.{callers-fit}
 use Rattle.tests_rounds.proofs.held.the_updater_turns_beside_callers.Goals as goal
 
 pub run_round-requires-clause-quiet : goal.run_round-requires-clause-quiet
-run_round-requires-clause-quiet g c κs = fresh_quiet c.in_ok-new.field-0 c.in_ok-core.core c.in_ok-core.ensures
+run_round-requires-clause-quiet g c κs = c.in_ok-core.ensures.opened.quiet
 
 pub first_line-requires : goal.first_line-requires
 first_line-requires g c =
@@ -19,4 +18,4 @@ first_line-requires g c =
 
 pub run_round-requires-clause-callers : goal.run_round-requires-clause-callers
 run_round-requires-clause-callers g c κs =
-    callers-fit c.in_ok-new.field-0 c.in_ok-core.core c.in_ok-plan.plan.ops 2 (ap (λ (l : Layout). l.callers) c.in_ok-new.ensures.made) c.in_ok-core.ensures c.in_ok-plan.ensures.callers
+    callers-fit c.in_ok-new.field-0 c.in_ok-core.core c.in_ok-plan.plan.ops 2 (ap (λ (l : Layout). l.callers) c.in_ok-new.ensures.made) c.in_ok-core.ensures.opened.layout c.in_ok-plan.ensures.callers

@@ -1,5 +1,4 @@
-use Rattle.index_core.proofs.Fresh.{fresh_quiet}
 use Rattle.thread_trial.proofs.crowd.fresh.Goals as goal
 
 pub returns : goal.returns
-returns c = (fresh_quiet c.args.layout c.in_ok-core.core c.in_ok-core.ensures, c.in_ok-core.ensures.history, c.in_ok-core.ensures.layout)
+returns c = (c.in_ok-core.ensures.opened.quiet, c.in_ok-core.ensures.opened.history, c.in_ok-core.ensures.opened.layout)

@@ -21,12 +21,13 @@ use Rattle.index_core.specs.Listings.{ListsAt}
 use Rattle.index_core.specs.Answers.{SaysOf}
 use Rattle.index_core.specs.Heard.{HearsOn}
 use Rattle.index_core.specs.PartyStates.{state_after, owed}
-use Rattle.index_core.specs.Cores.{index_with}
+use Rattle.pm_words.specs.declared.action.Action.{Action}
+use Rattle.index_core.specs.Cores.{IsAdd, index_with}
 use Rattle.index_core.specs.Indexes.{Index, IsIndex, world, told, stepped_index, MakesCall, FreesNone}
 use Rattle.index_core.proofs.Answering.{says_of}
 use Rattle.index_core.proofs.Lists.{within, read_is}
 use Rattle.index_core.proofs.Reading.{Reads, reads, Leaves, leaves}
-use Rattle.index_core.proofs.Stepping.{count_room}
+use Rattle.index_core.proofs.Stepping.{adds_if_counts, count_room}
 use Rattle.index_core.proofs.index.Core.turn.Goals as goal
 
 pub index-requires : goal.index-requires
@@ -65,13 +66,23 @@ action-action-requires g c =
     let at = reads s c.args.self.now i flies c.index.result.now c.running-machine.result.now (ap (λ (v : Index). v.states) c.self.view_is) c.self.invariant.0 c.index.ensures c.running-machine.ensures in
     subst IsRunning (sym at.same) at.facts.fits
 
-pub counts-counts-requires : goal.counts-counts-requires
-counts-counts-requires g c =
+pub counted_by-counts-requires-clause-fits : goal.counted_by-counts-requires-clause-fits
+counted_by-counts-requires-clause-fits g c =
     let s = index_with c.self.inside 0 in
     let i = c.args.party in
     let flies = c.requires.flies in
     let at = reads s c.args.self.now i flies c.index.result.now c.running-machine.result.now (ap (λ (v : Index). v.states) c.self.view_is) c.self.invariant.0 c.index.ensures c.running-machine.ensures in
     subst IsRunning (sym at.same) at.facts.fits
+
+pub counted_by-counts-requires-clause-adds : goal.counted_by-counts-requires-clause-adds
+counted_by-counts-requires-clause-adds g c =
+    let s = index_with c.self.inside 0 in
+    let i = c.args.party in
+    let flies = c.requires.flies in
+    let at = reads s c.args.self.now i flies c.index.result.now c.running-machine.result.now (ap (λ (v : Index). v.states) c.self.view_is) c.self.invariant.0 c.index.ensures c.running-machine.ensures in
+    let asks : c.action-action.result ≡ running_asks flies.machine = c.action-action.ensures ∙ ap running_asks at.same in
+    subst (λ (q : Action × Running). IfSome (counted (stage_of q.1)) (λ _. IsAdd q.0)) (λ k. (sym asks k, sym at.same k))
+    (adds_if_counts s.layout (length s.history) (running_asks flies.machine) (told s flies.machine) (counted (stage_of flies.machine)) at.facts.counts)
 
 pub act-got-requires : goal.act-got-requires
 act-got-requires g c =
@@ -89,7 +100,7 @@ count-requires g c =
     let e = flies.state in
     let m = flies.machine in
     let at = reads s c.args.self.now i flies c.index.result.now c.running-machine.result.now (ap (λ (v : Index). v.states) c.self.view_is) c.self.invariant.0 c.index.ensures c.running-machine.ensures in
-    count_room s i e c.index.result.now m c.counts-counts.result _ _ at.there flies.flies at.read (c.counts-counts.ensures ∙ ap (λ (n : Running). counted (stage_of n)) at.same) c.self.invariant.1
+    count_room s i e c.index.result.now m c.counted_by-counts.result _ _ at.there flies.flies at.read (c.counted_by-counts.ensures ∙ ap (λ (n : Running). counted (stage_of n)) at.same) c.self.invariant.1
 
 pub advance-requires : goal.advance-requires
 advance-requires g c =
@@ -138,9 +149,9 @@ answers_at g c =
 leaves_at : (g : _) (c : goal.After-self-1 g) → Leaves (index_with c.self.inside 0) c.args.party c.requires.flies.state c.requires.flies.machine c.act-got.new.self (running_turned c.running-machine.result.now c.act-got.result) c.advance.new.self
     c.count.new.history.items c.self.inside.history.len c.self.inside.history.cap c.count.new.history.len c.count.new.history.cap
 leaves_at g c =
-    leaves (index_with c.self.inside 0) c.args.party c.requires.flies.state c.index.result.now c.requires.flies.machine c.running-machine.result.now (reads_at g c) c.requires.flies.flies c.action-action.result c.act-got.new.self c.act-got.result (running_turned c.running-machine.result.now c.act-got.result) c.advance.new.self c.counts-counts.result
+    leaves (index_with c.self.inside 0) c.args.party c.requires.flies.state c.index.result.now c.requires.flies.machine c.running-machine.result.now (reads_at g c) c.requires.flies.flies c.action-action.result c.act-got.new.self c.act-got.result (running_turned c.running-machine.result.now c.act-got.result) c.advance.new.self c.counted_by-counts.result
     c.count.new.history.items c.self.inside.history.len c.self.inside.history.cap c.count.new.history.len c.count.new.history.cap c.action-action.ensures c.act-got.ensures.row c.act-got.ensures.got refl
-    (goes_at g c) c.counts-counts.ensures c.count.ensures.items c.self.inside.history.ok.0 c.count.new.history.ok.0 c.count.ensures.room c.self.invariant.1
+    (goes_at g c) c.counted_by-counts.ensures c.count.ensures.items c.self.inside.history.ok.0 c.count.new.history.ok.0 c.count.ensures.room c.self.invariant.1
 
 pub invariant_of-self : goal.invariant_of-self
 invariant_of-self g c =
